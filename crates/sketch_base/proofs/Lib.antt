@@ -1,0 +1,3 @@
+pub mod BytesLemmas
+pub mod LineLemmas
+pub mod RefusalLemmas

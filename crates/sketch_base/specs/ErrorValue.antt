@@ -1,0 +1,53 @@
+-- What an error is to its callers, and the line that it displays.
+use Rattle.std.specs.Prelude.{ℕ, List, [], ◌∷◌, ◌++◌, length, codes, ◌==◌, if◌then◌else◌}
+use Rattle.std.specs.List.{flat_map}
+use Rattle.sketch_base.specs.declared.error.ErrorKind.{ErrorKind}
+use Rattle.sketch_base.specs.declared.error.ErrorKind.TheVariants.{InvalidArgument, InvalidData, OutOfMemory}
+
+-- where an error came up: a key, and the text that a value printed
+pub record ContextValue : Type 0 where
+  pub key : List ℕ
+  pub text : List ℕ
+
+-- an error: its kind, its message, and its contexts in the order in which they were added
+pub record ErrorValue : Type 0 where
+  pub kind : ErrorKind
+  pub message : List ℕ
+  pub contexts : List ContextValue
+
+-- an error with no context
+abbrev pub plain : ErrorKind → List ℕ → ErrorValue
+plain kind message = record { kind = kind; message = message; contexts = [] }
+
+-- the error in place of a refusal whose text found no memory
+abbrev pub unheard : ErrorValue
+unheard = plain OutOfMemory []
+
+-- the error with one more context, behind those that it has
+abbrev pub in_context : ErrorValue → List ℕ → List ℕ → ErrorValue
+in_context error key text =
+    record error { contexts = error.contexts ++ record { key = key; text = text } ∷ [] }
+
+-- the kind's name
+abbrev pub kind_name : ErrorKind → List ℕ
+kind_name InvalidArgument = codes "InvalidArgument"
+kind_name InvalidData = codes "InvalidData"
+kind_name OutOfMemory = codes "OutOfMemory"
+
+-- one context as it is displayed, `key: text`
+abbrev pub pair_text : ContextValue → List ℕ
+pair_text context = context.key ++ codes ": " ++ context.text
+
+-- all contexts as they are displayed: nothing for none, else `, context: { key: text, key: text }`
+abbrev pub contexts_text : List ContextValue → List ℕ
+contexts_text [] = []
+contexts_text (first ∷ others) =
+    codes ", context: { " ++ pair_text first ++ flat_map (λ other. codes ", " ++ pair_text other) others ++ codes " }"
+
+-- the message as it is displayed: nothing for an empty one, else ` => ` and the message
+abbrev pub message_text : List ℕ → List ℕ
+message_text message = if length message == 0 then [] else codes " => " ++ message
+
+-- the displayed line
+abbrev pub line : ErrorValue → List ℕ
+line error = kind_name error.kind ++ contexts_text error.contexts ++ message_text error.message

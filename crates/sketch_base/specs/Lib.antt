@@ -1,0 +1,3 @@
+pub mod Bytes
+pub mod ErrorValue
+pub mod Refusals

@@ -1,0 +1,271 @@
+//! Errors of the sketches: a kind, a message, and the contexts that callers add on the way up.
+
+ghost use Rattle.std.specs.Prelude.{◌≡◌, ◌⊎◌, ◌++◌, ℕ, codes, List, IfOk, IfErr, IfSome, map, MatchResult, Some, string_bytes};
+ghost use Rattle.std.specs.Fmt.{decimal, DisplaysOnOk};
+ghost use Rattle.sketch_base.specs.ErrorValue.{contexts_text, kind_name};
+
+use std::alloc::{AllocError, Global};
+use std::fmt;
+use std::marker::Model;
+
+/// What kind of fault an error tells of.
+#[derive(Clone, Copy, Debug, PartialEq, Eq, Hash)]
+pub enum ErrorKind {
+    /// An argument is invalid.
+    InvalidArgument,
+    /// Serialized data is malformed.
+    InvalidData,
+    /// Memory ran out.
+    OutOfMemory,
+}
+
+impl ErrorKind {
+    /// The variant's name.
+    pub fn into_static(self) -> &'static str
+        ensures { result.now ≡ kind_name self }
+    {
+        match self {
+            ErrorKind::InvalidArgument => "InvalidArgument",
+            ErrorKind::InvalidData => "InvalidData",
+            ErrorKind::OutOfMemory => "OutOfMemory",
+        }
+    }
+}
+
+impl fmt::Display for ErrorKind {
+    ghost output = { λ kind. Some (kind_name kind) };
+
+    fn fmt<W: fmt::Write>(&self, f: &mut fmt::Formatter<W>) -> fmt::Result {
+        f.write_str(self.into_static())
+    }
+}
+
+/// An error of this library.
+#[derive(Drop)]
+pub struct Error {
+    kind: ErrorKind,
+    message: String,
+    context: Vec<(&'static str, String)>,
+}
+
+impl Model for Error {
+    ghost use Rattle.sketch_base.specs.ErrorValue.{ErrorValue};
+
+    ghost Value = { ErrorValue };
+
+    ghost use Rattle.std.specs.Prelude.{map, string_bytes};
+
+    ghost view = { λ e. record {
+        kind = e.kind;
+        message = string_bytes e.message;
+        contexts = map (λ c. record { key = c.0.now; text = string_bytes c.1 }) e.context.items
+    } };
+}
+
+impl Error {
+    ghost use Rattle.sketch_base.specs.ErrorValue.{in_context, plain, unheard};
+    ghost use Rattle.sketch_base.specs.Refusals.{insufficient_data_text, insufficient_data_of_text, invalid_family_text, invalid_preamble_ints_text, invalid_preamble_longs_text, Prints, Refuses};
+
+    /// An error with this kind and message, and no context.
+    pub fn new(kind: ErrorKind, message: String) -> Error
+        ensures { result ≡ plain kind (string_bytes message) }
+    {
+        let alloc = *message.allocator();
+        Error {
+            kind,
+            message,
+            context: Vec::new(alloc),
+        }
+    }
+
+    /// The kind.
+    pub fn kind(&self) -> ErrorKind
+        ensures { result ≡ self.now.kind }
+    {
+        self.kind
+    }
+
+    /// The message.
+    pub fn message(&self) -> &str
+        ensures { result.now ≡ self.now.message }
+    {
+        self.message.as_str()
+    }
+
+    /// Adds a context, the key and what the value prints, behind those that the error has.
+    ///
+    /// # Errors
+    ///
+    /// Where memory runs out: the error as it was.
+    pub fn with_context<V: fmt::Display + Drop>(
+        mut self,
+        alloc: Global,
+        key: &'static str,
+        value: V,
+    ) -> Result<Error, Error>
+        ensures added { IfOk result (λ error.
+            (text : List ℕ) × Prints (V.output value) text × (error ≡ in_context self key.entry.now text)) }
+        ensures refused { IfErr result (λ error. error ≡ self) }
+    {
+        let Ok(text) = value.to_string(alloc) else {
+            return Err(self);
+        };
+        match self.context.push((key, text)) {
+            Ok(()) => Ok(self),
+            Err(_) => Err(self),
+        }
+    }
+
+    /// The error with a text that was just made, or the one in place of a refusal that found no
+    /// memory for its text: of kind `OutOfMemory`, with no message.
+    pub fn from_text(alloc: Global, kind: ErrorKind, text: Result<String, AllocError>) -> Error
+        ensures { MatchResult text
+            (λ message. result ≡ plain kind (string_bytes message)) (λ _. result ≡ unheard) }
+    {
+        match text {
+            Ok(message) => Error::new(kind, message),
+            Err(_) => Error::new(ErrorKind::OutOfMemory, String::new(alloc)),
+        }
+    }
+
+    /// An argument is invalid, as the message says.
+    pub fn invalid_argument(message: String) -> Error
+        ensures { result ≡ plain ErrorKind.InvalidArgument (string_bytes message) }
+    {
+        Error::new(ErrorKind::InvalidArgument, message)
+    }
+
+    /// Serialized data is malformed, as the message says.
+    pub fn deserial(message: String) -> Error
+        ensures { result ≡ plain ErrorKind.InvalidData (string_bytes message) }
+    {
+        Error::new(ErrorKind::InvalidData, message)
+    }
+
+    /// Serialized data ended too early, as the value says.
+    pub fn insufficient_data<V: fmt::Display + Drop>(alloc: Global, value: V) -> Error
+        ensures { (text : List ℕ) × Prints (V.output value) text
+            × Refuses ErrorKind.InvalidData (insufficient_data_text text) result }
+    {
+        let text = match value.to_string(alloc) {
+            Ok(text) => format!(in alloc; "insufficient data: {text}"),
+            Err(error) => Err(error),
+        };
+        Error::refusal(alloc, text)
+    }
+
+    /// Serialized data ended too early in the part that `context` names, as the value says.
+    pub fn insufficient_data_of<V: fmt::Display + Drop>(
+        alloc: Global,
+        context: &'static str,
+        value: V,
+    ) -> Error
+        ensures { (text : List ℕ) × Prints (V.output value) text
+            × Refuses ErrorKind.InvalidData (insufficient_data_of_text context.entry.now text) result }
+    {
+        let text = match value.to_string(alloc) {
+            Ok(text) => format!(in alloc; "insufficient data ({context}): {text}"),
+            Err(error) => Err(error),
+        };
+        Error::refusal(alloc, text)
+    }
+
+    /// Serialized data is of another family than the expected one, which has this name.
+    pub fn invalid_family(alloc: Global, expected: u8, actual: u8, name: &'static str) -> Error
+        ensures { Refuses ErrorKind.InvalidData (invalid_family_text expected actual name.entry.now) result }
+    {
+        Error::refusal(
+            alloc,
+            format!(in alloc; "invalid family: expected {expected} ({name}), got {actual}"),
+        )
+    }
+
+    /// A number of preamble longs is none of the expected ones.
+    pub fn invalid_preamble_longs(alloc: Global, expected: &[u8], actual: u8) -> Error
+        ensures { Refuses ErrorKind.InvalidData (invalid_preamble_longs_text expected.now actual) result }
+    {
+        Error::refusal(
+            alloc,
+            format!(in alloc; "invalid preamble longs: expected one of {expected:?}, got {actual}"),
+        )
+    }
+
+    /// A number of preamble ints is not the expected one.
+    pub fn invalid_preamble_ints(alloc: Global, expected: u8, actual: u8) -> Error
+        ensures { Refuses ErrorKind.InvalidData (invalid_preamble_ints_text expected actual) result }
+    {
+        Error::refusal(
+            alloc,
+            format!(in alloc; "invalid preamble ints: expected {expected}, got {actual}"),
+        )
+    }
+
+    // Malformed data is refused, with a text that was just made.
+    pub(crate) fn refusal(alloc: Global, text: Result<String, AllocError>) -> Error
+        ensures { (message : List ℕ) → IfOk text (λ made. string_bytes made ≡ message)
+            → Refuses ErrorKind.InvalidData message result }
+    {
+        Error::from_text(alloc, ErrorKind::InvalidData, text)
+    }
+}
+
+impl fmt::Display for Error {
+    ghost use Rattle.sketch_base.specs.ErrorValue.{line};
+
+    ghost output = { λ error. Some (line error) };
+
+    fn fmt<W: fmt::Write>(&self, f: &mut fmt::Formatter<W>) -> fmt::Result {
+        write!(f, "{}", self.kind)?;
+        write_contexts(&self.context, f)?;
+        if !self.message.is_empty() {
+            write!(f, " => {}", self.message)?;
+        }
+        Ok(())
+    }
+}
+
+// The contexts as the displayed line has them.
+fn write_contexts<W: fmt::Write>(
+    contexts: &[(&'static str, String)],
+    f: &mut fmt::Formatter<W>,
+) -> fmt::Result
+    ensures { DisplaysOnOk W.write_str_gives f.old result
+        (Some (contexts_text (map (λ c. record { key = c.0.now; text = string_bytes c.1 }) contexts.now))) f.new }
+{
+    let Some(((key, text), others)) = contexts.split_first() else {
+        return Ok(());
+    };
+    write!(f, ", context: {{ {key}: {text}")?;
+    for (key, text) in others {
+        write!(f, ", {key}: {text}")?;
+    }
+    write!(f, " }}")
+}
+
+impl fmt::Debug for Error {
+    fn fmt<W: fmt::Write>(&self, f: &mut fmt::Formatter<W>) -> fmt::Result {
+        if f.alternate() {
+            return f
+                .debug_struct("Error")
+                .field("kind", &self.kind)
+                .field("message", &self.message)
+                .field("context", &self.context)
+                .finish();
+        }
+        write!(f, "{}", self.kind)?;
+        if !self.message.is_empty() {
+            write!(f, " => {}", self.message)?;
+        }
+        writeln!(f)?;
+        if !self.context.is_empty() {
+            writeln!(f)?;
+            writeln!(f, "Context:")?;
+            for (key, text) in &self.context {
+                writeln!(f, "   {key}: {text}")?;
+            }
+        }
+        Ok(())
+    }
+}
+
+impl std::error::Error for Error {}
