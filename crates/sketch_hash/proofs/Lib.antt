@@ -1,0 +1,4 @@
+pub mod KnownAnswers
+pub mod WordsLemmas
+pub mod PiecesLemmas
+pub mod MurmurLemmas

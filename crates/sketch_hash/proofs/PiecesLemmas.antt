@@ -1,0 +1,56 @@
+-- Pieces as a loop meets them: a byte that waits, a byte that fills a piece, and writes of one byte after the other.
+use Rattle.std.proofs.Common.{◌≡◌, ℕ, zero, suc, ◌+◌, ◌*◌, ◌/◌, ◌%◌, ◌^◌, ◌<◌, List, [], ◌∷◌, ◌++◌, length, take, drop, refl, sym, ap, ◌∙◌, arith, map}
+use Rattle.std.proofs.Math.Nat.{div-eq_of_lt, div_self, zero-mul}
+use Rattle.std.proofs.lemmas.List.{take_all, drop_all}
+use Rattle.std.specs.List.{fold}
+use Rattle.sketch_hash.specs.Pieces.{first_pieces, pieces, rest, State, absorbed, advanced}
+use Rattle.sketch_hash.specs.PiecesLaws.{advanced-append}
+
+-- fewer than w bytes have no piece
+pub pieces_short : (w : ℕ) (bytes : List ℕ) → length bytes < w → pieces w bytes ≡ []
+unfolding pieces
+pieces_short w bytes h = ap (λ n. first_pieces n w bytes) (div-eq_of_lt h)
+
+pub rest_short : (w : ℕ) (bytes : List ℕ) → length bytes < w → rest w bytes ≡ bytes
+unfolding rest
+rest_short w bytes h = ap (λ n. drop (n * w) bytes) (div-eq_of_lt h) ∙ ap (λ n. drop n bytes) (zero-mul w)
+
+-- w bytes are one piece
+pub pieces_one : (w : ℕ) (bytes : List ℕ) → 0 < w → length bytes ≡ w → pieces w bytes ≡ bytes ∷ []
+unfolding pieces
+pieces_one w bytes p h =
+    let one : length bytes / w ≡ 1 = ap (λ n. n / w) h ∙ div_self p in
+    ap (λ n. first_pieces n w bytes) one ∙ ap (λ t. t ∷ []) (take_all w bytes (omega arith))
+
+pub rest_one : (w : ℕ) (bytes : List ℕ) → 0 < w → length bytes ≡ w → rest w bytes ≡ []
+unfolding rest
+rest_one w bytes p h =
+    let one : length bytes / w ≡ 1 = ap (λ n. n / w) h ∙ div_self p in
+    ap (λ n. drop (n * w) bytes) one ∙ drop_all (1 * w) bytes (omega arith)
+
+-- a byte that fills no piece waits behind the others
+pub absorbed_waits : {P R : Type 0} (w : ℕ) (read : List ℕ → R) (f : P → R → P) (state : State P) (b : ℕ) →
+    length (state.waiting ++ b ∷ []) < w →
+    absorbed w read f state (b ∷ []) ≡ record { folded = state.folded; total = (state.total + 1) % 2 ^ 64; waiting = state.waiting ++ b ∷ [] }
+unfolding absorbed
+absorbed_waits w read f state b h =
+    let none = pieces_short w (state.waiting ++ b ∷ []) h in
+    let all = rest_short w (state.waiting ++ b ∷ []) h in
+    rw (none, all) refl
+
+-- a byte that fills a piece has it folded, and nothing waits
+pub absorbed_fills : {P R : Type 0} (w : ℕ) (read : List ℕ → R) (f : P → R → P) (state : State P) (b : ℕ) → 0 < w →
+    length (state.waiting ++ b ∷ []) ≡ w →
+    absorbed w read f state (b ∷ []) ≡ record { folded = f state.folded (read (state.waiting ++ b ∷ [])); total = (state.total + 1) % 2 ^ 64; waiting = [] }
+unfolding absorbed
+absorbed_fills w read f state b p h =
+    let one = pieces_one w (state.waiting ++ b ∷ []) p h in
+    let none = rest_one w (state.waiting ++ b ∷ []) p h in
+    rw (one, none) refl
+
+-- bytes written one after the other leave what one write of them leaves
+pub fold-advanced : {P R : Type 0} (w : ℕ) (read : List ℕ → R) (f : P → R → P) → 0 < w → (bytes : List ℕ) (state : State P) →
+    fold (λ s b. advanced w read f s (b ∷ [])) state bytes ≡ advanced w read f state bytes
+fold-advanced w read f p [] state = refl
+fold-advanced w read f p (b ∷ bytes) state =
+    fold-advanced w read f p bytes (advanced w read f state (b ∷ [])) ∙ advanced-append w read f p state (b ∷ []) bytes

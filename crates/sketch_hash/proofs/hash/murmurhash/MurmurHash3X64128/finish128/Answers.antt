@@ -1,0 +1,22 @@
+use Rattle.std.proofs.Common.{◌≡◌, refl, ap, ◌∙◌, rules}
+use Rattle.std.specs.Prelude.{bit_xor}
+use Rattle.sketch_hash.specs.Words.{IsWord, xor}
+use Rattle.sketch_hash.specs.Murmur.{murmur_finished, with_tail, murmur, murmur_after}
+use Rattle.sketch_hash.proofs.WordsLemmas.{xor-is}
+use Rattle.sketch_hash.proofs.MurmurLemmas.{murmur_finished-stands}
+use Rattle.sketch_hash.proofs.hash.murmurhash.MurmurHash3X64128.finish128.Goals as goal
+
+finished : (c : goal.After-finalized) → c.finalized.result ≡ murmur_finished c.args.self.now
+unfolding murmur_finished with_tail
+finished c =
+    let w1 : IsWord c.self.inside.h1 = search rules in
+    let w2 : IsWord c.self.inside.h2 = search rules in
+    let first = xor-is c.self.inside.h1 c.mix1.result w1 c.mix1.type_inv in
+    let second = xor-is c.self.inside.h2 c.mix2.result w2 c.mix2.type_inv in
+    rw (← c.self.view_is, c.finalized.ensures, ← first, ← second, c.mix1.ensures, c.mix2.ensures, c.read_u64_le.ensures, c.read_u64_le-2.ensures, c.padded-padded.ensures) refl
+
+pub returns-clause-finished : goal.returns-clause-finished
+returns-clause-finished c = finished c
+
+pub returns-clause-stands : goal.returns-clause-stands
+returns-clause-stands c = λ seed bytes stands. finished c ∙ murmur_finished-stands seed bytes c.args.self.now stands

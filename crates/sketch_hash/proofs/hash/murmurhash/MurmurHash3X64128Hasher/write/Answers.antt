@@ -1,0 +1,16 @@
+use Rattle.std.proofs.Common.{◌≡◌, refl, ◌∙◌, ap, arith}
+use Rattle.sketch_hash.specs.Murmur.{murmur_after, murmur_start, step, block_words}
+use Rattle.sketch_hash.specs.MurmurLaws.{murmur_after-append}
+use Rattle.sketch_hash.proofs.PiecesLemmas.{fold-advanced}
+use Rattle.sketch_hash.proofs.hash.murmurhash.MurmurHash3X64128Hasher.write.Goals as goal
+
+written : (c : goal.After-push_all) → c.push_all.new.taker ≡ murmur_after c.args.self.now c.args.bytes.now
+unfolding murmur_after
+written c = c.push_all.ensures ∙ fold-advanced 16 block_words step (omega arith) c.args.bytes.now c.args.self.now
+
+pub returns-clause-after : goal.returns-clause-after
+returns-clause-after c = written c
+
+pub returns-clause-stands : goal.returns-clause-stands
+returns-clause-stands c = λ seed before stands.
+    written c ∙ ap (λ s. murmur_after s c.args.bytes.now) stands ∙ murmur_after-append (murmur_start seed) before c.args.bytes.now

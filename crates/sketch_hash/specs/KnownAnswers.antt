@@ -1,0 +1,34 @@
+-- Answers that are known from elsewhere: the tests of the two hashes' authors and of the library that is ported.
+use Rattle.std.specs.Prelude.{◌≡◌, ℕ, zero, suc, ◌/◌, ◌^◌, List, [], ◌∷◌, codes}
+use Rattle.sketch_hash.specs.Words.{times}
+use Rattle.sketch_hash.specs.Murmur.{murmur}
+use Rattle.sketch_hash.specs.Xxh64.{xxh64}
+
+-- the sentence that hash functions are shown on
+abbrev pub fox : List ℕ
+fox = codes "The quick brown fox jumps over the lazy dog"
+
+-- the first n bytes of xxHash's test buffer, made from a generator's state
+unfoldable pub test_bytes_from : ℕ → ℕ → List ℕ
+test_bytes_from g zero = []
+test_bytes_from g (suc n) = g / 2 ^ 56 ∷ test_bytes_from (times g 0x9E3779B185EBCA8D) n
+
+abbrev pub test_bytes : ℕ → List ℕ
+test_bytes n = test_bytes_from 0x9E3779B1 n
+
+-- what the definition of Murmur answers
+pub record MurmurKnownAnswers : Type 0 where
+  pub nothing : murmur 0 [] ≡ (0, 0)
+  pub dog : murmur 0 fox ≡ (0xe34bbc7bbc071b6c, 0x7a433ca9c49a9347)
+  pub two_blocks : murmur 0 (codes "The quick brown fox jumps over t") ≡ (0xdf6af91bb29bdacf, 0x91a341c58df1f3a6)
+
+-- what the definition of XXH64 answers
+pub record Xxh64KnownAnswers : Type 0 where
+  pub nothing : xxh64 0 [] ≡ 0xef46db3751d8e999
+  pub nothing_seeded : xxh64 0x9E3779B1 [] ≡ 0xac75fda2929b17ef
+  pub one_byte : xxh64 0 (test_bytes 1) ≡ 0xe934a84adb052768
+  pub one_stripe : xxh64 0 (test_bytes 32) ≡ 0x18b216492bb44b70
+  pub one_stripe_seeded : xxh64 0x9E3779B1 (test_bytes 32) ≡ 0xb3f33bdf93ade409
+  pub stripe_and_byte : xxh64 0 (test_bytes 33) ≡ 0x55c8dc3e578f5b59
+  pub three_stripes_and_word : xxh64 0 (test_bytes 100) ≡ 0x4bfe019cd91d9ea4
+  pub three_stripes_and_word_seeded : xxh64 0x9E3779B1 (test_bytes 100) ≡ 0x4853706dc9625cae

@@ -1,0 +1,7 @@
+pub mod Words
+pub mod Pieces
+pub mod PiecesLaws
+pub mod Murmur
+pub mod MurmurLaws
+pub mod Xxh64
+pub mod KnownAnswers

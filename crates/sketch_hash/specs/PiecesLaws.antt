@@ -1,0 +1,78 @@
+-- Two writes leave what one write of the joined bytes leaves: the laws that both hashers prove.
+use Rattle.std.specs.Prelude.{◌≡◌, ℕ, zero, suc, ◌+◌, ◌-◌, ◌*◌, ◌/◌, ◌%◌, ◌^◌, ◌<◌, ◌≤◌, List, [], ◌∷◌, ◌++◌, length, take, drop, map, refl}
+use Rattle.std.proofs.Common.{sym, ap, ◌∙◌, arith, append_assoc, length-append, length-drop, zero-add}
+use Rattle.std.proofs.Math.Nat.{mul-add-div_right, div-mul-le_self, suc-mul, zero-mul, suc-add, add-mul}
+use Rattle.std.proofs.lemmas.List.{append-nil, map-append, take-append-le, drop-append-le, drop-drop, drop_at}
+use Rattle.std.proofs.lemmas.List.Sums.{fold-append}
+use Rattle.std.specs.List.{fold}
+use Rattle.sketch_hash.specs.Pieces.{first_pieces, pieces, rest, State, absorbed, advanced}
+
+-- pieces in front do not depend on what is joined behind them
+first_pieces-append : (n m w : ℕ) (xs ys : List ℕ) → n * w ≤ length xs →
+    first_pieces (n + m) w (xs ++ ys) ≡ first_pieces n w xs ++ first_pieces m w (drop (n * w) xs ++ ys)
+first_pieces-append zero m w xs ys h = rw (zero-mul w, zero-add m) refl
+first_pieces-append (suc n) m w xs ys h =
+    let more : suc n * w ≡ n * w + w = suc-mul n w in
+    let first : w ≤ length xs = omega (arith, more) in
+    let others : n * w ≤ length (drop w xs) = rw (length-drop w xs) (omega (arith, more)) in
+    let further : drop (n * w) (drop w xs) ≡ drop (suc n * w) xs = drop-drop (n * w) w xs ∙ ap (λ k. drop k xs) (omega (arith, more)) in
+    rw (suc-add n m) (ap (λ piece. piece ∷ first_pieces (n + m) w (drop w (xs ++ ys))) (take-append-le w xs ys first)
+    ∙ ap (λ t. take w xs ∷ first_pieces (n + m) w t) (drop-append-le w xs ys first)
+    ∙ ap (λ t. take w xs ∷ t) (first_pieces-append n m w (drop w xs) ys others)
+    ∙ ap (λ t. take w xs ∷ (first_pieces n w (drop w xs) ++ first_pieces m w (t ++ ys))) further)
+
+-- how many pieces two joined lists have
+piece_count : (w : ℕ) (xs ys : List ℕ) → 0 < w →
+    length (xs ++ ys) / w ≡ length xs / w + length (drop (length xs / w * w) xs ++ ys) / w
+piece_count w xs ys p =
+    let within : length xs / w * w ≤ length xs = div-mul-le_self (length xs) w in
+    let split : length (xs ++ ys) ≡ length xs / w * w + length (drop (length xs / w * w) xs ++ ys) =
+      rw (length-append (drop (length xs / w * w) xs) ys, length-drop, length-append xs ys) (omega arith) in
+    ap (λ n. n / w) split ∙ mul-add-div_right p (length xs / w) (length (drop (length xs / w * w) xs ++ ys))
+
+-- the full pieces of joined lists are those of the first, and those of its rest with the second
+pub pieces-append : (w : ℕ) (xs ys : List ℕ) → 0 < w → pieces w (xs ++ ys) ≡ pieces w xs ++ pieces w (rest w xs ++ ys)
+unfolding pieces rest
+pieces-append w xs ys p =
+    let count = piece_count w xs ys p in
+    let within = div-mul-le_self (length xs) w in
+    rw count (first_pieces-append (length xs / w) _ w xs ys within)
+
+pub rest-append : (w : ℕ) (xs ys : List ℕ) → 0 < w → rest w (xs ++ ys) ≡ rest w (rest w xs ++ ys)
+unfolding rest
+rest-append w xs ys p =
+    let n = length xs / w in
+    let m = length (drop (n * w) xs ++ ys) / w in
+    ap (λ k. drop k (xs ++ ys)) (ap (λ k. k * w) (piece_count w xs ys p) ∙ add-mul n m w)
+    ∙ sym (drop-drop (m * w) (n * w) (xs ++ ys))
+    ∙ ap (drop (m * w)) (drop-append-le (n * w) xs ys (div-mul-le_self (length xs) w))
+
+-- two states with the same parts are one
+same_state : {P : Type 0} (s t : State P) → s.folded ≡ t.folded → s.total ≡ t.total → s.waiting ≡ t.waiting → s ≡ t
+same_state s t a b c = ap (λ x. record { folded = x; total = s.total; waiting = s.waiting }) a
+    ∙ ap (λ x. record { folded = t.folded; total = x; waiting = s.waiting }) b
+    ∙ ap (λ x. record { folded = t.folded; total = t.total; waiting = x }) c
+
+-- what two writes absorb is what one write of the joined bytes absorbs
+pub absorbed-append : {P R : Type 0} (w : ℕ) (read : List ℕ → R) (f : P → R → P) → 0 < w →
+    (state : State P) (xs ys : List ℕ) → absorbed w read f (absorbed w read f state xs) ys ≡ absorbed w read f state (xs ++ ys)
+unfolding absorbed
+absorbed-append w read f p state xs ys =
+    let held = state.waiting ++ xs in
+    let joined : state.waiting ++ (xs ++ ys) ≡ held ++ ys = sym (append_assoc state.waiting xs ys) in
+    let all : map read (pieces w (state.waiting ++ (xs ++ ys))) ≡ map read (pieces w held) ++ map read (pieces w (rest w held ++ ys)) =
+      ap (λ t. map read (pieces w t)) joined ∙ ap (map read) (pieces-append w held ys p) ∙ map-append read (pieces w held) (pieces w (rest w held ++ ys)) in
+    same_state _ _
+      (sym (ap (fold f state.folded) all ∙ fold-append f state.folded (map read (pieces w held)) (map read (pieces w (rest w held ++ ys)))))
+      (rw (length-append xs ys) (counted state.total (length xs) (length ys)))
+      (sym (ap (rest w) joined ∙ rest-append w held ys p))
+  where
+    counted : (a b c : ℕ) → ((a + b) % 2 ^ 64 + c) % 2 ^ 64 ≡ (a + (b + c)) % 2 ^ 64
+    counted a b c = omega arith
+
+-- two writes join
+pub advanced-append : {P R : Type 0} (w : ℕ) (read : List ℕ → R) (f : P → R → P) → 0 < w →
+    (state : State P) (xs ys : List ℕ) → advanced w read f (advanced w read f state xs) ys ≡ advanced w read f state (xs ++ ys)
+advanced-append w read f p state [] ys = refl
+advanced-append w read f p state (x ∷ xs) [] = ap (λ t. absorbed w read f state (x ∷ t)) (sym (append-nil xs))
+advanced-append w read f p state (x ∷ xs) (y ∷ ys) = absorbed-append w read f p state (x ∷ xs) (y ∷ ys)

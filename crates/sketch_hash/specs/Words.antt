@@ -1,0 +1,37 @@
+-- Words and their arithmetic, in whole numbers: no machine operation is used to say what a hash is.
+use Rattle.std.specs.Prelude.{ℕ, zero, suc, ◌+◌, ◌-◌, ◌*◌, ◌/◌, ◌%◌, ◌^◌, ◌<◌, ◌==◌, if◌then◌else◌}
+
+-- a word is a whole number below 2 ^ 64
+abbrev pub IsWord : ℕ → Type 0
+IsWord x = x < 2 ^ 64
+
+-- the sum, the difference and the product of two words, modulo 2 ^ 64
+abbrev pub plus : ℕ → ℕ → ℕ
+plus x y = (x + y) % 2 ^ 64
+
+abbrev pub minus : ℕ → ℕ → ℕ
+minus x y = (x + (2 ^ 64 - y)) % 2 ^ 64
+
+abbrev pub times : ℕ → ℕ → ℕ
+times x y = x * y % 2 ^ 64
+
+-- the binary digit of x that is worth 2 ^ i
+abbrev pub digit : ℕ → ℕ → ℕ
+digit x i = x / 2 ^ i % 2
+
+-- the sum of 2 ^ i over the places i below n at which the binary digits of x and y differ
+unfoldable pub differing : ℕ → ℕ → ℕ → ℕ
+differing zero x y = 0
+differing (suc i) x y = differing i x y + (if digit x i == digit y i then 0 else 2 ^ i)
+
+-- the exclusive or of two words
+unfoldable pub xor : ℕ → ℕ → ℕ
+xor x y = differing 64 x y
+
+-- a word rotated to the left by r places, r from 1 to 63
+unfoldable pub rotate : ℕ → ℕ → ℕ
+rotate x r = x * 2 ^ r % 2 ^ 64 + x / 2 ^ (64 - r)
+
+-- a word xor itself, divided by 2 ^ k
+abbrev pub xor_shifted : ℕ → ℕ → ℕ
+xor_shifted k x = xor x (x / 2 ^ k)
