@@ -1,3 +1,4 @@
 pub mod BytesLemmas
+pub mod ItemLemmas
 pub mod LineLemmas
 pub mod RefusalLemmas

@@ -1,3 +1,8 @@
 pub mod Bytes
+pub mod Checks
 pub mod ErrorValue
+pub mod Items
+pub mod Reading
 pub mod Refusals
+pub mod Writing
+pub mod Written

@@ -36,3 +36,11 @@ invalid_preamble_longs_text expected actual =
 abbrev pub invalid_preamble_ints_text : ℕ → ℕ → List ℕ
 invalid_preamble_ints_text expected actual =
     codes "invalid preamble ints: expected " ++ decimal expected ++ codes ", got " ++ decimal actual
+
+abbrev pub unsupported_serial_version_text : ℕ → ℕ → List ℕ
+unsupported_serial_version_text expected actual =
+    codes "unsupported serial version: expected " ++ decimal expected ++ codes ", got " ++ decimal actual
+
+abbrev pub preamble_longs_out_of_range_text : List ℕ → ℕ → List ℕ
+preamble_longs_out_of_range_text range actual =
+    codes "invalid preamble longs: expected " ++ range ++ codes ", got " ++ decimal actual

@@ -2,4 +2,5 @@
 //! serialized sketches.
 #![tactic(auto)]
 
+pub mod codec;
 pub mod error;

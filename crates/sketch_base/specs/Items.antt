@@ -1,0 +1,90 @@
+-- How items stand in bytes.
+use Rattle.std.specs.Prelude.{ℕ, ◌+◌, List, [], ◌∷◌, ◌++◌, take, drop, reverse}
+use Rattle.sketch_base.specs.declared.codec.item.Item.{Item}
+use Rattle.sketch_base.specs.declared.codec.item.Kind.{Kind}
+use Rattle.sketch_base.specs.declared.codec.item.Item.TheVariants as item
+use Rattle.sketch_base.specs.declared.codec.item.Kind.TheVariants as kind
+use Rattle.sketch_base.specs.Bytes.{le, be, low_bytes, twos_complement, modulo}
+
+-- the kind of an item
+abbrev pub kind_of : Item → Kind
+kind_of (item.U8 n) = kind.U8
+kind_of (item.I8 n) = kind.I8
+kind_of (item.U16Le n) = kind.U16Le
+kind_of (item.U16Be n) = kind.U16Be
+kind_of (item.I16Le n) = kind.I16Le
+kind_of (item.I16Be n) = kind.I16Be
+kind_of (item.U32Le n) = kind.U32Le
+kind_of (item.U32Be n) = kind.U32Be
+kind_of (item.I32Le n) = kind.I32Le
+kind_of (item.I32Be n) = kind.I32Be
+kind_of (item.U64Le n) = kind.U64Le
+kind_of (item.U64Be n) = kind.U64Be
+kind_of (item.I64Le n) = kind.I64Le
+kind_of (item.I64Be n) = kind.I64Be
+
+-- how many bytes an item of a kind has
+abbrev pub width : Kind → ℕ
+width kind.U8 = 1
+width kind.I8 = 1
+width kind.U16Le = 2
+width kind.U16Be = 2
+width kind.I16Le = 2
+width kind.I16Be = 2
+width kind.U32Le = 4
+width kind.U32Be = 4
+width kind.I32Le = 4
+width kind.I32Be = 4
+width kind.U64Le = 8
+width kind.U64Be = 8
+width kind.I64Le = 8
+width kind.I64Be = 8
+
+-- the item of a kind that so many bytes hold
+abbrev pub unspell : Kind → List ℕ → Item
+unspell kind.U8 bytes = item.U8 (le bytes)
+unspell kind.I8 bytes = item.I8 (twos_complement 8 (le bytes))
+unspell kind.U16Le bytes = item.U16Le (le bytes)
+unspell kind.U16Be bytes = item.U16Be (be bytes)
+unspell kind.I16Le bytes = item.I16Le (twos_complement 16 (le bytes))
+unspell kind.I16Be bytes = item.I16Be (twos_complement 16 (be bytes))
+unspell kind.U32Le bytes = item.U32Le (le bytes)
+unspell kind.U32Be bytes = item.U32Be (be bytes)
+unspell kind.I32Le bytes = item.I32Le (twos_complement 32 (le bytes))
+unspell kind.I32Be bytes = item.I32Be (twos_complement 32 (be bytes))
+unspell kind.U64Le bytes = item.U64Le (le bytes)
+unspell kind.U64Be bytes = item.U64Be (be bytes)
+unspell kind.I64Le bytes = item.I64Le (twos_complement 64 (le bytes))
+unspell kind.I64Be bytes = item.I64Be (twos_complement 64 (be bytes))
+
+-- the bytes of an item
+abbrev pub spell : Item → List ℕ
+spell (item.U8 n) = low_bytes 1 n
+spell (item.I8 n) = low_bytes 1 (modulo 8 n)
+spell (item.U16Le n) = low_bytes 2 n
+spell (item.U16Be n) = reverse (low_bytes 2 n)
+spell (item.I16Le n) = low_bytes 2 (modulo 16 n)
+spell (item.I16Be n) = reverse (low_bytes 2 (modulo 16 n))
+spell (item.U32Le n) = low_bytes 4 n
+spell (item.U32Be n) = reverse (low_bytes 4 n)
+spell (item.I32Le n) = low_bytes 4 (modulo 32 n)
+spell (item.I32Be n) = reverse (low_bytes 4 (modulo 32 n))
+spell (item.U64Le n) = low_bytes 8 n
+spell (item.U64Be n) = reverse (low_bytes 8 n)
+spell (item.I64Le n) = low_bytes 8 (modulo 64 n)
+spell (item.I64Be n) = reverse (low_bytes 8 (modulo 64 n))
+
+-- how many bytes items of these kinds have
+abbrev pub widths : List Kind → ℕ
+widths [] = 0
+widths (k ∷ kinds) = width k + widths kinds
+
+-- the items of these kinds that bytes hold, one after another
+abbrev pub unspell_all : List Kind → List ℕ → List Item
+unspell_all [] bytes = []
+unspell_all (k ∷ kinds) bytes = unspell k (take (width k) bytes) ∷ unspell_all kinds (drop (width k) bytes)
+
+-- the bytes of items, one after another
+abbrev pub spell_all : List Item → List ℕ
+spell_all [] = []
+spell_all (i ∷ items) = spell i ++ spell_all items

@@ -1,0 +1,25 @@
+-- What a writer of bytes answers.
+use Rattle.std.specs.Prelude.{ℕ, ◌+◌, ◌<◌, ◌≤◌, ◌≡◌, List, [], ◌∷◌, ◌++◌, length, take, Result, MatchResult}
+use Rattle.std.specs.declared.alloc.AllocError.{AllocError}
+use Rattle.sketch_base.specs.declared.codec.encode.Stopped.{Stopped}
+use Rattle.sketch_base.specs.declared.codec.item.Item.{Item}
+use Rattle.sketch_base.specs.Items.{spell_all}
+use Rattle.sketch_base.specs.Written.{Written}
+
+-- A write of bytes: they stand behind the others, or the write is refused and the bytes are as before. It is
+-- refused only where there is no room for them, and the room never shrinks.
+pub record Writes (bytes : List ℕ) (before : Written) (result : Result (Unit {0}) AllocError) (after : Written) : Type 0 where
+  pub outcome : MatchResult result
+      (λ _. after.bytes ≡ before.bytes ++ bytes)
+      (λ _. (after.bytes ≡ before.bytes) × (before.room < length (before.bytes ++ bytes)))
+  pub room : before.room ≤ after.room
+
+-- A write of items: their bytes stand behind the others in order, or just those of the accepted ones do. It stops
+-- only at an item for which there is no room, and the room never shrinks.
+pub record WritesItems (items : List Item) (before : Written) (result : Result (Unit {0}) Stopped) (after : Written) : Type 0 where
+  pub outcome : MatchResult result
+      (λ _. after.bytes ≡ before.bytes ++ spell_all items)
+      (λ stopped. (stopped.accepted < length items)
+          × (after.bytes ≡ before.bytes ++ spell_all (take stopped.accepted items))
+          × (before.room < length (before.bytes ++ spell_all (take (stopped.accepted + 1) items))))
+  pub room : before.room ≤ after.room

@@ -1,0 +1,226 @@
+//! Reading numbers from bytes.
+
+ghost use Rattle.std.specs.Prelude.{◌≡◌, ℕ, List, [], length, take, drop, is_ok, if◌then◌else◌};
+ghost use Rattle.sketch_base.specs.Bytes.{le, be, twos_complement};
+ghost use Rattle.sketch_base.specs.Items.{unspell, width};
+ghost use Rattle.sketch_base.specs.Reading.{Reads, ReadsItems};
+
+use std::io;
+use std::marker::Model;
+
+use crate::codec::item::{Item, Kind};
+
+/// Reads numbers from a borrowed slice of bytes, without copying it.
+///
+/// A read that finds too few bytes is refused with the kind `UnexpectedEof`, and then nothing
+/// remains to be read.
+#[derive(Drop)]
+pub struct SketchSlice<'a> {
+    slice: &'a [u8],
+}
+
+impl<'a> Model for SketchSlice<'a> {
+    ghost Value = { List ℕ };
+
+    ghost view = { λ s. s.slice.now };
+}
+
+/// A list of items ended too early.
+#[derive(Clone, Copy, Debug, PartialEq, Eq)]
+pub struct Short {
+    /// How many items were read.
+    pub read: usize,
+}
+
+impl SketchSlice<'_> {
+    /// A reader of all bytes of the slice.
+    pub fn new(slice: &[u8]) -> SketchSlice<'_>
+        ensures { result ≡ slice.now }
+    {
+        SketchSlice { slice }
+    }
+
+    /// Skips `n` bytes, or all that remain where these are fewer.
+    pub fn advance(&mut self, n: u64)
+        ensures { self.new ≡ drop n self.old }
+    {
+        let slice = self.slice;
+        let count = slice.len().min(n as usize);
+        self.slice = &slice[count..];
+    }
+
+    /// The bytes that remain.
+    pub fn remaining(&self) -> &[u8]
+        ensures { result.now ≡ self.now }
+    {
+        self.slice
+    }
+
+    /// Fills the buffer with the next bytes.
+    ///
+    /// # Errors
+    ///
+    /// Where fewer bytes remain than the buffer holds: the buffer is as it was.
+    pub fn read_exact(&mut self, buf: &mut [u8]) -> io::Result<()>
+        ensures read { Reads (length buf.old) (λ _. tt) self.old result self.new }
+        ensures filled { buf.new ≡ (if is_ok result then take (length buf.old) self.old else buf.old) }
+    {
+        let slice = self.slice;
+        if slice.len() < buf.len() {
+            self.slice = &[];
+            return Err(io::ErrorKind::UnexpectedEof.into());
+        }
+        let (front, rest) = slice.split_at(buf.len());
+        buf.copy_from_slice(front);
+        self.slice = rest;
+        Ok(())
+    }
+
+    // The next `N` bytes.
+    fn read_array<const N: usize>(&mut self) -> io::Result<[u8; N]>
+        ensures { Reads N (λ bytes. bytes) self.old result self.new }
+    {
+        let mut buf = [0; N];
+        self.read_exact(&mut buf)?;
+        Ok(buf)
+    }
+
+    /// Reads an unsigned number of one byte.
+    pub fn read_u8(&mut self) -> io::Result<u8>
+        ensures { Reads 1 le self.old result self.new }
+    {
+        Ok(u8::from_le_bytes(self.read_array()?))
+    }
+
+    /// Reads a signed number of one byte.
+    pub fn read_i8(&mut self) -> io::Result<i8>
+        ensures { Reads 1 (λ bytes. twos_complement 8 (le bytes)) self.old result self.new }
+    {
+        Ok(i8::from_le_bytes(self.read_array()?))
+    }
+
+    /// Reads an unsigned number of 2 bytes, the lowest first.
+    pub fn read_u16_le(&mut self) -> io::Result<u16>
+        ensures { Reads 2 le self.old result self.new }
+    {
+        Ok(u16::from_le_bytes(self.read_array()?))
+    }
+
+    /// Reads an unsigned number of 2 bytes, the highest first.
+    pub fn read_u16_be(&mut self) -> io::Result<u16>
+        ensures { Reads 2 be self.old result self.new }
+    {
+        Ok(u16::from_be_bytes(self.read_array()?))
+    }
+
+    /// Reads a signed number of 2 bytes, the lowest first.
+    pub fn read_i16_le(&mut self) -> io::Result<i16>
+        ensures { Reads 2 (λ bytes. twos_complement 16 (le bytes)) self.old result self.new }
+    {
+        Ok(i16::from_le_bytes(self.read_array()?))
+    }
+
+    /// Reads a signed number of 2 bytes, the highest first.
+    pub fn read_i16_be(&mut self) -> io::Result<i16>
+        ensures { Reads 2 (λ bytes. twos_complement 16 (be bytes)) self.old result self.new }
+    {
+        Ok(i16::from_be_bytes(self.read_array()?))
+    }
+
+    /// Reads an unsigned number of 4 bytes, the lowest first.
+    pub fn read_u32_le(&mut self) -> io::Result<u32>
+        ensures { Reads 4 le self.old result self.new }
+    {
+        Ok(u32::from_le_bytes(self.read_array()?))
+    }
+
+    /// Reads an unsigned number of 4 bytes, the highest first.
+    pub fn read_u32_be(&mut self) -> io::Result<u32>
+        ensures { Reads 4 be self.old result self.new }
+    {
+        Ok(u32::from_be_bytes(self.read_array()?))
+    }
+
+    /// Reads a signed number of 4 bytes, the lowest first.
+    pub fn read_i32_le(&mut self) -> io::Result<i32>
+        ensures { Reads 4 (λ bytes. twos_complement 32 (le bytes)) self.old result self.new }
+    {
+        Ok(i32::from_le_bytes(self.read_array()?))
+    }
+
+    /// Reads a signed number of 4 bytes, the highest first.
+    pub fn read_i32_be(&mut self) -> io::Result<i32>
+        ensures { Reads 4 (λ bytes. twos_complement 32 (be bytes)) self.old result self.new }
+    {
+        Ok(i32::from_be_bytes(self.read_array()?))
+    }
+
+    /// Reads an unsigned number of 8 bytes, the lowest first.
+    pub fn read_u64_le(&mut self) -> io::Result<u64>
+        ensures { Reads 8 le self.old result self.new }
+    {
+        Ok(u64::from_le_bytes(self.read_array()?))
+    }
+
+    /// Reads an unsigned number of 8 bytes, the highest first.
+    pub fn read_u64_be(&mut self) -> io::Result<u64>
+        ensures { Reads 8 be self.old result self.new }
+    {
+        Ok(u64::from_be_bytes(self.read_array()?))
+    }
+
+    /// Reads a signed number of 8 bytes, the lowest first.
+    pub fn read_i64_le(&mut self) -> io::Result<i64>
+        ensures { Reads 8 (λ bytes. twos_complement 64 (le bytes)) self.old result self.new }
+    {
+        Ok(i64::from_le_bytes(self.read_array()?))
+    }
+
+    /// Reads a signed number of 8 bytes, the highest first.
+    pub fn read_i64_be(&mut self) -> io::Result<i64>
+        ensures { Reads 8 (λ bytes. twos_complement 64 (be bytes)) self.old result self.new }
+    {
+        Ok(i64::from_be_bytes(self.read_array()?))
+    }
+
+    // The next item, of this kind.
+    fn read_item(&mut self, kind: Kind) -> io::Result<Item>
+        ensures { Reads (width kind) (unspell kind) self.old result self.new }
+    {
+        Ok(match kind {
+            Kind::U8 => Item::U8(self.read_u8()?),
+            Kind::I8 => Item::I8(self.read_i8()?),
+            Kind::U16Le => Item::U16Le(self.read_u16_le()?),
+            Kind::U16Be => Item::U16Be(self.read_u16_be()?),
+            Kind::I16Le => Item::I16Le(self.read_i16_le()?),
+            Kind::I16Be => Item::I16Be(self.read_i16_be()?),
+            Kind::U32Le => Item::U32Le(self.read_u32_le()?),
+            Kind::U32Be => Item::U32Be(self.read_u32_be()?),
+            Kind::I32Le => Item::I32Le(self.read_i32_le()?),
+            Kind::I32Be => Item::I32Be(self.read_i32_be()?),
+            Kind::U64Le => Item::U64Le(self.read_u64_le()?),
+            Kind::U64Be => Item::U64Be(self.read_u64_be()?),
+            Kind::I64Le => Item::I64Le(self.read_i64_le()?),
+            Kind::I64Be => Item::I64Be(self.read_i64_be()?),
+        })
+    }
+
+    /// Reads one item of each kind, in order, into the places of `out`, of which there are as many.
+    ///
+    /// # Errors
+    ///
+    /// At the first item for which too few bytes remain: how many were read. Their places are
+    /// filled, the others are as they were.
+    pub fn read_items(&mut self, kinds: &[Kind], out: &mut [Item]) -> Result<(), Short>
+        requires { length kinds.now ≡ length out.old }
+        ensures { ReadsItems kinds.now self.old out.old result self.new out.new }
+    {
+        for (read, kind) in kinds.iter().enumerate() {
+            match self.read_item(*kind) {
+                Ok(item) => out[read] = item,
+                Err(_) => return Err(Short { read }),
+            }
+        }
+        Ok(())
+    }
+}

@@ -1,0 +1,203 @@
+//! Writing numbers into bytes.
+
+ghost use Rattle.std.specs.Prelude.{◌≡◌, [], ◌∷◌, IfOk, reverse};
+ghost use Rattle.sketch_base.specs.Bytes.{low_bytes, modulo};
+ghost use Rattle.sketch_base.specs.Items.{spell};
+ghost use Rattle.sketch_base.specs.Writing.{Writes, WritesItems};
+
+use std::alloc::{AllocError, Global};
+use std::marker::Model;
+
+use crate::codec::item::Item;
+
+/// Writes numbers into bytes that grow as they are needed.
+///
+/// A write that finds no memory is refused and changes nothing.
+#[derive(Drop)]
+pub struct SketchBytes {
+    bytes: Vec<u8>,
+}
+
+impl Model for SketchBytes {
+    ghost use Rattle.std.specs.Prelude.{vec_capacity};
+    ghost use Rattle.sketch_base.specs.Written.{Written};
+
+    ghost Value = { Written };
+
+    ghost view = { λ s. record { bytes = s.bytes.items; room = vec_capacity s.bytes } };
+}
+
+/// A list of items was written in part, since memory ran out.
+#[derive(Clone, Copy, Debug, PartialEq, Eq)]
+pub struct Stopped {
+    /// How many items were written.
+    pub accepted: usize,
+}
+
+impl SketchBytes {
+    /// A writer that has no bytes yet, with room for so many.
+    ///
+    /// # Errors
+    ///
+    /// Where memory runs out.
+    pub fn with_capacity(alloc: Global, capacity: usize) -> Result<SketchBytes, AllocError>
+        ensures { IfOk result (λ writer. writer ≡ record { bytes = []; room = capacity }) }
+    {
+        let bytes = Vec::with_capacity(alloc, capacity)?;
+        Ok(SketchBytes { bytes })
+    }
+
+    /// The bytes written.
+    pub fn into_bytes(self) -> Vec<u8>
+        ensures { result.items ≡ self.bytes }
+    {
+        self.bytes
+    }
+
+    /// Writes the bytes of the slice.
+    ///
+    /// # Errors
+    ///
+    /// Where memory runs out, as at every write: nothing is written.
+    pub fn write(&mut self, buf: &[u8]) -> Result<(), AllocError>
+        ensures { Writes buf.now self.old result self.new }
+    {
+        self.bytes.extend_from_slice(buf)
+    }
+
+    /// Writes an unsigned number as one byte.
+    pub fn write_u8(&mut self, n: u8) -> Result<(), AllocError>
+        ensures { Writes (low_bytes 1 n) self.old result self.new }
+    {
+        self.write(&n.to_le_bytes())
+    }
+
+    /// Writes a signed number as one byte.
+    pub fn write_i8(&mut self, n: i8) -> Result<(), AllocError>
+        ensures { Writes (low_bytes 1 (modulo 8 n)) self.old result self.new }
+    {
+        self.write(&n.to_le_bytes())
+    }
+
+    /// Writes an unsigned number as 2 bytes, the lowest first.
+    pub fn write_u16_le(&mut self, n: u16) -> Result<(), AllocError>
+        ensures { Writes (low_bytes 2 n) self.old result self.new }
+    {
+        self.write(&n.to_le_bytes())
+    }
+
+    /// Writes an unsigned number as 2 bytes, the highest first.
+    pub fn write_u16_be(&mut self, n: u16) -> Result<(), AllocError>
+        ensures { Writes (reverse (low_bytes 2 n)) self.old result self.new }
+    {
+        self.write(&n.to_be_bytes())
+    }
+
+    /// Writes a signed number as 2 bytes, the lowest first.
+    pub fn write_i16_le(&mut self, n: i16) -> Result<(), AllocError>
+        ensures { Writes (low_bytes 2 (modulo 16 n)) self.old result self.new }
+    {
+        self.write(&n.to_le_bytes())
+    }
+
+    /// Writes a signed number as 2 bytes, the highest first.
+    pub fn write_i16_be(&mut self, n: i16) -> Result<(), AllocError>
+        ensures { Writes (reverse (low_bytes 2 (modulo 16 n))) self.old result self.new }
+    {
+        self.write(&n.to_be_bytes())
+    }
+
+    /// Writes an unsigned number as 4 bytes, the lowest first.
+    pub fn write_u32_le(&mut self, n: u32) -> Result<(), AllocError>
+        ensures { Writes (low_bytes 4 n) self.old result self.new }
+    {
+        self.write(&n.to_le_bytes())
+    }
+
+    /// Writes an unsigned number as 4 bytes, the highest first.
+    pub fn write_u32_be(&mut self, n: u32) -> Result<(), AllocError>
+        ensures { Writes (reverse (low_bytes 4 n)) self.old result self.new }
+    {
+        self.write(&n.to_be_bytes())
+    }
+
+    /// Writes a signed number as 4 bytes, the lowest first.
+    pub fn write_i32_le(&mut self, n: i32) -> Result<(), AllocError>
+        ensures { Writes (low_bytes 4 (modulo 32 n)) self.old result self.new }
+    {
+        self.write(&n.to_le_bytes())
+    }
+
+    /// Writes a signed number as 4 bytes, the highest first.
+    pub fn write_i32_be(&mut self, n: i32) -> Result<(), AllocError>
+        ensures { Writes (reverse (low_bytes 4 (modulo 32 n))) self.old result self.new }
+    {
+        self.write(&n.to_be_bytes())
+    }
+
+    /// Writes an unsigned number as 8 bytes, the lowest first.
+    pub fn write_u64_le(&mut self, n: u64) -> Result<(), AllocError>
+        ensures { Writes (low_bytes 8 n) self.old result self.new }
+    {
+        self.write(&n.to_le_bytes())
+    }
+
+    /// Writes an unsigned number as 8 bytes, the highest first.
+    pub fn write_u64_be(&mut self, n: u64) -> Result<(), AllocError>
+        ensures { Writes (reverse (low_bytes 8 n)) self.old result self.new }
+    {
+        self.write(&n.to_be_bytes())
+    }
+
+    /// Writes a signed number as 8 bytes, the lowest first.
+    pub fn write_i64_le(&mut self, n: i64) -> Result<(), AllocError>
+        ensures { Writes (low_bytes 8 (modulo 64 n)) self.old result self.new }
+    {
+        self.write(&n.to_le_bytes())
+    }
+
+    /// Writes a signed number as 8 bytes, the highest first.
+    pub fn write_i64_be(&mut self, n: i64) -> Result<(), AllocError>
+        ensures { Writes (reverse (low_bytes 8 (modulo 64 n))) self.old result self.new }
+    {
+        self.write(&n.to_be_bytes())
+    }
+
+    // Writes an item.
+    fn write_item(&mut self, item: Item) -> Result<(), AllocError>
+        ensures { Writes (spell item) self.old result self.new }
+    {
+        match item {
+            Item::U8(n) => self.write_u8(n),
+            Item::I8(n) => self.write_i8(n),
+            Item::U16Le(n) => self.write_u16_le(n),
+            Item::U16Be(n) => self.write_u16_be(n),
+            Item::I16Le(n) => self.write_i16_le(n),
+            Item::I16Be(n) => self.write_i16_be(n),
+            Item::U32Le(n) => self.write_u32_le(n),
+            Item::U32Be(n) => self.write_u32_be(n),
+            Item::I32Le(n) => self.write_i32_le(n),
+            Item::I32Be(n) => self.write_i32_be(n),
+            Item::U64Le(n) => self.write_u64_le(n),
+            Item::U64Be(n) => self.write_u64_be(n),
+            Item::I64Le(n) => self.write_i64_le(n),
+            Item::I64Be(n) => self.write_i64_be(n),
+        }
+    }
+
+    /// Writes the items, in order.
+    ///
+    /// # Errors
+    ///
+    /// Where memory runs out: how many items were written. Nothing is written of the others.
+    pub fn write_items(&mut self, items: &[Item]) -> Result<(), Stopped>
+        ensures { WritesItems items.now self.old result self.new }
+    {
+        for (accepted, item) in items.iter().enumerate() {
+            if let Err(AllocError) = self.write_item(*item) {
+                return Err(Stopped { accepted });
+            }
+        }
+        Ok(())
+    }
+}

@@ -1,0 +1,119 @@
+//! The families of sketches, each with the byte that names it in serialized form.
+
+ghost use Rattle.std.specs.Prelude.{◌≡◌};
+ghost use Rattle.sketch_base.specs.Checks.{AcceptsExactly};
+ghost use Rattle.sketch_base.specs.Refusals.{invalid_family_text};
+
+use std::alloc::Global;
+
+use crate::error::Error;
+
+/// A family of sketches.
+pub struct Family {
+    /// The byte that names the family.
+    pub id: u8,
+    /// The family's name.
+    pub name: &'static str,
+    /// The least number of preamble longs, of eight bytes each.
+    pub min_pre_longs: u8,
+    /// The greatest number of preamble longs, of eight bytes each.
+    pub max_pre_longs: u8,
+}
+
+impl Family {
+    /// Theta sketches, which count distinct values.
+    pub const THETA: Family = Family {
+        id: 3,
+        name: "THETA",
+        min_pre_longs: 1,
+        max_pre_longs: 3,
+    };
+
+    /// HyperLogLog sketches, which count distinct values.
+    pub const HLL: Family = Family {
+        id: 7,
+        name: "HLL",
+        min_pre_longs: 1,
+        max_pre_longs: 1,
+    };
+
+    /// Tuple sketches, which count distinct keys and keep a summary of each.
+    pub const TUPLE: Family = Family {
+        id: 9,
+        name: "TUPLE",
+        min_pre_longs: 1,
+        max_pre_longs: 3,
+    };
+
+    /// Frequency sketches, which find frequent values.
+    pub const FREQUENCY: Family = Family {
+        id: 10,
+        name: "FREQUENCY",
+        min_pre_longs: 1,
+        max_pre_longs: 4,
+    };
+
+    /// KLL sketches, which estimate quantiles and ranks.
+    pub const KLL: Family = Family {
+        id: 15,
+        name: "KLL",
+        min_pre_longs: 1,
+        max_pre_longs: 2,
+    };
+
+    /// Compressed probabilistic counting, which counts distinct values.
+    pub const CPC: Family = Family {
+        id: 16,
+        name: "CPC",
+        min_pre_longs: 1,
+        max_pre_longs: 5,
+    };
+
+    /// Relative error quantiles, which are exact at one end of the ranks.
+    pub const REQ: Family = Family {
+        id: 17,
+        name: "REQ",
+        min_pre_longs: 1,
+        max_pre_longs: 2,
+    };
+
+    /// Count-min sketches, which estimate frequencies.
+    pub const COUNTMIN: Family = Family {
+        id: 18,
+        name: "COUNTMIN",
+        min_pre_longs: 2,
+        max_pre_longs: 2,
+    };
+
+    /// T-digests, which estimate quantiles and ranks.
+    pub const TDIGEST: Family = Family {
+        id: 20,
+        name: "TDIGEST",
+        min_pre_longs: 1,
+        max_pre_longs: 2,
+    };
+
+    /// Bloom filters, which tell members.
+    pub const BLOOMFILTER: Family = Family {
+        id: 21,
+        name: "BLOOMFILTER",
+        min_pre_longs: 3,
+        max_pre_longs: 4,
+    };
+
+    /// Accepts exactly the family's own id.
+    ///
+    /// # Errors
+    ///
+    /// At any other id: `InvalidData`, or `OutOfMemory` where the text finds no memory.
+    pub fn validate_id(&self, alloc: Global, family_id: u8) -> Result<(), Error>
+        ensures { AcceptsExactly (family_id ≡ self.now.id)
+            (invalid_family_text self.now.id family_id self.now.name.now) result }
+    {
+        if family_id == self.id {
+            Ok(())
+        } else {
+            Err(Error::invalid_family(alloc, self.id, family_id, self.name))
+        }
+    }
+}
