@@ -20,5 +20,5 @@ xxh64_known_answers = record {
   one_stripe_seeded = refl;
   stripe_and_byte = refl;
   three_stripes_and_word = refl;
-  three_stripes_and_word_seeded = refl
+  three_stripes_and_word_seeded = refl;
 }

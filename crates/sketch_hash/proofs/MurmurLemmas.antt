@@ -1,7 +1,7 @@
 -- What a hasher in a state answers, where the state is that of a seed and bytes.
-use Rattle.std.proofs.Common.{◌≡◌, ℕ, ◌+◌, ◌%◌, ◌^◌, List, [], ◌∷◌, length, refl, ap, ◌∙◌, zero-add}
+use Rattle.std.proofs.Common.{◌≡◌, ℕ, List, [], ◌∷◌, refl, ap, ◌∙◌, zero-add}
 use Rattle.sketch_hash.specs.Pieces.{State, absorbed, pieces, rest}
-use Rattle.sketch_hash.specs.Murmur.{murmur, murmur_start, murmur_after, murmur_finished, MurmurStands, ending, with_tail}
+use Rattle.sketch_hash.specs.Murmur.{murmur, murmur_start, murmur_after, murmur_finished, MurmurStands}
 
 -- the definition of the whole bytes
 pub murmur_finished-after : (seed : ℕ) (bytes : List ℕ) → murmur_finished (murmur_after (murmur_start seed) bytes) ≡ murmur seed bytes

@@ -1,10 +1,10 @@
 -- Pieces as a loop meets them: a byte that waits, a byte that fills a piece, and writes of one byte after the other.
-use Rattle.std.proofs.Common.{◌≡◌, ℕ, zero, suc, ◌+◌, ◌*◌, ◌/◌, ◌%◌, ◌^◌, ◌<◌, List, [], ◌∷◌, ◌++◌, length, take, drop, refl, sym, ap, ◌∙◌, arith, map}
+use Rattle.std.proofs.Common.{◌≡◌, ℕ, ◌+◌, ◌*◌, ◌/◌, ◌%◌, ◌^◌, ◌<◌, ◌≤◌, List, [], ◌∷◌, ◌++◌, length, take, drop, refl, sym, ap, ◌∙◌, arith}
 use Rattle.std.proofs.Math.Nat.{div-eq_of_lt, div_self, zero-mul}
-use Rattle.std.proofs.lemmas.List.{take_all, drop_all}
+use Rattle.std.proofs.lemmas.List.{take_all, drop_all, length-take-le, take-append-drop}
 use Rattle.std.specs.List.{fold}
 use Rattle.sketch_hash.specs.Pieces.{first_pieces, pieces, rest, State, absorbed, advanced}
-use Rattle.sketch_hash.specs.PiecesLaws.{advanced-append}
+use Rattle.sketch_hash.specs.PiecesLaws.{pieces-append, rest-append, advanced-append}
 
 -- fewer than w bytes have no piece
 pub pieces_short : (w : ℕ) (bytes : List ℕ) → length bytes < w → pieces w bytes ≡ []
@@ -27,6 +27,20 @@ unfolding rest
 rest_one w bytes p h =
     let one : length bytes / w ≡ 1 = ap (λ n. n / w) h ∙ div_self p in
     ap (λ n. drop (n * w) bytes) one ∙ drop_all (1 * w) bytes (omega arith)
+
+-- the first piece of a list that has one, and the others
+pub pieces-first : (w : ℕ) (bytes : List ℕ) → 0 < w → w ≤ length bytes → pieces w bytes ≡ take w bytes ∷ pieces w (drop w bytes)
+pieces-first w bytes p h =
+    let first = length-take-le w bytes h in
+    ap (pieces w) (sym (take-append-drop w bytes)) ∙ pieces-append w (take w bytes) (drop w bytes) p
+    ∙ ap (λ t. t ++ pieces w (rest w (take w bytes) ++ drop w bytes)) (pieces_one w (take w bytes) p first)
+    ∙ ap (λ t. take w bytes ∷ pieces w (t ++ drop w bytes)) (rest_one w (take w bytes) p first)
+
+pub rest-first : (w : ℕ) (bytes : List ℕ) → 0 < w → w ≤ length bytes → rest w bytes ≡ rest w (drop w bytes)
+rest-first w bytes p h =
+    let first = length-take-le w bytes h in
+    ap (rest w) (sym (take-append-drop w bytes)) ∙ rest-append w (take w bytes) (drop w bytes) p
+    ∙ ap (λ t. rest w (t ++ drop w bytes)) (rest_one w (take w bytes) p first)
 
 -- a byte that fills no piece waits behind the others
 pub absorbed_waits : {P R : Type 0} (w : ℕ) (read : List ℕ → R) (f : P → R → P) (state : State P) (b : ℕ) →

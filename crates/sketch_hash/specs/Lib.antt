@@ -4,4 +4,5 @@ pub mod PiecesLaws
 pub mod Murmur
 pub mod MurmurLaws
 pub mod Xxh64
+pub mod Xxh64Laws
 pub mod KnownAnswers

@@ -1,6 +1,6 @@
 -- MurmurHash3_x64_128 of Austin Appleby, as a function of a seed and a list of bytes.
 -- Sums and products are those of words, modulo 2 ^ 64.
-use Rattle.std.specs.Prelude.{◌≡◌, ℕ, ◌-◌, ◌/◌, ◌%◌, ◌^◌, List, [], ◌++◌, length, map, replicate}
+use Rattle.std.specs.Prelude.{◌≡◌, ℕ, ◌-◌, ◌%◌, ◌^◌, List, [], ◌++◌, length, map, replicate}
 use Rattle.std.specs.List.{fold}
 use Rattle.sketch_hash.specs.Words.{plus, times, xor, rotate, xor_shifted}
 use Rattle.sketch_hash.specs.Pieces.{pieces, rest, word_at, State, advanced}

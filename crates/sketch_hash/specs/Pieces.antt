@@ -1,6 +1,6 @@
 -- A list cut into pieces of equal length, and the state of a hasher that takes a list in several writes.
 -- Both hashes read their input so: Murmur in blocks of 16 bytes, XXH64 in stripes of 32.
-use Rattle.std.specs.Prelude.{ℕ, zero, suc, ◌+◌, ◌-◌, ◌*◌, ◌/◌, ◌%◌, ◌^◌, List, [], ◌∷◌, ◌++◌, length, take, drop, map}
+use Rattle.std.specs.Prelude.{ℕ, zero, suc, ◌+◌, ◌*◌, ◌/◌, ◌%◌, ◌^◌, List, [], ◌∷◌, ◌++◌, length, take, drop, map}
 use Rattle.std.specs.List.{fold}
 use Rattle.sketch_base.specs.Bytes.{le}
 
@@ -34,7 +34,7 @@ unfoldable pub absorbed : {P R : Type 0} → ℕ → (List ℕ → R) → (P →
 absorbed w read f state bytes = record {
   folded = fold f state.folded (map read (pieces w (state.waiting ++ bytes)));
   total = (state.total + length bytes) % 2 ^ 64;
-  waiting = rest w (state.waiting ++ bytes)
+  waiting = rest w (state.waiting ++ bytes);
 }
 
 -- the same, where an empty write leaves every state as it is

@@ -1,8 +1,8 @@
 -- Two writes leave what one write of the joined bytes leaves: the laws that both hashers prove.
-use Rattle.std.specs.Prelude.{◌≡◌, ℕ, zero, suc, ◌+◌, ◌-◌, ◌*◌, ◌/◌, ◌%◌, ◌^◌, ◌<◌, ◌≤◌, List, [], ◌∷◌, ◌++◌, length, take, drop, map, refl}
+use Rattle.std.specs.Prelude.{◌≡◌, ℕ, zero, suc, ◌+◌, ◌*◌, ◌/◌, ◌%◌, ◌^◌, ◌<◌, ◌≤◌, List, [], ◌∷◌, ◌++◌, length, take, drop, map, refl}
 use Rattle.std.proofs.Common.{sym, ap, ◌∙◌, arith, append_assoc, length-append, length-drop, zero-add}
 use Rattle.std.proofs.Math.Nat.{mul-add-div_right, div-mul-le_self, suc-mul, zero-mul, suc-add, add-mul}
-use Rattle.std.proofs.lemmas.List.{append-nil, map-append, take-append-le, drop-append-le, drop-drop, drop_at}
+use Rattle.std.proofs.lemmas.List.{append-nil, map-append, take-append-le, drop-append-le, drop-drop}
 use Rattle.std.proofs.lemmas.List.Sums.{fold-append}
 use Rattle.std.specs.List.{fold}
 use Rattle.sketch_hash.specs.Pieces.{first_pieces, pieces, rest, State, absorbed, advanced}
@@ -27,7 +27,7 @@ piece_count : (w : ℕ) (xs ys : List ℕ) → 0 < w →
 piece_count w xs ys p =
     let within : length xs / w * w ≤ length xs = div-mul-le_self (length xs) w in
     let split : length (xs ++ ys) ≡ length xs / w * w + length (drop (length xs / w * w) xs ++ ys) =
-      rw (length-append (drop (length xs / w * w) xs) ys, length-drop, length-append xs ys) (omega arith) in
+    rw (length-append (drop (length xs / w * w) xs) ys, length-drop, length-append xs ys) (omega arith) in
     ap (λ n. n / w) split ∙ mul-add-div_right p (length xs / w) (length (drop (length xs / w * w) xs ++ ys))
 
 -- the full pieces of joined lists are those of the first, and those of its rest with the second
@@ -61,11 +61,11 @@ absorbed-append w read f p state xs ys =
     let held = state.waiting ++ xs in
     let joined : state.waiting ++ (xs ++ ys) ≡ held ++ ys = sym (append_assoc state.waiting xs ys) in
     let all : map read (pieces w (state.waiting ++ (xs ++ ys))) ≡ map read (pieces w held) ++ map read (pieces w (rest w held ++ ys)) =
-      ap (λ t. map read (pieces w t)) joined ∙ ap (map read) (pieces-append w held ys p) ∙ map-append read (pieces w held) (pieces w (rest w held ++ ys)) in
+    ap (λ t. map read (pieces w t)) joined ∙ ap (map read) (pieces-append w held ys p) ∙ map-append read (pieces w held) (pieces w (rest w held ++ ys)) in
     same_state _ _
-      (sym (ap (fold f state.folded) all ∙ fold-append f state.folded (map read (pieces w held)) (map read (pieces w (rest w held ++ ys)))))
-      (rw (length-append xs ys) (counted state.total (length xs) (length ys)))
-      (sym (ap (rest w) joined ∙ rest-append w held ys p))
+    (sym (ap (fold f state.folded) all ∙ fold-append f state.folded (map read (pieces w held)) (map read (pieces w (rest w held ++ ys)))))
+    (rw (length-append xs ys) (counted state.total (length xs) (length ys)))
+    (sym (ap (rest w) joined ∙ rest-append w held ys p))
   where
     counted : (a b c : ℕ) → ((a + b) % 2 ^ 64 + c) % 2 ^ 64 ≡ (a + (b + c)) % 2 ^ 64
     counted a b c = omega arith

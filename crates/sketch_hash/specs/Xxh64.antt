@@ -1,6 +1,6 @@
 -- XXH64 of Yann Collet's xxHash specification, as a function of a seed and a list of bytes.
 -- Sums, differences and products are those of words, modulo 2 ^ 64.
-use Rattle.std.specs.Prelude.{◌≡◌, ℕ, ◌+◌, ◌*◌, ◌/◌, ◌%◌, ◌^◌, List, [], ◌++◌, length, map, nat_lt, ◌==◌, if◌then◌else◌}
+use Rattle.std.specs.Prelude.{◌≡◌, ℕ, ◌%◌, ◌^◌, List, [], ◌++◌, length, map, nat_lt, ◌==◌, if◌then◌else◌}
 use Rattle.std.specs.List.{fold}
 use Rattle.sketch_base.specs.Bytes.{le}
 use Rattle.sketch_hash.specs.Words.{plus, minus, times, xor, rotate, xor_shifted}
@@ -51,7 +51,7 @@ lanes_start seed = record {
   v1 = plus (plus seed prime1) prime2;
   v2 = plus seed prime2;
   v3 = seed;
-  v4 = minus seed prime1
+  v4 = minus seed prime1;
 }
 
 -- the lanes after all full stripes of an input
@@ -63,7 +63,7 @@ lanes seed bytes =
       v1 = lane 0 start.v1 bytes;
       v2 = lane 1 start.v2 bytes;
       v3 = lane 2 start.v3 bytes;
-      v4 = lane 3 start.v4 bytes
+      v4 = lane 3 start.v4 bytes;
     }
 
 -- one lane enters the hash
@@ -136,7 +136,7 @@ stripe_step v stripe = record {
   v1 = round v.v1 (word_at 0 stripe);
   v2 = round v.v2 (word_at 1 stripe);
   v3 = round v.v3 (word_at 2 stripe);
-  v4 = round v.v4 (word_at 3 stripe)
+  v4 = round v.v4 (word_at 3 stripe);
 }
 
 -- the state of a hasher with a seed and no bytes

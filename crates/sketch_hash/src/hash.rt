@@ -2,8 +2,17 @@
 
 mod hasher;
 mod murmurhash;
+#[cfg(test)]
+mod tests;
 mod waiting;
 mod words;
+mod xxhash;
 
 pub use self::hasher::Hasher;
 pub use self::murmurhash::MurmurHash3X64128;
+pub use self::xxhash::XxHash64;
+
+/// The seed of the hashes that update a sketch, 9001 in every implementation of the library.
+///
+/// Two sketches can be merged only where they hash with one seed.
+pub const DEFAULT_UPDATE_SEED: u64 = 9001;

@@ -5,15 +5,16 @@ ghost use Rattle.sketch_hash.specs.Pieces.{State};
 ghost use Rattle.sketch_hash.specs.Murmur.{mix1, mix2, fmix, step, with_tail, ending, block_words, murmur, murmur_start, murmur_after, murmur_finished, MurmurStands};
 ghost use Rattle.sketch_hash.specs.MurmurLaws.{murmur_after-append, murmur_after-nil};
 
-use std::marker::Model;
-
+use super::DEFAULT_UPDATE_SEED;
 use super::hasher::Hasher;
 use super::waiting::{TakesBytes, Waiting, push_all};
 use super::words::{read_u64_le, shifted_into};
+use std::fmt;
+use std::marker::Model;
 
 const C1: u64 = 0x87c3_7b91_1142_53d5;
+
 const C2: u64 = 0x4cf5_ad43_2745_937f;
-const BLOCK_BYTES: usize = 16;
 
 /// MurmurHash3 x64 128: a fast hash of 128 bits for data that no adversary chooses.
 #[derive(Drop)]
@@ -54,6 +55,21 @@ impl MurmurHash3X64128 {
             self.h2 ^ mix2(read_u64_le(&padded[8..16])),
         );
         finalized(h1, h2, self.total)
+    }
+}
+
+impl Default for MurmurHash3X64128 {
+    ghost is_default = { λ h. MurmurStands h 9001 [] };
+
+    /// A hasher with the seed of sketch updates, [`DEFAULT_UPDATE_SEED`].
+    fn default() -> Self {
+        MurmurHash3X64128::with_seed(DEFAULT_UPDATE_SEED)
+    }
+}
+
+impl fmt::Debug for MurmurHash3X64128 {
+    fn fmt<W: fmt::Write>(&self, f: &mut fmt::Formatter<W>) -> fmt::Result {
+        f.write_str("MurmurHash3X64128 { .. }")
     }
 }
 

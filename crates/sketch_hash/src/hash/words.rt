@@ -13,6 +13,15 @@ pub(crate) fn read_u64_le(bytes: &[u8]) -> u64
     u64::from_le_bytes(word)
 }
 
+pub(crate) fn read_u32_le(bytes: &[u8]) -> u32
+    requires { length bytes.now ≡ 4 }
+    ensures { result ≡ le bytes.now }
+{
+    let mut word = [0u8; 4];
+    word.copy_from_slice(bytes);
+    u32::from_le_bytes(word)
+}
+
 /// A word xor itself, shifted to the right by `places`.
 pub(crate) fn shifted_into(word: u64, places: u32) -> u64
     requires { places < 64 }

@@ -1,6 +1,4 @@
-use Rattle.std.proofs.Common.{◌≡◌, refl}
-use Rattle.std.specs.Prelude.{bit_xor}
-use Rattle.sketch_hash.specs.Words.{xor}
+use Rattle.std.proofs.Common.{refl}
 use Rattle.sketch_hash.specs.Murmur.{ending}
 use Rattle.sketch_hash.proofs.WordsLemmas.{xor-is}
 use Rattle.sketch_hash.proofs.hash.murmurhash.finalized.Goals as goal

@@ -1,7 +1,5 @@
-use Rattle.std.proofs.Common.{◌≡◌, refl, ◌∙◌, lit<}
-use Rattle.std.specs.Prelude.{bit_xor}
-use Rattle.sketch_hash.specs.Words.{plus, times, xor, rotate}
-use Rattle.sketch_hash.specs.Murmur.{step, step1, step2, mix1, mix2}
+use Rattle.std.proofs.Common.{refl, ◌∙◌, lit<}
+use Rattle.sketch_hash.specs.Murmur.{step, step1, step2}
 use Rattle.sketch_hash.proofs.WordsLemmas.{rotate-xor}
 use Rattle.sketch_hash.proofs.hash.murmurhash.step.Goals as goal
 

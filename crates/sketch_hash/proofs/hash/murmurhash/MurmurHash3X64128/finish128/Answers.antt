@@ -1,7 +1,6 @@
-use Rattle.std.proofs.Common.{◌≡◌, refl, ap, ◌∙◌, rules}
-use Rattle.std.specs.Prelude.{bit_xor}
-use Rattle.sketch_hash.specs.Words.{IsWord, xor}
-use Rattle.sketch_hash.specs.Murmur.{murmur_finished, with_tail, murmur, murmur_after}
+use Rattle.std.proofs.Common.{◌≡◌, refl, ◌∙◌, rules}
+use Rattle.sketch_hash.specs.Words.{IsWord}
+use Rattle.sketch_hash.specs.Murmur.{murmur_finished, with_tail}
 use Rattle.sketch_hash.proofs.WordsLemmas.{xor-is}
 use Rattle.sketch_hash.proofs.MurmurLemmas.{murmur_finished-stands}
 use Rattle.sketch_hash.proofs.hash.murmurhash.MurmurHash3X64128.finish128.Goals as goal

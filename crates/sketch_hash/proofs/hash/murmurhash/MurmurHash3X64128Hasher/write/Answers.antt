@@ -1,4 +1,4 @@
-use Rattle.std.proofs.Common.{◌≡◌, refl, ◌∙◌, ap, arith}
+use Rattle.std.proofs.Common.{◌≡◌, ◌∙◌, ap, arith}
 use Rattle.sketch_hash.specs.Murmur.{murmur_after, murmur_start, step, block_words}
 use Rattle.sketch_hash.specs.MurmurLaws.{murmur_after-append}
 use Rattle.sketch_hash.proofs.PiecesLemmas.{fold-advanced}

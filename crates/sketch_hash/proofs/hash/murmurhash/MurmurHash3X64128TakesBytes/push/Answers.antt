@@ -1,4 +1,4 @@
-use Rattle.std.proofs.Common.{◌≡◌, refl, sym, ◌∙◌, arith, ap, length}
+use Rattle.std.proofs.Common.{sym, ◌∙◌, arith, ap, length}
 use Rattle.sketch_hash.specs.Murmur.{murmur_after, step, block_words}
 use Rattle.sketch_hash.proofs.PiecesLemmas.{absorbed_fills, absorbed_waits}
 use Rattle.sketch_hash.proofs.hash.murmurhash.MurmurHash3X64128TakesBytes.push.Goals as goal

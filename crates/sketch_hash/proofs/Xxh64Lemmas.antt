@@ -1,0 +1,93 @@
+-- XXH64's definition as the code meets it: stripe by stripe, and the tail step by step.
+use Rattle.std.proofs.Common.{◌≡◌, ℕ, ◌<◌, ◌≤◌, List, [], ◌∷◌, length, take, drop, refl, ap, ◌∙◌, arith, map, length-drop, zero-add}
+use Rattle.std.specs.List.{fold}
+use Rattle.std.proofs.Math.Nat.{mod-eq_of_lt}
+use Rattle.std.proofs.lemmas.List.{map-id}
+use Rattle.std.proofs.lemmas.List.Folds.{fold-map}
+use Rattle.sketch_base.specs.Bytes.{le, eight}
+use Rattle.sketch_base.proofs.BytesLemmas.{le-low_bytes}
+use Rattle.sketch_hash.specs.Pieces.{pieces, rest, word_at, State, absorbed}
+use Rattle.sketch_hash.specs.Xxh64.{Lanes, prime5, round, lane, lanes_start, lanes, stripe_step, steps_of, steps, tail_step, eight_step, four_step, byte_step, avalanche, ending, xxh64, xxh64_start, xxh64_after, xxh64_finished, Xxh64Stands}
+use Rattle.sketch_hash.specs.Words.{IsWord, plus}
+use Rattle.sketch_hash.proofs.PiecesLemmas.{pieces_short, rest_short, pieces-first, rest-first}
+
+-- ---- the tail
+
+-- the single bytes
+steps_of_one : (bytes : List ℕ) → steps_of 1 bytes ≡ map (λ b. (1, b)) bytes
+unfolding pieces
+steps_of_one [] = refl
+steps_of_one (b ∷ bytes) =
+    let first = pieces-first 1 (b ∷ bytes) (omega arith) (omega arith) in
+    let number : le (b ∷ []) ≡ b = omega arith in
+    ap (map (λ piece. (1, le piece))) first ∙ ap (λ n. (1, n) ∷ steps_of 1 bytes) number ∙ ap (λ t. (1, b) ∷ t) (steps_of_one bytes)
+
+-- a tail of eight bytes and more begins with a word
+steps_eight : (bytes : List ℕ) → 8 ≤ length bytes → steps bytes ≡ (8, le (take 8 bytes)) ∷ steps (drop 8 bytes)
+unfolding steps
+steps_eight bytes h =
+    let first = pieces-first 8 bytes (omega arith) h in
+    let others = rest-first 8 bytes (omega arith) h in
+    rw (first, others) refl
+
+pub fold_eight : (hash : ℕ) (bytes : List ℕ) → 8 ≤ length bytes →
+    fold tail_step hash (steps bytes) ≡ fold tail_step (eight_step hash (le (take 8 bytes))) (steps (drop 8 bytes))
+unfolding tail_step
+fold_eight hash bytes h = ap (fold tail_step hash) (steps_eight bytes h)
+
+-- of four to seven bytes, with a word of four
+pub fold_four : (hash : ℕ) (bytes : List ℕ) → 4 ≤ length bytes → length bytes < 8 →
+    fold tail_step hash (steps bytes) ≡ fold byte_step (four_step hash (le (take 4 bytes))) (drop 4 bytes)
+unfolding steps tail_step
+fold_four hash bytes low high =
+    let short : length (drop 4 bytes) < 4 = rw (length-drop 4 bytes) (omega arith) in
+    let no_eight = pieces_short 8 bytes high in
+    let all = rest_short 8 bytes high in
+    let four = pieces-first 4 bytes (omega arith) low in
+    let no_other = pieces_short 4 (drop 4 bytes) short in
+    let behind = rest-first 4 bytes (omega arith) low ∙ rest_short 4 (drop 4 bytes) short in
+    let singles = steps_of_one (drop 4 bytes) in
+    rw (no_eight, all, four, no_other, behind, singles)
+    (fold-map tail_step (λ b. (1, b)) (four_step hash (le (take 4 bytes))) (drop 4 bytes))
+
+-- of three bytes at most, it is single bytes
+pub fold_short : (hash : ℕ) (bytes : List ℕ) → length bytes < 4 → fold tail_step hash (steps bytes) ≡ fold byte_step hash bytes
+unfolding steps tail_step
+fold_short hash bytes h =
+    let no_eight = pieces_short 8 bytes (omega arith) in
+    let all = rest_short 8 bytes (omega arith) in
+    let no_four = pieces_short 4 bytes h in
+    let behind = rest_short 4 bytes h in
+    let singles = steps_of_one bytes in
+    rw (no_eight, all, no_four, behind, singles) (fold-map tail_step (λ b. (1, b)) hash bytes)
+
+-- ---- the stripes
+
+-- the fold over stripes gives each lane the fold over its own words
+fold_stripes : (stripes : List (List ℕ)) (v : Lanes) → fold stripe_step v stripes ≡ record {
+  seed = v.seed;
+  v1 = fold round v.v1 (map (word_at 0) stripes);
+  v2 = fold round v.v2 (map (word_at 1) stripes);
+  v3 = fold round v.v3 (map (word_at 2) stripes);
+  v4 = fold round v.v4 (map (word_at 3) stripes);
+}
+unfolding stripe_step
+fold_stripes [] v = refl
+fold_stripes (s ∷ stripes) v = fold_stripes stripes (stripe_step v s)
+
+-- the definition of the whole bytes
+pub xxh64_finished-after : (seed : ℕ) (bytes : List ℕ) → xxh64_finished (xxh64_after (xxh64_start seed) bytes) ≡ xxh64 seed bytes
+unfolding xxh64_finished xxh64_after xxh64 absorbed pieces rest lanes lane lanes_start
+xxh64_finished-after seed [] = refl
+xxh64_finished-after seed (b ∷ bytes) =
+    let all = map-id (pieces 32 (b ∷ bytes)) in
+    let by_lane = fold_stripes (pieces 32 (b ∷ bytes)) (lanes_start seed) in
+    rw (zero-add, all, by_lane) refl
+
+pub xxh64_finished-stands : (seed : ℕ) (bytes : List ℕ) (state : State Lanes) → Xxh64Stands state seed bytes → xxh64_finished state ≡ xxh64 seed bytes
+xxh64_finished-stands seed bytes state stands = ap xxh64_finished stands ∙ xxh64_finished-after seed bytes
+
+-- eight bytes are one step of the tail
+pub xxh64-eight : (seed x : ℕ) → IsWord x → xxh64 seed (eight x) ≡ avalanche (eight_step (plus (plus seed prime5) 8) x)
+unfolding xxh64 ending lanes lanes_start pieces rest steps tail_step
+xxh64-eight seed x p = ap (λ word. avalanche (eight_step (plus (plus seed prime5) 8) word)) (le-low_bytes 8 x ∙ mod-eq_of_lt p)

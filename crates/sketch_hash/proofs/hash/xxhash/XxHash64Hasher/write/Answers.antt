@@ -1,0 +1,16 @@
+use Rattle.std.proofs.Common.{◌≡◌, ◌∙◌, ap, arith}
+use Rattle.sketch_hash.specs.Xxh64.{xxh64_after, xxh64_start, stripe_step}
+use Rattle.sketch_hash.specs.Xxh64Laws.{xxh64_after-append}
+use Rattle.sketch_hash.proofs.PiecesLemmas.{fold-advanced}
+use Rattle.sketch_hash.proofs.hash.xxhash.XxHash64Hasher.write.Goals as goal
+
+written : (c : goal.After-push_all) → c.push_all.new.taker ≡ xxh64_after c.args.self.now c.args.bytes.now
+unfolding xxh64_after
+written c = c.push_all.ensures ∙ fold-advanced 32 (λ stripe. stripe) stripe_step (omega arith) c.args.bytes.now c.args.self.now
+
+pub returns-clause-after : goal.returns-clause-after
+returns-clause-after c = written c
+
+pub returns-clause-stands : goal.returns-clause-stands
+returns-clause-stands c = λ seed before stands.
+    written c ∙ ap (λ s. xxh64_after s c.args.bytes.now) stands ∙ xxh64_after-append (xxh64_start seed) before c.args.bytes.now

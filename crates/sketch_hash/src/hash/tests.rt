@@ -1,0 +1,177 @@
+use super::{DEFAULT_UPDATE_SEED, Hasher, MurmurHash3X64128, XxHash64};
+use std::alloc::{AllocError, Global};
+
+const FOX: &str = "The quick brown fox jumps over the lazy dog";
+
+// Answers of the library that is ported: (input, seed, answer).
+const HASH_U64: [(u64, u64, u64); 6] = [
+    (0x1_0000_0000, 0, 0xca60_84df_268e_a2a9),
+    (0x1_0000_0000, 0x9E37_79B1, 0xbe51_7b2e_515c_75b5),
+    (0x1_0000_0000, u64::MAX, 0x57bf_9ae3_bcfd_53ef),
+    (0x7fff_ffff_ffff_ffff, 0, 0xff70_cc60_366e_770c),
+    (0x7fff_ffff_ffff_ffff, u64::MAX, 0x4f33_f205_8914_eaa9),
+    (0x8000_0000_0000_0000, u64::MAX, 0xb0bd_b479_fe9b_7026),
+];
+
+// Answers of the library that is ported: (seed, bytes, answer).
+const MURMUR_SEEDED: [(u64, &[u8], (u64, u64)); 2] = [
+    (
+        0xcdde_8d51_6301_bbfc,
+        &[0xa1, 0xd8, 0x2b],
+        (0x72d4_dcbf_d199_ad6f, 0x5170_f4d9_e50b_b254),
+    ),
+    (
+        0xda64_00c7_9001_0259,
+        &[
+            0xf4, 0xf6, 0xd9, 0xb6, 0xdd, 0x97, 0xa4, 0xcb, 0x00, 0xdf, 0xe7, 0xdb, 0x9c, 0x32,
+            0x4a, 0x5e, 0x6a,
+        ],
+        (0x3d69_3638_6592_6576, 0xa6b8_e912_9e8d_61f0),
+    ),
+];
+
+fn murmur(seed: u64, pieces: &[&str]) -> (u64, u64) {
+    let mut hasher = MurmurHash3X64128::with_seed(seed);
+    for piece in pieces {
+        hasher.write(piece.as_bytes());
+    }
+    hasher.finish128()
+}
+
+// The first bytes of the buffer that xxHash's own tests use.
+fn test_buffer<const N: usize>() -> [u8; N] {
+    let mut generator: u64 = 0x9E37_79B1;
+    let mut bytes = [0; N];
+    for byte in bytes.iter_mut() {
+        *byte = (generator >> 56) as u8;
+        generator = generator.wrapping_mul(0x9E37_79B1_85EB_CA8D);
+    }
+    bytes
+}
+
+fn xxh64(seed: u64, bytes: &[u8]) -> u64 {
+    let mut hasher = XxHash64::with_seed(seed);
+    hasher.write(bytes);
+    hasher.finish64()
+}
+
+#[test]
+fn murmur_answers_however_the_fox_is_cut(rt: HostRuntime) {
+    let expected = (0xe34b_bc7b_bc07_1b6c, 0x7a43_3ca9_c49a_9347);
+    assert_eq!(rt; murmur(0, &[FOX]), expected);
+    assert_eq!(rt;
+        murmur(
+            0,
+            &["T", "he quick brown ", "fox jumps over t", "he lazy dog"]
+        ),
+        expected
+    );
+}
+
+#[test]
+fn murmur_answers_with_half_a_tail_and_with_none(rt: HostRuntime) {
+    let half = murmur(0, &["The quick brown fox jumps over the lazy1"]);
+    assert_eq!(rt; half, (0xe330_1a82_7e5c_dfe3, 0xbdbf_05f8_da0f_0392));
+    let none = (0xdf6a_f91b_b29b_dacf, 0x91a3_41c5_8df1_f3a6);
+    assert_eq!(rt; murmur(0, &["The quick brown fox jumps over t"]), none);
+    assert_eq!(rt; murmur(0, &["The quick brown fox jumps over t", ""]), none);
+}
+
+#[test]
+fn murmur_takes_seeds_above_32_bits(rt: HostRuntime) {
+    for (seed, bytes, expected) in MURMUR_SEEDED {
+        let mut hasher = MurmurHash3X64128::with_seed(seed);
+        hasher.write(bytes);
+        assert_eq!(rt; hasher.finish128(), expected, "seed {seed}");
+        assert_eq!(rt; hasher.finish(), expected.0, "seed {seed}");
+    }
+}
+
+#[test]
+fn xxh64_answers_in_both_forms(rt: HostRuntime) {
+    assert_eq!(rt; xxh64(0, &[]), 0xef46_db37_51d8_e999);
+    assert_eq!(rt; xxh64(0x9E37_79B1, &[]), 0xac75_fda2_929b_17ef);
+    assert_eq!(rt; xxh64(0, &test_buffer::<100>()), 0x4bfe_019c_d91d_9ea4);
+}
+
+#[test]
+fn xxh64_goes_on_behind_a_stripe(rt: HostRuntime) {
+    let mut hasher = XxHash64::with_seed(0);
+    hasher.write(&test_buffer::<32>());
+    assert_eq!(rt; hasher.finish(), 0x18b2_1649_2bb4_4b70);
+    // The buffer's next byte.
+    hasher.write(&[0x59]);
+    assert_eq!(rt; hasher.finish(), 0x55c8_dc3e_578f_5b59);
+}
+
+#[test]
+fn one_number_is_hashed_as_its_eight_bytes(rt: HostRuntime) {
+    let streamed = xxh64(0, &[0x7b, 0, 0, 0, 0, 0, 0, 0]);
+    assert_eq!(rt; XxHash64::hash_u64(123, 0), streamed);
+    for (input, seed, expected) in HASH_U64 {
+        assert_eq!(rt;
+            XxHash64::hash_u64(input, seed),
+            expected,
+            "{input} under {seed}"
+        );
+    }
+}
+
+// What a hasher answers after a write of each kind of number, one after the other.
+fn written_numbers<H: Hasher>(hasher: &mut H) -> u64 {
+    hasher.write_u8(1);
+    hasher.write_i8(-1);
+    hasher.write_u16(0x0102);
+    hasher.write_i16(-2);
+    hasher.write_u32(0x0102_0304);
+    hasher.write_i32(-3);
+    hasher.write_u64(0x0102_0304_0506_0708);
+    hasher.write_i64(-4);
+    hasher.finish()
+}
+
+#[test]
+fn numbers_are_written_lowest_byte_first(rt: HostRuntime) {
+    let bytes = [
+        1, 0xff, 2, 1, 0xfe, 0xff, 4, 3, 2, 1, 0xfd, 0xff, 0xff, 0xff, 8, 7, 6, 5, 4, 3, 2, 1,
+        0xfc, 0xff, 0xff, 0xff, 0xff, 0xff, 0xff, 0xff,
+    ];
+    let mut murmur = MurmurHash3X64128::with_seed(7);
+    murmur.write(&bytes);
+    assert_eq!(rt;
+        written_numbers(&mut MurmurHash3X64128::with_seed(7)),
+        murmur.finish()
+    );
+    assert_eq!(rt;
+        written_numbers(&mut XxHash64::with_seed(7)),
+        xxh64(7, &bytes)
+    );
+}
+
+#[test]
+fn defaults_have_their_seeds(rt: HostRuntime) {
+    assert_eq!(rt; DEFAULT_UPDATE_SEED, 9001);
+    let mut murmured = MurmurHash3X64128::default();
+    murmured.write(FOX.as_bytes());
+    assert_eq!(rt; murmured.finish128(), murmur(9001, &[FOX]));
+    let mut hashed = XxHash64::default();
+    hashed.write(FOX.as_bytes());
+    assert_eq!(rt; hashed.finish64(), xxh64(0, FOX.as_bytes()));
+}
+
+fn debug_texts(alloc: Global) -> Result<(String, String), AllocError> {
+    let murmur = MurmurHash3X64128::with_seed(1);
+    let xxhash = XxHash64::with_seed(1);
+    Ok((
+        format!(in alloc; "{murmur:?}")?,
+        format!(in alloc; "{xxhash:?}")?,
+    ))
+}
+
+#[test]
+fn debug_texts_begin_with_the_name(rt: HostRuntime) -> Result<(), AllocError> {
+    let (murmur, xxhash) = debug_texts(rt.alloc())?;
+    assert!(rt; murmur.as_str().starts_with("MurmurHash3X64128"));
+    assert!(rt; xxhash.as_str().starts_with("XxHash64"));
+    Ok(())
+}
