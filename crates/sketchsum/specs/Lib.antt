@@ -1,0 +1,4 @@
+pub mod Arguments
+pub mod Ending
+pub mod Digest
+pub mod Reading
