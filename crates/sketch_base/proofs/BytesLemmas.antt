@@ -1,11 +1,11 @@
 -- What the definitions of bytes and numbers give: the first byte apart, bounds, there and back, and the
 -- library's `to_le_bytes` and `from_le_bytes`.
-use Rattle.std.proofs.Common.{◌≡◌, ℕ, zero, suc, ◌+◌, ◌-◌, ◌*◌, ◌/◌, ◌%◌, ◌^◌, ◌<◌, ◌≤◌, List, [], ◌∷◌, ◌++◌, length, take, get_or, refl, sym, ap, ◌∙◌, arith, add-one, add-zero, add_assoc}
-use Rattle.std.proofs.Math.Nat.{pow-suc, pow-succ', div-div-eq-div-mul, one-le-pow}
+use Rattle.std.proofs.Common.{◌≡◌, ℕ, zero, suc, ◌+◌, ◌-◌, ◌*◌, ◌/◌, ◌%◌, ◌^◌, ◌<◌, List, [], ◌∷◌, ◌++◌, length, take, get_or, refl, sym, ap, ◌∙◌, arith, add-one, add-zero, add_assoc}
+use Rattle.std.proofs.Math.Nat.{pow-suc, div-div-eq-div-mul, one-le-pow}
 use Rattle.std.proofs.Math.Arith.{mod-mul}
 use Rattle.std.proofs.lemmas.List.{take_more, length-take-le, take_all}
 use Rattle.std.proofs.lemmas.List.Elements.{All-head, All-tail}
-use Rattle.std.specs.Int.{byte_at, byte_worth, bytes_low_first, sum_through, from_le_bytes, to_le_bytes, Width, byte_len, w8, w16, w32, w64}
+use Rattle.std.specs.Int.{byte_at, byte_worth, bytes_low_first, sum_through, from_le_bytes, to_le_bytes, Width, byte_len}
 use Rattle.sketch_base.specs.Bytes.{AreBytes, weighted_from, le, low_bytes}
 
 -- each byte is worth 256 times as much one place on

@@ -1,5 +1,5 @@
 -- Items one after another: what one more item does to widths, bytes and places.
-use Rattle.std.proofs.Common.{◌≡◌, ℕ, suc, ◌+◌, ◌<◌, ◌≤◌, List, [], ◌∷◌, ◌++◌, length, take, drop, get_or, set, refl, ap, sym, ◌∙◌, arith, add-one, append_assoc, append-nil}
+use Rattle.std.proofs.Common.{◌≡◌, ℕ, zero, suc, ◌+◌, ◌<◌, ◌≤◌, List, [], ◌∷◌, ◌++◌, length, take, drop, get_or, set, refl, ap, sym, ◌∙◌, arith, add-one, append_assoc, append-nil}
 use Rattle.std.proofs.lemmas.List.{drop-drop, take_more, length-take-le}
 use Rattle.std.proofs.Math.Seq.{drop-cons, set-append_seam}
 use Rattle.sketch_base.specs.declared.codec.item.Item.{Item}
@@ -25,9 +25,14 @@ pub unspell_all-push : (kinds : List Kind) (kind : Kind) (bytes : List ℕ) →
 unspell_all-push [] kind bytes = refl
 unspell_all-push (first ∷ kinds) kind bytes =
     ap (λ items. unspell first (take (width first) bytes) ∷ items)
-        (unspell_all-push kinds kind (drop (width first) bytes)
-        ∙ ap (λ rest. unspell_all kinds (drop (width first) bytes) ++ unspell kind (take (width kind) rest) ∷ [])
-            (drop-drop (widths kinds) (width first) bytes))
+    (unspell_all-push kinds kind (drop (width first) bytes)
+    ∙ ap (λ rest. unspell_all kinds (drop (width first) bytes) ++ unspell kind (take (width kind) rest) ∷ [])
+    (drop-drop (widths kinds) (width first) bytes))
+
+pub widths-take-le : (n : ℕ) (kinds : List Kind) → widths (take n kinds) ≤ widths kinds
+widths-take-le zero kinds = omega arith
+widths-take-le (suc n) [] = omega arith
+widths-take-le (suc n) (kind ∷ kinds) = omega (arith, widths-take-le n kinds)
 
 -- one kind more, and one item more
 pub widths-more : (kinds : List Kind) (i : ℕ) (kind : Kind) → i < length kinds →
@@ -57,10 +62,10 @@ placed-more kinds bytes places i kind item within lengths is =
     let front = unspell_all (take i kinds) bytes in
     let count : length front ≡ i = length-unspell_all (take i kinds) bytes ∙ length-take-le i kinds (omega arith) in
     let next : drop i places ≡ get_or places i item ∷ drop (i + 1) places =
-        drop-cons places i item (omega arith) ∙ ap (λ n. get_or places i item ∷ drop n places) (sym (add-one i)) in
+    drop-cons places i item (omega arith) ∙ ap (λ n. get_or places i item ∷ drop n places) (sym (add-one i)) in
     let all : unspell_all (take (i + 1) kinds) bytes ≡ front ++ item ∷ [] =
-        ap (λ ks. unspell_all ks bytes) (take_more kinds i kind within)
-        ∙ unspell_all-push (take i kinds) (get_or kinds i kind) bytes ∙ ap (λ x. front ++ x ∷ []) (sym is) in
+    ap (λ ks. unspell_all ks bytes) (take_more kinds i kind within)
+    ∙ unspell_all-push (take i kinds) (get_or kinds i kind) bytes ∙ ap (λ x. front ++ x ∷ []) (sym is) in
     ap (λ rest. set (front ++ rest) i item) next
     ∙ ap (λ n. set (front ++ get_or places i item ∷ drop (i + 1) places) n item) (sym count)
     ∙ set-append_seam front (get_or places i item) (drop (i + 1) places) item

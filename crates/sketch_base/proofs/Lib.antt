@@ -1,4 +1,5 @@
 pub mod BytesLemmas
+pub mod ItemLawLemmas
 pub mod ItemLemmas
 pub mod LineLemmas
 pub mod RefusalLemmas

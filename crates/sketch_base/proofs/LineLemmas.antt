@@ -1,5 +1,5 @@
 -- The displayed line, piece by piece as it is written.
-use Rattle.std.proofs.Common.{◌≡◌, ℕ, ◌≤◌, List, [], ◌∷◌, ◌++◌, length, take, map, codes, ap, sym, append_assoc}
+use Rattle.std.proofs.Common.{◌≡◌, ℕ, ◌≤◌, List, ◌∷◌, ◌++◌, length, take, map, codes, ap, sym, append_assoc}
 use Rattle.std.proofs.lemmas.List.{take_all}
 use Rattle.std.proofs.lemmas.List.Folds.{flat_map-map}
 use Rattle.std.specs.List.{flat_map}
@@ -9,9 +9,9 @@ use Rattle.sketch_base.specs.ErrorValue.{ContextValue, pair_text, contexts_text}
 pub contexts_text-is : {T : Type 0} (context : T → ContextValue) (first : T) (others all : List T) (n : ℕ) →
     all ≡ first ∷ others → length others ≤ n →
     codes ", context: { " ++ ((context first).key ++ (codes ": " ++ (context first).text))
-        ++ flat_map (λ other. codes ", " ++ pair_text (context other)) (take n others) ++ codes " }"
+    ++ flat_map (λ other. codes ", " ++ pair_text (context other)) (take n others) ++ codes " }"
     ≡ contexts_text (map context all)
 contexts_text-is context first others all n whole enough =
     rw (whole, take_all n others enough, flat_map-map (λ other. codes ", " ++ pair_text other) context others)
     (ap (λ pair. codes ", context: { " ++ pair ++ flat_map (λ other. codes ", " ++ pair_text (context other)) others ++ codes " }")
-        (sym (append_assoc (context first).key (codes ": ") (context first).text)))
+    (sym (append_assoc (context first).key (codes ": ") (context first).text)))

@@ -1,7 +1,7 @@
 -- What the texts of refusals are made of: any value has a text, and the library's form of a list of numbers.
-use Rattle.std.proofs.Common.{◌≡◌, ℕ, List, [], ◌∷◌, ◌++◌, Option, Some, None, refl, ap, ◌∙◌, codes, append_assoc}
+use Rattle.std.proofs.Common.{◌≡◌, ℕ, List, [], ◌∷◌, ◌++◌, Option, Some, None, refl, codes, append_assoc}
 use Rattle.std.specs.List.{flat_map}
-use Rattle.std.specs.Fmt.{decimal, debug_list, debug_items, comma_space, ◌++?◌}
+use Rattle.std.specs.Fmt.{decimal, debug_list, debug_items, comma_space}
 use Rattle.sketch_base.specs.Refusals.{Prints, list_text}
 
 -- some text is what a value prints

@@ -1,5 +1,6 @@
 -- How items stand in bytes.
-use Rattle.std.specs.Prelude.{ℕ, ◌+◌, List, [], ◌∷◌, ◌++◌, take, drop, reverse}
+use Rattle.std.specs.Prelude.{ℕ, ◌+◌, ◌^◌, ◌<◌, FitsSigned, List, [], ◌∷◌, ◌++◌, take, drop, reverse}
+use Rattle.std.specs.Int.{w8, w16, w32, w64}
 use Rattle.sketch_base.specs.declared.codec.item.Item.{Item}
 use Rattle.sketch_base.specs.declared.codec.item.Kind.{Kind}
 use Rattle.sketch_base.specs.declared.codec.item.Item.TheVariants as item
@@ -39,6 +40,23 @@ width kind.U64Le = 8
 width kind.U64Be = 8
 width kind.I64Le = 8
 width kind.I64Be = 8
+
+-- the item's number lies in its type
+abbrev pub InType : Item → Type 0
+InType (item.U8 n) = n < 2 ^ 8
+InType (item.I8 n) = FitsSigned w8 n
+InType (item.U16Le n) = n < 2 ^ 16
+InType (item.U16Be n) = n < 2 ^ 16
+InType (item.I16Le n) = FitsSigned w16 n
+InType (item.I16Be n) = FitsSigned w16 n
+InType (item.U32Le n) = n < 2 ^ 32
+InType (item.U32Be n) = n < 2 ^ 32
+InType (item.I32Le n) = FitsSigned w32 n
+InType (item.I32Be n) = FitsSigned w32 n
+InType (item.U64Le n) = n < 2 ^ 64
+InType (item.U64Be n) = n < 2 ^ 64
+InType (item.I64Le n) = FitsSigned w64 n
+InType (item.I64Be n) = FitsSigned w64 n
 
 -- the item of a kind that so many bytes hold
 abbrev pub unspell : Kind → List ℕ → Item

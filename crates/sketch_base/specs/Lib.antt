@@ -1,6 +1,7 @@
 pub mod Bytes
 pub mod Checks
 pub mod ErrorValue
+pub mod ItemLaws
 pub mod Items
 pub mod Reading
 pub mod Refusals

@@ -1,5 +1,5 @@
 -- What a reader of bytes answers. A reader is the list of the bytes that remain.
-use Rattle.std.specs.Prelude.{ℕ, ◌+◌, ◌<◌, ◌≤◌, ◌≡◌, List, [], ◌∷◌, ◌++◌, length, take, drop, Result, MatchResult}
+use Rattle.std.specs.Prelude.{ℕ, ◌+◌, ◌<◌, ◌≤◌, ◌≡◌, List, [], ◌++◌, length, take, drop, Result, MatchResult}
 use Rattle.std.specs.declared.io.Error.{Error}
 use Rattle.std.specs.declared.io.ErrorKind.TheVariants.{UnexpectedEof}
 use Rattle.std.specs.IoError.{error_kind}
@@ -22,7 +22,7 @@ abbrev pub ReadsItems : List Kind → List ℕ → List Item → Result (Unit {0
 ReadsItems kinds before places result after placed = MatchResult result
     (λ _. (widths kinds ≤ length before) × (placed ≡ unspell_all kinds before) × (after ≡ drop (widths kinds) before))
     (λ short. (short.read < length kinds)
-        × (widths (take short.read kinds) ≤ length before)
-        × (length before < widths (take (short.read + 1) kinds))
-        × (placed ≡ unspell_all (take short.read kinds) before ++ drop short.read places)
-        × (after ≡ []))
+    × (widths (take short.read kinds) ≤ length before)
+    × (length before < widths (take (short.read + 1) kinds))
+    × (placed ≡ unspell_all (take short.read kinds) before ++ drop short.read places)
+    × (after ≡ []))

@@ -1,9 +1,10 @@
 -- What a writer of bytes answers.
-use Rattle.std.specs.Prelude.{ℕ, ◌+◌, ◌<◌, ◌≤◌, ◌≡◌, List, [], ◌∷◌, ◌++◌, length, take, Result, MatchResult}
+use Rattle.std.specs.Prelude.{ℕ, ◌+◌, ◌<◌, ◌≤◌, ◌≡◌, List, ◌++◌, length, take, Result, Ok, Err, MatchResult, IfErr}
+use Rattle.std.specs.List.{All}
 use Rattle.std.specs.declared.alloc.AllocError.{AllocError}
 use Rattle.sketch_base.specs.declared.codec.encode.Stopped.{Stopped}
 use Rattle.sketch_base.specs.declared.codec.item.Item.{Item}
-use Rattle.sketch_base.specs.Items.{spell_all}
+use Rattle.sketch_base.specs.Items.{InType, spell_all}
 use Rattle.sketch_base.specs.Written.{Written}
 
 -- A write of bytes: they stand behind the others, or the write is refused and the bytes are as before. It is
@@ -14,12 +15,16 @@ pub record Writes (bytes : List ℕ) (before : Written) (result : Result (Unit {
       (λ _. (after.bytes ≡ before.bytes) × (before.room < length (before.bytes ++ bytes)))
   pub room : before.room ≤ after.room
 
--- A write of items: their bytes stand behind the others in order, or just those of the accepted ones do. It stops
--- only at an item for which there is no room, and the room never shrinks.
+-- the items that were written: all of them, or just the accepted ones
+abbrev pub accepted_items : List Item → Result (Unit {0}) Stopped → List Item
+accepted_items items (Ok _) = items
+accepted_items items (Err stopped) = take stopped.accepted items
+
+-- A write of items: the bytes of those that are accepted stand behind the others, in order. It stops only at an
+-- item for which there is no room, and the room never shrinks.
 pub record WritesItems (items : List Item) (before : Written) (result : Result (Unit {0}) Stopped) (after : Written) : Type 0 where
-  pub outcome : MatchResult result
-      (λ _. after.bytes ≡ before.bytes ++ spell_all items)
-      (λ stopped. (stopped.accepted < length items)
-          × (after.bytes ≡ before.bytes ++ spell_all (take stopped.accepted items))
-          × (before.room < length (before.bytes ++ spell_all (take (stopped.accepted + 1) items))))
+  pub written : after.bytes ≡ before.bytes ++ spell_all (accepted_items items result)
+  pub in_type : All InType (accepted_items items result)
+  pub stopped : IfErr result (λ stopped. (stopped.accepted < length items)
+      × (before.room < length (before.bytes ++ spell_all (take (stopped.accepted + 1) items))))
   pub room : before.room ≤ after.room

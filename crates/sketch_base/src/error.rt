@@ -56,9 +56,9 @@ impl Model for Error {
     ghost use Rattle.std.specs.Prelude.{map, string_bytes};
 
     ghost view = { λ e. record {
-        kind = e.kind;
-        message = string_bytes e.message;
-        contexts = map (λ c. record { key = c.0.now; text = string_bytes c.1 }) e.context.items
+      kind = e.kind;
+      message = string_bytes e.message;
+      contexts = map (λ c. record { key = c.0.now; text = string_bytes c.1 }) e.context.items;
     } };
 }
 
@@ -269,3 +269,6 @@ impl fmt::Debug for Error {
 }
 
 impl std::error::Error for Error {}
+
+#[cfg(test)]
+mod tests;

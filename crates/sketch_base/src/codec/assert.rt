@@ -3,15 +3,19 @@
 ghost use Rattle.std.specs.Prelude.{◌≡◌, ◌++◌, ℕ, codes, List, Contains, IsTrue, IfOk, MatchOption, string_bytes};
 ghost use Rattle.sketch_base.specs.Checks.{AcceptsExactly, range};
 ghost use Rattle.sketch_base.specs.Refusals.{
-    insufficient_data_of_text, invalid_preamble_longs_text, preamble_longs_out_of_range_text, Prints, Refuses,
-    unsupported_serial_version_text};
+  insufficient_data_of_text,
+  invalid_preamble_longs_text,
+  preamble_longs_out_of_range_text,
+  Prints,
+  Refuses,
+  unsupported_serial_version_text,
+};
 
+use crate::error::{Error, ErrorKind};
 use std::alloc::{AllocError, Global};
 use std::io;
 use std::ops::Bound;
 use std::ops::Bound::{Excluded, Included, Unbounded};
-
-use crate::error::{Error, ErrorKind};
 
 /// The refusal of data that ended too early, in the part that the tag names, as the error says.
 pub fn insufficient_data(alloc: Global, tag: &'static str, error: io::Error) -> Error
@@ -97,3 +101,6 @@ fn range_without(
         _ => None,
     }
 }
+
+#[cfg(test)]
+mod tests;

@@ -5,10 +5,9 @@ ghost use Rattle.sketch_base.specs.Bytes.{le, be, twos_complement};
 ghost use Rattle.sketch_base.specs.Items.{unspell, width};
 ghost use Rattle.sketch_base.specs.Reading.{Reads, ReadsItems};
 
+use crate::codec::item::{Item, Kind};
 use std::io;
 use std::marker::Model;
-
-use crate::codec::item::{Item, Kind};
 
 /// Reads numbers from a borrowed slice of bytes, without copying it.
 ///

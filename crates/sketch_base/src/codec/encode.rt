@@ -2,13 +2,12 @@
 
 ghost use Rattle.std.specs.Prelude.{◌≡◌, [], ◌∷◌, IfOk, reverse};
 ghost use Rattle.sketch_base.specs.Bytes.{low_bytes, modulo};
-ghost use Rattle.sketch_base.specs.Items.{spell};
+ghost use Rattle.sketch_base.specs.Items.{InType, spell};
 ghost use Rattle.sketch_base.specs.Writing.{Writes, WritesItems};
 
+use crate::codec::item::Item;
 use std::alloc::{AllocError, Global};
 use std::marker::Model;
-
-use crate::codec::item::Item;
 
 /// Writes numbers into bytes that grow as they are needed.
 ///
@@ -165,7 +164,8 @@ impl SketchBytes {
 
     // Writes an item.
     fn write_item(&mut self, item: Item) -> Result<(), AllocError>
-        ensures { Writes (spell item) self.old result self.new }
+        ensures writes { Writes (spell item) self.old result self.new }
+        ensures in_type { InType item }
     {
         match item {
             Item::U8(n) => self.write_u8(n),

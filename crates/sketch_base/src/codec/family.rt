@@ -4,11 +4,11 @@ ghost use Rattle.std.specs.Prelude.{◌≡◌};
 ghost use Rattle.sketch_base.specs.Checks.{AcceptsExactly};
 ghost use Rattle.sketch_base.specs.Refusals.{invalid_family_text};
 
+use crate::error::Error;
 use std::alloc::Global;
 
-use crate::error::Error;
-
 /// A family of sketches.
+#[derive(Drop)]
 pub struct Family {
     /// The byte that names the family.
     pub id: u8,

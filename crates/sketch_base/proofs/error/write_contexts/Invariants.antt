@@ -1,4 +1,4 @@
-use Rattle.std.proofs.Common.{◌++◌, codes, map, take, string_bytes}
+use Rattle.std.proofs.Common.{◌++◌, codes, take, string_bytes}
 use Rattle.std.specs.List.{flat_map}
 use Rattle.std.specs.Fmt.{HasWritten, IsPlainFormatter}
 use Rattle.sketch_base.specs.ErrorValue.{pair_text}

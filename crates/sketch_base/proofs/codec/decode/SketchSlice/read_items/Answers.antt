@@ -1,7 +1,6 @@
-use Rattle.std.proofs.Common.{◌∙◌, ap, sym, length, drop, set, arith, length-drop}
+use Rattle.std.proofs.Common.{◌∙◌, ap, length, arith, length-drop}
 use Rattle.std.proofs.lemmas.List.{drop-drop}
 use Rattle.sketch_base.specs.declared.codec.item.Kind.TheVariants.{U8}
-use Rattle.sketch_base.specs.Items.{width, widths}
 use Rattle.sketch_base.proofs.ItemLemmas.{widths-more, placed-more}
 use Rattle.sketch_base.proofs.codec.decode.SketchSlice.read_items.Goals as goal
 

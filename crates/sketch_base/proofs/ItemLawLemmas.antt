@@ -1,0 +1,164 @@
+-- Items and their bytes, there and back.
+use Rattle.std.proofs.Common.{◌≡◌, ℕ, zero, suc, ◌+◌, ◌-◌, ◌*◌, ◌%◌, ◌/◌, ◌^◌, ◌<◌, ◌≤◌, List, [], ◌∷◌, ◌++◌, length, take, drop, map, reverse, refl, ap, sym, ◌∙◌, arith, append_assoc, length-append, nat_lt, Bool, true, false}
+use Rattle.std.specs.Prelude.{ℤ, pos, negsuc}
+use lib.Signed.{mag}
+use Rattle.std.proofs.lemmas.List.{reverse-append, reverse-reverse, length-reverse}
+use Rattle.std.proofs.lemmas.List.Elements.{All-nil, All-cons, All-push, All-same, All-head, All-tail}
+use Rattle.std.proofs.lemmas.Int.{ints}
+use Rattle.std.proofs.lemmas.Bool.Decides.{nat_tests}
+use Rattle.std.proofs.Math.Nat.{mod-eq_of_lt}
+use Rattle.std.specs.List.{All}
+use Rattle.sketch_base.specs.declared.codec.item.Item.{Item}
+use Rattle.sketch_base.specs.declared.codec.item.Item.TheVariants as item
+use Rattle.sketch_base.specs.declared.codec.item.Kind.{Kind}
+use Rattle.sketch_base.specs.declared.codec.item.Kind.TheVariants as kind
+use Rattle.sketch_base.specs.Items.{InType, kind_of, width, widths, spell, spell_all, unspell, unspell_all}
+use Rattle.sketch_base.specs.ItemLaws.{Holds, ItemLaw}
+use Rattle.std.proofs.Math.Seq.{take-append_seam, drop-append_seam}
+use Rattle.sketch_base.specs.Bytes.{AreBytes, le, be, low_bytes, twos_complement, modulo}
+use Rattle.sketch_base.proofs.BytesLemmas.{le-low_bytes, le-lt, low_bytes-le}
+
+-- so many bytes take a number of so many powers of 256, and give it back, the lowest byte first or the highest
+le-back : (count n : ℕ) → n < 256 ^ count → le (low_bytes count n) ≡ n
+le-back count n small = le-low_bytes count n ∙ mod-eq_of_lt small
+
+be-back : (count n : ℕ) → n < 256 ^ count → be (reverse (low_bytes count n)) ≡ n
+be-back count n small = ap le (reverse-reverse (low_bytes count n)) ∙ le-back count n small
+
+AreBytes-low_bytes : (count n : ℕ) → AreBytes (low_bytes count n)
+AreBytes-low_bytes zero n = All-nil (λ b. b < 256)
+AreBytes-low_bytes (suc count) n =
+    All-cons (λ b. b < 256) (n % 256) (low_bytes count (n / 256)) (omega arith) (AreBytes-low_bytes count (n / 256))
+
+AreBytes-reverse : (bytes : List ℕ) → AreBytes bytes → AreBytes (reverse bytes)
+AreBytes-reverse [] h = h
+AreBytes-reverse (b ∷ bytes) h =
+    let first = All-head (λ x. x < 256) b bytes h in
+    let others = AreBytes-reverse bytes (All-tail (λ x. x < 256) b bytes h) in
+    All-same (λ x. x < 256) (reverse (b ∷ bytes)) (reverse bytes ++ b ∷ []) (reverse-append (b ∷ []) bytes)
+    (All-push (λ x. x < 256) (reverse bytes) b others first)
+
+-- a signed number modulo 2 ^ w, and back
+twos_complement-modulo : (w half : ℕ) (z : ℤ) → 2 ^ (w - 1) ≡ half → 2 ^ w ≡ 2 * half → mag z < half →
+    twos_complement w (modulo w z) ≡ z
+twos_complement-modulo w half (pos n) low whole small =
+    let same : n % (2 * half) ≡ n = mod-eq_of_lt (omega arith) in
+    rw (low, whole, same) (grind (arith, ints, nat_tests))
+twos_complement-modulo w half (negsuc n) low whole small =
+    let same : n % (2 * half) ≡ n = mod-eq_of_lt (omega arith) in
+    rw (low, whole, same) (grind (arith, ints, nat_tests))
+
+modulo-lt : (w half : ℕ) (z : ℤ) → 2 ^ w ≡ 2 * half → 0 < half → modulo w z < 2 ^ w
+modulo-lt w half (pos n) whole some = rw whole (omega arith)
+modulo-lt w half (negsuc n) whole some = rw whole (omega arith)
+
+modulo-low : (w half n : ℕ) → 2 ^ (w - 1) ≡ half → 2 ^ w ≡ 2 * half → n < half → modulo w (twos_complement w n) ≡ n
+modulo-low w half n low whole small =
+    let number : twos_complement w n ≡ pos n = rw (low, whole) (grind (arith, ints, nat_tests)) in
+    ap (modulo w) number ∙ mod-eq_of_lt (rw whole (omega arith))
+
+modulo-high : (w half n : ℕ) → 2 ^ (w - 1) ≡ half → 2 ^ w ≡ 2 * half → half ≤ n → n < 2 * half →
+    modulo w (twos_complement w n) ≡ n
+modulo-high w half n low whole large small =
+    let m = 2 * half - 1 - n in
+    let number : twos_complement w n ≡ negsuc m = rw (low, whole) (grind (arith, ints, nat_tests)) in
+    let same : m % (2 * half) ≡ m = mod-eq_of_lt (omega arith) in
+    ap (modulo w) number ∙ (rw (whole, same) (omega arith))
+
+modulo-by_test : (w half n : ℕ) (below : Bool) → nat_lt n half ≡ below → 2 ^ (w - 1) ≡ half → 2 ^ w ≡ 2 * half → n < 2 ^ w →
+    modulo w (twos_complement w n) ≡ n
+modulo-by_test w half n true is low whole small = modulo-low w half n low whole (grind (arith, nat_tests))
+modulo-by_test w half n false is low whole small =
+    modulo-high w half n low whole (grind (arith, nat_tests)) (rw (← whole) small)
+
+modulo-twos_complement : (w half n : ℕ) → 2 ^ (w - 1) ≡ half → 2 ^ w ≡ 2 * half → n < 2 ^ w →
+    modulo w (twos_complement w n) ≡ n
+modulo-twos_complement w half n low whole small = modulo-by_test w half n (nat_lt n half) refl low whole small
+
+-- the bytes of each item hold it
+spelled : (i : Item) → InType i → Holds (spell i) i
+spelled (item.U8 n) h = record { are_bytes = AreBytes-low_bytes 1 n; count = refl; item = ap item.U8 (le-back 1 n h) }
+spelled (item.I8 n) h = let half = 2 ^ 7 in let below : modulo 8 n < 256 ^ 1 = modulo-lt 8 half n refl (omega arith) in record { are_bytes = AreBytes-low_bytes 1 (modulo 8 n); count = refl; item = ap item.I8 (ap (twos_complement 8) (le-back 1 (modulo 8 n) below) ∙ twos_complement-modulo 8 half n refl refl h.sfits) }
+spelled (item.U16Le n) h = record { are_bytes = AreBytes-low_bytes 2 n; count = refl; item = ap item.U16Le (le-back 2 n h) }
+spelled (item.U16Be n) h = record { are_bytes = AreBytes-reverse (low_bytes 2 n) (AreBytes-low_bytes 2 n); count = length-reverse (low_bytes 2 n); item = ap item.U16Be (be-back 2 n h) }
+spelled (item.I16Le n) h = let half = 2 ^ 15 in let below : modulo 16 n < 256 ^ 2 = modulo-lt 16 half n refl (omega arith) in record { are_bytes = AreBytes-low_bytes 2 (modulo 16 n); count = refl; item = ap item.I16Le (ap (twos_complement 16) (le-back 2 (modulo 16 n) below) ∙ twos_complement-modulo 16 half n refl refl h.sfits) }
+spelled (item.I16Be n) h = let half = 2 ^ 15 in let below : modulo 16 n < 256 ^ 2 = modulo-lt 16 half n refl (omega arith) in record { are_bytes = AreBytes-reverse (low_bytes 2 (modulo 16 n)) (AreBytes-low_bytes 2 (modulo 16 n)); count = length-reverse (low_bytes 2 (modulo 16 n)); item = ap item.I16Be (ap (twos_complement 16) (be-back 2 (modulo 16 n) below) ∙ twos_complement-modulo 16 half n refl refl h.sfits) }
+spelled (item.U32Le n) h = record { are_bytes = AreBytes-low_bytes 4 n; count = refl; item = ap item.U32Le (le-back 4 n h) }
+spelled (item.U32Be n) h = record { are_bytes = AreBytes-reverse (low_bytes 4 n) (AreBytes-low_bytes 4 n); count = length-reverse (low_bytes 4 n); item = ap item.U32Be (be-back 4 n h) }
+spelled (item.I32Le n) h = let half = 2 ^ 31 in let below : modulo 32 n < 256 ^ 4 = modulo-lt 32 half n refl (omega arith) in record { are_bytes = AreBytes-low_bytes 4 (modulo 32 n); count = refl; item = ap item.I32Le (ap (twos_complement 32) (le-back 4 (modulo 32 n) below) ∙ twos_complement-modulo 32 half n refl refl h.sfits) }
+spelled (item.I32Be n) h = let half = 2 ^ 31 in let below : modulo 32 n < 256 ^ 4 = modulo-lt 32 half n refl (omega arith) in record { are_bytes = AreBytes-reverse (low_bytes 4 (modulo 32 n)) (AreBytes-low_bytes 4 (modulo 32 n)); count = length-reverse (low_bytes 4 (modulo 32 n)); item = ap item.I32Be (ap (twos_complement 32) (be-back 4 (modulo 32 n) below) ∙ twos_complement-modulo 32 half n refl refl h.sfits) }
+spelled (item.U64Le n) h = record { are_bytes = AreBytes-low_bytes 8 n; count = refl; item = ap item.U64Le (le-back 8 n h) }
+spelled (item.U64Be n) h = record { are_bytes = AreBytes-reverse (low_bytes 8 n) (AreBytes-low_bytes 8 n); count = length-reverse (low_bytes 8 n); item = ap item.U64Be (be-back 8 n h) }
+spelled (item.I64Le n) h = let half = 2 ^ 63 in let below : modulo 64 n < 256 ^ 8 = modulo-lt 64 half n refl (omega arith) in record { are_bytes = AreBytes-low_bytes 8 (modulo 64 n); count = refl; item = ap item.I64Le (ap (twos_complement 64) (le-back 8 (modulo 64 n) below) ∙ twos_complement-modulo 64 half n refl refl h.sfits) }
+spelled (item.I64Be n) h = let half = 2 ^ 63 in let below : modulo 64 n < 256 ^ 8 = modulo-lt 64 half n refl (omega arith) in record { are_bytes = AreBytes-reverse (low_bytes 8 (modulo 64 n)) (AreBytes-low_bytes 8 (modulo 64 n)); count = length-reverse (low_bytes 8 (modulo 64 n)); item = ap item.I64Be (ap (twos_complement 64) (be-back 8 (modulo 64 n) below) ∙ twos_complement-modulo 64 half n refl refl h.sfits) }
+
+-- bytes are the lowest bytes of their number
+le-again : (count : ℕ) (bytes : List ℕ) → AreBytes bytes → length bytes ≡ count → low_bytes count (le bytes) ≡ bytes
+le-again count bytes h is = ap (λ n. low_bytes n (le bytes)) (sym is) ∙ low_bytes-le bytes h
+
+be-again : (count : ℕ) (bytes : List ℕ) → AreBytes bytes → length bytes ≡ count → reverse (low_bytes count (be bytes)) ≡ bytes
+be-again count bytes h is =
+    ap reverse (le-again count (reverse bytes) (AreBytes-reverse bytes h) (length-reverse bytes ∙ is)) ∙ reverse-reverse bytes
+
+le-below : (count : ℕ) (bytes : List ℕ) → AreBytes bytes → length bytes ≡ count → le bytes < 256 ^ count
+le-below count bytes h is = rw (← is) (le-lt bytes h)
+
+be-below : (count : ℕ) (bytes : List ℕ) → AreBytes bytes → length bytes ≡ count → be bytes < 256 ^ count
+be-below count bytes h is = le-below count (reverse bytes) (AreBytes-reverse bytes h) (length-reverse bytes ∙ is)
+
+-- the bytes of the item that bytes hold are those bytes
+spell-unspell : (kind : Kind) (bytes : List ℕ) → AreBytes bytes → length bytes ≡ width kind → spell (unspell kind bytes) ≡ bytes
+spell-unspell kind.U8 bytes h count = le-again 1 bytes h count
+spell-unspell kind.I8 bytes h count = ap (low_bytes 1) (modulo-twos_complement 8 (2 ^ 7) (le bytes) refl refl (le-below 1 bytes h count)) ∙ le-again 1 bytes h count
+spell-unspell kind.U16Le bytes h count = le-again 2 bytes h count
+spell-unspell kind.U16Be bytes h count = be-again 2 bytes h count
+spell-unspell kind.I16Le bytes h count = ap (low_bytes 2) (modulo-twos_complement 16 (2 ^ 15) (le bytes) refl refl (le-below 2 bytes h count)) ∙ le-again 2 bytes h count
+spell-unspell kind.I16Be bytes h count = ap reverse (ap (low_bytes 2) (modulo-twos_complement 16 (2 ^ 15) (be bytes) refl refl (be-below 2 bytes h count))) ∙ be-again 2 bytes h count
+spell-unspell kind.U32Le bytes h count = le-again 4 bytes h count
+spell-unspell kind.U32Be bytes h count = be-again 4 bytes h count
+spell-unspell kind.I32Le bytes h count = ap (low_bytes 4) (modulo-twos_complement 32 (2 ^ 31) (le bytes) refl refl (le-below 4 bytes h count)) ∙ le-again 4 bytes h count
+spell-unspell kind.I32Be bytes h count = ap reverse (ap (low_bytes 4) (modulo-twos_complement 32 (2 ^ 31) (be bytes) refl refl (be-below 4 bytes h count))) ∙ be-again 4 bytes h count
+spell-unspell kind.U64Le bytes h count = le-again 8 bytes h count
+spell-unspell kind.U64Be bytes h count = be-again 8 bytes h count
+spell-unspell kind.I64Le bytes h count = ap (low_bytes 8) (modulo-twos_complement 64 (2 ^ 63) (le bytes) refl refl (le-below 8 bytes h count)) ∙ le-again 8 bytes h count
+spell-unspell kind.I64Be bytes h count = ap reverse (ap (low_bytes 8) (modulo-twos_complement 64 (2 ^ 63) (be bytes) refl refl (be-below 8 bytes h count))) ∙ be-again 8 bytes h count
+
+-- the bytes of items have the widths of their kinds
+pub length-spell_all : (items : List Item) → All InType items → length (spell_all items) ≡ widths (map kind_of items)
+length-spell_all [] h = refl
+length-spell_all (i ∷ items) h =
+    length-append (spell i) (spell_all items)
+    ∙ ap (λ n. n + length (spell_all items)) ((spelled i (All-head InType i items h)).count)
+    ∙ ap (λ n. width (kind_of i) + n) (length-spell_all items (All-tail InType i items h))
+
+-- items are read back, whatever stands behind their bytes
+pub read_back : (items : List Item) (behind : List ℕ) → All InType items →
+    unspell_all (map kind_of items) (spell_all items ++ behind) ≡ items
+read_back [] behind h = refl
+read_back (i ∷ items) behind h =
+    let first = spelled i (All-head InType i items h) in
+    let others = spell_all items ++ behind in
+    let whole : (spell i ++ spell_all items) ++ behind ≡ spell i ++ others = append_assoc (spell i) (spell_all items) behind in
+    let front : take (width (kind_of i)) (spell i ++ others) ≡ spell i =
+    ap (λ n. take n (spell i ++ others)) (sym first.count) ∙ take-append_seam (spell i) others in
+    let back : drop (width (kind_of i)) (spell i ++ others) ≡ others =
+    ap (λ n. drop n (spell i ++ others)) (sym first.count) ∙ drop-append_seam (spell i) others in
+    rw (whole, front, back, first.item, read_back items behind (All-tail InType i items h)) refl
+
+pub remains : (items : List Item) (behind : List ℕ) → All InType items →
+    drop (widths (map kind_of items)) (spell_all items ++ behind) ≡ behind
+remains items behind h =
+    ap (λ n. drop n (spell_all items ++ behind)) (sym (length-spell_all items h)) ∙ drop-append_seam (spell_all items) behind
+
+pub item_law : ItemLaw
+item_law = record {
+  spelled = spelled;
+  only = λ i bytes h held. sym (spell-unspell (kind_of i) bytes held.are_bytes held.count) ∙ ap spell held.item;
+  apart = λ xs ys hx hy kinds bytes.
+      sym (read_back xs [] hx)
+      ∙ ap (λ ks. unspell_all ks (spell_all xs ++ [])) kinds
+      ∙ ap (λ bs. unspell_all (map kind_of ys) (bs ++ [])) bytes
+      ∙ read_back ys [] hy;
+  read_back = read_back;
+  remains = remains;
+}
