@@ -2,7 +2,7 @@
 
 ghost use Rattle.std.specs.Prelude.{◌≡◌, ◌⊎◌, ◌++◌, ℕ, codes, List, IfOk, IfErr, IfSome, map, MatchResult, Some, string_bytes};
 ghost use Rattle.std.specs.Fmt.{decimal, DisplaysOnOk};
-ghost use Rattle.sketch_base.specs.ErrorValue.{contexts_text, kind_name};
+ghost use Rattle.sketch_base.specs.ErrorValue.{contexts_text, kind_name, message_text};
 
 use std::alloc::{AllocError, Global};
 use std::fmt;
@@ -217,10 +217,7 @@ impl fmt::Display for Error {
     fn fmt<W: fmt::Write>(&self, f: &mut fmt::Formatter<W>) -> fmt::Result {
         write!(f, "{}", self.kind)?;
         write_contexts(&self.context, f)?;
-        if !self.message.is_empty() {
-            write!(f, " => {}", self.message)?;
-        }
-        Ok(())
+        write_message(&self.message, f)
     }
 }
 
@@ -242,6 +239,16 @@ fn write_contexts<W: fmt::Write>(
     write!(f, " }}")
 }
 
+// The message as the displayed line has it.
+fn write_message<W: fmt::Write>(message: &str, f: &mut fmt::Formatter<W>) -> fmt::Result
+    ensures { DisplaysOnOk W.write_str_gives f.old result (Some (message_text message.now)) f.new }
+{
+    if message.is_empty() {
+        return Ok(());
+    }
+    write!(f, " => {message}")
+}
+
 impl fmt::Debug for Error {
     fn fmt<W: fmt::Write>(&self, f: &mut fmt::Formatter<W>) -> fmt::Result {
         if f.alternate() {
@@ -253,9 +260,7 @@ impl fmt::Debug for Error {
                 .finish();
         }
         write!(f, "{}", self.kind)?;
-        if !self.message.is_empty() {
-            write!(f, " => {}", self.message)?;
-        }
+        write_message(&self.message, f)?;
         writeln!(f)?;
         if !self.context.is_empty() {
             writeln!(f)?;
