@@ -3,3 +3,11 @@ pub mod WordsLemmas
 pub mod PiecesLemmas
 pub mod MurmurLemmas
 pub mod Xxh64Lemmas
+pub mod RefusalLemmas
+pub mod OneToOne
+pub mod Undoes
+pub mod Aligned
+pub mod Blocks
+pub mod MurmurSteps
+pub mod Xxh64Steps
+pub mod TailSteps

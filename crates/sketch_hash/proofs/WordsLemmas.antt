@@ -39,7 +39,7 @@ pub xor_shifted-is : (k x : ℕ) → IsWord x → xor_shifted k x ≡ bit_xor x 
 xor_shifted-is k x p = let less = shr_le x k in xor-is x (x / 2 ^ k) p (omega arith)
 
 -- the digits that a rotation moves up: in two numbers whose sum is 64, the lower `right` digits
-rotated_up : (x left right : ℕ) → left + right ≡ 64 → x * 2 ^ left % 2 ^ 64 ≡ x % 2 ^ right * 2 ^ left
+pub rotated_up : (x left right : ℕ) → left + right ≡ 64 → x * 2 ^ left % 2 ^ 64 ≡ x % 2 ^ right * 2 ^ left
 rotated_up x left right e =
     let whole : 2 ^ 64 ≡ 2 ^ right * 2 ^ left = ap (λ n. 2 ^ n) (sym e ∙ turned left right) ∙ pow-add 2 right left in
     let low : x % 2 ^ right * 2 ^ left < 2 ^ 64 =

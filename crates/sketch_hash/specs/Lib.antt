@@ -5,4 +5,8 @@ pub mod Murmur
 pub mod MurmurLaws
 pub mod Xxh64
 pub mod Xxh64Laws
+pub mod Values
+pub mod Lending
+pub mod SeedHash
 pub mod KnownAnswers
+pub mod Laws

@@ -2,14 +2,18 @@
 
 mod hasher;
 mod murmurhash;
+mod seed;
 #[cfg(test)]
 mod tests;
+pub mod value;
 mod waiting;
 mod words;
 mod xxhash;
 
 pub use self::hasher::Hasher;
 pub use self::murmurhash::MurmurHash3X64128;
+pub use self::seed::{check_seed_hash, compute_seed_hash};
+pub use self::value::Hash;
 pub use self::xxhash::XxHash64;
 
 /// The seed of the hashes that update a sketch, 9001 in every implementation of the library.

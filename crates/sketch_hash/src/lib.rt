@@ -2,3 +2,4 @@
 #![tactic(auto)]
 
 pub mod hash;
+pub mod laws;

@@ -8,7 +8,7 @@ ghost use Rattle.sketch_hash.specs.Murmur.{murmur};
 
 use crate::arguments::Algorithm;
 use crate::ending::RunFault;
-use sketch_hash::hash::{Hasher, MurmurHash3X64128, XxHash64};
+use datasketches::hash::{Hasher, MurmurHash3X64128, XxHash64};
 use std::fmt::{self, Display};
 use std::io::{Read, Write};
 

@@ -1,0 +1,123 @@
+-- When the two ways to extend an integer to eight bytes feed the same.
+use Rattle.std.proofs.Common.{◌≡◌, ◌↔◌, ℕ, ◌+◌, ◌-◌, ◌%◌, ◌^◌, ◌<◌, ◌≤◌, inl, inr, refl, sym, ap, ◌∙◌, arith, lt-ltb, le-ltb, mod-eq_of_lt, pow-suc}
+use Rattle.std.specs.Prelude.{ℤ, pos, negsuc, ◌-ℤ◌}
+use Rattle.std.proofs.lemmas.Int.{ints}
+use Rattle.std.proofs.Math.Nat.{pow-le-pow_right}
+use Rattle.std.proofs.lemmas.Nat.{pow_pos, pow_below}
+use Rattle.std.proofs.lemmas.Bool.{cases_lt}
+use Rattle.sketch_base.specs.Bytes.{le, eight, twos_complement, modulo}
+use Rattle.sketch_hash.specs.Values.{extended}
+use Rattle.sketch_hash.proofs.Blocks.{word_of_bytes}
+use Rattle.datasketches.specs.Laws.{SignExtendLaw, TopBitLaw}
+use Rattle.datasketches.proofs.Integers.{modulo-lt}
+
+-- integers feed equal bytes exactly if they agree modulo 2 ^ 64
+extended-once : (x y : ℤ) → (extended x ≡ extended y) ↔ (modulo 64 x ≡ modulo 64 y)
+extended-once x y =
+    let x_is = word_of_bytes.forth (modulo 64 x) (modulo-lt x) in
+    let y_is = word_of_bytes.forth (modulo 64 y) (modulo-lt y) in
+    (λ e. sym x_is ∙ ap le e ∙ y_is, ap eight)
+
+-- the numbers of w bits: half of them, and all
+record IsHalf (w half whole : ℕ) : Type 0 where
+  half_is : 2 ^ (w - 1) ≡ half
+  whole_is : 2 ^ w ≡ whole
+  two_halves : whole ≡ half + half
+  some : 0 < half
+  fits : whole ≤ 2 ^ 64
+
+halves_of : (w : ℕ) → 0 < w → w ≤ 64 → IsHalf w (2 ^ (w - 1)) (2 ^ w)
+halves_of w p m = record {
+  half_is = refl;
+  whole_is = refl;
+  two_halves = ap (λ n. 2 ^ n) (omega arith) ∙ pow-suc 2 (w - 1) ∙ omega arith;
+  some = pow_pos (w - 1);
+  fits = pow-le-pow_right {n = 2} (omega arith) m;
+}
+
+-- the word that an unsigned number is extended to by its sign: itself, or lifted to the end of all words
+lifted-low : (w half whole y : ℕ) → IsHalf w half whole → y < half → modulo 64 (twos_complement w y) ≡ y
+lifted-low w half whole y s l =
+    let test = lt-ltb y half l in
+    rw (s.half_is, test) (omega (arith, s.two_halves, s.fits))
+
+lifted-high : (w half whole y : ℕ) → IsHalf w half whole → half ≤ y → y < whole →
+    modulo 64 (twos_complement w y) ≡ 2 ^ 64 - whole + y
+lifted-high w half whole y s m l =
+    let test = le-ltb y half m in
+    rw (s.half_is, s.whole_is, test, below y whole l) (word y whole s.fits l)
+  where
+    below : (y whole : ℕ) → y < whole → pos y -ℤ pos whole ≡ negsuc (whole - 1 - y)
+    below y whole l = omega (arith, ints)
+
+    word : (y whole : ℕ) → whole ≤ 2 ^ 64 → y < whole →
+        2 ^ 64 - 1 - (whole - 1 - y) % 2 ^ 64 ≡ 2 ^ 64 - whole + y
+    word y whole f l = omega arith
+
+-- the word that an unsigned number y of w bits is extended to by its sign
+record IsLifted (half whole y word : ℕ) : Type 0 where
+  two_halves : whole ≡ half + half
+  fits : whole ≤ 2 ^ 64
+  below : y < whole
+  low : y < half → word ≡ y
+  high : half ≤ y → word ≡ 2 ^ 64 - whole + y
+
+lifted : (w y : ℕ) → 0 < w → w ≤ 64 → y < 2 ^ w →
+    IsLifted (2 ^ (w - 1)) (2 ^ w) y (modulo 64 (twos_complement w y))
+lifted w y p m l =
+    let s = halves_of w p m in
+    record {
+      two_halves = s.two_halves;
+      fits = s.fits;
+      below = l;
+      low = lifted-low w (2 ^ (w - 1)) (2 ^ w) y s;
+      high = λ h. lifted-high w (2 ^ (w - 1)) (2 ^ w) y s h l;
+    }
+
+-- a signed number, n or -1 - n, extends to the same word exactly if it agrees modulo all numbers of w bits
+agree : (half whole y word n : ℕ) → IsLifted half whole y word → n < half →
+    ((n % 2 ^ 64 ≡ word) ↔ (n % whole ≡ y % whole))
+    × ((2 ^ 64 - 1 - n % 2 ^ 64 ≡ word) ↔ (whole - 1 - n % whole ≡ y % whole))
+agree half whole y word n s b =
+    let two_halves = s.two_halves in
+    let fits = s.fits in
+    let below = s.below in
+    let n_is : n % whole ≡ n = mod-eq_of_lt (omega arith) in
+    let y_is : y % whole ≡ y = mod-eq_of_lt below in
+    let word_is : n % 2 ^ 64 ≡ n = mod-eq_of_lt (omega arith) in
+    rw (n_is, y_is, word_is) (elim (cases_lt y half) [
+      | inl l ↦
+          let e = s.low l in
+          ((λ q. omega arith, λ q. omega arith), (λ q. omega arith, λ q. omega arith))
+      | inr l ↦
+          let e = s.high l in
+          ((λ q. omega arith, λ q. omega arith), (λ q. omega arith, λ q. omega arith))
+    ])
+
+-- an unsigned number extends to the same word by its value exactly if its top bit is clear
+top_bit : (half whole y word : ℕ) → IsLifted half whole y word → whole < 2 ^ 64 →
+    (y % 2 ^ 64 ≡ word) ↔ (y < half)
+top_bit half whole y word s f =
+    let below = s.below in
+    let word_is : y % 2 ^ 64 ≡ y = mod-eq_of_lt (omega arith) in
+    rw word_is (elim (cases_lt y half) [
+      | inl l ↦ let e = s.low l in (λ q. l, λ q. sym e)
+      | inr l ↦ let e = s.high l in (λ q. absurd (omega arith), λ q. absurd (omega arith))
+    ])
+
+-- lists are equal exactly where words are
+through : {A B C : Type 0} → A ↔ B → B ↔ C → A ↔ C
+through p q = (λ a. q.0 (p.0 a), λ c. p.1 (q.1 c))
+
+pub sign_extend_law : SignExtendLaw
+sign_extend_law w (pos n) y p m h l =
+    through (extended-once (pos n) (twos_complement w y))
+    (agree (2 ^ (w - 1)) (2 ^ w) y _ n (lifted w y p m l) (omega (arith, ints))).0
+sign_extend_law w (negsuc n) y p m h l =
+    through (extended-once (negsuc n) (twos_complement w y))
+    (agree (2 ^ (w - 1)) (2 ^ w) y _ n (lifted w y p m l) (omega (arith, ints))).1
+
+pub top_bit_law : TopBitLaw
+top_bit_law w y p m l =
+    through (extended-once (pos y) (twos_complement w y))
+    (top_bit (2 ^ (w - 1)) (2 ^ w) y _ (lifted w y p (omega arith) l) (pow_below w 64 m))

@@ -1,0 +1,168 @@
+-- XXH64 does not collide where one step of the tail alone differs, or the seed alone of a short stream; and
+-- over all lists of eight bytes it takes every word once.
+use Rattle.std.proofs.Common.{◌≡◌, inl, inr, ℕ, ◌+◌, ◌%◌, ◌^◌, ◌<◌, List, ◌∷◌, ◌++◌, length, take, drop, get_or, refl, sym, ap, ◌∙◌, arith, true, lt-ltb, mod-eq_of_lt}
+use Rattle.std.specs.Prelude.{nat_lt, if◌then◌else◌}
+use Rattle.std.specs.List.{All, fold}
+use Rattle.std.proofs.lemmas.Bool.{cases_lt}
+use Rattle.std.proofs.lemmas.List.{length-map, get_or-map}
+use Rattle.std.proofs.lemmas.List.Sums.{fold-append}
+use Rattle.std.proofs.lemmas.List.Elements.{All-take, All-drop, All-get_or}
+use Rattle.sketch_base.specs.Bytes.{AreBytes, eight}
+use Rattle.sketch_hash.specs.Words.{IsWord, plus}
+use Rattle.sketch_hash.specs.Pieces.{rest}
+use Rattle.sketch_hash.specs.Xxh64.{prime5, Lanes, lane, lanes, merge, stripes, tail_step, tail_steps, avalanche, ending, xxh64}
+use Rattle.sketch_hash.specs.Laws.{OneToOne, IsStep}
+use Rattle.sketch_hash.proofs.OneToOne.{◌▸◌, alike, along}
+use Rattle.sketch_hash.proofs.Undoes.{plus-once}
+use Rattle.sketch_hash.proofs.WordsLemmas.{plus-lt}
+use Rattle.sketch_hash.proofs.Aligned.{rest-are, length-rest_same}
+use Rattle.sketch_hash.proofs.Xxh64Lemmas.{xxh64-eight}
+use Rattle.sketch_hash.proofs.Xxh64Steps.{tail_step-on_state, tail_step-on_number, avalanche-once}
+use Rattle.sketch_hash.proofs.TailSteps.{widths, steps-are, widths-same}
+use Rattle.datasketches.specs.Streams.{AgreeOutside}
+use Rattle.datasketches.specs.Laws.{HashU64Law, XxTailLaw, XxSeedLaw}
+use Rattle.datasketches.proofs.Agree.{agree-front, agree-back, agree-beyond, parts_at}
+
+-- ---- a hash in two parts: the word that the tail begins at, and what is made of it
+
+-- where the steps of the tail begin, for the lanes and a length
+begun : Lanes → ℕ → ℕ
+begun v n = plus (if nat_lt n 32 then plus v.seed prime5 else merge v) n
+
+begun-lands : (v : Lanes) (n : ℕ) → IsWord (begun v n)
+unfolding begun
+begun-lands v n = plus-lt (if nat_lt n 32 then plus v.seed prime5 else merge v) n
+
+-- what is answered from a word on, for the steps that follow
+onward : List (ℕ × ℕ) → ℕ → ℕ
+onward list h = avalanche (fold tail_step h list)
+
+onward-once : (list : List (ℕ × ℕ)) → All IsStep list → OneToOne IsWord IsWord (onward list)
+unfolding onward
+onward-once list p = along tail_step tail_step-on_state list p ▸ avalanche-once
+
+xxh64-is : (seed : ℕ) (bytes : List ℕ) →
+    xxh64 seed bytes ≡ onward (tail_steps bytes) (begun (lanes seed bytes) (length bytes % 2 ^ 64))
+unfolding xxh64 ending onward begun
+xxh64-is seed bytes = refl
+
+tail_steps-are : (bytes : List ℕ) → AreBytes bytes → All IsStep (tail_steps bytes)
+tail_steps-are bytes h = steps-are (rest 32 bytes) (rest-are 32 bytes h)
+
+-- ---- one step of the tail
+
+-- the word that a list of steps leads to, with one of the steps apart
+onward-at : (list : List (ℕ × ℕ)) (i h : ℕ) → i < length list →
+    onward list h
+    ≡ onward (drop (i + 1) list) (tail_step (fold tail_step h (take i list)) (get_or list i (0, 0)))
+unfolding onward
+onward-at list i h l =
+    ap (λ t. avalanche (fold tail_step h t)) (sym (parts_at list i (0, 0) l))
+    ∙ ap avalanche (fold-append tail_step h (take i list) (get_or list i (0, 0) ∷ drop (i + 1) list))
+
+-- two lists of steps of the same widths that agree outside one place, and lead from one word to one hash
+record SameOutsideStep (h i : ℕ) (xs ys : List (ℕ × ℕ)) : Type 0 where
+  from_word : IsWord h
+  xs_are : All IsStep xs
+  ys_are : All IsStep ys
+  same_widths : widths xs ≡ widths ys
+  agree : AgreeOutside i (i + 1) xs ys
+  one_hash : onward xs h ≡ onward ys h
+
+one_length : (h i : ℕ) (xs ys : List (ℕ × ℕ)) → SameOutsideStep h i xs ys → length xs ≡ length ys
+one_length h i xs ys s = sym (length-map xs (λ s. s.0)) ∙ ap length s.same_widths ∙ length-map ys (λ s. s.0)
+
+one_width : (h i : ℕ) (xs ys : List (ℕ × ℕ)) → SameOutsideStep h i xs ys → i < length xs → i < length ys →
+    (get_or xs i (0, 0)).0 ≡ (get_or ys i (0, 0)).0
+one_width h i xs ys s l k =
+    sym (get_or-map (λ s. s.0) xs i (0, 0) 0 l) ∙ ap (λ t. get_or t i 0) s.same_widths
+    ∙ get_or-map (λ s. s.0) ys i (0, 0) 0 k
+
+-- the two steps at the place have one number
+one_number : (h i : ℕ) (xs ys : List (ℕ × ℕ)) → SameOutsideStep h i xs ys → i < length xs → i < length ys →
+    (get_or xs i (0, 0)).1 ≡ (get_or ys i (0, 0)).1
+one_number h i xs ys s l k =
+    let x = get_or xs i (0, 0) in
+    let y = get_or ys i (0, 0) in
+    let after = drop (i + 1) xs in
+    let start = fold tail_step h (take i xs) in
+    let front = All-take IsStep i xs s.xs_are in
+    let start_is = (along tail_step tail_step-on_state (take i xs) front).lands h s.from_word in
+    let m = one_length h i xs ys s in
+    let before = agree-front i (i + 1) xs ys m s.agree in
+    let behind = agree-back i (i + 1) xs ys m s.agree in
+    let one_end : onward after (tail_step start x) ≡ onward after (tail_step start (x.0, y.1)) =
+    sym (onward-at xs i h l) ∙ s.one_hash ∙ onward-at ys i h k
+    ∙ ap (λ t. onward (drop (i + 1) ys) (tail_step (fold tail_step h t) y)) (sym before)
+    ∙ ap (λ t. onward t (tail_step start y)) (sym behind)
+    ∙ ap (λ w. onward after (tail_step start (w, y.1))) (sym (one_width h i xs ys s l k)) in
+    let onward_is = onward-once after (All-drop IsStep (i + 1) xs s.xs_are) in
+    let once = (tail_step-on_number x.0 start start_is ▸ onward_is).once in
+    once x.1 y.1 (All-get_or IsStep xs i (0, 0) l s.xs_are) (All-get_or IsStep ys i (0, 0) k s.ys_are) one_end
+
+same_steps : (h i : ℕ) (xs ys : List (ℕ × ℕ)) → SameOutsideStep h i xs ys → xs ≡ ys
+same_steps h i xs ys s =
+    let m = one_length h i xs ys s in
+    elim (cases_lt i (length xs)) [
+      | inl l ↦
+          let k : i < length ys = omega arith in
+          let y = get_or ys i (0, 0) in
+          sym (parts_at xs i (0, 0) l)
+          ∙ ap (λ t. t ++ get_or xs i (0, 0) ∷ drop (i + 1) xs) (agree-front i (i + 1) xs ys m s.agree)
+          ∙ ap (λ n. take i ys ++ ((get_or xs i (0, 0)).0, n) ∷ drop (i + 1) xs) (one_number h i xs ys s l k)
+          ∙ ap (λ w. take i ys ++ (w, y.1) ∷ drop (i + 1) xs) (one_width h i xs ys s l k)
+          ∙ ap (λ t. take i ys ++ y ∷ t) (agree-back i (i + 1) xs ys m s.agree) ∙ parts_at ys i (0, 0) k
+      | inr beyond ↦ agree-beyond i (i + 1) xs ys m s.agree beyond
+    ]
+
+lanes-same : (seed : ℕ) (a b : List ℕ) → stripes a ≡ stripes b → lanes seed a ≡ lanes seed b
+unfolding lanes lane
+lanes-same seed a b e = rw e refl
+
+pub xx_tail_law : XxTailLaw
+xx_tail_law seed a b p h k d e =
+    let n = length a % 2 ^ 64 in
+    let v = lanes seed a in
+    let behind = length-rest_same 32 a b d.one_length in
+    let one_start = sym (lanes-same seed a b d.same_stripes) in
+    d.differ (same_steps (begun v n) d.one_step.0 (tail_steps a) (tail_steps b) (record {
+      from_word = begun-lands v n;
+      xs_are = tail_steps-are a h;
+      ys_are = tail_steps-are b k;
+      same_widths = widths-same (rest 32 a) (rest 32 b) behind;
+      agree = d.one_step.1;
+      one_hash =
+          sym (xxh64-is seed a) ∙ e ∙ xxh64-is seed b
+          ∙ ap (λ w. onward (tail_steps b) (begun w (length b % 2 ^ 64))) one_start
+          ∙ ap (λ m. onward (tail_steps b) (begun v (m % 2 ^ 64))) (sym d.one_length);
+    }))
+
+-- ---- the seed of a short stream
+
+-- a short stream's steps begin at a sum with the seed
+begun-short : (seed : ℕ) (bytes : List ℕ) → length bytes < 32 →
+    begun (lanes seed bytes) (length bytes % 2 ^ 64) ≡ plus (plus seed prime5) (length bytes)
+unfolding begun lanes
+begun-short seed bytes l =
+    let size : length bytes % 2 ^ 64 ≡ length bytes = mod-eq_of_lt (omega arith) in
+    let short : nat_lt (length bytes) 32 ≡ true = lt-ltb (length bytes) 32 l in
+    rw (size, short) refl
+
+pub xx_seed_law : XxSeedLaw
+xx_seed_law seed_a seed_b bytes p q h l differ e =
+    let a_is = begun-lands (lanes seed_a bytes) (length bytes % 2 ^ 64) in
+    let b_is = begun-lands (lanes seed_b bytes) (length bytes % 2 ^ 64) in
+    let one_end = sym (xxh64-is seed_a bytes) ∙ e ∙ xxh64-is seed_b bytes in
+    let one_start = (onward-once (tail_steps bytes) (tail_steps-are bytes h)).once _ _ a_is b_is one_end in
+    let one_sum = sym (begun-short seed_a bytes l) ∙ one_start ∙ begun-short seed_b bytes l in
+    let sums = plus-once prime5 (omega arith) ▸ plus-once (length bytes) (omega arith) in
+    differ (sums.once seed_a seed_b p q one_sum)
+
+-- ---- eight bytes
+
+pub hash_u64_law : HashU64Law
+unfolding tail_step
+hash_u64_law seed p =
+    let start = plus (plus seed prime5) 8 in
+    alike (λ x. xxh64 seed (eight x)) (xxh64-eight seed)
+    (tail_step-on_number 8 start (plus-lt (plus seed prime5) 8) ▸ avalanche-once)

@@ -1,0 +1,5 @@
+use Rattle.datasketches.proofs.MurmurLaws.{murmur_block_law}
+use Rattle.datasketches.proofs.laws.murmur_block_law.Goals as goal
+
+pub returns : goal.returns
+returns c = murmur_block_law

@@ -1,0 +1,5 @@
+use Rattle.datasketches.proofs.MurmurLaws.{murmur_seed_law}
+use Rattle.datasketches.proofs.laws.murmur_seed_law.Goals as goal
+
+pub returns : goal.returns
+returns c = murmur_seed_law

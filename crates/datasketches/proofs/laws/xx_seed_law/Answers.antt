@@ -1,0 +1,5 @@
+use Rattle.datasketches.proofs.Xxh64Laws.{xx_seed_law}
+use Rattle.datasketches.proofs.laws.xx_seed_law.Goals as goal
+
+pub returns : goal.returns
+returns c = xx_seed_law

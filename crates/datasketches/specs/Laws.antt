@@ -1,0 +1,67 @@
+-- What is promised of collisions: of Murmur's pairs of words, of XXH64's words, and of short integers.
+use Rattle.std.specs.Prelude.{◌≡◌, ◌≢◌, ◌↔◌, ℕ, ◌-◌, ◌*◌, ◌^◌, ◌<◌, ◌≤◌, ℤ, pos, neg_ℤ, ◌≤ℤ◌, ◌<ℤ◌, List, ◌++◌, length}
+use Rattle.std.specs.List.{All, fold}
+use Rattle.sketch_base.specs.Bytes.{AreBytes, eight, twos_complement, modulo}
+use Rattle.sketch_hash.specs.Words.{IsWord}
+use Rattle.sketch_hash.specs.Murmur.{step, murmur}
+use Rattle.sketch_hash.specs.Xxh64.{xxh64}
+use Rattle.sketch_hash.specs.Values.{extended}
+use Rattle.sketch_hash.specs.Laws.{OneToOne, AreWords, IsBlock}
+use Rattle.datasketches.specs.Streams.{DifferInOneTailStep}
+
+-- With the seed, the length and all other bytes fixed, a full aligned block of sixteen bytes maps onto all
+-- pairs of words, each exactly once.
+abbrev pub MurmurBlockLaw : Type 0
+MurmurBlockLaw =
+    (seed i : ℕ) (before after : List ℕ) → IsWord seed → AreBytes before → AreBytes after →
+    length before ≡ 16 * i → OneToOne IsBlock AreWords (λ block. murmur seed (before ++ block ++ after))
+
+-- For every list of blocks, their steps map the pairs of words onto all pairs of words, each exactly once.
+abbrev pub MurmurSeedLaw : Type 0
+MurmurSeedLaw =
+    (blocks : List (ℕ × ℕ)) → All AreWords blocks → OneToOne AreWords AreWords (λ h. fold step h blocks)
+
+-- an integer in -2 ^ 31 .. 2 ^ 32: every value of the types of 8 to 32 bits
+abbrev pub IsShort : ℤ → Type 0
+IsShort z = (neg_ℤ (pos (2 ^ 31)) ≤ℤ z) × (z <ℤ pos (2 ^ 32))
+
+-- Under a hash, two short integers, each extended to eight bytes and written alone after one seed, collide
+-- exactly if they are equal.
+abbrev pub IntegerLaw : {B : Type 0} → (ℕ → List ℕ → B) → Type 0
+IntegerLaw hash =
+    (seed : ℕ) (x y : ℤ) → IsWord seed → IsShort x → IsShort y →
+    (hash seed (extended x) ≡ hash seed (extended y)) ↔ (x ≡ y)
+
+-- For each seed, the hash of eight bytes takes every word exactly once.
+abbrev pub HashU64Law : Type 0
+HashU64Law = (seed : ℕ) → IsWord seed → OneToOne IsWord IsWord (λ x. xxh64 seed (eight x))
+
+-- Under one seed, two streams that differ in exactly one step behind the same stripes have different hashes.
+abbrev pub XxTailLaw : Type 0
+XxTailLaw =
+    (seed : ℕ) (a b : List ℕ) → IsWord seed → AreBytes a → AreBytes b → DifferInOneTailStep a b →
+    xxh64 seed a ≢ xxh64 seed b
+
+-- A stream of fewer than 32 bytes has different hashes under two seeds.
+abbrev pub XxSeedLaw : Type 0
+XxSeedLaw =
+    (seed_a seed_b : ℕ) (bytes : List ℕ) → IsWord seed_a → IsWord seed_b → AreBytes bytes →
+    length bytes < 32 → seed_a ≢ seed_b → xxh64 seed_a bytes ≢ xxh64 seed_b bytes
+
+-- a signed integer of w bits
+abbrev pub IsSigned : ℕ → ℤ → Type 0
+IsSigned w x = (neg_ℤ (pos (2 ^ (w - 1))) ≤ℤ x) × (x <ℤ pos (2 ^ (w - 1)))
+
+-- A signed and an unsigned integer of w bits, both extended by their signs, feed equal bytes exactly if they
+-- agree modulo 2 ^ w, at each width of at most 64 bits.
+abbrev pub SignExtendLaw : Type 0
+SignExtendLaw =
+    (w : ℕ) (x : ℤ) (y : ℕ) → 0 < w → w ≤ 64 → IsSigned w x → y < 2 ^ w →
+    (extended x ≡ extended (twos_complement w y)) ↔ (modulo w x ≡ modulo w (pos y))
+
+-- An unsigned integer of w bits, extended by its value and extended by its sign, feeds equal bytes exactly if
+-- its top bit is clear, at each width below 64 bits.
+abbrev pub TopBitLaw : Type 0
+TopBitLaw =
+    (w y : ℕ) → 0 < w → w < 64 → y < 2 ^ w →
+    (extended (pos y) ≡ extended (twos_complement w y)) ↔ (y < 2 ^ (w - 1))

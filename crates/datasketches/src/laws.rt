@@ -1,0 +1,98 @@
+//! What is promised of collisions.
+//!
+//! The functions with no parameters do nothing: the contract of each is a fact about the hashes' definitions.
+
+ghost use Rattle.std.specs.Prelude.{◌≡◌, ◌≢◌, ◌<◌, length};
+ghost use Rattle.datasketches.specs.Laws.{HashU64Law, IntegerLaw, MurmurBlockLaw, MurmurSeedLaw, SignExtendLaw, TopBitLaw, XxSeedLaw, XxTailLaw};
+ghost use Rattle.datasketches.specs.Streams.{DifferInOneBlock, DifferInOneTailStep};
+ghost use Rattle.sketch_hash.specs.Murmur.{murmur};
+ghost use Rattle.sketch_hash.specs.Xxh64.{xxh64};
+
+use sketch_hash::hash::{Hasher, MurmurHash3X64128, XxHash64};
+
+#[cfg(test)]
+mod tests;
+
+/// The Murmur pairs of two streams, each under its own seed.
+///
+/// Under one seed, two streams of one length that differ in one aligned block of sixteen bytes only have
+/// different pairs; the block may be cut off at their end. So has one stream under two seeds.
+pub fn murmur_both(seed_a: u64, a: &[u8], seed_b: u64, b: &[u8]) -> ((u64, u64), (u64, u64))
+    ensures values { result ≡ (murmur seed_a a.now, murmur seed_b b.now) }
+    ensures one_block { seed_a ≡ seed_b → DifferInOneBlock a.now b.now → result.0 ≢ result.1 }
+    ensures two_seeds { a.now ≡ b.now → seed_a ≢ seed_b → result.0 ≢ result.1 }
+{
+    (murmur_of(seed_a, a), murmur_of(seed_b, b))
+}
+
+fn murmur_of(seed: u64, bytes: &[u8]) -> (u64, u64)
+    ensures { result ≡ murmur seed bytes.now }
+{
+    let mut hasher = MurmurHash3X64128::with_seed(seed);
+    hasher.write(bytes);
+    hasher.finish128()
+}
+
+/// The XXH64 hashes of two streams, each under its own seed.
+///
+/// Under one seed, two streams of one length with the same full stripes of 32 bytes, whose tails differ in
+/// exactly one step, have different hashes. So has one stream of fewer than 32 bytes under two seeds.
+pub fn xx_both(seed_a: u64, a: &[u8], seed_b: u64, b: &[u8]) -> (u64, u64)
+    ensures values { result ≡ (xxh64 seed_a a.now, xxh64 seed_b b.now) }
+    ensures one_tail_step { seed_a ≡ seed_b → DifferInOneTailStep a.now b.now → result.0 ≢ result.1 }
+    ensures two_seeds { a.now ≡ b.now → length a.now < 32 → seed_a ≢ seed_b → result.0 ≢ result.1 }
+{
+    (xxh64_of(seed_a, a), xxh64_of(seed_b, b))
+}
+
+fn xxh64_of(seed: u64, bytes: &[u8]) -> u64
+    ensures { result ≡ xxh64 seed bytes.now }
+{
+    let mut hasher = XxHash64::with_seed(seed);
+    hasher.write(bytes);
+    hasher.finish64()
+}
+
+/// With the seed, the length and all other bytes fixed, the Murmur pair of a stream takes every pair of words
+/// exactly once over all sixteen bytes of a full aligned block.
+pub fn murmur_block_law()
+    ensures { MurmurBlockLaw }
+{}
+
+/// The full blocks of a stream map the pairs of words onto all pairs of words, each exactly once.
+pub fn murmur_seed_law()
+    ensures { MurmurSeedLaw }
+{}
+
+/// Integers of 8 to 32 bits, extended to eight bytes and written alone after one seed, have equal Murmur
+/// pairs exactly if they are equal, and equal XXH64 hashes exactly if they are equal.
+pub fn integer_law()
+    ensures murmur { IntegerLaw murmur }
+    ensures xxh64 { IntegerLaw xxh64 }
+{}
+
+/// For each seed, `hash_u64` of all 64-bit numbers takes each 64-bit number exactly once.
+pub fn hash_u64_law()
+    ensures { HashU64Law }
+{}
+
+/// Under one seed, two streams of one length with the same full stripes of 32 bytes, whose tails differ in
+/// exactly one step, have different XXH64 hashes.
+pub fn xx_tail_law()
+    ensures { XxTailLaw }
+{}
+
+/// A stream of fewer than 32 bytes has different XXH64 hashes under different seeds.
+pub fn xx_seed_law()
+    ensures { XxSeedLaw }
+{}
+
+/// When the two ways to extend an integer to eight bytes feed equal bytes, and when not.
+///
+/// Both extend a signed integer alike. A signed and an unsigned integer of w bits, both extended by sign,
+/// feed equal bytes exactly if they agree modulo 2^w. An unsigned one, extended by value and by sign, feeds
+/// equal bytes exactly if its top bit is clear.
+pub fn extend_law()
+    ensures signs { SignExtendLaw }
+    ensures top_bit { TopBitLaw }
+{}

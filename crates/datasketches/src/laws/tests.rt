@@ -1,0 +1,46 @@
+use super::{murmur_both, xx_both};
+
+// The first bytes of the buffer that xxHash's own tests use.
+const TEST_BUFFER: [u8; 33] = [
+    0x00, 0x52, 0x92, 0x9b, 0xb7, 0x32, 0xa3, 0x24, 0x2d, 0x00, 0xaf, 0x95, 0x0e, 0xec, 0xb8, 0x93,
+    0xe3, 0xdf, 0xef, 0x93, 0xaa, 0xd6, 0xcd, 0x2a, 0x53, 0x8b, 0x5c, 0x3f, 0x54, 0x5a, 0x6f, 0xd5,
+    0x59,
+];
+
+const OTHER_SEED: u64 = 2_654_435_761;
+
+#[test]
+fn murmur_tells_apart_two_sentences_that_differ_in_their_cut_off_block(rt: HostRuntime) {
+    let dog = "The quick brown fox jumps over the lazy dog";
+    let eog = "The quick brown fox jumps over the lazy eog";
+    let pairs = murmur_both(0, dog.as_bytes(), 0, eog.as_bytes());
+    assert_eq!(rt; pairs.0, (0xe34b_bc7b_bc07_1b6c, 0x7a43_3ca9_c49a_9347));
+    assert_eq!(rt; pairs.1, (0x3621_0810_2c62_d1c9, 0x3285_cd10_0292_b305));
+}
+
+#[test]
+fn murmur_tells_apart_two_seeds_of_no_bytes(rt: HostRuntime) {
+    let (first, second) = murmur_both(0, &[], 1, &[]);
+    assert_eq!(rt; first, (0, 0));
+    assert!(rt; second != first);
+}
+
+#[test]
+fn xxh64_tells_apart_two_seeds(rt: HostRuntime) {
+    let of_nothing = (0xef46_db37_51d8_e999, 0xac75_fda2_929b_17ef);
+    assert_eq!(rt; xx_both(0, &[], OTHER_SEED, &[]), of_nothing);
+    let stripe = &TEST_BUFFER[0..32];
+    let of_stripe = (0x18b2_1649_2bb4_4b70, 0xb3f3_3bdf_93ad_e409);
+    assert_eq!(rt; xx_both(0, stripe, OTHER_SEED, stripe), of_stripe);
+}
+
+#[test]
+fn xxh64_tells_apart_every_last_byte_behind_a_stripe(rt: HostRuntime) {
+    for change in 1..=255 {
+        let mut changed = TEST_BUFFER;
+        changed[32] ^= change;
+        let (first, second) = xx_both(0, &TEST_BUFFER, 0, &changed);
+        assert_eq!(rt; first, 0x55c8_dc3e_578f_5b59);
+        assert!(rt; second != first, "with the last byte changed by {change}");
+    }
+}

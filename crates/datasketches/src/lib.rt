@@ -1,0 +1,8 @@
+//! The lowest layer of Apache DataSketches' Rust component, proved: errors, the codec of serialized sketches, and the
+//! hashes, under their original paths; and beside them the laws of collisions.
+#![tactic(auto)]
+
+pub use sketch_base::{codec, error};
+pub use sketch_hash::hash;
+
+pub mod laws;

@@ -1,0 +1,141 @@
+-- Murmur's steps map words onto words, and pairs of words onto pairs of words, each exactly once.
+use Rattle.std.proofs.Common.{◌≡◌, ℕ, ◌+◌, ◌-◌, ◌<◌, List, ◌++◌, length, replicate, refl, sym, ap, ◌∙◌, arith, length-append}
+use Rattle.std.specs.List.{All, fold}
+use Rattle.std.proofs.lemmas.List.{append_cancel_right, length-replicate}
+use Rattle.std.proofs.lemmas.List.Elements.{All-map, All-weaker, All-append, All-replicate}
+use Rattle.sketch_base.specs.Bytes.{AreBytes}
+use Rattle.sketch_hash.specs.Words.{IsWord, plus, times, rotate}
+use Rattle.sketch_hash.specs.Pieces.{pieces}
+use Rattle.sketch_hash.specs.Murmur.{c1, c2, mix1, mix2, fmix, step1, step2, step, block_words, blocks, with_tail, crossed, ending}
+use Rattle.sketch_hash.specs.Laws.{OneToOne, AreWords, IsBlock, MurmurStepLaws}
+use Rattle.sketch_hash.proofs.OneToOne.{◌▸◌, on_first, on_second, on_both, along}
+use Rattle.sketch_hash.proofs.Undoes.{times-once, plus-once, xor-once, xor_word-once, rotate-once, shifted-once}
+use Rattle.sketch_hash.proofs.Aligned.{IsByte, IsPiece, pieces-are}
+use Rattle.sketch_hash.proofs.Blocks.{block_words-once}
+
+times_c1 : OneToOne IsWord IsWord (λ x. times x c1)
+times_c1 = times-once c1 0xa98409e882ce4d7d refl
+
+times_c2 : OneToOne IsWord IsWord (λ x. times x c2)
+times_c2 = times-once c2 0xa81e14edd9de2c7f refl
+
+mix1-once : OneToOne IsWord IsWord mix1
+unfolding mix1
+mix1-once = times_c1 ▸ rotate-once 31 33 refl ▸ times_c2
+
+mix2-once : OneToOne IsWord IsWord mix2
+unfolding mix2
+mix2-once = times_c2 ▸ rotate-once 33 31 refl ▸ times_c1
+
+fmix-once : OneToOne IsWord IsWord fmix
+unfolding fmix
+fmix-once =
+    let shifted = shifted-once 33 (omega arith) in
+    shifted ▸ times-once 0xff51afd7ed558ccd 0x4f74430c22a54005 refl
+    ▸ shifted ▸ times-once 0xc4ceb9fe1a85ec53 0x9cb4b2f8129337db refl ▸ shifted
+
+-- what a step does to a word of the pair once a word of the block has entered it
+turned-once : (a b other c : ℕ) → a + b ≡ 64 → IsWord other → IsWord c →
+    OneToOne IsWord IsWord (λ h. plus (times (plus (rotate h a) other) 5) c)
+turned-once a b other c e p q =
+    rotate-once a b e ▸ plus-once other p ▸ times-once 5 0xcccccccccccccccd refl ▸ plus-once c q
+
+turned1 : (h2 : ℕ) → IsWord h2 →
+    OneToOne IsWord IsWord (λ h. plus (times (plus (rotate h 27) h2) 5) 0x52dce729)
+turned1 h2 p = turned-once 27 37 h2 0x52dce729 refl p (omega arith)
+
+turned2 : (h1 : ℕ) → IsWord h1 →
+    OneToOne IsWord IsWord (λ h. plus (times (plus (rotate h 31) h1) 5) 0x38495ab5)
+turned2 h1 p = turned-once 31 33 h1 0x38495ab5 refl p (omega arith)
+
+-- a step, for one block
+pub step-on_state : (k : ℕ × ℕ) → AreWords k → OneToOne AreWords AreWords (λ h. step h k)
+unfolding step step1 step2
+step-on_state k p =
+    let first = xor-once (mix1 k.0) (mix1-once.lands k.0 p.0) in
+    let second = xor-once (mix2 k.1) (mix2-once.lands k.1 p.1) in
+    on_first (λ h1 h2. step1 h1 h2 k.0) (λ h2 q. first ▸ turned1 h2 q)
+    ▸ on_second (λ h1 h2. step2 h1 h2 k.1) (λ h1 q. second ▸ turned2 h1 q)
+
+-- a step, from one state
+pub step-on_block : (h : ℕ × ℕ) → AreWords h → OneToOne AreWords AreWords (λ k. step h k)
+unfolding step step1 step2
+step-on_block h p =
+    let first = mix1-once ▸ xor_word-once h.0 p.0 in
+    let second = mix2-once ▸ xor_word-once h.1 p.1 in
+    on_first (λ k1 k2. step1 h.0 h.1 k1) (λ k2 q. first ▸ turned1 h.1 p.1)
+    ▸ on_second (λ h1 k2. step2 h1 h.1 k2) (λ h1 q. second ▸ turned2 h1 q)
+
+-- all steps, for one list of blocks
+pub steps-on_state : (blocks : List (ℕ × ℕ)) → All AreWords blocks →
+    OneToOne AreWords AreWords (λ h. fold step h blocks)
+steps-on_state blocks p = along step step-on_state blocks p
+
+crossed-once : OneToOne AreWords AreWords crossed
+crossed-once = on_first plus plus-once ▸ on_second (λ h1 h2. plus h2 h1) plus-once
+
+-- the end, for one length
+pub ending-once : (n : ℕ) → IsWord n → OneToOne AreWords AreWords (λ h. ending h n)
+unfolding ending
+ending-once n p =
+    let length_in = xor-once n p in
+    on_both length_in length_in ▸ crossed-once ▸ on_both fmix-once fmix-once ▸ crossed-once
+
+-- ---- blocks and tails of bytes
+
+-- the blocks of bytes are pairs of words
+pub blocks-are : (bytes : List ℕ) → AreBytes bytes → All AreWords (blocks bytes)
+blocks-are bytes h =
+    let read = All-weaker (IsPiece 16) (λ piece. AreWords (block_words piece)) block_words-once.lands in
+    All-map AreWords block_words (pieces 16 bytes) (read (pieces 16 bytes) (pieces-are 16 bytes h))
+
+zeros : ℕ → List ℕ
+zeros n = replicate n 0
+
+-- a tail, padded with zeros to a block
+padded : List ℕ → List ℕ
+unfolding zeros
+padded waiting = waiting ++ zeros (16 - length waiting)
+
+padded-is : (waiting : List ℕ) → AreBytes waiting → length waiting < 16 → IsBlock (padded waiting)
+unfolding padded zeros
+padded-is waiting h l =
+    let n = 16 - length waiting in
+    let size : length (zeros n) ≡ n = length-replicate n 0 in (
+      All-append IsByte waiting (zeros n) h (All-replicate IsByte n 0 (omega arith)),
+      length-append waiting (zeros n) ∙ omega arith,
+    )
+
+padded-once : (a b : List ℕ) → length a ≡ length b → padded a ≡ padded b → a ≡ b
+unfolding padded
+padded-once a b e q =
+    append_cancel_right a b (zeros (16 - length b)) (ap (λ n. a ++ zeros (16 - n)) (sym e) ∙ q)
+
+-- a tail, for one state
+pub with_tail-on_state : (waiting : List ℕ) → AreBytes waiting → length waiting < 16 →
+    OneToOne AreWords AreWords (λ h. with_tail h waiting)
+unfolding with_tail padded zeros
+with_tail-on_state waiting h l =
+    let words = block_words-once.lands (padded waiting) (padded-is waiting h l) in
+    on_both (xor-once _ (mix1-once.lands _ words.0)) (xor-once _ (mix2-once.lands _ words.1))
+
+-- two tails of one length that leave one state are one
+pub with_tail-on_bytes : (h : ℕ × ℕ) (a b : List ℕ) → AreWords h → AreBytes a → AreBytes b →
+    length a ≡ length b → length a < 16 → with_tail h a ≡ with_tail h b → a ≡ b
+unfolding with_tail padded zeros
+with_tail-on_bytes h a b p q r e l t =
+    let entered = on_both mix1-once mix2-once ▸ on_both (xor_word-once h.0 p.0) (xor_word-once h.1 p.1) in
+    let read = block_words-once ▸ entered in
+    padded-once a b e (read.once (padded a) (padded b) (padded-is a q l) (padded-is b r (omega arith)) t)
+
+pub murmur_step_laws : MurmurStepLaws
+murmur_step_laws = record {
+  first_word = mix1-once;
+  second_word = mix2-once;
+  finalizer = fmix-once;
+  block_read = block_words-once;
+  step_of_pair = step-on_state;
+  step_of_block = step-on_block;
+  tail_of_pair = with_tail-on_state;
+  ending_of_pair = ending-once;
+}

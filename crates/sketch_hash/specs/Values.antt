@@ -1,0 +1,7 @@
+-- What short integers feed to a hasher.
+use Rattle.std.specs.Prelude.{ℕ, ℤ, List}
+use Rattle.sketch_base.specs.Bytes.{eight, modulo}
+
+-- the eight little-endian bytes of an integer, modulo 2 ^ 64
+abbrev pub extended : ℤ → List ℕ
+extended z = eight (modulo 64 z)

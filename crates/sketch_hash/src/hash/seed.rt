@@ -1,0 +1,67 @@
+//! The 16-bit hash of a seed, which tells whether two sketches were made with one seed.
+
+ghost use Rattle.std.specs.Prelude.{◌≡◌, ◌≢◌, MatchResult};
+ghost use Rattle.sketch_base.specs.Refusals.{Refuses};
+ghost use Rattle.sketch_hash.specs.SeedHash.{seed_hash, zero_seed_hash_text, incompatible_seed_hash_text};
+
+use super::hasher::Hasher;
+use super::murmurhash::MurmurHash3X64128;
+use sketch_base::error::{Error, ErrorKind};
+use std::alloc::Global;
+
+/// The seed hash of a seed: the low 16 bits of the first word of MurmurHash3's hash of the seed's eight little-endian
+/// bytes, under seed 0.
+///
+/// Zero stands for no seed hash in old serialized sketches, so a seed whose hash is zero cannot be used.
+///
+/// # Errors
+///
+/// Exactly where the seed hash is zero: of kind `error_kind`, or `OutOfMemory` where the text finds no memory.
+pub fn compute_seed_hash(alloc: Global, seed: u64, error_kind: ErrorKind) -> Result<u16, Error>
+    ensures { MatchResult result
+        (λ hash. (hash ≡ seed_hash seed) × (hash ≢ 0))
+        (λ error. (seed_hash seed ≡ 0) × Refuses error_kind (zero_seed_hash_text seed) error) }
+{
+    let hash = seed_hash(seed);
+    if hash == 0 {
+        let text = format!(in alloc;
+            "seed {seed} produces a seed hash of zero; choose a different seed"
+        );
+        return Err(Error::from_text(alloc, error_kind, text));
+    }
+    Ok(hash)
+}
+
+/// Accepts exactly the expected seed hash. The name says whose it is.
+///
+/// # Errors
+///
+/// At any other: of kind `kind`, or `OutOfMemory` where the text finds no memory.
+pub fn check_seed_hash(
+    alloc: Global,
+    expected: u16,
+    actual: u16,
+    name: &'static str,
+    kind: ErrorKind,
+) -> Result<(), Error>
+    ensures { MatchResult result
+        (λ _. actual ≡ expected)
+        (λ error. (actual ≢ expected) × Refuses kind (incompatible_seed_hash_text name.entry.now expected actual) error) }
+{
+    if actual == expected {
+        return Ok(());
+    }
+    let text = format!(in alloc;
+        "incompatible seed hash of {name}: expected {expected}, got {actual}"
+    );
+    Err(Error::from_text(alloc, kind, text))
+}
+
+fn seed_hash(seed: u64) -> u16
+    ensures { result ≡ seed_hash seed }
+{
+    let mut hasher = MurmurHash3X64128::with_seed(0);
+    hasher.write_u64(seed);
+    let (h1, _) = hasher.finish128();
+    (h1 % 0x1_0000) as u16
+}

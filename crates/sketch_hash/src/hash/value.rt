@@ -1,0 +1,203 @@
+//! Values that are fed to hashers as the same bytes by every implementation of the library, in any language.
+//!
+//! * [`natural_extend`]: short integers as eight bytes, by their value.
+//! * [`sign_extend`]: short integers as eight bytes, their highest bit taken for a sign.
+//! * [`raw_bytes`]: bytes and text as they are, with no length and no end mark.
+
+pub mod natural_extend;
+pub mod raw_bytes;
+pub mod sign_extend;
+
+ghost use Rattle.std.specs.Prelude.{◌≡◌, ℕ, List, [], ◌++◌, IsTrue};
+ghost use Rattle.std.specs.List.{flat_map};
+ghost use Rattle.sketch_base.specs.Bytes.{low_bytes, modulo};
+ghost use Rattle.sketch_hash.specs.Murmur.{murmur};
+
+use super::hasher::Hasher;
+use super::murmurhash::MurmurHash3X64128;
+use std::fmt;
+use std::marker::{Model, PhantomData};
+use std::ops::{Deref, DerefMut};
+
+/// A value that can be fed to a hasher.
+pub trait Hash {
+    ghost fed: { Self → List ℕ };
+
+    /// Feeds the value's bytes, in one write or several.
+    fn hash<H: Hasher>(&self, state: &mut H)
+        ensures { state.new ≡ H.after state.old (fed self.now) };
+}
+
+/// A way to feed values of the type `T`, under which equal values feed equal bytes.
+pub trait HashStrategy<T: Eq> {
+    ghost fed: { T → List ℕ };
+
+    /// Feeds the value's bytes, in one write or several.
+    fn hash<H: Hasher>(value: &T, state: &mut H)
+        ensures { state.new ≡ H.after state.old (fed value.now) };
+
+    ghost respects_eq: { (x y : T) → IsTrue (T.eq x y) → fed x ≡ fed y };
+}
+
+/// A value that is fed to hashers by the strategy `S`. In all else it behaves as the value itself.
+#[derive(Drop)]
+#[derive_where(Clone, Copy, PartialEq, Eq, PartialOrd, Ord; T)]
+pub struct Value<T, S> {
+    value: T,
+    strategy: PhantomData<S>,
+}
+
+impl<T, S> Model for Value<T, S> {
+    ghost Value = { T };
+
+    ghost view = { λ v. v.value };
+
+    ghost inverse = { λ x. record { value = x; strategy = record {} } };
+}
+
+impl<T, S> Value<T, S> {
+    /// Wraps a value.
+    pub fn new(value: T) -> Self
+        ensures { result ≡ value }
+    {
+        Value {
+            value,
+            strategy: PhantomData,
+        }
+    }
+
+    /// Gives the value back.
+    pub fn into_inner(self) -> T
+        ensures { result ≡ self }
+    {
+        self.value
+    }
+}
+
+impl<T, S> Deref for Value<T, S> {
+    type Target = T;
+
+    ghost deref_gives = { λ value inner. inner ≡ value };
+
+    fn deref(&self) -> &T {
+        &self.value
+    }
+}
+
+impl<T, S> DerefMut for Value<T, S> {
+    ghost use Rattle.std.specs.Borrow.{sem};
+    ghost use Rattle.sketch_hash.specs.Lending.{LendsInner};
+
+    ghost deref_mut_gives = { λ value inner. inner ≡ value };
+
+    fn deref_mut(&mut self) -> &mut T
+        ensures* writes_back { sem 𝓛 (LendsInner T.row S.row self.entry result) }
+        ensures shows { result.now ≡ self.old }
+    {
+        &mut self.value
+    }
+}
+
+impl<T: fmt::Display, S> fmt::Display for Value<T, S> {
+    ghost output = { λ value. T.output value };
+
+    fn fmt<W: fmt::Write>(&self, f: &mut fmt::Formatter<W>) -> fmt::Result {
+        self.value.fmt(f)
+    }
+}
+
+impl<T: fmt::Debug, S> fmt::Debug for Value<T, S> {
+    fn fmt<W: fmt::Write>(&self, f: &mut fmt::Formatter<W>) -> fmt::Result {
+        self.value.fmt(f)
+    }
+}
+
+impl<T: Eq, S: HashStrategy<T>> Hash for Value<T, S> {
+    ghost fed = { λ value. S.fed value };
+
+    fn hash<H: Hasher>(&self, state: &mut H) {
+        S::hash(&self.value, state);
+    }
+}
+
+/// Feeds the values in order.
+pub fn feed_all<T: Hash, H: Hasher>(values: &[T], state: &mut H)
+    ensures { state.new ≡ H.after state.old (flat_map T.fed values.now) }
+{
+    for value in values {
+        value.hash(state);
+    }
+}
+
+/// The first word of MurmurHash3's hash of the value, under the seed of sketch updates.
+pub fn calculate_hash<T: Hash + Drop>(t: T) -> u64
+    ensures { result ≡ (murmur 9001 (T.fed t)).0 }
+{
+    let mut hasher = MurmurHash3X64128::default();
+    t.hash(&mut hasher);
+    hasher.finish()
+}
+
+impl Hash for u8 {
+    ghost fed = { λ n. low_bytes 1 n };
+
+    fn hash<H: Hasher>(&self, state: &mut H) {
+        state.write_u8(*self);
+    }
+}
+
+impl Hash for i8 {
+    ghost fed = { λ n. low_bytes 1 (modulo 8 n) };
+
+    fn hash<H: Hasher>(&self, state: &mut H) {
+        state.write_i8(*self);
+    }
+}
+
+impl Hash for u16 {
+    ghost fed = { λ n. low_bytes 2 n };
+
+    fn hash<H: Hasher>(&self, state: &mut H) {
+        state.write_u16(*self);
+    }
+}
+
+impl Hash for i16 {
+    ghost fed = { λ n. low_bytes 2 (modulo 16 n) };
+
+    fn hash<H: Hasher>(&self, state: &mut H) {
+        state.write_i16(*self);
+    }
+}
+
+impl Hash for u32 {
+    ghost fed = { λ n. low_bytes 4 n };
+
+    fn hash<H: Hasher>(&self, state: &mut H) {
+        state.write_u32(*self);
+    }
+}
+
+impl Hash for i32 {
+    ghost fed = { λ n. low_bytes 4 (modulo 32 n) };
+
+    fn hash<H: Hasher>(&self, state: &mut H) {
+        state.write_i32(*self);
+    }
+}
+
+impl Hash for u64 {
+    ghost fed = { λ n. low_bytes 8 n };
+
+    fn hash<H: Hasher>(&self, state: &mut H) {
+        state.write_u64(*self);
+    }
+}
+
+impl Hash for i64 {
+    ghost fed = { λ n. low_bytes 8 (modulo 64 n) };
+
+    fn hash<H: Hasher>(&self, state: &mut H) {
+        state.write_i64(*self);
+    }
+}

@@ -1,0 +1,119 @@
+//! Short integers that are fed as eight bytes, by their value: a signed number with its sign, an unsigned one with
+//! zeros in front.
+//!
+//! So the unsigned 255 of eight bits feeds what 255 of 64 bits feeds.
+
+ghost use Rattle.std.specs.Prelude.{◌≡◌, pos};
+ghost use Rattle.std.proofs.Common.{rules};
+ghost use Rattle.sketch_hash.specs.Values.{extended};
+
+use crate::hash::Hasher;
+use crate::hash::value::{HashStrategy, Value};
+
+/// An integer that is fed as eight bytes, by its value.
+pub type NaturalExtend<T> = Value<T, NaturalExtendStrategy>;
+
+/// The strategy of [`NaturalExtend`].
+pub struct NaturalExtendStrategy;
+
+/// Wraps the number.
+pub fn from_i8(v: i8) -> NaturalExtend<i8>
+    ensures { result ≡ v }
+{
+    Value::new(v)
+}
+
+/// Wraps the number.
+pub fn from_u8(v: u8) -> NaturalExtend<u8>
+    ensures { result ≡ v }
+{
+    Value::new(v)
+}
+
+/// Wraps the number.
+pub fn from_i16(v: i16) -> NaturalExtend<i16>
+    ensures { result ≡ v }
+{
+    Value::new(v)
+}
+
+/// Wraps the number.
+pub fn from_u16(v: u16) -> NaturalExtend<u16>
+    ensures { result ≡ v }
+{
+    Value::new(v)
+}
+
+/// Wraps the number.
+pub fn from_i32(v: i32) -> NaturalExtend<i32>
+    ensures { result ≡ v }
+{
+    Value::new(v)
+}
+
+/// Wraps the number.
+pub fn from_u32(v: u32) -> NaturalExtend<u32>
+    ensures { result ≡ v }
+{
+    Value::new(v)
+}
+
+impl HashStrategy<i8> for NaturalExtendStrategy {
+    ghost fed = { extended };
+
+    fn hash<H: Hasher>(value: &i8, state: &mut H) {
+        state.write_i64(i64::from(*value));
+    }
+
+    ghost respects_eq = { Prim.search rules };
+}
+
+impl HashStrategy<u8> for NaturalExtendStrategy {
+    ghost fed = { λ x. extended (pos x) };
+
+    fn hash<H: Hasher>(value: &u8, state: &mut H) {
+        state.write_u64(u64::from(*value));
+    }
+
+    ghost respects_eq = { Prim.search rules };
+}
+
+impl HashStrategy<i16> for NaturalExtendStrategy {
+    ghost fed = { extended };
+
+    fn hash<H: Hasher>(value: &i16, state: &mut H) {
+        state.write_i64(i64::from(*value));
+    }
+
+    ghost respects_eq = { Prim.search rules };
+}
+
+impl HashStrategy<u16> for NaturalExtendStrategy {
+    ghost fed = { λ x. extended (pos x) };
+
+    fn hash<H: Hasher>(value: &u16, state: &mut H) {
+        state.write_u64(u64::from(*value));
+    }
+
+    ghost respects_eq = { Prim.search rules };
+}
+
+impl HashStrategy<i32> for NaturalExtendStrategy {
+    ghost fed = { extended };
+
+    fn hash<H: Hasher>(value: &i32, state: &mut H) {
+        state.write_i64(i64::from(*value));
+    }
+
+    ghost respects_eq = { Prim.search rules };
+}
+
+impl HashStrategy<u32> for NaturalExtendStrategy {
+    ghost fed = { λ x. extended (pos x) };
+
+    fn hash<H: Hasher>(value: &u32, state: &mut H) {
+        state.write_u64(u64::from(*value));
+    }
+
+    ghost respects_eq = { Prim.search rules };
+}
