@@ -16,7 +16,7 @@ use Rattle.sketch_base.specs.Items.{InType, kind_of, width, widths, spell, spell
 use Rattle.sketch_base.specs.ItemLaws.{Holds, ItemLaw}
 use Rattle.std.proofs.Math.Seq.{take-append_seam, drop-append_seam}
 use Rattle.sketch_base.specs.Bytes.{AreBytes, le, be, low_bytes, twos_complement, modulo}
-use Rattle.sketch_base.proofs.BytesLemmas.{le-low_bytes, le-lt, low_bytes-le}
+use Rattle.sketch_base.proofs.BytesLemmas.{le-low_bytes, le-lt, low_bytes-le, length-low_bytes}
 
 -- so many bytes take a number of so many powers of 256, and give it back, the lowest byte first or the highest
 le-back : (count n : ℕ) → n < 256 ^ count → le (low_bytes count n) ≡ n
@@ -28,7 +28,8 @@ be-back count n small = ap le (reverse-reverse (low_bytes count n)) ∙ le-back 
 AreBytes-low_bytes : (count n : ℕ) → AreBytes (low_bytes count n)
 AreBytes-low_bytes zero n = All-nil (λ b. b < 256)
 AreBytes-low_bytes (suc count) n =
-    All-cons (λ b. b < 256) (n % 256) (low_bytes count (n / 256)) (omega arith) (AreBytes-low_bytes count (n / 256))
+    All-cons (λ b. b < 256) (n % 256) (low_bytes count (n / 256)) (omega arith) (AreBytes-low_bytes count
+    (n / 256))
 
 AreBytes-reverse : (bytes : List ℕ) → AreBytes bytes → AreBytes (reverse bytes)
 AreBytes-reverse [] h = h
@@ -52,7 +53,8 @@ modulo-lt : (w half : ℕ) (z : ℤ) → 2 ^ w ≡ 2 * half → 0 < half → mod
 modulo-lt w half (pos n) whole some = rw whole (omega arith)
 modulo-lt w half (negsuc n) whole some = rw whole (omega arith)
 
-modulo-low : (w half n : ℕ) → 2 ^ (w - 1) ≡ half → 2 ^ w ≡ 2 * half → n < half → modulo w (twos_complement w n) ≡ n
+modulo-low : (w half n : ℕ) → 2 ^ (w - 1) ≡ half → 2 ^ w ≡ 2 * half → n < half →
+    modulo w (twos_complement w n) ≡ n
 modulo-low w half n low whole small =
     let number : twos_complement w n ≡ pos n = rw (low, whole) (grind (arith, ints, nat_tests)) in
     ap (modulo w) number ∙ mod-eq_of_lt (rw whole (omega arith))
@@ -65,8 +67,8 @@ modulo-high w half n low whole large small =
     let same : m % (2 * half) ≡ m = mod-eq_of_lt (omega arith) in
     ap (modulo w) number ∙ (rw (whole, same) (omega arith))
 
-modulo-by_test : (w half n : ℕ) (below : Bool) → nat_lt n half ≡ below → 2 ^ (w - 1) ≡ half → 2 ^ w ≡ 2 * half → n < 2 ^ w →
-    modulo w (twos_complement w n) ≡ n
+modulo-by_test : (w half n : ℕ) (below : Bool) → nat_lt n half ≡ below →
+    2 ^ (w - 1) ≡ half → 2 ^ w ≡ 2 * half → n < 2 ^ w → modulo w (twos_complement w n) ≡ n
 modulo-by_test w half n true is low whole small = modulo-low w half n low whole (grind (arith, nat_tests))
 modulo-by_test w half n false is low whole small =
     modulo-high w half n low whole (grind (arith, nat_tests)) (rw (← whole) small)
@@ -75,56 +77,121 @@ modulo-twos_complement : (w half n : ℕ) → 2 ^ (w - 1) ≡ half → 2 ^ w ≡
     modulo w (twos_complement w n) ≡ n
 modulo-twos_complement w half n low whole small = modulo-by_test w half n (nat_lt n half) refl low whole small
 
+-- signed numbers give their bytes, and these give them back
+signed_le-back : (w half count : ℕ) (z : ℤ) → 2 ^ (w - 1) ≡ half → 2 ^ w ≡ 2 * half → 256 ^ count ≡ 2 ^ w →
+    mag z < half →
+    twos_complement w (le (low_bytes count (modulo w z))) ≡ z
+signed_le-back w half count z low whole same small =
+    let below : modulo w z < 256 ^ count = rw same (modulo-lt w half z whole (omega arith)) in
+    ap (twos_complement w) (le-back count (modulo w z) below)
+    ∙ twos_complement-modulo w half z low whole small
+
+signed_be-back : (w half count : ℕ) (z : ℤ) → 2 ^ (w - 1) ≡ half → 2 ^ w ≡ 2 * half → 256 ^ count ≡ 2 ^ w →
+    mag z < half →
+    twos_complement w (be (reverse (low_bytes count (modulo w z)))) ≡ z
+signed_be-back w half count z low whole same small =
+    ap (λ bytes. twos_complement w (le bytes)) (reverse-reverse (low_bytes count (modulo w z)))
+    ∙ signed_le-back w half count z low whole same small
+
+-- lowest bytes hold an item that its kind makes of them, in either order
+low-holds : (i : Item) (count n : ℕ) → count ≡ width (kind_of i) →
+    unspell (kind_of i) (low_bytes count n) ≡ i →
+    Holds (low_bytes count n) i
+low-holds i count n is made = record {
+  are_bytes = AreBytes-low_bytes count n;
+  count = length-low_bytes count n ∙ is;
+  item = made;
+}
+
+high-holds : (i : Item) (count n : ℕ) → count ≡ width (kind_of i) →
+    unspell (kind_of i) (reverse (low_bytes count n)) ≡ i → Holds (reverse (low_bytes count n)) i
+high-holds i count n is made = record {
+  are_bytes = AreBytes-reverse (low_bytes count n) (AreBytes-low_bytes count n);
+  count = length-reverse (low_bytes count n) ∙ length-low_bytes count n ∙ is;
+  item = made;
+}
+
 -- the bytes of each item hold it
 spelled : (i : Item) → InType i → Holds (spell i) i
-spelled (item.U8 n) h = record { are_bytes = AreBytes-low_bytes 1 n; count = refl; item = ap item.U8 (le-back 1 n h) }
-spelled (item.I8 n) h = let half = 2 ^ 7 in let below : modulo 8 n < 256 ^ 1 = modulo-lt 8 half n refl (omega arith) in record { are_bytes = AreBytes-low_bytes 1 (modulo 8 n); count = refl; item = ap item.I8 (ap (twos_complement 8) (le-back 1 (modulo 8 n) below) ∙ twos_complement-modulo 8 half n refl refl h.sfits) }
-spelled (item.U16Le n) h = record { are_bytes = AreBytes-low_bytes 2 n; count = refl; item = ap item.U16Le (le-back 2 n h) }
-spelled (item.U16Be n) h = record { are_bytes = AreBytes-reverse (low_bytes 2 n) (AreBytes-low_bytes 2 n); count = length-reverse (low_bytes 2 n); item = ap item.U16Be (be-back 2 n h) }
-spelled (item.I16Le n) h = let half = 2 ^ 15 in let below : modulo 16 n < 256 ^ 2 = modulo-lt 16 half n refl (omega arith) in record { are_bytes = AreBytes-low_bytes 2 (modulo 16 n); count = refl; item = ap item.I16Le (ap (twos_complement 16) (le-back 2 (modulo 16 n) below) ∙ twos_complement-modulo 16 half n refl refl h.sfits) }
-spelled (item.I16Be n) h = let half = 2 ^ 15 in let below : modulo 16 n < 256 ^ 2 = modulo-lt 16 half n refl (omega arith) in record { are_bytes = AreBytes-reverse (low_bytes 2 (modulo 16 n)) (AreBytes-low_bytes 2 (modulo 16 n)); count = length-reverse (low_bytes 2 (modulo 16 n)); item = ap item.I16Be (ap (twos_complement 16) (be-back 2 (modulo 16 n) below) ∙ twos_complement-modulo 16 half n refl refl h.sfits) }
-spelled (item.U32Le n) h = record { are_bytes = AreBytes-low_bytes 4 n; count = refl; item = ap item.U32Le (le-back 4 n h) }
-spelled (item.U32Be n) h = record { are_bytes = AreBytes-reverse (low_bytes 4 n) (AreBytes-low_bytes 4 n); count = length-reverse (low_bytes 4 n); item = ap item.U32Be (be-back 4 n h) }
-spelled (item.I32Le n) h = let half = 2 ^ 31 in let below : modulo 32 n < 256 ^ 4 = modulo-lt 32 half n refl (omega arith) in record { are_bytes = AreBytes-low_bytes 4 (modulo 32 n); count = refl; item = ap item.I32Le (ap (twos_complement 32) (le-back 4 (modulo 32 n) below) ∙ twos_complement-modulo 32 half n refl refl h.sfits) }
-spelled (item.I32Be n) h = let half = 2 ^ 31 in let below : modulo 32 n < 256 ^ 4 = modulo-lt 32 half n refl (omega arith) in record { are_bytes = AreBytes-reverse (low_bytes 4 (modulo 32 n)) (AreBytes-low_bytes 4 (modulo 32 n)); count = length-reverse (low_bytes 4 (modulo 32 n)); item = ap item.I32Be (ap (twos_complement 32) (be-back 4 (modulo 32 n) below) ∙ twos_complement-modulo 32 half n refl refl h.sfits) }
-spelled (item.U64Le n) h = record { are_bytes = AreBytes-low_bytes 8 n; count = refl; item = ap item.U64Le (le-back 8 n h) }
-spelled (item.U64Be n) h = record { are_bytes = AreBytes-reverse (low_bytes 8 n) (AreBytes-low_bytes 8 n); count = length-reverse (low_bytes 8 n); item = ap item.U64Be (be-back 8 n h) }
-spelled (item.I64Le n) h = let half = 2 ^ 63 in let below : modulo 64 n < 256 ^ 8 = modulo-lt 64 half n refl (omega arith) in record { are_bytes = AreBytes-low_bytes 8 (modulo 64 n); count = refl; item = ap item.I64Le (ap (twos_complement 64) (le-back 8 (modulo 64 n) below) ∙ twos_complement-modulo 64 half n refl refl h.sfits) }
-spelled (item.I64Be n) h = let half = 2 ^ 63 in let below : modulo 64 n < 256 ^ 8 = modulo-lt 64 half n refl (omega arith) in record { are_bytes = AreBytes-reverse (low_bytes 8 (modulo 64 n)) (AreBytes-low_bytes 8 (modulo 64 n)); count = length-reverse (low_bytes 8 (modulo 64 n)); item = ap item.I64Be (ap (twos_complement 64) (be-back 8 (modulo 64 n) below) ∙ twos_complement-modulo 64 half n refl refl h.sfits) }
+spelled (item.U8 n) h = low-holds (item.U8 n) 1 n refl (ap item.U8 (le-back 1 n h))
+spelled (item.I8 n) h =
+    low-holds (item.I8 n) 1 (modulo 8 n) refl (ap item.I8 (signed_le-back 8
+    (2 ^ 7) 1 n refl refl refl h.sfits))
+spelled (item.U16Le n) h = low-holds (item.U16Le n) 2 n refl (ap item.U16Le (le-back 2 n h))
+spelled (item.U16Be n) h = high-holds (item.U16Be n) 2 n refl (ap item.U16Be (be-back 2 n h))
+spelled (item.I16Le n) h =
+    low-holds (item.I16Le n) 2 (modulo 16 n) refl (ap item.I16Le (signed_le-back 16
+    (2 ^ 15) 2 n refl refl refl h.sfits))
+spelled (item.I16Be n) h =
+    high-holds (item.I16Be n) 2 (modulo 16 n) refl (ap item.I16Be (signed_be-back 16
+    (2 ^ 15) 2 n refl refl refl h.sfits))
+spelled (item.U32Le n) h = low-holds (item.U32Le n) 4 n refl (ap item.U32Le (le-back 4 n h))
+spelled (item.U32Be n) h = high-holds (item.U32Be n) 4 n refl (ap item.U32Be (be-back 4 n h))
+spelled (item.I32Le n) h =
+    low-holds (item.I32Le n) 4 (modulo 32 n) refl (ap item.I32Le (signed_le-back 32
+    (2 ^ 31) 4 n refl refl refl h.sfits))
+spelled (item.I32Be n) h =
+    high-holds (item.I32Be n) 4 (modulo 32 n) refl (ap item.I32Be (signed_be-back 32
+    (2 ^ 31) 4 n refl refl refl h.sfits))
+spelled (item.U64Le n) h = low-holds (item.U64Le n) 8 n refl (ap item.U64Le (le-back 8 n h))
+spelled (item.U64Be n) h = high-holds (item.U64Be n) 8 n refl (ap item.U64Be (be-back 8 n h))
+spelled (item.I64Le n) h =
+    low-holds (item.I64Le n) 8 (modulo 64 n) refl (ap item.I64Le (signed_le-back 64
+    (2 ^ 63) 8 n refl refl refl h.sfits))
+spelled (item.I64Be n) h =
+    high-holds (item.I64Be n) 8 (modulo 64 n) refl (ap item.I64Be (signed_be-back 64
+    (2 ^ 63) 8 n refl refl refl h.sfits))
 
 -- bytes are the lowest bytes of their number
-le-again : (count : ℕ) (bytes : List ℕ) → AreBytes bytes → length bytes ≡ count → low_bytes count (le bytes) ≡ bytes
+le-again : (count : ℕ) (bytes : List ℕ) → AreBytes bytes → length bytes ≡ count →
+    low_bytes count (le bytes) ≡ bytes
 le-again count bytes h is = ap (λ n. low_bytes n (le bytes)) (sym is) ∙ low_bytes-le bytes h
 
-be-again : (count : ℕ) (bytes : List ℕ) → AreBytes bytes → length bytes ≡ count → reverse (low_bytes count (be bytes)) ≡ bytes
+be-again : (count : ℕ) (bytes : List ℕ) → AreBytes bytes → length bytes ≡ count →
+    reverse (low_bytes count (be bytes)) ≡ bytes
 be-again count bytes h is =
-    ap reverse (le-again count (reverse bytes) (AreBytes-reverse bytes h) (length-reverse bytes ∙ is)) ∙ reverse-reverse bytes
+    let turned = le-again count (reverse bytes) (AreBytes-reverse bytes h) (length-reverse bytes ∙ is) in
+    ap reverse turned ∙ reverse-reverse bytes
 
-le-below : (count : ℕ) (bytes : List ℕ) → AreBytes bytes → length bytes ≡ count → le bytes < 256 ^ count
-le-below count bytes h is = rw (← is) (le-lt bytes h)
+-- and so are they of the number that a signed one is modulo 2 ^ w
+signed_le-again : (w half count : ℕ) (bytes : List ℕ) → 2 ^ (w - 1) ≡ half → 2 ^ w ≡ 2 * half →
+    256 ^ count ≡ 2 ^ w →
+    AreBytes bytes → length bytes ≡ count → low_bytes count (modulo w (twos_complement w (le bytes))) ≡ bytes
+signed_le-again w half count bytes low whole same h is =
+    let below : le bytes < 2 ^ w = rw (← same, ← is) (le-lt bytes h) in
+    ap (low_bytes count) (modulo-twos_complement w half (le bytes) low whole below)
+    ∙ le-again count bytes h is
 
-be-below : (count : ℕ) (bytes : List ℕ) → AreBytes bytes → length bytes ≡ count → be bytes < 256 ^ count
-be-below count bytes h is = le-below count (reverse bytes) (AreBytes-reverse bytes h) (length-reverse bytes ∙ is)
+signed_be-again : (w half count : ℕ) (bytes : List ℕ) → 2 ^ (w - 1) ≡ half → 2 ^ w ≡ 2 * half →
+    256 ^ count ≡ 2 ^ w →
+    AreBytes bytes → length bytes ≡ count →
+    reverse (low_bytes count (modulo w (twos_complement w (be bytes)))) ≡ bytes
+signed_be-again w half count bytes low whole same h is =
+    let turned = signed_le-again w half count (reverse bytes) low whole same
+    (AreBytes-reverse bytes h) (length-reverse bytes ∙ is) in
+    ap reverse turned ∙ reverse-reverse bytes
 
 -- the bytes of the item that bytes hold are those bytes
-spell-unspell : (kind : Kind) (bytes : List ℕ) → AreBytes bytes → length bytes ≡ width kind → spell (unspell kind bytes) ≡ bytes
+spell-unspell : (kind : Kind) (bytes : List ℕ) → AreBytes bytes → length bytes ≡ width kind →
+    spell (unspell kind bytes) ≡ bytes
 spell-unspell kind.U8 bytes h count = le-again 1 bytes h count
-spell-unspell kind.I8 bytes h count = ap (low_bytes 1) (modulo-twos_complement 8 (2 ^ 7) (le bytes) refl refl (le-below 1 bytes h count)) ∙ le-again 1 bytes h count
+spell-unspell kind.I8 bytes h count = signed_le-again 8 (2 ^ 7) 1 bytes refl refl refl h count
 spell-unspell kind.U16Le bytes h count = le-again 2 bytes h count
 spell-unspell kind.U16Be bytes h count = be-again 2 bytes h count
-spell-unspell kind.I16Le bytes h count = ap (low_bytes 2) (modulo-twos_complement 16 (2 ^ 15) (le bytes) refl refl (le-below 2 bytes h count)) ∙ le-again 2 bytes h count
-spell-unspell kind.I16Be bytes h count = ap reverse (ap (low_bytes 2) (modulo-twos_complement 16 (2 ^ 15) (be bytes) refl refl (be-below 2 bytes h count))) ∙ be-again 2 bytes h count
+spell-unspell kind.I16Le bytes h count = signed_le-again 16 (2 ^ 15) 2 bytes refl refl refl h count
+spell-unspell kind.I16Be bytes h count = signed_be-again 16 (2 ^ 15) 2 bytes refl refl refl h count
 spell-unspell kind.U32Le bytes h count = le-again 4 bytes h count
 spell-unspell kind.U32Be bytes h count = be-again 4 bytes h count
-spell-unspell kind.I32Le bytes h count = ap (low_bytes 4) (modulo-twos_complement 32 (2 ^ 31) (le bytes) refl refl (le-below 4 bytes h count)) ∙ le-again 4 bytes h count
-spell-unspell kind.I32Be bytes h count = ap reverse (ap (low_bytes 4) (modulo-twos_complement 32 (2 ^ 31) (be bytes) refl refl (be-below 4 bytes h count))) ∙ be-again 4 bytes h count
+spell-unspell kind.I32Le bytes h count = signed_le-again 32 (2 ^ 31) 4 bytes refl refl refl h count
+spell-unspell kind.I32Be bytes h count = signed_be-again 32 (2 ^ 31) 4 bytes refl refl refl h count
 spell-unspell kind.U64Le bytes h count = le-again 8 bytes h count
 spell-unspell kind.U64Be bytes h count = be-again 8 bytes h count
-spell-unspell kind.I64Le bytes h count = ap (low_bytes 8) (modulo-twos_complement 64 (2 ^ 63) (le bytes) refl refl (le-below 8 bytes h count)) ∙ le-again 8 bytes h count
-spell-unspell kind.I64Be bytes h count = ap reverse (ap (low_bytes 8) (modulo-twos_complement 64 (2 ^ 63) (be bytes) refl refl (be-below 8 bytes h count))) ∙ be-again 8 bytes h count
+spell-unspell kind.I64Le bytes h count = signed_le-again 64 (2 ^ 63) 8 bytes refl refl refl h count
+spell-unspell kind.I64Be bytes h count = signed_be-again 64 (2 ^ 63) 8 bytes refl refl refl h count
 
 -- the bytes of items have the widths of their kinds
-pub length-spell_all : (items : List Item) → All InType items → length (spell_all items) ≡ widths (map kind_of items)
+pub length-spell_all : (items : List Item) → All InType items →
+    length (spell_all items) ≡ widths (map kind_of items)
 length-spell_all [] h = refl
 length-spell_all (i ∷ items) h =
     length-append (spell i) (spell_all items)
@@ -138,7 +205,8 @@ read_back [] behind h = refl
 read_back (i ∷ items) behind h =
     let first = spelled i (All-head InType i items h) in
     let others = spell_all items ++ behind in
-    let whole : (spell i ++ spell_all items) ++ behind ≡ spell i ++ others = append_assoc (spell i) (spell_all items) behind in
+    let whole : (spell i ++ spell_all items) ++ behind
+    ≡ spell i ++ others = append_assoc (spell i) (spell_all items) behind in
     let front : take (width (kind_of i)) (spell i ++ others) ≡ spell i =
     ap (λ n. take n (spell i ++ others)) (sym first.count) ∙ take-append_seam (spell i) others in
     let back : drop (width (kind_of i)) (spell i ++ others) ≡ others =
@@ -148,12 +216,14 @@ read_back (i ∷ items) behind h =
 pub remains : (items : List Item) (behind : List ℕ) → All InType items →
     drop (widths (map kind_of items)) (spell_all items ++ behind) ≡ behind
 remains items behind h =
-    ap (λ n. drop n (spell_all items ++ behind)) (sym (length-spell_all items h)) ∙ drop-append_seam (spell_all items) behind
+    ap (λ n. drop n (spell_all items ++ behind)) (sym (length-spell_all items h))
+    ∙ drop-append_seam (spell_all items) behind
 
 pub item_law : ItemLaw
 item_law = record {
   spelled = spelled;
-  only = λ i bytes h held. sym (spell-unspell (kind_of i) bytes held.are_bytes held.count) ∙ ap spell held.item;
+  only = λ i bytes h held.
+      sym (spell-unspell (kind_of i) bytes held.are_bytes held.count) ∙ ap spell held.item;
   apart = λ xs ys hx hy kinds bytes.
       sym (read_back xs [] hx)
       ∙ ap (λ ks. unspell_all ks (spell_all xs ++ [])) kinds

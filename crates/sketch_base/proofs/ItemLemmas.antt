@@ -10,12 +10,15 @@ pub widths-push : (kinds : List Kind) (kind : Kind) → widths (kinds ++ kind �
 widths-push [] kind = omega arith
 widths-push (first ∷ kinds) kind = omega (arith, widths-push kinds kind)
 
-pub spell_all-push : (items : List Item) (item : Item) → spell_all (items ++ item ∷ []) ≡ spell_all items ++ spell item
+pub spell_all-push : (items : List Item) (item : Item) →
+    spell_all (items ++ item ∷ []) ≡ spell_all items ++ spell item
 spell_all-push [] item = append-nil (spell item)
 spell_all-push (first ∷ items) item =
-    ap (λ bytes. spell first ++ bytes) (spell_all-push items item) ∙ sym (append_assoc (spell first) (spell_all items) (spell item))
+    ap (λ bytes. spell first ++ bytes) (spell_all-push items item)
+    ∙ sym (append_assoc (spell first) (spell_all items) (spell item))
 
-pub length-unspell_all : (kinds : List Kind) (bytes : List ℕ) → length (unspell_all kinds bytes) ≡ length kinds
+pub length-unspell_all : (kinds : List Kind) (bytes : List ℕ) →
+    length (unspell_all kinds bytes) ≡ length kinds
 length-unspell_all [] bytes = refl
 length-unspell_all (kind ∷ kinds) bytes = ap suc (length-unspell_all kinds (drop (width kind) bytes))
 
@@ -37,11 +40,13 @@ widths-take-le (suc n) (kind ∷ kinds) = omega (arith, widths-take-le n kinds)
 -- one kind more, and one item more
 pub widths-more : (kinds : List Kind) (i : ℕ) (kind : Kind) → i < length kinds →
     widths (take (i + 1) kinds) ≡ widths (take i kinds) + width (get_or kinds i kind)
-widths-more kinds i kind within = ap widths (take_more kinds i kind within) ∙ widths-push (take i kinds) (get_or kinds i kind)
+widths-more kinds i kind within = ap widths (take_more kinds i kind within)
+    ∙ widths-push (take i kinds) (get_or kinds i kind)
 
 pub spell_all-more : (items : List Item) (i : ℕ) (item : Item) → i < length items →
     spell_all (take (i + 1) items) ≡ spell_all (take i items) ++ spell (get_or items i item)
-spell_all-more items i item within = ap spell_all (take_more items i item within) ∙ spell_all-push (take i items) (get_or items i item)
+spell_all-more items i item within = ap spell_all (take_more items i item within)
+    ∙ spell_all-push (take i items) (get_or items i item)
 
 -- behind what is written stand the bytes of the items so far, and then those of one more
 pub written-more : (before bytes : List ℕ) (items : List Item) (i : ℕ) (item : Item) → i < length items →
@@ -53,16 +58,20 @@ written-more before bytes items i item within written =
     ∙ ap (λ back. before ++ back) (sym (spell_all-more items i item within))
 
 -- the next place takes its item
-pub placed-more : (kinds : List Kind) (bytes : List ℕ) (places : List Item) (i : ℕ) (kind : Kind) (item : Item) →
+pub placed-more : (kinds : List Kind) (bytes : List ℕ) (places : List Item) (i : ℕ) (kind : Kind)
+    (item : Item) →
     i < length kinds → length kinds ≡ length places →
-    item ≡ unspell (get_or kinds i kind) (take (width (get_or kinds i kind)) (drop (widths (take i kinds)) bytes)) →
+    item ≡ unspell (get_or kinds i kind) (take (width (get_or kinds i kind)) (drop (widths
+    (take i kinds)) bytes)) →
     set (unspell_all (take i kinds) bytes ++ drop i places) i item
     ≡ unspell_all (take (i + 1) kinds) bytes ++ drop (i + 1) places
 placed-more kinds bytes places i kind item within lengths is =
     let front = unspell_all (take i kinds) bytes in
-    let count : length front ≡ i = length-unspell_all (take i kinds) bytes ∙ length-take-le i kinds (omega arith) in
+    let count : length front ≡ i = length-unspell_all (take i kinds) bytes
+    ∙ length-take-le i kinds (omega arith) in
     let next : drop i places ≡ get_or places i item ∷ drop (i + 1) places =
-    drop-cons places i item (omega arith) ∙ ap (λ n. get_or places i item ∷ drop n places) (sym (add-one i)) in
+    drop-cons places i item (omega arith)
+    ∙ ap (λ n. get_or places i item ∷ drop n places) (sym (add-one i)) in
     let all : unspell_all (take (i + 1) kinds) bytes ≡ front ++ item ∷ [] =
     ap (λ ks. unspell_all ks bytes) (take_more kinds i kind within)
     ∙ unspell_all-push (take i kinds) (get_or kinds i kind) bytes ∙ ap (λ x. front ++ x ∷ []) (sym is) in

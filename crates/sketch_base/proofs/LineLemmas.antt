@@ -13,5 +13,6 @@ pub contexts_text-is : {T : Type 0} (context : T → ContextValue) (first : T) (
     ≡ contexts_text (map context all)
 contexts_text-is context first others all n whole enough =
     rw (whole, take_all n others enough, flat_map-map (λ other. codes ", " ++ pair_text other) context others)
-    (ap (λ pair. codes ", context: { " ++ pair ++ flat_map (λ other. codes ", " ++ pair_text (context other)) others ++ codes " }")
+    (ap (λ pair. codes ", context: { " ++ pair
+    ++ flat_map (λ other. codes ", " ++ pair_text (context other)) others ++ codes " }")
     (sym (append_assoc (context first).key (codes ": ") (context first).text)))

@@ -11,7 +11,8 @@ some_text (Some printed) = (printed, refl)
 
 -- the numbers behind the first one, each after a comma
 debug_items-is : (numbers : List ℕ) →
-    debug_items (λ n. Some (decimal n)) comma_space numbers ≡ Some (flat_map (λ other. codes ", " ++ decimal other) numbers)
+    debug_items (λ n. Some (decimal n)) comma_space numbers
+    ≡ Some (flat_map (λ other. codes ", " ++ decimal other) numbers)
 debug_items-is [] = refl
 debug_items-is (first ∷ others) = rw (debug_items-is others) refl
 

@@ -42,7 +42,8 @@ pair_text context = context.key ++ codes ": " ++ context.text
 abbrev pub contexts_text : List ContextValue → List ℕ
 contexts_text [] = []
 contexts_text (first ∷ others) =
-    codes ", context: { " ++ pair_text first ++ flat_map (λ other. codes ", " ++ pair_text other) others ++ codes " }"
+    codes ", context: { " ++ pair_text first
+    ++ flat_map (λ other. codes ", " ++ pair_text other) others ++ codes " }"
 
 -- the message as it is displayed: nothing for an empty one, else ` => ` and the message
 abbrev pub message_text : List ℕ → List ℕ

@@ -20,7 +20,8 @@ Reads count value before result after = MatchResult result
 -- were, and nothing remains.
 abbrev pub ReadsItems : List Kind → List ℕ → List Item → Result (Unit {0}) Short → List ℕ → List Item → Type 0
 ReadsItems kinds before places result after placed = MatchResult result
-    (λ _. (widths kinds ≤ length before) × (placed ≡ unspell_all kinds before) × (after ≡ drop (widths kinds) before))
+    (λ _. (widths kinds ≤ length before) × (placed ≡ unspell_all kinds before) × (after
+    ≡ drop (widths kinds) before))
     (λ short. (short.read < length kinds)
     × (widths (take short.read kinds) ≤ length before)
     × (length before < widths (take (short.read + 1) kinds))

@@ -27,7 +27,8 @@ insufficient_data_of_text context text = codes "insufficient data (" ++ context 
 
 abbrev pub invalid_family_text : ℕ → ℕ → List ℕ → List ℕ
 invalid_family_text expected actual name =
-    codes "invalid family: expected " ++ decimal expected ++ codes " (" ++ name ++ codes "), got " ++ decimal actual
+    codes "invalid family: expected " ++ decimal expected ++ codes " (" ++ name
+    ++ codes "), got " ++ decimal actual
 
 abbrev pub invalid_preamble_longs_text : List ℕ → ℕ → List ℕ
 invalid_preamble_longs_text expected actual =

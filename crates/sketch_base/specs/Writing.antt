@@ -9,7 +9,8 @@ use Rattle.sketch_base.specs.Written.{Written}
 
 -- A write of bytes: they stand behind the others, or the write is refused and the bytes are as before. It is
 -- refused only where there is no room for them, and the room never shrinks.
-pub record Writes (bytes : List ℕ) (before : Written) (result : Result (Unit {0}) AllocError) (after : Written) : Type 0 where
+pub record Writes (bytes : List ℕ) (before : Written) (result : Result (Unit {0}) AllocError)
+    (after : Written) : Type 0 where
   pub outcome : MatchResult result
       (λ _. after.bytes ≡ before.bytes ++ bytes)
       (λ _. (after.bytes ≡ before.bytes) × (before.room < length (before.bytes ++ bytes)))
@@ -22,7 +23,8 @@ accepted_items items (Err stopped) = take stopped.accepted items
 
 -- A write of items: the bytes of those that are accepted stand behind the others, in order. It stops only at an
 -- item for which there is no room, and the room never shrinks.
-pub record WritesItems (items : List Item) (before : Written) (result : Result (Unit {0}) Stopped) (after : Written) : Type 0 where
+pub record WritesItems (items : List Item) (before : Written) (result : Result (Unit {0}) Stopped)
+    (after : Written) : Type 0 where
   pub written : after.bytes ≡ before.bytes ++ spell_all (accepted_items items result)
   pub in_type : All InType (accepted_items items result)
   pub stopped : IfErr result (λ stopped. (stopped.accepted < length items)

@@ -64,7 +64,15 @@ impl Model for Error {
 
 impl Error {
     ghost use Rattle.sketch_base.specs.ErrorValue.{in_context, plain, unheard};
-    ghost use Rattle.sketch_base.specs.Refusals.{insufficient_data_text, insufficient_data_of_text, invalid_family_text, invalid_preamble_ints_text, invalid_preamble_longs_text, Prints, Refuses};
+    ghost use Rattle.sketch_base.specs.Refusals.{
+      insufficient_data_text,
+      insufficient_data_of_text,
+      invalid_family_text,
+      invalid_preamble_ints_text,
+      invalid_preamble_longs_text,
+      Prints,
+      Refuses,
+    };
 
     /// An error with this kind and message, and no context.
     pub fn new(kind: ErrorKind, message: String) -> Error
@@ -227,7 +235,8 @@ fn write_contexts<W: fmt::Write>(
     f: &mut fmt::Formatter<W>,
 ) -> fmt::Result
     ensures { DisplaysOnOk W.write_str_gives f.old result
-        (Some (contexts_text (map (λ c. record { key = c.0.now; text = string_bytes c.1 }) contexts.now))) f.new }
+        (Some (contexts_text
+        (map (λ c. record { key = c.0.now; text = string_bytes c.1 }) contexts.now))) f.new }
 {
     let Some(((key, text), others)) = contexts.split_first() else {
         return Ok(());

@@ -19,7 +19,8 @@ use std::ops::Bound::{Excluded, Included, Unbounded};
 
 /// The refusal of data that ended too early, in the part that the tag names, as the error says.
 pub fn insufficient_data(alloc: Global, tag: &'static str, error: io::Error) -> Error
-    ensures { (text : List ℕ) × Refuses ErrorKind.InvalidData (insufficient_data_of_text tag.entry.now text) result }
+    ensures { (text : List ℕ)
+        × Refuses ErrorKind.InvalidData (insufficient_data_of_text tag.entry.now text) result }
 {
     Error::insufficient_data_of(alloc, tag, error)
 }
@@ -45,7 +46,8 @@ pub fn ensure_serial_version_is(alloc: Global, expected: u8, actual: u8) -> Resu
 ///
 /// At any other: `InvalidData`, or `OutOfMemory` where the text finds no memory.
 pub fn ensure_preamble_longs_in(alloc: Global, expected: &[u8], actual: u8) -> Result<(), Error>
-    ensures { AcceptsExactly (Contains expected.now actual) (invalid_preamble_longs_text expected.now actual) result }
+    ensures { AcceptsExactly (Contains expected.now actual)
+        (invalid_preamble_longs_text expected.now actual) result }
 {
     if expected.contains(&actual) {
         Ok(())
@@ -87,7 +89,8 @@ fn range_without(
     x: u8,
 ) -> Option<Result<String, AllocError>>
     ensures { MatchOption result (IsTrue ((range start end).has x)) (λ printed.
-        (IsTrue ((range start end).has x) → ⊥) × IfOk printed (λ text. string_bytes text ≡ (range start end).text)) }
+        (IsTrue ((range start end).has x) → ⊥)
+        × IfOk printed (λ text. string_bytes text ≡ (range start end).text)) }
 {
     match (start, end) {
         (Included(a), Included(b)) if x < a || b < x => Some(format!(in alloc; "[{a}, {b}]")),

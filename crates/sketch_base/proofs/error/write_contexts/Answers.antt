@@ -7,7 +7,8 @@ pub returns : goal.returns
 returns g c plain ok =
     let whole : c.args.contexts.now ≡ c.in-Some.field-0-0.now ∷ c.in-Some.others.now = search rules in
     let text = contexts_text-is (λ pair. record { key = pair.0.now; text = string_bytes pair.1 })
-    c.in-Some.field-0-0.now c.in-Some.others.now c.args.contexts.now c.loop-key.key-index whole c.loop-key-test.false in
+    c.in-Some.field-0-0.now c.in-Some.others.now c.args.contexts.now c.loop-key.key-index
+    whole c.loop-key-test.false in
     let first = c.in_ok-write.ensures.writes plain refl in
     let others = c.loop-key.invariant first.plain in
     let last = c.write-2.ensures.writes others.plain ok in

@@ -6,4 +6,5 @@ use Rattle.sketch_base.proofs.error.write_contexts.Given as goal
 
 abbrev pub invariant-loop-key : goal.invariant-loop-key
 invariant-loop-key g l = IsPlainFormatter l.initial.f → HasWritten g.W.Write.write_str_gives l.initial.f
-    (flat_map (λ c. codes ", " ++ pair_text (record { key = c.0.now; text = string_bytes c.1 })) (take l.key-index l.others)) l.f
+    (flat_map (λ c. codes ", " ++ pair_text (record { key = c.0.now; text = string_bytes c.1 }))
+    (take l.key-index l.others)) l.f

@@ -19,7 +19,8 @@ taken empty filled items behind read none written is = rw (is, written, none) re
 pub unreachable-requires : goal.unreachable-requires
 unreachable-requires c =
     let short = c.in-Err-read_items.ensures in
-    let whole = taken _ _ _ _ _ (ap (λ (writer : Written). writer.bytes) c.in_ok-writer.ensures) c.in_default.ensures.written
+    let whole = taken _ _ _ _ _ (ap (λ
+    (writer : Written). writer.bytes) c.in_ok-writer.ensures) c.in_default.ensures.written
     (c.new-reader.ensures ∙ c.deref.ensures.value ∙ c.in_ok-extend_from_slice.ensures.items
     ∙ ap (λ bytes. bytes ++ c.args.behind.now) c.into_bytes-bytes.ensures) in
     let fits = length-spell_all c.args.items.now c.in_default.ensures.in_type in
@@ -34,16 +35,22 @@ unreachable-requires c =
 
 pub returns-clause-items : goal.returns-clause-items
 returns-clause-items c =
-    let whole = taken _ _ _ _ _ (ap (λ (writer : Written). writer.bytes) c.in_ok-writer.ensures) c.in_default.ensures.written
+    let whole = taken _ _ _ _ _ (ap (λ
+    (writer : Written). writer.bytes) c.in_ok-writer.ensures) c.in_default.ensures.written
     (c.new-reader.ensures ∙ c.deref.ensures.value ∙ c.in_ok-extend_from_slice.ensures.items
     ∙ ap (λ bytes. bytes ++ c.args.behind.now) c.into_bytes-bytes.ensures) in
     let same : c.read_items.new.out ≡ c.args.items.now =
-    rw (c.in_default-read_items.ensures.1, whole, c.requires.kinds) (read_back c.args.items.now c.args.behind.now c.in_default.ensures.in_type) in
+    rw (
+      c.in_default-read_items.ensures.1,
+      whole,
+      c.requires.kinds,
+    ) (read_back c.args.items.now c.args.behind.now c.in_default.ensures.in_type) in
     anyhow _ _ same
 
 pub returns-clause-rest : goal.returns-clause-rest
 returns-clause-rest c =
-    let whole = taken _ _ _ _ _ (ap (λ (writer : Written). writer.bytes) c.in_ok-writer.ensures) c.in_default.ensures.written
+    let whole = taken _ _ _ _ _ (ap (λ
+    (writer : Written). writer.bytes) c.in_ok-writer.ensures) c.in_default.ensures.written
     (c.new-reader.ensures ∙ c.deref.ensures.value ∙ c.in_ok-extend_from_slice.ensures.items
     ∙ ap (λ bytes. bytes ++ c.args.behind.now) c.into_bytes-bytes.ensures) in
     let left : c.remaining.result.now ≡ c.args.behind.now =

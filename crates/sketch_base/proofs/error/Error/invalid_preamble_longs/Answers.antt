@@ -7,6 +7,8 @@ use Rattle.sketch_base.proofs.error.Error.invalid_preamble_longs.Goals as goal
 pub returns : goal.returns
 returns c =
     let Made : Option (List ℕ) → Type 0 = λ list. IfOk c.format.result (λ made. IfSome
-    (Some (codes "invalid preamble longs: expected one of ") ++? (list ++? (Some (codes ", got ") ++? Some (decimal c.args.actual))))
+    (Some (codes "invalid preamble longs: expected one of ")
+    ++? (list ++? (Some (codes ", got ") ++? Some (decimal c.args.actual))))
     (λ bytes. string_bytes made ≡ bytes)) in
-    c.refusal.ensures _ (simp append_assoc (subst Made (debug_list-is c.args.expected.now) c.format.ensures.ok))
+    let made = subst Made (debug_list-is c.args.expected.now) c.format.ensures.ok in
+    c.refusal.ensures _ (simp append_assoc made)

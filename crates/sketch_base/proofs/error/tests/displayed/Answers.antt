@@ -18,10 +18,12 @@ pub returns : goal.returns
 returns c =
     let first = c.in-Ok-with_context.ensures.added in
     let second = c.in-Ok-with_context-2.ensures.added in
-    let made : c.in-Ok-with_context-2.error ≡ in_context (in_context (plain InvalidData (codes "parsing failed"))
+    let made : c.in-Ok-with_context-2.error
+    ≡ in_context (in_context (plain InvalidData (codes "parsing failed"))
     (codes "index") (codes "42")) (codes "file") (codes "foo") =
     rw (second.2, second.1, first.2, first.1, forty_two, c.new-error.ensures, c.in-Ok.ensures.ok) refl in
-    let Shown : ErrorValue → Type 0 = λ error. IfOk c.to_string.result (λ text. string_bytes text ≡ line error) in
+    let Shown : ErrorValue →
+    Type 0 = λ error. IfOk c.to_string.result (λ text. string_bytes text ≡ line error) in
     rw c.ok.ensures.value (kept c.to_string.result (λ text. string_bytes text
     ≡ codes "InvalidData, context: { index: 42, file: foo } => parsing failed")
     (subst Shown made c.to_string.ensures.ok))

@@ -23,6 +23,7 @@ loop-read-preserved c =
     record {
       fit = omega (arith, read.0, left, more);
       rest = rw (more, ← drop-drop, ← loop.invariant.rest) read.2;
-      placed = rw loop.invariant.placed (placed-more c.args.kinds.now c.args.self.now c.args.out.now loop.read U8 c.in-Ok.item
+      placed = rw loop.invariant.placed
+          (placed-more c.args.kinds.now c.args.self.now c.args.out.now loop.read U8 c.in-Ok.item
           within c.requires (rw (← loop.invariant.rest) read.1));
     }

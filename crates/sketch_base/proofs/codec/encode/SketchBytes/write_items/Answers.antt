@@ -23,8 +23,10 @@ loop-accepted-preserved c =
     let loop = c.loop-accepted in
     let done = c.in_default.ensures in
     record {
-      written = done.writes.outcome ∙ written-more c.args.self.now.bytes loop.self.bytes c.args.items.now loop.accepted (U8 0)
+      written = done.writes.outcome
+          ∙ written-more c.args.self.now.bytes loop.self.bytes c.args.items.now loop.accepted (U8 0)
           c.loop-accepted-test.true loop.invariant.written;
-      in_type = All-more InType c.args.items.now loop.accepted (U8 0) c.loop-accepted-test.true loop.invariant.in_type done.in_type;
+      in_type = All-more InType c.args.items.now loop.accepted
+          (U8 0) c.loop-accepted-test.true loop.invariant.in_type done.in_type;
       room = omega (arith, done.writes.room);
     }
