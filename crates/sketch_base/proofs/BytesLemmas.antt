@@ -64,7 +64,8 @@ bytes_low_first-is : (i count n : ℕ) → bytes_low_first i count n ≡ low_byt
 bytes_low_first-is i zero n = refl
 bytes_low_first-is i (suc count) n =
     let others = bytes_low_first-is (suc i) count n in
-    let further : n / 256 ^ i / 256 ≡ n / 256 ^ suc i = div-div-eq-div-mul n (256 ^ i) 256 ∙ ap (λ p. n / p) (sym (pow-suc 256 i)) in
+    let further : n / 256 ^ i / 256 ≡ n / 256 ^ suc i =
+    div-div-eq-div-mul n (256 ^ i) 256 ∙ ap (λ p. n / p) (sym (pow-suc 256 i)) in
     rw (others, further, byte_at-is i n) refl
   where
     byte_at-is : (i n : ℕ) → byte_at i n ≡ n / 256 ^ i % 256
@@ -75,7 +76,8 @@ pub to_le_bytes-is : (w : Width) (n : ℕ) → to_le_bytes w n ≡ low_bytes (by
 to_le_bytes-is w n = bytes_low_first-is 0 (byte_len w) n ∙ ap (low_bytes (byte_len w)) (omega arith)
 
 -- the last byte counts by its place
-weighted_from-push : (bytes : List ℕ) (i b : ℕ) → weighted_from i (bytes ++ b ∷ []) ≡ weighted_from i bytes + b * 256 ^ (i + length bytes)
+weighted_from-push : (bytes : List ℕ) (i b : ℕ) →
+    weighted_from i (bytes ++ b ∷ []) ≡ weighted_from i bytes + b * 256 ^ (i + length bytes)
 weighted_from-push [] i b = plain (b * 256 ^ i) ∙ ap (λ n. 0 + b * 256 ^ n) (sym (add-zero i))
   where
     plain : (v : ℕ) → v + 0 ≡ 0 + v
@@ -83,10 +85,12 @@ weighted_from-push [] i b = plain (b * 256 ^ i) ∙ ap (λ n. 0 + b * 256 ^ n) (
 weighted_from-push (a ∷ bytes) i b =
     let others = weighted_from-push bytes (i + 1) b in
     let place : i + 1 + length bytes ≡ i + suc (length bytes) = omega arith in
-    rw (others, place) (sym (add_assoc (a * 256 ^ i) (weighted_from (i + 1) bytes) (b * 256 ^ (i + suc (length bytes)))))
+    rw (others, place)
+    (sym (add_assoc (a * 256 ^ i) (weighted_from (i + 1) bytes) (b * 256 ^ (i + suc (length bytes)))))
 
 -- the library's number of the first k + 1 bytes
-sum_through-is : (bytes : List ℕ) (k : ℕ) → k < length bytes → sum_through (λ i. byte_worth i (get_or bytes i 0)) k ≡ le (take (k + 1) bytes)
+sum_through-is : (bytes : List ℕ) (k : ℕ) → k < length bytes →
+    sum_through (λ i. byte_worth i (get_or bytes i 0)) k ≡ le (take (k + 1) bytes)
 sum_through-is [] k h = absurd (omega arith)
 sum_through-is (b ∷ bytes) zero h = omega arith
 sum_through-is (b ∷ bytes) (suc k) h =
@@ -94,7 +98,8 @@ sum_through-is (b ∷ bytes) (suc k) h =
     let before : k < length (b ∷ bytes) = omega arith in
     let last = get_or bytes k 0 in
     let front = length-take-le (k + 1) (b ∷ bytes) (omega arith) in
-    let place : 256 ^ suc k ≡ 256 ^ (0 + length (take (k + 1) (b ∷ bytes))) = ap (λ n. 256 ^ n) (omega arith) in
+    let place : 256 ^ suc k ≡ 256 ^ (0 + length (take (k + 1) (b ∷ bytes))) =
+    ap (λ n. 256 ^ n) (omega arith) in
     let reads : get_or (b ∷ bytes) (k + 1) 0 ≡ last = ap (λ n. get_or (b ∷ bytes) n 0) (add-one k) in
     ap (λ v. v + last * 256 ^ suc k) (sum_through-is (b ∷ bytes) k before)
     ∙ ap (λ p. le (take (k + 1) (b ∷ bytes)) + last * p) place
@@ -103,7 +108,8 @@ sum_through-is (b ∷ bytes) (suc k) h =
     ∙ ap le (sym (take_more (b ∷ bytes) (k + 1) 0 within))
     ∙ ap (λ n. le (take n (b ∷ bytes))) (omega arith)
 
-pub from_le_bytes-is : (w : Width) (bytes : List ℕ) → length bytes ≡ byte_len w → 0 < byte_len w → from_le_bytes w bytes ≡ le bytes
+pub from_le_bytes-is : (w : Width) (bytes : List ℕ) → length bytes ≡ byte_len w → 0 < byte_len w →
+    from_le_bytes w bytes ≡ le bytes
 from_le_bytes-is w bytes h p =
     sum_through-is bytes (byte_len w - 1) (omega arith)
     ∙ ap le (ap (λ n. take n bytes) (omega arith) ∙ take_all (length bytes) bytes (omega arith))

@@ -21,8 +21,8 @@ abbrev pub accepted_items : List Item → Result (Unit {0}) Stopped → List Ite
 accepted_items items (Ok _) = items
 accepted_items items (Err stopped) = take stopped.accepted items
 
--- A write of items: the bytes of those that are accepted stand behind the others, in order. It stops only at an
--- item for which there is no room, and the room never shrinks.
+-- A write of items: the bytes of those that are accepted stand behind the others, in order, and each of these
+-- lies in its type. It stops only at an item for which there is no room, and the room never shrinks.
 pub record WritesItems (items : List Item) (before : Written) (result : Result (Unit {0}) Stopped)
     (after : Written) : Type 0 where
   pub written : after.bytes ≡ before.bytes ++ spell_all (accepted_items items result)
