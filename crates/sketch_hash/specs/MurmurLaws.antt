@@ -1,9 +1,9 @@
 -- The laws of Murmur's writes.
 use Rattle.std.specs.Prelude.{◌≡◌, ℕ, List, [], ◌++◌, refl}
-use Rattle.std.proofs.Common.{arith}
+use Rattle.std.proofs.Common.{ap, ◌∙◌, arith}
 use Rattle.sketch_hash.specs.Pieces.{State}
 use Rattle.sketch_hash.specs.PiecesLaws.{advanced-append}
-use Rattle.sketch_hash.specs.Murmur.{block_words, step, murmur_after}
+use Rattle.sketch_hash.specs.Murmur.{block_words, step, murmur_start, murmur_after, MurmurStands}
 
 -- two writes leave what one write of the joined bytes leaves
 pub murmur_after-append : (state : State (ℕ × ℕ)) (xs ys : List ℕ) → murmur_after (murmur_after state xs) ys ≡ murmur_after state (xs ++ ys)
@@ -14,3 +14,9 @@ murmur_after-append state xs ys = advanced-append 16 block_words step (omega ari
 pub murmur_after-nil : (state : State (ℕ × ℕ)) → murmur_after state [] ≡ state
 unfolding murmur_after
 murmur_after-nil state = refl
+
+-- a write takes a hasher that stands for bytes to one that stands for them and the written ones
+pub murmur_stands-after : (seed : ℕ) (before bytes : List ℕ) (state next : State (ℕ × ℕ)) →
+    MurmurStands state seed before → next ≡ murmur_after state bytes → MurmurStands next seed (before ++ bytes)
+murmur_stands-after seed before bytes state next stands written =
+    written ∙ ap (λ s. murmur_after s bytes) stands ∙ murmur_after-append (murmur_start seed) before bytes

@@ -1,9 +1,9 @@
 -- The laws of XXH64's writes.
 use Rattle.std.specs.Prelude.{◌≡◌, ℕ, List, [], ◌++◌, refl}
-use Rattle.std.proofs.Common.{arith}
+use Rattle.std.proofs.Common.{ap, ◌∙◌, arith}
 use Rattle.sketch_hash.specs.Pieces.{State}
 use Rattle.sketch_hash.specs.PiecesLaws.{advanced-append}
-use Rattle.sketch_hash.specs.Xxh64.{Lanes, stripe_step, xxh64_after}
+use Rattle.sketch_hash.specs.Xxh64.{Lanes, stripe_step, xxh64_start, xxh64_after, Xxh64Stands}
 
 -- two writes leave what one write of the joined bytes leaves
 pub xxh64_after-append : (state : State Lanes) (xs ys : List ℕ) → xxh64_after (xxh64_after state xs) ys ≡ xxh64_after state (xs ++ ys)
@@ -14,3 +14,9 @@ xxh64_after-append state xs ys = advanced-append 32 (λ stripe. stripe) stripe_s
 pub xxh64_after-nil : (state : State Lanes) → xxh64_after state [] ≡ state
 unfolding xxh64_after
 xxh64_after-nil state = refl
+
+-- a write takes a hasher that stands for bytes to one that stands for them and the written ones
+pub xxh64_stands-after : (seed : ℕ) (before bytes : List ℕ) (state next : State Lanes) →
+    Xxh64Stands state seed before → next ≡ xxh64_after state bytes → Xxh64Stands next seed (before ++ bytes)
+xxh64_stands-after seed before bytes state next stands written =
+    written ∙ ap (λ s. xxh64_after s bytes) stands ∙ xxh64_after-append (xxh64_start seed) before bytes

@@ -1,6 +1,6 @@
 //! XXH64, after Yann Collet's xxHash specification.
 
-ghost use Rattle.std.specs.Prelude.{◌≡◌, ℕ, List, [], ◌∷◌, ◌++◌};
+ghost use Rattle.std.specs.Prelude.{◌≡◌, ℕ, List, [], ◌∷◌, ◌++◌, nat_lt};
 ghost use Rattle.std.specs.List.{fold};
 ghost use Rattle.sketch_base.specs.Bytes.{eight};
 ghost use Rattle.sketch_hash.specs.Pieces.{State};
@@ -70,7 +70,7 @@ impl XxHash64 {
         ensures finished { result ≡ xxh64_finished self.now }
         ensures stands { (seed : ℕ) (bytes : List ℕ) → Xxh64Stands self.now seed bytes → result ≡ xxh64 seed bytes }
     {
-        let hash = if self.total < STRIPE_BYTES {
+        let hash = if self.is_short() {
             self.seed.wrapping_add(PRIME5)
         } else {
             self.merged()
@@ -83,6 +83,13 @@ impl XxHash64 {
         ensures { result ≡ xxh64 seed (eight input) }
     {
         avalanche(eight_step(seed.wrapping_add(PRIME5).wrapping_add(8), input))
+    }
+
+    /// Whether the hash starts from the seed alone: where less than a stripe was counted.
+    fn is_short(&self) -> bool
+        ensures { result ≡ nat_lt self.now.total 32 }
+    {
+        self.total < STRIPE_BYTES
     }
 
     /// The four lanes as one word.

@@ -1,6 +1,6 @@
 use Rattle.std.proofs.Common.{◌≡◌, ◌∙◌, ap, arith}
 use Rattle.sketch_hash.specs.Murmur.{murmur_after, murmur_start, step, block_words}
-use Rattle.sketch_hash.specs.MurmurLaws.{murmur_after-append}
+use Rattle.sketch_hash.specs.MurmurLaws.{murmur_stands-after}
 use Rattle.sketch_hash.proofs.PiecesLemmas.{fold-advanced}
 use Rattle.sketch_hash.proofs.hash.murmurhash.MurmurHash3X64128Hasher.write.Goals as goal
 
@@ -12,5 +12,5 @@ pub returns-clause-after : goal.returns-clause-after
 returns-clause-after c = written c
 
 pub returns-clause-stands : goal.returns-clause-stands
-returns-clause-stands c = λ seed before stands.
-    written c ∙ ap (λ s. murmur_after s c.args.bytes.now) stands ∙ murmur_after-append (murmur_start seed) before c.args.bytes.now
+returns-clause-stands c =
+    λ seed before stands. murmur_stands-after seed before c.args.bytes.now c.args.self.now c.push_all.new.taker stands (written c)

@@ -1,6 +1,6 @@
 use Rattle.std.proofs.Common.{◌≡◌, ◌∙◌, ap, arith}
 use Rattle.sketch_hash.specs.Xxh64.{xxh64_after, xxh64_start, stripe_step}
-use Rattle.sketch_hash.specs.Xxh64Laws.{xxh64_after-append}
+use Rattle.sketch_hash.specs.Xxh64Laws.{xxh64_stands-after}
 use Rattle.sketch_hash.proofs.PiecesLemmas.{fold-advanced}
 use Rattle.sketch_hash.proofs.hash.xxhash.XxHash64Hasher.write.Goals as goal
 
@@ -12,5 +12,5 @@ pub returns-clause-after : goal.returns-clause-after
 returns-clause-after c = written c
 
 pub returns-clause-stands : goal.returns-clause-stands
-returns-clause-stands c = λ seed before stands.
-    written c ∙ ap (λ s. xxh64_after s c.args.bytes.now) stands ∙ xxh64_after-append (xxh64_start seed) before c.args.bytes.now
+returns-clause-stands c =
+    λ seed before stands. xxh64_stands-after seed before c.args.bytes.now c.args.self.now c.push_all.new.taker stands (written c)
