@@ -104,7 +104,7 @@ impl Error {
     ///
     /// # Errors
     ///
-    /// Where memory runs out: the error as it was.
+    /// Where memory runs out, or the value fails to print: the error as it was.
     pub fn with_context<V: fmt::Display + Drop>(
         mut self,
         alloc: Global,
@@ -151,6 +151,8 @@ impl Error {
     }
 
     /// Serialized data ended too early, as the value says.
+    ///
+    /// Where the text finds no memory, the error is of kind `OutOfMemory`, with no message.
     pub fn insufficient_data<V: fmt::Display + Drop>(alloc: Global, value: V) -> Error
         ensures { (text : List ℕ) × Prints (V.output value) text
             × Refuses ErrorKind.InvalidData (insufficient_data_text text) result }
@@ -163,6 +165,8 @@ impl Error {
     }
 
     /// Serialized data ended too early in the part that `context` names, as the value says.
+    ///
+    /// Where the text finds no memory, the error is of kind `OutOfMemory`, with no message.
     pub fn insufficient_data_of<V: fmt::Display + Drop>(
         alloc: Global,
         context: &'static str,
@@ -179,6 +183,8 @@ impl Error {
     }
 
     /// Serialized data is of another family than the expected one, which has this name.
+    ///
+    /// Where the text finds no memory, the error is of kind `OutOfMemory`, with no message.
     pub fn invalid_family(alloc: Global, expected: u8, actual: u8, name: &'static str) -> Error
         ensures { Refuses ErrorKind.InvalidData (invalid_family_text expected actual name.entry.now) result }
     {
@@ -189,6 +195,8 @@ impl Error {
     }
 
     /// A number of preamble longs is none of the expected ones.
+    ///
+    /// Where the text finds no memory, the error is of kind `OutOfMemory`, with no message.
     pub fn invalid_preamble_longs(alloc: Global, expected: &[u8], actual: u8) -> Error
         ensures { Refuses ErrorKind.InvalidData (invalid_preamble_longs_text expected.now actual) result }
     {
@@ -199,6 +207,8 @@ impl Error {
     }
 
     /// A number of preamble ints is not the expected one.
+    ///
+    /// Where the text finds no memory, the error is of kind `OutOfMemory`, with no message.
     pub fn invalid_preamble_ints(alloc: Global, expected: u8, actual: u8) -> Error
         ensures { Refuses ErrorKind.InvalidData (invalid_preamble_ints_text expected actual) result }
     {

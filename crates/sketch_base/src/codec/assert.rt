@@ -18,6 +18,8 @@ use std::ops::Bound;
 use std::ops::Bound::{Excluded, Included, Unbounded};
 
 /// The refusal of data that ended too early, in the part that the tag names, as the error says.
+///
+/// Where the text finds no memory, the error is of kind `OutOfMemory`, with no message.
 pub fn insufficient_data(alloc: Global, tag: &'static str, error: io::Error) -> Error
     ensures { (text : List ℕ)
         × Refuses ErrorKind.InvalidData (insufficient_data_of_text tag.entry.now text) result }
@@ -29,7 +31,7 @@ pub fn insufficient_data(alloc: Global, tag: &'static str, error: io::Error) -> 
 ///
 /// # Errors
 ///
-/// At any other: `InvalidData`, or `OutOfMemory` where the text finds no memory.
+/// At any other: `InvalidData`, or `OutOfMemory` with no message where the text finds no memory.
 pub fn ensure_serial_version_is(alloc: Global, expected: u8, actual: u8) -> Result<(), Error>
     ensures { AcceptsExactly (actual ≡ expected) (unsupported_serial_version_text expected actual) result }
 {
@@ -44,7 +46,7 @@ pub fn ensure_serial_version_is(alloc: Global, expected: u8, actual: u8) -> Resu
 ///
 /// # Errors
 ///
-/// At any other: `InvalidData`, or `OutOfMemory` where the text finds no memory.
+/// At any other: `InvalidData`, or `OutOfMemory` with no message where the text finds no memory.
 pub fn ensure_preamble_longs_in(alloc: Global, expected: &[u8], actual: u8) -> Result<(), Error>
     ensures { AcceptsExactly (Contains expected.now actual)
         (invalid_preamble_longs_text expected.now actual) result }
@@ -61,7 +63,7 @@ pub fn ensure_preamble_longs_in(alloc: Global, expected: &[u8], actual: u8) -> R
 ///
 /// # Errors
 ///
-/// At any other: `InvalidData`, or `OutOfMemory` where the text finds no memory.
+/// At any other: `InvalidData`, or `OutOfMemory` with no message where the text finds no memory.
 pub fn ensure_preamble_longs_in_range(
     alloc: Global,
     start: Bound<u8>,
