@@ -1,10 +1,11 @@
-//! What is promised of collisions.
+//! What is promised of collisions, of extended integers, and of items and their bytes.
 //!
-//! The functions with no parameters do nothing: the contract of each is a fact about the hashes' definitions.
+//! The functions with no parameters do nothing: the contract of each is a fact about the definitions.
 
 ghost use Rattle.std.specs.Prelude.{◌≡◌, ◌≢◌, ◌<◌, length};
 ghost use Rattle.datasketches.specs.Laws.{HashU64Law, IntegerLaw, MurmurBlockLaw, MurmurSeedLaw, SignExtendLaw, TopBitLaw, XxSeedLaw, XxTailLaw};
 ghost use Rattle.datasketches.specs.Streams.{DifferInOneBlock, DifferInOneTailStep};
+ghost use Rattle.sketch_base.specs.ItemLaws.{ItemLaw};
 ghost use Rattle.sketch_hash.specs.Murmur.{murmur};
 ghost use Rattle.sketch_hash.specs.Xxh64.{xxh64};
 
@@ -95,4 +96,10 @@ pub fn xx_seed_law()
 pub fn extend_law()
     ensures signs { SignExtendLaw }
     ensures top_bit { TopBitLaw }
+{}
+
+/// Each item stands in bytes in one way, and so does each list of items of known kinds. Whatever stands behind
+/// the bytes of items, they are read back in order, and it remains.
+pub fn items_law()
+    ensures { ItemLaw }
 {}
