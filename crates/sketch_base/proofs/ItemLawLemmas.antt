@@ -229,6 +229,7 @@ item_law = record {
       ∙ ap (λ ks. unspell_all ks (spell_all xs ++ [])) kinds
       ∙ ap (λ bs. unspell_all (map kind_of ys) (bs ++ [])) bytes
       ∙ read_back ys [] hy;
+  count = length-spell_all;
   read_back = read_back;
   remains = remains;
 }

@@ -11,13 +11,14 @@ pub record Holds (bytes : List ℕ) (i : Item) : Type 0 where
   pub count : length bytes ≡ width (kind_of i)
   pub item : unspell (kind_of i) bytes ≡ i
 
--- Each item stands in bytes in one way, and so does each list of items of known kinds. Whatever stands behind
--- the bytes of items, they are read back in order, and it remains.
+-- Each item stands in bytes in one way, and so does each list of items of known kinds, in as many bytes as
+-- these have. Whatever stands behind the bytes of items, they are read back in order, and it remains.
 pub record ItemLaw : Type 0 where
   pub spelled : (i : Item) → InType i → Holds (spell i) i
   pub only : (i : Item) (bytes : List ℕ) → InType i → Holds bytes i → bytes ≡ spell i
   pub apart : (xs ys : List Item) → All InType xs → All InType ys →
       map kind_of xs ≡ map kind_of ys → spell_all xs ≡ spell_all ys → xs ≡ ys
+  pub count : (items : List Item) → All InType items → length (spell_all items) ≡ widths (map kind_of items)
   pub read_back : (items : List Item) (behind : List ℕ) → All InType items →
       unspell_all (map kind_of items) (spell_all items ++ behind) ≡ items
   pub remains : (items : List Item) (behind : List ℕ) → All InType items →
