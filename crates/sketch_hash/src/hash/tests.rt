@@ -1,5 +1,9 @@
-use super::{DEFAULT_UPDATE_SEED, Hasher, MurmurHash3X64128, XxHash64};
+use super::{
+    DEFAULT_UPDATE_SEED, Hasher, MurmurHash3X64128, XxHash64, check_seed_hash, compute_seed_hash,
+};
+use sketch_base::error::ErrorKind;
 use std::alloc::{AllocError, Global};
+use std::test::Fail;
 
 const FOX: &str = "The quick brown fox jumps over the lazy dog";
 
@@ -173,5 +177,28 @@ fn debug_texts_begin_with_the_name(rt: HostRuntime) -> Result<(), AllocError> {
     let (murmur, xxhash) = debug_texts(rt.alloc())?;
     assert!(rt; murmur.as_str().starts_with("MurmurHash3X64128"));
     assert!(rt; xxhash.as_str().starts_with("XxHash64"));
+    Ok(())
+}
+
+#[test]
+fn seed_hashes_and_their_refusals(rt: HostRuntime) -> Result<(), Fail> {
+    let alloc = rt.alloc();
+    let kind = ErrorKind::InvalidArgument;
+    assert_eq!(rt; compute_seed_hash(alloc, 9001, kind).ok(), Some(37836));
+    let zero = compute_seed_hash(alloc, 50541, kind)
+        .err()
+        .ok_or("computed")?;
+    assert_eq!(rt;
+        zero.to_string(alloc)?.as_str(),
+        "InvalidArgument => seed 50541 produces a seed hash of zero; choose a different seed"
+    );
+    assert!(rt; check_seed_hash(alloc, 37836, 37836, "theta", kind).is_ok());
+    let other = check_seed_hash(alloc, 37836, 1, "theta", ErrorKind::InvalidData)
+        .err()
+        .ok_or("accepted")?;
+    assert_eq!(rt;
+        other.to_string(alloc)?.as_str(),
+        "InvalidData => incompatible seed hash of theta: expected 37836, got 1"
+    );
     Ok(())
 }

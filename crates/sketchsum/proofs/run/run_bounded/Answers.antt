@@ -11,7 +11,7 @@ returns-in_ok-read_into-in-Murmur-clause-digest g c =
     let stands = murmur_stands-after c.args.seed [] read.0 _ _ c.with_seed-hasher.ensures read.2.0 in
     let answer = c.finish128-h1.ensures.stands c.args.seed read.0 stands in
     written_line _ _ _ _ _ (digest_line c.args.algorithm c.args.seed) read.0 _
-      (rw (c.in-Murmur.is, ← answer) refl) read.1 c.write_line.ensures.written
+    (rw (c.in-Murmur.is, ← answer) refl) read.1 c.write_line.ensures.written
 
 pub returns-in_ok-read_into-in-Xx-clause-digest : goal.returns-in_ok-read_into-in-Xx-clause-digest
 returns-in_ok-read_into-in-Xx-clause-digest g c =
@@ -19,4 +19,4 @@ returns-in_ok-read_into-in-Xx-clause-digest g c =
     let stands = xxh64_stands-after c.args.seed [] read.0 _ _ c.with_seed-hasher-in-Xx.ensures read.2.0 in
     let answer = c.finish64.ensures.stands c.args.seed read.0 stands in
     written_line _ _ _ _ _ (digest_line c.args.algorithm c.args.seed) read.0 _
-      (rw (c.in-Xx.is, ← answer) refl) read.1 c.write_line-in-Xx.ensures.written
+    (rw (c.in-Xx.is, ← answer) refl) read.1 c.write_line-in-Xx.ensures.written

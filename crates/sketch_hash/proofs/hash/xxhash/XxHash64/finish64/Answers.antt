@@ -15,10 +15,11 @@ formed c =
     let seeded = plus c.args.self.now.folded.seed prime5 in
     let merged = merge c.args.self.now.folded in
     elim c.if-is_short.branch [
-      then-is_short w ↦ rw (← c.self.view_is) w.hash-is
-        ∙ sym (cond-true short seeded merged (sym c.is_short.ensures ∙ w.if-is_short.true))
-    | else-is_short w ↦ w.hash-is ∙ w.merged-hash.ensures
-        ∙ sym (cond-false short seeded merged (sym c.is_short.ensures ∙ w.if-is_short.false)) ]
+      | then-is_short w ↦ rw (← c.self.view_is) w.hash-is
+          ∙ sym (cond-true short seeded merged (sym c.is_short.ensures ∙ w.if-is_short.true))
+      | else-is_short w ↦ w.hash-is ∙ w.merged-hash.ensures
+          ∙ sym (cond-false short seeded merged (sym c.is_short.ensures ∙ w.if-is_short.false))
+    ]
 
 finished : (c : goal.After-avalanche) → c.avalanche.result ≡ xxh64_finished c.args.self.now
 unfolding xxh64_finished ending

@@ -1,0 +1,79 @@
+use super::{hash_pieces, is_new_key, is_same_key, pair_of, read_estimate};
+use datasketches::hash::value::raw_bytes;
+use std::alloc::Global;
+
+// An HLL sketch of the seed 9001, whose seed hash is 0x93cc, with the estimate 258.
+const SKETCH: [u8; 13] = [1, 3, 7, 0xcc, 0x93, 2, 1, 0, 0, 0, 0, 0, 0];
+
+#[test]
+fn keys_are_told_apart(rt: HostRuntime) {
+    assert!(rt; is_same_key(9001, -1, -1));
+    assert!(rt; !is_same_key(9001, -1, 1));
+    assert!(rt; is_new_key(9001, &[1, 2, 3], 4));
+    assert!(rt; !is_new_key(9001, &[1, 2, 3], 2));
+    assert!(rt; pair_of(0, 1) != pair_of(1, 1));
+}
+
+#[test]
+fn an_estimate_is_read(rt: HostRuntime) {
+    assert_eq!(rt; read_estimate(rt.alloc(), &SKETCH, 9001).ok(), Some(258));
+}
+
+// Whether the bytes are refused with this message.
+fn is_refused(alloc: Global, bytes: &[u8], message: &str) -> bool {
+    match read_estimate(alloc, bytes, 9001) {
+        Ok(_) => false,
+        Err(error) => error.message() == message,
+    }
+}
+
+#[test]
+fn other_bytes_are_refused(rt: HostRuntime) {
+    let mut other = SKETCH;
+    other[2] = 3;
+    assert!(rt;
+        is_refused(
+            rt.alloc(),
+            &other,
+            "invalid family: expected 7 (HLL), got 3"
+        )
+    );
+    other[1] = 2;
+    assert!(rt;
+        is_refused(
+            rt.alloc(),
+            &other,
+            "unsupported serial version: expected 3, got 2"
+        )
+    );
+    other[0] = 2;
+    assert!(rt;
+        is_refused(
+            rt.alloc(),
+            &other,
+            "invalid preamble longs: expected one of [1], got 2"
+        )
+    );
+    let mut seeded = SKETCH;
+    seeded[3] = 0xcd;
+    assert!(rt;
+        is_refused(
+            rt.alloc(),
+            &seeded,
+            "incompatible seed hash of hll: expected 37836, got 37837"
+        )
+    );
+}
+
+#[test]
+fn a_stream_in_pieces_has_one_hash(rt: HostRuntime) {
+    let pieces = [
+        raw_bytes::from_slice(b"The quick brown fox "),
+        raw_bytes::from_slice(b""),
+        raw_bytes::from_slice(b"jumps over the lazy dog"),
+    ];
+    assert_eq!(rt;
+        hash_pieces(0, &pieces),
+        (0xe34b_bc7b_bc07_1b6c, 0x7a43_3ca9_c49a_9347)
+    );
+}

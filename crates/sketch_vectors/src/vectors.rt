@@ -1,0 +1,74 @@
+//! The vectors of the original's own tests.
+
+use datasketches::hash::{Hasher, MurmurHash3X64128, XxHash64};
+
+// What Murmur answers under seed 0: the input, and the two words.
+const MURMUR: [(&[u8], (u64, u64)); 6] = [
+    (
+        b"The quick brown fox jumps over the lazy dog",
+        (0xe34b_bc7b_bc07_1b6c, 0x7a43_3ca9_c49a_9347),
+    ),
+    (
+        b"The quick brown fox jumps over the lazy eog",
+        (0x3621_0810_2c62_d1c9, 0x3285_cd10_0292_b305),
+    ),
+    (
+        b"The quick brown fox jumps over the lazy dogdogdog",
+        (0x9c82_0530_0e61_2fc4, 0xcbc0_af61_36aa_3df9),
+    ),
+    (
+        b"The quick brown fox jumps over the lazy1",
+        (0xe330_1a82_7e5c_dfe3, 0xbdbf_05f8_da0f_0392),
+    ),
+    (
+        b"The quick brown fox jumps over t",
+        (0xdf6a_f91b_b29b_dacf, 0x91a3_41c5_8df1_f3a6),
+    ),
+    (
+        b"The quick brown fox jumps over the lazy dog\xff\x64\x6f\x67\x00",
+        (0xe88a_bda7_8592_9c9e, 0x96b9_8587_cacc_83d6),
+    ),
+];
+
+// What XXH64 answers: the seed, how many bytes of the test buffer, and the word.
+const XXH64: [(u64, usize, u64); 9] = [
+    (0, 0, 0xef46_db37_51d8_e999),
+    (0, 1, 0xe934_a84a_db05_2768),
+    (0, 32, 0x18b2_1649_2bb4_4b70),
+    (0, 33, 0x55c8_dc3e_578f_5b59),
+    (0, 100, 0x4bfe_019c_d91d_9ea4),
+    (0x9E37_79B1, 0, 0xac75_fda2_929b_17ef),
+    (0x9E37_79B1, 1, 0x5014_6076_43a9_b4c3),
+    (0x9E37_79B1, 32, 0xb3f3_3bdf_93ad_e409),
+    (0x9E37_79B1, 100, 0x4853_706d_c962_5cae),
+];
+
+// The buffer that xxHash's own tests use.
+fn test_buffer() -> [u8; 100] {
+    let mut generator: u64 = 0x9E37_79B1;
+    let mut bytes = [0; 100];
+    for byte in bytes.iter_mut() {
+        *byte = (generator >> 56) as u8;
+        generator = generator.wrapping_mul(0x9E37_79B1_85EB_CA8D);
+    }
+    bytes
+}
+
+#[test]
+fn murmur_vectors(rt: HostRuntime) {
+    for (input, expected) in MURMUR {
+        let mut hasher = MurmurHash3X64128::with_seed(0);
+        hasher.write(input);
+        assert_eq!(rt; hasher.finish128(), expected, "{} bytes", input.len());
+    }
+}
+
+#[test]
+fn xxh64_vectors(rt: HostRuntime) {
+    let buffer = test_buffer();
+    for (seed, count, expected) in XXH64 {
+        let mut hasher = XxHash64::with_seed(seed);
+        hasher.write(&buffer[..count.min(100)]);
+        assert_eq!(rt; hasher.finish64(), expected, "{count} bytes under {seed}");
+    }
+}
