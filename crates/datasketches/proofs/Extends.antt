@@ -8,7 +8,7 @@ use Rattle.std.proofs.lemmas.Bool.{cases_lt}
 use Rattle.sketch_base.specs.Bytes.{le, eight, twos_complement, modulo}
 use Rattle.sketch_hash.specs.Values.{extended}
 use Rattle.sketch_hash.proofs.Blocks.{word_of_bytes}
-use Rattle.datasketches.specs.Laws.{SignExtendLaw, TopBitLaw}
+use Rattle.datasketches.specs.Strategies.{IsSigned, ExtendLawAt, ExtendLaw}
 use Rattle.datasketches.proofs.Integers.{modulo-lt}
 
 -- integers feed equal bytes exactly if they agree modulo 2 ^ 64
@@ -109,15 +109,29 @@ top_bit half whole y word s f =
 through : {A B C : Type 0} → A ↔ B → B ↔ C → A ↔ C
 through p q = (λ a. q.0 (p.0 a), λ c. p.1 (q.1 c))
 
-pub sign_extend_law : SignExtendLaw
-sign_extend_law w (pos n) y p m h l =
+sign_extend : (w : ℕ) (x : ℤ) (y : ℕ) → 0 < w → w ≤ 64 → IsSigned w x → y < 2 ^ w →
+    (extended x ≡ extended (twos_complement w y)) ↔ (modulo w x ≡ modulo w (pos y))
+sign_extend w (pos n) y p m h l =
     through (extended-once (pos n) (twos_complement w y))
     (agree (2 ^ (w - 1)) (2 ^ w) y _ n (lifted w y p m l) (omega (arith, ints))).0
-sign_extend_law w (negsuc n) y p m h l =
+sign_extend w (negsuc n) y p m h l =
     through (extended-once (negsuc n) (twos_complement w y))
     (agree (2 ^ (w - 1)) (2 ^ w) y _ n (lifted w y p m l) (omega (arith, ints))).1
 
-pub top_bit_law : TopBitLaw
-top_bit_law w y p m l =
-    through (extended-once (pos y) (twos_complement w y))
-    (top_bit (2 ^ (w - 1)) (2 ^ w) y _ (lifted w y p (omega arith) l) (pow_below w 64 m))
+-- at any width below 64 bits
+extend_law_at : (w : ℕ) → 0 < w → w < 64 →
+    ExtendLawAt w extended (λ y. extended (pos y)) extended (λ y. extended (twos_complement w y))
+extend_law_at w p m = record {
+  signed_alike = λ x. refl;
+  unsigned_alike = λ y l.
+      through (extended-once (pos y) (twos_complement w y))
+      (top_bit (2 ^ (w - 1)) (2 ^ w) y _ (lifted w y p (omega arith) l) (pow_below w 64 m));
+  across = λ x y h l. sign_extend w x y p (omega arith) h l;
+}
+
+pub extend_law : ExtendLaw
+extend_law = record {
+  bits_8 = extend_law_at 8 (omega arith) (omega arith);
+  bits_16 = extend_law_at 16 (omega arith) (omega arith);
+  bits_32 = extend_law_at 32 (omega arith) (omega arith);
+}

@@ -1,7 +1,7 @@
 -- What is promised of collisions: of Murmur's pairs of words, of XXH64's words, and of short integers.
-use Rattle.std.specs.Prelude.{◌≡◌, ◌≢◌, ◌↔◌, ℕ, ◌-◌, ◌*◌, ◌^◌, ◌<◌, ◌≤◌, ℤ, pos, neg_ℤ, ◌≤ℤ◌, ◌<ℤ◌, List, ◌++◌, length}
+use Rattle.std.specs.Prelude.{◌≡◌, ◌≢◌, ◌↔◌, ℕ, ◌*◌, ◌^◌, ◌<◌, ℤ, pos, neg_ℤ, ◌≤ℤ◌, ◌<ℤ◌, List, ◌++◌, length}
 use Rattle.std.specs.List.{All, fold}
-use Rattle.sketch_base.specs.Bytes.{AreBytes, eight, twos_complement, modulo}
+use Rattle.sketch_base.specs.Bytes.{AreBytes, eight}
 use Rattle.sketch_hash.specs.Words.{IsWord}
 use Rattle.sketch_hash.specs.Murmur.{step, murmur}
 use Rattle.sketch_hash.specs.Xxh64.{xxh64}
@@ -47,21 +47,3 @@ abbrev pub XxSeedLaw : Type 0
 XxSeedLaw =
     (seed_a seed_b : ℕ) (bytes : List ℕ) → IsWord seed_a → IsWord seed_b → AreBytes bytes →
     length bytes < 32 → seed_a ≢ seed_b → xxh64 seed_a bytes ≢ xxh64 seed_b bytes
-
--- a signed integer of w bits
-abbrev pub IsSigned : ℕ → ℤ → Type 0
-IsSigned w x = (neg_ℤ (pos (2 ^ (w - 1))) ≤ℤ x) × (x <ℤ pos (2 ^ (w - 1)))
-
--- A signed and an unsigned integer of w bits, both extended by their signs, feed equal bytes exactly if they
--- agree modulo 2 ^ w, at each width of at most 64 bits.
-abbrev pub SignExtendLaw : Type 0
-SignExtendLaw =
-    (w : ℕ) (x : ℤ) (y : ℕ) → 0 < w → w ≤ 64 → IsSigned w x → y < 2 ^ w →
-    (extended x ≡ extended (twos_complement w y)) ↔ (modulo w x ≡ modulo w (pos y))
-
--- An unsigned integer of w bits, extended by its value and extended by its sign, feeds equal bytes exactly if
--- its top bit is clear, at each width below 64 bits.
-abbrev pub TopBitLaw : Type 0
-TopBitLaw =
-    (w y : ℕ) → 0 < w → w < 64 → y < 2 ^ w →
-    (extended (pos y) ≡ extended (twos_complement w y)) ↔ (y < 2 ^ (w - 1))

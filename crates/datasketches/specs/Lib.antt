@@ -1,2 +1,3 @@
 pub mod Streams
 pub mod Laws
+pub mod Strategies

@@ -3,7 +3,8 @@
 //! The functions with no parameters do nothing: the contract of each is a fact about the definitions.
 
 ghost use Rattle.std.specs.Prelude.{◌≡◌, ◌≢◌, ◌<◌, length};
-ghost use Rattle.datasketches.specs.Laws.{HashU64Law, IntegerLaw, MurmurBlockLaw, MurmurSeedLaw, SignExtendLaw, TopBitLaw, XxSeedLaw, XxTailLaw};
+ghost use Rattle.datasketches.specs.Laws.{HashU64Law, IntegerLaw, MurmurBlockLaw, MurmurSeedLaw, XxSeedLaw, XxTailLaw};
+ghost use Rattle.datasketches.specs.Strategies.{ExtendLaw};
 ghost use Rattle.datasketches.specs.Streams.{DifferInOneBlock, DifferInOneTailStep};
 ghost use Rattle.sketch_base.specs.ItemLaws.{ItemLaw};
 ghost use Rattle.sketch_hash.specs.Murmur.{murmur};
@@ -88,18 +89,17 @@ pub fn xx_seed_law()
     ensures { XxSeedLaw }
 {}
 
-/// When the two ways to extend an integer to eight bytes feed equal bytes, and when not.
+/// When `NaturalExtendStrategy` and `SignExtendStrategy` feed equal bytes, and when not.
 ///
-/// Both extend a signed integer alike. A signed and an unsigned integer of w bits, both extended by sign,
-/// feed equal bytes exactly if they agree modulo 2^w. An unsigned one, extended by value and by sign, feeds
-/// equal bytes exactly if its top bit is clear.
+/// They feed the same for a signed integer, and for an unsigned one exactly if its top bit is clear. Under
+/// `SignExtendStrategy` a signed and an unsigned integer of w bits feed the same exactly if they agree
+/// modulo 2^w.
 pub fn extend_law()
-    ensures signs { SignExtendLaw }
-    ensures top_bit { TopBitLaw }
+    ensures { ExtendLaw }
 {}
 
-/// Each item stands in bytes in one way, and so does each list of items of known kinds. Whatever stands behind
-/// the bytes of items, they are read back in order, and it remains.
+/// Each item stands in bytes in one way, and so does each list of items of known kinds. Whatever stands
+/// behind the bytes of items, they are read back in order, and it remains.
 pub fn items_law()
     ensures { ItemLaw }
 {}

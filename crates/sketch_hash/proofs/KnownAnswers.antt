@@ -11,7 +11,8 @@ unfolding differing xor rotate pieces rest mix1 mix2 fmix step1 step2 step with_
 murmur_known_answers = record { nothing = refl; dog = refl; two_blocks = refl }
 
 pub xxh64_known_answers : Xxh64KnownAnswers
-unfolding differing xor rotate pieces rest round lane lanes_start lanes merge_lane merge steps eight_step four_step byte_step tail_step avalanche xxh64_ending xxh64 test_bytes_from
+unfolding differing xor rotate pieces rest round lane lanes_start lanes merge_lane merge steps eight_step
+    four_step byte_step tail_step avalanche xxh64_ending xxh64 test_bytes_from
 xxh64_known_answers = record {
   nothing = refl;
   nothing_seeded = refl;

@@ -1,4 +1,5 @@
--- Pieces as a loop meets them: a byte that waits, a byte that fills a piece, and writes of one byte after the other.
+-- Pieces as a loop meets them: a byte that waits, a byte that fills a piece, and writes of one byte after
+-- the other.
 use Rattle.std.proofs.Common.{◌≡◌, ℕ, ◌+◌, ◌*◌, ◌/◌, ◌%◌, ◌^◌, ◌<◌, ◌≤◌, List, [], ◌∷◌, ◌++◌, length, take, drop, refl, sym, ap, ◌∙◌, arith}
 use Rattle.std.proofs.Math.Nat.{div-eq_of_lt, div_self, zero-mul}
 use Rattle.std.proofs.lemmas.List.{take_all, drop_all, length-take-le, take-append-drop}
@@ -29,7 +30,8 @@ rest_one w bytes p h =
     ap (λ n. drop (n * w) bytes) one ∙ drop_all (1 * w) bytes (omega arith)
 
 -- the first piece of a list that has one, and the others
-pub pieces-first : (w : ℕ) (bytes : List ℕ) → 0 < w → w ≤ length bytes → pieces w bytes ≡ take w bytes ∷ pieces w (drop w bytes)
+pub pieces-first : (w : ℕ) (bytes : List ℕ) → 0 < w → w ≤ length bytes →
+    pieces w bytes ≡ take w bytes ∷ pieces w (drop w bytes)
 pieces-first w bytes p h =
     let first = length-take-le w bytes h in
     ap (pieces w) (sym (take-append-drop w bytes)) ∙ pieces-append w (take w bytes) (drop w bytes) p
@@ -45,7 +47,9 @@ rest-first w bytes p h =
 -- a byte that fills no piece waits behind the others
 pub absorbed_waits : {P R : Type 0} (w : ℕ) (read : List ℕ → R) (f : P → R → P) (state : State P) (b : ℕ) →
     length (state.waiting ++ b ∷ []) < w →
-    absorbed w read f state (b ∷ []) ≡ record { folded = state.folded; total = (state.total + 1) % 2 ^ 64; waiting = state.waiting ++ b ∷ [] }
+    absorbed w read f state
+        (b ∷ []) ≡ record { folded = state.folded; total = (state.total + 1) % 2 ^ 64; waiting =
+        state.waiting ++ b ∷ [] }
 unfolding absorbed
 absorbed_waits w read f state b h =
     let none = pieces_short w (state.waiting ++ b ∷ []) h in
@@ -53,9 +57,12 @@ absorbed_waits w read f state b h =
     rw (none, all) refl
 
 -- a byte that fills a piece has it folded, and nothing waits
-pub absorbed_fills : {P R : Type 0} (w : ℕ) (read : List ℕ → R) (f : P → R → P) (state : State P) (b : ℕ) → 0 < w →
+pub absorbed_fills : {P R : Type 0} (w : ℕ) (read : List ℕ → R) (f : P → R → P) (state : State P) (b : ℕ) →
+    0 < w →
     length (state.waiting ++ b ∷ []) ≡ w →
-    absorbed w read f state (b ∷ []) ≡ record { folded = f state.folded (read (state.waiting ++ b ∷ [])); total = (state.total + 1) % 2 ^ 64; waiting = [] }
+    absorbed w read f state
+        (b ∷ []) ≡ record { folded = f state.folded (read (state.waiting ++ b ∷ [])); total =
+        (state.total + 1) % 2 ^ 64; waiting = [] }
 unfolding absorbed
 absorbed_fills w read f state b p h =
     let one = pieces_one w (state.waiting ++ b ∷ []) p h in
@@ -63,8 +70,10 @@ absorbed_fills w read f state b p h =
     rw (one, none) refl
 
 -- bytes written one after the other leave what one write of them leaves
-pub fold-advanced : {P R : Type 0} (w : ℕ) (read : List ℕ → R) (f : P → R → P) → 0 < w → (bytes : List ℕ) (state : State P) →
+pub fold-advanced : {P R : Type 0} (w : ℕ) (read : List ℕ → R) (f : P → R → P) → 0 < w →
+    (bytes : List ℕ) (state : State P) →
     fold (λ s b. advanced w read f s (b ∷ [])) state bytes ≡ advanced w read f state bytes
 fold-advanced w read f p [] state = refl
 fold-advanced w read f p (b ∷ bytes) state =
-    fold-advanced w read f p bytes (advanced w read f state (b ∷ [])) ∙ advanced-append w read f p state (b ∷ []) bytes
+    fold-advanced w read f p bytes (advanced w read f state (b ∷ []))
+        ∙ advanced-append w read f p state (b ∷ []) bytes

@@ -7,7 +7,8 @@ use Rattle.sketch_base.specs.ErrorValue.{ErrorValue, plain, unheard}
 use Rattle.sketch_base.specs.Refusals.{Refuses}
 
 -- an error with a text that was just made refuses with that text, or the text found no memory
-pub refused : {Z E : Type 0} (kind : ErrorKind) (message : List ℕ) (text : Result (String Z) E) (error : ErrorValue) →
+pub refused : {Z E : Type 0} (kind : ErrorKind) (message : List ℕ) (text : Result (String Z) E)
+    (error : ErrorValue) →
     MatchResult text (λ made. error ≡ plain kind (string_bytes made)) (λ _. error ≡ unheard) →
     IfOk text (λ made. string_bytes made ≡ message) → Refuses kind message error
 refused kind message (Ok made) error e m = inl (e ∙ ap (plain kind) m)

@@ -41,11 +41,14 @@ xor_shifted-is k x p = let less = shr_le x k in xor-is x (x / 2 ^ k) p (omega ar
 -- the digits that a rotation moves up: in two numbers whose sum is 64, the lower `right` digits
 pub rotated_up : (x left right : ℕ) → left + right ≡ 64 → x * 2 ^ left % 2 ^ 64 ≡ x % 2 ^ right * 2 ^ left
 rotated_up x left right e =
-    let whole : 2 ^ 64 ≡ 2 ^ right * 2 ^ left = ap (λ n. 2 ^ n) (sym e ∙ turned left right) ∙ pow-add 2 right left in
+    let whole : 2 ^ 64 ≡ 2 ^ right * 2 ^ left = ap (λ n. 2 ^ n) (sym e ∙ turned left right)
+        ∙ pow-add 2 right left in
     let low : x % 2 ^ right * 2 ^ left < 2 ^ 64 =
-    subst (λ n. x % 2 ^ right * 2 ^ left < 2 ^ n) (turned right left ∙ e) (shl_below (x % 2 ^ right) right left (mod_below x (2 ^ right) (pow_pos right))) in
+    subst (λ n. x % 2 ^ right * 2 ^ left < 2 ^ n) (turned right left
+        ∙ e) (shl_below (x % 2 ^ right) right left (mod_below x (2 ^ right) (pow_pos right))) in
     ap (λ v. v * 2 ^ left % 2 ^ 64) (sym (shr_split x right))
-    ∙ ap (λ v. v % 2 ^ 64) (spread (x / 2 ^ right) (2 ^ right) (x % 2 ^ right) (2 ^ left) ∙ ap (λ v. x / 2 ^ right * v + x % 2 ^ right * 2 ^ left) (sym whole))
+    ∙ ap (λ v. v % 2 ^ 64) (spread (x / 2 ^ right) (2 ^ right) (x % 2 ^ right) (2 ^ left)
+        ∙ ap (λ v. x / 2 ^ right * v + x % 2 ^ right * 2 ^ left) (sym whole))
     ∙ mod_low (x / 2 ^ right) 64 (x % 2 ^ right * 2 ^ left) low
   where
     turned : (a b : ℕ) → a + b ≡ b + a
@@ -78,7 +81,8 @@ rotate-lt x r low high p =
     rw (rotate_parts x r (64 - r) (omega arith) p) (or_lt 64 (x * 2 ^ r % 2 ^ 64) (x / 2 ^ (64 - r)) up down)
 
 -- a rotated exclusive or, as machines compute it
-pub rotate-xor : (x y r : ℕ) → 0 < r → r < 64 → IsWord x → IsWord y → rotate_left w64 (bit_xor x y) r ≡ rotate (xor x y) r
+pub rotate-xor : (x y r : ℕ) → 0 < r → r < 64 → IsWord x → IsWord y →
+    rotate_left w64 (bit_xor x y) r ≡ rotate (xor x y) r
 rotate-xor x y r low high p q =
     sym (rotate-is (bit_xor x y) r low high (xor_lt 64 x y p q)) ∙ ap (λ v. rotate v r) (sym (xor-is x y p q))
 

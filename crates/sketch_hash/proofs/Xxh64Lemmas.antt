@@ -20,10 +20,12 @@ steps_of_one [] = refl
 steps_of_one (b ∷ bytes) =
     let first = pieces-first 1 (b ∷ bytes) (omega arith) (omega arith) in
     let number : le (b ∷ []) ≡ b = omega arith in
-    ap (map (λ piece. (1, le piece))) first ∙ ap (λ n. (1, n) ∷ steps_of 1 bytes) number ∙ ap (λ t. (1, b) ∷ t) (steps_of_one bytes)
+    ap (map (λ piece. (1, le piece))) first ∙ ap (λ n. (1, n) ∷ steps_of 1 bytes) number
+        ∙ ap (λ t. (1, b) ∷ t) (steps_of_one bytes)
 
 -- a tail of eight bytes and more begins with a word
-steps_eight : (bytes : List ℕ) → 8 ≤ length bytes → steps bytes ≡ (8, le (take 8 bytes)) ∷ steps (drop 8 bytes)
+steps_eight : (bytes : List ℕ) → 8 ≤ length bytes →
+    steps bytes ≡ (8, le (take 8 bytes)) ∷ steps (drop 8 bytes)
 unfolding steps
 steps_eight bytes h =
     let first = pieces-first 8 bytes (omega arith) h in
@@ -31,7 +33,8 @@ steps_eight bytes h =
     rw (first, others) refl
 
 pub fold_eight : (hash : ℕ) (bytes : List ℕ) → 8 ≤ length bytes →
-    fold tail_step hash (steps bytes) ≡ fold tail_step (eight_step hash (le (take 8 bytes))) (steps (drop 8 bytes))
+    fold tail_step hash (steps bytes) ≡ fold tail_step (eight_step hash (le (take 8 bytes)))
+        (steps (drop 8 bytes))
 unfolding tail_step
 fold_eight hash bytes h = ap (fold tail_step hash) (steps_eight bytes h)
 
@@ -51,7 +54,8 @@ fold_four hash bytes low high =
     (fold-map tail_step (λ b. (1, b)) (four_step hash (le (take 4 bytes))) (drop 4 bytes))
 
 -- of three bytes at most, it is single bytes
-pub fold_short : (hash : ℕ) (bytes : List ℕ) → length bytes < 4 → fold tail_step hash (steps bytes) ≡ fold byte_step hash bytes
+pub fold_short : (hash : ℕ) (bytes : List ℕ) → length bytes < 4 →
+    fold tail_step hash (steps bytes) ≡ fold byte_step hash bytes
 unfolding steps tail_step
 fold_short hash bytes h =
     let no_eight = pieces_short 8 bytes (omega arith) in
@@ -76,7 +80,8 @@ fold_stripes [] v = refl
 fold_stripes (s ∷ stripes) v = fold_stripes stripes (stripe_step v s)
 
 -- the definition of the whole bytes
-pub xxh64_finished-after : (seed : ℕ) (bytes : List ℕ) → xxh64_finished (xxh64_after (xxh64_start seed) bytes) ≡ xxh64 seed bytes
+pub xxh64_finished-after : (seed : ℕ) (bytes : List ℕ) →
+    xxh64_finished (xxh64_after (xxh64_start seed) bytes) ≡ xxh64 seed bytes
 unfolding xxh64_finished xxh64_after xxh64 absorbed pieces rest lanes lane lanes_start
 xxh64_finished-after seed [] = refl
 xxh64_finished-after seed (b ∷ bytes) =
@@ -84,10 +89,13 @@ xxh64_finished-after seed (b ∷ bytes) =
     let by_lane = fold_stripes (pieces 32 (b ∷ bytes)) (lanes_start seed) in
     rw (zero-add, all, by_lane) refl
 
-pub xxh64_finished-stands : (seed : ℕ) (bytes : List ℕ) (state : State Lanes) → Xxh64Stands state seed bytes → xxh64_finished state ≡ xxh64 seed bytes
+pub xxh64_finished-stands : (seed : ℕ) (bytes : List ℕ) (state : State Lanes) →
+    Xxh64Stands state seed bytes → xxh64_finished state ≡ xxh64 seed bytes
 xxh64_finished-stands seed bytes state stands = ap xxh64_finished stands ∙ xxh64_finished-after seed bytes
 
 -- eight bytes are one step of the tail
-pub xxh64-eight : (seed x : ℕ) → IsWord x → xxh64 seed (eight x) ≡ avalanche (eight_step (plus (plus seed prime5) 8) x)
+pub xxh64-eight : (seed x : ℕ) → IsWord x →
+    xxh64 seed (eight x) ≡ avalanche (eight_step (plus (plus seed prime5) 8) x)
 unfolding xxh64 ending lanes lanes_start pieces rest steps tail_step
-xxh64-eight seed x p = ap (λ word. avalanche (eight_step (plus (plus seed prime5) 8) word)) (le-low_bytes 8 x ∙ mod-eq_of_lt p)
+xxh64-eight seed x p = ap (λ word. avalanche (eight_step (plus (plus seed prime5) 8) word))
+    (le-low_bytes 8 x ∙ mod-eq_of_lt p)

@@ -1,4 +1,5 @@
--- Answers that are known from elsewhere: the tests of the two hashes' authors and of the library that is ported.
+-- Answers that are known from elsewhere: the tests of the two hashes' authors and of the library that is
+-- ported.
 use Rattle.std.specs.Prelude.{◌≡◌, ℕ, zero, suc, ◌/◌, ◌^◌, List, [], ◌∷◌, codes}
 use Rattle.sketch_hash.specs.Words.{times}
 use Rattle.sketch_hash.specs.Murmur.{murmur}
@@ -20,7 +21,8 @@ test_bytes n = test_bytes_from 0x9E3779B1 n
 pub record MurmurKnownAnswers : Type 0 where
   pub nothing : murmur 0 [] ≡ (0, 0)
   pub dog : murmur 0 fox ≡ (0xe34bbc7bbc071b6c, 0x7a433ca9c49a9347)
-  pub two_blocks : murmur 0 (codes "The quick brown fox jumps over t") ≡ (0xdf6af91bb29bdacf, 0x91a341c58df1f3a6)
+  pub two_blocks : murmur 0 (codes "The quick brown fox jumps over t") ≡
+      (0xdf6af91bb29bdacf, 0x91a341c58df1f3a6)
 
 -- what the definition of XXH64 answers
 pub record Xxh64KnownAnswers : Type 0 where

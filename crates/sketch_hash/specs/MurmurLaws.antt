@@ -6,7 +6,8 @@ use Rattle.sketch_hash.specs.PiecesLaws.{advanced-append}
 use Rattle.sketch_hash.specs.Murmur.{block_words, step, murmur_start, murmur_after, MurmurStands}
 
 -- two writes leave what one write of the joined bytes leaves
-pub murmur_after-append : (state : State (ℕ × ℕ)) (xs ys : List ℕ) → murmur_after (murmur_after state xs) ys ≡ murmur_after state (xs ++ ys)
+pub murmur_after-append : (state : State (ℕ × ℕ)) (xs ys : List ℕ) →
+    murmur_after (murmur_after state xs) ys ≡ murmur_after state (xs ++ ys)
 unfolding murmur_after
 murmur_after-append state xs ys = advanced-append 16 block_words step (omega arith) state xs ys
 
@@ -17,6 +18,7 @@ murmur_after-nil state = refl
 
 -- a write takes a hasher that stands for bytes to one that stands for them and the written ones
 pub murmur_stands-after : (seed : ℕ) (before bytes : List ℕ) (state next : State (ℕ × ℕ)) →
-    MurmurStands state seed before → next ≡ murmur_after state bytes → MurmurStands next seed (before ++ bytes)
+    MurmurStands state seed before → next ≡ murmur_after state bytes →
+        MurmurStands next seed (before ++ bytes)
 murmur_stands-after seed before bytes state next stands written =
     written ∙ ap (λ s. murmur_after s bytes) stands ∙ murmur_after-append (murmur_start seed) before bytes

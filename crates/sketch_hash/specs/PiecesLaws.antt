@@ -15,8 +15,10 @@ first_pieces-append (suc n) m w xs ys h =
     let more : suc n * w ≡ n * w + w = suc-mul n w in
     let first : w ≤ length xs = omega (arith, more) in
     let others : n * w ≤ length (drop w xs) = rw (length-drop w xs) (omega (arith, more)) in
-    let further : drop (n * w) (drop w xs) ≡ drop (suc n * w) xs = drop-drop (n * w) w xs ∙ ap (λ k. drop k xs) (omega (arith, more)) in
-    rw (suc-add n m) (ap (λ piece. piece ∷ first_pieces (n + m) w (drop w (xs ++ ys))) (take-append-le w xs ys first)
+    let further : drop (n * w) (drop w xs) ≡ drop (suc n * w) xs = drop-drop (n * w) w xs
+        ∙ ap (λ k. drop k xs) (omega (arith, more)) in
+    rw (suc-add n m) (ap (λ piece. piece ∷ first_pieces (n + m) w (drop w (xs ++ ys)))
+        (take-append-le w xs ys first)
     ∙ ap (λ t. take w xs ∷ first_pieces (n + m) w t) (drop-append-le w xs ys first)
     ∙ ap (λ t. take w xs ∷ t) (first_pieces-append n m w (drop w xs) ys others)
     ∙ ap (λ t. take w xs ∷ (first_pieces n w (drop w xs) ++ first_pieces m w (t ++ ys))) further)
@@ -31,7 +33,8 @@ piece_count w xs ys p =
     ap (λ n. n / w) split ∙ mul-add-div_right p (length xs / w) (length (drop (length xs / w * w) xs ++ ys))
 
 -- the full pieces of joined lists are those of the first, and those of its rest with the second
-pub pieces-append : (w : ℕ) (xs ys : List ℕ) → 0 < w → pieces w (xs ++ ys) ≡ pieces w xs ++ pieces w (rest w xs ++ ys)
+pub pieces-append : (w : ℕ) (xs ys : List ℕ) → 0 < w →
+    pieces w (xs ++ ys) ≡ pieces w xs ++ pieces w (rest w xs ++ ys)
 unfolding pieces rest
 pieces-append w xs ys p =
     let count = piece_count w xs ys p in
@@ -48,22 +51,27 @@ rest-append w xs ys p =
     ∙ ap (drop (m * w)) (drop-append-le (n * w) xs ys (div-mul-le_self (length xs) w))
 
 -- two states with the same parts are one
-same_state : {P : Type 0} (s t : State P) → s.folded ≡ t.folded → s.total ≡ t.total → s.waiting ≡ t.waiting → s ≡ t
+same_state : {P : Type 0} (s t : State P) → s.folded ≡ t.folded → s.total ≡ t.total →
+    s.waiting ≡ t.waiting → s ≡ t
 same_state s t a b c = ap (λ x. record { folded = x; total = s.total; waiting = s.waiting }) a
     ∙ ap (λ x. record { folded = t.folded; total = x; waiting = s.waiting }) b
     ∙ ap (λ x. record { folded = t.folded; total = t.total; waiting = x }) c
 
 -- what two writes absorb is what one write of the joined bytes absorbs
 pub absorbed-append : {P R : Type 0} (w : ℕ) (read : List ℕ → R) (f : P → R → P) → 0 < w →
-    (state : State P) (xs ys : List ℕ) → absorbed w read f (absorbed w read f state xs) ys ≡ absorbed w read f state (xs ++ ys)
+    (state : State P) (xs ys : List ℕ) →
+        absorbed w read f (absorbed w read f state xs) ys ≡ absorbed w read f state (xs ++ ys)
 unfolding absorbed
 absorbed-append w read f p state xs ys =
     let held = state.waiting ++ xs in
     let joined : state.waiting ++ (xs ++ ys) ≡ held ++ ys = sym (append_assoc state.waiting xs ys) in
-    let all : map read (pieces w (state.waiting ++ (xs ++ ys))) ≡ map read (pieces w held) ++ map read (pieces w (rest w held ++ ys)) =
-    ap (λ t. map read (pieces w t)) joined ∙ ap (map read) (pieces-append w held ys p) ∙ map-append read (pieces w held) (pieces w (rest w held ++ ys)) in
+    let all : map read (pieces w (state.waiting ++ (xs ++ ys))) ≡ map read (pieces w held) ++ map read
+        (pieces w (rest w held ++ ys)) =
+    ap (λ t. map read (pieces w t)) joined ∙ ap (map read) (pieces-append w held ys p)
+        ∙ map-append read (pieces w held) (pieces w (rest w held ++ ys)) in
     same_state _ _
-    (sym (ap (fold f state.folded) all ∙ fold-append f state.folded (map read (pieces w held)) (map read (pieces w (rest w held ++ ys)))))
+    (sym (ap (fold f state.folded) all
+        ∙ fold-append f state.folded (map read (pieces w held)) (map read (pieces w (rest w held ++ ys)))))
     (rw (length-append xs ys) (counted state.total (length xs) (length ys)))
     (sym (ap (rest w) joined ∙ rest-append w held ys p))
   where
@@ -72,7 +80,8 @@ absorbed-append w read f p state xs ys =
 
 -- two writes join
 pub advanced-append : {P R : Type 0} (w : ℕ) (read : List ℕ → R) (f : P → R → P) → 0 < w →
-    (state : State P) (xs ys : List ℕ) → advanced w read f (advanced w read f state xs) ys ≡ advanced w read f state (xs ++ ys)
+    (state : State P) (xs ys : List ℕ) →
+        advanced w read f (advanced w read f state xs) ys ≡ advanced w read f state (xs ++ ys)
 advanced-append w read f p state [] ys = refl
 advanced-append w read f p state (x ∷ xs) [] = ap (λ t. absorbed w read f state (x ∷ t)) (sym (append-nil xs))
 advanced-append w read f p state (x ∷ xs) (y ∷ ys) = absorbed-append w read f p state (x ∷ xs) (y ∷ ys)

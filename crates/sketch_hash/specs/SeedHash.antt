@@ -14,4 +14,5 @@ zero_seed_hash_text seed =
 
 abbrev pub incompatible_seed_hash_text : List ℕ → ℕ → ℕ → List ℕ
 incompatible_seed_hash_text name expected actual =
-    codes "incompatible seed hash of " ++ name ++ codes ": expected " ++ decimal expected ++ codes ", got " ++ decimal actual
+    codes "incompatible seed hash of " ++ name ++ codes ": expected " ++ decimal expected
+    ++ codes ", got " ++ decimal actual

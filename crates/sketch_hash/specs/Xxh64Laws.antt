@@ -6,7 +6,8 @@ use Rattle.sketch_hash.specs.PiecesLaws.{advanced-append}
 use Rattle.sketch_hash.specs.Xxh64.{Lanes, stripe_step, xxh64_start, xxh64_after, Xxh64Stands}
 
 -- two writes leave what one write of the joined bytes leaves
-pub xxh64_after-append : (state : State Lanes) (xs ys : List ℕ) → xxh64_after (xxh64_after state xs) ys ≡ xxh64_after state (xs ++ ys)
+pub xxh64_after-append : (state : State Lanes) (xs ys : List ℕ) →
+    xxh64_after (xxh64_after state xs) ys ≡ xxh64_after state (xs ++ ys)
 unfolding xxh64_after
 xxh64_after-append state xs ys = advanced-append 32 (λ stripe. stripe) stripe_step (omega arith) state xs ys
 

@@ -1,4 +1,5 @@
-//! The hashes that sketches stand on: MurmurHash3 x64 128 and XXH64, proved to answer their plain definitions.
+//! The hashes that sketches stand on: MurmurHash3 x64 128 and XXH64, proved to answer their plain
+//! definitions.
 #![tactic(auto)]
 
 pub mod hash;

@@ -6,7 +6,8 @@ use Rattle.std.specs.declared.result.Result.{Result}
 use Rattle.std.specs.Io.KnownBytes.{Consumes, Appends}
 use Rattle.sketchsum.specs.Reading.{HasRead}
 
-pub consumed_twice : (a b c : Option (List ℕ)) (xs ys : List ℕ) → Consumes a b xs → Consumes b c ys → Consumes a c (xs ++ ys)
+pub consumed_twice : (a b c : Option (List ℕ)) (xs ys : List ℕ) → Consumes a b xs → Consumes b c ys →
+    Consumes a c (xs ++ ys)
 consumed_twice None b c xs ys h k = tt
 consumed_twice (Some w) None c xs ys h k = absurd h
 consumed_twice (Some w) (Some v) None xs ys h k = absurd k
@@ -17,7 +18,8 @@ consumed_none None = tt
 consumed_none (Some xs) = refl
 
 -- what was written is a line of the bytes that were read
-pub written_line : {T E : Type 0} (r : Result T E) (before after held holds : Option (List ℕ)) (line : List ℕ → List ℕ) (bytes text : List ℕ) →
+pub written_line : {T E : Type 0} (r : Result T E) (before after held holds : Option (List ℕ))
+    (line : List ℕ → List ℕ) (bytes text : List ℕ) →
     line bytes ≡ text → Consumes before after bytes → OnOk r (Appends held holds text) →
     OnOk r (HasRead before after (λ read. Appends held holds (line read)))
 written_line (Ok x) before after held holds line bytes text e read written = (bytes, read, rw e written)

@@ -25,4 +25,5 @@ pub record IsSeed (word : List ℕ) (seed : ℕ) : Type 0 where
 
 -- the words ask for the algorithm under the seed: they are its name and a seed, and nothing else
 abbrev pub AskFor : List (List ℕ) → Algorithm → ℕ → Type 0
-AskFor words algorithm seed = (numeral : List ℕ) × (words ≡ name_of algorithm ∷ numeral ∷ []) × IsSeed numeral seed
+AskFor words algorithm seed = (numeral : List ℕ) × (words ≡ name_of algorithm ∷ numeral ∷ [])
+    × IsSeed numeral seed

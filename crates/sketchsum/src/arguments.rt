@@ -15,11 +15,13 @@ pub enum Algorithm {
     Xx,
 }
 
-/// The algorithm and the seed that the words ask for: `murmur` or `xx`, and then 1 to 20 decimal digits of a number
+/// The algorithm and the seed that the words ask for: `murmur` or `xx`, and then 1 to 20 decimal digits of
+/// a number
 /// below 2^64. Leading zeros are fine, a sign is not.
 pub fn parse(words: &[String]) -> Option<(Algorithm, u64)>
     ensures some { IfSome result (λ asked. AskFor (map string_bytes words.now) asked.0 asked.1) }
-    ensures none { IsNone result → (algorithm : Algorithm) (seed : ℕ) → ¬ AskFor (map string_bytes words.now) algorithm seed }
+    ensures none { IsNone result → (algorithm : Algorithm) (seed : ℕ) →
+        ¬ AskFor (map string_bytes words.now) algorithm seed }
 {
     let [name, numeral] = words else {
         return None;

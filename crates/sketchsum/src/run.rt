@@ -2,9 +2,9 @@
 
 ghost use Rattle.std.specs.Prelude.{◌≡◌, ◌≢◌, ℕ, ◌*◌, ◌^◌, ◌≤◌, List, [], ◌∷◌, ◌++◌, length, OnOk, OnErr, Err, Some, IfSome};
 ghost use Rattle.std.specs.Io.KnownBytes.{Keeps, Appends, IsAtEnd};
-ghost use Rattle.sketchsum.specs.Digest.{hex_word, digest_line};
+ghost use Rattle.sketchsum.specs.Digest.{hex_word};
 ghost use Rattle.sketchsum.specs.Reading.{HasRead};
-ghost use Rattle.sketch_hash.specs.Murmur.{murmur};
+ghost use Rattle.sketchsum.specs.Running.{Runs};
 
 use crate::arguments::Algorithm;
 use crate::ending::RunFault;
@@ -25,26 +25,19 @@ pub fn run<R: Read, W: Write>(
     reader: &mut R,
     writer: &mut W,
 ) -> Result<(), RunFault>
-    ensures digest { OnOk result (HasRead (R.remaining reader.old) (R.remaining reader.new)
-        (λ bytes. Appends (W.contents writer.old) (W.contents writer.new) (digest_line algorithm seed bytes))) }
-    ensures whole { OnOk result (IsAtEnd (R.remaining reader.new)) }
-    ensures whole_at_write { result ≡ Err RunFault.Write → IsAtEnd (R.remaining reader.new) }
-    ensures silent_at_read { result ≡ Err RunFault.Read → Keeps (W.contents writer.old) (W.contents writer.new) }
-    ensures silent_at_too_long { result ≡ Err RunFault.TooLong → Keeps (W.contents writer.old) (W.contents writer.new) }
-    ensures too_long { result ≡ Err RunFault.TooLong →
-        HasRead (R.remaining reader.old) (R.remaining reader.new) (λ bytes. 2 ^ 32 ≤ length bytes) }
-    ensures bounded { HasRead (R.remaining reader.old) (R.remaining reader.new) (λ bytes. length bytes ≤ 4096 * 2 ^ 32) }
+    ensures { Runs algorithm seed (2 ^ 32) result
+        (R.remaining reader.old) (R.remaining reader.new) (W.contents writer.old) (W.contents writer.new) }
 {
     run_bounded(algorithm, seed, MAX_TURNS, reader, writer)
 }
 
-/// Reads pieces of at most 4096 bytes, at most `turns` times, until a read gives no bytes. Then writes the hash in
-/// hexadecimal and a newline, and flushes.
+/// Reads pieces of at most 4096 bytes, at most `turns` times, until a read gives no bytes. Then writes the
+/// hash in hexadecimal and a newline, and flushes.
 ///
 /// # Errors
 ///
-/// [`RunFault::Read`] where a read fails, [`RunFault::TooLong`] where `turns` reads were made and none was the end:
-/// nothing is written then. [`RunFault::Write`] where a write or the flush fails.
+/// [`RunFault::Read`] where a read fails, [`RunFault::TooLong`] where `turns` reads were made and none was the
+/// end: nothing is written then. [`RunFault::Write`] where a write or the flush fails.
 pub fn run_bounded<R: Read, W: Write>(
     algorithm: Algorithm,
     seed: u64,
@@ -52,15 +45,8 @@ pub fn run_bounded<R: Read, W: Write>(
     reader: &mut R,
     writer: &mut W,
 ) -> Result<(), RunFault>
-    ensures digest { OnOk result (HasRead (R.remaining reader.old) (R.remaining reader.new)
-        (λ bytes. Appends (W.contents writer.old) (W.contents writer.new) (digest_line algorithm seed bytes))) }
-    ensures whole { OnOk result (IsAtEnd (R.remaining reader.new)) }
-    ensures whole_at_write { result ≡ Err RunFault.Write → IsAtEnd (R.remaining reader.new) }
-    ensures silent_at_read { result ≡ Err RunFault.Read → Keeps (W.contents writer.old) (W.contents writer.new) }
-    ensures silent_at_too_long { result ≡ Err RunFault.TooLong → Keeps (W.contents writer.old) (W.contents writer.new) }
-    ensures too_long { result ≡ Err RunFault.TooLong →
-        HasRead (R.remaining reader.old) (R.remaining reader.new) (λ bytes. turns ≤ length bytes) }
-    ensures bounded { HasRead (R.remaining reader.old) (R.remaining reader.new) (λ bytes. length bytes ≤ 4096 * turns) }
+    ensures { Runs algorithm seed turns result
+        (R.remaining reader.old) (R.remaining reader.new) (W.contents writer.old) (W.contents writer.new) }
 {
     match algorithm {
         Algorithm::Murmur => {

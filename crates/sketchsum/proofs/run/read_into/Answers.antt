@@ -22,8 +22,11 @@ loop-turn-preserved g c =
       so_far.0 ++ piece,
       consumed_twice _ _ _ so_far.0 piece so_far.1 c.in-Ok.ensures.bytes.0,
       (
-        c.write.ensures ∙ ap (λ h. g.H.Hasher.after h piece) so_far.2.0 ∙ g.met.H.Hasher.joins c.args.hasher.now so_far.0 piece,
-        counted_low (length so_far.0) (length piece) c.loop-turn._turn (length (so_far.0 ++ piece)) joined so_far.2.1 some,
-        counted_high (length so_far.0) (length piece) c.loop-turn._turn (length (so_far.0 ++ piece)) joined so_far.2.2 few,
+        c.write.ensures ∙ ap (λ h. g.H.Hasher.after h piece) so_far.2.0
+            ∙ g.met.H.Hasher.joins c.args.hasher.now so_far.0 piece,
+        counted_low (length so_far.0) (length piece) c.loop-turn._turn
+            (length (so_far.0 ++ piece)) joined so_far.2.1 some,
+        counted_high (length so_far.0) (length piece) c.loop-turn._turn
+            (length (so_far.0 ++ piece)) joined so_far.2.2 few,
       ),
     )

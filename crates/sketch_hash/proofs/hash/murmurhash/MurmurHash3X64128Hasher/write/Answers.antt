@@ -6,11 +6,13 @@ use Rattle.sketch_hash.proofs.hash.murmurhash.MurmurHash3X64128Hasher.write.Goal
 
 written : (c : goal.After-push_all) → c.push_all.new.taker ≡ murmur_after c.args.self.now c.args.bytes.now
 unfolding murmur_after
-written c = c.push_all.ensures ∙ fold-advanced 16 block_words step (omega arith) c.args.bytes.now c.args.self.now
+written c = c.push_all.ensures
+    ∙ fold-advanced 16 block_words step (omega arith) c.args.bytes.now c.args.self.now
 
 pub returns-clause-after : goal.returns-clause-after
 returns-clause-after c = written c
 
 pub returns-clause-stands : goal.returns-clause-stands
 returns-clause-stands c =
-    λ seed before stands. murmur_stands-after seed before c.args.bytes.now c.args.self.now c.push_all.new.taker stands (written c)
+    λ seed before stands. murmur_stands-after seed before c.args.bytes.now c.args.self.now
+        c.push_all.new.taker stands (written c)

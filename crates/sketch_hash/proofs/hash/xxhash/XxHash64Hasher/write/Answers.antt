@@ -6,11 +6,13 @@ use Rattle.sketch_hash.proofs.hash.xxhash.XxHash64Hasher.write.Goals as goal
 
 written : (c : goal.After-push_all) → c.push_all.new.taker ≡ xxh64_after c.args.self.now c.args.bytes.now
 unfolding xxh64_after
-written c = c.push_all.ensures ∙ fold-advanced 32 (λ stripe. stripe) stripe_step (omega arith) c.args.bytes.now c.args.self.now
+written c = c.push_all.ensures
+    ∙ fold-advanced 32 (λ stripe. stripe) stripe_step (omega arith) c.args.bytes.now c.args.self.now
 
 pub returns-clause-after : goal.returns-clause-after
 returns-clause-after c = written c
 
 pub returns-clause-stands : goal.returns-clause-stands
 returns-clause-stands c =
-    λ seed before stands. xxh64_stands-after seed before c.args.bytes.now c.args.self.now c.push_all.new.taker stands (written c)
+    λ seed before stands. xxh64_stands-after seed before c.args.bytes.now c.args.self.now
+        c.push_all.new.taker stands (written c)
