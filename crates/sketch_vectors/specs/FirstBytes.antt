@@ -14,7 +14,8 @@ take-take-append zero xs ys = refl
 take-take-append (suc n) [] ys = refl
 take-take-append (suc n) (x ∷ xs) ys = ap (λ t. x ∷ t) (take-take-append n xs ys)
 
-pub kept_after-append : (kept xs ys : List ℕ) → kept_after (kept_after kept xs) ys ≡ kept_after kept (xs ++ ys)
+pub kept_after-append : (kept xs ys : List ℕ) →
+    kept_after (kept_after kept xs) ys ≡ kept_after kept (xs ++ ys)
 kept_after-append kept [] ys = refl
 kept_after-append kept (x ∷ xs) [] = ap (λ t. take 64 (kept ++ x ∷ t)) (sym (append-nil xs))
 kept_after-append kept (x ∷ xs) (y ∷ ys) =

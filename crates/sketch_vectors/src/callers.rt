@@ -34,7 +34,8 @@ pub fn pair_of(seed: u64, key: i32) -> (u64, u64)
     hasher.finish128()
 }
 
-/// Whether two keys are one, by their pairs alone. No two keys share a pair, so no key is mistaken for another.
+/// Whether two keys are one, by their pairs alone. No two keys share a pair, so no key is mistaken for
+/// another.
 pub fn is_same_key(seed: u64, x: i32, y: i32) -> bool
     ensures { IsTrue result ↔ (x ≡ y) }
 {

@@ -8,7 +8,8 @@ pub returns : goal.returns
 returns c =
     let bytes = extended c.args.key in
     let key : c.from_i32.result ≡ c.args.key = search rules in
-    let fed : c.hash.new.state ≡ murmur_after c.with_seed-hasher.result (extended c.from_i32.result) = search rules in
+    let fed : c.hash.new.state ≡ murmur_after c.with_seed-hasher.result (extended c.from_i32.result) =
+    search rules in
     let stands = murmur_stands-after c.args.seed [] bytes _ _ c.with_seed-hasher.ensures
     (fed ∙ ap (λ z. murmur_after c.with_seed-hasher.result (extended z)) key) in
     c.finish128.ensures.stands c.args.seed bytes stands

@@ -3,7 +3,6 @@
 use datasketches::error::ErrorKind;
 use datasketches::hash::value::{calculate_hash, natural_extend, raw_bytes, sign_extend};
 use datasketches::hash::{Hasher, MurmurHash3X64128, XxHash64, compute_seed_hash};
-use std::alloc::AllocError;
 
 // Seed, input, the Murmur pair and the XXH64 hash.
 type Hashed = (u64, &'static [u8], (u64, u64), u64);
@@ -337,338 +336,318 @@ fn hashes_of_streams_in_pieces(rt: HostRuntime) {
     }
 }
 
-#[test]
-fn numbers_after_one_write(rt: HostRuntime) {
-    let mut murmured = MurmurHash3X64128::with_seed(7);
-    murmured.write_u8(127);
-    assert_eq!(rt; murmured.finish(), 0x0482_b915_a4f4_0656);
-    let mut hashed = XxHash64::with_seed(7);
-    hashed.write_u8(127);
-    assert_eq!(rt; hashed.finish(), 0xb11b_6f0f_f02d_9507);
-    let mut murmured = MurmurHash3X64128::with_seed(7);
-    murmured.write_u8(254);
-    assert_eq!(rt; murmured.finish(), 0x5fad_8e26_3a9a_1f01);
-    let mut hashed = XxHash64::with_seed(7);
-    hashed.write_u8(254);
-    assert_eq!(rt; hashed.finish(), 0x080f_a50a_e87e_1b7d);
-    let mut murmured = MurmurHash3X64128::with_seed(7);
-    murmured.write_i8(-2);
-    assert_eq!(rt; murmured.finish(), 0x5fad_8e26_3a9a_1f01);
-    let mut hashed = XxHash64::with_seed(7);
-    hashed.write_i8(-2);
-    assert_eq!(rt; hashed.finish(), 0x080f_a50a_e87e_1b7d);
-    let mut murmured = MurmurHash3X64128::with_seed(7);
-    murmured.write_i8(0);
-    assert_eq!(rt; murmured.finish(), 0x7d48_0f9f_a80e_c469);
-    let mut hashed = XxHash64::with_seed(7);
-    hashed.write_i8(0);
-    assert_eq!(rt; hashed.finish(), 0xd90d_f86c_76f5_2e13);
-    let mut murmured = MurmurHash3X64128::with_seed(7);
-    murmured.write_u16(32767);
-    assert_eq!(rt; murmured.finish(), 0x3361_0de1_43a8_14da);
-    let mut hashed = XxHash64::with_seed(7);
-    hashed.write_u16(32767);
-    assert_eq!(rt; hashed.finish(), 0x7cb9_a3d8_353b_99d7);
-    let mut murmured = MurmurHash3X64128::with_seed(7);
-    murmured.write_u16(65534);
-    assert_eq!(rt; murmured.finish(), 0x7685_2763_363c_efcb);
-    let mut hashed = XxHash64::with_seed(7);
-    hashed.write_u16(65534);
-    assert_eq!(rt; hashed.finish(), 0xa6b5_c640_1e33_2ae2);
-    let mut murmured = MurmurHash3X64128::with_seed(7);
-    murmured.write_i16(-2);
-    assert_eq!(rt; murmured.finish(), 0x7685_2763_363c_efcb);
-    let mut hashed = XxHash64::with_seed(7);
-    hashed.write_i16(-2);
-    assert_eq!(rt; hashed.finish(), 0xa6b5_c640_1e33_2ae2);
-    let mut murmured = MurmurHash3X64128::with_seed(7);
-    murmured.write_i16(0);
-    assert_eq!(rt; murmured.finish(), 0x3df4_60ff_3e17_b53a);
-    let mut hashed = XxHash64::with_seed(7);
-    hashed.write_i16(0);
-    assert_eq!(rt; hashed.finish(), 0x66b9_ba93_c911_8fc5);
-    let mut murmured = MurmurHash3X64128::with_seed(7);
-    murmured.write_u32(2147483647);
-    assert_eq!(rt; murmured.finish(), 0x8ff8_90b3_c66c_ea63);
-    let mut hashed = XxHash64::with_seed(7);
-    hashed.write_u32(2147483647);
-    assert_eq!(rt; hashed.finish(), 0xbffa_f7ed_3828_c5c6);
-    let mut murmured = MurmurHash3X64128::with_seed(7);
-    murmured.write_u32(4294967294);
-    assert_eq!(rt; murmured.finish(), 0x0964_dc60_72d9_36ea);
-    let mut hashed = XxHash64::with_seed(7);
-    hashed.write_u32(4294967294);
-    assert_eq!(rt; hashed.finish(), 0x41a2_4406_726d_ed05);
-    let mut murmured = MurmurHash3X64128::with_seed(7);
-    murmured.write_i32(-2);
-    assert_eq!(rt; murmured.finish(), 0x0964_dc60_72d9_36ea);
-    let mut hashed = XxHash64::with_seed(7);
-    hashed.write_i32(-2);
-    assert_eq!(rt; hashed.finish(), 0x41a2_4406_726d_ed05);
-    let mut murmured = MurmurHash3X64128::with_seed(7);
-    murmured.write_i32(0);
-    assert_eq!(rt; murmured.finish(), 0x79d5_4dd1_bf71_3748);
-    let mut hashed = XxHash64::with_seed(7);
-    hashed.write_i32(0);
-    assert_eq!(rt; hashed.finish(), 0x94c6_6b00_e254_04d3);
-    let mut murmured = MurmurHash3X64128::with_seed(7);
-    murmured.write_u64(9223372036854775807);
-    assert_eq!(rt; murmured.finish(), 0x2413_15ee_a83e_4f34);
-    let mut hashed = XxHash64::with_seed(7);
-    hashed.write_u64(9223372036854775807);
-    assert_eq!(rt; hashed.finish(), 0x0910_5364_f867_692b);
-    let mut murmured = MurmurHash3X64128::with_seed(7);
-    murmured.write_u64(18446744073709551614);
-    assert_eq!(rt; murmured.finish(), 0x09bf_526b_79e5_231d);
-    let mut hashed = XxHash64::with_seed(7);
-    hashed.write_u64(18446744073709551614);
-    assert_eq!(rt; hashed.finish(), 0xebec_947d_1050_6dd7);
-    let mut murmured = MurmurHash3X64128::with_seed(7);
-    murmured.write_i64(-2);
-    assert_eq!(rt; murmured.finish(), 0x09bf_526b_79e5_231d);
-    let mut hashed = XxHash64::with_seed(7);
-    hashed.write_i64(-2);
-    assert_eq!(rt; hashed.finish(), 0xebec_947d_1050_6dd7);
-    let mut murmured = MurmurHash3X64128::with_seed(7);
-    murmured.write_i64(0);
-    assert_eq!(rt; murmured.finish(), 0x6ce1_13b1_15a5_6871);
-    let mut hashed = XxHash64::with_seed(7);
-    hashed.write_i64(0);
-    assert_eq!(rt; hashed.finish(), 0x8562_a8ca_30d1_d8c7);
+// Both hashers with a seed.
+fn both(seed: u64) -> (MurmurHash3X64128, XxHash64) {
+    (
+        MurmurHash3X64128::with_seed(seed),
+        XxHash64::with_seed(seed),
+    )
 }
 
 #[test]
-fn natural_extended_numbers_calculated(rt: HostRuntime) {
-    assert_eq!(rt;
-        calculate_hash(natural_extend::from_u8(0)),
-        0x4089_0191_dcc2_d7cb
-    );
-    assert_eq!(rt;
-        calculate_hash(natural_extend::from_u8(128)),
-        0x7743_69d4_2e19_a920
-    );
-    assert_eq!(rt;
-        calculate_hash(natural_extend::from_u8(100)),
-        0x7243_37e5_58b2_5d89
-    );
-    assert_eq!(rt;
-        calculate_hash(natural_extend::from_i8(-128)),
-        0x7006_144c_2eb1_ab1f
-    );
-    assert_eq!(rt;
-        calculate_hash(natural_extend::from_i8(0)),
-        0x4089_0191_dcc2_d7cb
-    );
-    assert_eq!(rt;
-        calculate_hash(natural_extend::from_i8(100)),
-        0x7243_37e5_58b2_5d89
-    );
-    assert_eq!(rt;
-        calculate_hash(natural_extend::from_u16(0)),
-        0x4089_0191_dcc2_d7cb
-    );
-    assert_eq!(rt;
-        calculate_hash(natural_extend::from_u16(32768)),
-        0x6b02_7c59_14f0_6600
-    );
-    assert_eq!(rt;
-        calculate_hash(natural_extend::from_u16(100)),
-        0x7243_37e5_58b2_5d89
-    );
-    assert_eq!(rt;
-        calculate_hash(natural_extend::from_i16(-32768)),
-        0x62ee_9c6a_7466_2726
-    );
-    assert_eq!(rt;
-        calculate_hash(natural_extend::from_i16(0)),
-        0x4089_0191_dcc2_d7cb
-    );
-    assert_eq!(rt;
-        calculate_hash(natural_extend::from_i16(42)),
-        0x9080_33af_cdd0_bc1a
-    );
-    assert_eq!(rt;
-        calculate_hash(natural_extend::from_u32(0)),
-        0x4089_0191_dcc2_d7cb
-    );
-    assert_eq!(rt;
-        calculate_hash(natural_extend::from_u32(2147483648)),
-        0x11ab_8070_f383_45d8
-    );
-    assert_eq!(rt;
-        calculate_hash(natural_extend::from_u32(100)),
-        0x7243_37e5_58b2_5d89
-    );
-    assert_eq!(rt;
-        calculate_hash(natural_extend::from_i32(-2147483648)),
-        0x2289_208d_e8a7_e547
-    );
-    assert_eq!(rt;
-        calculate_hash(natural_extend::from_i32(0)),
-        0x4089_0191_dcc2_d7cb
-    );
-    assert_eq!(rt;
-        calculate_hash(natural_extend::from_i32(42)),
-        0x9080_33af_cdd0_bc1a
-    );
+fn numbers_of_8_and_16_bits_after_one_write(rt: HostRuntime) {
+    for (seed, n, murmur, xxh64) in [
+        (7, 0u8, 0x7d48_0f9f_a80e_c469, 0xd90d_f86c_76f5_2e13),
+        (7, 127, 0x0482_b915_a4f4_0656, 0xb11b_6f0f_f02d_9507),
+        (7, 254, 0x5fad_8e26_3a9a_1f01, 0x080f_a50a_e87e_1b7d),
+    ] {
+        let (mut murmured, mut hashed) = both(seed);
+        murmured.write_u8(n);
+        hashed.write_u8(n);
+        assert_eq!(rt;
+            (murmured.finish(), hashed.finish()),
+            (murmur, xxh64),
+            "{n}"
+        );
+    }
+    for (seed, n, murmur, xxh64) in [
+        (7, -128i8, 0x0317_404c_d1ba_84da, 0x9113_45a7_8882_8073),
+        (7, -2, 0x5fad_8e26_3a9a_1f01, 0x080f_a50a_e87e_1b7d),
+        (7, 0, 0x7d48_0f9f_a80e_c469, 0xd90d_f86c_76f5_2e13),
+    ] {
+        let (mut murmured, mut hashed) = both(seed);
+        murmured.write_i8(n);
+        hashed.write_i8(n);
+        assert_eq!(rt;
+            (murmured.finish(), hashed.finish()),
+            (murmur, xxh64),
+            "{n}"
+        );
+    }
+    for (seed, n, murmur, xxh64) in [
+        (7, 0u16, 0x3df4_60ff_3e17_b53a, 0x66b9_ba93_c911_8fc5),
+        (7, 32767, 0x3361_0de1_43a8_14da, 0x7cb9_a3d8_353b_99d7),
+        (7, 65534, 0x7685_2763_363c_efcb, 0xa6b5_c640_1e33_2ae2),
+    ] {
+        let (mut murmured, mut hashed) = both(seed);
+        murmured.write_u16(n);
+        hashed.write_u16(n);
+        assert_eq!(rt;
+            (murmured.finish(), hashed.finish()),
+            (murmur, xxh64),
+            "{n}"
+        );
+    }
+    for (seed, n, murmur, xxh64) in [
+        (7, -32768i16, 0xe73d_be42_cd69_f3c6, 0xbeac_7bb1_477b_13d4),
+        (7, -2, 0x7685_2763_363c_efcb, 0xa6b5_c640_1e33_2ae2),
+        (7, 0, 0x3df4_60ff_3e17_b53a, 0x66b9_ba93_c911_8fc5),
+    ] {
+        let (mut murmured, mut hashed) = both(seed);
+        murmured.write_i16(n);
+        hashed.write_i16(n);
+        assert_eq!(rt;
+            (murmured.finish(), hashed.finish()),
+            (murmur, xxh64),
+            "{n}"
+        );
+    }
 }
 
 #[test]
-fn sign_extended_numbers_calculated(rt: HostRuntime) {
-    assert_eq!(rt;
-        calculate_hash(sign_extend::from_u8(0)),
-        0x4089_0191_dcc2_d7cb
-    );
-    assert_eq!(rt;
-        calculate_hash(sign_extend::from_u8(128)),
-        0x7006_144c_2eb1_ab1f
-    );
-    assert_eq!(rt;
-        calculate_hash(sign_extend::from_u8(42)),
-        0x9080_33af_cdd0_bc1a
-    );
-    assert_eq!(rt;
-        calculate_hash(sign_extend::from_i8(-128)),
-        0x7006_144c_2eb1_ab1f
-    );
-    assert_eq!(rt;
-        calculate_hash(sign_extend::from_i8(0)),
-        0x4089_0191_dcc2_d7cb
-    );
-    assert_eq!(rt;
-        calculate_hash(sign_extend::from_i8(42)),
-        0x9080_33af_cdd0_bc1a
-    );
-    assert_eq!(rt;
-        calculate_hash(sign_extend::from_u16(0)),
-        0x4089_0191_dcc2_d7cb
-    );
-    assert_eq!(rt;
-        calculate_hash(sign_extend::from_u16(32768)),
-        0x62ee_9c6a_7466_2726
-    );
-    assert_eq!(rt;
-        calculate_hash(sign_extend::from_u16(100)),
-        0x7243_37e5_58b2_5d89
-    );
-    assert_eq!(rt;
-        calculate_hash(sign_extend::from_i16(-32768)),
-        0x62ee_9c6a_7466_2726
-    );
-    assert_eq!(rt;
-        calculate_hash(sign_extend::from_i16(0)),
-        0x4089_0191_dcc2_d7cb
-    );
-    assert_eq!(rt;
-        calculate_hash(sign_extend::from_i16(100)),
-        0x7243_37e5_58b2_5d89
-    );
-    assert_eq!(rt;
-        calculate_hash(sign_extend::from_u32(0)),
-        0x4089_0191_dcc2_d7cb
-    );
-    assert_eq!(rt;
-        calculate_hash(sign_extend::from_u32(2147483648)),
-        0x2289_208d_e8a7_e547
-    );
-    assert_eq!(rt;
-        calculate_hash(sign_extend::from_u32(42)),
-        0x9080_33af_cdd0_bc1a
-    );
-    assert_eq!(rt;
-        calculate_hash(sign_extend::from_i32(-2147483648)),
-        0x2289_208d_e8a7_e547
-    );
-    assert_eq!(rt;
-        calculate_hash(sign_extend::from_i32(0)),
-        0x4089_0191_dcc2_d7cb
-    );
-    assert_eq!(rt;
-        calculate_hash(sign_extend::from_i32(100)),
-        0x7243_37e5_58b2_5d89
-    );
+fn numbers_of_32_and_64_bits_after_one_write(rt: HostRuntime) {
+    for (seed, n, murmur, xxh64) in [
+        (7, 0u32, 0x79d5_4dd1_bf71_3748, 0x94c6_6b00_e254_04d3),
+        (7, 2147483647, 0x8ff8_90b3_c66c_ea63, 0xbffa_f7ed_3828_c5c6),
+        (7, 4294967294, 0x0964_dc60_72d9_36ea, 0x41a2_4406_726d_ed05),
+    ] {
+        let (mut murmured, mut hashed) = both(seed);
+        murmured.write_u32(n);
+        hashed.write_u32(n);
+        assert_eq!(rt;
+            (murmured.finish(), hashed.finish()),
+            (murmur, xxh64),
+            "{n}"
+        );
+    }
+    for (seed, n, murmur, xxh64) in [
+        (
+            7,
+            -2147483648i32,
+            0xb838_05f1_cb43_8fc8,
+            0xccae_49b2_71ed_d0ff,
+        ),
+        (7, -2, 0x0964_dc60_72d9_36ea, 0x41a2_4406_726d_ed05),
+        (7, 0, 0x79d5_4dd1_bf71_3748, 0x94c6_6b00_e254_04d3),
+    ] {
+        let (mut murmured, mut hashed) = both(seed);
+        murmured.write_i32(n);
+        hashed.write_i32(n);
+        assert_eq!(rt;
+            (murmured.finish(), hashed.finish()),
+            (murmur, xxh64),
+            "{n}"
+        );
+    }
+    for (seed, n, murmur, xxh64) in [
+        (7, 0u64, 0x6ce1_13b1_15a5_6871, 0x8562_a8ca_30d1_d8c7),
+        (
+            7,
+            9223372036854775807,
+            0x2413_15ee_a83e_4f34,
+            0x0910_5364_f867_692b,
+        ),
+        (
+            7,
+            18446744073709551614,
+            0x09bf_526b_79e5_231d,
+            0xebec_947d_1050_6dd7,
+        ),
+    ] {
+        let (mut murmured, mut hashed) = both(seed);
+        murmured.write_u64(n);
+        hashed.write_u64(n);
+        assert_eq!(rt;
+            (murmured.finish(), hashed.finish()),
+            (murmur, xxh64),
+            "{n}"
+        );
+    }
+    for (seed, n, murmur, xxh64) in [
+        (
+            7,
+            -9223372036854775808i64,
+            0x6e52_ad93_7294_91f0,
+            0xb733_43d4_5531_edb1,
+        ),
+        (7, -2, 0x09bf_526b_79e5_231d, 0xebec_947d_1050_6dd7),
+        (7, 0, 0x6ce1_13b1_15a5_6871, 0x8562_a8ca_30d1_d8c7),
+    ] {
+        let (mut murmured, mut hashed) = both(seed);
+        murmured.write_i64(n);
+        hashed.write_i64(n);
+        assert_eq!(rt;
+            (murmured.finish(), hashed.finish()),
+            (murmur, xxh64),
+            "{n}"
+        );
+    }
 }
 
 #[test]
-fn plain_numbers_calculated(rt: HostRuntime) {
-    assert_eq!(rt; calculate_hash(2147483647u32), 0x845a_c6fd_1e24_9714);
-    assert_eq!(rt; calculate_hash(2147483648u32), 0x625a_1bc9_00f4_4b0a);
-    assert_eq!(rt; calculate_hash(-2147483648i32), 0x625a_1bc9_00f4_4b0a);
-    assert_eq!(rt; calculate_hash(2147483647i32), 0x845a_c6fd_1e24_9714);
-    assert_eq!(rt; calculate_hash(0u64), 0x4089_0191_dcc2_d7cb);
-    assert_eq!(rt; calculate_hash(100u64), 0x7243_37e5_58b2_5d89);
-    assert_eq!(rt;
-        calculate_hash(-9223372036854775808i64),
-        0xf32f_57fa_54c2_1975
-    );
-    assert_eq!(rt; calculate_hash(42i64), 0x9080_33af_cdd0_bc1a);
+fn numbers_extended_by_their_value(rt: HostRuntime) {
+    for (n, expected) in [
+        (0, 0x4089_0191_dcc2_d7cb),
+        (128, 0x7743_69d4_2e19_a920),
+        (100, 0x7243_37e5_58b2_5d89),
+    ] {
+        assert_eq!(rt; calculate_hash(natural_extend::from_u8(n)), expected, "{n}");
+    }
+    for (n, expected) in [
+        (-128, 0x7006_144c_2eb1_ab1f),
+        (0, 0x4089_0191_dcc2_d7cb),
+        (100, 0x7243_37e5_58b2_5d89),
+    ] {
+        assert_eq!(rt; calculate_hash(natural_extend::from_i8(n)), expected, "{n}");
+    }
+    for (n, expected) in [
+        (0, 0x4089_0191_dcc2_d7cb),
+        (32768, 0x6b02_7c59_14f0_6600),
+        (100, 0x7243_37e5_58b2_5d89),
+    ] {
+        assert_eq!(rt;
+            calculate_hash(natural_extend::from_u16(n)),
+            expected,
+            "{n}"
+        );
+    }
+    for (n, expected) in [
+        (-32768, 0x62ee_9c6a_7466_2726),
+        (0, 0x4089_0191_dcc2_d7cb),
+        (42, 0x9080_33af_cdd0_bc1a),
+    ] {
+        assert_eq!(rt;
+            calculate_hash(natural_extend::from_i16(n)),
+            expected,
+            "{n}"
+        );
+    }
+    for (n, expected) in [
+        (0, 0x4089_0191_dcc2_d7cb),
+        (2147483648, 0x11ab_8070_f383_45d8),
+        (100, 0x7243_37e5_58b2_5d89),
+    ] {
+        assert_eq!(rt;
+            calculate_hash(natural_extend::from_u32(n)),
+            expected,
+            "{n}"
+        );
+    }
+    for (n, expected) in [
+        (-2147483648, 0x2289_208d_e8a7_e547),
+        (0, 0x4089_0191_dcc2_d7cb),
+        (42, 0x9080_33af_cdd0_bc1a),
+    ] {
+        assert_eq!(rt;
+            calculate_hash(natural_extend::from_i32(n)),
+            expected,
+            "{n}"
+        );
+    }
 }
 
 #[test]
-fn bytes_and_texts_calculated(rt: HostRuntime) -> Result<(), AllocError> {
-    assert_eq!(rt;
-        calculate_hash(raw_bytes::from_slice(&[])),
-        0x1e70_a322_6649_1bb9
-    );
-    assert_eq!(rt;
-        calculate_hash(raw_bytes::from_slice(&[0x00])),
-        0x0803_ae26_67d0_86a8
-    );
-    assert_eq!(rt;
-        calculate_hash(raw_bytes::from_slice(&[0x61, 0x62, 0x63])),
-        0xcb57_126d_d887_8d21
-    );
-    assert_eq!(rt;
-        calculate_hash(raw_bytes::from_slice(&[
-            0xc3, 0xa9, 0xf0, 0x9f, 0x98, 0x80, 0x20, 0x00, 0x78
-        ])),
-        0xc3fd_58e5_a570_9797
-    );
-    assert_eq!(rt;
-        calculate_hash(raw_bytes::from_slice(&[0xff])),
-        0xf677_c154_7eaa_012e
-    );
-    assert_eq!(rt;
-        calculate_hash(raw_bytes::from_slice(&[0xff, 0xfe, 0x80, 0x00])),
-        0x9f98_f1b2_f277_3561
-    );
-    assert_eq!(rt;
-        calculate_hash(raw_bytes::from_str("")),
-        0x1e70_a322_6649_1bb9
-    );
-    assert_eq!(rt;
-        calculate_hash(raw_bytes::from_str("\u{0}")),
-        0x0803_ae26_67d0_86a8
-    );
-    assert_eq!(rt;
-        calculate_hash(raw_bytes::from_str("abc")),
-        0xcb57_126d_d887_8d21
-    );
-    assert_eq!(rt;
-        calculate_hash(raw_bytes::from_str("\u{e9}\u{1f600} \u{0}x")),
-        0xc3fd_58e5_a570_9797
-    );
-    let bytes = Vec::from_slice(rt.alloc(), &[0x00])?;
-    assert_eq!(rt;
-        calculate_hash(raw_bytes::from_vec(bytes)),
-        0x0803_ae26_67d0_86a8
-    );
-    let bytes = Vec::from_slice(rt.alloc(), &[0x61, 0x62, 0x63])?;
-    assert_eq!(rt;
-        calculate_hash(raw_bytes::from_vec(bytes)),
-        0xcb57_126d_d887_8d21
-    );
-    let text = String::from_str(rt.alloc(), "\u{0}")?;
-    assert_eq!(rt;
-        calculate_hash(raw_bytes::from_string(text)),
-        0x0803_ae26_67d0_86a8
-    );
-    let text = String::from_str(rt.alloc(), "abc")?;
-    assert_eq!(rt;
-        calculate_hash(raw_bytes::from_string(text)),
-        0xcb57_126d_d887_8d21
-    );
-    Ok(())
+fn numbers_extended_by_their_highest_bit(rt: HostRuntime) {
+    for (n, expected) in [
+        (0, 0x4089_0191_dcc2_d7cb),
+        (128, 0x7006_144c_2eb1_ab1f),
+        (42, 0x9080_33af_cdd0_bc1a),
+    ] {
+        assert_eq!(rt; calculate_hash(sign_extend::from_u8(n)), expected, "{n}");
+    }
+    for (n, expected) in [
+        (-128, 0x7006_144c_2eb1_ab1f),
+        (0, 0x4089_0191_dcc2_d7cb),
+        (42, 0x9080_33af_cdd0_bc1a),
+    ] {
+        assert_eq!(rt; calculate_hash(sign_extend::from_i8(n)), expected, "{n}");
+    }
+    for (n, expected) in [
+        (0, 0x4089_0191_dcc2_d7cb),
+        (32768, 0x62ee_9c6a_7466_2726),
+        (100, 0x7243_37e5_58b2_5d89),
+    ] {
+        assert_eq!(rt; calculate_hash(sign_extend::from_u16(n)), expected, "{n}");
+    }
+    for (n, expected) in [
+        (-32768, 0x62ee_9c6a_7466_2726),
+        (0, 0x4089_0191_dcc2_d7cb),
+        (100, 0x7243_37e5_58b2_5d89),
+    ] {
+        assert_eq!(rt; calculate_hash(sign_extend::from_i16(n)), expected, "{n}");
+    }
+    for (n, expected) in [
+        (0, 0x4089_0191_dcc2_d7cb),
+        (2147483648, 0x2289_208d_e8a7_e547),
+        (42, 0x9080_33af_cdd0_bc1a),
+    ] {
+        assert_eq!(rt; calculate_hash(sign_extend::from_u32(n)), expected, "{n}");
+    }
+    for (n, expected) in [
+        (-2147483648, 0x2289_208d_e8a7_e547),
+        (0, 0x4089_0191_dcc2_d7cb),
+        (100, 0x7243_37e5_58b2_5d89),
+    ] {
+        assert_eq!(rt; calculate_hash(sign_extend::from_i32(n)), expected, "{n}");
+    }
+}
+
+#[test]
+fn plain_numbers(rt: HostRuntime) {
+    for (n, expected) in [
+        (2147483647u32, 0x845a_c6fd_1e24_9714),
+        (2147483648, 0x625a_1bc9_00f4_4b0a),
+    ] {
+        assert_eq!(rt; calculate_hash(n), expected, "{n}");
+    }
+    for (n, expected) in [
+        (-2147483648i32, 0x625a_1bc9_00f4_4b0a),
+        (2147483647, 0x845a_c6fd_1e24_9714),
+    ] {
+        assert_eq!(rt; calculate_hash(n), expected, "{n}");
+    }
+    for (n, expected) in [(0u64, 0x4089_0191_dcc2_d7cb), (100, 0x7243_37e5_58b2_5d89)] {
+        assert_eq!(rt; calculate_hash(n), expected, "{n}");
+    }
+    for (n, expected) in [
+        (-9223372036854775808i64, 0xf32f_57fa_54c2_1975),
+        (42, 0x9080_33af_cdd0_bc1a),
+    ] {
+        assert_eq!(rt; calculate_hash(n), expected, "{n}");
+    }
+}
+
+const SLICES: [(&[u8], u64); 6] = [
+    (&[], 0x1e70_a322_6649_1bb9),
+    (&[0x00], 0x0803_ae26_67d0_86a8),
+    (&[0x61, 0x62, 0x63], 0xcb57_126d_d887_8d21),
+    (
+        &[0xc3, 0xa9, 0xf0, 0x9f, 0x98, 0x80, 0x20, 0x00, 0x78],
+        0xc3fd_58e5_a570_9797,
+    ),
+    (&[0xff], 0xf677_c154_7eaa_012e),
+    (&[0xff, 0xfe, 0x80, 0x00], 0x9f98_f1b2_f277_3561),
+];
+
+const TEXTS: [(&str, u64); 4] = [
+    ("", 0x1e70_a322_6649_1bb9),
+    ("\u{0}", 0x0803_ae26_67d0_86a8),
+    ("abc", 0xcb57_126d_d887_8d21),
+    ("\u{e9}\u{1f600} \u{0}x", 0xc3fd_58e5_a570_9797),
+];
+
+#[test]
+fn bytes_and_texts(rt: HostRuntime) {
+    for (bytes, expected) in SLICES {
+        assert_eq!(rt; calculate_hash(raw_bytes::from_slice(bytes)), expected);
+    }
+    for (text, expected) in TEXTS {
+        assert_eq!(rt;
+            calculate_hash(raw_bytes::from_str(text)),
+            expected,
+            "{text}"
+        );
+    }
 }
 
 // Seeds and their seed hashes.

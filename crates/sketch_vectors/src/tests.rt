@@ -1,0 +1,5 @@
+mod cuts;
+mod equalities;
+mod fed;
+mod samples;
+mod vectors;

@@ -1,0 +1,260 @@
+//! The bytes that values feed.
+
+use crate::first_bytes::FirstBytes;
+use datasketches::hash::value::{feed_all, natural_extend, raw_bytes, sign_extend};
+use datasketches::hash::{Hash, Hasher, MurmurHash3X64128};
+use std::alloc::AllocError;
+
+// What a hasher was fed that was given one value.
+fn fed<T: Hash + Drop>(value: T) -> FirstBytes {
+    let mut hasher = FirstBytes::new();
+    value.hash(&mut hasher);
+    hasher
+}
+
+#[test]
+fn numbers_extended_by_their_value(rt: HostRuntime) {
+    for (n, bytes) in [
+        (127, [0x7f, 0x00, 0x00, 0x00, 0x00, 0x00, 0x00, 0x00]),
+        (128, [0x80, 0x00, 0x00, 0x00, 0x00, 0x00, 0x00, 0x00]),
+        (255, [0xff, 0x00, 0x00, 0x00, 0x00, 0x00, 0x00, 0x00]),
+    ] {
+        assert_eq!(rt;
+            fed(natural_extend::from_u8(n)).bytes(),
+            bytes.as_slice(),
+            "{n}"
+        );
+    }
+    for (n, bytes) in [
+        (-128, [0x80, 0xff, 0xff, 0xff, 0xff, 0xff, 0xff, 0xff]),
+        (-1, [0xff, 0xff, 0xff, 0xff, 0xff, 0xff, 0xff, 0xff]),
+        (127, [0x7f, 0x00, 0x00, 0x00, 0x00, 0x00, 0x00, 0x00]),
+    ] {
+        assert_eq!(rt;
+            fed(natural_extend::from_i8(n)).bytes(),
+            bytes.as_slice(),
+            "{n}"
+        );
+    }
+    for (n, bytes) in [
+        (32767, [0xff, 0x7f, 0x00, 0x00, 0x00, 0x00, 0x00, 0x00]),
+        (32768, [0x00, 0x80, 0x00, 0x00, 0x00, 0x00, 0x00, 0x00]),
+    ] {
+        assert_eq!(rt;
+            fed(natural_extend::from_u16(n)).bytes(),
+            bytes.as_slice(),
+            "{n}"
+        );
+    }
+    for (n, bytes) in [
+        (-32768, [0x00, 0x80, 0xff, 0xff, 0xff, 0xff, 0xff, 0xff]),
+        (-1, [0xff, 0xff, 0xff, 0xff, 0xff, 0xff, 0xff, 0xff]),
+        (32767, [0xff, 0x7f, 0x00, 0x00, 0x00, 0x00, 0x00, 0x00]),
+    ] {
+        assert_eq!(rt;
+            fed(natural_extend::from_i16(n)).bytes(),
+            bytes.as_slice(),
+            "{n}"
+        );
+    }
+    for (n, bytes) in [
+        (2147483648, [0x00, 0x00, 0x00, 0x80, 0x00, 0x00, 0x00, 0x00]),
+        (4294967295, [0xff, 0xff, 0xff, 0xff, 0x00, 0x00, 0x00, 0x00]),
+    ] {
+        assert_eq!(rt;
+            fed(natural_extend::from_u32(n)).bytes(),
+            bytes.as_slice(),
+            "{n}"
+        );
+    }
+    for (n, bytes) in [
+        (
+            -2147483648,
+            [0x00, 0x00, 0x00, 0x80, 0xff, 0xff, 0xff, 0xff],
+        ),
+        (-1, [0xff, 0xff, 0xff, 0xff, 0xff, 0xff, 0xff, 0xff]),
+    ] {
+        assert_eq!(rt;
+            fed(natural_extend::from_i32(n)).bytes(),
+            bytes.as_slice(),
+            "{n}"
+        );
+    }
+}
+
+#[test]
+fn numbers_extended_by_their_highest_bit(rt: HostRuntime) {
+    for (n, bytes) in [
+        (127, [0x7f, 0x00, 0x00, 0x00, 0x00, 0x00, 0x00, 0x00]),
+        (128, [0x80, 0xff, 0xff, 0xff, 0xff, 0xff, 0xff, 0xff]),
+        (255, [0xff, 0xff, 0xff, 0xff, 0xff, 0xff, 0xff, 0xff]),
+    ] {
+        assert_eq!(rt;
+            fed(sign_extend::from_u8(n)).bytes(),
+            bytes.as_slice(),
+            "{n}"
+        );
+    }
+    for (n, bytes) in [
+        (-128, [0x80, 0xff, 0xff, 0xff, 0xff, 0xff, 0xff, 0xff]),
+        (-1, [0xff, 0xff, 0xff, 0xff, 0xff, 0xff, 0xff, 0xff]),
+        (127, [0x7f, 0x00, 0x00, 0x00, 0x00, 0x00, 0x00, 0x00]),
+    ] {
+        assert_eq!(rt;
+            fed(sign_extend::from_i8(n)).bytes(),
+            bytes.as_slice(),
+            "{n}"
+        );
+    }
+    for (n, bytes) in [
+        (32767, [0xff, 0x7f, 0x00, 0x00, 0x00, 0x00, 0x00, 0x00]),
+        (32768, [0x00, 0x80, 0xff, 0xff, 0xff, 0xff, 0xff, 0xff]),
+    ] {
+        assert_eq!(rt;
+            fed(sign_extend::from_u16(n)).bytes(),
+            bytes.as_slice(),
+            "{n}"
+        );
+    }
+    for (n, bytes) in [
+        (-32768, [0x00, 0x80, 0xff, 0xff, 0xff, 0xff, 0xff, 0xff]),
+        (-1, [0xff, 0xff, 0xff, 0xff, 0xff, 0xff, 0xff, 0xff]),
+        (32767, [0xff, 0x7f, 0x00, 0x00, 0x00, 0x00, 0x00, 0x00]),
+    ] {
+        assert_eq!(rt;
+            fed(sign_extend::from_i16(n)).bytes(),
+            bytes.as_slice(),
+            "{n}"
+        );
+    }
+    for (n, bytes) in [
+        (2147483648, [0x00, 0x00, 0x00, 0x80, 0xff, 0xff, 0xff, 0xff]),
+        (4294967295, [0xff, 0xff, 0xff, 0xff, 0xff, 0xff, 0xff, 0xff]),
+    ] {
+        assert_eq!(rt;
+            fed(sign_extend::from_u32(n)).bytes(),
+            bytes.as_slice(),
+            "{n}"
+        );
+    }
+    for (n, bytes) in [
+        (
+            -2147483648,
+            [0x00, 0x00, 0x00, 0x80, 0xff, 0xff, 0xff, 0xff],
+        ),
+        (-1, [0xff, 0xff, 0xff, 0xff, 0xff, 0xff, 0xff, 0xff]),
+    ] {
+        assert_eq!(rt;
+            fed(sign_extend::from_i32(n)).bytes(),
+            bytes.as_slice(),
+            "{n}"
+        );
+    }
+}
+
+#[test]
+fn plain_numbers(rt: HostRuntime) {
+    for (n, bytes) in [(127u8, [0x7f]), (128, [0x80]), (255, [0xff])] {
+        assert_eq!(rt; fed(n).bytes(), bytes.as_slice(), "{n}");
+    }
+    for (n, bytes) in [(-128i8, [0x80]), (-1, [0xff]), (127, [0x7f])] {
+        assert_eq!(rt; fed(n).bytes(), bytes.as_slice(), "{n}");
+    }
+    for (n, bytes) in [(32767u16, [0xff, 0x7f]), (32768, [0x00, 0x80])] {
+        assert_eq!(rt; fed(n).bytes(), bytes.as_slice(), "{n}");
+    }
+    for (n, bytes) in [
+        (-32768i16, [0x00, 0x80]),
+        (-1, [0xff, 0xff]),
+        (32767, [0xff, 0x7f]),
+    ] {
+        assert_eq!(rt; fed(n).bytes(), bytes.as_slice(), "{n}");
+    }
+    for (n, bytes) in [
+        (2147483648u32, [0x00, 0x00, 0x00, 0x80]),
+        (4294967295, [0xff, 0xff, 0xff, 0xff]),
+    ] {
+        assert_eq!(rt; fed(n).bytes(), bytes.as_slice(), "{n}");
+    }
+    for (n, bytes) in [
+        (-2147483648i32, [0x00, 0x00, 0x00, 0x80]),
+        (-1, [0xff, 0xff, 0xff, 0xff]),
+    ] {
+        assert_eq!(rt; fed(n).bytes(), bytes.as_slice(), "{n}");
+    }
+    for (n, bytes) in [
+        (
+            9223372036854775807u64,
+            [0xff, 0xff, 0xff, 0xff, 0xff, 0xff, 0xff, 0x7f],
+        ),
+        (
+            18446744073709551615,
+            [0xff, 0xff, 0xff, 0xff, 0xff, 0xff, 0xff, 0xff],
+        ),
+    ] {
+        assert_eq!(rt; fed(n).bytes(), bytes.as_slice(), "{n}");
+    }
+    for (n, bytes) in [
+        (
+            -9223372036854775808i64,
+            [0x00, 0x00, 0x00, 0x00, 0x00, 0x00, 0x00, 0x80],
+        ),
+        (-1, [0xff, 0xff, 0xff, 0xff, 0xff, 0xff, 0xff, 0xff]),
+        (
+            9223372036854775807,
+            [0xff, 0xff, 0xff, 0xff, 0xff, 0xff, 0xff, 0x7f],
+        ),
+    ] {
+        assert_eq!(rt; fed(n).bytes(), bytes.as_slice(), "{n}");
+    }
+}
+
+#[test]
+fn bytes_and_texts(rt: HostRuntime) -> Result<(), AllocError> {
+    let expected = [1, 2, 0xff].as_slice();
+    assert_eq!(rt; fed(raw_bytes::from_slice(&[1, 2, 0xff])).bytes(), expected);
+    let bytes = Vec::from_slice(rt.alloc(), expected)?;
+    assert_eq!(rt; fed(raw_bytes::from_vec(bytes)).bytes(), expected);
+    assert_eq!(rt; fed(raw_bytes::from_str("abc")).bytes(), b"abc".as_slice());
+    let text = String::from_str(rt.alloc(), "abc")?;
+    assert_eq!(rt;
+        fed(raw_bytes::from_string(text)).bytes(),
+        b"abc".as_slice()
+    );
+    assert!(rt; fed(raw_bytes::from_str("")).bytes().is_empty());
+    Ok(())
+}
+
+#[test]
+fn values_of_a_list_in_order(rt: HostRuntime) {
+    let texts = [
+        raw_bytes::from_str("ab"),
+        raw_bytes::from_str(""),
+        raw_bytes::from_str("c"),
+    ];
+    let mut hasher = FirstBytes::new();
+    feed_all(&texts, &mut hasher);
+    assert_eq!(rt; hasher.bytes(), b"abc".as_slice());
+
+    let pieces = [
+        raw_bytes::from_slice(b"T"),
+        raw_bytes::from_slice(b"he quick brown "),
+        raw_bytes::from_slice(b"fox jumps over t"),
+        raw_bytes::from_slice(b"he lazy dog"),
+    ];
+    let mut murmur = MurmurHash3X64128::with_seed(0);
+    feed_all(&pieces, &mut murmur);
+    assert_eq!(rt;
+        murmur.finish128(),
+        (0xe34b_bc7b_bc07_1b6c, 0x7a43_3ca9_c49a_9347)
+    );
+}
+
+#[test]
+fn only_the_first_bytes_are_kept(rt: HostRuntime) {
+    let mut hasher = FirstBytes::new();
+    hasher.write(&[1; 60]);
+    hasher.write(&[2; 60]);
+    assert_eq!(rt; hasher.finish(), 64);
+    assert_eq!(rt; hasher.bytes().get(59..62), Some([1, 2, 2].as_slice()));
+}
