@@ -18,9 +18,10 @@ use Rattle.sketch_hash.specs.contracts.hash.value.sign_extend.SignExtendStrategy
 abbrev pub IsSigned : ℕ → ℤ → Type 0
 IsSigned w x = (neg_ℤ (pos (2 ^ (w - 1))) ≤ℤ x) × (x <ℤ pos (2 ^ (w - 1)))
 
--- What two strategies feed for the signed and the unsigned integers of w bits, where the first extends by
--- value and the second by sign: both feed the same for a signed integer, and for an unsigned one exactly if its
--- top bit is clear. By sign, a signed and an unsigned one feed the same exactly if they agree modulo 2 ^ w.
+-- What two strategies feed for the signed and the unsigned integers of w bits, where the first
+-- extends by value and the second by sign: both feed the same for a signed integer, and for an
+-- unsigned one exactly if its top bit is clear. By sign, a signed and an unsigned one feed the same
+-- exactly if they agree modulo 2 ^ w.
 pub record ExtendLawAt (w : ℕ) (natural_signed : ℤ → List ℕ) (natural_unsigned : ℕ → List ℕ)
     (sign_signed : ℤ → List ℕ) (sign_unsigned : ℕ → List ℕ) : Type 0 where
   pub signed_alike : (x : ℤ) → natural_signed x ≡ sign_signed x

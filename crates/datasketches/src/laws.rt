@@ -35,6 +35,17 @@ fn murmur_of(seed: u64, bytes: &[u8]) -> (u64, u64)
     hasher.finish128()
 }
 
+/// With the seed, the length and all other bytes fixed, the Murmur pair of a stream takes every pair of words
+/// exactly once over all sixteen bytes of a full aligned block.
+pub fn murmur_block_law()
+    ensures { MurmurBlockLaw }
+{}
+
+/// The full blocks of a stream map the pairs of words onto all pairs of words, each exactly once.
+pub fn murmur_seed_law()
+    ensures { MurmurSeedLaw }
+{}
+
 /// The XXH64 hashes of two streams, each under its own seed.
 ///
 /// Under one seed, two streams of one length with the same full stripes of 32 bytes, whose tails differ in
@@ -55,15 +66,15 @@ fn xxh64_of(seed: u64, bytes: &[u8]) -> u64
     hasher.finish64()
 }
 
-/// With the seed, the length and all other bytes fixed, the Murmur pair of a stream takes every pair of words
-/// exactly once over all sixteen bytes of a full aligned block.
-pub fn murmur_block_law()
-    ensures { MurmurBlockLaw }
+/// Under one seed, two streams of one length with the same full stripes of 32 bytes, whose tails differ in
+/// exactly one step, have different XXH64 hashes.
+pub fn xx_tail_law()
+    ensures { XxTailLaw }
 {}
 
-/// The full blocks of a stream map the pairs of words onto all pairs of words, each exactly once.
-pub fn murmur_seed_law()
-    ensures { MurmurSeedLaw }
+/// A stream of fewer than 32 bytes has different XXH64 hashes under different seeds.
+pub fn xx_seed_law()
+    ensures { XxSeedLaw }
 {}
 
 /// Integers of 8 to 32 bits, extended to eight bytes and written alone after one seed, have equal Murmur
@@ -76,17 +87,6 @@ pub fn integer_law()
 /// For each seed, `hash_u64` of all 64-bit numbers takes each 64-bit number exactly once.
 pub fn hash_u64_law()
     ensures { HashU64Law }
-{}
-
-/// Under one seed, two streams of one length with the same full stripes of 32 bytes, whose tails differ in
-/// exactly one step, have different XXH64 hashes.
-pub fn xx_tail_law()
-    ensures { XxTailLaw }
-{}
-
-/// A stream of fewer than 32 bytes has different XXH64 hashes under different seeds.
-pub fn xx_seed_law()
-    ensures { XxSeedLaw }
 {}
 
 /// When `NaturalExtendStrategy` and `SignExtendStrategy` feed equal bytes, and when not.

@@ -48,8 +48,12 @@ rest-first w bytes p h =
 pub absorbed_waits : {P R : Type 0} (w : ℕ) (read : List ℕ → R) (f : P → R → P) (state : State P) (b : ℕ) →
     length (state.waiting ++ b ∷ []) < w →
     absorbed w read f state
-        (b ∷ []) ≡ record { folded = state.folded; total = (state.total + 1) % 2 ^ 64; waiting =
-        state.waiting ++ b ∷ [] }
+    (b ∷ []) ≡ record {
+      folded = state.folded;
+      total = (state.total + 1) % 2 ^ 64;
+      waiting =
+          state.waiting ++ b ∷ [];
+    }
 unfolding absorbed
 absorbed_waits w read f state b h =
     let none = pieces_short w (state.waiting ++ b ∷ []) h in
@@ -61,8 +65,12 @@ pub absorbed_fills : {P R : Type 0} (w : ℕ) (read : List ℕ → R) (f : P →
     0 < w →
     length (state.waiting ++ b ∷ []) ≡ w →
     absorbed w read f state
-        (b ∷ []) ≡ record { folded = f state.folded (read (state.waiting ++ b ∷ [])); total =
-        (state.total + 1) % 2 ^ 64; waiting = [] }
+    (b ∷ []) ≡ record {
+      folded = f state.folded (read (state.waiting ++ b ∷ []));
+      total =
+          (state.total + 1) % 2 ^ 64;
+      waiting = [];
+    }
 unfolding absorbed
 absorbed_fills w read f state b p h =
     let one = pieces_one w (state.waiting ++ b ∷ []) p h in
@@ -76,4 +84,4 @@ pub fold-advanced : {P R : Type 0} (w : ℕ) (read : List ℕ → R) (f : P → 
 fold-advanced w read f p [] state = refl
 fold-advanced w read f p (b ∷ bytes) state =
     fold-advanced w read f p bytes (advanced w read f state (b ∷ []))
-        ∙ advanced-append w read f p state (b ∷ []) bytes
+    ∙ advanced-append w read f p state (b ∷ []) bytes

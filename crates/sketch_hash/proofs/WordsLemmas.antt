@@ -42,13 +42,13 @@ xor_shifted-is k x p = let less = shr_le x k in xor-is x (x / 2 ^ k) p (omega ar
 pub rotated_up : (x left right : ℕ) → left + right ≡ 64 → x * 2 ^ left % 2 ^ 64 ≡ x % 2 ^ right * 2 ^ left
 rotated_up x left right e =
     let whole : 2 ^ 64 ≡ 2 ^ right * 2 ^ left = ap (λ n. 2 ^ n) (sym e ∙ turned left right)
-        ∙ pow-add 2 right left in
+    ∙ pow-add 2 right left in
     let low : x % 2 ^ right * 2 ^ left < 2 ^ 64 =
     subst (λ n. x % 2 ^ right * 2 ^ left < 2 ^ n) (turned right left
-        ∙ e) (shl_below (x % 2 ^ right) right left (mod_below x (2 ^ right) (pow_pos right))) in
+    ∙ e) (shl_below (x % 2 ^ right) right left (mod_below x (2 ^ right) (pow_pos right))) in
     ap (λ v. v * 2 ^ left % 2 ^ 64) (sym (shr_split x right))
     ∙ ap (λ v. v % 2 ^ 64) (spread (x / 2 ^ right) (2 ^ right) (x % 2 ^ right) (2 ^ left)
-        ∙ ap (λ v. x / 2 ^ right * v + x % 2 ^ right * 2 ^ left) (sym whole))
+    ∙ ap (λ v. x / 2 ^ right * v + x % 2 ^ right * 2 ^ left) (sym whole))
     ∙ mod_low (x / 2 ^ right) 64 (x % 2 ^ right * 2 ^ left) low
   where
     turned : (a b : ℕ) → a + b ≡ b + a

@@ -21,7 +21,7 @@ steps_of_one (b ∷ bytes) =
     let first = pieces-first 1 (b ∷ bytes) (omega arith) (omega arith) in
     let number : le (b ∷ []) ≡ b = omega arith in
     ap (map (λ piece. (1, le piece))) first ∙ ap (λ n. (1, n) ∷ steps_of 1 bytes) number
-        ∙ ap (λ t. (1, b) ∷ t) (steps_of_one bytes)
+    ∙ ap (λ t. (1, b) ∷ t) (steps_of_one bytes)
 
 -- a tail of eight bytes and more begins with a word
 steps_eight : (bytes : List ℕ) → 8 ≤ length bytes →
@@ -34,7 +34,7 @@ steps_eight bytes h =
 
 pub fold_eight : (hash : ℕ) (bytes : List ℕ) → 8 ≤ length bytes →
     fold tail_step hash (steps bytes) ≡ fold tail_step (eight_step hash (le (take 8 bytes)))
-        (steps (drop 8 bytes))
+    (steps (drop 8 bytes))
 unfolding tail_step
 fold_eight hash bytes h = ap (fold tail_step hash) (steps_eight bytes h)
 

@@ -19,6 +19,6 @@ murmur_after-nil state = refl
 -- a write takes a hasher that stands for bytes to one that stands for them and the written ones
 pub murmur_stands-after : (seed : ℕ) (before bytes : List ℕ) (state next : State (ℕ × ℕ)) →
     MurmurStands state seed before → next ≡ murmur_after state bytes →
-        MurmurStands next seed (before ++ bytes)
+    MurmurStands next seed (before ++ bytes)
 murmur_stands-after seed before bytes state next stands written =
     written ∙ ap (λ s. murmur_after s bytes) stands ∙ murmur_after-append (murmur_start seed) before bytes

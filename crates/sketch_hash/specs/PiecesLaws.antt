@@ -16,9 +16,9 @@ first_pieces-append (suc n) m w xs ys h =
     let first : w ≤ length xs = omega (arith, more) in
     let others : n * w ≤ length (drop w xs) = rw (length-drop w xs) (omega (arith, more)) in
     let further : drop (n * w) (drop w xs) ≡ drop (suc n * w) xs = drop-drop (n * w) w xs
-        ∙ ap (λ k. drop k xs) (omega (arith, more)) in
+    ∙ ap (λ k. drop k xs) (omega (arith, more)) in
     rw (suc-add n m) (ap (λ piece. piece ∷ first_pieces (n + m) w (drop w (xs ++ ys)))
-        (take-append-le w xs ys first)
+    (take-append-le w xs ys first)
     ∙ ap (λ t. take w xs ∷ first_pieces (n + m) w t) (drop-append-le w xs ys first)
     ∙ ap (λ t. take w xs ∷ t) (first_pieces-append n m w (drop w xs) ys others)
     ∙ ap (λ t. take w xs ∷ (first_pieces n w (drop w xs) ++ first_pieces m w (t ++ ys))) further)
@@ -60,18 +60,18 @@ same_state s t a b c = ap (λ x. record { folded = x; total = s.total; waiting =
 -- what two writes absorb is what one write of the joined bytes absorbs
 pub absorbed-append : {P R : Type 0} (w : ℕ) (read : List ℕ → R) (f : P → R → P) → 0 < w →
     (state : State P) (xs ys : List ℕ) →
-        absorbed w read f (absorbed w read f state xs) ys ≡ absorbed w read f state (xs ++ ys)
+    absorbed w read f (absorbed w read f state xs) ys ≡ absorbed w read f state (xs ++ ys)
 unfolding absorbed
 absorbed-append w read f p state xs ys =
     let held = state.waiting ++ xs in
     let joined : state.waiting ++ (xs ++ ys) ≡ held ++ ys = sym (append_assoc state.waiting xs ys) in
     let all : map read (pieces w (state.waiting ++ (xs ++ ys))) ≡ map read (pieces w held) ++ map read
-        (pieces w (rest w held ++ ys)) =
+    (pieces w (rest w held ++ ys)) =
     ap (λ t. map read (pieces w t)) joined ∙ ap (map read) (pieces-append w held ys p)
-        ∙ map-append read (pieces w held) (pieces w (rest w held ++ ys)) in
+    ∙ map-append read (pieces w held) (pieces w (rest w held ++ ys)) in
     same_state _ _
     (sym (ap (fold f state.folded) all
-        ∙ fold-append f state.folded (map read (pieces w held)) (map read (pieces w (rest w held ++ ys)))))
+    ∙ fold-append f state.folded (map read (pieces w held)) (map read (pieces w (rest w held ++ ys)))))
     (rw (length-append xs ys) (counted state.total (length xs) (length ys)))
     (sym (ap (rest w) joined ∙ rest-append w held ys p))
   where
@@ -81,7 +81,7 @@ absorbed-append w read f p state xs ys =
 -- two writes join
 pub advanced-append : {P R : Type 0} (w : ℕ) (read : List ℕ → R) (f : P → R → P) → 0 < w →
     (state : State P) (xs ys : List ℕ) →
-        advanced w read f (advanced w read f state xs) ys ≡ advanced w read f state (xs ++ ys)
+    advanced w read f (advanced w read f state xs) ys ≡ advanced w read f state (xs ++ ys)
 advanced-append w read f p state [] ys = refl
 advanced-append w read f p state (x ∷ xs) [] = ap (λ t. absorbed w read f state (x ∷ t)) (sym (append-nil xs))
 advanced-append w read f p state (x ∷ xs) (y ∷ ys) = absorbed-append w read f p state (x ∷ xs) (y ∷ ys)

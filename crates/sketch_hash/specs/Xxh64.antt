@@ -82,9 +82,8 @@ merge v =
 abbrev pub steps_of : ℕ → List ℕ → List (ℕ × ℕ)
 steps_of w bytes = map (λ piece. (w, le piece)) (pieces w bytes)
 
--- The bytes behind the stripes, in order, as steps (width, number): words of eight bytes while eight are
--- left,
--- then one of four bytes where four are left, then single bytes.
+-- The bytes behind the stripes, in order, as steps (width, number): words of eight bytes while
+-- eight are left, then one of four bytes where four are left, then single bytes.
 unfoldable pub steps : List ℕ → List (ℕ × ℕ)
 steps waiting = steps_of 8 waiting ++ steps_of 4 (rest 8 waiting) ++ steps_of 1 (rest 4 (rest 8 waiting))
 

@@ -9,15 +9,18 @@ use Rattle.sketchsum.specs.declared.ending.RunFault.TheVariants.{Read, TooLong, 
 use Rattle.sketchsum.specs.Digest.{digest_line}
 use Rattle.sketchsum.specs.Reading.{HasRead}
 
--- a run of so many turns at most; the reader has unread bytes left, then others, and the writer holds bytes, then others
+-- a run of so many turns at most; the reader has unread bytes left, then others, and the writer
+-- holds bytes, then others
 pub record Runs (algorithm : Algorithm) (seed turns : ℕ) (result : Result (Unit {0}) RunFault)
     (unread left held holds : Option (List ℕ)) : Type 0 where
   -- on success just the line of the bytes that were read was written, and none is left unread
-  pub digest : OnOk result (HasRead unread left (λ bytes. Appends held holds (digest_line algorithm seed bytes)))
+  pub digest : OnOk result (HasRead unread left
+      (λ bytes. Appends held holds (digest_line algorithm seed bytes)))
   pub whole : OnOk result (IsAtEnd left)
   -- nor is one where a write fails
   pub whole_at_write : result ≡ Err Write → IsAtEnd left
-  -- nothing was written where a read fails, nor where the input is too long, and then a byte a turn was read at least
+  -- nothing was written where a read fails, nor where the input is too long, and then a byte a turn
+  -- was read at least
   pub silent_at_read : result ≡ Err Read → Keeps held holds
   pub silent_at_too_long : result ≡ Err TooLong → Keeps held holds
   pub too_long : result ≡ Err TooLong → HasRead unread left (λ bytes. turns ≤ length bytes)

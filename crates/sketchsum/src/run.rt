@@ -36,8 +36,8 @@ pub fn run<R: Read, W: Write>(
 ///
 /// # Errors
 ///
-/// [`RunFault::Read`] where a read fails, [`RunFault::TooLong`] where `turns` reads were made and none was the
-/// end: nothing is written then. [`RunFault::Write`] where a write or the flush fails.
+/// [`RunFault::Read`] where a read fails, [`RunFault::TooLong`] where `turns` reads were made and
+/// none was the end: nothing is written then. [`RunFault::Write`] where a write or the flush fails.
 pub fn run_bounded<R: Read, W: Write>(
     algorithm: Algorithm,
     seed: u64,

@@ -47,8 +47,8 @@ impl MurmurHash3X64128 {
     /// The 128-bit hash of all bytes so far, as its first and its second word.
     pub fn finish128(&self) -> (u64, u64)
         ensures finished { result ≡ murmur_finished self.now }
-        ensures stands {
-            (seed : ℕ) (bytes : List ℕ) → MurmurStands self.now seed bytes → result ≡ murmur seed bytes }
+        ensures stands { (seed : ℕ) (bytes : List ℕ) → MurmurStands self.now seed bytes →
+            result ≡ murmur seed bytes }
     {
         let padded = self.waiting.padded();
         let (h1, h2) = (
@@ -94,17 +94,16 @@ impl Hasher for MurmurHash3X64128 {
 
     fn write(&mut self, bytes: &[u8])
         ensures after { self.new ≡ murmur_after self.old bytes.now }
-        ensures stands {
-            (seed : ℕ) (before : List ℕ) → MurmurStands self.old seed before →
-                MurmurStands self.new seed (before ++ bytes.now) }
+        ensures stands { (seed : ℕ) (before : List ℕ) → MurmurStands self.old seed before →
+            MurmurStands self.new seed (before ++ bytes.now) }
     {
         push_all(self, bytes);
     }
 
     fn finish(&self) -> u64
         ensures answer { result ≡ (murmur_finished self.now).0 }
-        ensures stands {
-            (seed : ℕ) (bytes : List ℕ) → MurmurStands self.now seed bytes → result ≡ (murmur seed bytes).0 }
+        ensures stands { (seed : ℕ) (bytes : List ℕ) → MurmurStands self.now seed bytes →
+            result ≡ (murmur seed bytes).0 }
     {
         let (h1, _) = self.finish128();
         h1

@@ -9,9 +9,8 @@ use super::murmurhash::MurmurHash3X64128;
 use sketch_base::error::{Error, ErrorKind};
 use std::alloc::Global;
 
-/// The seed hash of a seed: the low 16 bits of the first word of MurmurHash3's hash of the seed's eight
-/// little-endian
-/// bytes, under seed 0.
+/// The seed hash of a seed: the low 16 bits of the first word of MurmurHash3's hash of the seed's
+/// eight little-endian bytes, under seed 0.
 ///
 /// Zero stands for no seed hash in old serialized sketches, so a seed whose hash is zero cannot be used.
 ///
@@ -48,7 +47,8 @@ pub fn check_seed_hash(
 ) -> Result<(), Error>
     ensures { MatchResult result
         (λ _. actual ≡ expected)
-        (λ error. (actual ≢ expected) × Refuses kind (incompatible_seed_hash_text name.entry.now expected actual) error) }
+        (λ error. (actual ≢ expected)
+        × Refuses kind (incompatible_seed_hash_text name.entry.now expected actual) error) }
 {
     if actual == expected {
         return Ok(());

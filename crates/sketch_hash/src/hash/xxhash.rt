@@ -68,8 +68,8 @@ impl XxHash64 {
     /// The 64-bit hash of all bytes so far.
     pub fn finish64(&self) -> u64
         ensures finished { result ≡ xxh64_finished self.now }
-        ensures stands {
-            (seed : ℕ) (bytes : List ℕ) → Xxh64Stands self.now seed bytes → result ≡ xxh64 seed bytes }
+        ensures stands { (seed : ℕ) (bytes : List ℕ) → Xxh64Stands self.now seed bytes →
+            result ≡ xxh64 seed bytes }
     {
         let hash = if self.is_short() {
             self.seed.wrapping_add(PRIME5)
@@ -146,17 +146,16 @@ impl Hasher for XxHash64 {
 
     fn write(&mut self, bytes: &[u8])
         ensures after { self.new ≡ xxh64_after self.old bytes.now }
-        ensures stands {
-            (seed : ℕ) (before : List ℕ) → Xxh64Stands self.old seed before →
-                Xxh64Stands self.new seed (before ++ bytes.now) }
+        ensures stands { (seed : ℕ) (before : List ℕ) → Xxh64Stands self.old seed before →
+            Xxh64Stands self.new seed (before ++ bytes.now) }
     {
         push_all(self, bytes);
     }
 
     fn finish(&self) -> u64
         ensures answer { result ≡ xxh64_finished self.now }
-        ensures stands {
-            (seed : ℕ) (bytes : List ℕ) → Xxh64Stands self.now seed bytes → result ≡ xxh64 seed bytes }
+        ensures stands { (seed : ℕ) (bytes : List ℕ) → Xxh64Stands self.now seed bytes →
+            result ≡ xxh64 seed bytes }
     {
         self.finish64()
     }

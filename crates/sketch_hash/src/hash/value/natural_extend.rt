@@ -1,6 +1,5 @@
-//! Short integers that are fed as eight bytes, by their value: a signed number with its sign, an unsigned
-//! one with
-//! zeros in front.
+//! Short integers that are fed as eight bytes, by their value: a signed number with its sign, an
+//! unsigned one with zeros in front.
 //!
 //! So the unsigned 255 of eight bits feeds what 255 of 64 bits feeds.
 

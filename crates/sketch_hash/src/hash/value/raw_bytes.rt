@@ -1,8 +1,7 @@
 //! Bytes and text that are fed as they are, with no length in front and no end mark.
 //!
-//! Empty bytes feed nothing. A caller that has to agree with an implementation which skips empty texts
-//! skips them
-//! itself.
+//! Empty bytes feed nothing. A caller that has to agree with an implementation which skips empty
+//! texts skips them itself.
 
 ghost use Rattle.std.specs.Prelude.{◌≡◌};
 ghost use Rattle.std.specs.String.{string_bytes};

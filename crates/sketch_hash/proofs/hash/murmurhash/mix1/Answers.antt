@@ -9,4 +9,4 @@ unfolding mix1
 returns c =
     let k = times c.args.k1 c1 in
     ap (λ v. times v c2) (c.rotate_left.ensures
-        ∙ sym (rotate-is k 31 (lit< tt) (lit< tt) (times-lt c.args.k1 c1)))
+    ∙ sym (rotate-is k 31 (lit< tt) (lit< tt) (times-lt c.args.k1 c1)))

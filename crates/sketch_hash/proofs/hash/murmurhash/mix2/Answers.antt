@@ -9,4 +9,4 @@ unfolding mix2
 returns c =
     let k = times c.args.k2 c2 in
     ap (λ v. times v c1) (c.rotate_left.ensures
-        ∙ sym (rotate-is k 33 (lit< tt) (lit< tt) (times-lt c.args.k2 c2)))
+    ∙ sym (rotate-is k 33 (lit< tt) (lit< tt) (times-lt c.args.k2 c2)))

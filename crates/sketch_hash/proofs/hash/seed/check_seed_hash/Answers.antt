@@ -3,6 +3,8 @@ use Rattle.sketch_hash.proofs.RefusalLemmas.{refused}
 use Rattle.sketch_hash.proofs.hash.seed.check_seed_hash.Goals as goal
 
 pub returns : goal.returns
-returns c = (c.if-actual-expected.false,
-    refused c.args.kind _ c.format-text.result c.from_text.result c.from_text.ensures
-    (simp append_assoc c.format-text.ensures.ok))
+returns c = (
+  c.if-actual-expected.false,
+  refused c.args.kind _ c.format-text.result c.from_text.result c.from_text.ensures
+      (simp append_assoc c.format-text.ensures.ok),
+)

@@ -6,4 +6,4 @@ pub returns : goal.returns
 returns g c =
     let bytes = g.T.Hash.fed c.args.t in
     c.finish.ensures.stands 9001 bytes
-        (murmur_stands-after 9001 [] bytes _ _ c.default-hasher.ensures c.hash.ensures)
+    (murmur_stands-after 9001 [] bytes _ _ c.default-hasher.ensures c.hash.ensures)

@@ -9,6 +9,6 @@ unfolding byte_step
 returns c =
     let mixed = times c.from.result prime5 in
     let turned = c.rotate_left.ensures
-        ∙ rotate-xor c.args.hash mixed 11 (lit< tt) (lit< tt) c.ranges.hash.fits
-        (times-lt c.from.result prime5) in
+    ∙ rotate-xor c.args.hash mixed 11 (lit< tt) (lit< tt) c.ranges.hash.fits
+    (times-lt c.from.result prime5) in
     rw (turned, c.from.ensures) refl

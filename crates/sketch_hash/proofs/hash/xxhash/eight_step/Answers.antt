@@ -7,5 +7,5 @@ pub returns : goal.returns
 unfolding eight_step
 returns c =
     let turned = c.rotate_left.ensures
-        ∙ rotate-xor c.args.hash c.round.result 27 (lit< tt) (lit< tt) c.ranges.hash.fits c.round.type_inv in
+    ∙ rotate-xor c.args.hash c.round.result 27 (lit< tt) (lit< tt) c.ranges.hash.fits c.round.type_inv in
     rw (turned, c.round.ensures) refl

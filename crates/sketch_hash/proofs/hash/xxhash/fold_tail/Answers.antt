@@ -9,10 +9,15 @@ loop-rest-preserved c =
 
 pub returns-then-rest-ge4 : goal.returns-then-rest-ge4
 returns-then-rest-ge4 c =
-    rw (c.fold_bytes.ensures, c.four_step.ensures, c.read_u32_le.ensures,
-        c.split_at-then-rest-ge4.ensures.front, c.split_at-then-rest-ge4.ensures.back)
+    rw (
+      c.fold_bytes.ensures,
+      c.four_step.ensures,
+      c.read_u32_le.ensures,
+      c.split_at-then-rest-ge4.ensures.front,
+      c.split_at-then-rest-ge4.ensures.back,
+    )
     (sym (fold_four c.loop-rest.hash c.loop-rest.rest.now c.if-rest-ge4.true c.loop-rest-test.false)
-        ∙ c.loop-rest.invariant)
+    ∙ c.loop-rest.invariant)
 
 pub returns : goal.returns
 returns c = c.fold_bytes-2.ensures

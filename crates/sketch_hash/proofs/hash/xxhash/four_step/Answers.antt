@@ -9,6 +9,6 @@ unfolding four_step
 returns c =
     let mixed = times c.from.result prime1 in
     let turned = c.rotate_left.ensures
-        ∙ rotate-xor c.args.hash mixed 23 (lit< tt) (lit< tt) c.ranges.hash.fits
-        (times-lt c.from.result prime1) in
+    ∙ rotate-xor c.args.hash mixed 23 (lit< tt) (lit< tt) c.ranges.hash.fits
+    (times-lt c.from.result prime1) in
     rw (turned, c.from.ensures) refl

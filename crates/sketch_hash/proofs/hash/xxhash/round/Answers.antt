@@ -9,4 +9,4 @@ unfolding round
 returns c =
     let mixed = times c.args.word prime2 in
     ap (λ v. times v prime1) (c.rotate_left.ensures
-        ∙ sym (rotate-is (plus c.args.lane mixed) 31 (lit< tt) (lit< tt) (plus-lt c.args.lane mixed)))
+    ∙ sym (rotate-is (plus c.args.lane mixed) 31 (lit< tt) (lit< tt) (plus-lt c.args.lane mixed)))

@@ -12,8 +12,17 @@ finished c =
     let w2 : IsWord c.self.inside.h2 = search rules in
     let first = xor-is c.self.inside.h1 c.mix1.result w1 c.mix1.type_inv in
     let second = xor-is c.self.inside.h2 c.mix2.result w2 c.mix2.type_inv in
-    rw (← c.self.view_is, c.finalized.ensures, ← first, ← second, c.mix1.ensures, c.mix2.ensures,
-        c.read_u64_le.ensures, c.read_u64_le-2.ensures, c.padded-padded.ensures) refl
+    rw (
+      ← c.self.view_is,
+      c.finalized.ensures,
+      ← first,
+      ← second,
+      c.mix1.ensures,
+      c.mix2.ensures,
+      c.read_u64_le.ensures,
+      c.read_u64_le-2.ensures,
+      c.padded-padded.ensures,
+    ) refl
 
 pub returns-clause-finished : goal.returns-clause-finished
 returns-clause-finished c = finished c

@@ -15,4 +15,4 @@ returns-clause-after c = written c
 pub returns-clause-stands : goal.returns-clause-stands
 returns-clause-stands c =
     λ seed before stands. murmur_stands-after seed before c.args.bytes.now c.args.self.now
-        c.push_all.new.taker stands (written c)
+    c.push_all.new.taker stands (written c)

@@ -8,8 +8,14 @@ unfolding murmur_after
 returns-in-Some c =
     let full = c.in-Some.ensures.full in
     let whole = ap length (sym full) ∙ c.in-Some.ensures.whole in
-    rw (c.in-Some.ensures.empty, c.step.ensures, c.read_u64_le-k1.ensures, c.read_u64_le-k2.ensures, full,
-        ← c.self.view_is)
+    rw (
+      c.in-Some.ensures.empty,
+      c.step.ensures,
+      c.read_u64_le-k1.ensures,
+      c.read_u64_le-k2.ensures,
+      full,
+      ← c.self.view_is,
+    )
     (sym (absorbed_fills 16 block_words step _ c.args.byte (omega arith) whole))
 
 pub returns-in_default : goal.returns-in_default

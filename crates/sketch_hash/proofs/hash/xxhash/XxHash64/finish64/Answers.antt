@@ -10,7 +10,7 @@ use Rattle.sketch_hash.proofs.hash.xxhash.XxHash64.finish64.Goals.{then-is_short
 -- the form is chosen by the number of bytes
 formed : (c : goal.After-avalanche) → c.if-is_short.hash ≡
     cond (nat_lt c.args.self.now.total 32) (plus c.args.self.now.folded.seed prime5)
-        (merge c.args.self.now.folded)
+    (merge c.args.self.now.folded)
 formed c =
     let short = nat_lt c.args.self.now.total 32 in
     let seeded = plus c.args.self.now.folded.seed prime5 in

@@ -29,4 +29,4 @@ returns-in_default c =
     let waits = c.in_default.ensures.waits in
     let short = c.in_default.ensures.short in
     rw (← c.self.view_is, waits)
-        (sym (absorbed_waits 32 (λ stripe. stripe) stripe_step _ c.args.byte (rw (← waits) short)))
+    (sym (absorbed_waits 32 (λ stripe. stripe) stripe_step _ c.args.byte (rw (← waits) short)))
