@@ -12,94 +12,90 @@ fn fed<T: Hash + Drop>(value: T) -> FirstBytes {
     hasher
 }
 
+// Each number with its bytes by its value and by its highest bit.
 #[test]
-fn numbers_extended_by_their_value(rt: HostRuntime) {
-    for (n, bytes) in [
-        (127, [0x7f, 0x00, 0x00, 0x00, 0x00, 0x00, 0x00, 0x00]),
-        (128, [0x80, 0x00, 0x00, 0x00, 0x00, 0x00, 0x00, 0x00]),
-        (255, [0xff, 0x00, 0x00, 0x00, 0x00, 0x00, 0x00, 0x00]),
+fn unsigned_numbers_extended_in_both_ways(rt: HostRuntime) {
+    for (n, natural, sign) in [
+        (
+            127,
+            [0x7f, 0, 0, 0, 0, 0, 0, 0],
+            [0x7f, 0, 0, 0, 0, 0, 0, 0],
+        ),
+        (
+            128,
+            [0x80, 0, 0, 0, 0, 0, 0, 0],
+            [0x80, 0xff, 0xff, 0xff, 0xff, 0xff, 0xff, 0xff],
+        ),
+        (255, [0xff, 0, 0, 0, 0, 0, 0, 0], [0xff; 8]),
     ] {
         assert_eq!(rt;
             fed(natural_extend::from_u8(n)).bytes(),
-            bytes.as_slice(),
+            natural.as_slice(),
+            "{n}"
+        );
+        assert_eq!(rt;
+            fed(sign_extend::from_u8(n)).bytes(),
+            sign.as_slice(),
             "{n}"
         );
     }
+    for (n, natural, sign) in [
+        (
+            32767,
+            [0xff, 0x7f, 0, 0, 0, 0, 0, 0],
+            [0xff, 0x7f, 0, 0, 0, 0, 0, 0],
+        ),
+        (
+            32768,
+            [0, 0x80, 0, 0, 0, 0, 0, 0],
+            [0, 0x80, 0xff, 0xff, 0xff, 0xff, 0xff, 0xff],
+        ),
+    ] {
+        assert_eq!(rt;
+            fed(natural_extend::from_u16(n)).bytes(),
+            natural.as_slice(),
+            "{n}"
+        );
+        assert_eq!(rt;
+            fed(sign_extend::from_u16(n)).bytes(),
+            sign.as_slice(),
+            "{n}"
+        );
+    }
+    for (n, natural, sign) in [
+        (
+            2147483648,
+            [0, 0, 0, 0x80, 0, 0, 0, 0],
+            [0, 0, 0, 0x80, 0xff, 0xff, 0xff, 0xff],
+        ),
+        (4294967295, [0xff, 0xff, 0xff, 0xff, 0, 0, 0, 0], [0xff; 8]),
+    ] {
+        assert_eq!(rt;
+            fed(natural_extend::from_u32(n)).bytes(),
+            natural.as_slice(),
+            "{n}"
+        );
+        assert_eq!(rt;
+            fed(sign_extend::from_u32(n)).bytes(),
+            sign.as_slice(),
+            "{n}"
+        );
+    }
+}
+
+// A signed number has the same bytes in both ways.
+#[test]
+fn signed_numbers_extended_in_both_ways(rt: HostRuntime) {
     for (n, bytes) in [
         (-128, [0x80, 0xff, 0xff, 0xff, 0xff, 0xff, 0xff, 0xff]),
-        (-1, [0xff, 0xff, 0xff, 0xff, 0xff, 0xff, 0xff, 0xff]),
-        (127, [0x7f, 0x00, 0x00, 0x00, 0x00, 0x00, 0x00, 0x00]),
+        (-1, [0xff; 8]),
+        (127, [0x7f, 0, 0, 0, 0, 0, 0, 0]),
     ] {
         assert_eq!(rt;
             fed(natural_extend::from_i8(n)).bytes(),
             bytes.as_slice(),
             "{n}"
         );
-    }
-    for (n, bytes) in [
-        (32767, [0xff, 0x7f, 0x00, 0x00, 0x00, 0x00, 0x00, 0x00]),
-        (32768, [0x00, 0x80, 0x00, 0x00, 0x00, 0x00, 0x00, 0x00]),
-    ] {
-        assert_eq!(rt;
-            fed(natural_extend::from_u16(n)).bytes(),
-            bytes.as_slice(),
-            "{n}"
-        );
-    }
-    for (n, bytes) in [
-        (-32768, [0x00, 0x80, 0xff, 0xff, 0xff, 0xff, 0xff, 0xff]),
-        (-1, [0xff, 0xff, 0xff, 0xff, 0xff, 0xff, 0xff, 0xff]),
-        (32767, [0xff, 0x7f, 0x00, 0x00, 0x00, 0x00, 0x00, 0x00]),
-    ] {
-        assert_eq!(rt;
-            fed(natural_extend::from_i16(n)).bytes(),
-            bytes.as_slice(),
-            "{n}"
-        );
-    }
-    for (n, bytes) in [
-        (2147483648, [0x00, 0x00, 0x00, 0x80, 0x00, 0x00, 0x00, 0x00]),
-        (4294967295, [0xff, 0xff, 0xff, 0xff, 0x00, 0x00, 0x00, 0x00]),
-    ] {
-        assert_eq!(rt;
-            fed(natural_extend::from_u32(n)).bytes(),
-            bytes.as_slice(),
-            "{n}"
-        );
-    }
-    for (n, bytes) in [
-        (
-            -2147483648,
-            [0x00, 0x00, 0x00, 0x80, 0xff, 0xff, 0xff, 0xff],
-        ),
-        (-1, [0xff, 0xff, 0xff, 0xff, 0xff, 0xff, 0xff, 0xff]),
-    ] {
-        assert_eq!(rt;
-            fed(natural_extend::from_i32(n)).bytes(),
-            bytes.as_slice(),
-            "{n}"
-        );
-    }
-}
-
-#[test]
-fn numbers_extended_by_their_highest_bit(rt: HostRuntime) {
-    for (n, bytes) in [
-        (127, [0x7f, 0x00, 0x00, 0x00, 0x00, 0x00, 0x00, 0x00]),
-        (128, [0x80, 0xff, 0xff, 0xff, 0xff, 0xff, 0xff, 0xff]),
-        (255, [0xff, 0xff, 0xff, 0xff, 0xff, 0xff, 0xff, 0xff]),
-    ] {
-        assert_eq!(rt;
-            fed(sign_extend::from_u8(n)).bytes(),
-            bytes.as_slice(),
-            "{n}"
-        );
-    }
-    for (n, bytes) in [
-        (-128, [0x80, 0xff, 0xff, 0xff, 0xff, 0xff, 0xff, 0xff]),
-        (-1, [0xff, 0xff, 0xff, 0xff, 0xff, 0xff, 0xff, 0xff]),
-        (127, [0x7f, 0x00, 0x00, 0x00, 0x00, 0x00, 0x00, 0x00]),
-    ] {
         assert_eq!(rt;
             fed(sign_extend::from_i8(n)).bytes(),
             bytes.as_slice(),
@@ -107,20 +103,15 @@ fn numbers_extended_by_their_highest_bit(rt: HostRuntime) {
         );
     }
     for (n, bytes) in [
-        (32767, [0xff, 0x7f, 0x00, 0x00, 0x00, 0x00, 0x00, 0x00]),
-        (32768, [0x00, 0x80, 0xff, 0xff, 0xff, 0xff, 0xff, 0xff]),
+        (-32768, [0, 0x80, 0xff, 0xff, 0xff, 0xff, 0xff, 0xff]),
+        (-1, [0xff; 8]),
+        (32767, [0xff, 0x7f, 0, 0, 0, 0, 0, 0]),
     ] {
         assert_eq!(rt;
-            fed(sign_extend::from_u16(n)).bytes(),
+            fed(natural_extend::from_i16(n)).bytes(),
             bytes.as_slice(),
             "{n}"
         );
-    }
-    for (n, bytes) in [
-        (-32768, [0x00, 0x80, 0xff, 0xff, 0xff, 0xff, 0xff, 0xff]),
-        (-1, [0xff, 0xff, 0xff, 0xff, 0xff, 0xff, 0xff, 0xff]),
-        (32767, [0xff, 0x7f, 0x00, 0x00, 0x00, 0x00, 0x00, 0x00]),
-    ] {
         assert_eq!(rt;
             fed(sign_extend::from_i16(n)).bytes(),
             bytes.as_slice(),
@@ -128,22 +119,14 @@ fn numbers_extended_by_their_highest_bit(rt: HostRuntime) {
         );
     }
     for (n, bytes) in [
-        (2147483648, [0x00, 0x00, 0x00, 0x80, 0xff, 0xff, 0xff, 0xff]),
-        (4294967295, [0xff, 0xff, 0xff, 0xff, 0xff, 0xff, 0xff, 0xff]),
+        (-2147483648, [0, 0, 0, 0x80, 0xff, 0xff, 0xff, 0xff]),
+        (-1, [0xff; 8]),
     ] {
         assert_eq!(rt;
-            fed(sign_extend::from_u32(n)).bytes(),
+            fed(natural_extend::from_i32(n)).bytes(),
             bytes.as_slice(),
             "{n}"
         );
-    }
-    for (n, bytes) in [
-        (
-            -2147483648,
-            [0x00, 0x00, 0x00, 0x80, 0xff, 0xff, 0xff, 0xff],
-        ),
-        (-1, [0xff, 0xff, 0xff, 0xff, 0xff, 0xff, 0xff, 0xff]),
-    ] {
         assert_eq!(rt;
             fed(sign_extend::from_i32(n)).bytes(),
             bytes.as_slice(),

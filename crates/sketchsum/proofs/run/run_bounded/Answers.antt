@@ -1,8 +1,7 @@
 use Rattle.std.proofs.Common.{[], refl, rules}
 use Rattle.sketch_hash.specs.MurmurLaws.{murmur_stands-after}
 use Rattle.sketch_hash.specs.Xxh64Laws.{xxh64_stands-after}
-use Rattle.sketchsum.specs.Digest.{digest_line}
-use Rattle.sketchsum.proofs.ReadingLemmas.{written_line}
+use Rattle.sketchsum.proofs.ReadingLemmas.{ran}
 use Rattle.sketchsum.proofs.run.run_bounded.Goals as goal
 
 pub returns-in_ok-read_into-in-Murmur : goal.returns-in_ok-read_into-in-Murmur
@@ -10,29 +9,13 @@ returns-in_ok-read_into-in-Murmur g c =
     let read = c.read_into.ensures.read in
     let stands = murmur_stands-after c.args.seed [] read.0 _ _ c.with_seed-hasher.ensures read.2.0 in
     let answer = c.finish128-h1.ensures.stands c.args.seed read.0 stands in
-    record {
-      digest = written_line _ _ _ _ _ (digest_line c.args.algorithm c.args.seed) read.0 _
-          (rw (c.in-Murmur.is, ← answer) refl) read.1 c.write_line.ensures.written;
-      whole = search rules;
-      whole_at_write = search rules;
-      silent_at_read = search rules;
-      silent_at_too_long = search rules;
-      too_long = search rules;
-      bounded = (read.0, read.1, read.2.1);
-    }
+    ran c.args.algorithm c.args.seed c.args.turns _ _ _ _ _ read.0 _ (rw (c.in-Murmur.is, ← answer) refl) read.1
+    read.2.1 (search rules) c.write_line.ensures.written c.write_line.ensures.fault
 
 pub returns-in_ok-read_into-in-Xx : goal.returns-in_ok-read_into-in-Xx
 returns-in_ok-read_into-in-Xx g c =
     let read = c.read_into-in-Xx.ensures.read in
     let stands = xxh64_stands-after c.args.seed [] read.0 _ _ c.with_seed-hasher-in-Xx.ensures read.2.0 in
     let answer = c.finish64.ensures.stands c.args.seed read.0 stands in
-    record {
-      digest = written_line _ _ _ _ _ (digest_line c.args.algorithm c.args.seed) read.0 _
-          (rw (c.in-Xx.is, ← answer) refl) read.1 c.write_line-in-Xx.ensures.written;
-      whole = search rules;
-      whole_at_write = search rules;
-      silent_at_read = search rules;
-      silent_at_too_long = search rules;
-      too_long = search rules;
-      bounded = (read.0, read.1, read.2.1);
-    }
+    ran c.args.algorithm c.args.seed c.args.turns _ _ _ _ _ read.0 _ (rw (c.in-Xx.is, ← answer) refl) read.1
+    read.2.1 (search rules) c.write_line-in-Xx.ensures.written c.write_line-in-Xx.ensures.fault
