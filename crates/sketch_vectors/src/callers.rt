@@ -18,12 +18,11 @@ use datasketches::hash::value::raw_bytes::RawBytes;
 use datasketches::hash::value::{feed_all, sign_extend};
 use datasketches::hash::{Hash, MurmurHash3X64128, check_seed_hash, compute_seed_hash};
 use datasketches::laws;
+use std::alloc::Global;
+use std::io;
 
 #[cfg(test)]
 mod tests;
-
-use std::alloc::Global;
-use std::io;
 
 /// The Murmur pair by which a distinct counter knows an integer key.
 pub fn pair_of(seed: u64, key: i32) -> (u64, u64)
@@ -34,8 +33,7 @@ pub fn pair_of(seed: u64, key: i32) -> (u64, u64)
     hasher.finish128()
 }
 
-/// Whether two keys are one, by their pairs alone. No two keys share a pair, so no key is mistaken for
-/// another.
+/// Whether two keys are one, by their pairs alone: no two keys share a pair.
 pub fn is_same_key(seed: u64, x: i32, y: i32) -> bool
     ensures { IsTrue result ↔ (x ≡ y) }
 {
