@@ -4,11 +4,15 @@ use Rattle.sketch_hash.specs.Words.{differing, xor, rotate}
 use Rattle.sketch_hash.specs.Pieces.{pieces, rest}
 use Rattle.sketch_hash.specs.Murmur.{mix1, mix2, fmix, step1, step2, step, with_tail, ending as murmur_ending, murmur}
 use Rattle.sketch_hash.specs.Xxh64.{round, lane, lanes_start, lanes, merge_lane, merge, steps, eight_step, four_step, byte_step, tail_step, avalanche, ending as xxh64_ending, xxh64}
-use Rattle.sketch_hash.specs.KnownAnswers.{test_bytes_from, MurmurKnownAnswers, Xxh64KnownAnswers}
+use Rattle.sketch_hash.specs.KnownAnswers.{test_bytes_from, WordsKnownAnswers, MurmurKnownAnswers, Xxh64KnownAnswers}
+
+pub words_known_answers : WordsKnownAnswers
+unfolding differing xor rotate
+words_known_answers = record { xor_of_digits = refl; highest_digit_rotated = refl }
 
 pub murmur_known_answers : MurmurKnownAnswers
 unfolding differing xor rotate pieces rest mix1 mix2 fmix step1 step2 step with_tail murmur_ending murmur
-murmur_known_answers = record { nothing = refl; dog = refl; two_blocks = refl }
+murmur_known_answers = record { nothing = refl; dog = refl; two_blocks = refl; three_bytes_seeded = refl }
 
 pub xxh64_known_answers : Xxh64KnownAnswers
 unfolding differing xor rotate pieces rest round lane lanes_start lanes merge_lane merge steps eight_step
@@ -17,6 +21,7 @@ xxh64_known_answers = record {
   nothing = refl;
   nothing_seeded = refl;
   one_byte = refl;
+  eight_bytes = refl;
   one_stripe = refl;
   one_stripe_seeded = refl;
   stripe_and_byte = refl;

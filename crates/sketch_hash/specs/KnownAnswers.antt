@@ -1,7 +1,8 @@
 -- Answers that are known from elsewhere: the tests of the two hashes' authors and of the library that is
 -- ported.
 use Rattle.std.specs.Prelude.{◌≡◌, ℕ, zero, suc, ◌/◌, ◌^◌, List, [], ◌∷◌, codes}
-use Rattle.sketch_hash.specs.Words.{times}
+use Rattle.sketch_base.specs.Bytes.{eight}
+use Rattle.sketch_hash.specs.Words.{times, xor, rotate}
 use Rattle.sketch_hash.specs.Murmur.{murmur}
 use Rattle.sketch_hash.specs.Xxh64.{xxh64}
 
@@ -17,18 +18,26 @@ test_bytes_from g (suc n) = g / 2 ^ 56 ∷ test_bytes_from (times g 0x9E3779B185
 abbrev pub test_bytes : ℕ → List ℕ
 test_bytes n = test_bytes_from 0x9E3779B1 n
 
+-- what small words give
+pub record WordsKnownAnswers : Type 0 where
+  pub xor_of_digits : xor 6 3 ≡ 5
+  pub highest_digit_rotated : rotate (2 ^ 63) 1 ≡ 1
+
 -- what the definition of Murmur answers
 pub record MurmurKnownAnswers : Type 0 where
   pub nothing : murmur 0 [] ≡ (0, 0)
   pub dog : murmur 0 fox ≡ (0xe34bbc7bbc071b6c, 0x7a433ca9c49a9347)
   pub two_blocks : murmur 0 (codes "The quick brown fox jumps over t") ≡
       (0xdf6af91bb29bdacf, 0x91a341c58df1f3a6)
+  pub three_bytes_seeded : murmur 0xcdde8d516301bbfc (0xa1 ∷ 0xd8 ∷ 0x2b ∷ []) ≡
+      (0x72d4dcbfd199ad6f, 0x5170f4d9e50bb254)
 
 -- what the definition of XXH64 answers
 pub record Xxh64KnownAnswers : Type 0 where
   pub nothing : xxh64 0 [] ≡ 0xef46db3751d8e999
   pub nothing_seeded : xxh64 0x9E3779B1 [] ≡ 0xac75fda2929b17ef
   pub one_byte : xxh64 0 (test_bytes 1) ≡ 0xe934a84adb052768
+  pub eight_bytes : xxh64 0 (eight 0x100000000) ≡ 0xca6084df268ea2a9
   pub one_stripe : xxh64 0 (test_bytes 32) ≡ 0x18b216492bb44b70
   pub one_stripe_seeded : xxh64 0x9E3779B1 (test_bytes 32) ≡ 0xb3f33bdf93ade409
   pub stripe_and_byte : xxh64 0 (test_bytes 33) ≡ 0x55c8dc3e578f5b59

@@ -2,8 +2,13 @@
 //!
 //! Each function here does nothing: its contract is the fact.
 
-ghost use Rattle.sketch_hash.specs.KnownAnswers.{MurmurKnownAnswers, Xxh64KnownAnswers};
+ghost use Rattle.sketch_hash.specs.KnownAnswers.{MurmurKnownAnswers, WordsKnownAnswers, Xxh64KnownAnswers};
 ghost use Rattle.sketch_hash.specs.Laws.{MurmurStepLaws, Xxh64StepLaws};
+
+/// The definitions of words give the small answers that one can count by hand.
+pub fn words_known_answers()
+    ensures { WordsKnownAnswers }
+{}
 
 /// The definition of Murmur gives the answers that are known from elsewhere.
 pub fn murmur_known_answers()
@@ -20,7 +25,7 @@ pub fn murmur_step_laws()
     ensures { MurmurStepLaws }
 {}
 
-/// Each step of XXH64's tail takes every word exactly once.
+/// Each step of XXH64's tail, and the last mixing, takes every word exactly once.
 pub fn xxh64_step_laws()
     ensures { Xxh64StepLaws }
 {}

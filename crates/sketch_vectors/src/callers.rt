@@ -54,7 +54,9 @@ pub fn is_new_key(seed: u64, earlier: &[i32], key: i32) -> bool
 ///
 /// Preamble longs, serial version, family and seed hash are checked, and then comes the number.
 pub fn read_estimate(alloc: Global, bytes: &[u8], seed: u64) -> Result<u64, Error>
-    ensures { IfOk result (λ n. IsEstimate seed bytes.now n) }
+    ensures { MatchResult result
+        (λ n. IsEstimate seed bytes.now n)
+        (λ _. (n : ℕ) → IsEstimate seed bytes.now n → ⊥) }
 {
     let mut reader = SketchSlice::new(bytes);
     let longs = told(alloc, reader.read_u8())?;
@@ -66,7 +68,8 @@ pub fn read_estimate(alloc: Global, bytes: &[u8], seed: u64) -> Result<u64, Erro
     let actual = told(alloc, reader.read_u16_le())?;
     let expected = compute_seed_hash(alloc, seed, ErrorKind::InvalidArgument)?;
     check_seed_hash(alloc, expected, actual, "hll", ErrorKind::InvalidData)?;
-    told(alloc, reader.read_u64_le())
+    let estimate = told(alloc, reader.read_u64_le())?;
+    Ok(estimate)
 }
 
 /// What was read, or the error that tells that the sketch ended too early.

@@ -1,10 +1,10 @@
 //! Tests that cross crates: that the hashes and the values answer what the library that is ported
 //! answers, and three callers that are proved from the public contracts alone.
 //!
-//! The vectors in `tests/vectors.rt` are those of the original's own tests, which took them from
-//! the authors of the two hashes. The samples in `tests/samples.rt` and `tests/fed.rt` were made by
-//! running the original, version 0.6.0, unchanged but for the visibility of its modules, on a
-//! little-endian machine. None was made by this library.
+//! The vectors in `tests/vectors.rt` are those of the original's own tests. The samples in
+//! `tests/samples.rt` and `tests/fed.rt` were made by running the original, version 0.6.0, unchanged
+//! but for the visibility of its modules and its feature gates, on a little-endian machine. None was
+//! made by this library.
 #![tactic(auto)]
 
 pub mod callers;

@@ -38,7 +38,8 @@ pub ran : (algorithm : Algorithm) (seed turns : ℕ) (r : Result (Unit {0}) RunF
     Runs algorithm seed turns r unread left held holds
 ran algorithm seed turns r unread left held holds bytes text line read most end written fault =
     record {
-      digest = written_line r unread left held holds (digest_line algorithm seed) bytes text line read written;
+      digest = written_line r unread left held holds
+          (digest_line algorithm seed) bytes text line read written;
       whole = search rules;
       whole_at_write = search rules;
       silent_at_read = search rules;

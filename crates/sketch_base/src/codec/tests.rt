@@ -239,6 +239,18 @@ fn writes_within_room_cannot_fail(rt: HostRuntime) -> Result<(), Fail> {
 }
 
 #[test]
+fn writes_far_past_its_room(rt: HostRuntime) -> Result<(), Fail> {
+    let mut writer = SketchBytes::with_capacity(rt.alloc(), 5000)?;
+    for _ in 0..100 {
+        writer.write(&[7; 1000])?;
+    }
+    let bytes = writer.into_bytes();
+    assert_eq!(rt; bytes.len(), 100_000);
+    assert!(rt; bytes.iter().all(|byte| *byte == 7));
+    Ok(())
+}
+
+#[test]
 fn writes_every_kind_of_number(rt: HostRuntime) -> Result<(), Fail> {
     let mut writer = SketchBytes::with_capacity(rt.alloc(), 0)?;
     writer.write(&[7, 7])?;

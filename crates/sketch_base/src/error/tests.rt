@@ -159,6 +159,21 @@ fn prints_lines_and_debug_texts(rt: HostRuntime) -> Result<(), Fail> {
 }
 
 #[test]
+fn prints_a_dozen_contexts(rt: HostRuntime) -> Result<(), Fail> {
+    let alloc = rt.alloc();
+    let mut error = error(alloc, ErrorKind::InvalidData, "m")?;
+    let mut line = String::from_str(alloc, "InvalidData, context: { n: 0")?;
+    error = error.with_context(alloc, "n", 0u8)?;
+    for n in 1..12u8 {
+        error = error.with_context(alloc, "n", n)?;
+        line = format!(in alloc; "{line}, n: {n}")?;
+    }
+    let line = format!(in alloc; "{line} }} => m")?;
+    assert_eq!(rt; error.to_string(alloc)?.as_str(), line.as_str());
+    Ok(())
+}
+
+#[test]
 fn prints_fields_in_the_alternate_form(rt: HostRuntime) -> Result<(), Fail> {
     let alloc = rt.alloc();
     let plain = error(alloc, ErrorKind::InvalidData, "m")?;

@@ -1,4 +1,5 @@
 use super::{hash_pieces, is_new_key, is_same_key, pair_of, read_estimate};
+use datasketches::error::ErrorKind;
 use datasketches::hash::value::raw_bytes;
 use std::alloc::Global;
 
@@ -23,7 +24,7 @@ fn an_estimate_is_read(rt: HostRuntime) {
 fn is_refused(alloc: Global, bytes: &[u8], message: &str) -> bool {
     match read_estimate(alloc, bytes, 9001) {
         Ok(_) => false,
-        Err(error) => error.message() == message,
+        Err(error) => error.kind() == ErrorKind::InvalidData && error.message() == message,
     }
 }
 
@@ -63,6 +64,27 @@ fn other_bytes_are_refused(rt: HostRuntime) {
             "incompatible seed hash of hll: expected 37836, got 37837"
         )
     );
+}
+
+#[test]
+fn a_sketch_cut_short_is_refused(rt: HostRuntime) {
+    for count in 0..SKETCH.len() {
+        let answer = read_estimate(rt.alloc(), &SKETCH[..count], 9001);
+        let refused = answer.map_err(|error| {
+            error.kind() == ErrorKind::InvalidData
+                && error
+                    .message()
+                    .starts_with("insufficient data (hll sketch): ")
+        });
+        assert_eq!(rt; refused, Err(true), "of {count} bytes");
+    }
+}
+
+#[test]
+fn a_seed_with_no_hash_is_refused(rt: HostRuntime) {
+    let answer = read_estimate(rt.alloc(), &SKETCH, 50541);
+    let kind = answer.map_err(|error| error.kind());
+    assert_eq!(rt; kind, Err(ErrorKind::InvalidArgument));
 }
 
 #[test]

@@ -1,7 +1,8 @@
-//! Equalities of hashes that the original documents.
+//! Equalities of hashes: those that the original documents, and the like of other forms.
 
 use datasketches::hash::value::{calculate_hash, natural_extend, raw_bytes, sign_extend};
 use std::alloc::{AllocError, Global};
+use std::cmp::Ordering;
 
 #[test]
 fn numbers_extended_by_their_highest_bit(rt: HostRuntime) {
@@ -96,6 +97,8 @@ fn wrapped_numbers_behave_as_numbers(rt: HostRuntime) -> Result<(), AllocError> 
     assert!(rt; sign_extend::from_u8(3) < sign_extend::from_u8(4));
     assert!(rt; sign_extend::from_u8(3) == sign_extend::from_u8(3));
     let minus_one = sign_extend::from_i8(-1);
+    assert_eq!(rt; minus_one.cmp(&sign_extend::from_i8(1)), Ordering::Less);
+    assert_eq!(rt; minus_one.clone()?, minus_one);
     assert_eq!(rt; format!(in rt.alloc(); "{minus_one}")?.as_str(), "-1");
     assert_eq!(rt; format!(in rt.alloc(); "{minus_one:4}")?.as_str(), "  -1");
     assert_eq!(rt; format!(in rt.alloc(); "{minus_one:?}")?.as_str(), "-1");

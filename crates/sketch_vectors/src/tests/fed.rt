@@ -120,6 +120,7 @@ fn signed_numbers_extended_in_both_ways(rt: HostRuntime) {
     }
     for (n, bytes) in [
         (-2147483648, [0, 0, 0, 0x80, 0xff, 0xff, 0xff, 0xff]),
+        (-2, [0xfe, 0xff, 0xff, 0xff, 0xff, 0xff, 0xff, 0xff]),
         (-1, [0xff; 8]),
     ] {
         assert_eq!(rt;
@@ -143,7 +144,11 @@ fn plain_numbers(rt: HostRuntime) {
     for (n, bytes) in [(-128i8, [0x80]), (-1, [0xff]), (127, [0x7f])] {
         assert_eq!(rt; fed(n).bytes(), bytes.as_slice(), "{n}");
     }
-    for (n, bytes) in [(32767u16, [0xff, 0x7f]), (32768, [0x00, 0x80])] {
+    for (n, bytes) in [
+        (258u16, [0x02, 0x01]),
+        (32767, [0xff, 0x7f]),
+        (32768, [0x00, 0x80]),
+    ] {
         assert_eq!(rt; fed(n).bytes(), bytes.as_slice(), "{n}");
     }
     for (n, bytes) in [
@@ -205,6 +210,16 @@ fn bytes_and_texts(rt: HostRuntime) -> Result<(), AllocError> {
         b"abc".as_slice()
     );
     assert!(rt; fed(raw_bytes::from_str("")).bytes().is_empty());
+    Ok(())
+}
+
+#[test]
+fn a_clone_feeds_what_its_original_feeds(rt: HostRuntime) -> Result<(), AllocError> {
+    let expected = [1, 2, 3].as_slice();
+    let original = raw_bytes::from_vec(Vec::from_slice(rt.alloc(), expected)?);
+    let cloned = original.clone()?;
+    assert_eq!(rt; fed(cloned).bytes(), expected);
+    assert_eq!(rt; fed(original).bytes(), expected);
     Ok(())
 }
 

@@ -1,4 +1,6 @@
 //! A sample of what the original answers.
+//!
+//! The hashes of single values are those of its Murmur hasher under the seed 9001.
 
 use datasketches::error::ErrorKind;
 use datasketches::hash::value::{calculate_hash, natural_extend, raw_bytes, sign_extend};

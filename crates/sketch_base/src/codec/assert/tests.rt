@@ -88,13 +88,11 @@ fn accepts_what_is_expected(rt: HostRuntime) -> Result<(), Fail> {
 #[test]
 fn tells_what_a_read_was_refused_for(rt: HostRuntime) -> Result<(), Fail> {
     let refused = SketchSlice::new(&[]).read_u8().err().ok_or("read")?;
+    let wanted = format!(in rt.alloc(); "insufficient data (preamble): {refused}")?;
     let error = insufficient_data(rt.alloc(), "preamble", refused);
     assert_eq!(rt; error.kind(), ErrorKind::InvalidData);
-    assert!(rt;
-        error
-            .message()
-            .starts_with("insufficient data (preamble): ")
-    );
+    assert_eq!(rt; error.message(), wanted.as_str());
+    assert!(rt; wanted.len() > "insufficient data (preamble): ".len());
     Ok(())
 }
 

@@ -1,5 +1,5 @@
-use Rattle.std.proofs.Common.{◌≡◌, ◌∙◌, ap, arith}
-use Rattle.sketch_hash.specs.Murmur.{murmur_after, murmur_start, step, block_words}
+use Rattle.std.proofs.Common.{◌≡◌, ◌∙◌, arith}
+use Rattle.sketch_hash.specs.Murmur.{murmur_after, step, block_words}
 use Rattle.sketch_hash.specs.MurmurLaws.{murmur_stands-after}
 use Rattle.sketch_hash.proofs.PiecesLemmas.{fold-advanced}
 use Rattle.sketch_hash.proofs.hash.murmurhash.MurmurHash3X64128Hasher.write.Goals as goal

@@ -1,4 +1,4 @@
-use Rattle.std.proofs.Common.{◌≡◌, ◌∙◌, ap, sym, refl, cond}
+use Rattle.std.proofs.Common.{◌≡◌, ◌∙◌, sym, refl, cond}
 use Rattle.std.specs.Prelude.{nat_lt}
 use Rattle.std.proofs.lemmas.Bool.{cond-true, cond-false}
 use Rattle.sketch_hash.specs.Words.{plus}

@@ -1,5 +1,5 @@
-use Rattle.std.proofs.Common.{◌≡◌, ◌∙◌, ap, arith}
-use Rattle.sketch_hash.specs.Xxh64.{xxh64_after, xxh64_start, stripe_step}
+use Rattle.std.proofs.Common.{◌≡◌, ◌∙◌, arith}
+use Rattle.sketch_hash.specs.Xxh64.{xxh64_after, stripe_step}
 use Rattle.sketch_hash.specs.Xxh64Laws.{xxh64_stands-after}
 use Rattle.sketch_hash.proofs.PiecesLemmas.{fold-advanced}
 use Rattle.sketch_hash.proofs.hash.xxhash.XxHash64Hasher.write.Goals as goal
