@@ -1,6 +1,6 @@
 //! Checks that a reader of serialized sketches makes of their preambles.
 
-ghost use Rattle.std.specs.Prelude.{◌≡◌, ◌++◌, ℕ, codes, List, Contains, IsTrue, IfOk, MatchOption, string_bytes};
+ghost use Rattle.std.specs.Prelude.{◌≡◌, ◌↔◌, ℕ, List, Contains, IsTrue, IfOk, string_bytes};
 ghost use Rattle.sketch_base.specs.Checks.{AcceptsExactly, range};
 ghost use Rattle.sketch_base.specs.Refusals.{
   insufficient_data_of_text,
@@ -73,37 +73,47 @@ pub fn ensure_preamble_longs_in_range(
     ensures { AcceptsExactly (IsTrue ((range start end).has actual))
         (preamble_longs_out_of_range_text (range start end).text actual) result }
 {
-    let Some(range) = range_without(alloc, start, end, actual) else {
+    if has(start, end, actual) {
         return Ok(());
-    };
-    let text = match range {
+    }
+    let text = match printed_range(alloc, start, end) {
         Ok(range) => format!(in alloc; "invalid preamble longs: expected {range}, got {actual}"),
         Err(error) => Err(error),
     };
     Err(Error::refusal(alloc, text))
 }
 
-// How the range between the two ends prints, where it does not have the number.
-fn range_without(
-    alloc: Global,
-    start: Bound<u8>,
-    end: Bound<u8>,
-    x: u8,
-) -> Option<Result<String, AllocError>>
-    ensures { MatchOption result (IsTrue ((range start end).has x)) (λ printed.
-        (IsTrue ((range start end).has x) → ⊥)
-        × IfOk printed (λ text. string_bytes text ≡ (range start end).text)) }
+// Whether the range between the two ends has the number.
+fn has(start: Bound<u8>, end: Bound<u8>, x: u8) -> bool
+    ensures { IsTrue result ↔ IsTrue ((range start end).has x) }
 {
     match (start, end) {
-        (Included(a), Included(b)) if x < a || b < x => Some(format!(in alloc; "[{a}, {b}]")),
-        (Included(a), Excluded(b)) if x < a || b <= x => Some(format!(in alloc; "[{a}, {b})")),
-        (Excluded(a), Included(b)) if x <= a || b < x => Some(format!(in alloc; "({a}, {b}]")),
-        (Excluded(a), Excluded(b)) if x <= a || b <= x => Some(format!(in alloc; "({a}, {b})")),
-        (Unbounded, Included(b)) if b < x => Some(format!(in alloc; "at most {b}")),
-        (Unbounded, Excluded(b)) if b <= x => Some(format!(in alloc; "less than {b}")),
-        (Included(a), Unbounded) if x < a => Some(format!(in alloc; "at least {a}")),
-        (Excluded(a), Unbounded) if x <= a => Some(format!(in alloc; "greater than {a}")),
-        _ => None,
+        (Included(a), Included(b)) => a <= x && x <= b,
+        (Included(a), Excluded(b)) => a <= x && x < b,
+        (Excluded(a), Included(b)) => a < x && x <= b,
+        (Excluded(a), Excluded(b)) => a < x && x < b,
+        (Unbounded, Included(b)) => x <= b,
+        (Unbounded, Excluded(b)) => x < b,
+        (Included(a), Unbounded) => a <= x,
+        (Excluded(a), Unbounded) => a < x,
+        (Unbounded, Unbounded) => true,
+    }
+}
+
+// How the range between the two ends prints: nothing where both are open, as it has every number.
+fn printed_range(alloc: Global, start: Bound<u8>, end: Bound<u8>) -> Result<String, AllocError>
+    ensures { IfOk result (λ text. string_bytes text ≡ (range start end).text) }
+{
+    match (start, end) {
+        (Included(a), Included(b)) => format!(in alloc; "[{a}, {b}]"),
+        (Included(a), Excluded(b)) => format!(in alloc; "[{a}, {b})"),
+        (Excluded(a), Included(b)) => format!(in alloc; "({a}, {b}]"),
+        (Excluded(a), Excluded(b)) => format!(in alloc; "({a}, {b})"),
+        (Unbounded, Included(b)) => format!(in alloc; "at most {b}"),
+        (Unbounded, Excluded(b)) => format!(in alloc; "less than {b}"),
+        (Included(a), Unbounded) => format!(in alloc; "at least {a}"),
+        (Excluded(a), Unbounded) => format!(in alloc; "greater than {a}"),
+        (Unbounded, Unbounded) => Ok(String::new(alloc)),
     }
 }
 
