@@ -1,6 +1,7 @@
 ghost use Rattle.std.specs.Prelude.{◌≡◌, codes, IfSome, string_bytes};
 
 use super::*;
+use std::process::Abort;
 use std::test::Fail;
 
 // A caller's proof knows the displayed bytes of an error that it made.
@@ -35,12 +36,14 @@ fn error(alloc: Global, kind: ErrorKind, message: &str) -> Result<Error, AllocEr
     Ok(Error::new(kind, String::from_str(alloc, message)?))
 }
 
-fn in_contexts(
+// An error in these contexts, from the innermost.
+fn error_in<V: fmt::Display + Copy + Drop>(
     alloc: Global,
-    error: Error,
-    contexts: &[(&'static str, &str)],
-) -> Result<Error, Error> {
-    let mut error = error;
+    kind: ErrorKind,
+    message: &str,
+    contexts: &[(&'static str, V)],
+) -> Result<Error, Fail> {
+    let mut error = error(alloc, kind, message)?;
     for (key, value) in contexts {
         error = error.with_context(alloc, *key, *value)?;
     }
@@ -57,171 +60,201 @@ struct Row {
     debug: &'static str,
 }
 
+const ROWS: [Row; 11] = [
+    Row {
+        kind: ErrorKind::InvalidArgument,
+        message: "",
+        contexts: &[],
+        line: "InvalidArgument",
+        debug: "InvalidArgument\n",
+    },
+    Row {
+        kind: ErrorKind::InvalidArgument,
+        message: "",
+        contexts: &[("a", "1")],
+        line: "InvalidArgument, context: { a: 1 }",
+        debug: "InvalidArgument\n\nContext:\n   a: 1\n",
+    },
+    Row {
+        kind: ErrorKind::InvalidArgument,
+        message: "",
+        contexts: &[("index", "42"), ("file", "foo")],
+        line: "InvalidArgument, context: { index: 42, file: foo }",
+        debug: "InvalidArgument\n\nContext:\n   index: 42\n   file: foo\n",
+    },
+    Row {
+        kind: ErrorKind::InvalidArgument,
+        message: "",
+        contexts: &[("", ""), ("k k", "v: {}, x => y\nz")],
+        line: "InvalidArgument, context: { : , k k: v: {}, x => y\nz }",
+        debug: "InvalidArgument\n\nContext:\n   : \n   k k: v: {}, x => y\nz\n",
+    },
+    Row {
+        kind: ErrorKind::InvalidData,
+        message: "m",
+        contexts: &[],
+        line: "InvalidData => m",
+        debug: "InvalidData => m\n",
+    },
+    Row {
+        kind: ErrorKind::InvalidData,
+        message: "m",
+        contexts: &[("index", "42"), ("file", "foo")],
+        line: "InvalidData, context: { index: 42, file: foo } => m",
+        debug: "InvalidData => m\n\nContext:\n   index: 42\n   file: foo\n",
+    },
+    Row {
+        kind: ErrorKind::InvalidData,
+        message: "m",
+        contexts: &[("", ""), ("k k", "v: {}, x => y\nz")],
+        line: "InvalidData, context: { : , k k: v: {}, x => y\nz } => m",
+        debug: "InvalidData => m\n\nContext:\n   : \n   k k: v: {}, x => y\nz\n",
+    },
+    Row {
+        kind: ErrorKind::InvalidData,
+        message: "é => x",
+        contexts: &[("a", "1")],
+        line: "InvalidData, context: { a: 1 } => é => x",
+        debug: "InvalidData => é => x\n\nContext:\n   a: 1\n",
+    },
+    Row {
+        kind: ErrorKind::InvalidData,
+        message: "é => x",
+        contexts: &[("index", "42"), ("file", "foo")],
+        line: "InvalidData, context: { index: 42, file: foo } => é => x",
+        debug: "InvalidData => é => x\n\nContext:\n   index: 42\n   file: foo\n",
+    },
+    Row {
+        kind: ErrorKind::InvalidData,
+        message: "two\nlines",
+        contexts: &[],
+        line: "InvalidData => two\nlines",
+        debug: "InvalidData => two\nlines\n",
+    },
+    Row {
+        kind: ErrorKind::InvalidData,
+        message: "two\nlines",
+        contexts: &[("", ""), ("k k", "v: {}, x => y\nz")],
+        line: "InvalidData, context: { : , k k: v: {}, x => y\nz } => two\nlines",
+        debug: "InvalidData => two\nlines\n\nContext:\n   : \n   k k: v: {}, x => y\nz\n",
+    },
+];
+
+// Asserts that a text was made, and that it is this one.
+fn assert_text(rt: &impl Abort, made: Result<String, AllocError>, text: &str) {
+    assert_eq!(rt; made.ok().as_deref(), Some(text));
+}
+
 #[test]
-fn shows_a_concrete_error(rt: HostRuntime) -> Result<(), Fail> {
-    let text = displayed(rt.alloc()).ok_or("out of memory")?;
-    assert_eq!(rt;
-        text.as_str(),
-        "InvalidData, context: { index: 42, file: foo } => parsing failed"
+fn shows_a_concrete_error(rt: HostRuntime) {
+    let text = displayed(rt.alloc()).ok_or(AllocError);
+    assert_text(
+        &rt,
+        text,
+        "InvalidData, context: { index: 42, file: foo } => parsing failed",
     );
-    Ok(())
 }
 
 #[test]
 fn prints_lines_and_debug_texts(rt: HostRuntime) -> Result<(), Fail> {
     let alloc = rt.alloc();
-    let rows = [
-        Row {
-            kind: ErrorKind::InvalidArgument,
-            message: "",
-            contexts: &[],
-            line: "InvalidArgument",
-            debug: "InvalidArgument\n",
-        },
-        Row {
-            kind: ErrorKind::InvalidArgument,
-            message: "",
-            contexts: &[("a", "1")],
-            line: "InvalidArgument, context: { a: 1 }",
-            debug: "InvalidArgument\n\nContext:\n   a: 1\n",
-        },
-        Row {
-            kind: ErrorKind::InvalidArgument,
-            message: "",
-            contexts: &[("index", "42"), ("file", "foo")],
-            line: "InvalidArgument, context: { index: 42, file: foo }",
-            debug: "InvalidArgument\n\nContext:\n   index: 42\n   file: foo\n",
-        },
-        Row {
-            kind: ErrorKind::InvalidArgument,
-            message: "",
-            contexts: &[("", ""), ("k k", "v: {}, x => y\nz")],
-            line: "InvalidArgument, context: { : , k k: v: {}, x => y\nz }",
-            debug: "InvalidArgument\n\nContext:\n   : \n   k k: v: {}, x => y\nz\n",
-        },
-        Row {
-            kind: ErrorKind::InvalidData,
-            message: "m",
-            contexts: &[],
-            line: "InvalidData => m",
-            debug: "InvalidData => m\n",
-        },
-        Row {
-            kind: ErrorKind::InvalidData,
-            message: "m",
-            contexts: &[("index", "42"), ("file", "foo")],
-            line: "InvalidData, context: { index: 42, file: foo } => m",
-            debug: "InvalidData => m\n\nContext:\n   index: 42\n   file: foo\n",
-        },
-        Row {
-            kind: ErrorKind::InvalidData,
-            message: "m",
-            contexts: &[("", ""), ("k k", "v: {}, x => y\nz")],
-            line: "InvalidData, context: { : , k k: v: {}, x => y\nz } => m",
-            debug: "InvalidData => m\n\nContext:\n   : \n   k k: v: {}, x => y\nz\n",
-        },
-        Row {
-            kind: ErrorKind::InvalidData,
-            message: "é => x",
-            contexts: &[("a", "1")],
-            line: "InvalidData, context: { a: 1 } => é => x",
-            debug: "InvalidData => é => x\n\nContext:\n   a: 1\n",
-        },
-        Row {
-            kind: ErrorKind::InvalidData,
-            message: "é => x",
-            contexts: &[("index", "42"), ("file", "foo")],
-            line: "InvalidData, context: { index: 42, file: foo } => é => x",
-            debug: "InvalidData => é => x\n\nContext:\n   index: 42\n   file: foo\n",
-        },
-        Row {
-            kind: ErrorKind::InvalidData,
-            message: "two\nlines",
-            contexts: &[],
-            line: "InvalidData => two\nlines",
-            debug: "InvalidData => two\nlines\n",
-        },
-        Row {
-            kind: ErrorKind::InvalidData,
-            message: "two\nlines",
-            contexts: &[("", ""), ("k k", "v: {}, x => y\nz")],
-            line: "InvalidData, context: { : , k k: v: {}, x => y\nz } => two\nlines",
-            debug: "InvalidData => two\nlines\n\nContext:\n   : \n   k k: v: {}, x => y\nz\n",
-        },
-    ];
-    for row in &rows {
-        let error = in_contexts(alloc, error(alloc, row.kind, row.message)?, row.contexts)?;
-        assert_eq!(rt; error.to_string(alloc)?.as_str(), row.line);
-        assert_eq!(rt; format!(in alloc; "{error:20}")?.as_str(), row.line);
-        assert_eq!(rt; format!(in alloc; "{error:?}")?.as_str(), row.debug);
+    for row in &ROWS {
+        let error = error_in(alloc, row.kind, row.message, row.contexts)?;
+        assert_text(&rt, error.to_string(alloc), row.line);
+        assert_text(&rt, format!(in alloc; "{error:20}"), row.line);
+        assert_text(&rt, format!(in alloc; "{error:?}"), row.debug);
     }
     Ok(())
 }
+
+// A dozen contexts under one key.
+const NUMBERS: [(&'static str, u8); 12] = [
+    ("n", 0),
+    ("n", 1),
+    ("n", 2),
+    ("n", 3),
+    ("n", 4),
+    ("n", 5),
+    ("n", 6),
+    ("n", 7),
+    ("n", 8),
+    ("n", 9),
+    ("n", 10),
+    ("n", 11),
+];
 
 #[test]
 fn prints_a_dozen_contexts(rt: HostRuntime) -> Result<(), Fail> {
     let alloc = rt.alloc();
-    let mut error = error(alloc, ErrorKind::InvalidData, "m")?;
-    let mut line = String::from_str(alloc, "InvalidData, context: { n: 0")?;
-    error = error.with_context(alloc, "n", 0u8)?;
-    for n in 1..12u8 {
-        error = error.with_context(alloc, "n", n)?;
-        line = format!(in alloc; "{line}, n: {n}")?;
-    }
-    let line = format!(in alloc; "{line} }} => m")?;
-    assert_eq!(rt; error.to_string(alloc)?.as_str(), line.as_str());
+    let error = error_in(alloc, ErrorKind::InvalidData, "m", &NUMBERS)?;
+    assert_text(
+        &rt,
+        error.to_string(alloc),
+        "InvalidData, context: { n: 0, n: 1, n: 2, n: 3, n: 4, n: 5, n: 6, n: 7, \
+         n: 8, n: 9, n: 10, n: 11 } => m",
+    );
     Ok(())
 }
+
+// The contexts of an error, and the fields that it prints in the alternate form.
+const FIELDS: [(&'static [(&'static str, u8)], &'static str); 2] = [
+    (
+        &[],
+        "Error {
+    kind: InvalidData,
+    message: \"m\",
+    context: [],
+}",
+    ),
+    (
+        &[("a", 1)],
+        "Error {
+    kind: InvalidData,
+    message: \"m\",
+    context: [
+        (
+            \"a\",
+            \"1\",
+        ),
+    ],
+}",
+    ),
+];
 
 #[test]
 fn prints_fields_in_the_alternate_form(rt: HostRuntime) -> Result<(), Fail> {
     let alloc = rt.alloc();
-    let plain = error(alloc, ErrorKind::InvalidData, "m")?;
-    let lines = [
-        "Error {",
-        "    kind: InvalidData,",
-        "    message: \"m\",",
-        "    context: [],",
-        "}",
-    ];
-    let wanted = lines.as_slice().join(alloc, "\n")?;
-    assert_eq!(rt; format!(in alloc; "{plain:#?}")?.as_str(), wanted.as_str());
-    let lines = [
-        "Error {",
-        "    kind: InvalidData,",
-        "    message: \"m\",",
-        "    context: [",
-        "        (",
-        "            \"a\",",
-        "            \"1\",",
-        "        ),",
-        "    ],",
-        "}",
-    ];
-    let wanted = lines.as_slice().join(alloc, "\n")?;
-    let told = plain.with_context(alloc, "a", 1u8)?;
-    assert_eq!(rt; format!(in alloc; "{told:#?}")?.as_str(), wanted.as_str());
+    for (contexts, text) in FIELDS {
+        let error = error_in(alloc, ErrorKind::InvalidData, "m", contexts)?;
+        assert_text(&rt, format!(in alloc; "{error:#?}"), text);
+    }
     Ok(())
 }
 
 #[test]
 fn keeps_kind_and_message(rt: HostRuntime) -> Result<(), Fail> {
+    let bad = error(rt.alloc(), ErrorKind::InvalidArgument, "bad input")?;
+    assert_eq!(rt;
+        (bad.kind(), bad.message()),
+        (ErrorKind::InvalidArgument, "bad input")
+    );
+    Ok(())
+}
+
+#[test]
+fn prints_the_names_of_the_kinds(rt: HostRuntime) {
     let alloc = rt.alloc();
-    let bad = error(alloc, ErrorKind::InvalidArgument, "bad input")?;
-    assert_eq!(rt; bad.kind(), ErrorKind::InvalidArgument);
-    assert_eq!(rt; bad.message(), "bad input");
-    let unheard = error(alloc, ErrorKind::OutOfMemory, "")?;
-    assert_eq!(rt; format!(in alloc; "{unheard:20}")?.as_str(), "OutOfMemory");
     for (kind, name) in [
         (ErrorKind::InvalidArgument, "InvalidArgument"),
         (ErrorKind::InvalidData, "InvalidData"),
         (ErrorKind::OutOfMemory, "OutOfMemory"),
     ] {
-        assert_eq!(rt; kind.into_static(), name);
-        assert_eq!(rt; format!(in alloc; "{kind:20}")?.as_str(), name);
-        assert_eq!(rt; format!(in alloc; "{kind:?}")?.as_str(), name);
+        let error = Error::new(kind, String::new(alloc));
+        assert_text(&rt, String::from_str(alloc, kind.into_static()), name);
+        assert_text(&rt, format!(in alloc; "{kind:20}"), name);
+        assert_text(&rt, format!(in alloc; "{kind:?}"), name);
+        assert_text(&rt, format!(in alloc; "{error:20}"), name);
     }
-    Ok(())
 }
 
 #[test]
@@ -263,7 +296,7 @@ fn prints_what_the_constructors_make(rt: HostRuntime) -> Result<(), Fail> {
         ),
     ];
     for (error, line) in &rows {
-        assert_eq!(rt; error.to_string(alloc)?.as_str(), *line);
+        assert_text(&rt, error.to_string(alloc), line);
     }
     Ok(())
 }
@@ -274,24 +307,32 @@ fn answers_a_value_that_does_not_print(rt: HostRuntime) -> Result<(), Fail> {
     let error = error(alloc, ErrorKind::InvalidData, "m")?.with_context(alloc, "a", 1u8)?;
     let refused = error.with_context(alloc, "b", Unprintable);
     let kept = refused.err().ok_or("printed")?;
-    assert_eq!(rt;
-        kept.to_string(alloc)?.as_str(),
-        "InvalidData, context: { a: 1 } => m"
+    assert_text(
+        &rt,
+        kept.to_string(alloc),
+        "InvalidData, context: { a: 1 } => m",
     );
+    Ok(())
+}
+
+#[test]
+fn answers_a_message_that_does_not_print(rt: HostRuntime) {
+    let alloc = rt.alloc();
     for unheard in [
         Error::insufficient_data(alloc, Unprintable),
         Error::insufficient_data_of(alloc, "header", Unprintable),
     ] {
-        assert_eq!(rt; unheard.kind(), ErrorKind::OutOfMemory);
-        assert_eq!(rt; unheard.message(), "");
+        assert_eq!(rt;
+            (unheard.kind(), unheard.message()),
+            (ErrorKind::OutOfMemory, "")
+        );
     }
-    Ok(())
 }
 
-// With ample memory each text is there. It holds also where any one request for memory is refused, as
-// `rt try --test --fail-alloc N` does with the Nth: then the error stays as it was, or tells of memory.
+// With ample memory each context is there. It holds also where any one request for memory is refused, as
+// `rt try --test --fail-alloc N` does with the Nth: then the error stays as it was.
 #[test]
-fn answers_want_of_memory(rt: HostRuntime) {
+fn keeps_an_error_at_want_of_memory(rt: HostRuntime) {
     let alloc = rt.alloc();
     let error = Error::new(ErrorKind::InvalidData, String::new(alloc));
     let (error, one) = match error.with_context(alloc, "a", 1u8) {
@@ -306,6 +347,12 @@ fn answers_want_of_memory(rt: HostRuntime) {
     if let Ok(text) = error.to_string(alloc) {
         assert_eq!(rt; text.as_str(), line);
     }
+}
+
+// The same of the errors that have a text: it is there, or the error tells of memory.
+#[test]
+fn answers_want_of_memory(rt: HostRuntime) {
+    let alloc = rt.alloc();
     for (error, message) in [
         (Error::insufficient_data(alloc, "x"), "insufficient data: x"),
         (
@@ -328,6 +375,6 @@ fn answers_want_of_memory(rt: HostRuntime) {
         let told = (ErrorKind::InvalidData, message);
         let unheard = (ErrorKind::OutOfMemory, "");
         let answer = (error.kind(), error.message());
-        assert!(rt; answer == told || answer == unheard);
+        assert!(rt; answer == told || answer == unheard, "not {message}");
     }
 }
