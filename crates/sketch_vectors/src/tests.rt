@@ -1,3 +1,4 @@
+mod both;
 mod cuts;
 mod equalities;
 mod fed;

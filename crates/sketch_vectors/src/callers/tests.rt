@@ -66,25 +66,42 @@ fn other_bytes_are_refused(rt: HostRuntime) {
     );
 }
 
+// What is read, or the kind of the refusal and whether its message begins like this.
+fn read_or_refusal(
+    alloc: Global,
+    bytes: &[u8],
+    seed: u64,
+    message: &str,
+) -> Result<u64, (ErrorKind, bool)> {
+    read_estimate(alloc, bytes, seed).map_err(|error| (
+        error.kind(),
+        error.message().starts_with(message),
+    ))
+}
+
 #[test]
 fn a_sketch_cut_short_is_refused(rt: HostRuntime) {
+    let message = "insufficient data (hll sketch): ";
     for count in 0..SKETCH.len() {
-        let answer = read_estimate(rt.alloc(), &SKETCH[..count], 9001);
-        let refused = answer.map_err(|error| {
-            error.kind() == ErrorKind::InvalidData
-                && error
-                    .message()
-                    .starts_with("insufficient data (hll sketch): ")
-        });
-        assert_eq!(rt; refused, Err(true), "of {count} bytes");
+        assert_eq!(rt;
+            read_or_refusal(rt.alloc(), &SKETCH[..count], 9001, message),
+            Err((ErrorKind::InvalidData, true)),
+            "of {count} bytes"
+        );
     }
 }
 
 #[test]
 fn a_seed_with_no_hash_is_refused(rt: HostRuntime) {
-    let answer = read_estimate(rt.alloc(), &SKETCH, 50541);
-    let kind = answer.map_err(|error| error.kind());
-    assert_eq!(rt; kind, Err(ErrorKind::InvalidArgument));
+    assert_eq!(rt;
+        read_or_refusal(
+            rt.alloc(),
+            &SKETCH,
+            50541,
+            "seed 50541 produces a seed hash of zero"
+        ),
+        Err((ErrorKind::InvalidArgument, true))
+    );
 }
 
 #[test]

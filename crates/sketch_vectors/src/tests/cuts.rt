@@ -1,10 +1,11 @@
 //! However a stream is cut into writes, the answer is that of one write.
 
-use datasketches::hash::{Hasher, MurmurHash3X64128, XxHash64};
+use super::both::Both;
 
-const MURMUR_SEED: u64 = 42;
-
-const XXH64_SEED: u64 = 0x9E37_79B1;
+// Both hashers, given nothing.
+fn fresh() -> Both {
+    Both::with_seeds(42, 0x9E37_79B1)
+}
 
 // The bytes 0, 1, .. 96.
 fn counting() -> [u8; 97] {
@@ -17,20 +18,13 @@ fn counting() -> [u8; 97] {
     bytes
 }
 
-fn murmur(pieces: &[&[u8]]) -> (u64, u64) {
-    let mut hasher = MurmurHash3X64128::with_seed(MURMUR_SEED);
+// What both answer after a write of each piece.
+fn answers(pieces: &[&[u8]]) -> ((u64, u64), u64) {
+    let mut both = fresh();
     for piece in pieces {
-        hasher.write(piece);
+        both.write(piece);
     }
-    hasher.finish128()
-}
-
-fn xxh64(pieces: &[&[u8]]) -> u64 {
-    let mut hasher = XxHash64::with_seed(XXH64_SEED);
-    for piece in pieces {
-        hasher.write(piece);
-    }
-    hasher.finish64()
+    both.answers()
 }
 
 #[test]
@@ -40,8 +34,11 @@ fn two_writes_answer_as_one(rt: HostRuntime) {
         let bytes = &all[..len];
         for cut in 0..=len {
             let (front, back) = bytes.split_at(cut);
-            assert_eq!(rt; murmur(&[front, back]), murmur(&[bytes]), "{cut} of {len}");
-            assert_eq!(rt; xxh64(&[front, back]), xxh64(&[bytes]), "{cut} of {len}");
+            assert_eq!(rt;
+                answers(&[front, back]),
+                answers(&[bytes]),
+                "{cut} of {len}"
+            );
         }
     }
 }
@@ -54,13 +51,8 @@ fn three_writes_answer_as_one(rt: HostRuntime) {
         for first in 0..=front.len() {
             let (start, middle) = front.split_at(first);
             assert_eq!(rt;
-                murmur(&[start, middle, back]),
-                murmur(&[&all]),
-                "{first}, {second}"
-            );
-            assert_eq!(rt;
-                xxh64(&[start, middle, back]),
-                xxh64(&[&all]),
+                answers(&[start, middle, back]),
+                answers(&[&all]),
                 "{first}, {second}"
             );
         }
@@ -70,17 +62,15 @@ fn three_writes_answer_as_one(rt: HostRuntime) {
 #[test]
 fn each_byte_can_be_asked_after(rt: HostRuntime) {
     let all = counting();
-    let mut murmured = MurmurHash3X64128::with_seed(MURMUR_SEED);
-    let mut hashed = XxHash64::with_seed(XXH64_SEED);
+    let mut both = fresh();
     for at in 0..97 {
-        murmured.write(&[]);
-        hashed.write(&[]);
-        murmured.write(&all[at..at + 1]);
-        hashed.write(&all[at..at + 1]);
-        let so_far = &all[..at + 1];
-        assert_eq!(rt; murmured.finish128(), murmur(&[so_far]));
-        assert_eq!(rt; murmured.finish128(), murmur(&[so_far]));
-        assert_eq!(rt; hashed.finish64(), xxh64(&[so_far]));
-        assert_eq!(rt; hashed.finish64(), xxh64(&[so_far]));
+        both.write(&[]);
+        both.write(&all[at..at + 1]);
+        let so_far = answers(&[&all[..at + 1]]);
+        assert_eq!(rt;
+            [both.answers(), both.answers()],
+            [so_far; 2],
+            "after byte {at}"
+        );
     }
 }

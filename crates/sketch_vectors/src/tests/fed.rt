@@ -4,6 +4,7 @@ use crate::first_bytes::FirstBytes;
 use datasketches::hash::value::{feed_all, natural_extend, raw_bytes, sign_extend};
 use datasketches::hash::{Hash, Hasher, MurmurHash3X64128};
 use std::alloc::AllocError;
+use std::process::Abort;
 
 // What a hasher was fed that was given one value.
 fn fed<T: Hash + Drop>(value: T) -> FirstBytes {
@@ -12,214 +13,207 @@ fn fed<T: Hash + Drop>(value: T) -> FirstBytes {
     hasher
 }
 
-// Each number with its bytes by its value and by its highest bit.
+// Each hasher was fed the bytes beside it.
+fn assert_fed(rt: &impl Abort, cases: &[(FirstBytes, &[u8])]) {
+    for (row, (fed, expected)) in cases.iter().enumerate() {
+        assert_eq!(rt; fed.bytes(), *expected, "row {row}");
+    }
+}
+
 #[test]
-fn unsigned_numbers_extended_in_both_ways(rt: HostRuntime) {
-    for (n, natural, sign) in [
-        (
-            127,
-            [0x7f, 0, 0, 0, 0, 0, 0, 0],
-            [0x7f, 0, 0, 0, 0, 0, 0, 0],
-        ),
-        (
-            128,
-            [0x80, 0, 0, 0, 0, 0, 0, 0],
-            [0x80, 0xff, 0xff, 0xff, 0xff, 0xff, 0xff, 0xff],
-        ),
-        (255, [0xff, 0, 0, 0, 0, 0, 0, 0], [0xff; 8]),
-    ] {
-        assert_eq!(rt;
-            fed(natural_extend::from_u8(n)).bytes(),
-            natural.as_slice(),
-            "{n}"
-        );
-        assert_eq!(rt;
-            fed(sign_extend::from_u8(n)).bytes(),
-            sign.as_slice(),
-            "{n}"
-        );
-    }
-    for (n, natural, sign) in [
-        (
-            32767,
-            [0xff, 0x7f, 0, 0, 0, 0, 0, 0],
-            [0xff, 0x7f, 0, 0, 0, 0, 0, 0],
-        ),
-        (
-            32768,
-            [0, 0x80, 0, 0, 0, 0, 0, 0],
-            [0, 0x80, 0xff, 0xff, 0xff, 0xff, 0xff, 0xff],
-        ),
-    ] {
-        assert_eq!(rt;
-            fed(natural_extend::from_u16(n)).bytes(),
-            natural.as_slice(),
-            "{n}"
-        );
-        assert_eq!(rt;
-            fed(sign_extend::from_u16(n)).bytes(),
-            sign.as_slice(),
-            "{n}"
-        );
-    }
-    for (n, natural, sign) in [
-        (
-            2147483648,
-            [0, 0, 0, 0x80, 0, 0, 0, 0],
-            [0, 0, 0, 0x80, 0xff, 0xff, 0xff, 0xff],
-        ),
-        (4294967295, [0xff, 0xff, 0xff, 0xff, 0, 0, 0, 0], [0xff; 8]),
-    ] {
-        assert_eq!(rt;
-            fed(natural_extend::from_u32(n)).bytes(),
-            natural.as_slice(),
-            "{n}"
-        );
-        assert_eq!(rt;
-            fed(sign_extend::from_u32(n)).bytes(),
-            sign.as_slice(),
-            "{n}"
-        );
-    }
+fn unsigned_numbers_extended_by_their_value(rt: HostRuntime) {
+    assert_fed(
+        &rt,
+        &[
+            (
+                fed(natural_extend::from_u8(127)),
+                &[0x7f, 0, 0, 0, 0, 0, 0, 0],
+            ),
+            (
+                fed(natural_extend::from_u8(128)),
+                &[0x80, 0, 0, 0, 0, 0, 0, 0],
+            ),
+            (
+                fed(natural_extend::from_u8(255)),
+                &[0xff, 0, 0, 0, 0, 0, 0, 0],
+            ),
+            (
+                fed(natural_extend::from_u16(32767)),
+                &[0xff, 0x7f, 0, 0, 0, 0, 0, 0],
+            ),
+            (
+                fed(natural_extend::from_u16(32768)),
+                &[0, 0x80, 0, 0, 0, 0, 0, 0],
+            ),
+            (
+                fed(natural_extend::from_u32(2147483648)),
+                &[0, 0, 0, 0x80, 0, 0, 0, 0],
+            ),
+            (
+                fed(natural_extend::from_u32(4294967295)),
+                &[0xff, 0xff, 0xff, 0xff, 0, 0, 0, 0],
+            ),
+        ],
+    );
+}
+
+#[test]
+fn unsigned_numbers_extended_by_their_highest_bit(rt: HostRuntime) {
+    assert_fed(
+        &rt,
+        &[
+            (fed(sign_extend::from_u8(127)), &[0x7f, 0, 0, 0, 0, 0, 0, 0]),
+            (
+                fed(sign_extend::from_u8(128)),
+                &[0x80, 0xff, 0xff, 0xff, 0xff, 0xff, 0xff, 0xff],
+            ),
+            (fed(sign_extend::from_u8(255)), &[0xff; 8]),
+            (
+                fed(sign_extend::from_u16(32767)),
+                &[0xff, 0x7f, 0, 0, 0, 0, 0, 0],
+            ),
+            (
+                fed(sign_extend::from_u16(32768)),
+                &[0, 0x80, 0xff, 0xff, 0xff, 0xff, 0xff, 0xff],
+            ),
+            (
+                fed(sign_extend::from_u32(2147483648)),
+                &[0, 0, 0, 0x80, 0xff, 0xff, 0xff, 0xff],
+            ),
+            (fed(sign_extend::from_u32(4294967295)), &[0xff; 8]),
+        ],
+    );
 }
 
 // A signed number has the same bytes in both ways.
 #[test]
 fn signed_numbers_extended_in_both_ways(rt: HostRuntime) {
-    for (n, bytes) in [
-        (-128, [0x80, 0xff, 0xff, 0xff, 0xff, 0xff, 0xff, 0xff]),
-        (-1, [0xff; 8]),
-        (127, [0x7f, 0, 0, 0, 0, 0, 0, 0]),
-    ] {
-        assert_eq!(rt;
-            fed(natural_extend::from_i8(n)).bytes(),
-            bytes.as_slice(),
-            "{n}"
-        );
-        assert_eq!(rt;
-            fed(sign_extend::from_i8(n)).bytes(),
-            bytes.as_slice(),
-            "{n}"
-        );
-    }
-    for (n, bytes) in [
-        (-32768, [0, 0x80, 0xff, 0xff, 0xff, 0xff, 0xff, 0xff]),
-        (-1, [0xff; 8]),
-        (32767, [0xff, 0x7f, 0, 0, 0, 0, 0, 0]),
-    ] {
-        assert_eq!(rt;
-            fed(natural_extend::from_i16(n)).bytes(),
-            bytes.as_slice(),
-            "{n}"
-        );
-        assert_eq!(rt;
-            fed(sign_extend::from_i16(n)).bytes(),
-            bytes.as_slice(),
-            "{n}"
-        );
-    }
-    for (n, bytes) in [
-        (-2147483648, [0, 0, 0, 0x80, 0xff, 0xff, 0xff, 0xff]),
-        (-2, [0xfe, 0xff, 0xff, 0xff, 0xff, 0xff, 0xff, 0xff]),
-        (-1, [0xff; 8]),
-    ] {
-        assert_eq!(rt;
-            fed(natural_extend::from_i32(n)).bytes(),
-            bytes.as_slice(),
-            "{n}"
-        );
-        assert_eq!(rt;
-            fed(sign_extend::from_i32(n)).bytes(),
-            bytes.as_slice(),
-            "{n}"
-        );
-    }
+    assert_fed(
+        &rt,
+        &[
+            (
+                fed(natural_extend::from_i8(-128)),
+                &[0x80, 0xff, 0xff, 0xff, 0xff, 0xff, 0xff, 0xff],
+            ),
+            (
+                fed(sign_extend::from_i8(-128)),
+                &[0x80, 0xff, 0xff, 0xff, 0xff, 0xff, 0xff, 0xff],
+            ),
+            (fed(natural_extend::from_i8(-1)), &[0xff; 8]),
+            (fed(sign_extend::from_i8(-1)), &[0xff; 8]),
+            (
+                fed(natural_extend::from_i8(127)),
+                &[0x7f, 0, 0, 0, 0, 0, 0, 0],
+            ),
+            (fed(sign_extend::from_i8(127)), &[0x7f, 0, 0, 0, 0, 0, 0, 0]),
+            (
+                fed(natural_extend::from_i16(-32768)),
+                &[0, 0x80, 0xff, 0xff, 0xff, 0xff, 0xff, 0xff],
+            ),
+            (
+                fed(sign_extend::from_i16(-32768)),
+                &[0, 0x80, 0xff, 0xff, 0xff, 0xff, 0xff, 0xff],
+            ),
+            (fed(natural_extend::from_i16(-1)), &[0xff; 8]),
+            (fed(sign_extend::from_i16(-1)), &[0xff; 8]),
+            (
+                fed(natural_extend::from_i16(32767)),
+                &[0xff, 0x7f, 0, 0, 0, 0, 0, 0],
+            ),
+            (
+                fed(sign_extend::from_i16(32767)),
+                &[0xff, 0x7f, 0, 0, 0, 0, 0, 0],
+            ),
+            (
+                fed(natural_extend::from_i32(-2147483648)),
+                &[0, 0, 0, 0x80, 0xff, 0xff, 0xff, 0xff],
+            ),
+            (
+                fed(sign_extend::from_i32(-2147483648)),
+                &[0, 0, 0, 0x80, 0xff, 0xff, 0xff, 0xff],
+            ),
+            (
+                fed(natural_extend::from_i32(-2)),
+                &[0xfe, 0xff, 0xff, 0xff, 0xff, 0xff, 0xff, 0xff],
+            ),
+            (
+                fed(sign_extend::from_i32(-2)),
+                &[0xfe, 0xff, 0xff, 0xff, 0xff, 0xff, 0xff, 0xff],
+            ),
+            (fed(natural_extend::from_i32(-1)), &[0xff; 8]),
+            (fed(sign_extend::from_i32(-1)), &[0xff; 8]),
+        ],
+    );
 }
 
 #[test]
 fn plain_numbers(rt: HostRuntime) {
-    for (n, bytes) in [(127u8, [0x7f]), (128, [0x80]), (255, [0xff])] {
-        assert_eq!(rt; fed(n).bytes(), bytes.as_slice(), "{n}");
-    }
-    for (n, bytes) in [(-128i8, [0x80]), (-1, [0xff]), (127, [0x7f])] {
-        assert_eq!(rt; fed(n).bytes(), bytes.as_slice(), "{n}");
-    }
-    for (n, bytes) in [
-        (258u16, [0x02, 0x01]),
-        (32767, [0xff, 0x7f]),
-        (32768, [0x00, 0x80]),
-    ] {
-        assert_eq!(rt; fed(n).bytes(), bytes.as_slice(), "{n}");
-    }
-    for (n, bytes) in [
-        (-32768i16, [0x00, 0x80]),
-        (-1, [0xff, 0xff]),
-        (32767, [0xff, 0x7f]),
-    ] {
-        assert_eq!(rt; fed(n).bytes(), bytes.as_slice(), "{n}");
-    }
-    for (n, bytes) in [
-        (2147483648u32, [0x00, 0x00, 0x00, 0x80]),
-        (4294967295, [0xff, 0xff, 0xff, 0xff]),
-    ] {
-        assert_eq!(rt; fed(n).bytes(), bytes.as_slice(), "{n}");
-    }
-    for (n, bytes) in [
-        (-2147483648i32, [0x00, 0x00, 0x00, 0x80]),
-        (-1, [0xff, 0xff, 0xff, 0xff]),
-    ] {
-        assert_eq!(rt; fed(n).bytes(), bytes.as_slice(), "{n}");
-    }
-    for (n, bytes) in [
-        (
-            9223372036854775807u64,
-            [0xff, 0xff, 0xff, 0xff, 0xff, 0xff, 0xff, 0x7f],
-        ),
-        (
-            18446744073709551615,
-            [0xff, 0xff, 0xff, 0xff, 0xff, 0xff, 0xff, 0xff],
-        ),
-    ] {
-        assert_eq!(rt; fed(n).bytes(), bytes.as_slice(), "{n}");
-    }
-    for (n, bytes) in [
-        (
-            -9223372036854775808i64,
-            [0x00, 0x00, 0x00, 0x00, 0x00, 0x00, 0x00, 0x80],
-        ),
-        (-1, [0xff, 0xff, 0xff, 0xff, 0xff, 0xff, 0xff, 0xff]),
-        (
-            9223372036854775807,
-            [0xff, 0xff, 0xff, 0xff, 0xff, 0xff, 0xff, 0x7f],
-        ),
-    ] {
-        assert_eq!(rt; fed(n).bytes(), bytes.as_slice(), "{n}");
-    }
+    assert_fed(
+        &rt,
+        &[
+            (fed(127u8), &[0x7f]),
+            (fed(128u8), &[0x80]),
+            (fed(255u8), &[0xff]),
+            (fed(-128i8), &[0x80]),
+            (fed(-1i8), &[0xff]),
+            (fed(127i8), &[0x7f]),
+            (fed(258u16), &[0x02, 0x01]),
+            (fed(32767u16), &[0xff, 0x7f]),
+            (fed(32768u16), &[0x00, 0x80]),
+            (fed(-32768i16), &[0x00, 0x80]),
+            (fed(-1i16), &[0xff, 0xff]),
+            (fed(32767i16), &[0xff, 0x7f]),
+            (fed(2147483648u32), &[0x00, 0x00, 0x00, 0x80]),
+            (fed(4294967295u32), &[0xff, 0xff, 0xff, 0xff]),
+            (fed(-2147483648i32), &[0x00, 0x00, 0x00, 0x80]),
+            (fed(-1i32), &[0xff, 0xff, 0xff, 0xff]),
+            (
+                fed(9223372036854775807u64),
+                &[0xff, 0xff, 0xff, 0xff, 0xff, 0xff, 0xff, 0x7f],
+            ),
+            (
+                fed(18446744073709551615u64),
+                &[0xff, 0xff, 0xff, 0xff, 0xff, 0xff, 0xff, 0xff],
+            ),
+            (
+                fed(-9223372036854775808i64),
+                &[0x00, 0x00, 0x00, 0x00, 0x00, 0x00, 0x00, 0x80],
+            ),
+            (
+                fed(-1i64),
+                &[0xff, 0xff, 0xff, 0xff, 0xff, 0xff, 0xff, 0xff],
+            ),
+            (
+                fed(9223372036854775807i64),
+                &[0xff, 0xff, 0xff, 0xff, 0xff, 0xff, 0xff, 0x7f],
+            ),
+        ],
+    );
 }
 
 #[test]
 fn bytes_and_texts(rt: HostRuntime) -> Result<(), AllocError> {
-    let expected = [1, 2, 0xff].as_slice();
-    assert_eq!(rt; fed(raw_bytes::from_slice(&[1, 2, 0xff])).bytes(), expected);
-    let bytes = Vec::from_slice(rt.alloc(), expected)?;
-    assert_eq!(rt; fed(raw_bytes::from_vec(bytes)).bytes(), expected);
-    assert_eq!(rt; fed(raw_bytes::from_str("abc")).bytes(), b"abc".as_slice());
+    let bytes = Vec::from_slice(rt.alloc(), &[1, 2, 0xff])?;
     let text = String::from_str(rt.alloc(), "abc")?;
-    assert_eq!(rt;
-        fed(raw_bytes::from_string(text)).bytes(),
-        b"abc".as_slice()
+    assert_fed(
+        &rt,
+        &[
+            (fed(raw_bytes::from_slice(&[1, 2, 0xff])), &[1, 2, 0xff]),
+            (fed(raw_bytes::from_vec(bytes)), &[1, 2, 0xff]),
+            (fed(raw_bytes::from_str("abc")), b"abc"),
+            (fed(raw_bytes::from_string(text)), b"abc"),
+            (fed(raw_bytes::from_str("")), &[]),
+        ],
     );
-    assert!(rt; fed(raw_bytes::from_str("")).bytes().is_empty());
     Ok(())
 }
 
 #[test]
 fn a_clone_feeds_what_its_original_feeds(rt: HostRuntime) -> Result<(), AllocError> {
-    let expected = [1, 2, 3].as_slice();
-    let original = raw_bytes::from_vec(Vec::from_slice(rt.alloc(), expected)?);
+    let original = raw_bytes::from_vec(Vec::from_slice(rt.alloc(), &[1, 2, 3])?);
     let cloned = original.clone()?;
-    assert_eq!(rt; fed(cloned).bytes(), expected);
-    assert_eq!(rt; fed(original).bytes(), expected);
+    let expected = [1, 2, 3].as_slice();
+    assert_eq!(rt; [fed(cloned).bytes(), fed(original).bytes()], [expected; 2]);
     Ok(())
 }
 

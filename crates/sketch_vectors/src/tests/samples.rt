@@ -2,6 +2,7 @@
 //!
 //! The hashes of single values are those of its Murmur hasher under the seed 9001.
 
+use super::both::Both;
 use datasketches::error::ErrorKind;
 use datasketches::hash::value::{calculate_hash, natural_extend, raw_bytes, sign_extend};
 use datasketches::hash::{Hasher, MurmurHash3X64128, XxHash64, compute_seed_hash};
@@ -308,314 +309,277 @@ const CUTS: [Cut; 10] = [
 
 #[test]
 fn hashes_of_streams(rt: HostRuntime) {
-    for (seed, input, murmur, xxh64) in HASHES {
-        let mut murmured = MurmurHash3X64128::with_seed(seed);
-        murmured.write(input);
-        assert_eq!(rt; murmured.finish128(), murmur, "{} bytes", input.len());
-        let mut hashed = XxHash64::with_seed(seed);
-        hashed.write(input);
-        assert_eq!(rt; hashed.finish64(), xxh64, "{} bytes", input.len());
+    for (seed, input, murmur, xxh64) in &HASHES {
+        let mut both = Both::with_seeds(*seed, *seed);
+        both.write(input);
+        assert_eq!(rt; both.answers(), (*murmur, *xxh64), "{} bytes", input.len());
     }
 }
 
 #[test]
 fn hashes_of_streams_in_pieces(rt: HostRuntime) {
-    for (seed, input, cuts, murmur, xxh64) in CUTS {
-        let mut murmured = MurmurHash3X64128::with_seed(seed);
-        let mut hashed = XxHash64::with_seed(seed);
+    for (seed, input, cuts, murmur, xxh64) in &CUTS {
+        let mut both = Both::with_seeds(*seed, *seed);
         let mut start = 0;
-        for cut in cuts {
-            let piece = input.get(start..*cut).unwrap_or(&[]);
-            murmured.write(piece);
-            hashed.write(piece);
+        for cut in *cuts {
+            both.write(input.get(start..*cut).unwrap_or(&[]));
             start = *cut;
         }
-        let rest = input.get(start..).unwrap_or(&[]);
-        murmured.write(rest);
-        hashed.write(rest);
-        assert_eq!(rt; murmured.finish128(), murmur, "{} bytes", input.len());
-        assert_eq!(rt; hashed.finish64(), xxh64, "{} bytes", input.len());
+        both.write(input.get(start..).unwrap_or(&[]));
+        assert_eq!(rt; both.answers(), (*murmur, *xxh64), "{} bytes", input.len());
     }
 }
 
-// Both hashers with a seed.
-fn both(seed: u64) -> (MurmurHash3X64128, XxHash64) {
-    (
-        MurmurHash3X64128::with_seed(seed),
-        XxHash64::with_seed(seed),
-    )
+// A number, and the write of hashers that takes it.
+trait Number {
+    fn write<H: Hasher>(self, hasher: &mut H);
+}
+
+macro_rules! numbers {
+    ($($number:ty: $write:ident,)*) => {
+        $(
+            impl Number for $number {
+                fn write<H: Hasher>(self, hasher: &mut H) {
+                    hasher.$write(self);
+                }
+            }
+        )*
+    };
+}
+
+numbers! {
+    u8: write_u8,
+    i8: write_i8,
+    u16: write_u16,
+    i16: write_i16,
+    u32: write_u32,
+    i32: write_i32,
+    u64: write_u64,
+    i64: write_i64,
+}
+
+// The first Murmur word and the XXH64 hash, under the seed 7, after one write of the number.
+fn after<N: Number + Copy>(n: N) -> (u64, u64) {
+    let mut murmured = MurmurHash3X64128::with_seed(7);
+    let mut hashed = XxHash64::with_seed(7);
+    n.write(&mut murmured);
+    n.write(&mut hashed);
+    (murmured.finish(), hashed.finish())
 }
 
 #[test]
 fn numbers_of_8_and_16_bits_after_one_write(rt: HostRuntime) {
-    for (seed, n, murmur, xxh64) in [
-        (7, 0u8, 0x7d48_0f9f_a80e_c469, 0xd90d_f86c_76f5_2e13),
-        (7, 127, 0x0482_b915_a4f4_0656, 0xb11b_6f0f_f02d_9507),
-        (7, 254, 0x5fad_8e26_3a9a_1f01, 0x080f_a50a_e87e_1b7d),
+    for (answers, expected) in &[
+        (
+            [0u8, 127, 254].map(after),
+            [
+                (0x7d48_0f9f_a80e_c469, 0xd90d_f86c_76f5_2e13),
+                (0x0482_b915_a4f4_0656, 0xb11b_6f0f_f02d_9507),
+                (0x5fad_8e26_3a9a_1f01, 0x080f_a50a_e87e_1b7d),
+            ],
+        ),
+        (
+            [-128i8, -2, 0].map(after),
+            [
+                (0x0317_404c_d1ba_84da, 0x9113_45a7_8882_8073),
+                (0x5fad_8e26_3a9a_1f01, 0x080f_a50a_e87e_1b7d),
+                (0x7d48_0f9f_a80e_c469, 0xd90d_f86c_76f5_2e13),
+            ],
+        ),
+        (
+            [0u16, 32767, 65534].map(after),
+            [
+                (0x3df4_60ff_3e17_b53a, 0x66b9_ba93_c911_8fc5),
+                (0x3361_0de1_43a8_14da, 0x7cb9_a3d8_353b_99d7),
+                (0x7685_2763_363c_efcb, 0xa6b5_c640_1e33_2ae2),
+            ],
+        ),
+        (
+            [-32768i16, -2, 0].map(after),
+            [
+                (0xe73d_be42_cd69_f3c6, 0xbeac_7bb1_477b_13d4),
+                (0x7685_2763_363c_efcb, 0xa6b5_c640_1e33_2ae2),
+                (0x3df4_60ff_3e17_b53a, 0x66b9_ba93_c911_8fc5),
+            ],
+        ),
     ] {
-        let (mut murmured, mut hashed) = both(seed);
-        murmured.write_u8(n);
-        hashed.write_u8(n);
-        assert_eq!(rt;
-            (murmured.finish(), hashed.finish()),
-            (murmur, xxh64),
-            "{n}"
-        );
-    }
-    for (seed, n, murmur, xxh64) in [
-        (7, -128i8, 0x0317_404c_d1ba_84da, 0x9113_45a7_8882_8073),
-        (7, -2, 0x5fad_8e26_3a9a_1f01, 0x080f_a50a_e87e_1b7d),
-        (7, 0, 0x7d48_0f9f_a80e_c469, 0xd90d_f86c_76f5_2e13),
-    ] {
-        let (mut murmured, mut hashed) = both(seed);
-        murmured.write_i8(n);
-        hashed.write_i8(n);
-        assert_eq!(rt;
-            (murmured.finish(), hashed.finish()),
-            (murmur, xxh64),
-            "{n}"
-        );
-    }
-    for (seed, n, murmur, xxh64) in [
-        (7, 0u16, 0x3df4_60ff_3e17_b53a, 0x66b9_ba93_c911_8fc5),
-        (7, 32767, 0x3361_0de1_43a8_14da, 0x7cb9_a3d8_353b_99d7),
-        (7, 65534, 0x7685_2763_363c_efcb, 0xa6b5_c640_1e33_2ae2),
-    ] {
-        let (mut murmured, mut hashed) = both(seed);
-        murmured.write_u16(n);
-        hashed.write_u16(n);
-        assert_eq!(rt;
-            (murmured.finish(), hashed.finish()),
-            (murmur, xxh64),
-            "{n}"
-        );
-    }
-    for (seed, n, murmur, xxh64) in [
-        (7, -32768i16, 0xe73d_be42_cd69_f3c6, 0xbeac_7bb1_477b_13d4),
-        (7, -2, 0x7685_2763_363c_efcb, 0xa6b5_c640_1e33_2ae2),
-        (7, 0, 0x3df4_60ff_3e17_b53a, 0x66b9_ba93_c911_8fc5),
-    ] {
-        let (mut murmured, mut hashed) = both(seed);
-        murmured.write_i16(n);
-        hashed.write_i16(n);
-        assert_eq!(rt;
-            (murmured.finish(), hashed.finish()),
-            (murmur, xxh64),
-            "{n}"
-        );
+        assert_eq!(rt; answers, expected);
     }
 }
 
 #[test]
 fn numbers_of_32_and_64_bits_after_one_write(rt: HostRuntime) {
-    for (seed, n, murmur, xxh64) in [
-        (7, 0u32, 0x79d5_4dd1_bf71_3748, 0x94c6_6b00_e254_04d3),
-        (7, 2147483647, 0x8ff8_90b3_c66c_ea63, 0xbffa_f7ed_3828_c5c6),
-        (7, 4294967294, 0x0964_dc60_72d9_36ea, 0x41a2_4406_726d_ed05),
-    ] {
-        let (mut murmured, mut hashed) = both(seed);
-        murmured.write_u32(n);
-        hashed.write_u32(n);
-        assert_eq!(rt;
-            (murmured.finish(), hashed.finish()),
-            (murmur, xxh64),
-            "{n}"
-        );
-    }
-    for (seed, n, murmur, xxh64) in [
+    for (answers, expected) in &[
         (
-            7,
-            -2147483648i32,
-            0xb838_05f1_cb43_8fc8,
-            0xccae_49b2_71ed_d0ff,
-        ),
-        (7, -2, 0x0964_dc60_72d9_36ea, 0x41a2_4406_726d_ed05),
-        (7, 0, 0x79d5_4dd1_bf71_3748, 0x94c6_6b00_e254_04d3),
-    ] {
-        let (mut murmured, mut hashed) = both(seed);
-        murmured.write_i32(n);
-        hashed.write_i32(n);
-        assert_eq!(rt;
-            (murmured.finish(), hashed.finish()),
-            (murmur, xxh64),
-            "{n}"
-        );
-    }
-    for (seed, n, murmur, xxh64) in [
-        (7, 0u64, 0x6ce1_13b1_15a5_6871, 0x8562_a8ca_30d1_d8c7),
-        (
-            7,
-            9223372036854775807,
-            0x2413_15ee_a83e_4f34,
-            0x0910_5364_f867_692b,
+            [0u32, 2147483647, 4294967294].map(after),
+            [
+                (0x79d5_4dd1_bf71_3748, 0x94c6_6b00_e254_04d3),
+                (0x8ff8_90b3_c66c_ea63, 0xbffa_f7ed_3828_c5c6),
+                (0x0964_dc60_72d9_36ea, 0x41a2_4406_726d_ed05),
+            ],
         ),
         (
-            7,
-            18446744073709551614,
-            0x09bf_526b_79e5_231d,
-            0xebec_947d_1050_6dd7,
+            [-2147483648i32, -2, 0].map(after),
+            [
+                (0xb838_05f1_cb43_8fc8, 0xccae_49b2_71ed_d0ff),
+                (0x0964_dc60_72d9_36ea, 0x41a2_4406_726d_ed05),
+                (0x79d5_4dd1_bf71_3748, 0x94c6_6b00_e254_04d3),
+            ],
         ),
-    ] {
-        let (mut murmured, mut hashed) = both(seed);
-        murmured.write_u64(n);
-        hashed.write_u64(n);
-        assert_eq!(rt;
-            (murmured.finish(), hashed.finish()),
-            (murmur, xxh64),
-            "{n}"
-        );
-    }
-    for (seed, n, murmur, xxh64) in [
         (
-            7,
-            -9223372036854775808i64,
-            0x6e52_ad93_7294_91f0,
-            0xb733_43d4_5531_edb1,
+            [0u64, 9223372036854775807, 18446744073709551614].map(after),
+            [
+                (0x6ce1_13b1_15a5_6871, 0x8562_a8ca_30d1_d8c7),
+                (0x2413_15ee_a83e_4f34, 0x0910_5364_f867_692b),
+                (0x09bf_526b_79e5_231d, 0xebec_947d_1050_6dd7),
+            ],
         ),
-        (7, -2, 0x09bf_526b_79e5_231d, 0xebec_947d_1050_6dd7),
-        (7, 0, 0x6ce1_13b1_15a5_6871, 0x8562_a8ca_30d1_d8c7),
+        (
+            [-9223372036854775808i64, -2, 0].map(after),
+            [
+                (0x6e52_ad93_7294_91f0, 0xb733_43d4_5531_edb1),
+                (0x09bf_526b_79e5_231d, 0xebec_947d_1050_6dd7),
+                (0x6ce1_13b1_15a5_6871, 0x8562_a8ca_30d1_d8c7),
+            ],
+        ),
     ] {
-        let (mut murmured, mut hashed) = both(seed);
-        murmured.write_i64(n);
-        hashed.write_i64(n);
-        assert_eq!(rt;
-            (murmured.finish(), hashed.finish()),
-            (murmur, xxh64),
-            "{n}"
-        );
+        assert_eq!(rt; answers, expected);
     }
 }
 
 #[test]
 fn numbers_extended_by_their_value(rt: HostRuntime) {
-    for (n, expected) in [
-        (0, 0x4089_0191_dcc2_d7cb),
-        (128, 0x7743_69d4_2e19_a920),
-        (100, 0x7243_37e5_58b2_5d89),
-    ] {
-        assert_eq!(rt; calculate_hash(natural_extend::from_u8(n)), expected, "{n}");
-    }
-    for (n, expected) in [
-        (-128, 0x7006_144c_2eb1_ab1f),
-        (0, 0x4089_0191_dcc2_d7cb),
-        (100, 0x7243_37e5_58b2_5d89),
-    ] {
-        assert_eq!(rt; calculate_hash(natural_extend::from_i8(n)), expected, "{n}");
-    }
-    for (n, expected) in [
-        (0, 0x4089_0191_dcc2_d7cb),
-        (32768, 0x6b02_7c59_14f0_6600),
-        (100, 0x7243_37e5_58b2_5d89),
-    ] {
-        assert_eq!(rt;
-            calculate_hash(natural_extend::from_u16(n)),
-            expected,
-            "{n}"
-        );
-    }
-    for (n, expected) in [
-        (-32768, 0x62ee_9c6a_7466_2726),
-        (0, 0x4089_0191_dcc2_d7cb),
-        (42, 0x9080_33af_cdd0_bc1a),
-    ] {
-        assert_eq!(rt;
-            calculate_hash(natural_extend::from_i16(n)),
-            expected,
-            "{n}"
-        );
-    }
-    for (n, expected) in [
-        (0, 0x4089_0191_dcc2_d7cb),
-        (2147483648, 0x11ab_8070_f383_45d8),
-        (100, 0x7243_37e5_58b2_5d89),
-    ] {
-        assert_eq!(rt;
-            calculate_hash(natural_extend::from_u32(n)),
-            expected,
-            "{n}"
-        );
-    }
-    for (n, expected) in [
-        (-2147483648, 0x2289_208d_e8a7_e547),
-        (0, 0x4089_0191_dcc2_d7cb),
-        (42, 0x9080_33af_cdd0_bc1a),
-    ] {
-        assert_eq!(rt;
-            calculate_hash(natural_extend::from_i32(n)),
-            expected,
-            "{n}"
-        );
-    }
+    assert_eq!(rt;
+        [
+            [0, 128, 100]
+                .map(natural_extend::from_u8)
+                .map(calculate_hash),
+            [-128, 0, 100]
+                .map(natural_extend::from_i8)
+                .map(calculate_hash),
+            [0, 32768, 100]
+                .map(natural_extend::from_u16)
+                .map(calculate_hash),
+            [-32768, 0, 42]
+                .map(natural_extend::from_i16)
+                .map(calculate_hash),
+            [0, 2147483648, 100]
+                .map(natural_extend::from_u32)
+                .map(calculate_hash),
+            [-2147483648, 0, 42]
+                .map(natural_extend::from_i32)
+                .map(calculate_hash),
+        ],
+        [
+            [
+                0x4089_0191_dcc2_d7cb,
+                0x7743_69d4_2e19_a920,
+                0x7243_37e5_58b2_5d89,
+            ],
+            [
+                0x7006_144c_2eb1_ab1f,
+                0x4089_0191_dcc2_d7cb,
+                0x7243_37e5_58b2_5d89,
+            ],
+            [
+                0x4089_0191_dcc2_d7cb,
+                0x6b02_7c59_14f0_6600,
+                0x7243_37e5_58b2_5d89,
+            ],
+            [
+                0x62ee_9c6a_7466_2726,
+                0x4089_0191_dcc2_d7cb,
+                0x9080_33af_cdd0_bc1a,
+            ],
+            [
+                0x4089_0191_dcc2_d7cb,
+                0x11ab_8070_f383_45d8,
+                0x7243_37e5_58b2_5d89,
+            ],
+            [
+                0x2289_208d_e8a7_e547,
+                0x4089_0191_dcc2_d7cb,
+                0x9080_33af_cdd0_bc1a,
+            ],
+        ]
+    );
 }
 
 #[test]
 fn numbers_extended_by_their_highest_bit(rt: HostRuntime) {
-    for (n, expected) in [
-        (0, 0x4089_0191_dcc2_d7cb),
-        (128, 0x7006_144c_2eb1_ab1f),
-        (42, 0x9080_33af_cdd0_bc1a),
-    ] {
-        assert_eq!(rt; calculate_hash(sign_extend::from_u8(n)), expected, "{n}");
-    }
-    for (n, expected) in [
-        (-128, 0x7006_144c_2eb1_ab1f),
-        (0, 0x4089_0191_dcc2_d7cb),
-        (42, 0x9080_33af_cdd0_bc1a),
-    ] {
-        assert_eq!(rt; calculate_hash(sign_extend::from_i8(n)), expected, "{n}");
-    }
-    for (n, expected) in [
-        (0, 0x4089_0191_dcc2_d7cb),
-        (32768, 0x62ee_9c6a_7466_2726),
-        (100, 0x7243_37e5_58b2_5d89),
-    ] {
-        assert_eq!(rt; calculate_hash(sign_extend::from_u16(n)), expected, "{n}");
-    }
-    for (n, expected) in [
-        (-32768, 0x62ee_9c6a_7466_2726),
-        (0, 0x4089_0191_dcc2_d7cb),
-        (100, 0x7243_37e5_58b2_5d89),
-    ] {
-        assert_eq!(rt; calculate_hash(sign_extend::from_i16(n)), expected, "{n}");
-    }
-    for (n, expected) in [
-        (0, 0x4089_0191_dcc2_d7cb),
-        (2147483648, 0x2289_208d_e8a7_e547),
-        (42, 0x9080_33af_cdd0_bc1a),
-    ] {
-        assert_eq!(rt; calculate_hash(sign_extend::from_u32(n)), expected, "{n}");
-    }
-    for (n, expected) in [
-        (-2147483648, 0x2289_208d_e8a7_e547),
-        (0, 0x4089_0191_dcc2_d7cb),
-        (100, 0x7243_37e5_58b2_5d89),
-    ] {
-        assert_eq!(rt; calculate_hash(sign_extend::from_i32(n)), expected, "{n}");
-    }
+    assert_eq!(rt;
+        [
+            [0, 128, 42].map(sign_extend::from_u8).map(calculate_hash),
+            [-128, 0, 42].map(sign_extend::from_i8).map(calculate_hash),
+            [0, 32768, 100]
+                .map(sign_extend::from_u16)
+                .map(calculate_hash),
+            [-32768, 0, 100]
+                .map(sign_extend::from_i16)
+                .map(calculate_hash),
+            [0, 2147483648, 42]
+                .map(sign_extend::from_u32)
+                .map(calculate_hash),
+            [-2147483648, 0, 100]
+                .map(sign_extend::from_i32)
+                .map(calculate_hash),
+        ],
+        [
+            [
+                0x4089_0191_dcc2_d7cb,
+                0x7006_144c_2eb1_ab1f,
+                0x9080_33af_cdd0_bc1a,
+            ],
+            [
+                0x7006_144c_2eb1_ab1f,
+                0x4089_0191_dcc2_d7cb,
+                0x9080_33af_cdd0_bc1a,
+            ],
+            [
+                0x4089_0191_dcc2_d7cb,
+                0x62ee_9c6a_7466_2726,
+                0x7243_37e5_58b2_5d89,
+            ],
+            [
+                0x62ee_9c6a_7466_2726,
+                0x4089_0191_dcc2_d7cb,
+                0x7243_37e5_58b2_5d89,
+            ],
+            [
+                0x4089_0191_dcc2_d7cb,
+                0x2289_208d_e8a7_e547,
+                0x9080_33af_cdd0_bc1a,
+            ],
+            [
+                0x2289_208d_e8a7_e547,
+                0x4089_0191_dcc2_d7cb,
+                0x7243_37e5_58b2_5d89,
+            ],
+        ]
+    );
 }
 
 #[test]
 fn plain_numbers(rt: HostRuntime) {
-    for (n, expected) in [
-        (2147483647u32, 0x845a_c6fd_1e24_9714),
-        (2147483648, 0x625a_1bc9_00f4_4b0a),
+    for (answers, expected) in &[
+        (
+            [2147483647u32, 2147483648].map(calculate_hash),
+            [0x845a_c6fd_1e24_9714, 0x625a_1bc9_00f4_4b0a],
+        ),
+        (
+            [-2147483648i32, 2147483647].map(calculate_hash),
+            [0x625a_1bc9_00f4_4b0a, 0x845a_c6fd_1e24_9714],
+        ),
+        (
+            [0u64, 100].map(calculate_hash),
+            [0x4089_0191_dcc2_d7cb, 0x7243_37e5_58b2_5d89],
+        ),
+        (
+            [-9223372036854775808i64, 42].map(calculate_hash),
+            [0xf32f_57fa_54c2_1975, 0x9080_33af_cdd0_bc1a],
+        ),
     ] {
-        assert_eq!(rt; calculate_hash(n), expected, "{n}");
-    }
-    for (n, expected) in [
-        (-2147483648i32, 0x625a_1bc9_00f4_4b0a),
-        (2147483647, 0x845a_c6fd_1e24_9714),
-    ] {
-        assert_eq!(rt; calculate_hash(n), expected, "{n}");
-    }
-    for (n, expected) in [(0u64, 0x4089_0191_dcc2_d7cb), (100, 0x7243_37e5_58b2_5d89)] {
-        assert_eq!(rt; calculate_hash(n), expected, "{n}");
-    }
-    for (n, expected) in [
-        (-9223372036854775808i64, 0xf32f_57fa_54c2_1975),
-        (42, 0x9080_33af_cdd0_bc1a),
-    ] {
-        assert_eq!(rt; calculate_hash(n), expected, "{n}");
+        assert_eq!(rt; answers, expected);
     }
 }
 
@@ -640,13 +604,13 @@ const TEXTS: [(&str, u64); 4] = [
 
 #[test]
 fn bytes_and_texts(rt: HostRuntime) {
-    for (bytes, expected) in SLICES {
-        assert_eq!(rt; calculate_hash(raw_bytes::from_slice(bytes)), expected);
+    for (bytes, expected) in &SLICES {
+        assert_eq!(rt; calculate_hash(raw_bytes::from_slice(bytes)), *expected);
     }
-    for (text, expected) in TEXTS {
+    for (text, expected) in &TEXTS {
         assert_eq!(rt;
             calculate_hash(raw_bytes::from_str(text)),
-            expected,
+            *expected,
             "{text}"
         );
     }
@@ -670,8 +634,8 @@ const SEED_HASHES: [(u64, u16); 12] = [
 
 #[test]
 fn seed_hashes_of_seeds(rt: HostRuntime) {
-    for (seed, expected) in SEED_HASHES {
-        let computed = compute_seed_hash(rt.alloc(), seed, ErrorKind::InvalidArgument);
-        assert_eq!(rt; computed.ok(), Some(expected), "seed {seed}");
+    for (seed, expected) in &SEED_HASHES {
+        let computed = compute_seed_hash(rt.alloc(), *seed, ErrorKind::InvalidArgument);
+        assert_eq!(rt; computed.ok(), Some(*expected), "seed {seed}");
     }
 }

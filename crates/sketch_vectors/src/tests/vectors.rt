@@ -56,19 +56,19 @@ fn test_buffer() -> [u8; 100] {
 
 #[test]
 fn murmur_vectors(rt: HostRuntime) {
-    for (input, expected) in MURMUR {
+    for (input, expected) in &MURMUR {
         let mut hasher = MurmurHash3X64128::with_seed(0);
         hasher.write(input);
-        assert_eq!(rt; hasher.finish128(), expected, "{} bytes", input.len());
+        assert_eq!(rt; hasher.finish128(), *expected, "{} bytes", input.len());
     }
 }
 
 #[test]
 fn xxh64_vectors(rt: HostRuntime) {
     let buffer = test_buffer();
-    for (seed, count, expected) in XXH64 {
-        let mut hasher = XxHash64::with_seed(seed);
-        hasher.write(&buffer[..count.min(100)]);
-        assert_eq!(rt; hasher.finish64(), expected, "{count} bytes under {seed}");
+    for (seed, count, expected) in &XXH64 {
+        let mut hasher = XxHash64::with_seed(*seed);
+        hasher.write(&buffer[..(*count).min(100)]);
+        assert_eq!(rt; hasher.finish64(), *expected, "{count} bytes under {seed}");
     }
 }

@@ -1,0 +1,31 @@
+//! Both hashers, side by side.
+
+use datasketches::hash::{Hasher, MurmurHash3X64128, XxHash64};
+
+/// Both hashers, which are given the same bytes.
+#[derive(Drop)]
+pub struct Both {
+    murmured: MurmurHash3X64128,
+    hashed: XxHash64,
+}
+
+impl Both {
+    /// Both with their seeds, given nothing.
+    pub fn with_seeds(murmur: u64, xxh64: u64) -> Self {
+        Both {
+            murmured: MurmurHash3X64128::with_seed(murmur),
+            hashed: XxHash64::with_seed(xxh64),
+        }
+    }
+
+    /// Adds the bytes to what both hash.
+    pub fn write(&mut self, bytes: &[u8]) {
+        self.murmured.write(bytes);
+        self.hashed.write(bytes);
+    }
+
+    /// The Murmur pair and the XXH64 hash.
+    pub fn answers(&self) -> ((u64, u64), u64) {
+        (self.murmured.finish128(), self.hashed.finish64())
+    }
+}
