@@ -60,7 +60,7 @@ struct Row {
     debug: &'static str,
 }
 
-const ROWS: [Row; 11] = [
+const ROWS: [Row; 12] = [
     Row {
         kind: ErrorKind::InvalidArgument,
         message: "",
@@ -88,6 +88,13 @@ const ROWS: [Row; 11] = [
         contexts: &[("", ""), ("k k", "v: {}, x => y\nz")],
         line: "InvalidArgument, context: { : , k k: v: {}, x => y\nz }",
         debug: "InvalidArgument\n\nContext:\n   : \n   k k: v: {}, x => y\nz\n",
+    },
+    Row {
+        kind: ErrorKind::InvalidArgument,
+        message: "something went wrong",
+        contexts: &[],
+        line: "InvalidArgument => something went wrong",
+        debug: "InvalidArgument => something went wrong\n",
     },
     Row {
         kind: ErrorKind::InvalidData,

@@ -330,48 +330,24 @@ fn hashes_of_streams_in_pieces(rt: HostRuntime) {
     }
 }
 
-// A number, and the write of hashers that takes it.
-trait Number {
-    fn write<H: Hasher>(self, hasher: &mut H);
-}
-
-macro_rules! numbers {
-    ($($number:ty: $write:ident,)*) => {
-        $(
-            impl Number for $number {
-                fn write<H: Hasher>(self, hasher: &mut H) {
-                    hasher.$write(self);
-                }
-            }
-        )*
+// The first Murmur word and the XXH64 hash, under the seed 7, after this one write of a number.
+macro_rules! after {
+    ($write:ident) => {
+        |n| {
+            let mut murmured = MurmurHash3X64128::with_seed(7);
+            let mut hashed = XxHash64::with_seed(7);
+            murmured.$write(n);
+            hashed.$write(n);
+            (murmured.finish(), hashed.finish())
+        }
     };
-}
-
-numbers! {
-    u8: write_u8,
-    i8: write_i8,
-    u16: write_u16,
-    i16: write_i16,
-    u32: write_u32,
-    i32: write_i32,
-    u64: write_u64,
-    i64: write_i64,
-}
-
-// The first Murmur word and the XXH64 hash, under the seed 7, after one write of the number.
-fn after<N: Number + Copy>(n: N) -> (u64, u64) {
-    let mut murmured = MurmurHash3X64128::with_seed(7);
-    let mut hashed = XxHash64::with_seed(7);
-    n.write(&mut murmured);
-    n.write(&mut hashed);
-    (murmured.finish(), hashed.finish())
 }
 
 #[test]
 fn numbers_of_8_and_16_bits_after_one_write(rt: HostRuntime) {
     for (answers, expected) in &[
         (
-            [0u8, 127, 254].map(after),
+            [0u8, 127, 254].map(after!(write_u8)),
             [
                 (0x7d48_0f9f_a80e_c469, 0xd90d_f86c_76f5_2e13),
                 (0x0482_b915_a4f4_0656, 0xb11b_6f0f_f02d_9507),
@@ -379,7 +355,7 @@ fn numbers_of_8_and_16_bits_after_one_write(rt: HostRuntime) {
             ],
         ),
         (
-            [-128i8, -2, 0].map(after),
+            [-128i8, -2, 0].map(after!(write_i8)),
             [
                 (0x0317_404c_d1ba_84da, 0x9113_45a7_8882_8073),
                 (0x5fad_8e26_3a9a_1f01, 0x080f_a50a_e87e_1b7d),
@@ -387,7 +363,7 @@ fn numbers_of_8_and_16_bits_after_one_write(rt: HostRuntime) {
             ],
         ),
         (
-            [0u16, 32767, 65534].map(after),
+            [0u16, 32767, 65534].map(after!(write_u16)),
             [
                 (0x3df4_60ff_3e17_b53a, 0x66b9_ba93_c911_8fc5),
                 (0x3361_0de1_43a8_14da, 0x7cb9_a3d8_353b_99d7),
@@ -395,7 +371,7 @@ fn numbers_of_8_and_16_bits_after_one_write(rt: HostRuntime) {
             ],
         ),
         (
-            [-32768i16, -2, 0].map(after),
+            [-32768i16, -2, 0].map(after!(write_i16)),
             [
                 (0xe73d_be42_cd69_f3c6, 0xbeac_7bb1_477b_13d4),
                 (0x7685_2763_363c_efcb, 0xa6b5_c640_1e33_2ae2),
@@ -411,7 +387,7 @@ fn numbers_of_8_and_16_bits_after_one_write(rt: HostRuntime) {
 fn numbers_of_32_and_64_bits_after_one_write(rt: HostRuntime) {
     for (answers, expected) in &[
         (
-            [0u32, 2147483647, 4294967294].map(after),
+            [0u32, 2147483647, 4294967294].map(after!(write_u32)),
             [
                 (0x79d5_4dd1_bf71_3748, 0x94c6_6b00_e254_04d3),
                 (0x8ff8_90b3_c66c_ea63, 0xbffa_f7ed_3828_c5c6),
@@ -419,7 +395,7 @@ fn numbers_of_32_and_64_bits_after_one_write(rt: HostRuntime) {
             ],
         ),
         (
-            [-2147483648i32, -2, 0].map(after),
+            [-2147483648i32, -2, 0].map(after!(write_i32)),
             [
                 (0xb838_05f1_cb43_8fc8, 0xccae_49b2_71ed_d0ff),
                 (0x0964_dc60_72d9_36ea, 0x41a2_4406_726d_ed05),
@@ -427,7 +403,7 @@ fn numbers_of_32_and_64_bits_after_one_write(rt: HostRuntime) {
             ],
         ),
         (
-            [0u64, 9223372036854775807, 18446744073709551614].map(after),
+            [0u64, 9223372036854775807, 18446744073709551614].map(after!(write_u64)),
             [
                 (0x6ce1_13b1_15a5_6871, 0x8562_a8ca_30d1_d8c7),
                 (0x2413_15ee_a83e_4f34, 0x0910_5364_f867_692b),
@@ -435,7 +411,7 @@ fn numbers_of_32_and_64_bits_after_one_write(rt: HostRuntime) {
             ],
         ),
         (
-            [-9223372036854775808i64, -2, 0].map(after),
+            [-9223372036854775808i64, -2, 0].map(after!(write_i64)),
             [
                 (0x6e52_ad93_7294_91f0, 0xb733_43d4_5531_edb1),
                 (0x09bf_526b_79e5_231d, 0xebec_947d_1050_6dd7),
