@@ -21,10 +21,12 @@ xxh64_known_answers = record {
   nothing = refl;
   nothing_seeded = refl;
   one_byte = refl;
+  one_byte_seeded = refl;
   eight_bytes = refl;
   one_stripe = refl;
   one_stripe_seeded = refl;
   stripe_and_byte = refl;
+  stripe_and_byte_seeded = refl;
   three_stripes_and_word = refl;
   three_stripes_and_word_seeded = refl;
 }

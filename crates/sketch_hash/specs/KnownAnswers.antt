@@ -37,9 +37,11 @@ pub record Xxh64KnownAnswers : Type 0 where
   pub nothing : xxh64 0 [] ≡ 0xef46db3751d8e999
   pub nothing_seeded : xxh64 0x9E3779B1 [] ≡ 0xac75fda2929b17ef
   pub one_byte : xxh64 0 (test_bytes 1) ≡ 0xe934a84adb052768
+  pub one_byte_seeded : xxh64 0x9E3779B1 (test_bytes 1) ≡ 0x5014607643a9b4c3
   pub eight_bytes : xxh64 0 (eight 0x100000000) ≡ 0xca6084df268ea2a9
   pub one_stripe : xxh64 0 (test_bytes 32) ≡ 0x18b216492bb44b70
   pub one_stripe_seeded : xxh64 0x9E3779B1 (test_bytes 32) ≡ 0xb3f33bdf93ade409
   pub stripe_and_byte : xxh64 0 (test_bytes 33) ≡ 0x55c8dc3e578f5b59
+  pub stripe_and_byte_seeded : xxh64 0x9E3779B1 (test_bytes 33) ≡ 0xe92c292f64bc3071
   pub three_stripes_and_word : xxh64 0 (test_bytes 100) ≡ 0x4bfe019cd91d9ea4
   pub three_stripes_and_word_seeded : xxh64 0x9E3779B1 (test_bytes 100) ≡ 0x4853706dc9625cae

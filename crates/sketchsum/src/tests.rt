@@ -67,20 +67,20 @@ fn each_outcome_has_its_status_and_line(rt: HostRuntime) {
     );
 }
 
-// Gives at most `most` bytes at a read, counts the reads, and fails at its end where it `fails`.
+// Gives at most `most` bytes at a read, counts the reads, and at its end fails with the fault that it has.
 #[derive(Drop)]
 struct Slowly<'a> {
     bytes: &'a [u8],
     most: usize,
-    fails: bool,
+    fault: Option<io::ErrorKind>,
     reads: u64,
 }
 
 impl Read for Slowly<'_> {
     fn read(&mut self, buf: &mut [u8]) -> io::Result<usize> {
         self.reads = self.reads.saturating_add(1);
-        if self.bytes.is_empty() && self.fails {
-            return Err(io::Error::from(io::ErrorKind::Other));
+        if let (true, Some(kind)) = (self.bytes.is_empty(), self.fault) {
+            return Err(io::Error::from(kind));
         }
         let count = self.bytes.len().min(self.most).min(buf.len());
         let (front, rest) = self.bytes.split_at(count);
@@ -90,11 +90,11 @@ impl Read for Slowly<'_> {
     }
 }
 
-fn slow_reader(bytes: &[u8], most: usize, fails: bool) -> Slowly<'_> {
+fn slow_reader(bytes: &[u8], most: usize, fault: Option<io::ErrorKind>) -> Slowly<'_> {
     Slowly {
         bytes,
         most,
-        fails,
+        fault,
         reads: 0,
     }
 }
@@ -174,7 +174,7 @@ fn an_input_becomes_its_line(rt: HostRuntime) {
 
 #[test]
 fn slow_readers_and_writers_change_nothing(rt: HostRuntime) {
-    let mut reader = slow_reader(FOX, 7, false);
+    let mut reader = slow_reader(FOX, 7, None);
     let mut writer = narrow_writer(rt.alloc(), 33, Full::Fails, true);
     assert_eq!(rt; run(Algorithm::Murmur, 0, &mut reader, &mut writer), Ok(()));
     assert_eq!(rt; writer.taken.as_slice(), FOX_LINE.as_bytes());
@@ -182,11 +182,13 @@ fn slow_readers_and_writers_change_nothing(rt: HostRuntime) {
 
 #[test]
 fn a_read_that_fails_in_mid_stream_writes_nothing(rt: HostRuntime) {
-    let mut reader = slow_reader(b"The q", 3, true);
-    let mut written = Vec::new(rt.alloc());
-    let fault = run(Algorithm::Murmur, 0, &mut reader, &mut written);
-    assert_eq!(rt; fault, Err(RunFault::Read));
-    assert!(rt; written.is_empty());
+    for kind in [io::ErrorKind::Other, io::ErrorKind::Interrupted] {
+        let mut reader = slow_reader(b"The q", 3, Some(kind));
+        let mut written = Vec::new(rt.alloc());
+        let fault = run(Algorithm::Murmur, 0, &mut reader, &mut written);
+        assert_eq!(rt; fault, Err(RunFault::Read));
+        assert!(rt; written.is_empty());
+    }
 }
 
 #[test]
@@ -196,7 +198,7 @@ fn an_input_past_its_turns_writes_nothing(rt: HostRuntime) {
         (Algorithm::Xx, 2, b"ab", 2),
         (Algorithm::Murmur, 0, b"ab", 0),
     ] {
-        let mut reader = slow_reader(input, 1, false);
+        let mut reader = slow_reader(input, 1, None);
         let mut written = Vec::new(rt.alloc());
         let fault = run_bounded(algorithm, 0, turns, &mut reader, &mut written);
         assert_eq!(rt; fault, Err(RunFault::TooLong));
@@ -208,7 +210,7 @@ fn an_input_past_its_turns_writes_nothing(rt: HostRuntime) {
 #[test]
 fn the_last_turn_has_to_find_the_end(rt: HostRuntime) {
     let mut written = Vec::new(rt.alloc());
-    let mut reader = slow_reader(b"\0", 1, false);
+    let mut reader = slow_reader(b"\0", 1, None);
     assert_eq!(rt;
         run_bounded(Algorithm::Xx, 0, 2, &mut reader, &mut written),
         Ok(())
@@ -216,7 +218,7 @@ fn the_last_turn_has_to_find_the_end(rt: HostRuntime) {
     assert_eq!(rt; written.as_slice(), "e934a84adb052768\n".as_bytes());
 
     let mut none = Vec::new(rt.alloc());
-    let mut again = slow_reader(b"\0", 1, false);
+    let mut again = slow_reader(b"\0", 1, None);
     let fault = run_bounded(Algorithm::Xx, 0, 1, &mut again, &mut none);
     assert_eq!(rt; fault, Err(RunFault::TooLong));
     assert!(rt; none.is_empty());
@@ -224,15 +226,16 @@ fn the_last_turn_has_to_find_the_end(rt: HostRuntime) {
 
 #[test]
 fn writers_that_fail_are_told(rt: HostRuntime) {
-    for (room, when_full, can_flush) in [
-        (0, Full::Fails, true),
-        (10, Full::Fails, true),
-        (100, Full::Fails, false),
-        (0, Full::TakesNone, true),
+    for (algorithm, room, when_full, can_flush) in [
+        (Algorithm::Xx, 0, Full::Fails, true),
+        (Algorithm::Xx, 10, Full::Fails, true),
+        (Algorithm::Xx, 100, Full::Fails, false),
+        (Algorithm::Xx, 0, Full::TakesNone, true),
+        (Algorithm::Murmur, 10, Full::Fails, true),
     ] {
         let mut reader = FOX;
         let mut writer = narrow_writer(rt.alloc(), room, when_full, can_flush);
-        let fault = run(Algorithm::Xx, 0, &mut reader, &mut writer);
+        let fault = run(algorithm, 0, &mut reader, &mut writer);
         assert_eq!(rt; fault, Err(RunFault::Write));
     }
 }

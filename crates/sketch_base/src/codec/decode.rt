@@ -44,7 +44,7 @@ impl SketchSlice<'_> {
         ensures { self.new ≡ drop n self.old }
     {
         let slice = self.slice;
-        let count = slice.len().min(n as usize);
+        let count = (slice.len() as u64).min(n) as usize;
         self.slice = &slice[count..];
     }
 

@@ -309,9 +309,10 @@ fn reads_numbers_of_one_and_two_bytes(rt: HostRuntime) {
             SketchSlice::new(&[0xfe]).read_u8().ok(),
             SketchSlice::new(&[0xfe]).read_i8().ok(),
             SketchSlice::new(&[0x80, 1]).read_u16_be().ok(),
+            SketchSlice::new(&[0xff, 0xfe]).read_i16_be().ok(),
             SketchSlice::new(&[0xff, 0xfe]).read_i16_le().ok(),
         ),
-        (Some(254), Some(-2), Some(32_769), Some(-257))
+        (Some(254), Some(-2), Some(32_769), Some(-2), Some(-257))
     );
 }
 
@@ -346,19 +347,33 @@ fn reads_numbers_of_eight_bytes(rt: HostRuntime) {
     );
 }
 
+// -2 in eight bytes, the highest first, and then the least number of four bytes, the lowest first.
+const TWO_NUMBERS: [u8; 12] = [
+    0xff, 0xff, 0xff, 0xff, 0xff, 0xff, 0xff, 0xfe, 0, 0, 0, 0x80,
+];
+
+#[test]
+fn writes_one_number_behind_another(rt: HostRuntime) -> Result<(), Fail> {
+    let mut writer = SketchBytes::with_capacity(rt.alloc(), 0)?;
+    let answers = [writer.write_i64_be(-2), writer.write_i32_le(-2_147_483_648)];
+    assert_eq!(rt;
+        (answers, writer.into_bytes().as_slice()),
+        ([Ok(()); 2], TWO_NUMBERS.as_slice())
+    );
+    Ok(())
+}
+
 #[test]
 fn reads_one_number_behind_another(rt: HostRuntime) {
-    let mut reader = SketchSlice::new(&[
-        0xff, 0xfe, 0xfe, 0xff, 0xff, 0xff, 0xff, 0xff, 0xff, 0xff, 0xff, 0xfe, 0, 0, 0, 0x80,
-    ]);
+    let mut reader = SketchSlice::new(&TWO_NUMBERS);
     assert_eq!(rt;
-        (
-            reader.read_i16_be().ok(),
-            reader.read_i16_le().ok(),
-            reader.read_i64_be().ok(),
-            reader.read_i32_le().ok(),
-        ),
-        (Some(-2), Some(-2), Some(-2), Some(-2_147_483_648))
+        (reader.read_i64_be().ok(), reader.read_i32_le().ok()),
+        (Some(-2), Some(-2_147_483_648))
+    );
+    let mut reader = SketchSlice::new(&[0xff, 0xfe, 0xfe, 0xff]);
+    assert_eq!(rt;
+        (reader.read_i16_be().ok(), reader.read_i16_le().ok()),
+        (Some(-2), Some(-2))
     );
 }
 

@@ -60,7 +60,7 @@ struct Row {
     debug: &'static str,
 }
 
-const ROWS: [Row; 12] = [
+const ROWS: [Row; 15] = [
     Row {
         kind: ErrorKind::InvalidArgument,
         message: "",
@@ -97,11 +97,32 @@ const ROWS: [Row; 12] = [
         debug: "InvalidArgument => something went wrong\n",
     },
     Row {
+        kind: ErrorKind::OutOfMemory,
+        message: "",
+        contexts: &[],
+        line: "OutOfMemory",
+        debug: "OutOfMemory\n",
+    },
+    Row {
+        kind: ErrorKind::InvalidData,
+        message: "",
+        contexts: &[("a", "1")],
+        line: "InvalidData, context: { a: 1 }",
+        debug: "InvalidData\n\nContext:\n   a: 1\n",
+    },
+    Row {
         kind: ErrorKind::InvalidData,
         message: "m",
         contexts: &[],
         line: "InvalidData => m",
         debug: "InvalidData => m\n",
+    },
+    Row {
+        kind: ErrorKind::InvalidData,
+        message: "m",
+        contexts: &[("a", "1")],
+        line: "InvalidData, context: { a: 1 } => m",
+        debug: "InvalidData => m\n\nContext:\n   a: 1\n",
     },
     Row {
         kind: ErrorKind::InvalidData,
@@ -256,11 +277,10 @@ fn prints_the_names_of_the_kinds(rt: HostRuntime) {
         (ErrorKind::InvalidData, "InvalidData"),
         (ErrorKind::OutOfMemory, "OutOfMemory"),
     ] {
-        let error = Error::new(kind, String::new(alloc));
         assert_text(&rt, String::from_str(alloc, kind.into_static()), name);
+        assert_text(&rt, kind.to_string(alloc), name);
         assert_text(&rt, format!(in alloc; "{kind:20}"), name);
         assert_text(&rt, format!(in alloc; "{kind:?}"), name);
-        assert_text(&rt, format!(in alloc; "{error:20}"), name);
     }
 }
 
@@ -273,6 +293,10 @@ fn prints_what_the_constructors_make(rt: HostRuntime) -> Result<(), Fail> {
             "InvalidArgument => bad x",
         ),
         (Error::deserial(String::new(alloc)), "InvalidData"),
+        (
+            Error::deserial(String::from_str(alloc, "bad x")?),
+            "InvalidData => bad x",
+        ),
         (
             Error::insufficient_data(alloc, "x"),
             "InvalidData => insufficient data: x",

@@ -1,3 +1,5 @@
+ghost use Rattle.std.specs.Prelude.{◌≡◌, ◌++◌};
+
 use super::{
     DEFAULT_UPDATE_SEED, Hasher, MurmurHash3X64128, XxHash64, check_seed_hash, compute_seed_hash,
 };
@@ -59,6 +61,27 @@ fn xxh64(seed: u64, bytes: &[u8]) -> u64 {
     hasher.finish64()
 }
 
+// Two writes leave what one write of the joined bytes leaves, in every lawful hasher.
+fn write_both<H: Hasher>(hasher: &mut H, front: &[u8], back: &[u8])
+    ensures { hasher.new ≡ H.after hasher.old (front.now ++ back.now) }
+{
+    hasher.write(front);
+    hasher.write(back);
+}
+
+#[test]
+fn two_writes_leave_what_one_leaves(rt: HostRuntime) {
+    let (front, back) = FOX.split_at(20);
+    let mut murmured = MurmurHash3X64128::with_seed(0);
+    let mut hashed = XxHash64::with_seed(0);
+    write_both(&mut murmured, front.as_bytes(), back.as_bytes());
+    write_both(&mut hashed, front.as_bytes(), back.as_bytes());
+    assert_eq!(rt;
+        (murmured.finish128(), hashed.finish64()),
+        (murmur(0, &[FOX]), xxh64(0, FOX.as_bytes()))
+    );
+}
+
 #[test]
 fn murmur_answers_however_the_fox_is_cut(rt: HostRuntime) {
     let expected = (0xe34b_bc7b_bc07_1b6c, 0x7a43_3ca9_c49a_9347);
@@ -102,10 +125,10 @@ fn xxh64_answers_in_both_forms(rt: HostRuntime) {
 fn xxh64_goes_on_behind_a_stripe(rt: HostRuntime) {
     let mut hasher = XxHash64::with_seed(0);
     hasher.write(&test_buffer::<32>());
-    assert_eq!(rt; hasher.finish(), 0x18b2_1649_2bb4_4b70);
+    assert_eq!(rt; hasher.finish64(), 0x18b2_1649_2bb4_4b70);
     // The buffer's next byte.
     hasher.write(&[0x59]);
-    assert_eq!(rt; hasher.finish(), 0x55c8_dc3e_578f_5b59);
+    assert_eq!(rt; hasher.finish64(), 0x55c8_dc3e_578f_5b59);
 }
 
 #[test]
@@ -119,6 +142,13 @@ fn one_number_is_hashed_as_its_eight_bytes(rt: HostRuntime) {
             "{input} under {seed}"
         );
     }
+}
+
+// What both hashers answer under the seed 7 after one write of the bytes.
+fn both(bytes: &[u8]) -> ((u64, u64), u64) {
+    let mut murmured = MurmurHash3X64128::with_seed(7);
+    murmured.write(bytes);
+    (murmured.finish128(), xxh64(7, bytes))
 }
 
 // What a hasher answers after a write of each kind of number, one after the other.
@@ -149,6 +179,26 @@ fn numbers_are_written_lowest_byte_first(rt: HostRuntime) {
     assert_eq!(rt;
         written_numbers(&mut XxHash64::with_seed(7)),
         xxh64(7, &bytes)
+    );
+}
+
+#[test]
+fn a_number_is_written_as_its_bytes(rt: HostRuntime) {
+    let mut murmured = MurmurHash3X64128::with_seed(7);
+    let mut hashed = XxHash64::with_seed(7);
+    murmured.write_i16(-2);
+    hashed.write_i16(-2);
+    assert_eq!(rt;
+        (murmured.finish128(), hashed.finish64()),
+        both(&[0xfe, 0xff])
+    );
+    let mut murmured = MurmurHash3X64128::with_seed(7);
+    let mut hashed = XxHash64::with_seed(7);
+    murmured.write_u32(0x0102_0304);
+    hashed.write_u32(0x0102_0304);
+    assert_eq!(rt;
+        (murmured.finish128(), hashed.finish64()),
+        both(&[4, 3, 2, 1])
     );
 }
 

@@ -91,8 +91,17 @@ fn empty_ones_are_seen_through_the_wrapper(rt: HostRuntime) {
     assert!(rt; raw_bytes::from_slice(&[]).is_empty());
     assert!(rt; raw_bytes::from_string(String::new(rt.alloc())).is_empty());
     assert!(rt; raw_bytes::from_str("").is_empty());
+}
+
+#[test]
+fn others_are_not_empty_through_the_wrapper(rt: HostRuntime) -> Result<(), AllocError> {
+    let bytes = Vec::from_slice(rt.alloc(), b"abc")?;
+    let text = String::from_str(rt.alloc(), "abc")?;
+    assert!(rt; !raw_bytes::from_vec(bytes).is_empty());
     assert!(rt; !raw_bytes::from_slice(b"abc").is_empty());
+    assert!(rt; !raw_bytes::from_string(text).is_empty());
     assert!(rt; !raw_bytes::from_str("abc").is_empty());
+    Ok(())
 }
 
 #[test]

@@ -312,7 +312,7 @@ fn hashes_of_streams(rt: HostRuntime) {
     for (seed, input, murmur, xxh64) in &HASHES {
         let mut both = Both::with_seeds(*seed, *seed);
         both.write(input);
-        assert_eq!(rt; both.answers(), (*murmur, *xxh64), "{} bytes", input.len());
+        assert_eq!(rt; both.answers(), (*murmur, *xxh64), "{input:?} under {seed}");
     }
 }
 
@@ -326,7 +326,11 @@ fn hashes_of_streams_in_pieces(rt: HostRuntime) {
             start = *cut;
         }
         both.write(input.get(start..).unwrap_or(&[]));
-        assert_eq!(rt; both.answers(), (*murmur, *xxh64), "{} bytes", input.len());
+        assert_eq!(rt;
+            both.answers(),
+            (*murmur, *xxh64),
+            "{input:?} cut at {cuts:?}"
+        );
     }
 }
 

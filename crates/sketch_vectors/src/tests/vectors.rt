@@ -31,7 +31,7 @@ const MURMUR: [(&[u8], (u64, u64)); 6] = [
 ];
 
 // What XXH64 answers: the seed, how many bytes of the test buffer, and the word.
-const XXH64: [(u64, usize, u64); 9] = [
+const XXH64: [(u64, usize, u64); 10] = [
     (0, 0, 0xef46_db37_51d8_e999),
     (0, 1, 0xe934_a84a_db05_2768),
     (0, 32, 0x18b2_1649_2bb4_4b70),
@@ -40,6 +40,7 @@ const XXH64: [(u64, usize, u64); 9] = [
     (0x9E37_79B1, 0, 0xac75_fda2_929b_17ef),
     (0x9E37_79B1, 1, 0x5014_6076_43a9_b4c3),
     (0x9E37_79B1, 32, 0xb3f3_3bdf_93ad_e409),
+    (0x9E37_79B1, 33, 0xe92c_292f_64bc_3071),
     (0x9E37_79B1, 100, 0x4853_706d_c962_5cae),
 ];
 

@@ -13,20 +13,28 @@ fn assert_line(rt: &impl Abort, alloc: Global, answer: Result<(), Error>, line: 
     assert_eq!(rt; printed.ok().as_deref(), Some(line));
 }
 
-// The two ends of a range, how it prints, and those of the numbers tried that it accepts.
-const RANGES: [(Bound<u8>, Bound<u8>, &'static str, &'static [u8]); 14] = [
-    (Unbounded, Unbounded, "", &[0, 2, 3, 4, 255]),
-    (Unbounded, Included(3), "at most 3", &[0, 2, 3]),
-    (Unbounded, Excluded(3), "less than 3", &[0, 2]),
-    (Included(3), Unbounded, "at least 3", &[3, 4, 255]),
-    (Excluded(3), Unbounded, "greater than 3", &[4, 255]),
-    (Included(0), Included(3), "[0, 3]", &[0, 2, 3]),
-    (Included(0), Excluded(3), "[0, 3)", &[0, 2]),
-    (Excluded(0), Included(3), "(0, 3]", &[2, 3]),
-    (Excluded(0), Excluded(3), "(0, 3)", &[2]),
+// The numbers that are tried at each range.
+const NUMBERS: [u8; 7] = [0, 1, 2, 3, 4, 5, 255];
+
+// The two ends of a range, how it prints, and the numbers tried that it accepts.
+const RANGES: [(Bound<u8>, Bound<u8>, &'static str, &'static [u8]); 19] = [
+    (Unbounded, Unbounded, "", &NUMBERS),
+    (Unbounded, Included(3), "at most 3", &[0, 1, 2, 3]),
+    (Unbounded, Excluded(3), "less than 3", &[0, 1, 2]),
+    (Included(3), Unbounded, "at least 3", &[3, 4, 5, 255]),
+    (Excluded(3), Unbounded, "greater than 3", &[4, 5, 255]),
+    (Excluded(5), Unbounded, "greater than 5", &[255]),
+    (Included(0), Included(3), "[0, 3]", &[0, 1, 2, 3]),
+    (Included(0), Excluded(3), "[0, 3)", &[0, 1, 2]),
+    (Included(1), Excluded(3), "[1, 3)", &[1, 2]),
+    (Excluded(0), Included(3), "(0, 3]", &[1, 2, 3]),
+    (Excluded(1), Included(3), "(1, 3]", &[2, 3]),
+    (Excluded(0), Excluded(3), "(0, 3)", &[1, 2]),
+    (Excluded(1), Excluded(2), "(1, 2)", &[]),
     (Included(3), Included(3), "[3, 3]", &[3]),
     (Excluded(3), Excluded(3), "(3, 3)", &[]),
     (Included(3), Included(0), "[3, 0]", &[]),
+    (Included(5), Included(3), "[5, 3]", &[]),
     (Included(255), Included(0), "[255, 0]", &[]),
     (Excluded(255), Excluded(255), "(255, 255)", &[]),
 ];
@@ -35,7 +43,7 @@ const RANGES: [(Bound<u8>, Bound<u8>, &'static str, &'static [u8]); 14] = [
 fn accepts_the_numbers_of_a_range(rt: HostRuntime) -> Result<(), Fail> {
     let alloc = rt.alloc();
     for (start, end, range, accepted) in RANGES {
-        for x in [0, 2, 3, 4, 255] {
+        for x in NUMBERS {
             let line = if accepted.contains(&x) {
                 String::new(alloc)
             } else {
