@@ -1,5 +1,6 @@
 //! The lowest layer of Apache DataSketches' Rust component, proved: errors, the codec of serialized
-//! sketches, and the hashes, under their original paths; and beside them the laws of collisions.
+//! sketches without floats, and the hashes, under their original paths; and beside them the laws of
+//! collisions.
 #![tactic(auto)]
 
 pub use sketch_base::{codec, error};

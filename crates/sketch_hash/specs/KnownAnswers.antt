@@ -1,5 +1,5 @@
--- Answers that are known from elsewhere: the tests of the two hashes' authors and of the library that is
--- ported.
+-- Answers that are known from elsewhere: from the tests of xxHash and of the library that is ported, and
+-- from running that library and xxHash.
 use Rattle.std.specs.Prelude.{◌≡◌, ℕ, zero, suc, ◌/◌, ◌^◌, List, [], ◌∷◌, codes}
 use Rattle.sketch_base.specs.Bytes.{eight}
 use Rattle.sketch_hash.specs.Words.{times, xor, rotate}

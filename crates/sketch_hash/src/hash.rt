@@ -16,7 +16,7 @@ pub use self::seed::{check_seed_hash, compute_seed_hash};
 pub use self::value::Hash;
 pub use self::xxhash::XxHash64;
 
-/// The seed of the hashes that update a sketch, 9001 in every implementation of the library.
+/// The seed of the hashes that update a sketch, 9001.
 ///
 /// Two sketches can be merged only where they hash with one seed.
 pub const DEFAULT_UPDATE_SEED: u64 = 9001;

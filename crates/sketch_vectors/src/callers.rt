@@ -1,18 +1,17 @@
 //! Three users of the library, each proved from its public contracts alone.
 
-ghost use Rattle.std.specs.Prelude.{◌≡◌, ◌≢◌, ◌↔◌, ℕ, List, [], ◌∷◌, ◌++◌, IsTrue, IfOk, OnOk, OnErr, IsErr, MatchResult};
+ghost use Rattle.std.specs.Prelude.{◌≡◌, ◌≢◌, ◌↔◌, length, drop, IsTrue, IsErr, MatchResult};
 ghost use Rattle.std.specs.List.{All, flat_map};
-ghost use Rattle.sketch_base.specs.Bytes.{le};
+ghost use Rattle.sketch_base.specs.Items.{unspell_all};
 ghost use Rattle.sketch_hash.specs.Murmur.{murmur};
-ghost use Rattle.sketch_hash.specs.SeedHash.{seed_hash};
 ghost use Rattle.sketch_hash.specs.Values.{extended};
-ghost use Rattle.sketch_vectors.specs.Callers.{IsEstimate};
+ghost use Rattle.sketch_vectors.specs.Callers.{HasPreamble, IsSketch};
 
-use datasketches::codec::SketchSlice;
 use datasketches::codec::assert::{
     ensure_preamble_longs_in, ensure_serial_version_is, insufficient_data,
 };
 use datasketches::codec::family::Family;
+use datasketches::codec::{Item, Kind, Short, SketchSlice};
 use datasketches::error::{Error, ErrorKind};
 use datasketches::hash::value::raw_bytes::RawBytes;
 use datasketches::hash::value::{feed_all, sign_extend};
@@ -50,13 +49,11 @@ pub fn is_new_key(seed: u64, earlier: &[i32], key: i32) -> bool
     earlier.iter().all(|other| !is_same_key(seed, *other, key))
 }
 
-/// Reads the estimate of a serialized HLL sketch that was made with the seed.
-///
-/// Preamble longs, serial version, family and seed hash are checked, and then comes the number.
-pub fn read_estimate(alloc: Global, bytes: &[u8], seed: u64) -> Result<u64, Error>
+/// Checks the preamble of a serialized HLL sketch that was made with the seed: preamble longs, serial
+/// version, family and seed hash.
+pub fn check_preamble(alloc: Global, bytes: &[u8], seed: u64) -> Result<(), Error>
     ensures { MatchResult result
-        (λ n. IsEstimate seed bytes.now n)
-        (λ _. (n : ℕ) → IsEstimate seed bytes.now n → ⊥) }
+        (λ _. HasPreamble seed bytes.now) (λ _. HasPreamble seed bytes.now → ⊥) }
 {
     let mut reader = SketchSlice::new(bytes);
     let longs = told(alloc, reader.read_u8())?;
@@ -68,8 +65,7 @@ pub fn read_estimate(alloc: Global, bytes: &[u8], seed: u64) -> Result<u64, Erro
     let actual = told(alloc, reader.read_u16_le())?;
     let expected = compute_seed_hash(alloc, seed, ErrorKind::InvalidArgument)?;
     check_seed_hash(alloc, expected, actual, "hll", ErrorKind::InvalidData)?;
-    let estimate = told(alloc, reader.read_u64_le())?;
-    Ok(estimate)
+    Ok(())
 }
 
 /// What was read, or the error that tells that the sketch ended too early.
@@ -79,6 +75,28 @@ fn told<T>(alloc: Global, read: io::Result<T>) -> Result<T, Error>
     match read {
         Ok(x) => Ok(x),
         Err(error) => Err(insufficient_data(alloc, "hll sketch", error)),
+    }
+}
+
+/// Reads the items of such a sketch, one of each kind, into as many places.
+pub fn read_sketch(
+    alloc: Global,
+    bytes: &[u8],
+    seed: u64,
+    kinds: &[Kind],
+    places: &mut [Item],
+) -> Result<(), Error>
+    requires { length kinds.now ≡ length places.old }
+    ensures { MatchResult result
+        (λ _. IsSketch seed kinds.now bytes.now × (places.new ≡ unspell_all kinds.now (drop 5 bytes.now)))
+        (λ _. IsSketch seed kinds.now bytes.now → ⊥) }
+{
+    check_preamble(alloc, bytes, seed)?;
+    let mut reader = SketchSlice::new(bytes);
+    reader.advance(5);
+    match reader.read_items(kinds, places) {
+        Ok(()) => Ok(()),
+        Err(Short { .. }) => Err(Error::insufficient_data_of(alloc, "hll sketch", "items")),
     }
 }
 

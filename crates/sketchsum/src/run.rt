@@ -85,7 +85,6 @@ fn read_into<H: Hasher, R: Read>(hasher: &mut H, turns: u64, reader: &mut R) -> 
     Err(RunFault::TooLong)
 }
 
-// Writes the text and a newline, and flushes.
 fn write_line<W: Write, D: Display + Drop>(writer: &mut W, line: D) -> Result<(), RunFault>
     ensures written { OnOk result (IfSome (D.output line)
         (λ text. Appends (W.contents writer.old) (W.contents writer.new) (text ++ 10 ∷ []))) }

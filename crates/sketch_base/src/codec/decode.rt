@@ -75,7 +75,6 @@ impl SketchSlice<'_> {
         Ok(())
     }
 
-    // The next `N` bytes.
     fn read_array<const N: usize>(&mut self) -> io::Result<[u8; N]>
         ensures { Reads N (λ bytes. bytes) self.old result self.new }
     {

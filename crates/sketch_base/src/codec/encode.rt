@@ -163,7 +163,6 @@ impl SketchBytes {
         self.write(&n.to_be_bytes())
     }
 
-    // Writes an item.
     fn write_item(&mut self, item: Item) -> Result<(), AllocError>
         ensures writes { Writes (spell item) self.old result self.new }
         ensures in_type { InType item }

@@ -360,8 +360,8 @@ fn answers_a_message_that_does_not_print(rt: HostRuntime) {
     }
 }
 
-// With ample memory each context is there. It holds also where any one request for memory is refused, as
-// `rt try --test --fail-alloc N` does with the Nth: then the error stays as it was.
+// Holds also where any one request for memory is refused, as `rt try --test --fail-alloc N` does with the
+// Nth: then the error stays as it was.
 #[test]
 fn keeps_an_error_at_want_of_memory(rt: HostRuntime) {
     let alloc = rt.alloc();
@@ -382,7 +382,7 @@ fn keeps_an_error_at_want_of_memory(rt: HostRuntime) {
 
 // The same of the errors that have a text: it is there, or the error tells of memory.
 #[test]
-fn answers_want_of_memory(rt: HostRuntime) {
+fn constructors_answer_want_of_memory(rt: HostRuntime) {
     let alloc = rt.alloc();
     for (error, message) in [
         (Error::insufficient_data(alloc, "x"), "insufficient data: x"),

@@ -126,7 +126,7 @@ fn mix2(k2: u64) -> u64
     k2.wrapping_mul(C2).rotate_left(33).wrapping_mul(C1)
 }
 
-/// The pair after one block of the words `k1` and `k2`.
+// The pair after one block of the words `k1` and `k2`.
 fn step(h1: u64, h2: u64, k1: u64, k2: u64) -> (u64, u64)
     ensures { result ≡ step (h1, h2) (k1, k2) }
 {
@@ -151,7 +151,7 @@ fn fmix(word: u64) -> u64
     shifted_into(twice, 33)
 }
 
-/// The hash of `total` bytes, from the pair that their blocks and their tail left.
+// The hash of `total` bytes, from the pair that their blocks and their tail left.
 fn finalized(h1: u64, h2: u64, total: u64) -> (u64, u64)
     ensures { result ≡ ending (h1, h2) total }
 {

@@ -36,23 +36,23 @@ const MURMUR_SEEDED: [(u64, &[u8], (u64, u64)); 2] = [
     ),
 ];
 
+// The first bytes of the buffer that xxHash's own tests use.
+const TEST_BUFFER: [u8; 100] = [
+    0x00, 0x52, 0x92, 0x9b, 0xb7, 0x32, 0xa3, 0x24, 0x2d, 0x00, 0xaf, 0x95, 0x0e, 0xec, 0xb8, 0x93,
+    0xe3, 0xdf, 0xef, 0x93, 0xaa, 0xd6, 0xcd, 0x2a, 0x53, 0x8b, 0x5c, 0x3f, 0x54, 0x5a, 0x6f, 0xd5,
+    0x59, 0xc0, 0xff, 0xfc, 0x8f, 0x85, 0xb9, 0x33, 0x1d, 0xab, 0x74, 0xf7, 0xb6, 0x05, 0x93, 0x27,
+    0xb0, 0x70, 0x84, 0xb3, 0x67, 0x7c, 0x9f, 0x76, 0x48, 0x00, 0x72, 0xed, 0x7b, 0x98, 0x17, 0xe8,
+    0xdd, 0x48, 0x5e, 0x0c, 0x0c, 0xcb, 0xd0, 0x65, 0x3f, 0xad, 0xb2, 0x8f, 0x11, 0xb0, 0x6c, 0xe8,
+    0x8d, 0xb0, 0xf1, 0x86, 0x08, 0x61, 0x59, 0x56, 0x6c, 0x8e, 0x4e, 0x78, 0x13, 0x63, 0xbd, 0xab,
+    0x9d, 0x32, 0x73, 0x09,
+];
+
 fn murmur(seed: u64, pieces: &[&str]) -> (u64, u64) {
     let mut hasher = MurmurHash3X64128::with_seed(seed);
     for piece in pieces {
         hasher.write(piece.as_bytes());
     }
     hasher.finish128()
-}
-
-// The first bytes of the buffer that xxHash's own tests use.
-fn test_buffer<const N: usize>() -> [u8; N] {
-    let mut generator: u64 = 0x9E37_79B1;
-    let mut bytes = [0; N];
-    for byte in bytes.iter_mut() {
-        *byte = (generator >> 56) as u8;
-        generator = generator.wrapping_mul(0x9E37_79B1_85EB_CA8D);
-    }
-    bytes
 }
 
 fn xxh64(seed: u64, bytes: &[u8]) -> u64 {
@@ -118,16 +118,15 @@ fn murmur_takes_seeds_above_32_bits(rt: HostRuntime) {
 fn xxh64_answers_in_both_forms(rt: HostRuntime) {
     assert_eq!(rt; xxh64(0, &[]), 0xef46_db37_51d8_e999);
     assert_eq!(rt; xxh64(0x9E37_79B1, &[]), 0xac75_fda2_929b_17ef);
-    assert_eq!(rt; xxh64(0, &test_buffer::<100>()), 0x4bfe_019c_d91d_9ea4);
+    assert_eq!(rt; xxh64(0, &TEST_BUFFER), 0x4bfe_019c_d91d_9ea4);
 }
 
 #[test]
 fn xxh64_goes_on_behind_a_stripe(rt: HostRuntime) {
     let mut hasher = XxHash64::with_seed(0);
-    hasher.write(&test_buffer::<32>());
+    hasher.write(&TEST_BUFFER[..32]);
     assert_eq!(rt; hasher.finish64(), 0x18b2_1649_2bb4_4b70);
-    // The buffer's next byte.
-    hasher.write(&[0x59]);
+    hasher.write(&TEST_BUFFER[32..33]);
     assert_eq!(rt; hasher.finish64(), 0x55c8_dc3e_578f_5b59);
 }
 

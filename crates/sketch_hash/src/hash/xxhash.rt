@@ -86,14 +86,14 @@ impl XxHash64 {
         avalanche(eight_step(seed.wrapping_add(PRIME5).wrapping_add(8), input))
     }
 
-    /// Whether the hash starts from the seed alone: where less than a stripe was counted.
+    // Whether the hash starts from the seed alone: where less than a stripe was counted.
     fn is_short(&self) -> bool
         ensures { result ≡ nat_lt self.now.total 32 }
     {
         self.total < STRIPE_BYTES
     }
 
-    /// The four lanes as one word.
+    // The four lanes as one word.
     fn merged(&self) -> u64
         ensures { result ≡ merge self.now.folded }
     {
@@ -165,7 +165,7 @@ impl Hasher for XxHash64 {
     ghost nothing = { xxh64_after-nil };
 }
 
-/// A lane after an input word.
+// A lane after an input word.
 fn round(lane: u64, word: u64) -> u64
     ensures { result ≡ round lane word }
 {
@@ -182,7 +182,7 @@ fn merge_lane(hash: u64, lane: u64) -> u64
         .wrapping_add(PRIME4)
 }
 
-/// The hash after the bytes behind the stripes.
+// The hash after the bytes behind the stripes.
 fn fold_tail(mut hash: u64, tail: &[u8]) -> u64
     ensures { result ≡ fold tail_step hash (steps tail.now) }
 {
@@ -231,7 +231,7 @@ fn byte_step(hash: u64, byte: u8) -> u64
         .wrapping_mul(PRIME1)
 }
 
-/// The last mixing.
+// The last mixing.
 fn avalanche(hash: u64) -> u64
     ensures { result ≡ avalanche hash }
 {

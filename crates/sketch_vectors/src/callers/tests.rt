@@ -1,9 +1,10 @@
-use super::{hash_pieces, is_new_key, is_same_key, pair_of, read_estimate};
-use datasketches::error::ErrorKind;
+use super::{hash_pieces, is_new_key, is_same_key, pair_of, read_sketch};
+use datasketches::codec::{Item, Kind};
+use datasketches::error::{Error, ErrorKind};
 use datasketches::hash::value::raw_bytes;
 use std::alloc::Global;
 
-// An HLL sketch of the seed 9001, whose seed hash is 0x93cc, with the estimate 258.
+// An HLL sketch of the seed 9001, whose seed hash is 0x93cc, with the one item 258.
 const SKETCH: [u8; 13] = [1, 3, 7, 0xcc, 0x93, 2, 1, 0, 0, 0, 0, 0, 0];
 
 #[test]
@@ -15,14 +16,22 @@ fn keys_are_told_apart(rt: HostRuntime) {
     assert!(rt; pair_of(0, 1) != pair_of(1, 1));
 }
 
+// The one item of a sketch.
+fn read(alloc: Global, bytes: &[u8], seed: u64) -> Result<Item, Error> {
+    let mut places = [Item::U8(0)];
+    read_sketch(alloc, bytes, seed, &[Kind::U64Le], &mut places)?;
+    Ok(places[0])
+}
+
 #[test]
-fn an_estimate_is_read(rt: HostRuntime) {
-    assert_eq!(rt; read_estimate(rt.alloc(), &SKETCH, 9001).ok(), Some(258));
+fn an_item_of_a_sketch_is_read(rt: HostRuntime) {
+    let item = read(rt.alloc(), &SKETCH, 9001);
+    assert_eq!(rt; item.ok(), Some(Item::U64Le(258)));
 }
 
 // Whether the bytes are refused with this message.
 fn is_refused(alloc: Global, bytes: &[u8], message: &str) -> bool {
-    match read_estimate(alloc, bytes, 9001) {
+    match read(alloc, bytes, 9001) {
         Ok(_) => false,
         Err(error) => error.kind() == ErrorKind::InvalidData && error.message() == message,
     }
@@ -72,11 +81,8 @@ fn read_or_refusal(
     bytes: &[u8],
     seed: u64,
     message: &str,
-) -> Result<u64, (ErrorKind, bool)> {
-    read_estimate(alloc, bytes, seed).map_err(|error| (
-        error.kind(),
-        error.message().starts_with(message),
-    ))
+) -> Result<Item, (ErrorKind, bool)> {
+    read(alloc, bytes, seed).map_err(|error| (error.kind(), error.message().starts_with(message)))
 }
 
 #[test]

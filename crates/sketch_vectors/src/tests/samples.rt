@@ -428,7 +428,7 @@ fn numbers_of_32_and_64_bits_after_one_write(rt: HostRuntime) {
 }
 
 #[test]
-fn numbers_extended_by_their_value(rt: HostRuntime) {
+fn hashes_of_numbers_extended_by_their_value(rt: HostRuntime) {
     assert_eq!(rt;
         [
             [0, 128, 100]
@@ -486,7 +486,7 @@ fn numbers_extended_by_their_value(rt: HostRuntime) {
 }
 
 #[test]
-fn numbers_extended_by_their_highest_bit(rt: HostRuntime) {
+fn hashes_of_numbers_extended_by_their_highest_bit(rt: HostRuntime) {
     assert_eq!(rt;
         [
             [0, 128, 42].map(sign_extend::from_u8).map(calculate_hash),
@@ -540,7 +540,7 @@ fn numbers_extended_by_their_highest_bit(rt: HostRuntime) {
 }
 
 #[test]
-fn plain_numbers(rt: HostRuntime) {
+fn hashes_of_plain_numbers(rt: HostRuntime) {
     for (answers, expected) in &[
         (
             [2147483647u32, 2147483648].map(calculate_hash),
@@ -583,7 +583,7 @@ const TEXTS: [(&str, u64); 4] = [
 ];
 
 #[test]
-fn bytes_and_texts(rt: HostRuntime) {
+fn hashes_of_bytes_and_texts(rt: HostRuntime) {
     for (bytes, expected) in &SLICES {
         assert_eq!(rt; calculate_hash(raw_bytes::from_slice(bytes)), *expected);
     }

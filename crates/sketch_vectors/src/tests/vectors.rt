@@ -1,4 +1,4 @@
-//! The vectors of the original's own tests.
+//! The vectors of the original's own tests, and one of xxHash: 33 bytes under the second seed.
 
 use datasketches::hash::{Hasher, MurmurHash3X64128, XxHash64};
 

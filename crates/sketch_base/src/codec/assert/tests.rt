@@ -1,3 +1,5 @@
+ghost use Rattle.std.specs.Prelude.{◌≡◌, ℕ, List, [], ◌∷◌, codes, map};
+
 use super::*;
 use crate::codec::SketchSlice;
 use crate::codec::family::Family;
@@ -121,23 +123,46 @@ fn tells_what_a_read_was_refused_for(rt: HostRuntime) -> Result<(), Fail> {
     Ok(())
 }
 
-// The families, each with its id, its name, and its least and greatest number of preamble longs.
-const FAMILIES: [(Family, (u8, &'static str, u8, u8)); 10] = [
-    (Family::THETA, (3, "THETA", 1, 3)),
-    (Family::HLL, (7, "HLL", 1, 1)),
-    (Family::TUPLE, (9, "TUPLE", 1, 3)),
-    (Family::FREQUENCY, (10, "FREQUENCY", 1, 4)),
-    (Family::KLL, (15, "KLL", 1, 2)),
-    (Family::CPC, (16, "CPC", 1, 5)),
-    (Family::REQ, (17, "REQ", 1, 2)),
-    (Family::COUNTMIN, (18, "COUNTMIN", 2, 2)),
-    (Family::TDIGEST, (20, "TDIGEST", 1, 2)),
-    (Family::BLOOMFILTER, (21, "BLOOMFILTER", 3, 4)),
+// A caller's proof knows the fields of each family.
+fn families() -> [Family; 10]
+    ensures { map {B = ℕ × List ℕ × ℕ × ℕ}
+        (λ family. (family.id, family.name.now, family.min_pre_longs, family.max_pre_longs)) result
+        ≡ (3, codes "THETA", 1, 3) ∷ (7, codes "HLL", 1, 1) ∷ (9, codes "TUPLE", 1, 3)
+        ∷ (10, codes "FREQUENCY", 1, 4) ∷ (15, codes "KLL", 1, 2) ∷ (16, codes "CPC", 1, 5)
+        ∷ (17, codes "REQ", 1, 2) ∷ (18, codes "COUNTMIN", 2, 2) ∷ (20, codes "TDIGEST", 1, 2)
+        ∷ (21, codes "BLOOMFILTER", 3, 4) ∷ [] }
+{
+    [
+        Family::THETA,
+        Family::HLL,
+        Family::TUPLE,
+        Family::FREQUENCY,
+        Family::KLL,
+        Family::CPC,
+        Family::REQ,
+        Family::COUNTMIN,
+        Family::TDIGEST,
+        Family::BLOOMFILTER,
+    ]
+}
+
+// Of each family its id, its name, and its least and greatest number of preamble longs.
+const FIELDS: [(u8, &'static str, u8, u8); 10] = [
+    (3, "THETA", 1, 3),
+    (7, "HLL", 1, 1),
+    (9, "TUPLE", 1, 3),
+    (10, "FREQUENCY", 1, 4),
+    (15, "KLL", 1, 2),
+    (16, "CPC", 1, 5),
+    (17, "REQ", 1, 2),
+    (18, "COUNTMIN", 2, 2),
+    (20, "TDIGEST", 1, 2),
+    (21, "BLOOMFILTER", 3, 4),
 ];
 
 #[test]
 fn has_the_families_of_the_format(rt: HostRuntime) {
-    for (family, fields) in &FAMILIES {
+    for (family, fields) in families().iter().zip(&FIELDS) {
         assert_eq!(rt;
             (
                 family.id,
@@ -161,10 +186,10 @@ fn refused_for(answer: &Result<(), Error>, message: &str) -> bool {
     }
 }
 
-// With ample memory each refusal has its text. It holds also where any one request for memory is
-// refused: then the refusal tells of memory, and what is accepted stays accepted.
+// Holds also where any one request for memory is refused, as `rt try --test --fail-alloc N` does with
+// the Nth: then the refusal tells of memory, and what is accepted stays accepted.
 #[test]
-fn answers_want_of_memory(rt: HostRuntime) {
+fn checks_answer_want_of_memory(rt: HostRuntime) {
     let alloc = rt.alloc();
     let accepted = [
         Family::HLL.validate_id(alloc, 7).is_ok(),

@@ -16,42 +16,42 @@ pub type NaturalExtend<T> = Value<T, NaturalExtendStrategy>;
 /// The strategy of [`NaturalExtend`].
 pub struct NaturalExtendStrategy;
 
-/// Wraps the number.
+/// The number, to be fed by its value.
 pub fn from_i8(v: i8) -> NaturalExtend<i8>
     ensures { result ≡ v }
 {
     Value::new(v)
 }
 
-/// Wraps the number.
+/// The number, to be fed by its value.
 pub fn from_u8(v: u8) -> NaturalExtend<u8>
     ensures { result ≡ v }
 {
     Value::new(v)
 }
 
-/// Wraps the number.
+/// The number, to be fed by its value.
 pub fn from_i16(v: i16) -> NaturalExtend<i16>
     ensures { result ≡ v }
 {
     Value::new(v)
 }
 
-/// Wraps the number.
+/// The number, to be fed by its value.
 pub fn from_u16(v: u16) -> NaturalExtend<u16>
     ensures { result ≡ v }
 {
     Value::new(v)
 }
 
-/// Wraps the number.
+/// The number, to be fed by its value.
 pub fn from_i32(v: i32) -> NaturalExtend<i32>
     ensures { result ≡ v }
 {
     Value::new(v)
 }
 
-/// Wraps the number.
+/// The number, to be fed by its value.
 pub fn from_u32(v: u32) -> NaturalExtend<u32>
     ensures { result ≡ v }
 {

@@ -17,42 +17,42 @@ pub type SignExtend<T> = Value<T, SignExtendStrategy>;
 /// The strategy of [`SignExtend`].
 pub struct SignExtendStrategy;
 
-/// Wraps the number.
+/// The number, to be fed with its highest bit as its sign.
 pub fn from_i8(v: i8) -> SignExtend<i8>
     ensures { result ≡ v }
 {
     Value::new(v)
 }
 
-/// Wraps the number.
+/// The number, to be fed with its highest bit as its sign.
 pub fn from_u8(v: u8) -> SignExtend<u8>
     ensures { result ≡ v }
 {
     Value::new(v)
 }
 
-/// Wraps the number.
+/// The number, to be fed with its highest bit as its sign.
 pub fn from_i16(v: i16) -> SignExtend<i16>
     ensures { result ≡ v }
 {
     Value::new(v)
 }
 
-/// Wraps the number.
+/// The number, to be fed with its highest bit as its sign.
 pub fn from_u16(v: u16) -> SignExtend<u16>
     ensures { result ≡ v }
 {
     Value::new(v)
 }
 
-/// Wraps the number.
+/// The number, to be fed with its highest bit as its sign.
 pub fn from_i32(v: i32) -> SignExtend<i32>
     ensures { result ≡ v }
 {
     Value::new(v)
 }
 
-/// Wraps the number.
+/// The number, to be fed with its highest bit as its sign.
 pub fn from_u32(v: u32) -> SignExtend<u32>
     ensures { result ≡ v }
 {
