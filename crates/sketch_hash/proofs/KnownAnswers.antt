@@ -7,8 +7,17 @@ use Rattle.sketch_hash.specs.Xxh64.{round, lane, lanes_start, lanes, merge_lane,
 use Rattle.sketch_hash.specs.KnownAnswers.{test_bytes_from, WordsKnownAnswers, MurmurKnownAnswers, Xxh64KnownAnswers}
 
 pub words_known_answers : WordsKnownAnswers
-unfolding differing xor rotate
-words_known_answers = record { xor_of_digits = refl; highest_digit_rotated = refl }
+unfolding differing xor rotate pieces rest
+words_known_answers = record {
+  sum_past_the_end = refl;
+  difference_below_zero = refl;
+  product_past_the_end = refl;
+  xor_of_digits = refl;
+  digits_shifted = refl;
+  highest_digit_rotated = refl;
+  pieces_of_the_fox = refl;
+  rest_of_the_fox = refl;
+}
 
 pub murmur_known_answers : MurmurKnownAnswers
 unfolding differing xor rotate pieces rest mix1 mix2 fmix step1 step2 step with_tail murmur_ending murmur

@@ -1,8 +1,9 @@
 -- Answers that are known from elsewhere: from the tests of xxHash and of the library that is ported, and
 -- from running that library and xxHash.
-use Rattle.std.specs.Prelude.{◌≡◌, ℕ, zero, suc, ◌/◌, ◌^◌, List, [], ◌∷◌, codes}
+use Rattle.std.specs.Prelude.{◌≡◌, ℕ, zero, suc, ◌-◌, ◌/◌, ◌^◌, List, [], ◌∷◌, codes}
 use Rattle.sketch_base.specs.Bytes.{eight}
-use Rattle.sketch_hash.specs.Words.{times, xor, rotate}
+use Rattle.sketch_hash.specs.Words.{plus, minus, times, xor, xor_shifted, rotate}
+use Rattle.sketch_hash.specs.Pieces.{pieces, rest}
 use Rattle.sketch_hash.specs.Murmur.{murmur}
 use Rattle.sketch_hash.specs.Xxh64.{xxh64}
 
@@ -18,10 +19,16 @@ test_bytes_from g (suc n) = g / 2 ^ 56 ∷ test_bytes_from (times g 0x9E3779B185
 abbrev pub test_bytes : ℕ → List ℕ
 test_bytes n = test_bytes_from 0x9E3779B1 n
 
--- what small words give
+-- what small words give, and how the sentence is cut
 pub record WordsKnownAnswers : Type 0 where
+  pub sum_past_the_end : plus (2 ^ 64 - 1) 2 ≡ 1
+  pub difference_below_zero : minus 1 2 ≡ 2 ^ 64 - 1
+  pub product_past_the_end : times (2 ^ 63) 2 ≡ 0
   pub xor_of_digits : xor 6 3 ≡ 5
+  pub digits_shifted : xor_shifted 1 6 ≡ 5
   pub highest_digit_rotated : rotate (2 ^ 63) 1 ≡ 1
+  pub pieces_of_the_fox : pieces 16 fox ≡ codes "The quick brown " ∷ codes "fox jumps over t" ∷ []
+  pub rest_of_the_fox : rest 16 fox ≡ codes "he lazy dog"
 
 -- what the definition of Murmur answers
 pub record MurmurKnownAnswers : Type 0 where
