@@ -6,14 +6,14 @@ use Rattle.std.proofs.Math.Nat.{pow-le-pow_right}
 use Rattle.std.proofs.lemmas.Nat.{pow_pos, pow_below}
 use Rattle.std.proofs.lemmas.Bool.{cases_lt}
 use Rattle.sketch_base.specs.Bytes.{le, eight, twos_complement, modulo}
-use Rattle.sketch_hash.specs.Values.{extended}
+use Rattle.sketch_hash.specs.Values.{integer_bytes}
 use Rattle.sketch_hash.proofs.Blocks.{word_of_bytes}
 use Rattle.datasketches.specs.Strategies.{IsSigned, ExtendLawAt, ExtendLaw}
 use Rattle.datasketches.proofs.Integers.{modulo-lt}
 
 -- integers feed equal bytes exactly if they agree modulo 2 ^ 64
-extended-once : (x y : ℤ) → (extended x ≡ extended y) ↔ (modulo 64 x ≡ modulo 64 y)
-extended-once x y =
+integer_bytes-once : (x y : ℤ) → (integer_bytes x ≡ integer_bytes y) ↔ (modulo 64 x ≡ modulo 64 y)
+integer_bytes-once x y =
     let x_is = word_of_bytes.forth (modulo 64 x) (modulo-lt x) in
     let y_is = word_of_bytes.forth (modulo 64 y) (modulo-lt y) in
     (λ e. sym x_is ∙ ap le e ∙ y_is, ap eight)
@@ -110,21 +110,21 @@ through : {A B C : Type 0} → A ↔ B → B ↔ C → A ↔ C
 through p q = (λ a. q.0 (p.0 a), λ c. p.1 (q.1 c))
 
 sign_extend : (w : ℕ) (x : ℤ) (y : ℕ) → 0 < w → w ≤ 64 → IsSigned w x → y < 2 ^ w →
-    (extended x ≡ extended (twos_complement w y)) ↔ (modulo w x ≡ modulo w (pos y))
+    (integer_bytes x ≡ integer_bytes (twos_complement w y)) ↔ (modulo w x ≡ modulo w (pos y))
 sign_extend w (pos n) y p m h l =
-    through (extended-once (pos n) (twos_complement w y))
+    through (integer_bytes-once (pos n) (twos_complement w y))
     (agree (2 ^ (w - 1)) (2 ^ w) y _ n (lifted w y p m l) (omega (arith, ints))).0
 sign_extend w (negsuc n) y p m h l =
-    through (extended-once (negsuc n) (twos_complement w y))
+    through (integer_bytes-once (negsuc n) (twos_complement w y))
     (agree (2 ^ (w - 1)) (2 ^ w) y _ n (lifted w y p m l) (omega (arith, ints))).1
 
 -- at any width below 64 bits
 extend_law_at : (w : ℕ) → 0 < w → w < 64 →
-    ExtendLawAt w extended (λ y. extended (pos y)) extended (λ y. extended (twos_complement w y))
+    ExtendLawAt w integer_bytes (λ y. integer_bytes (pos y)) integer_bytes (λ y. integer_bytes (twos_complement w y))
 extend_law_at w p m = record {
   signed_alike = λ x. refl;
   unsigned_alike = λ y l.
-      through (extended-once (pos y) (twos_complement w y))
+      through (integer_bytes-once (pos y) (twos_complement w y))
       (top_bit (2 ^ (w - 1)) (2 ^ w) y _ (lifted w y p (omega arith) l) (pow_below w 64 m));
   across = λ x y h l. sign_extend w x y p (omega arith) h l;
 }

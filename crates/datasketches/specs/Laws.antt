@@ -5,7 +5,7 @@ use Rattle.sketch_base.specs.Bytes.{AreBytes, eight}
 use Rattle.sketch_hash.specs.Words.{IsWord}
 use Rattle.sketch_hash.specs.Murmur.{step, murmur}
 use Rattle.sketch_hash.specs.Xxh64.{xxh64}
-use Rattle.sketch_hash.specs.Values.{extended}
+use Rattle.sketch_hash.specs.Values.{integer_bytes}
 use Rattle.sketch_hash.specs.Laws.{OneToOne, AreWords, IsBlock}
 use Rattle.datasketches.specs.Streams.{DifferInOneTailStep}
 
@@ -30,7 +30,7 @@ IsShort z = (neg_ℤ (pos (2 ^ 31)) ≤ℤ z) × (z <ℤ pos (2 ^ 32))
 abbrev pub IntegerLaw : {B : Type 0} → (ℕ → List ℕ → B) → Type 0
 IntegerLaw hash =
     (seed : ℕ) (x y : ℤ) → IsWord seed → IsShort x → IsShort y →
-    (hash seed (extended x) ≡ hash seed (extended y)) ↔ (x ≡ y)
+    (hash seed (integer_bytes x) ≡ hash seed (integer_bytes y)) ↔ (x ≡ y)
 
 -- For each seed, the hash of eight bytes takes every word exactly once.
 abbrev pub HashU64Law : Type 0

@@ -5,7 +5,7 @@ use Rattle.std.proofs.lemmas.List.{drop_all, length-take-le, length-drop}
 use Rattle.std.proofs.lemmas.List.Elements.{All-nil, All-cons, All-take, All-drop}
 use Rattle.sketch_base.specs.Bytes.{AreBytes}
 use Rattle.sketch_hash.specs.Pieces.{first_pieces, pieces, rest}
-use Rattle.sketch_hash.specs.PiecesLaws.{pieces-append, rest-append}
+use Rattle.sketch_hash.specs.PiecesWriteLemmas.{pieces-append, rest-append}
 
 -- the predicate of `AreBytes`
 abbrev pub IsByte : ℕ → Type 0

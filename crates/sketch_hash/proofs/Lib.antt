@@ -1,4 +1,4 @@
-pub mod KnownAnswers
+pub mod ExampleLemmas
 pub mod WordsLemmas
 pub mod PiecesLemmas
 pub mod MurmurLemmas

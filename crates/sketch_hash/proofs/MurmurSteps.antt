@@ -6,7 +6,7 @@ use Rattle.std.proofs.lemmas.List.Elements.{All-map, All-weaker, All-append, All
 use Rattle.sketch_base.specs.Bytes.{AreBytes}
 use Rattle.sketch_hash.specs.Words.{IsWord, plus, times, rotate}
 use Rattle.sketch_hash.specs.Pieces.{pieces}
-use Rattle.sketch_hash.specs.Murmur.{c1, c2, mix1, mix2, fmix, step1, step2, step, block_words, blocks, with_tail, crossed, ending}
+use Rattle.sketch_hash.specs.Murmur.{c1, c2, mix1, mix2, fmix, step1, step2, step, block_words, blocks, with_tail, cross, ending}
 use Rattle.sketch_hash.specs.Laws.{OneToOne, AreWords, IsBlock, MurmurStepLaws}
 use Rattle.sketch_hash.proofs.OneToOne.{◌▸◌, on_first, on_second, on_both, along}
 use Rattle.sketch_hash.proofs.Undoes.{times-once, plus-once, xor-once, xor_word-once, rotate-once, shifted-once}
@@ -71,15 +71,15 @@ pub steps-on_state : (blocks : List (ℕ × ℕ)) → All AreWords blocks →
     OneToOne AreWords AreWords (λ h. fold step h blocks)
 steps-on_state blocks p = along step step-on_state blocks p
 
-crossed-once : OneToOne AreWords AreWords crossed
-crossed-once = on_first plus plus-once ▸ on_second (λ h1 h2. plus h2 h1) plus-once
+cross-once : OneToOne AreWords AreWords cross
+cross-once = on_first plus plus-once ▸ on_second (λ h1 h2. plus h2 h1) plus-once
 
 -- the end, for one length
 pub ending-once : (n : ℕ) → IsWord n → OneToOne AreWords AreWords (λ h. ending h n)
 unfolding ending
 ending-once n p =
     let length_in = xor-once n p in
-    on_both length_in length_in ▸ crossed-once ▸ on_both fmix-once fmix-once ▸ crossed-once
+    on_both length_in length_in ▸ cross-once ▸ on_both fmix-once fmix-once ▸ cross-once
 
 -- ---- blocks and tails of bytes
 

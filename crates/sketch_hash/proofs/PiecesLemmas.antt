@@ -4,8 +4,8 @@ use Rattle.std.proofs.Common.{◌≡◌, ℕ, ◌+◌, ◌*◌, ◌/◌, ◌%◌
 use Rattle.std.proofs.Math.Nat.{div-eq_of_lt, div_self, zero-mul}
 use Rattle.std.proofs.lemmas.List.{take_all, drop_all, length-take-le, take-append-drop}
 use Rattle.std.specs.List.{fold}
-use Rattle.sketch_hash.specs.Pieces.{first_pieces, pieces, rest, State, absorbed, advanced}
-use Rattle.sketch_hash.specs.PiecesLaws.{pieces-append, rest-append, advanced-append}
+use Rattle.sketch_hash.specs.Pieces.{first_pieces, pieces, rest, State, absorb, state_after}
+use Rattle.sketch_hash.specs.PiecesWriteLemmas.{pieces-append, rest-append, state_after-append}
 
 -- fewer than w bytes have no piece
 pub pieces_short : (w : ℕ) (bytes : List ℕ) → length bytes < w → pieces w bytes ≡ []
@@ -45,43 +45,43 @@ rest-first w bytes p h =
     ∙ ap (λ t. rest w (t ++ drop w bytes)) (rest_one w (take w bytes) p first)
 
 -- a byte that fills no piece waits behind the others
-pub absorbed_waits : {P R : Type 0} (w : ℕ) (read : List ℕ → R) (f : P → R → P) (state : State P) (b : ℕ) →
+pub absorb_waits : {P R : Type 0} (w : ℕ) (read : List ℕ → R) (f : P → R → P) (state : State P) (b : ℕ) →
     length (state.waiting ++ b ∷ []) < w →
-    absorbed w read f state
+    absorb w read f state
     (b ∷ []) ≡ record {
       folded = state.folded;
       total = (state.total + 1) % 2 ^ 64;
       waiting =
           state.waiting ++ b ∷ [];
     }
-unfolding absorbed
-absorbed_waits w read f state b h =
+unfolding absorb
+absorb_waits w read f state b h =
     let none = pieces_short w (state.waiting ++ b ∷ []) h in
     let all = rest_short w (state.waiting ++ b ∷ []) h in
     rw (none, all) refl
 
 -- a byte that fills a piece has it folded, and nothing waits
-pub absorbed_fills : {P R : Type 0} (w : ℕ) (read : List ℕ → R) (f : P → R → P) (state : State P) (b : ℕ) →
+pub absorb_fills : {P R : Type 0} (w : ℕ) (read : List ℕ → R) (f : P → R → P) (state : State P) (b : ℕ) →
     0 < w →
     length (state.waiting ++ b ∷ []) ≡ w →
-    absorbed w read f state
+    absorb w read f state
     (b ∷ []) ≡ record {
       folded = f state.folded (read (state.waiting ++ b ∷ []));
       total =
           (state.total + 1) % 2 ^ 64;
       waiting = [];
     }
-unfolding absorbed
-absorbed_fills w read f state b p h =
+unfolding absorb
+absorb_fills w read f state b p h =
     let one = pieces_one w (state.waiting ++ b ∷ []) p h in
     let none = rest_one w (state.waiting ++ b ∷ []) p h in
     rw (one, none) refl
 
 -- bytes written one after the other leave what one write of them leaves
-pub fold-advanced : {P R : Type 0} (w : ℕ) (read : List ℕ → R) (f : P → R → P) → 0 < w →
+pub fold-state_after : {P R : Type 0} (w : ℕ) (read : List ℕ → R) (f : P → R → P) → 0 < w →
     (bytes : List ℕ) (state : State P) →
-    fold (λ s b. advanced w read f s (b ∷ [])) state bytes ≡ advanced w read f state bytes
-fold-advanced w read f p [] state = refl
-fold-advanced w read f p (b ∷ bytes) state =
-    fold-advanced w read f p bytes (advanced w read f state (b ∷ []))
-    ∙ advanced-append w read f p state (b ∷ []) bytes
+    fold (λ s b. state_after w read f s (b ∷ [])) state bytes ≡ state_after w read f state bytes
+fold-state_after w read f p [] state = refl
+fold-state_after w read f p (b ∷ bytes) state =
+    fold-state_after w read f p bytes (state_after w read f state (b ∷ []))
+    ∙ state_after-append w read f p state (b ∷ []) bytes

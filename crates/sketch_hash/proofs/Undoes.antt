@@ -4,9 +4,9 @@ use Rattle.std.specs.Prelude.{bit_xor}
 use Rattle.std.specs.Int.Bits.{xor_assoc, xor_self, xor_zero_r, xor_shr}
 use Rattle.std.proofs.Math.Nat.{div-eq_of_lt, pow-le-pow_right}
 use Rattle.std.proofs.lemmas.Nat.{xor_comm, mul-mod_first, mul-mod_second, shr_le, shr_split, shr_below, shr_high, mod_low, mul-add-lt, shr-shr, mod_below, pow_pos, pow-add}
-use Rattle.sketch_hash.specs.Words.{IsWord, plus, minus, times, xor, rotate, xor_shifted}
+use Rattle.sketch_hash.specs.Words.{IsWord, plus, minus, times, xor, rotate, xor_shift}
 use Rattle.sketch_hash.specs.Laws.{OneToOne}
-use Rattle.sketch_hash.proofs.WordsLemmas.{xor-is, xor-lt, xor_shifted-is, rotated_up, times-lt}
+use Rattle.sketch_hash.proofs.WordsLemmas.{xor-is, xor-lt, xor_shift-is, rotated_up, times-lt}
 use Rattle.sketch_hash.proofs.OneToOne.{alike}
 
 -- f takes S to T, and g undoes it
@@ -128,7 +128,7 @@ bit_xor-meet a b c =
 shr-word : (x k : ℕ) → IsWord x → IsWord (x / 2 ^ k)
 shr-word x k h = let less = shr_le x k in omega arith
 
-shifted-lt : (k x : ℕ) → IsWord x → IsWord (xor_shifted k x)
+shifted-lt : (k x : ℕ) → IsWord x → IsWord (xor_shift k x)
 shifted-lt k x h = xor-lt x (x / 2 ^ k) h (shr-word x k h)
 
 -- beyond its 64 digits a word has none
@@ -142,36 +142,36 @@ shr-shifted : (k j x : ℕ) → bit_xor x (x / 2 ^ k) / 2 ^ j ≡ bit_xor (x / 2
 shr-shifted k j x = xor_shr x (x / 2 ^ k) j ∙ ap (bit_xor (x / 2 ^ j)) (shr-shr x k j)
 
 -- done twice, it is done by twice the places
-shifted-two : (k x : ℕ) → IsWord x → xor_shifted k (xor_shifted k x) ≡ bit_xor x (x / 2 ^ (k + k))
+shifted-two : (k x : ℕ) → IsWord x → xor_shift k (xor_shift k x) ≡ bit_xor x (x / 2 ^ (k + k))
 shifted-two k x h =
-    xor_shifted-is k (xor_shifted k x) (shifted-lt k x h)
-    ∙ ap (λ n. bit_xor n (n / 2 ^ k)) (xor_shifted-is k x h)
+    xor_shift-is k (xor_shift k x) (shifted-lt k x h)
+    ∙ ap (λ n. bit_xor n (n / 2 ^ k)) (xor_shift-is k x h)
     ∙ ap (bit_xor (bit_xor x (x / 2 ^ k))) (shr-shifted k k x) ∙ bit_xor-meet x (x / 2 ^ k) (x / 2 ^ (k + k))
 
 -- by 32 places and more it undoes itself
-shifted-undone : (k : ℕ) → 32 ≤ k → Undoes IsWord IsWord (xor_shifted k) (xor_shifted k)
+shifted-undone : (k : ℕ) → 32 ≤ k → Undoes IsWord IsWord (xor_shift k) (xor_shift k)
 shifted-undone k m = record { lands = shifted-lt k; comes = shifted-lt k; back = undone; forth = undone }
   where
-    undone : (x : ℕ) → IsWord x → xor_shifted k (xor_shifted k x) ≡ x
+    undone : (x : ℕ) → IsWord x → xor_shift k (xor_shift k x) ≡ x
     undone x h = shifted-two k x h ∙ shr-gone (k + k) x (omega arith) h
 
-pub shifted-once : (k : ℕ) → 32 ≤ k → OneToOne IsWord IsWord (xor_shifted k)
+pub shifted-once : (k : ℕ) → 32 ≤ k → OneToOne IsWord IsWord (xor_shift k)
 shifted-once k m = one_to_one (shifted-undone k m)
 
 -- a word xor its digits from place k on, and those from place 2 k on
 shifted_twice : ℕ → ℕ → ℕ
-shifted_twice k y = xor (xor_shifted k y) (y / 2 ^ (k + k))
+shifted_twice k y = xor (xor_shift k y) (y / 2 ^ (k + k))
 
-shifted_twice-is : (k y : ℕ) → IsWord y → shifted_twice k y ≡ bit_xor (xor_shifted k y) (y / 2 ^ (k + k))
+shifted_twice-is : (k y : ℕ) → IsWord y → shifted_twice k y ≡ bit_xor (xor_shift k y) (y / 2 ^ (k + k))
 unfolding shifted_twice
-shifted_twice-is k y h = xor-is (xor_shifted k y) (y / 2 ^ (k + k)) (shifted-lt k y h) (shr-word y (k + k) h)
+shifted_twice-is k y h = xor-is (xor_shift k y) (y / 2 ^ (k + k)) (shifted-lt k y h) (shr-word y (k + k) h)
 
 shifted_twice-lt : (k y : ℕ) → IsWord y → IsWord (shifted_twice k y)
 unfolding shifted_twice
-shifted_twice-lt k y h = xor-lt (xor_shifted k y) (y / 2 ^ (k + k)) (shifted-lt k y h) (shr-word y (k + k) h)
+shifted_twice-lt k y h = xor-lt (xor_shift k y) (y / 2 ^ (k + k)) (shifted-lt k y h) (shr-word y (k + k) h)
 
 -- by 22 places and more it is undone by that
-shifted_less-undone : (k : ℕ) → 22 ≤ k → Undoes IsWord IsWord (xor_shifted k) (shifted_twice k)
+shifted_less-undone : (k : ℕ) → 22 ≤ k → Undoes IsWord IsWord (xor_shift k) (shifted_twice k)
 shifted_less-undone k m = record {
   lands = shifted-lt k;
   comes = shifted_twice-lt k;
@@ -179,31 +179,31 @@ shifted_less-undone k m = record {
   forth = forth;
 }
   where
-    back : (x : ℕ) → IsWord x → shifted_twice k (xor_shifted k x) ≡ x
+    back : (x : ℕ) → IsWord x → shifted_twice k (xor_shift k x) ≡ x
     back x h =
         let two = x / 2 ^ (k + k) in
-        let upper : xor_shifted k x / 2 ^ (k + k) ≡ bit_xor two (x / 2 ^ (k + (k + k))) =
-        ap (λ n. n / 2 ^ (k + k)) (xor_shifted-is k x h) ∙ shr-shifted k (k + k) x in
-        shifted_twice-is k (xor_shifted k x) (shifted-lt k x h)
-        ∙ ap (λ n. bit_xor n (xor_shifted k x / 2 ^ (k + k))) (shifted-two k x h)
+        let upper : xor_shift k x / 2 ^ (k + k) ≡ bit_xor two (x / 2 ^ (k + (k + k))) =
+        ap (λ n. n / 2 ^ (k + k)) (xor_shift-is k x h) ∙ shr-shifted k (k + k) x in
+        shifted_twice-is k (xor_shift k x) (shifted-lt k x h)
+        ∙ ap (λ n. bit_xor n (xor_shift k x / 2 ^ (k + k))) (shifted-two k x h)
         ∙ ap (bit_xor (bit_xor x two)) upper ∙ bit_xor-meet x two (x / 2 ^ (k + (k + k)))
         ∙ shr-gone (k + (k + k)) x (omega arith) h
 
-    forth : (y : ℕ) → IsWord y → xor_shifted k (shifted_twice k y) ≡ y
+    forth : (y : ℕ) → IsWord y → xor_shift k (shifted_twice k y) ≡ y
     forth y h =
         let once = y / 2 ^ k in
         let two = y / 2 ^ (k + k) in
         let three = y / 2 ^ (k + k + k) in
         let parts : shifted_twice k y ≡ bit_xor (bit_xor y once) two =
-        shifted_twice-is k y h ∙ ap (λ n. bit_xor n two) (xor_shifted-is k y h) in
+        shifted_twice-is k y h ∙ ap (λ n. bit_xor n two) (xor_shift-is k y h) in
         let upper : shifted_twice k y / 2 ^ k ≡ bit_xor (bit_xor once two) three =
         ap (λ n. n / 2 ^ k) parts ∙ xor_shr (bit_xor y once) two k
         ∙ ap (bit_xor (bit_xor y once / 2 ^ k)) (shr-shr y (k + k) k)
         ∙ ap (λ n. bit_xor n three) (shr-shifted k k y) in
-        xor_shifted-is k (shifted_twice k y) (shifted_twice-lt k y h)
+        xor_shift-is k (shifted_twice k y) (shifted_twice-lt k y h)
         ∙ ap (bit_xor (shifted_twice k y)) upper
         ∙ ap (λ n. bit_xor n (bit_xor (bit_xor once two) three)) (parts ∙ xor_assoc y once two)
         ∙ bit_xor-meet y (bit_xor once two) three ∙ shr-gone (k + k + k) y (omega arith) h
 
-pub shifted_less-once : (k : ℕ) → 22 ≤ k → OneToOne IsWord IsWord (xor_shifted k)
+pub shifted_less-once : (k : ℕ) → 22 ≤ k → OneToOne IsWord IsWord (xor_shift k)
 shifted_less-once k m = one_to_one (shifted_less-undone k m)

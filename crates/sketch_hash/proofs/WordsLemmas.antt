@@ -6,14 +6,14 @@ use Rattle.std.proofs.lemmas.Bool.{cond_both, eqb-true, eqb-false}
 use Rattle.std.proofs.lemmas.Nat.{mod-pow-add, xor_lt, mod_below, or_shifted, shr_below, shl_below, shr_split, mod_low, pow-add, pow_pos, or_lt, shr_le}
 use Rattle.std.proofs.lemmas.Nat.Bits.{bit_at_xor, bit_at-lt}
 use Rattle.std.proofs.Math.Nat.{mod-eq_of_lt}
-use Rattle.sketch_hash.specs.Words.{IsWord, plus, times, digit, differing, xor, rotate, xor_shifted}
+use Rattle.sketch_hash.specs.Words.{IsWord, plus, times, digit, xor_below, xor, rotate, xor_shift}
 
 -- the sum over the places at which two digits differ is the library's exclusive or
-differing-is : (n x y : ℕ) → differing n x y ≡ bit_xor x y % 2 ^ n
-unfolding differing
-differing-is zero x y = omega arith
-differing-is (suc i) x y =
-    ap (λ v. v + cond (digit x i == digit y i) 0 (2 ^ i)) (differing-is i x y)
+xor_below-is : (n x y : ℕ) → xor_below n x y ≡ bit_xor x y % 2 ^ n
+unfolding xor_below
+xor_below-is zero x y = omega arith
+xor_below-is (suc i) x y =
+    ap (λ v. v + cond (digit x i == digit y i) 0 (2 ^ i)) (xor_below-is i x y)
     ∙ ap (λ v. bit_xor x y % 2 ^ i + v) (worth (digit x i) (digit y i) (2 ^ i) (bit_at-lt x i) (bit_at-lt y i)
     ∙ ap (λ v. v * 2 ^ i) (sym (bit_at_xor x y i)))
     ∙ turned (bit_xor x y % 2 ^ i) (bit_at (bit_xor x y) i * 2 ^ i)
@@ -30,13 +30,13 @@ differing-is (suc i) x y =
 
 pub xor-is : (x y : ℕ) → IsWord x → IsWord y → xor x y ≡ bit_xor x y
 unfolding xor
-xor-is x y p q = differing-is 64 x y ∙ mod-eq_of_lt (xor_lt 64 x y p q)
+xor-is x y p q = xor_below-is 64 x y ∙ mod-eq_of_lt (xor_lt 64 x y p q)
 
 pub xor-lt : (x y : ℕ) → IsWord x → IsWord y → IsWord (xor x y)
 xor-lt x y p q = rw (xor-is x y p q) (xor_lt 64 x y p q)
 
-pub xor_shifted-is : (k x : ℕ) → IsWord x → xor_shifted k x ≡ bit_xor x (x / 2 ^ k)
-xor_shifted-is k x p = let less = shr_le x k in xor-is x (x / 2 ^ k) p (omega arith)
+pub xor_shift-is : (k x : ℕ) → IsWord x → xor_shift k x ≡ bit_xor x (x / 2 ^ k)
+xor_shift-is k x p = let less = shr_le x k in xor-is x (x / 2 ^ k) p (omega arith)
 
 -- the digits that a rotation moves up: in two numbers whose sum is 64, the lower `right` digits
 pub rotated_up : (x left right : ℕ) → left + right ≡ 64 → x * 2 ^ left % 2 ^ 64 ≡ x % 2 ^ right * 2 ^ left

@@ -6,8 +6,8 @@ use Rattle.std.proofs.lemmas.List.{map-id}
 use Rattle.std.proofs.lemmas.List.Folds.{fold-map}
 use Rattle.sketch_base.specs.Bytes.{le, eight}
 use Rattle.sketch_base.proofs.BytesLemmas.{le-low_bytes}
-use Rattle.sketch_hash.specs.Pieces.{pieces, rest, word_at, State, absorbed}
-use Rattle.sketch_hash.specs.Xxh64.{Lanes, prime5, round, lane, lanes_start, lanes, stripe_step, steps_of, steps, tail_step, eight_step, four_step, byte_step, avalanche, ending, xxh64, xxh64_start, xxh64_after, xxh64_finished, Xxh64Stands}
+use Rattle.sketch_hash.specs.Pieces.{pieces, rest, word_at, State, absorb}
+use Rattle.sketch_hash.specs.Xxh64.{Lanes, prime5, round, lane, lanes_start, lanes, stripe_step, steps_of, steps, tail_step, eight_step, four_step, byte_step, avalanche, ending, xxh64, xxh64_start, xxh64_after, xxh64_answer, Xxh64Stands}
 use Rattle.sketch_hash.specs.Words.{IsWord, plus}
 use Rattle.sketch_hash.proofs.PiecesLemmas.{pieces_short, rest_short, pieces-first, rest-first}
 
@@ -80,18 +80,18 @@ fold_stripes [] v = refl
 fold_stripes (s ∷ stripes) v = fold_stripes stripes (stripe_step v s)
 
 -- the definition of the whole bytes
-pub xxh64_finished-after : (seed : ℕ) (bytes : List ℕ) →
-    xxh64_finished (xxh64_after (xxh64_start seed) bytes) ≡ xxh64 seed bytes
-unfolding xxh64_finished xxh64_after xxh64 absorbed pieces rest lanes lane lanes_start
-xxh64_finished-after seed [] = refl
-xxh64_finished-after seed (b ∷ bytes) =
+pub xxh64_answer-after : (seed : ℕ) (bytes : List ℕ) →
+    xxh64_answer (xxh64_after (xxh64_start seed) bytes) ≡ xxh64 seed bytes
+unfolding xxh64_answer xxh64_after xxh64 absorb pieces rest lanes lane lanes_start
+xxh64_answer-after seed [] = refl
+xxh64_answer-after seed (b ∷ bytes) =
     let all = map-id (pieces 32 (b ∷ bytes)) in
     let by_lane = fold_stripes (pieces 32 (b ∷ bytes)) (lanes_start seed) in
     rw (zero-add, all, by_lane) refl
 
-pub xxh64_finished-stands : (seed : ℕ) (bytes : List ℕ) (state : State Lanes) →
-    Xxh64Stands state seed bytes → xxh64_finished state ≡ xxh64 seed bytes
-xxh64_finished-stands seed bytes state stands = ap xxh64_finished stands ∙ xxh64_finished-after seed bytes
+pub xxh64_answer-stands : (seed : ℕ) (bytes : List ℕ) (state : State Lanes) →
+    Xxh64Stands state seed bytes → xxh64_answer state ≡ xxh64 seed bytes
+xxh64_answer-stands seed bytes state stands = ap xxh64_answer stands ∙ xxh64_answer-after seed bytes
 
 -- eight bytes are one step of the tail
 pub xxh64-eight : (seed x : ℕ) → IsWord x →

@@ -1,12 +1,12 @@
 pub mod Words
 pub mod Pieces
-pub mod PiecesLaws
+pub mod PiecesWriteLemmas
 pub mod Murmur
-pub mod MurmurLaws
+pub mod MurmurWriteLemmas
 pub mod Xxh64
-pub mod Xxh64Laws
+pub mod Xxh64WriteLemmas
 pub mod Values
 pub mod Lending
 pub mod SeedHash
-pub mod KnownAnswers
+pub mod Examples
 pub mod Laws

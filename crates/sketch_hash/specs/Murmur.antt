@@ -2,8 +2,8 @@
 -- Sums and products are those of words, modulo 2 ^ 64.
 use Rattle.std.specs.Prelude.{◌≡◌, ℕ, ◌-◌, ◌%◌, ◌^◌, List, [], ◌++◌, length, map, replicate}
 use Rattle.std.specs.List.{fold}
-use Rattle.sketch_hash.specs.Words.{plus, times, xor, rotate, xor_shifted}
-use Rattle.sketch_hash.specs.Pieces.{pieces, rest, word_at, State, advanced}
+use Rattle.sketch_hash.specs.Words.{plus, times, xor, rotate, xor_shift}
+use Rattle.sketch_hash.specs.Pieces.{pieces, rest, word_at, State, state_after}
 
 -- the two multipliers of the input's words
 abbrev pub c1 : ℕ
@@ -22,9 +22,9 @@ mix2 k = times (rotate (times k c2) 33) c1
 -- the finalizer of one word
 unfoldable pub fmix : ℕ → ℕ
 fmix x =
-    let once = times (xor_shifted 33 x) 0xff51afd7ed558ccd in
-    let twice = times (xor_shifted 33 once) 0xc4ceb9fe1a85ec53 in
-    xor_shifted 33 twice
+    let once = times (xor_shift 33 x) 0xff51afd7ed558ccd in
+    let twice = times (xor_shift 33 once) 0xc4ceb9fe1a85ec53 in
+    xor_shift 33 twice
 
 -- h1 and h2 after a block's first word k1, and then its second word k2
 unfoldable pub step1 : ℕ → ℕ → ℕ → ℕ
@@ -55,14 +55,14 @@ with_tail h waiting =
     (xor h.0 (mix1 k.0), xor h.1 (mix2 k.1))
 
 -- the first word takes the sum of both, then the second takes the sum of both
-abbrev pub crossed : ℕ × ℕ → ℕ × ℕ
-crossed h = (plus h.0 h.1, plus h.1 (plus h.0 h.1))
+abbrev pub cross : ℕ × ℕ → ℕ × ℕ
+cross h = (plus h.0 h.1, plus h.1 (plus h.0 h.1))
 
 -- the end, for an input of n bytes modulo 2 ^ 64
 unfoldable pub ending : ℕ × ℕ → ℕ → ℕ × ℕ
 ending h n =
-    let sums = crossed (xor h.0 n, xor h.1 n) in
-    crossed (fmix sums.0, fmix sums.1)
+    let sums = cross (xor h.0 n, xor h.1 n) in
+    cross (fmix sums.0, fmix sums.1)
 
 -- the hash of the bytes under a seed
 unfoldable pub murmur : ℕ → List ℕ → ℕ × ℕ
@@ -77,11 +77,11 @@ murmur_start seed = record { folded = (seed, seed); total = 0; waiting = [] }
 
 -- the state that a write of bytes leaves
 unfoldable pub murmur_after : State (ℕ × ℕ) → List ℕ → State (ℕ × ℕ)
-murmur_after state bytes = advanced 16 block_words step state bytes
+murmur_after state bytes = state_after 16 block_words step state bytes
 
 -- what a hasher in a state answers, both words
-unfoldable pub murmur_finished : State (ℕ × ℕ) → ℕ × ℕ
-murmur_finished state = ending (with_tail state.folded state.waiting) state.total
+unfoldable pub murmur_answer : State (ℕ × ℕ) → ℕ × ℕ
+murmur_answer state = ending (with_tail state.folded state.waiting) state.total
 
 -- the state is that of a hasher with the seed to which the bytes were written, in any pieces
 abbrev pub MurmurStands : State (ℕ × ℕ) → ℕ → List ℕ → Type 0

@@ -30,14 +30,14 @@ pub record State (P : Type 0) : Type 0 where
 
 -- the state of a stream to which bytes are added: the full pieces of the waiting bytes and the added ones are
 -- read and folded, the others wait
-unfoldable pub absorbed : {P R : Type 0} → ℕ → (List ℕ → R) → (P → R → P) → State P → List ℕ → State P
-absorbed w read f state bytes = record {
+unfoldable pub absorb : {P R : Type 0} → ℕ → (List ℕ → R) → (P → R → P) → State P → List ℕ → State P
+absorb w read f state bytes = record {
   folded = fold f state.folded (map read (pieces w (state.waiting ++ bytes)));
   total = (state.total + length bytes) % 2 ^ 64;
   waiting = rest w (state.waiting ++ bytes);
 }
 
 -- the same, where an empty write leaves every state as it is
-abbrev pub advanced : {P R : Type 0} → ℕ → (List ℕ → R) → (P → R → P) → State P → List ℕ → State P
-advanced w read f state [] = state
-advanced w read f state (b ∷ bytes) = absorbed w read f state (b ∷ bytes)
+abbrev pub state_after : {P R : Type 0} → ℕ → (List ℕ → R) → (P → R → P) → State P → List ℕ → State P
+state_after w read f state [] = state
+state_after w read f state (b ∷ bytes) = absorb w read f state (b ∷ bytes)

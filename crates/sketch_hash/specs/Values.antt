@@ -3,5 +3,5 @@ use Rattle.std.specs.Prelude.{ℕ, ℤ, List}
 use Rattle.sketch_base.specs.Bytes.{eight, modulo}
 
 -- the eight little-endian bytes of an integer, modulo 2 ^ 64
-abbrev pub extended : ℤ → List ℕ
-extended z = eight (modulo 64 z)
+abbrev pub integer_bytes : ℤ → List ℕ
+integer_bytes z = eight (modulo 64 z)

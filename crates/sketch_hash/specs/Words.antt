@@ -20,18 +20,18 @@ abbrev pub digit : ℕ → ℕ → ℕ
 digit x i = x / 2 ^ i % 2
 
 -- the sum of 2 ^ i over the places i below n at which the binary digits of x and y differ
-unfoldable pub differing : ℕ → ℕ → ℕ → ℕ
-differing zero x y = 0
-differing (suc i) x y = differing i x y + (if digit x i == digit y i then 0 else 2 ^ i)
+unfoldable pub xor_below : ℕ → ℕ → ℕ → ℕ
+xor_below zero x y = 0
+xor_below (suc i) x y = xor_below i x y + (if digit x i == digit y i then 0 else 2 ^ i)
 
 -- the exclusive or of two words
 unfoldable pub xor : ℕ → ℕ → ℕ
-xor x y = differing 64 x y
+xor x y = xor_below 64 x y
 
 -- a word rotated to the left by r places, r from 1 to 63
 unfoldable pub rotate : ℕ → ℕ → ℕ
 rotate x r = x * 2 ^ r % 2 ^ 64 + x / 2 ^ (64 - r)
 
 -- a word xor itself, divided by 2 ^ k
-abbrev pub xor_shifted : ℕ → ℕ → ℕ
-xor_shifted k x = xor x (x / 2 ^ k)
+abbrev pub xor_shift : ℕ → ℕ → ℕ
+xor_shift k x = xor x (x / 2 ^ k)

@@ -3,8 +3,8 @@
 use Rattle.std.specs.Prelude.{◌≡◌, ℕ, ◌%◌, ◌^◌, List, [], ◌++◌, length, map, nat_lt, ◌==◌, if◌then◌else◌}
 use Rattle.std.specs.List.{fold}
 use Rattle.sketch_base.specs.Bytes.{le}
-use Rattle.sketch_hash.specs.Words.{plus, minus, times, xor, rotate, xor_shifted}
-use Rattle.sketch_hash.specs.Pieces.{pieces, rest, word_at, State, advanced}
+use Rattle.sketch_hash.specs.Words.{plus, minus, times, xor, rotate, xor_shift}
+use Rattle.sketch_hash.specs.Pieces.{pieces, rest, word_at, State, state_after}
 
 -- the five primes
 abbrev pub prime1 : ℕ
@@ -112,9 +112,9 @@ tail_step h s =
 -- the last mixing of the hash
 unfoldable pub avalanche : ℕ → ℕ
 avalanche h =
-    let once = times (xor_shifted 33 h) prime2 in
-    let twice = times (xor_shifted 29 once) prime3 in
-    xor_shifted 32 twice
+    let once = times (xor_shift 33 h) prime2 in
+    let twice = times (xor_shift 29 once) prime3 in
+    xor_shift 32 twice
 
 -- The hash of n bytes, n modulo 2 ^ 64, from their lanes and the bytes behind the stripes. It takes the lanes
 -- where n is at least 32, and the seed alone where it is less.
@@ -145,11 +145,11 @@ xxh64_start seed = record { folded = lanes_start seed; total = 0; waiting = [] }
 
 -- the state that a write of bytes leaves
 unfoldable pub xxh64_after : State Lanes → List ℕ → State Lanes
-xxh64_after state bytes = advanced 32 (λ stripe. stripe) stripe_step state bytes
+xxh64_after state bytes = state_after 32 (λ stripe. stripe) stripe_step state bytes
 
 -- what a hasher in a state answers
-unfoldable pub xxh64_finished : State Lanes → ℕ
-xxh64_finished state = ending state.folded state.total state.waiting
+unfoldable pub xxh64_answer : State Lanes → ℕ
+xxh64_answer state = ending state.folded state.total state.waiting
 
 -- the state is that of a hasher with the seed to which the bytes were written, in any pieces
 abbrev pub Xxh64Stands : State Lanes → ℕ → List ℕ → Type 0

@@ -20,3 +20,5 @@ pub use self::xxhash::XxHash64;
 ///
 /// Two sketches can be merged only where they hash with one seed.
 pub const DEFAULT_UPDATE_SEED: u64 = 9001;
+
+const _: () = prove!(DEFAULT_UPDATE_SEED == 9001);

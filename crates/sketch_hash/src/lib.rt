@@ -2,5 +2,6 @@
 //! definitions.
 #![tactic(auto)]
 
+pub mod examples;
 pub mod hash;
 pub mod laws;

@@ -4,7 +4,7 @@ ghost use Rattle.std.specs.Prelude.{◌≡◌, ◌≢◌, ◌↔◌, length, dro
 ghost use Rattle.std.specs.List.{All, flat_map};
 ghost use Rattle.sketch_base.specs.Items.{unspell_all};
 ghost use Rattle.sketch_hash.specs.Murmur.{murmur};
-ghost use Rattle.sketch_hash.specs.Values.{extended};
+ghost use Rattle.sketch_hash.specs.Values.{integer_bytes};
 ghost use Rattle.sketch_vectors.specs.Callers.{HasPreamble, IsSketch};
 
 use datasketches::codec::assert::{
@@ -25,7 +25,7 @@ mod tests;
 
 /// The Murmur pair by which a distinct counter knows an integer key.
 pub fn pair_of(seed: u64, key: i32) -> (u64, u64)
-    ensures { result ≡ murmur seed (extended key) }
+    ensures { result ≡ murmur seed (integer_bytes key) }
 {
     let mut hasher = MurmurHash3X64128::with_seed(seed);
     sign_extend::from_i32(key).hash(&mut hasher);

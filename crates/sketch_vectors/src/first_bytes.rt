@@ -1,7 +1,8 @@
 //! A lawful hasher that shows what it is fed.
 
 ghost use Rattle.std.specs.Prelude.{◌≡◌, ℕ, ◌≤◌, List, [], ◌∷◌, length, take};
-ghost use Rattle.sketch_vectors.specs.FirstBytes.{kept_after, kept_after-append, kept_after-nil};
+ghost use Rattle.sketch_vectors.specs.FirstBytes.{kept_after};
+ghost use Rattle.sketch_vectors.specs.FirstBytesLemmas.{kept_after-append, kept_after-empty};
 
 use datasketches::hash::Hasher;
 use std::marker::Model;
@@ -66,5 +67,5 @@ impl Hasher for FirstBytes {
 
     ghost joins = { kept_after-append };
 
-    ghost nothing = { kept_after-nil };
+    ghost empty_write = { kept_after-empty };
 }

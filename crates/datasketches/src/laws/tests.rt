@@ -1,11 +1,5 @@
 use super::{murmur_both, xx_both};
-
-// The first bytes of the buffer that xxHash's own tests use.
-const TEST_BUFFER: [u8; 33] = [
-    0x00, 0x52, 0x92, 0x9b, 0xb7, 0x32, 0xa3, 0x24, 0x2d, 0x00, 0xaf, 0x95, 0x0e, 0xec, 0xb8, 0x93,
-    0xe3, 0xdf, 0xef, 0x93, 0xaa, 0xd6, 0xcd, 0x2a, 0x53, 0x8b, 0x5c, 0x3f, 0x54, 0x5a, 0x6f, 0xd5,
-    0x59,
-];
+use sketch_hash::examples::TEST_BUFFER;
 
 const OTHER_SEED: u64 = 2_654_435_761;
 
@@ -37,9 +31,9 @@ fn xxh64_tells_apart_two_seeds(rt: HostRuntime) {
 #[test]
 fn xxh64_tells_apart_every_last_byte_behind_a_stripe(rt: HostRuntime) {
     for change in 1..=255 {
-        let mut changed = TEST_BUFFER;
-        changed[32] ^= change;
-        let (first, second) = xx_both(0, &TEST_BUFFER, 0, &changed);
+        let mut last = TEST_BUFFER;
+        last[32] ^= change;
+        let (first, second) = xx_both(0, &TEST_BUFFER[..33], 0, &last[..33]);
         assert_eq!(rt; first, 0x55c8_dc3e_578f_5b59);
         assert!(rt; second != first, "with the last byte changed by {change}");
     }

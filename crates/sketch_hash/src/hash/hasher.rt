@@ -82,5 +82,5 @@ pub trait Hasher {
     // What every hasher keeps: two writes join, and an empty write changes nothing.
     ghost joins: { (s : Self) (a b : List ℕ) → after (after s a) b ≡ after s (a ++ b) };
 
-    ghost nothing: { (s : Self) → after s [] ≡ s };
+    ghost empty_write: { (s : Self) → after s [] ≡ s };
 }

@@ -2,13 +2,13 @@
 
 ghost use Rattle.std.specs.Prelude.{◌≡◌, ℕ, List, [], ◌∷◌, ◌++◌, length};
 ghost use Rattle.sketch_hash.specs.Pieces.{State};
-ghost use Rattle.sketch_hash.specs.Murmur.{mix1, mix2, fmix, step, with_tail, ending, block_words, murmur, murmur_start, murmur_after, murmur_finished, MurmurStands};
-ghost use Rattle.sketch_hash.specs.MurmurLaws.{murmur_after-append, murmur_after-nil};
+ghost use Rattle.sketch_hash.specs.Murmur.{mix1, mix2, fmix, step, with_tail, ending, block_words, murmur, murmur_start, murmur_after, murmur_answer, MurmurStands};
+ghost use Rattle.sketch_hash.specs.MurmurWriteLemmas.{murmur_after-append, murmur_after-empty};
 
 use super::DEFAULT_UPDATE_SEED;
 use super::hasher::Hasher;
 use super::waiting::{TakesBytes, Waiting, push_all};
-use super::words::{read_u64_le, shifted_into};
+use super::words::{read_u64_le, xor_shift};
 use std::fmt;
 use std::marker::Model;
 
@@ -46,7 +46,7 @@ impl MurmurHash3X64128 {
 
     /// The 128-bit hash of all bytes so far, as its first and its second word.
     pub fn finish128(&self) -> (u64, u64)
-        ensures finished { result ≡ murmur_finished self.now }
+        ensures answer { result ≡ murmur_answer self.now }
         ensures stands { (seed : ℕ) (bytes : List ℕ) → MurmurStands self.now seed bytes →
             result ≡ murmur seed bytes }
     {
@@ -55,7 +55,7 @@ impl MurmurHash3X64128 {
             self.h1 ^ mix1(read_u64_le(&padded[0..8])),
             self.h2 ^ mix2(read_u64_le(&padded[8..16])),
         );
-        finalized(h1, h2, self.total)
+        ending(h1, h2, self.total)
     }
 }
 
@@ -90,7 +90,7 @@ impl TakesBytes for MurmurHash3X64128 {
 impl Hasher for MurmurHash3X64128 {
     ghost after = { murmur_after };
 
-    ghost answer = { λ h. (murmur_finished h).0 };
+    ghost answer = { λ h. (murmur_answer h).0 };
 
     fn write(&mut self, bytes: &[u8])
         ensures after { self.new ≡ murmur_after self.old bytes.now }
@@ -101,7 +101,7 @@ impl Hasher for MurmurHash3X64128 {
     }
 
     fn finish(&self) -> u64
-        ensures answer { result ≡ (murmur_finished self.now).0 }
+        ensures answer { result ≡ (murmur_answer self.now).0 }
         ensures stands { (seed : ℕ) (bytes : List ℕ) → MurmurStands self.now seed bytes →
             result ≡ (murmur seed bytes).0 }
     {
@@ -111,7 +111,7 @@ impl Hasher for MurmurHash3X64128 {
 
     ghost joins = { murmur_after-append };
 
-    ghost nothing = { murmur_after-nil };
+    ghost empty_write = { murmur_after-empty };
 }
 
 fn mix1(k1: u64) -> u64
@@ -146,13 +146,13 @@ fn step(h1: u64, h2: u64, k1: u64, k2: u64) -> (u64, u64)
 fn fmix(word: u64) -> u64
     ensures { result ≡ fmix word }
 {
-    let once = shifted_into(word, 33).wrapping_mul(0xff51_afd7_ed55_8ccd);
-    let twice = shifted_into(once, 33).wrapping_mul(0xc4ce_b9fe_1a85_ec53);
-    shifted_into(twice, 33)
+    let once = xor_shift(word, 33).wrapping_mul(0xff51_afd7_ed55_8ccd);
+    let twice = xor_shift(once, 33).wrapping_mul(0xc4ce_b9fe_1a85_ec53);
+    xor_shift(twice, 33)
 }
 
 // The hash of `total` bytes, from the pair that their blocks and their tail left.
-fn finalized(h1: u64, h2: u64, total: u64) -> (u64, u64)
+fn ending(h1: u64, h2: u64, total: u64) -> (u64, u64)
     ensures { result ≡ ending (h1, h2) total }
 {
     let h1 = h1 ^ total;

@@ -3,6 +3,7 @@ ghost use Rattle.std.specs.Prelude.{◌≡◌, ◌++◌};
 use super::{
     DEFAULT_UPDATE_SEED, Hasher, MurmurHash3X64128, XxHash64, check_seed_hash, compute_seed_hash,
 };
+use crate::examples::TEST_BUFFER;
 use sketch_base::error::ErrorKind;
 use std::alloc::{AllocError, Global};
 use std::test::Fail;
@@ -36,17 +37,6 @@ const MURMUR_SEEDED: [(u64, &[u8], (u64, u64)); 2] = [
     ),
 ];
 
-// The first bytes of the buffer that xxHash's own tests use.
-const TEST_BUFFER: [u8; 100] = [
-    0x00, 0x52, 0x92, 0x9b, 0xb7, 0x32, 0xa3, 0x24, 0x2d, 0x00, 0xaf, 0x95, 0x0e, 0xec, 0xb8, 0x93,
-    0xe3, 0xdf, 0xef, 0x93, 0xaa, 0xd6, 0xcd, 0x2a, 0x53, 0x8b, 0x5c, 0x3f, 0x54, 0x5a, 0x6f, 0xd5,
-    0x59, 0xc0, 0xff, 0xfc, 0x8f, 0x85, 0xb9, 0x33, 0x1d, 0xab, 0x74, 0xf7, 0xb6, 0x05, 0x93, 0x27,
-    0xb0, 0x70, 0x84, 0xb3, 0x67, 0x7c, 0x9f, 0x76, 0x48, 0x00, 0x72, 0xed, 0x7b, 0x98, 0x17, 0xe8,
-    0xdd, 0x48, 0x5e, 0x0c, 0x0c, 0xcb, 0xd0, 0x65, 0x3f, 0xad, 0xb2, 0x8f, 0x11, 0xb0, 0x6c, 0xe8,
-    0x8d, 0xb0, 0xf1, 0x86, 0x08, 0x61, 0x59, 0x56, 0x6c, 0x8e, 0x4e, 0x78, 0x13, 0x63, 0xbd, 0xab,
-    0x9d, 0x32, 0x73, 0x09,
-];
-
 fn murmur(seed: u64, pieces: &[&str]) -> (u64, u64) {
     let mut hasher = MurmurHash3X64128::with_seed(seed);
     for piece in pieces {
@@ -72,12 +62,12 @@ fn write_both<H: Hasher>(hasher: &mut H, front: &[u8], back: &[u8])
 #[test]
 fn two_writes_leave_what_one_leaves(rt: HostRuntime) {
     let (front, back) = FOX.split_at(20);
-    let mut murmured = MurmurHash3X64128::with_seed(0);
-    let mut hashed = XxHash64::with_seed(0);
-    write_both(&mut murmured, front.as_bytes(), back.as_bytes());
-    write_both(&mut hashed, front.as_bytes(), back.as_bytes());
+    let mut murmur3 = MurmurHash3X64128::with_seed(0);
+    let mut xxhash = XxHash64::with_seed(0);
+    write_both(&mut murmur3, front.as_bytes(), back.as_bytes());
+    write_both(&mut xxhash, front.as_bytes(), back.as_bytes());
     assert_eq!(rt;
-        (murmured.finish128(), hashed.finish64()),
+        (murmur3.finish128(), xxhash.finish64()),
         (murmur(0, &[FOX]), xxh64(0, FOX.as_bytes()))
     );
 }
@@ -130,6 +120,22 @@ fn xxh64_goes_on_behind_a_stripe(rt: HostRuntime) {
     assert_eq!(rt; hasher.finish64(), 0x55c8_dc3e_578f_5b59);
 }
 
+// 65600 zeros: more than 16 bits count.
+#[test]
+fn a_long_stream_is_counted_whole(rt: HostRuntime) {
+    let mut murmur3 = MurmurHash3X64128::with_seed(0);
+    let mut xxhash = XxHash64::with_seed(0);
+    for _ in 0..656 {
+        murmur3.write(&[0; 100]);
+        xxhash.write(&[0; 100]);
+    }
+    assert_eq!(rt;
+        murmur3.finish128(),
+        (0xfb33_4e8c_0e4f_2665, 0x23e9_84ba_da16_1792)
+    );
+    assert_eq!(rt; xxhash.finish64(), 0x68b0_5675_f6fc_42e4);
+}
+
 #[test]
 fn one_number_is_hashed_as_its_eight_bytes(rt: HostRuntime) {
     let streamed = xxh64(0, &[0x7b, 0, 0, 0, 0, 0, 0, 0]);
@@ -145,9 +151,9 @@ fn one_number_is_hashed_as_its_eight_bytes(rt: HostRuntime) {
 
 // What both hashers answer under the seed 7 after one write of the bytes.
 fn both(bytes: &[u8]) -> ((u64, u64), u64) {
-    let mut murmured = MurmurHash3X64128::with_seed(7);
-    murmured.write(bytes);
-    (murmured.finish128(), xxh64(7, bytes))
+    let mut murmur3 = MurmurHash3X64128::with_seed(7);
+    murmur3.write(bytes);
+    (murmur3.finish128(), xxh64(7, bytes))
 }
 
 // What a hasher answers after a write of each kind of number, one after the other.
@@ -183,20 +189,20 @@ fn numbers_are_written_lowest_byte_first(rt: HostRuntime) {
 
 #[test]
 fn a_number_is_written_as_its_bytes(rt: HostRuntime) {
-    let mut murmured = MurmurHash3X64128::with_seed(7);
-    let mut hashed = XxHash64::with_seed(7);
-    murmured.write_i16(-2);
-    hashed.write_i16(-2);
+    let mut murmur3 = MurmurHash3X64128::with_seed(7);
+    let mut xxhash = XxHash64::with_seed(7);
+    murmur3.write_i16(-2);
+    xxhash.write_i16(-2);
     assert_eq!(rt;
-        (murmured.finish128(), hashed.finish64()),
+        (murmur3.finish128(), xxhash.finish64()),
         both(&[0xfe, 0xff])
     );
-    let mut murmured = MurmurHash3X64128::with_seed(7);
-    let mut hashed = XxHash64::with_seed(7);
-    murmured.write_u32(0x0102_0304);
-    hashed.write_u32(0x0102_0304);
+    let mut murmur3 = MurmurHash3X64128::with_seed(7);
+    let mut xxhash = XxHash64::with_seed(7);
+    murmur3.write_u32(0x0102_0304);
+    xxhash.write_u32(0x0102_0304);
     assert_eq!(rt;
-        (murmured.finish128(), hashed.finish64()),
+        (murmur3.finish128(), xxhash.finish64()),
         both(&[4, 3, 2, 1])
     );
 }
@@ -204,12 +210,12 @@ fn a_number_is_written_as_its_bytes(rt: HostRuntime) {
 #[test]
 fn defaults_have_their_seeds(rt: HostRuntime) {
     assert_eq!(rt; DEFAULT_UPDATE_SEED, 9001);
-    let mut murmured = MurmurHash3X64128::default();
-    murmured.write(FOX.as_bytes());
-    assert_eq!(rt; murmured.finish128(), murmur(9001, &[FOX]));
-    let mut hashed = XxHash64::default();
-    hashed.write(FOX.as_bytes());
-    assert_eq!(rt; hashed.finish64(), xxh64(0, FOX.as_bytes()));
+    let mut murmur3 = MurmurHash3X64128::default();
+    murmur3.write(FOX.as_bytes());
+    assert_eq!(rt; murmur3.finish128(), murmur(9001, &[FOX]));
+    let mut xxhash = XxHash64::default();
+    xxhash.write(FOX.as_bytes());
+    assert_eq!(rt; xxhash.finish64(), xxh64(0, FOX.as_bytes()));
 }
 
 fn debug_texts(alloc: Global) -> Result<(String, String), AllocError> {

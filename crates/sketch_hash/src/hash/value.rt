@@ -7,6 +7,8 @@
 pub mod natural_extend;
 pub mod raw_bytes;
 pub mod sign_extend;
+#[cfg(test)]
+mod tests;
 
 ghost use Rattle.std.specs.Prelude.{◌≡◌, ℕ, List, [], ◌++◌, IsTrue};
 ghost use Rattle.std.specs.List.{flat_map};
@@ -101,6 +103,8 @@ impl<T, S> DerefMut for Value<T, S> {
 impl<T: fmt::Display, S> fmt::Display for Value<T, S> {
     ghost output = { λ value. T.output value };
 
+    ghost styled_output = { λ value style. T.styled_output value style };
+
     fn fmt<W: fmt::Write>(&self, f: &mut fmt::Formatter<W>) -> fmt::Result {
         self.value.fmt(f)
     }
@@ -119,6 +123,13 @@ impl<T: Eq, S: HashStrategy<T>> Hash for Value<T, S> {
         S::hash(&self.value, state);
     }
 }
+
+/// Equal values feed equal bytes, under every strategy.
+///
+/// It does nothing: its contract is the law.
+pub fn value_law<T: Eq, S: HashStrategy<T>>()
+    ensures { (x y : T) → IsTrue (T.eq x y) → S.fed x ≡ S.fed y }
+{}
 
 /// Feeds the values in order.
 pub fn feed_all<T: Hash, H: Hasher>(values: &[T], state: &mut H)

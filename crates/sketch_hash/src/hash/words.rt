@@ -2,7 +2,7 @@
 
 ghost use Rattle.std.specs.Prelude.{◌≡◌, ℕ, ◌+◌, ◌/◌, ◌^◌, ◌<◌, length};
 ghost use Rattle.sketch_base.specs.Bytes.{le};
-ghost use Rattle.sketch_hash.specs.Words.{plus, times, xor, xor_shifted};
+ghost use Rattle.sketch_hash.specs.Words.{plus, times, xor, xor_shift};
 
 pub(crate) fn read_u64_le(bytes: &[u8]) -> u64
     requires { length bytes.now ≡ 8 }
@@ -23,9 +23,9 @@ pub(crate) fn read_u32_le(bytes: &[u8]) -> u32
 }
 
 /// A word xor itself, shifted to the right by `places`.
-pub(crate) fn shifted_into(word: u64, places: u32) -> u64
+pub(crate) fn xor_shift(word: u64, places: u32) -> u64
     requires { places < 64 }
-    ensures { result ≡ xor_shifted places word }
+    ensures { result ≡ xor_shift places word }
 {
     word ^ (word >> places)
 }

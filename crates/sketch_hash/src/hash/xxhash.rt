@@ -4,12 +4,12 @@ ghost use Rattle.std.specs.Prelude.{◌≡◌, ℕ, List, [], ◌∷◌, ◌++�
 ghost use Rattle.std.specs.List.{fold};
 ghost use Rattle.sketch_base.specs.Bytes.{eight};
 ghost use Rattle.sketch_hash.specs.Pieces.{State};
-ghost use Rattle.sketch_hash.specs.Xxh64.{Lanes, round, merge_lane, merge, eight_step, four_step, byte_step, tail_step, steps, avalanche, xxh64, xxh64_start, xxh64_after, xxh64_finished, Xxh64Stands};
-ghost use Rattle.sketch_hash.specs.Xxh64Laws.{xxh64_after-append, xxh64_after-nil};
+ghost use Rattle.sketch_hash.specs.Xxh64.{Lanes, round, merge_lane, merge, eight_step, four_step, byte_step, tail_step, steps, avalanche, xxh64, xxh64_start, xxh64_after, xxh64_answer, Xxh64Stands};
+ghost use Rattle.sketch_hash.specs.Xxh64WriteLemmas.{xxh64_after-append, xxh64_after-empty};
 
 use super::hasher::Hasher;
 use super::waiting::{TakesBytes, Waiting, push_all};
-use super::words::{read_u32_le, read_u64_le, shifted_into};
+use super::words::{read_u32_le, read_u64_le, xor_shift};
 use std::fmt;
 use std::marker::Model;
 
@@ -67,14 +67,14 @@ impl XxHash64 {
 
     /// The 64-bit hash of all bytes so far.
     pub fn finish64(&self) -> u64
-        ensures finished { result ≡ xxh64_finished self.now }
+        ensures answer { result ≡ xxh64_answer self.now }
         ensures stands { (seed : ℕ) (bytes : List ℕ) → Xxh64Stands self.now seed bytes →
             result ≡ xxh64 seed bytes }
     {
         let hash = if self.is_short() {
             self.seed.wrapping_add(PRIME5)
         } else {
-            self.merged()
+            self.merge()
         };
         avalanche(fold_tail(hash.wrapping_add(self.total), self.waiting.bytes()))
     }
@@ -94,7 +94,7 @@ impl XxHash64 {
     }
 
     // The four lanes as one word.
-    fn merged(&self) -> u64
+    fn merge(&self) -> u64
         ensures { result ≡ merge self.now.folded }
     {
         let sum = self
@@ -142,7 +142,7 @@ impl TakesBytes for XxHash64 {
 impl Hasher for XxHash64 {
     ghost after = { xxh64_after };
 
-    ghost answer = { xxh64_finished };
+    ghost answer = { xxh64_answer };
 
     fn write(&mut self, bytes: &[u8])
         ensures after { self.new ≡ xxh64_after self.old bytes.now }
@@ -153,7 +153,7 @@ impl Hasher for XxHash64 {
     }
 
     fn finish(&self) -> u64
-        ensures answer { result ≡ xxh64_finished self.now }
+        ensures answer { result ≡ xxh64_answer self.now }
         ensures stands { (seed : ℕ) (bytes : List ℕ) → Xxh64Stands self.now seed bytes →
             result ≡ xxh64 seed bytes }
     {
@@ -162,7 +162,7 @@ impl Hasher for XxHash64 {
 
     ghost joins = { xxh64_after-append };
 
-    ghost nothing = { xxh64_after-nil };
+    ghost empty_write = { xxh64_after-empty };
 }
 
 // A lane after an input word.
@@ -235,7 +235,7 @@ fn byte_step(hash: u64, byte: u8) -> u64
 fn avalanche(hash: u64) -> u64
     ensures { result ≡ avalanche hash }
 {
-    let once = shifted_into(hash, 33).wrapping_mul(PRIME2);
-    let twice = shifted_into(once, 29).wrapping_mul(PRIME3);
-    shifted_into(twice, 32)
+    let once = xor_shift(hash, 33).wrapping_mul(PRIME2);
+    let twice = xor_shift(once, 29).wrapping_mul(PRIME3);
+    xor_shift(twice, 32)
 }

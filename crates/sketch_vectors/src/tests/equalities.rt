@@ -128,9 +128,9 @@ fn texts_of_minus_one(alloc: Global) -> Result<[String; 3], AllocError> {
 
 #[test]
 fn wrapped_numbers_print_as_numbers(rt: HostRuntime) -> Result<(), AllocError> {
-    let [plain, wide, debug] = texts_of_minus_one(rt.alloc())?;
+    let [text, wide, debug] = texts_of_minus_one(rt.alloc())?;
     assert_eq!(rt;
-        [plain.as_str(), wide.as_str(), debug.as_str()],
+        [text.as_str(), wide.as_str(), debug.as_str()],
         ["-1", "  -1", "-1"]
     );
     Ok(())

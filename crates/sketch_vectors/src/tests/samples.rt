@@ -8,9 +8,9 @@ use datasketches::hash::value::{calculate_hash, natural_extend, raw_bytes, sign_
 use datasketches::hash::{Hasher, MurmurHash3X64128, XxHash64, compute_seed_hash};
 
 // Seed, input, the Murmur pair and the XXH64 hash.
-type Hashed = (u64, &'static [u8], (u64, u64), u64);
+type HashSample = (u64, &'static [u8], (u64, u64), u64);
 
-const HASHES: [Hashed; 21] = [
+const HASHES: [HashSample; 21] = [
     (
         0,
         &[],
@@ -338,11 +338,11 @@ fn hashes_of_streams_in_pieces(rt: HostRuntime) {
 macro_rules! after {
     ($write:ident) => {
         |n| {
-            let mut murmured = MurmurHash3X64128::with_seed(7);
-            let mut hashed = XxHash64::with_seed(7);
-            murmured.$write(n);
-            hashed.$write(n);
-            (murmured.finish(), hashed.finish())
+            let mut murmur3 = MurmurHash3X64128::with_seed(7);
+            let mut xxhash = XxHash64::with_seed(7);
+            murmur3.$write(n);
+            xxhash.$write(n);
+            (murmur3.finish(), xxhash.finish())
         }
     };
 }

@@ -1,6 +1,7 @@
 //! The vectors of the original's own tests, and one of xxHash: 33 bytes under the second seed.
 
 use datasketches::hash::{Hasher, MurmurHash3X64128, XxHash64};
+use sketch_hash::examples::TEST_BUFFER;
 
 // What Murmur answers under seed 0: the input, and the two words.
 const MURMUR: [(&[u8], (u64, u64)); 6] = [
@@ -44,17 +45,6 @@ const XXH64: [(u64, usize, u64); 10] = [
     (0x9E37_79B1, 100, 0x4853_706d_c962_5cae),
 ];
 
-// The buffer that xxHash's own tests use.
-fn test_buffer() -> [u8; 100] {
-    let mut generator: u64 = 0x9E37_79B1;
-    let mut bytes = [0; 100];
-    for byte in bytes.iter_mut() {
-        *byte = (generator >> 56) as u8;
-        generator = generator.wrapping_mul(0x9E37_79B1_85EB_CA8D);
-    }
-    bytes
-}
-
 #[test]
 fn murmur_vectors(rt: HostRuntime) {
     for (input, expected) in &MURMUR {
@@ -66,10 +56,9 @@ fn murmur_vectors(rt: HostRuntime) {
 
 #[test]
 fn xxh64_vectors(rt: HostRuntime) {
-    let buffer = test_buffer();
     for (seed, count, expected) in &XXH64 {
         let mut hasher = XxHash64::with_seed(*seed);
-        hasher.write(&buffer[..(*count).min(100)]);
+        hasher.write(&TEST_BUFFER[..(*count).min(100)]);
         assert_eq!(rt; hasher.finish64(), *expected, "{count} bytes under {seed}");
     }
 }

@@ -5,7 +5,7 @@
 
 ghost use Rattle.std.specs.Prelude.{◌≡◌, pos};
 ghost use Rattle.std.proofs.Common.{rules};
-ghost use Rattle.sketch_hash.specs.Values.{extended};
+ghost use Rattle.sketch_hash.specs.Values.{integer_bytes};
 
 use crate::hash::Hasher;
 use crate::hash::value::{HashStrategy, Value};
@@ -59,7 +59,7 @@ pub fn from_u32(v: u32) -> NaturalExtend<u32>
 }
 
 impl HashStrategy<i8> for NaturalExtendStrategy {
-    ghost fed = { extended };
+    ghost fed = { integer_bytes };
 
     fn hash<H: Hasher>(value: &i8, state: &mut H) {
         state.write_i64(i64::from(*value));
@@ -69,7 +69,7 @@ impl HashStrategy<i8> for NaturalExtendStrategy {
 }
 
 impl HashStrategy<u8> for NaturalExtendStrategy {
-    ghost fed = { λ x. extended (pos x) };
+    ghost fed = { λ x. integer_bytes (pos x) };
 
     fn hash<H: Hasher>(value: &u8, state: &mut H) {
         state.write_u64(u64::from(*value));
@@ -79,7 +79,7 @@ impl HashStrategy<u8> for NaturalExtendStrategy {
 }
 
 impl HashStrategy<i16> for NaturalExtendStrategy {
-    ghost fed = { extended };
+    ghost fed = { integer_bytes };
 
     fn hash<H: Hasher>(value: &i16, state: &mut H) {
         state.write_i64(i64::from(*value));
@@ -89,7 +89,7 @@ impl HashStrategy<i16> for NaturalExtendStrategy {
 }
 
 impl HashStrategy<u16> for NaturalExtendStrategy {
-    ghost fed = { λ x. extended (pos x) };
+    ghost fed = { λ x. integer_bytes (pos x) };
 
     fn hash<H: Hasher>(value: &u16, state: &mut H) {
         state.write_u64(u64::from(*value));
@@ -99,7 +99,7 @@ impl HashStrategy<u16> for NaturalExtendStrategy {
 }
 
 impl HashStrategy<i32> for NaturalExtendStrategy {
-    ghost fed = { extended };
+    ghost fed = { integer_bytes };
 
     fn hash<H: Hasher>(value: &i32, state: &mut H) {
         state.write_i64(i64::from(*value));
@@ -109,7 +109,7 @@ impl HashStrategy<i32> for NaturalExtendStrategy {
 }
 
 impl HashStrategy<u32> for NaturalExtendStrategy {
-    ghost fed = { λ x. extended (pos x) };
+    ghost fed = { λ x. integer_bytes (pos x) };
 
     fn hash<H: Hasher>(value: &u32, state: &mut H) {
         state.write_u64(u64::from(*value));

@@ -6,7 +6,7 @@
 ghost use Rattle.std.specs.Prelude.{◌≡◌, pos};
 ghost use Rattle.std.proofs.Common.{rules};
 ghost use Rattle.sketch_base.specs.Bytes.{twos_complement};
-ghost use Rattle.sketch_hash.specs.Values.{extended};
+ghost use Rattle.sketch_hash.specs.Values.{integer_bytes};
 
 use crate::hash::Hasher;
 use crate::hash::value::{HashStrategy, Value};
@@ -60,7 +60,7 @@ pub fn from_u32(v: u32) -> SignExtend<u32>
 }
 
 impl HashStrategy<i8> for SignExtendStrategy {
-    ghost fed = { extended };
+    ghost fed = { integer_bytes };
 
     fn hash<H: Hasher>(value: &i8, state: &mut H) {
         state.write_i64(i64::from(*value));
@@ -70,7 +70,7 @@ impl HashStrategy<i8> for SignExtendStrategy {
 }
 
 impl HashStrategy<u8> for SignExtendStrategy {
-    ghost fed = { λ x. extended (twos_complement 8 x) };
+    ghost fed = { λ x. integer_bytes (twos_complement 8 x) };
 
     fn hash<H: Hasher>(value: &u8, state: &mut H) {
         state.write_i64(i64::from(value.cast_signed()));
@@ -80,7 +80,7 @@ impl HashStrategy<u8> for SignExtendStrategy {
 }
 
 impl HashStrategy<i16> for SignExtendStrategy {
-    ghost fed = { extended };
+    ghost fed = { integer_bytes };
 
     fn hash<H: Hasher>(value: &i16, state: &mut H) {
         state.write_i64(i64::from(*value));
@@ -90,7 +90,7 @@ impl HashStrategy<i16> for SignExtendStrategy {
 }
 
 impl HashStrategy<u16> for SignExtendStrategy {
-    ghost fed = { λ x. extended (twos_complement 16 x) };
+    ghost fed = { λ x. integer_bytes (twos_complement 16 x) };
 
     fn hash<H: Hasher>(value: &u16, state: &mut H) {
         state.write_i64(i64::from(value.cast_signed()));
@@ -100,7 +100,7 @@ impl HashStrategy<u16> for SignExtendStrategy {
 }
 
 impl HashStrategy<i32> for SignExtendStrategy {
-    ghost fed = { extended };
+    ghost fed = { integer_bytes };
 
     fn hash<H: Hasher>(value: &i32, state: &mut H) {
         state.write_i64(i64::from(*value));
@@ -110,7 +110,7 @@ impl HashStrategy<i32> for SignExtendStrategy {
 }
 
 impl HashStrategy<u32> for SignExtendStrategy {
-    ghost fed = { λ x. extended (twos_complement 32 x) };
+    ghost fed = { λ x. integer_bytes (twos_complement 32 x) };
 
     fn hash<H: Hasher>(value: &u32, state: &mut H) {
         state.write_i64(i64::from(value.cast_signed()));

@@ -1,6 +1,6 @@
 use Rattle.std.proofs.Common.{[]}
 use Rattle.std.specs.List.{flat_map}
-use Rattle.sketch_hash.specs.MurmurLaws.{murmur_stands-after}
+use Rattle.sketch_hash.specs.MurmurWriteLemmas.{murmur_stands-after}
 use Rattle.sketch_vectors.proofs.callers.hash_pieces.Goals as goal
 
 pub returns : goal.returns

@@ -1,6 +1,6 @@
 use Rattle.std.proofs.Common.{[], refl, rules}
-use Rattle.sketch_hash.specs.MurmurLaws.{murmur_stands-after}
-use Rattle.sketch_hash.specs.Xxh64Laws.{xxh64_stands-after}
+use Rattle.sketch_hash.specs.MurmurWriteLemmas.{murmur_stands-after}
+use Rattle.sketch_hash.specs.Xxh64WriteLemmas.{xxh64_stands-after}
 use Rattle.sketchsum.proofs.ReadingLemmas.{ran}
 use Rattle.sketchsum.proofs.run.run_bounded.Goals as goal
 

@@ -4,4 +4,4 @@ use Rattle.sketch_hash.proofs.hash.murmurhash.fmix.Goals as goal
 
 pub returns : goal.returns
 unfolding fmix
-returns c = rw (c.shifted_into.ensures, c.shifted_into-twice.ensures, c.shifted_into-once.ensures) refl
+returns c = rw (c.xor_shift.ensures, c.xor_shift-twice.ensures, c.xor_shift-once.ensures) refl

@@ -1,6 +1,6 @@
 use Rattle.std.proofs.Common.{◌%◌, [], ap}
 use Rattle.sketch_base.specs.Bytes.{eight}
-use Rattle.sketch_hash.specs.MurmurLaws.{murmur_stands-after}
+use Rattle.sketch_hash.specs.MurmurWriteLemmas.{murmur_stands-after}
 use Rattle.sketch_hash.proofs.hash.seed.seed_hash.Goals as goal
 
 pub returns : goal.returns

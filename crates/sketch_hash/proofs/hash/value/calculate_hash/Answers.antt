@@ -1,5 +1,5 @@
 use Rattle.std.proofs.Common.{[]}
-use Rattle.sketch_hash.specs.MurmurLaws.{murmur_stands-after}
+use Rattle.sketch_hash.specs.MurmurWriteLemmas.{murmur_stands-after}
 use Rattle.sketch_hash.proofs.hash.value.calculate_hash.Goals as goal
 
 pub returns : goal.returns

@@ -1,6 +1,6 @@
 use Rattle.std.proofs.Common.{sym, ◌∙◌, arith, ap, length}
 use Rattle.sketch_hash.specs.Murmur.{murmur_after, step, block_words}
-use Rattle.sketch_hash.proofs.PiecesLemmas.{absorbed_fills, absorbed_waits}
+use Rattle.sketch_hash.proofs.PiecesLemmas.{absorb_fills, absorb_waits}
 use Rattle.sketch_hash.proofs.hash.murmurhash.MurmurHash3X64128TakesBytes.push.Goals as goal
 
 pub returns-in-Some : goal.returns-in-Some
@@ -16,11 +16,11 @@ returns-in-Some c =
       full,
       ← c.self.view_is,
     )
-    (sym (absorbed_fills 16 block_words step _ c.args.byte (omega arith) whole))
+    (sym (absorb_fills 16 block_words step _ c.args.byte (omega arith) whole))
 
 pub returns-in_default : goal.returns-in_default
 unfolding murmur_after
 returns-in_default c =
     let waits = c.in_default.ensures.waits in
     let short = c.in_default.ensures.short in
-    rw (← c.self.view_is, waits) (sym (absorbed_waits 16 block_words step _ c.args.byte (rw (← waits) short)))
+    rw (← c.self.view_is, waits) (sym (absorb_waits 16 block_words step _ c.args.byte (rw (← waits) short)))

@@ -1,6 +1,6 @@
 use Rattle.std.proofs.Common.{sym, ◌∙◌, arith, ap, length}
 use Rattle.sketch_hash.specs.Xxh64.{xxh64_after, stripe_step}
-use Rattle.sketch_hash.proofs.PiecesLemmas.{absorbed_fills, absorbed_waits}
+use Rattle.sketch_hash.proofs.PiecesLemmas.{absorb_fills, absorb_waits}
 use Rattle.sketch_hash.proofs.hash.xxhash.XxHash64TakesBytes.push.Goals as goal
 
 pub returns-in-Some : goal.returns-in-Some
@@ -21,7 +21,7 @@ returns-in-Some c =
       full,
       ← c.self.view_is,
     )
-    (sym (absorbed_fills 32 (λ stripe. stripe) stripe_step _ c.args.byte (omega arith) whole))
+    (sym (absorb_fills 32 (λ stripe. stripe) stripe_step _ c.args.byte (omega arith) whole))
 
 pub returns-in_default : goal.returns-in_default
 unfolding xxh64_after
@@ -29,4 +29,4 @@ returns-in_default c =
     let waits = c.in_default.ensures.waits in
     let short = c.in_default.ensures.short in
     rw (← c.self.view_is, waits)
-    (sym (absorbed_waits 32 (λ stripe. stripe) stripe_step _ c.args.byte (rw (← waits) short)))
+    (sym (absorb_waits 32 (λ stripe. stripe) stripe_step _ c.args.byte (rw (← waits) short)))

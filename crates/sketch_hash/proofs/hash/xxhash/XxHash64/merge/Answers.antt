@@ -2,7 +2,7 @@ use Rattle.std.proofs.Common.{◌≡◌, refl, ◌∙◌, sym, rules, lit<}
 use Rattle.sketch_hash.specs.Words.{rotate}
 use Rattle.sketch_hash.specs.Xxh64.{merge}
 use Rattle.sketch_hash.proofs.WordsLemmas.{rotate-is}
-use Rattle.sketch_hash.proofs.hash.xxhash.XxHash64.merged.Goals as goal
+use Rattle.sketch_hash.proofs.hash.xxhash.XxHash64.merge.Goals as goal
 
 pub returns : goal.returns
 unfolding merge

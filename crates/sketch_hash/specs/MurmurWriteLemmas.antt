@@ -2,19 +2,19 @@
 use Rattle.std.specs.Prelude.{◌≡◌, ℕ, List, [], ◌++◌, refl}
 use Rattle.std.proofs.Common.{ap, ◌∙◌, arith}
 use Rattle.sketch_hash.specs.Pieces.{State}
-use Rattle.sketch_hash.specs.PiecesLaws.{advanced-append}
+use Rattle.sketch_hash.specs.PiecesWriteLemmas.{state_after-append}
 use Rattle.sketch_hash.specs.Murmur.{block_words, step, murmur_start, murmur_after, MurmurStands}
 
 -- two writes leave what one write of the joined bytes leaves
 pub murmur_after-append : (state : State (ℕ × ℕ)) (xs ys : List ℕ) →
     murmur_after (murmur_after state xs) ys ≡ murmur_after state (xs ++ ys)
 unfolding murmur_after
-murmur_after-append state xs ys = advanced-append 16 block_words step (omega arith) state xs ys
+murmur_after-append state xs ys = state_after-append 16 block_words step (omega arith) state xs ys
 
 -- an empty write leaves the state
-pub murmur_after-nil : (state : State (ℕ × ℕ)) → murmur_after state [] ≡ state
+pub murmur_after-empty : (state : State (ℕ × ℕ)) → murmur_after state [] ≡ state
 unfolding murmur_after
-murmur_after-nil state = refl
+murmur_after-empty state = refl
 
 -- a write takes a hasher that stands for bytes to one that stands for them and the written ones
 pub murmur_stands-after : (seed : ℕ) (before bytes : List ℕ) (state next : State (ℕ × ℕ)) →

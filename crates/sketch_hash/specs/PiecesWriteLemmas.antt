@@ -5,7 +5,7 @@ use Rattle.std.proofs.Math.Nat.{mul-add-div_right, div-mul-le_self, suc-mul, zer
 use Rattle.std.proofs.lemmas.List.{append-nil, map-append, take-append-le, drop-append-le, drop-drop}
 use Rattle.std.proofs.lemmas.List.Sums.{fold-append}
 use Rattle.std.specs.List.{fold}
-use Rattle.sketch_hash.specs.Pieces.{first_pieces, pieces, rest, State, absorbed, advanced}
+use Rattle.sketch_hash.specs.Pieces.{first_pieces, pieces, rest, State, absorb, state_after}
 
 -- pieces in front do not depend on what is joined behind them
 first_pieces-append : (n m w : ℕ) (xs ys : List ℕ) → n * w ≤ length xs →
@@ -58,11 +58,11 @@ same_state s t a b c = ap (λ x. record { folded = x; total = s.total; waiting =
     ∙ ap (λ x. record { folded = t.folded; total = t.total; waiting = x }) c
 
 -- what two writes absorb is what one write of the joined bytes absorbs
-pub absorbed-append : {P R : Type 0} (w : ℕ) (read : List ℕ → R) (f : P → R → P) → 0 < w →
+pub absorb-append : {P R : Type 0} (w : ℕ) (read : List ℕ → R) (f : P → R → P) → 0 < w →
     (state : State P) (xs ys : List ℕ) →
-    absorbed w read f (absorbed w read f state xs) ys ≡ absorbed w read f state (xs ++ ys)
-unfolding absorbed
-absorbed-append w read f p state xs ys =
+    absorb w read f (absorb w read f state xs) ys ≡ absorb w read f state (xs ++ ys)
+unfolding absorb
+absorb-append w read f p state xs ys =
     let held = state.waiting ++ xs in
     let joined : state.waiting ++ (xs ++ ys) ≡ held ++ ys = sym (append_assoc state.waiting xs ys) in
     let all : map read (pieces w (state.waiting ++ (xs ++ ys))) ≡ map read (pieces w held) ++ map read
@@ -79,9 +79,9 @@ absorbed-append w read f p state xs ys =
     counted a b c = omega arith
 
 -- two writes join
-pub advanced-append : {P R : Type 0} (w : ℕ) (read : List ℕ → R) (f : P → R → P) → 0 < w →
+pub state_after-append : {P R : Type 0} (w : ℕ) (read : List ℕ → R) (f : P → R → P) → 0 < w →
     (state : State P) (xs ys : List ℕ) →
-    advanced w read f (advanced w read f state xs) ys ≡ advanced w read f state (xs ++ ys)
-advanced-append w read f p state [] ys = refl
-advanced-append w read f p state (x ∷ xs) [] = ap (λ t. absorbed w read f state (x ∷ t)) (sym (append-nil xs))
-advanced-append w read f p state (x ∷ xs) (y ∷ ys) = absorbed-append w read f p state (x ∷ xs) (y ∷ ys)
+    state_after w read f (state_after w read f state xs) ys ≡ state_after w read f state (xs ++ ys)
+state_after-append w read f p state [] ys = refl
+state_after-append w read f p state (x ∷ xs) [] = ap (λ t. absorb w read f state (x ∷ t)) (sym (append-nil xs))
+state_after-append w read f p state (x ∷ xs) (y ∷ ys) = absorb-append w read f p state (x ∷ xs) (y ∷ ys)

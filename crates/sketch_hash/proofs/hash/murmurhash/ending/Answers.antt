@@ -1,7 +1,7 @@
 use Rattle.std.proofs.Common.{refl}
 use Rattle.sketch_hash.specs.Murmur.{ending}
 use Rattle.sketch_hash.proofs.WordsLemmas.{xor-is}
-use Rattle.sketch_hash.proofs.hash.murmurhash.finalized.Goals as goal
+use Rattle.sketch_hash.proofs.hash.murmurhash.ending.Goals as goal
 
 pub returns : goal.returns
 unfolding ending
