@@ -120,7 +120,8 @@ sign_extend w (negsuc n) y p m h l =
 
 -- at any width below 64 bits
 extend_law_at : (w : ℕ) → 0 < w → w < 64 →
-    ExtendLawAt w integer_bytes (λ y. integer_bytes (pos y)) integer_bytes (λ y. integer_bytes (twos_complement w y))
+    ExtendLawAt w integer_bytes (λ y. integer_bytes (pos y))
+    integer_bytes (λ y. integer_bytes (twos_complement w y))
 extend_law_at w p m = record {
   signed_alike = λ x. refl;
   unsigned_alike = λ y l.

@@ -1,4 +1,5 @@
--- What is promised of collisions: of Murmur's pairs of words, of XXH64's words, and of short integers.
+-- What is promised of collisions: of Murmur's pairs of words, of XXH64's words, and of short
+-- integers.
 use Rattle.std.specs.Prelude.{◌≡◌, ◌≢◌, ◌↔◌, ℕ, ◌*◌, ◌^◌, ◌<◌, ℤ, pos, neg_ℤ, ◌≤ℤ◌, ◌<ℤ◌, List, ◌++◌, length}
 use Rattle.std.specs.List.{All, fold}
 use Rattle.sketch_base.specs.Bytes.{AreBytes, eight}
@@ -9,24 +10,27 @@ use Rattle.sketch_hash.specs.Values.{integer_bytes}
 use Rattle.sketch_hash.specs.Laws.{OneToOne, AreWords, IsBlock}
 use Rattle.datasketches.specs.Streams.{DifferInOneTailStep}
 
--- With the seed, the length and all other bytes fixed, a full aligned block of sixteen bytes maps onto all
--- pairs of words, each exactly once.
+-- With the seed, the length and all other bytes fixed, a full aligned block of sixteen bytes maps
+-- onto all pairs of words, each exactly once.
 abbrev pub MurmurBlockLaw : Type 0
 MurmurBlockLaw =
     (seed i : ℕ) (before after : List ℕ) → IsWord seed → AreBytes before → AreBytes after →
-    length before ≡ 16 * i → OneToOne IsBlock AreWords (λ block. murmur seed (before ++ block ++ after))
+    length before ≡ 16 * i →
+    OneToOne IsBlock AreWords (λ block. murmur seed (before ++ block ++ after))
 
--- For every list of blocks, their steps map the pairs of words onto all pairs of words, each exactly once.
+-- For every list of blocks, their steps map the pairs of words onto all pairs of words, each
+-- exactly once.
 abbrev pub MurmurSeedLaw : Type 0
 MurmurSeedLaw =
-    (blocks : List (ℕ × ℕ)) → All AreWords blocks → OneToOne AreWords AreWords (λ h. fold step h blocks)
+    (blocks : List (ℕ × ℕ)) → All AreWords blocks →
+    OneToOne AreWords AreWords (λ h. fold step h blocks)
 
 -- an integer in -2 ^ 31 .. 2 ^ 32: every value of the types of 8 to 32 bits
 abbrev pub IsShort : ℤ → Type 0
 IsShort z = (neg_ℤ (pos (2 ^ 31)) ≤ℤ z) × (z <ℤ pos (2 ^ 32))
 
--- Under a hash, two short integers, each extended to eight bytes and written alone after one seed, collide
--- exactly if they are equal.
+-- Under a hash, two short integers, each extended to eight bytes and written alone after one seed,
+-- collide exactly if they are equal.
 abbrev pub IntegerLaw : {B : Type 0} → (ℕ → List ℕ → B) → Type 0
 IntegerLaw hash =
     (seed : ℕ) (x y : ℤ) → IsWord seed → IsShort x → IsShort y →
@@ -36,7 +40,8 @@ IntegerLaw hash =
 abbrev pub HashU64Law : Type 0
 HashU64Law = (seed : ℕ) → IsWord seed → OneToOne IsWord IsWord (λ x. xxh64 seed (eight x))
 
--- Under one seed, two streams that differ in exactly one step behind the same stripes have different hashes.
+-- Under one seed, two streams that differ in exactly one step behind the same stripes have
+-- different hashes.
 abbrev pub XxTailLaw : Type 0
 XxTailLaw =
     (seed : ℕ) (a b : List ℕ) → IsWord seed → AreBytes a → AreBytes b → DifferInOneTailStep a b →

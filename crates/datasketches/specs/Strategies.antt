@@ -25,7 +25,8 @@ IsSigned w x = (neg_ℤ (pos (2 ^ (w - 1))) ≤ℤ x) × (x <ℤ pos (2 ^ (w - 1
 pub record ExtendLawAt (w : ℕ) (natural_signed : ℤ → List ℕ) (natural_unsigned : ℕ → List ℕ)
     (sign_signed : ℤ → List ℕ) (sign_unsigned : ℕ → List ℕ) : Type 0 where
   pub signed_alike : (x : ℤ) → natural_signed x ≡ sign_signed x
-  pub unsigned_alike : (y : ℕ) → y < 2 ^ w → (natural_unsigned y ≡ sign_unsigned y) ↔ (y < 2 ^ (w - 1))
+  pub unsigned_alike : (y : ℕ) → y < 2 ^ w →
+      (natural_unsigned y ≡ sign_unsigned y) ↔ (y < 2 ^ (w - 1))
   pub across : (x : ℤ) (y : ℕ) → IsSigned w x → y < 2 ^ w →
       (sign_signed x ≡ sign_unsigned y) ↔ (modulo w x ≡ modulo w (pos y))
 

@@ -13,7 +13,8 @@ pub record DifferInOneBlock (a b : List ℕ) : Type 0 where
   pub one_length : length a ≡ length b
   pub one_block : (i : ℕ) × AgreeOutside (16 * i) (16 * i + 16) a b
 
--- two streams of one length have the same full stripes of 32 bytes, and tails that differ in exactly one step
+-- two streams of one length have the same full stripes of 32 bytes, and tails that differ in
+-- exactly one step
 pub record DifferInOneTailStep (a b : List ℕ) : Type 0 where
   pub one_length : length a ≡ length b
   pub same_stripes : stripes a ≡ stripes b

@@ -1,6 +1,7 @@
 //! What is promised of collisions, of extended integers, and of items and their bytes.
 //!
-//! The functions with no parameters do nothing: the contract of each is a fact about the definitions.
+//! The functions with no parameters do nothing: the contract of each is a fact about the
+//! definitions.
 
 ghost use Rattle.std.specs.Prelude.{◌≡◌, ◌≢◌, ◌<◌, length};
 ghost use Rattle.datasketches.specs.Laws.{HashU64Law, IntegerLaw, MurmurBlockLaw, MurmurSeedLaw, XxSeedLaw, XxTailLaw};
@@ -17,8 +18,8 @@ mod tests;
 
 /// The Murmur pairs of two streams, each under its own seed.
 ///
-/// Under one seed, two streams of one length that differ in one aligned block of sixteen bytes only have
-/// different pairs; the block may be cut off at their end. So has one stream under two seeds.
+/// Under one seed, two streams of one length that differ in one aligned block of sixteen bytes only
+/// have different pairs; the block may be cut off at their end. So has one stream under two seeds.
 pub fn murmur_both(seed_a: u64, a: &[u8], seed_b: u64, b: &[u8]) -> ((u64, u64), (u64, u64))
     ensures values { result ≡ (murmur seed_a a.now, murmur seed_b b.now) }
     ensures one_block { seed_a ≡ seed_b → DifferInOneBlock a.now b.now → result.0 ≢ result.1 }
@@ -35,8 +36,8 @@ fn murmur_of(seed: u64, bytes: &[u8]) -> (u64, u64)
     hasher.finish128()
 }
 
-/// With the seed, the length and all other bytes fixed, the Murmur pair of a stream takes every pair of words
-/// exactly once over all sixteen bytes of a full aligned block.
+/// With the seed, the length and all other bytes fixed, the Murmur pair of a stream takes every
+/// pair of words exactly once over all sixteen bytes of a full aligned block.
 pub fn murmur_block_law()
     ensures { MurmurBlockLaw }
 {}
@@ -48,11 +49,13 @@ pub fn murmur_seed_law()
 
 /// The XXH64 hashes of two streams, each under its own seed.
 ///
-/// Under one seed, two streams of one length with the same full stripes of 32 bytes, whose tails differ in
-/// exactly one step, have different hashes. So has one stream of fewer than 32 bytes under two seeds.
+/// Under one seed, two streams of one length with the same full stripes of 32 bytes, whose tails
+/// differ in exactly one step, have different hashes. So has one stream of fewer than 32 bytes
+/// under two seeds.
 pub fn xx_both(seed_a: u64, a: &[u8], seed_b: u64, b: &[u8]) -> (u64, u64)
     ensures values { result ≡ (xxh64 seed_a a.now, xxh64 seed_b b.now) }
-    ensures one_tail_step { seed_a ≡ seed_b → DifferInOneTailStep a.now b.now → result.0 ≢ result.1 }
+    ensures one_tail_step { seed_a ≡ seed_b → DifferInOneTailStep a.now b.now →
+        result.0 ≢ result.1 }
     ensures two_seeds { a.now ≡ b.now → length a.now < 32 → seed_a ≢ seed_b → result.0 ≢ result.1 }
 {
     (xxh64_of(seed_a, a), xxh64_of(seed_b, b))
@@ -66,8 +69,8 @@ fn xxh64_of(seed: u64, bytes: &[u8]) -> u64
     hasher.finish64()
 }
 
-/// Under one seed, two streams of one length with the same full stripes of 32 bytes, whose tails differ in
-/// exactly one step, have different XXH64 hashes.
+/// Under one seed, two streams of one length with the same full stripes of 32 bytes, whose tails
+/// differ in exactly one step, have different XXH64 hashes.
 pub fn xx_tail_law()
     ensures { XxTailLaw }
 {}
@@ -77,8 +80,8 @@ pub fn xx_seed_law()
     ensures { XxSeedLaw }
 {}
 
-/// Integers of 8 to 32 bits, extended to eight bytes and written alone after one seed, have equal Murmur
-/// pairs exactly if they are equal, and equal XXH64 hashes exactly if they are equal.
+/// Integers of 8 to 32 bits, extended to eight bytes and written alone after one seed, have equal
+/// Murmur pairs exactly if they are equal, and equal XXH64 hashes exactly if they are equal.
 pub fn integer_law()
     ensures murmur { IntegerLaw murmur }
     ensures xxh64 { IntegerLaw xxh64 }
@@ -91,15 +94,15 @@ pub fn hash_u64_law()
 
 /// When `NaturalExtendStrategy` and `SignExtendStrategy` feed equal bytes, and when not.
 ///
-/// They feed the same for a signed integer, and for an unsigned one exactly if its top bit is clear. Under
-/// `SignExtendStrategy` a signed and an unsigned integer of w bits feed the same exactly if they agree
-/// modulo 2^w.
+/// They feed the same for a signed integer, and for an unsigned one exactly if its top bit is
+/// clear. Under `SignExtendStrategy` a signed and an unsigned integer of w bits feed the same
+/// exactly if they agree modulo 2^w.
 pub fn extend_law()
     ensures { ExtendLaw }
 {}
 
-/// Each item stands in bytes in one way, and so does each list of items of known kinds. Whatever stands
-/// behind the bytes of items, they are read back in order, and it remains.
+/// Each item stands in bytes in one way, and so does each list of items of known kinds. Whatever
+/// stands behind the bytes of items, they are read back in order, and it remains.
 pub fn items_law()
     ensures { ItemLaw }
 {}

@@ -1,5 +1,6 @@
--- What the definitions give for small inputs, and what each range and relation holds of. The hashes are known
--- from elsewhere: from the tests of xxHash and of the library that is ported, and from running these two.
+-- What the definitions give for small inputs, and what each range and relation holds of. The hashes
+-- are known from elsewhere: from the tests of xxHash and of the library that is ported, and from
+-- running these two.
 use Rattle.std.specs.Prelude.{◌≡◌, ℕ, zero, suc, ◌-◌, ◌/◌, ◌^◌, negsuc, List, [], ◌∷◌, codes, replicate}
 use Rattle.sketch_base.specs.Bytes.{AreBytes, eight}
 use Rattle.sketch_hash.specs.Words.{IsWord, plus, minus, times, xor, xor_shift, rotate}
@@ -36,8 +37,8 @@ pub record WordAnswers : Type 0 where
   pub waiting_of_the_fox : (murmur_after (murmur_start 0) fox).waiting ≡ codes "he lazy dog"
   pub total_of_the_fox : (murmur_after (murmur_start 0) fox).total ≡ 43
 
--- what the definition of Murmur answers: with no block, with whole blocks, with tails up to the longest, and
--- where the length takes more than one byte
+-- what the definition of Murmur answers: with no block, with whole blocks, with tails up to the
+-- longest, and where the length takes more than one byte
 pub record MurmurAnswers : Type 0 where
   pub no_bytes : murmur 0 [] ≡ (0, 0)
   pub dog : murmur 0 fox ≡ (0xe34bbc7bbc071b6c, 0x7a433ca9c49a9347)
@@ -46,10 +47,11 @@ pub record MurmurAnswers : Type 0 where
   pub three_bytes_seeded : murmur 0xcdde8d516301bbfc (0xa1 ∷ 0xd8 ∷ 0x2b ∷ []) ≡
       (0x72d4dcbfd199ad6f, 0x5170f4d9e50bb254)
   pub three_blocks_and_fifteen : murmur 0 (test_bytes 63) ≡ (0xd31d21c1b6227e0c, 0xc63d5ca47301b888)
-  pub eighteen_blocks_and_twelve : murmur 0 (test_bytes 300) ≡ (0x54d7645ceab4e023, 0x3ec09f5e9fabc30d)
+  pub eighteen_blocks_and_twelve : murmur 0 (test_bytes 300) ≡
+      (0x54d7645ceab4e023, 0x3ec09f5e9fabc30d)
 
--- what the definition of XXH64 answers: in the short form up to its longest, behind stripes, with every kind
--- of step in the tail, and where the length takes more than one byte
+-- what the definition of XXH64 answers: in the short form up to its longest, behind stripes, with
+-- every kind of step in the tail, and where the length takes more than one byte
 pub record Xxh64Answers : Type 0 where
   pub no_bytes : xxh64 0 [] ≡ 0xef46db3751d8e999
   pub no_bytes_seeded : xxh64 0x9E3779B1 [] ≡ 0xac75fda2929b17ef

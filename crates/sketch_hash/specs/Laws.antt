@@ -1,5 +1,6 @@
--- What it is to take every value of a set exactly once, and which steps of the two hashes do. No step loses a
--- difference: from what it leaves, and what it was given beside, what it began with can be told.
+-- What it is to take every value of a set exactly once, and which steps of the two hashes do. No
+-- step loses a difference: from what it leaves, and what it was given beside, what it began with
+-- can be told.
 use Rattle.std.specs.Prelude.{◌≡◌, ℕ, ◌<◌, List, length}
 use Rattle.sketch_base.specs.Bytes.{AreBytes}
 use Rattle.sketch_hash.specs.Words.{IsWord}
@@ -24,8 +25,9 @@ IsBlock bytes = AreBytes bytes × (length bytes ≡ 16)
 abbrev pub IsStep : ℕ × ℕ → Type 0
 IsStep s = IsWord s.1
 
--- Murmur: how a word is mixed, and how a block, a tail and the end change the pair of words. A step takes all
--- pairs to all pairs whichever block it reads, and all blocks to all pairs whichever pair it begins at.
+-- Murmur: how a word is mixed, and how a block, a tail and the end change the pair of words. A step
+-- takes all pairs to all pairs whichever block it reads, and all blocks to all pairs whichever pair
+-- it begins at.
 pub record MurmurStepLaws : Type 0 where
   pub first_word : OneToOne IsWord IsWord mix1
   pub second_word : OneToOne IsWord IsWord mix2
@@ -37,9 +39,11 @@ pub record MurmurStepLaws : Type 0 where
       OneToOne AreWords AreWords (λ h. with_tail h waiting)
   pub ending_of_pair : (n : ℕ) → IsWord n → OneToOne AreWords AreWords (λ h. ending h n)
 
--- XXH64: a step of the tail takes all words to all words whichever number it reads. From each word, and at
--- each width, it takes all words, as the number that it reads, to all words. So does the last mixing.
+-- XXH64: a step of the tail takes all words to all words whichever number it reads. From each word,
+-- and at each width, it takes all words, as the number that it reads, to all words. So does the
+-- last mixing.
 pub record Xxh64StepLaws : Type 0 where
   pub step_of_word : (s : ℕ × ℕ) → IsStep s → OneToOne IsWord IsWord (λ h. tail_step h s)
-  pub step_of_number : (width h : ℕ) → IsWord h → OneToOne IsWord IsWord (λ n. tail_step h (width, n))
+  pub step_of_number : (width h : ℕ) → IsWord h →
+      OneToOne IsWord IsWord (λ n. tail_step h (width, n))
   pub last_mixing : OneToOne IsWord IsWord avalanche

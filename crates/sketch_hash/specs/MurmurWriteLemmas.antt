@@ -21,4 +21,5 @@ pub murmur_stands-after : (seed : ℕ) (before bytes : List ℕ) (state next : S
     MurmurStands state seed before → next ≡ murmur_after state bytes →
     MurmurStands next seed (before ++ bytes)
 murmur_stands-after seed before bytes state next stands written =
-    written ∙ ap (λ s. murmur_after s bytes) stands ∙ murmur_after-append (murmur_start seed) before bytes
+    written ∙ ap (λ s. murmur_after s bytes) stands
+    ∙ murmur_after-append (murmur_start seed) before bytes

@@ -9,7 +9,8 @@ use Rattle.sketch_hash.specs.Pieces.{first_pieces, pieces, rest, State, absorb, 
 
 -- pieces in front do not depend on what is joined behind them
 first_pieces-append : (n m w : ℕ) (xs ys : List ℕ) → n * w ≤ length xs →
-    first_pieces (n + m) w (xs ++ ys) ≡ first_pieces n w xs ++ first_pieces m w (drop (n * w) xs ++ ys)
+    first_pieces (n + m) w (xs ++ ys)
+    ≡ first_pieces n w xs ++ first_pieces m w (drop (n * w) xs ++ ys)
 first_pieces-append zero m w xs ys h = rw (zero-mul w, zero-add m) refl
 first_pieces-append (suc n) m w xs ys h =
     let more : suc n * w ≡ n * w + w = suc-mul n w in
@@ -28,9 +29,10 @@ piece_count : (w : ℕ) (xs ys : List ℕ) → 0 < w →
     length (xs ++ ys) / w ≡ length xs / w + length (drop (length xs / w * w) xs ++ ys) / w
 piece_count w xs ys p =
     let within : length xs / w * w ≤ length xs = div-mul-le_self (length xs) w in
-    let split : length (xs ++ ys) ≡ length xs / w * w + length (drop (length xs / w * w) xs ++ ys) =
-    rw (length-append (drop (length xs / w * w) xs) ys, length-drop, length-append xs ys) (omega arith) in
-    ap (λ n. n / w) split ∙ mul-add-div_right p (length xs / w) (length (drop (length xs / w * w) xs ++ ys))
+    let behind = drop (length xs / w * w) xs in
+    let split : length (xs ++ ys) ≡ length xs / w * w + length (behind ++ ys) =
+    rw (length-append behind ys, length-drop, length-append xs ys) (omega arith) in
+    ap (λ n. n / w) split ∙ mul-add-div_right p (length xs / w) (length (behind ++ ys))
 
 -- the full pieces of joined lists are those of the first, and those of its rest with the second
 pub pieces-append : (w : ℕ) (xs ys : List ℕ) → 0 < w →
@@ -64,14 +66,16 @@ pub absorb-append : {P R : Type 0} (w : ℕ) (read : List ℕ → R) (f : P → 
 unfolding absorb
 absorb-append w read f p state xs ys =
     let held = state.waiting ++ xs in
-    let joined : state.waiting ++ (xs ++ ys) ≡ held ++ ys = sym (append_assoc state.waiting xs ys) in
-    let all : map read (pieces w (state.waiting ++ (xs ++ ys))) ≡ map read (pieces w held) ++ map read
-    (pieces w (rest w held ++ ys)) =
+    let first = pieces w held in
+    let others = pieces w (rest w held ++ ys) in
+    let joined : state.waiting ++ (xs ++ ys) ≡ held ++ ys =
+    sym (append_assoc state.waiting xs ys) in
+    let all : map read (pieces w (state.waiting ++ (xs ++ ys))) ≡ map read first ++ map read others =
     ap (λ t. map read (pieces w t)) joined ∙ ap (map read) (pieces-append w held ys p)
-    ∙ map-append read (pieces w held) (pieces w (rest w held ++ ys)) in
+    ∙ map-append read first others in
     same_state _ _
     (sym (ap (fold f state.folded) all
-    ∙ fold-append f state.folded (map read (pieces w held)) (map read (pieces w (rest w held ++ ys)))))
+    ∙ fold-append f state.folded (map read first) (map read others)))
     (rw (length-append xs ys) (counted state.total (length xs) (length ys)))
     (sym (ap (rest w) joined ∙ rest-append w held ys p))
   where
@@ -83,5 +87,7 @@ pub state_after-append : {P R : Type 0} (w : ℕ) (read : List ℕ → R) (f : P
     (state : State P) (xs ys : List ℕ) →
     state_after w read f (state_after w read f state xs) ys ≡ state_after w read f state (xs ++ ys)
 state_after-append w read f p state [] ys = refl
-state_after-append w read f p state (x ∷ xs) [] = ap (λ t. absorb w read f state (x ∷ t)) (sym (append-nil xs))
-state_after-append w read f p state (x ∷ xs) (y ∷ ys) = absorb-append w read f p state (x ∷ xs) (y ∷ ys)
+state_after-append w read f p state (x ∷ xs) [] =
+    ap (λ t. absorb w read f state (x ∷ t)) (sym (append-nil xs))
+state_after-append w read f p state (x ∷ xs) (y ∷ ys) =
+    absorb-append w read f p state (x ∷ xs) (y ∷ ys)

@@ -73,7 +73,8 @@ merge_lane h v = plus (times (xor h (round 0 v)) prime1) prime4
 -- the four lanes become one word
 unfoldable pub merge : Lanes → ℕ
 merge v =
-    let sum = plus (plus (plus (rotate v.v1 1) (rotate v.v2 7)) (rotate v.v3 12)) (rotate v.v4 18) in
+    let first = plus (rotate v.v1 1) (rotate v.v2 7) in
+    let sum = plus (plus first (rotate v.v3 12)) (rotate v.v4 18) in
     merge_lane (merge_lane (merge_lane (merge_lane sum v.v1) v.v2) v.v3) v.v4
 
 -- ---- the tail
@@ -85,7 +86,8 @@ steps_of w bytes = map (λ piece. (w, le piece)) (pieces w bytes)
 -- The bytes behind the stripes, in order, as steps (width, number): words of eight bytes while
 -- eight are left, then one of four bytes where four are left, then single bytes.
 unfoldable pub steps : List ℕ → List (ℕ × ℕ)
-steps waiting = steps_of 8 waiting ++ steps_of 4 (rest 8 waiting) ++ steps_of 1 (rest 4 (rest 8 waiting))
+steps waiting =
+    steps_of 8 waiting ++ steps_of 4 (rest 8 waiting) ++ steps_of 1 (rest 4 (rest 8 waiting))
 
 abbrev pub tail_steps : List ℕ → List (ℕ × ℕ)
 tail_steps bytes = steps (rest 32 bytes)
@@ -116,8 +118,8 @@ avalanche h =
     let twice = times (xor_shift 29 once) prime3 in
     xor_shift 32 twice
 
--- The hash of n bytes, n modulo 2 ^ 64, from their lanes and the bytes behind the stripes. It takes the lanes
--- where n is at least 32, and the seed alone where it is less.
+-- The hash of n bytes, n modulo 2 ^ 64, from their lanes and the bytes behind the stripes. It takes
+-- the lanes where n is at least 32, and the seed alone where it is less.
 unfoldable pub ending : Lanes → ℕ → List ℕ → ℕ
 ending v n waiting =
     let h = if nat_lt n 32 then plus v.seed prime5 else merge v in

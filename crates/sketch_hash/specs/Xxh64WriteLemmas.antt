@@ -9,7 +9,8 @@ use Rattle.sketch_hash.specs.Xxh64.{Lanes, stripe_step, xxh64_start, xxh64_after
 pub xxh64_after-append : (state : State Lanes) (xs ys : List ℕ) →
     xxh64_after (xxh64_after state xs) ys ≡ xxh64_after state (xs ++ ys)
 unfolding xxh64_after
-xxh64_after-append state xs ys = state_after-append 32 (λ stripe. stripe) stripe_step (omega arith) state xs ys
+xxh64_after-append state xs ys =
+    state_after-append 32 (λ stripe. stripe) stripe_step (omega arith) state xs ys
 
 -- an empty write leaves the state
 pub xxh64_after-empty : (state : State Lanes) → xxh64_after state [] ≡ state
@@ -18,6 +19,8 @@ xxh64_after-empty state = refl
 
 -- a write takes a hasher that stands for bytes to one that stands for them and the written ones
 pub xxh64_stands-after : (seed : ℕ) (before bytes : List ℕ) (state next : State Lanes) →
-    Xxh64Stands state seed before → next ≡ xxh64_after state bytes → Xxh64Stands next seed (before ++ bytes)
+    Xxh64Stands state seed before → next ≡ xxh64_after state bytes →
+    Xxh64Stands next seed (before ++ bytes)
 xxh64_stands-after seed before bytes state next stands written =
-    written ∙ ap (λ s. xxh64_after s bytes) stands ∙ xxh64_after-append (xxh64_start seed) before bytes
+    written ∙ ap (λ s. xxh64_after s bytes) stands
+    ∙ xxh64_after-append (xxh64_start seed) before bytes

@@ -38,7 +38,8 @@ pub fn xxh64_answers()
     ensures { Xxh64Answers }
 {}
 
-/// The definitions of seed hashes and of fed integers give the answers that are known from elsewhere.
+/// The definitions of seed hashes and of fed integers give the answers that are known from
+/// elsewhere.
 pub fn value_answers()
     ensures { ValueAnswers }
 {}

@@ -9,8 +9,8 @@ use Rattle.sketch_hash.specs.SeedHash.{seed_hash}
 abbrev pub number_at : ℕ → ℕ → List ℕ → ℕ
 number_at place count bytes = le (take count (drop place bytes))
 
--- the bytes begin with one preamble long, serial version 3, the family HLL, and the hash of a seed that
--- can be used
+-- the bytes begin with one preamble long, serial version 3, the family HLL, and the hash of a seed
+-- that can be used
 pub record HasPreamble (seed : ℕ) (bytes : List ℕ) : Type 0 where
   pub whole : 5 ≤ length bytes
   pub preamble_longs : number_at 0 1 bytes ≡ 1

@@ -15,7 +15,8 @@ pub kept_after-append : (kept xs ys : List ℕ) →
 kept_after-append kept [] ys = refl
 kept_after-append kept (x ∷ xs) [] = ap (λ t. take 64 (kept ++ x ∷ t)) (sym (append-nil xs))
 kept_after-append kept (x ∷ xs) (y ∷ ys) =
-    take-take-append 64 (kept ++ x ∷ xs) (y ∷ ys) ∙ ap (take 64) (append_assoc kept (x ∷ xs) (y ∷ ys))
+    take-take-append 64 (kept ++ x ∷ xs) (y ∷ ys)
+    ∙ ap (take 64) (append_assoc kept (x ∷ xs) (y ∷ ys))
 
 pub kept_after-empty : (kept : List ℕ) → kept_after kept [] ≡ kept
 kept_after-empty kept = refl

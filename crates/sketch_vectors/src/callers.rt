@@ -49,8 +49,8 @@ pub fn is_new_key(seed: u64, earlier: &[i32], key: i32) -> bool
     earlier.iter().all(|other| !is_same_key(seed, *other, key))
 }
 
-/// Checks the preamble of a serialized HLL sketch that was made with the seed: preamble longs, serial
-/// version, family and seed hash.
+/// Checks the preamble of a serialized HLL sketch that was made with the seed: preamble longs,
+/// serial version, family and seed hash.
 pub fn check_preamble(alloc: Global, bytes: &[u8], seed: u64) -> Result<(), Error>
     ensures { MatchResult result
         (λ _. HasPreamble seed bytes.now) (λ _. HasPreamble seed bytes.now → ⊥) }

@@ -3,9 +3,9 @@
 //!
 //! The vectors in `tests/vectors.rt` are those of the original's own tests, and one made by running
 //! xxHash 0.8.1. The samples in `tests/samples.rt`, and those of single numbers in `tests/fed.rt`,
-//! were made by running the original, version 0.6.0, unchanged but for the visibility of its modules
-//! and its feature gates, on a little-endian machine. None was made by this library. The other rows
-//! of `tests/fed.rt` follow from what a value feeds.
+//! were made by running the original, version 0.6.0, unchanged but for the visibility of its
+//! modules and its feature gates, on a little-endian machine. None was made by this library. The
+//! other rows of `tests/fed.rt` follow from what a value feeds.
 #![tactic(auto)]
 
 pub mod callers;

@@ -12,12 +12,13 @@ use std::alloc::Global;
 /// The seed hash of a seed: the low 16 bits of the first word of MurmurHash3's hash of the seed's
 /// eight little-endian bytes, under seed 0.
 ///
-/// Zero stands for no seed hash in old serialized sketches, so a seed whose hash is zero cannot be used.
+/// Zero stands for no seed hash in old serialized sketches, so a seed whose hash is zero cannot be
+/// used.
 ///
 /// # Errors
 ///
-/// Exactly where the seed hash is zero: of kind `error_kind`, or `OutOfMemory` where the text finds no
-/// memory.
+/// Exactly where the seed hash is zero: of kind `error_kind`, or `OutOfMemory` where the text finds
+/// no memory.
 pub fn compute_seed_hash(alloc: Global, seed: u64, error_kind: ErrorKind) -> Result<u16, Error>
     ensures { MatchResult result
         (λ hash. (hash ≡ seed_hash seed) × (hash ≢ 0))

@@ -1,4 +1,5 @@
-//! Values that are fed to hashers as the same bytes by every implementation of the library, in any language.
+//! Values that are fed to hashers as the same bytes by every implementation of the library, in any
+//! language.
 //!
 //! * [`natural_extend`]: short integers as eight bytes, by their value.
 //! * [`sign_extend`]: short integers as eight bytes, their highest bit taken for a sign.

@@ -27,7 +27,8 @@ const STRIPE_BYTES: u64 = 32;
 
 /// XXH64: a fast hash of 64 bits for data that no adversary chooses.
 ///
-/// The number of bytes is counted modulo 2^64, and the long form of the hash is chosen by that count.
+/// The number of bytes is counted modulo 2^64, and the long form of the hash is chosen by that
+/// count.
 #[derive(Drop)]
 pub struct XxHash64 {
     seed: u64,

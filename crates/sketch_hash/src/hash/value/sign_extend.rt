@@ -1,5 +1,5 @@
-//! Short integers that are fed as eight bytes, their highest bit taken for a sign, whether the type is
-//! signed or not.
+//! Short integers that are fed as eight bytes, their highest bit taken for a sign, whether the type
+//! is signed or not.
 //!
 //! So the unsigned 255 of eight bits feeds what -1 feeds.
 
