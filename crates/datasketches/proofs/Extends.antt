@@ -7,7 +7,7 @@ use Rattle.std.proofs.lemmas.Nat.{pow_pos, pow_below}
 use Rattle.std.proofs.lemmas.Bool.{cases_lt}
 use Rattle.sketch_base.specs.Bytes.{le, eight, twos_complement, modulo}
 use Rattle.sketch_hash.specs.Values.{integer_bytes}
-use Rattle.sketch_hash.proofs.Blocks.{word_of_bytes}
+use Rattle.sketch_hash.proofs.BlockLemmas.{word_of_bytes}
 use Rattle.datasketches.specs.Strategies.{IsSigned, ExtendLawAt, ExtendLaw}
 use Rattle.datasketches.proofs.Integers.{modulo-lt}
 

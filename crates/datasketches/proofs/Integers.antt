@@ -8,8 +8,8 @@ use Rattle.sketch_base.specs.Bytes.{le, eight, modulo}
 use Rattle.sketch_hash.specs.Words.{IsWord}
 use Rattle.sketch_hash.specs.Murmur.{murmur}
 use Rattle.sketch_hash.specs.Xxh64.{xxh64}
-use Rattle.sketch_hash.proofs.Aligned.{IsByte}
-use Rattle.sketch_hash.proofs.Blocks.{word_of_bytes}
+use Rattle.sketch_hash.proofs.PiecesLemmas.{IsByte}
+use Rattle.sketch_hash.proofs.BlockLemmas.{word_of_bytes}
 use Rattle.datasketches.specs.Laws.{IsShort, IntegerLaw}
 use Rattle.datasketches.proofs.MurmurLaws.{cut_block-once}
 use Rattle.datasketches.proofs.Xxh64Laws.{hash_u64_law}

@@ -12,9 +12,8 @@ use Rattle.sketch_hash.specs.Pieces.{pieces}
 use Rattle.sketch_hash.specs.Murmur.{step, block_words, blocks, tail, with_tail, ending, murmur}
 use Rattle.sketch_hash.specs.Laws.{OneToOne, AreWords, IsBlock}
 use Rattle.sketch_hash.proofs.OneToOne.{◌▸◌, alike}
-use Rattle.sketch_hash.proofs.Aligned.{IsByte, rest-whole, pieces-aligned, rest-aligned, rest-are, rest-lt}
-use Rattle.sketch_hash.proofs.PiecesLemmas.{pieces_short, rest_short, pieces_one}
-use Rattle.sketch_hash.proofs.Blocks.{block_words-once}
+use Rattle.sketch_hash.proofs.PiecesLemmas.{IsByte, rest-whole, pieces-aligned, rest-aligned, rest-are, rest-lt, pieces_short, rest_short, pieces_one}
+use Rattle.sketch_hash.proofs.BlockLemmas.{block_words-once}
 use Rattle.sketch_hash.proofs.MurmurSteps.{step-on_block, steps-on_state, ending-once, blocks-are, with_tail-on_state, with_tail-on_bytes}
 use Rattle.datasketches.specs.Streams.{AgreeOutside, DifferInOneBlock}
 use Rattle.datasketches.specs.Laws.{MurmurBlockLaw, MurmurSeedLaw}

@@ -15,7 +15,7 @@ use Rattle.sketch_hash.specs.Laws.{OneToOne, IsStep}
 use Rattle.sketch_hash.proofs.OneToOne.{◌▸◌, alike, along}
 use Rattle.sketch_hash.proofs.Undoes.{plus-once}
 use Rattle.sketch_hash.proofs.WordsLemmas.{plus-lt}
-use Rattle.sketch_hash.proofs.Aligned.{rest-are, length-rest_same}
+use Rattle.sketch_hash.proofs.PiecesLemmas.{rest-are, length-rest_same}
 use Rattle.sketch_hash.proofs.Xxh64Lemmas.{xxh64-eight}
 use Rattle.sketch_hash.proofs.Xxh64Steps.{tail_step-on_state, tail_step-on_number, avalanche-once}
 use Rattle.sketch_hash.proofs.TailSteps.{widths, steps-are, widths-same}

@@ -1,13 +1,13 @@
 pub mod ExampleLemmas
 pub mod WordsLemmas
 pub mod PiecesLemmas
+pub mod StateLemmas
 pub mod MurmurLemmas
 pub mod Xxh64Lemmas
 pub mod RefusalLemmas
 pub mod OneToOne
 pub mod Undoes
-pub mod Aligned
-pub mod Blocks
+pub mod BlockLemmas
 pub mod MurmurSteps
 pub mod Xxh64Steps
 pub mod TailSteps

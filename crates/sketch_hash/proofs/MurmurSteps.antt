@@ -10,8 +10,8 @@ use Rattle.sketch_hash.specs.Murmur.{c1, c2, mix1, mix2, fmix, step1, step2, ste
 use Rattle.sketch_hash.specs.Laws.{OneToOne, AreWords, IsBlock, MurmurStepLaws}
 use Rattle.sketch_hash.proofs.OneToOne.{◌▸◌, on_first, on_second, on_both, along}
 use Rattle.sketch_hash.proofs.Undoes.{times-once, plus-once, xor-once, xor_word-once, rotate-once, shifted-once}
-use Rattle.sketch_hash.proofs.Aligned.{IsByte, IsPiece, pieces-are}
-use Rattle.sketch_hash.proofs.Blocks.{block_words-once}
+use Rattle.sketch_hash.proofs.PiecesLemmas.{IsByte, IsPiece, pieces-are}
+use Rattle.sketch_hash.proofs.BlockLemmas.{block_words-once}
 
 times_c1 : OneToOne IsWord IsWord (λ x. times x c1)
 times_c1 = times-once c1 0xa98409e882ce4d7d refl

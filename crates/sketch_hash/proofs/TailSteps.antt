@@ -10,7 +10,7 @@ use Rattle.sketch_hash.specs.Words.{IsWord}
 use Rattle.sketch_hash.specs.Pieces.{first_pieces, pieces, rest}
 use Rattle.sketch_hash.specs.Xxh64.{steps_of, steps}
 use Rattle.sketch_hash.specs.Laws.{IsStep}
-use Rattle.sketch_hash.proofs.Aligned.{IsPiece, pieces-are, rest-are, length-rest_same}
+use Rattle.sketch_hash.proofs.PiecesLemmas.{IsPiece, pieces-are, rest-are, length-rest_same}
 
 -- the number of at most eight bytes is a word
 piece-word : (w : ℕ) → w ≤ 8 → (piece : List ℕ) → IsPiece w piece → IsWord (le piece)

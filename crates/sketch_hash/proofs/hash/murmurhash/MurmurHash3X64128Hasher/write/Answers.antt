@@ -1,7 +1,7 @@
 use Rattle.std.proofs.Common.{◌≡◌, ◌∙◌, arith}
 use Rattle.sketch_hash.specs.Murmur.{murmur_after, step, block_words}
 use Rattle.sketch_hash.specs.MurmurWriteLemmas.{murmur_stands-after}
-use Rattle.sketch_hash.proofs.PiecesLemmas.{fold-state_after}
+use Rattle.sketch_hash.proofs.StateLemmas.{fold-state_after}
 use Rattle.sketch_hash.proofs.hash.murmurhash.MurmurHash3X64128Hasher.write.Goals as goal
 
 written : (c : goal.After-push_all) → c.push_all.new.taker ≡ murmur_after c.args.self.now c.args.bytes.now

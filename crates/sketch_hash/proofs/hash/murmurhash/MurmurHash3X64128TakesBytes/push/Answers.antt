@@ -1,6 +1,6 @@
 use Rattle.std.proofs.Common.{sym, ◌∙◌, arith, ap, length}
 use Rattle.sketch_hash.specs.Murmur.{murmur_after, step, block_words}
-use Rattle.sketch_hash.proofs.PiecesLemmas.{absorb_fills, absorb_waits}
+use Rattle.sketch_hash.proofs.StateLemmas.{absorb_fills, absorb_waits}
 use Rattle.sketch_hash.proofs.hash.murmurhash.MurmurHash3X64128TakesBytes.push.Goals as goal
 
 pub returns-in-Some : goal.returns-in-Some

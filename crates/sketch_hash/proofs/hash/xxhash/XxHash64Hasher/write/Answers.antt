@@ -1,7 +1,7 @@
 use Rattle.std.proofs.Common.{◌≡◌, ◌∙◌, arith}
 use Rattle.sketch_hash.specs.Xxh64.{xxh64_after, stripe_step}
 use Rattle.sketch_hash.specs.Xxh64WriteLemmas.{xxh64_stands-after}
-use Rattle.sketch_hash.proofs.PiecesLemmas.{fold-state_after}
+use Rattle.sketch_hash.proofs.StateLemmas.{fold-state_after}
 use Rattle.sketch_hash.proofs.hash.xxhash.XxHash64Hasher.write.Goals as goal
 
 written : (c : goal.After-push_all) → c.push_all.new.taker ≡ xxh64_after c.args.self.now c.args.bytes.now

@@ -10,7 +10,7 @@ use Rattle.sketch_hash.specs.Pieces.{word_at}
 use Rattle.sketch_hash.specs.Murmur.{block_words}
 use Rattle.sketch_hash.specs.Laws.{OneToOne, AreWords, IsBlock}
 use Rattle.sketch_hash.proofs.Undoes.{Undoes, one_to_one}
-use Rattle.sketch_hash.proofs.Aligned.{IsByte, IsPiece}
+use Rattle.sketch_hash.proofs.PiecesLemmas.{IsByte, IsPiece}
 
 low_bytes-are : (count n : ℕ) → AreBytes (low_bytes count n)
 low_bytes-are zero n = All-nil IsByte
