@@ -7,15 +7,15 @@ use Rattle.std.proofs.lemmas.Nat.{pow_pos, pow_below}
 use Rattle.std.proofs.lemmas.Bool.{cases_lt}
 use Rattle.sketch_base.specs.Bytes.{le, eight, twos_complement, modulo}
 use Rattle.sketch_hash.specs.Values.{integer_bytes}
-use Rattle.sketch_hash.proofs.BlockLemmas.{word_of_bytes}
+use Rattle.sketch_hash.specs.Laws.{PieceLaws}
 use Rattle.datasketches.specs.Strategies.{IsSigned, ExtendLawAt, ExtendLaw}
 use Rattle.datasketches.proofs.Integers.{modulo-lt}
 
 -- integers feed equal bytes exactly if they agree modulo 2 ^ 64
-integer_bytes-once : (x y : ℤ) → (integer_bytes x ≡ integer_bytes y) ↔ (modulo 64 x ≡ modulo 64 y)
-integer_bytes-once x y =
-    let x_is = word_of_bytes.forth (modulo 64 x) (modulo-lt x) in
-    let y_is = word_of_bytes.forth (modulo 64 y) (modulo-lt y) in
+integer_bytes-once : PieceLaws → (x y : ℤ) → (integer_bytes x ≡ integer_bytes y) ↔ (modulo 64 x ≡ modulo 64 y)
+integer_bytes-once ps x y =
+    let x_is = ps.eight_read (modulo 64 x) (modulo-lt x) in
+    let y_is = ps.eight_read (modulo 64 y) (modulo-lt y) in
     (λ e. sym x_is ∙ ap le e ∙ y_is, ap eight)
 
 -- the numbers of w bits: half of them, and all
@@ -109,30 +109,30 @@ top_bit half whole y word s f =
 through : {A B C : Type 0} → A ↔ B → B ↔ C → A ↔ C
 through p q = (λ a. q.0 (p.0 a), λ c. p.1 (q.1 c))
 
-sign_extend : (w : ℕ) (x : ℤ) (y : ℕ) → 0 < w → w ≤ 64 → IsSigned w x → y < 2 ^ w →
+sign_extend : PieceLaws → (w : ℕ) (x : ℤ) (y : ℕ) → 0 < w → w ≤ 64 → IsSigned w x → y < 2 ^ w →
     (integer_bytes x ≡ integer_bytes (twos_complement w y)) ↔ (modulo w x ≡ modulo w (pos y))
-sign_extend w (pos n) y p m h l =
-    through (integer_bytes-once (pos n) (twos_complement w y))
+sign_extend ps w (pos n) y p m h l =
+    through (integer_bytes-once ps (pos n) (twos_complement w y))
     (agree (2 ^ (w - 1)) (2 ^ w) y _ n (lifted w y p m l) (omega (arith, ints))).0
-sign_extend w (negsuc n) y p m h l =
-    through (integer_bytes-once (negsuc n) (twos_complement w y))
+sign_extend ps w (negsuc n) y p m h l =
+    through (integer_bytes-once ps (negsuc n) (twos_complement w y))
     (agree (2 ^ (w - 1)) (2 ^ w) y _ n (lifted w y p m l) (omega (arith, ints))).1
 
 -- at any width below 64 bits
-extend_law_at : (w : ℕ) → 0 < w → w < 64 →
+extend_law_at : PieceLaws → (w : ℕ) → 0 < w → w < 64 →
     ExtendLawAt w integer_bytes (λ y. integer_bytes (pos y))
     integer_bytes (λ y. integer_bytes (twos_complement w y))
-extend_law_at w p m = record {
+extend_law_at ps w p m = record {
   signed_alike = λ x. refl;
   unsigned_alike = λ y l.
-      through (integer_bytes-once (pos y) (twos_complement w y))
+      through (integer_bytes-once ps (pos y) (twos_complement w y))
       (top_bit (2 ^ (w - 1)) (2 ^ w) y _ (lifted w y p (omega arith) l) (pow_below w 64 m));
-  across = λ x y h l. sign_extend w x y p (omega arith) h l;
+  across = λ x y h l. sign_extend ps w x y p (omega arith) h l;
 }
 
-pub extend_law : ExtendLaw
-extend_law = record {
-  bits_8 = extend_law_at 8 (omega arith) (omega arith);
-  bits_16 = extend_law_at 16 (omega arith) (omega arith);
-  bits_32 = extend_law_at 32 (omega arith) (omega arith);
+pub extend_law : PieceLaws → ExtendLaw
+extend_law ps = record {
+  bits_8 = extend_law_at ps 8 (omega arith) (omega arith);
+  bits_16 = extend_law_at ps 16 (omega arith) (omega arith);
+  bits_32 = extend_law_at ps 32 (omega arith) (omega arith);
 }

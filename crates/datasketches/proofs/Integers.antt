@@ -8,10 +8,9 @@ use Rattle.sketch_base.specs.Bytes.{le, eight, modulo}
 use Rattle.sketch_hash.specs.Words.{IsWord}
 use Rattle.sketch_hash.specs.Murmur.{murmur}
 use Rattle.sketch_hash.specs.Xxh64.{xxh64}
-use Rattle.sketch_hash.proofs.PiecesLemmas.{IsByte}
-use Rattle.sketch_hash.proofs.BlockLemmas.{word_of_bytes}
+use Rattle.sketch_hash.specs.Laws.{PieceLaws, MurmurStepLaws, Xxh64StepLaws}
 use Rattle.datasketches.specs.Laws.{IsShort, IntegerLaw}
-use Rattle.datasketches.proofs.MurmurLaws.{cut_block-once}
+use Rattle.datasketches.proofs.MurmurLaws.{IsByte, cut_block-once}
 use Rattle.datasketches.proofs.Xxh64Laws.{hash_u64_law}
 
 pub modulo-lt : (z : ℤ) → IsWord (modulo 64 z)
@@ -36,16 +35,15 @@ integers hash apart seed x y p h k = (
 )
 
 -- eight bytes are one cut-off block with nothing in front
-murmur-apart : TellsWordsApart murmur
-murmur-apart seed u v p h k e =
-    let u_bytes = (word_of_bytes.comes u h).0 in
-    let v_bytes = (word_of_bytes.comes v k).0 in
+murmur-apart : PieceLaws → MurmurStepLaws → TellsWordsApart murmur
+murmur-apart ps ms seed u v p h k e =
     let none = All-nil IsByte in
-    let once = cut_block-once seed 0 [] (eight u) (eight v) p none u_bytes v_bytes refl refl (omega arith) in
-    sym (word_of_bytes.forth u h) ∙ ap le (once e) ∙ word_of_bytes.forth v k
+    let once = cut_block-once ps ms seed 0 [] (eight u) (eight v) p none (ps.eight_are u) (ps.eight_are v)
+    refl refl (omega arith) in
+    sym (ps.eight_read u h) ∙ ap le (once e) ∙ ps.eight_read v k
 
-pub murmur_integers : IntegerLaw murmur
-murmur_integers = integers murmur murmur-apart
+pub murmur_integers : PieceLaws → MurmurStepLaws → IntegerLaw murmur
+murmur_integers ps ms = integers murmur (murmur-apart ps ms)
 
-pub xxh64_integers : IntegerLaw xxh64
-xxh64_integers = integers xxh64 (λ seed u v p. (hash_u64_law seed p).once u v)
+pub xxh64_integers : PieceLaws → Xxh64StepLaws → IntegerLaw xxh64
+xxh64_integers ps ss = integers xxh64 (λ seed u v p. (hash_u64_law ps ss seed p).once u v)

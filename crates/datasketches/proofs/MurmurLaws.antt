@@ -10,11 +10,9 @@ use Rattle.sketch_base.specs.Bytes.{AreBytes}
 use Rattle.sketch_hash.specs.Words.{IsWord}
 use Rattle.sketch_hash.specs.Pieces.{pieces}
 use Rattle.sketch_hash.specs.Murmur.{step, block_words, blocks, tail, with_tail, ending, murmur}
-use Rattle.sketch_hash.specs.Laws.{OneToOne, AreWords, IsBlock}
-use Rattle.sketch_hash.proofs.OneToOne.{◌▸◌, alike}
-use Rattle.sketch_hash.proofs.PiecesLemmas.{IsByte, rest-whole, pieces-aligned, rest-aligned, rest-are, rest-lt, pieces_short, rest_short, pieces_one}
-use Rattle.sketch_hash.proofs.BlockLemmas.{block_words-once}
-use Rattle.sketch_hash.proofs.MurmurSteps.{step-on_block, steps-on_state, ending-once, blocks-are, with_tail-on_state, with_tail-on_bytes}
+use Rattle.sketch_hash.specs.OneToOne.{OneToOne}
+use Rattle.sketch_hash.specs.Laws.{AreWords, IsBlock, PieceLaws, MurmurStepLaws}
+use Rattle.sketch_hash.specs.OneToOneLemmas.{◌▸◌, alike}
 use Rattle.datasketches.specs.Streams.{AgreeOutside, DifferInOneBlock}
 use Rattle.datasketches.specs.Laws.{MurmurBlockLaw, MurmurSeedLaw}
 use Rattle.datasketches.proofs.Agree.{agree-front, agree-back, agree-beyond, three_parts}
@@ -22,64 +20,68 @@ use Rattle.datasketches.proofs.Agree.{agree-front, agree-back, agree-beyond, thr
 length_word : (n : ℕ) → IsWord (n % 2 ^ 64)
 length_word n = mod_below n (2 ^ 64) (omega arith)
 
+-- the predicate of `AreBytes`
+abbrev pub IsByte : ℕ → Type 0
+IsByte b = b < 256
+
 -- ---- a hash in two parts: the pair of words after whole blocks, and what is made of it
 
 -- what is answered from a pair of words on, for the bytes that follow and the whole length
 onward : List ℕ → ℕ → ℕ × ℕ → ℕ × ℕ
 onward bytes n h = ending (with_tail (fold step h (blocks bytes)) (tail bytes)) (n % 2 ^ 64)
 
-onward-once : (bytes : List ℕ) (n : ℕ) → AreBytes bytes → OneToOne AreWords AreWords (onward bytes n)
+onward-once : PieceLaws → MurmurStepLaws → (bytes : List ℕ) (n : ℕ) → AreBytes bytes → OneToOne AreWords AreWords (onward bytes n)
 unfolding onward
-onward-once bytes n h =
-    steps-on_state (blocks bytes) (blocks-are bytes h)
-    ▸ with_tail-on_state (tail bytes) (rest-are 16 bytes h) (rest-lt 16 bytes (omega arith))
-    ▸ ending-once (n % 2 ^ 64) (length_word n)
+onward-once ps ms bytes n h =
+    ms.steps_of_pair (blocks bytes) (ms.blocks_read bytes h)
+    ▸ ms.tail_of_pair (tail bytes) (ps.rest_bytes 16 bytes h) (ps.rest_below 16 bytes (omega arith))
+    ▸ ms.ending_of_pair (n % 2 ^ 64) (length_word n)
 
 -- the pair of words after whole blocks
 reached : ℕ → List ℕ → ℕ × ℕ
 reached seed before = fold step (seed, seed) (blocks before)
 
-reached-lands : (seed : ℕ) (before : List ℕ) → IsWord seed → AreBytes before → AreWords (reached seed before)
+reached-lands : PieceLaws → MurmurStepLaws → (seed : ℕ) (before : List ℕ) → IsWord seed → AreBytes before → AreWords (reached seed before)
 unfolding reached
-reached-lands seed before p h =
-    (steps-on_state (blocks before) (blocks-are before h)).lands (seed, seed) (p, p)
+reached-lands ps ms seed before p h =
+    (ms.steps_of_pair (blocks before) (ms.blocks_read before h)).lands (seed, seed) (p, p)
 
-blocks-aligned : (i : ℕ) (before after : List ℕ) → length before ≡ 16 * i →
+blocks-aligned : PieceLaws → MurmurStepLaws → (i : ℕ) (before after : List ℕ) → length before ≡ 16 * i →
     blocks (before ++ after) ≡ blocks before ++ blocks after
-blocks-aligned i before after e =
-    let whole = rest-whole 16 i before (omega arith) e in
-    ap (map block_words) (pieces-aligned 16 before after (omega arith) whole)
+blocks-aligned ps ms i before after e =
+    let whole = ps.whole_rest 16 i before (omega arith) e in
+    ap (map block_words) (ps.pieces_behind 16 before after (omega arith) whole)
     ∙ map-append block_words (pieces 16 before) (pieces 16 after)
 
 -- the hash of bytes behind whole blocks
-murmur-aligned : (seed i : ℕ) (before after : List ℕ) → length before ≡ 16 * i →
+murmur-aligned : PieceLaws → MurmurStepLaws → (seed i : ℕ) (before after : List ℕ) → length before ≡ 16 * i →
     murmur seed (before ++ after) ≡ onward after (length before + length after) (reached seed before)
 unfolding murmur onward reached
-murmur-aligned seed i before after e =
-    let whole = rest-whole 16 i before (omega arith) e in
-    let last : tail (before ++ after) ≡ tail after = rest-aligned 16 before after (omega arith) whole in
+murmur-aligned ps ms seed i before after e =
+    let whole = ps.whole_rest 16 i before (omega arith) e in
+    let last : tail (before ++ after) ≡ tail after = ps.rest_behind 16 before after (omega arith) whole in
     let start : ℕ × ℕ = (seed, seed) in
     let first = fold step start (blocks before) in
     let cut : fold step start (blocks (before ++ after)) ≡ fold step first (blocks after) =
-    ap (fold step start) (blocks-aligned i before after e)
+    ap (fold step start) (blocks-aligned ps ms i before after e)
     ∙ fold-append step start (blocks before) (blocks after) in
     rw (last, cut, length-append before after) refl
 
 -- the pair of words after one more block
-reached-more : (seed i : ℕ) (before block : List ℕ) → length before ≡ 16 * i → length block ≡ 16 →
+reached-more : PieceLaws → MurmurStepLaws → (seed i : ℕ) (before block : List ℕ) → length before ≡ 16 * i → length block ≡ 16 →
     reached seed (before ++ block) ≡ step (reached seed before) (block_words block)
 unfolding reached
-reached-more seed i before block e f =
-    let one = ap (map block_words) (pieces_one 16 block (omega arith) f) in
-    ap (fold step (seed, seed)) (blocks-aligned i before block e ∙ ap (λ list. blocks before ++ list) one)
+reached-more ps ms seed i before block e f =
+    let one = ap (map block_words) (ps.one_piece 16 block (omega arith) f) in
+    ap (fold step (seed, seed)) (blocks-aligned ps ms i before block e ∙ ap (λ list. blocks before ++ list) one)
     ∙ fold-append step (seed, seed) (blocks before) (block_words block ∷ [])
 
 -- ---- a block that is full, and a block that is cut off
 
-pub murmur_block_law : MurmurBlockLaw
-murmur_block_law seed i before after p h k e =
+pub murmur_block_law : PieceLaws → MurmurStepLaws → MurmurBlockLaw
+murmur_block_law ps ms seed i before after p h k e =
     alike (λ block. murmur seed (before ++ block ++ after)) same_hash
-    (block_words-once ▸ step-on_block start (reached-lands seed before p h) ▸ onward-once after n k)
+    (ms.block_read ▸ ms.step_of_block start (reached-lands ps ms seed before p h) ▸ onward-once ps ms after n k)
   where
     n : ℕ
     n = length before + 16 + length after
@@ -92,49 +94,49 @@ murmur_block_law seed i before after p h k e =
     same_hash block b =
         let size : length (before ++ block) ≡ length before + 16 =
         length-append before block ∙ ap (λ n. length before + n) b.1 in
-        murmur-aligned seed (i + 1) (before ++ block) after (size ∙ omega arith)
+        murmur-aligned ps ms seed (i + 1) (before ++ block) after (size ∙ omega arith)
         ∙ ap (λ n. onward after (n + length after) (reached seed (before ++ block))) size
-        ∙ ap (onward after n) (reached-more seed i before block e b.1)
+        ∙ ap (onward after n) (reached-more ps ms seed i before block e b.1)
 
-pub murmur_seed_law : MurmurSeedLaw
-murmur_seed_law = steps-on_state
+pub murmur_seed_law : MurmurStepLaws → MurmurSeedLaw
+murmur_seed_law ms = ms.steps_of_pair
 
 -- the hash of whole blocks and a block that is cut off
-murmur-cut : (seed i : ℕ) (before last : List ℕ) → length before ≡ 16 * i → length last < 16 →
+murmur-cut : PieceLaws → MurmurStepLaws → (seed i : ℕ) (before last : List ℕ) → length before ≡ 16 * i → length last < 16 →
     murmur seed (before ++ last)
     ≡ ending (with_tail (reached seed before) last) ((length before + length last) % 2 ^ 64)
 unfolding onward
-murmur-cut seed i before last e l =
-    murmur-aligned seed i before last e ∙ rw (pieces_short 16 last l, rest_short 16 last l) refl
+murmur-cut ps ms seed i before last e l =
+    murmur-aligned ps ms seed i before last e ∙ rw (ps.short_pieces 16 last l, ps.short_rest 16 last l) refl
 
 -- behind the same whole blocks, two blocks cut off at one length that lead to one hash are one
-pub cut_block-once : (seed i : ℕ) (before a b : List ℕ) →
+pub cut_block-once : PieceLaws → MurmurStepLaws → (seed i : ℕ) (before a b : List ℕ) →
     IsWord seed → AreBytes before → AreBytes a → AreBytes b →
     length before ≡ 16 * i → length a ≡ length b → length a < 16 →
     murmur seed (before ++ a) ≡ murmur seed (before ++ b) → a ≡ b
-cut_block-once seed i before a b p h j k e m l q =
+cut_block-once ps ms seed i before a b p h j k e m l q =
     let start = reached seed before in
-    let start_is = reached-lands seed before p h in
+    let start_is = reached-lands ps ms seed before p h in
     let shorter : length b < 16 = omega arith in
     let n = (length before + length a) % 2 ^ 64 in
     let tail_a = with_tail start a in
     let tail_b = with_tail start b in
-    let a_is = (with_tail-on_state a j l).lands start start_is in
-    let b_is = (with_tail-on_state b k shorter).lands start start_is in
+    let a_is = (ms.tail_of_pair a j l).lands start start_is in
+    let b_is = (ms.tail_of_pair b k shorter).lands start start_is in
     let one_end : ending tail_a n ≡ ending tail_b n =
-    sym (murmur-cut seed i before a e l) ∙ q ∙ murmur-cut seed i before b e shorter
+    sym (murmur-cut ps ms seed i before a e l) ∙ q ∙ murmur-cut ps ms seed i before b e shorter
     ∙ ap (λ x. ending tail_b ((length before + x) % 2 ^ 64)) (sym m) in
-    let once = (ending-once n (length_word (length before + length a))).once in
-    with_tail-on_bytes start a b start_is j k m l (once tail_a tail_b a_is b_is one_end)
+    let once = (ms.ending_of_pair n (length_word (length before + length a))).once in
+    ms.tail_of_bytes start a b start_is j k m l (once tail_a tail_b a_is b_is one_end)
 
 -- ---- one stream, or one seed
 
 -- one stream has one hash under one seed only
-pub murmur_two_seeds : (seed_a seed_b : ℕ) (bytes : List ℕ) → IsWord seed_a → IsWord seed_b → AreBytes bytes →
+pub murmur_two_seeds : PieceLaws → MurmurStepLaws → (seed_a seed_b : ℕ) (bytes : List ℕ) → IsWord seed_a → IsWord seed_b → AreBytes bytes →
     murmur seed_a bytes ≡ murmur seed_b bytes → seed_a ≡ seed_b
 unfolding murmur onward
-murmur_two_seeds seed_a seed_b bytes p q h e =
-    let once = (onward-once bytes (length bytes) h).once in
+murmur_two_seeds ps ms seed_a seed_b bytes p q h e =
+    let once = (onward-once ps ms bytes (length bytes) h).once in
     ap (λ (pair : ℕ × ℕ). pair.0) (once (seed_a, seed_a) (seed_b, seed_b) (p, p) (q, q) e)
 
 -- two streams of bytes that agree outside one aligned block and have one hash
@@ -146,8 +148,8 @@ record SameOutsideBlock (seed i : ℕ) (a b : List ℕ) : Type 0 where
   agree : AgreeOutside (16 * i) (16 * i + 16) a b
   one_hash : murmur seed a ≡ murmur seed b
 
-same_full_block : (seed i : ℕ) (a b : List ℕ) → SameOutsideBlock seed i a b → 16 * i + 16 ≤ length a → a ≡ b
-same_full_block seed i a b s full =
+same_full_block : PieceLaws → MurmurStepLaws → (seed i : ℕ) (a b : List ℕ) → SameOutsideBlock seed i a b → 16 * i + 16 ≤ length a → a ≡ b
+same_full_block ps ms seed i a b s full =
     let low = 16 * i in
     let before = take low a in
     let block_a = take 16 (drop low a) in
@@ -158,7 +160,7 @@ same_full_block seed i a b s full =
     ap (λ t. t ++ block_b ++ after) (agree-front low (low + 16) a b s.one_length s.agree)
     ∙ ap (λ t. take low b ++ block_b ++ t) (agree-back low (low + 16) a b s.one_length s.agree)
     ∙ three_parts low 16 b in
-    let law = murmur_block_law seed i before after s.seed_is (All-take IsByte low a s.a_are)
+    let law = murmur_block_law ps ms seed i before after s.seed_is (All-take IsByte low a s.a_are)
     (All-drop IsByte (low + 16) a s.a_are) (length-take-le low a (omega arith)) in
     let b_full : low + 16 ≤ length b = rw (sym s.one_length) full in
     let same = law.once block_a block_b (middle a s.a_are full) (middle b s.b_are b_full)
@@ -172,9 +174,9 @@ same_full_block seed i a b s full =
       length-take-le 16 (drop (16 * i) bytes) (rw (length-drop (16 * i) bytes) (omega arith)),
     )
 
-same_cut_block : (seed i : ℕ) (a b : List ℕ) → SameOutsideBlock seed i a b →
+same_cut_block : PieceLaws → MurmurStepLaws → (seed i : ℕ) (a b : List ℕ) → SameOutsideBlock seed i a b →
     16 * i ≤ length a → length a < 16 * i + 16 → a ≡ b
-same_cut_block seed i a b s begun cut =
+same_cut_block ps ms seed i a b s begun cut =
     let low = 16 * i in
     let before = take low a in
     let in_a = take-append-drop low a in
@@ -184,16 +186,16 @@ same_cut_block seed i a b s begun cut =
     let size_a = length-drop low a in
     let size_b = length-drop low b in
     let one_length = s.one_length in
-    let same = cut_block-once seed i before (drop low a) (drop low b) s.seed_is
+    let same = cut_block-once ps ms seed i before (drop low a) (drop low b) s.seed_is
     (All-take IsByte low a s.a_are) (All-drop IsByte low a s.a_are) (All-drop IsByte low b s.b_are)
     (length-take-le low a begun) (omega arith) (omega arith)
     (ap (murmur seed) in_a ∙ s.one_hash ∙ sym (ap (murmur seed) in_b)) in
     sym in_a ∙ ap (λ t. before ++ t) same ∙ in_b
 
 -- under one seed two streams that differ in one block have two hashes
-pub murmur_one_block : (seed : ℕ) (a b : List ℕ) → IsWord seed → AreBytes a → AreBytes b →
+pub murmur_one_block : PieceLaws → MurmurStepLaws → (seed : ℕ) (a b : List ℕ) → IsWord seed → AreBytes a → AreBytes b →
     DifferInOneBlock a b → murmur seed a ≢ murmur seed b
-murmur_one_block seed a b p h k d e =
+murmur_one_block ps ms seed a b p h k d e =
     let i = d.one_block.0 in
     let s : SameOutsideBlock seed i a b = record {
       seed_is = p;
@@ -206,7 +208,7 @@ murmur_one_block seed a b p h k d e =
     d.differ (elim (cases_lt (length a) (16 * i)) [
       | inl beyond ↦ agree-beyond (16 * i) (16 * i + 16) a b d.one_length d.one_block.1 (omega arith)
       | inr begun ↦ elim (cases_lt (length a) (16 * i + 16)) [
-        | inl cut ↦ same_cut_block seed i a b s begun cut
-        | inr full ↦ same_full_block seed i a b s full
+        | inl cut ↦ same_cut_block ps ms seed i a b s begun cut
+        | inr full ↦ same_full_block ps ms seed i a b s full
       ]
     ])

@@ -11,17 +11,15 @@ use Rattle.sketch_base.specs.Bytes.{AreBytes, eight}
 use Rattle.sketch_hash.specs.Words.{IsWord, plus}
 use Rattle.sketch_hash.specs.Pieces.{rest}
 use Rattle.sketch_hash.specs.Xxh64.{prime5, Lanes, lane, lanes, merge, stripes, tail_step, tail_steps, avalanche, ending, xxh64}
-use Rattle.sketch_hash.specs.Laws.{OneToOne, IsStep}
-use Rattle.sketch_hash.proofs.OneToOne.{◌▸◌, alike, along}
-use Rattle.sketch_hash.proofs.Undoes.{plus-once}
-use Rattle.sketch_hash.proofs.WordsLemmas.{plus-lt}
-use Rattle.sketch_hash.proofs.PiecesLemmas.{rest-are, length-rest_same}
-use Rattle.sketch_hash.proofs.Xxh64Lemmas.{xxh64-eight}
-use Rattle.sketch_hash.proofs.Xxh64Steps.{tail_step-on_state, tail_step-on_number, avalanche-once}
-use Rattle.sketch_hash.proofs.TailSteps.{widths, steps-are, widths-same}
+use Rattle.sketch_hash.specs.OneToOne.{OneToOne}
+use Rattle.sketch_hash.specs.Laws.{IsStep, widths, PieceLaws, Xxh64StepLaws}
+use Rattle.sketch_hash.specs.OneToOneLemmas.{◌▸◌, alike}
 use Rattle.datasketches.specs.Streams.{AgreeOutside}
 use Rattle.datasketches.specs.Laws.{HashU64Law, XxTailLaw, XxSeedLaw}
 use Rattle.datasketches.proofs.Agree.{agree-front, agree-back, agree-beyond, parts_at}
+
+plus-lt : (x y : ℕ) → IsWord (plus x y)
+plus-lt x y = omega arith
 
 -- ---- a hash in two parts: the word that the tail begins at, and what is made of it
 
@@ -37,17 +35,17 @@ begun-lands v n = plus-lt (if nat_lt n 32 then plus v.seed prime5 else merge v) 
 onward : List (ℕ × ℕ) → ℕ → ℕ
 onward list h = avalanche (fold tail_step h list)
 
-onward-once : (list : List (ℕ × ℕ)) → All IsStep list → OneToOne IsWord IsWord (onward list)
+onward-once : PieceLaws → Xxh64StepLaws → (list : List (ℕ × ℕ)) → All IsStep list → OneToOne IsWord IsWord (onward list)
 unfolding onward
-onward-once list p = along tail_step tail_step-on_state list p ▸ avalanche-once
+onward-once ps ss list p = ss.steps_of_word list p ▸ ss.last_mixing
 
 xxh64-is : (seed : ℕ) (bytes : List ℕ) →
     xxh64 seed bytes ≡ onward (tail_steps bytes) (begun (lanes seed bytes) (length bytes % 2 ^ 64))
 unfolding xxh64 ending onward begun
 xxh64-is seed bytes = refl
 
-tail_steps-are : (bytes : List ℕ) → AreBytes bytes → All IsStep (tail_steps bytes)
-tail_steps-are bytes h = steps-are (rest 32 bytes) (rest-are 32 bytes h)
+tail_steps-are : PieceLaws → Xxh64StepLaws → (bytes : List ℕ) → AreBytes bytes → All IsStep (tail_steps bytes)
+tail_steps-are ps ss bytes h = ss.tail_read (rest 32 bytes) (ps.rest_bytes 32 bytes h)
 
 -- ---- one step of the tail
 
@@ -79,15 +77,15 @@ one_width h i xs ys s l k =
     ∙ get_or-map (λ s. s.0) ys i (0, 0) 0 k
 
 -- the two steps at the place have one number
-one_number : (h i : ℕ) (xs ys : List (ℕ × ℕ)) → SameOutsideStep h i xs ys → i < length xs → i < length ys →
+one_number : PieceLaws → Xxh64StepLaws → (h i : ℕ) (xs ys : List (ℕ × ℕ)) → SameOutsideStep h i xs ys → i < length xs → i < length ys →
     (get_or xs i (0, 0)).1 ≡ (get_or ys i (0, 0)).1
-one_number h i xs ys s l k =
+one_number ps ss h i xs ys s l k =
     let x = get_or xs i (0, 0) in
     let y = get_or ys i (0, 0) in
     let after = drop (i + 1) xs in
     let start = fold tail_step h (take i xs) in
     let front = All-take IsStep i xs s.xs_are in
-    let start_is = (along tail_step tail_step-on_state (take i xs) front).lands h s.from_word in
+    let start_is = (ss.steps_of_word (take i xs) front).lands h s.from_word in
     let m = one_length h i xs ys s in
     let before = agree-front i (i + 1) xs ys m s.agree in
     let behind = agree-back i (i + 1) xs ys m s.agree in
@@ -96,12 +94,12 @@ one_number h i xs ys s l k =
     ∙ ap (λ t. onward (drop (i + 1) ys) (tail_step (fold tail_step h t) y)) (sym before)
     ∙ ap (λ t. onward t (tail_step start y)) (sym behind)
     ∙ ap (λ w. onward after (tail_step start (w, y.1))) (sym (one_width h i xs ys s l k)) in
-    let onward_is = onward-once after (All-drop IsStep (i + 1) xs s.xs_are) in
-    let once = (tail_step-on_number x.0 start start_is ▸ onward_is).once in
+    let onward_is = onward-once ps ss after (All-drop IsStep (i + 1) xs s.xs_are) in
+    let once = (ss.step_of_number x.0 start start_is ▸ onward_is).once in
     once x.1 y.1 (All-get_or IsStep xs i (0, 0) l s.xs_are) (All-get_or IsStep ys i (0, 0) k s.ys_are) one_end
 
-same_steps : (h i : ℕ) (xs ys : List (ℕ × ℕ)) → SameOutsideStep h i xs ys → xs ≡ ys
-same_steps h i xs ys s =
+same_steps : PieceLaws → Xxh64StepLaws → (h i : ℕ) (xs ys : List (ℕ × ℕ)) → SameOutsideStep h i xs ys → xs ≡ ys
+same_steps ps ss h i xs ys s =
     let m = one_length h i xs ys s in
     elim (cases_lt i (length xs)) [
       | inl l ↦
@@ -109,7 +107,7 @@ same_steps h i xs ys s =
           let y = get_or ys i (0, 0) in
           sym (parts_at xs i (0, 0) l)
           ∙ ap (λ t. t ++ get_or xs i (0, 0) ∷ drop (i + 1) xs) (agree-front i (i + 1) xs ys m s.agree)
-          ∙ ap (λ n. take i ys ++ ((get_or xs i (0, 0)).0, n) ∷ drop (i + 1) xs) (one_number h i xs ys s l k)
+          ∙ ap (λ n. take i ys ++ ((get_or xs i (0, 0)).0, n) ∷ drop (i + 1) xs) (one_number ps ss h i xs ys s l k)
           ∙ ap (λ w. take i ys ++ (w, y.1) ∷ drop (i + 1) xs) (one_width h i xs ys s l k)
           ∙ ap (λ t. take i ys ++ y ∷ t) (agree-back i (i + 1) xs ys m s.agree) ∙ parts_at ys i (0, 0) k
       | inr beyond ↦ agree-beyond i (i + 1) xs ys m s.agree beyond
@@ -119,17 +117,17 @@ lanes-same : (seed : ℕ) (a b : List ℕ) → stripes a ≡ stripes b → lanes
 unfolding lanes lane
 lanes-same seed a b e = rw e refl
 
-pub xx_tail_law : XxTailLaw
-xx_tail_law seed a b p h k d e =
+pub xx_tail_law : PieceLaws → Xxh64StepLaws → XxTailLaw
+xx_tail_law ps ss seed a b p h k d e =
     let n = length a % 2 ^ 64 in
     let v = lanes seed a in
-    let behind = length-rest_same 32 a b d.one_length in
+    let behind = ps.rest_length 32 a b d.one_length in
     let one_start = sym (lanes-same seed a b d.same_stripes) in
-    d.differ (same_steps (begun v n) d.one_step.0 (tail_steps a) (tail_steps b) (record {
+    d.differ (same_steps ps ss (begun v n) d.one_step.0 (tail_steps a) (tail_steps b) (record {
       from_word = begun-lands v n;
-      xs_are = tail_steps-are a h;
-      ys_are = tail_steps-are b k;
-      same_widths = widths-same (rest 32 a) (rest 32 b) behind;
+      xs_are = tail_steps-are ps ss a h;
+      ys_are = tail_steps-are ps ss b k;
+      same_widths = ss.tail_widths (rest 32 a) (rest 32 b) behind;
       agree = d.one_step.1;
       one_hash =
           sym (xxh64-is seed a) ∙ e ∙ xxh64-is seed b
@@ -148,21 +146,23 @@ begun-short seed bytes l =
     let short : nat_lt (length bytes) 32 ≡ true = lt-ltb (length bytes) 32 l in
     rw (size, short) refl
 
-pub xx_seed_law : XxSeedLaw
-xx_seed_law seed_a seed_b bytes p q h l differ e =
+pub xx_seed_law : PieceLaws → Xxh64StepLaws → XxSeedLaw
+xx_seed_law ps ss seed_a seed_b bytes p q h l differ e =
     let a_is = begun-lands (lanes seed_a bytes) (length bytes % 2 ^ 64) in
     let b_is = begun-lands (lanes seed_b bytes) (length bytes % 2 ^ 64) in
     let one_end = sym (xxh64-is seed_a bytes) ∙ e ∙ xxh64-is seed_b bytes in
-    let one_start = (onward-once (tail_steps bytes) (tail_steps-are bytes h)).once _ _ a_is b_is one_end in
+    let one_start = (onward-once ps ss (tail_steps bytes) (tail_steps-are ps ss bytes h)).once _ _ a_is b_is one_end in
     let one_sum = sym (begun-short seed_a bytes l) ∙ one_start ∙ begun-short seed_b bytes l in
-    let sums = plus-once prime5 (omega arith) ▸ plus-once (length bytes) (omega arith) in
-    differ (sums.once seed_a seed_b p q one_sum)
+    differ (same_seed (length bytes) seed_a seed_b p q one_sum)
+  where
+    same_seed : (n a b : ℕ) → IsWord a → IsWord b → plus (plus a prime5) n ≡ plus (plus b prime5) n → a ≡ b
+    same_seed n a b p q e = omega arith
 
 -- ---- eight bytes
 
-pub hash_u64_law : HashU64Law
+pub hash_u64_law : PieceLaws → Xxh64StepLaws → HashU64Law
 unfolding tail_step
-hash_u64_law seed p =
+hash_u64_law ps ss seed p =
     let start = plus (plus seed prime5) 8 in
-    alike (λ x. xxh64 seed (eight x)) (xxh64-eight seed)
-    (tail_step-on_number 8 start (plus-lt (plus seed prime5) 8) ▸ avalanche-once)
+    alike (λ x. xxh64 seed (eight x)) (ss.eight_bytes seed)
+    (ss.step_of_number 8 start (plus-lt (plus seed prime5) 8) ▸ ss.last_mixing)

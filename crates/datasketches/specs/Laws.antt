@@ -7,7 +7,8 @@ use Rattle.sketch_hash.specs.Words.{IsWord}
 use Rattle.sketch_hash.specs.Murmur.{step, murmur}
 use Rattle.sketch_hash.specs.Xxh64.{xxh64}
 use Rattle.sketch_hash.specs.Values.{integer_bytes}
-use Rattle.sketch_hash.specs.Laws.{OneToOne, AreWords, IsBlock}
+use Rattle.sketch_hash.specs.OneToOne.{OneToOne}
+use Rattle.sketch_hash.specs.Laws.{AreWords, IsBlock}
 use Rattle.datasketches.specs.Streams.{DifferInOneTailStep}
 
 -- With the seed, the length and all other bytes fixed, a full aligned block of sixteen bytes maps

@@ -1,7 +1,8 @@
-//! What is promised of collisions, of extended integers, and of items and their bytes.
+//! The laws of whole hashes: what is promised of collisions, of extended integers, and of items and
+//! their bytes. They stand on the laws of single steps, the module `laws` of `sketch_hash`.
 //!
-//! The functions with no parameters do nothing: the contract of each is a fact about the
-//! definitions.
+//! The functions with no parameters do nothing but call the laws that they stand on: the contract
+//! of each is a fact about the definitions.
 
 ghost use Rattle.std.specs.Prelude.{◌≡◌, ◌≢◌, ◌<◌, length};
 ghost use Rattle.datasketches.specs.Laws.{HashU64Law, IntegerLaw, MurmurBlockLaw, MurmurSeedLaw, XxSeedLaw, XxTailLaw};
@@ -12,6 +13,7 @@ ghost use Rattle.sketch_hash.specs.Murmur.{murmur};
 ghost use Rattle.sketch_hash.specs.Xxh64.{xxh64};
 
 use sketch_hash::hash::{Hasher, MurmurHash3X64128, XxHash64};
+use sketch_hash::laws::{murmur_step_laws, piece_laws, xxh64_step_laws};
 
 #[cfg(test)]
 mod tests;
@@ -25,6 +27,8 @@ pub fn murmur_both(seed_a: u64, a: &[u8], seed_b: u64, b: &[u8]) -> ((u64, u64),
     ensures one_block { seed_a ≡ seed_b → DifferInOneBlock a.now b.now → result.0 ≢ result.1 }
     ensures two_seeds { a.now ≡ b.now → seed_a ≢ seed_b → result.0 ≢ result.1 }
 {
+    piece_laws();
+    murmur_step_laws();
     (murmur_of(seed_a, a), murmur_of(seed_b, b))
 }
 
@@ -40,12 +44,17 @@ fn murmur_of(seed: u64, bytes: &[u8]) -> (u64, u64)
 /// pair of words exactly once over all sixteen bytes of a full aligned block.
 pub fn murmur_block_law()
     ensures { MurmurBlockLaw }
-{}
+{
+    piece_laws();
+    murmur_step_laws();
+}
 
 /// The full blocks of a stream map the pairs of words onto all pairs of words, each exactly once.
 pub fn murmur_seed_law()
     ensures { MurmurSeedLaw }
-{}
+{
+    murmur_step_laws();
+}
 
 /// The XXH64 hashes of two streams, each under its own seed.
 ///
@@ -58,6 +67,8 @@ pub fn xx_both(seed_a: u64, a: &[u8], seed_b: u64, b: &[u8]) -> (u64, u64)
         result.0 ≢ result.1 }
     ensures two_seeds { a.now ≡ b.now → length a.now < 32 → seed_a ≢ seed_b → result.0 ≢ result.1 }
 {
+    piece_laws();
+    xxh64_step_laws();
     (xxh64_of(seed_a, a), xxh64_of(seed_b, b))
 }
 
@@ -73,24 +84,37 @@ fn xxh64_of(seed: u64, bytes: &[u8]) -> u64
 /// differ in exactly one step, have different XXH64 hashes.
 pub fn xx_tail_law()
     ensures { XxTailLaw }
-{}
+{
+    piece_laws();
+    xxh64_step_laws();
+}
 
 /// A stream of fewer than 32 bytes has different XXH64 hashes under different seeds.
 pub fn xx_seed_law()
     ensures { XxSeedLaw }
-{}
+{
+    piece_laws();
+    xxh64_step_laws();
+}
 
 /// Integers of 8 to 32 bits, extended to eight bytes and written alone after one seed, have equal
 /// Murmur pairs exactly if they are equal, and equal XXH64 hashes exactly if they are equal.
 pub fn integer_law()
     ensures murmur { IntegerLaw murmur }
     ensures xxh64 { IntegerLaw xxh64 }
-{}
+{
+    piece_laws();
+    murmur_step_laws();
+    xxh64_step_laws();
+}
 
 /// For each seed, `hash_u64` of all 64-bit numbers takes each 64-bit number exactly once.
 pub fn hash_u64_law()
     ensures { HashU64Law }
-{}
+{
+    piece_laws();
+    xxh64_step_laws();
+}
 
 /// When `NaturalExtendStrategy` and `SignExtendStrategy` feed equal bytes, and when not.
 ///
@@ -99,7 +123,9 @@ pub fn hash_u64_law()
 /// exactly if they agree modulo 2^w.
 pub fn extend_law()
     ensures { ExtendLaw }
-{}
+{
+    piece_laws();
+}
 
 /// Each item stands in bytes in one way, and so does each list of items of known kinds. Whatever
 /// stands behind the bytes of items, they are read back in order, and it remains.

@@ -8,9 +8,10 @@ use Rattle.sketch_base.proofs.BytesLemmas.{le-lt, le-low_bytes, length-low_bytes
 use Rattle.sketch_hash.specs.Words.{IsWord}
 use Rattle.sketch_hash.specs.Pieces.{word_at}
 use Rattle.sketch_hash.specs.Murmur.{block_words}
-use Rattle.sketch_hash.specs.Laws.{OneToOne, AreWords, IsBlock}
+use Rattle.sketch_hash.specs.OneToOne.{OneToOne}
+use Rattle.sketch_hash.specs.Laws.{AreWords, IsBlock, PieceLaws}
 use Rattle.sketch_hash.proofs.Undoes.{Undoes, one_to_one}
-use Rattle.sketch_hash.proofs.PiecesLemmas.{IsByte, IsPiece}
+use Rattle.sketch_hash.proofs.PiecesLemmas.{IsByte, IsPiece, rest-whole, pieces-aligned, rest-aligned, pieces_short, rest_short, pieces_one, rest-are, rest-lt, length-rest_same}
 
 low_bytes-are : (count n : ℕ) → AreBytes (low_bytes count n)
 low_bytes-are zero n = All-nil IsByte
@@ -73,3 +74,18 @@ block_words-undone = record {
 
 pub block_words-once : OneToOne IsBlock AreWords block_words
 block_words-once = one_to_one block_words-undone
+
+pub piece_laws : PieceLaws
+piece_laws = record {
+  whole_rest = rest-whole;
+  pieces_behind = pieces-aligned;
+  rest_behind = rest-aligned;
+  short_pieces = pieces_short;
+  short_rest = rest_short;
+  one_piece = pieces_one;
+  rest_bytes = rest-are;
+  rest_below = rest-lt;
+  rest_length = length-rest_same;
+  eight_are = low_bytes-are 8;
+  eight_read = word_of_bytes.forth;
+}

@@ -5,7 +5,6 @@ pub mod StateLemmas
 pub mod MurmurLemmas
 pub mod Xxh64Lemmas
 pub mod RefusalLemmas
-pub mod OneToOne
 pub mod Undoes
 pub mod BlockLemmas
 pub mod MurmurSteps

@@ -7,8 +7,9 @@ use Rattle.sketch_base.specs.Bytes.{AreBytes}
 use Rattle.sketch_hash.specs.Words.{IsWord, plus, times, rotate}
 use Rattle.sketch_hash.specs.Pieces.{pieces}
 use Rattle.sketch_hash.specs.Murmur.{c1, c2, mix1, mix2, fmix, step1, step2, step, block_words, blocks, with_tail, cross, ending}
-use Rattle.sketch_hash.specs.Laws.{OneToOne, AreWords, IsBlock, MurmurStepLaws}
-use Rattle.sketch_hash.proofs.OneToOne.{◌▸◌, on_first, on_second, on_both, along}
+use Rattle.sketch_hash.specs.OneToOne.{OneToOne}
+use Rattle.sketch_hash.specs.Laws.{AreWords, IsBlock, MurmurStepLaws}
+use Rattle.sketch_hash.specs.OneToOneLemmas.{◌▸◌, on_first, on_second, on_both, along}
 use Rattle.sketch_hash.proofs.Undoes.{times-once, plus-once, xor-once, xor_word-once, rotate-once, shifted-once}
 use Rattle.sketch_hash.proofs.PiecesLemmas.{IsByte, IsPiece, pieces-are}
 use Rattle.sketch_hash.proofs.BlockLemmas.{block_words-once}
@@ -137,5 +138,8 @@ murmur_step_laws = record {
   step_of_pair = step-on_state;
   step_of_block = step-on_block;
   tail_of_pair = with_tail-on_state;
+  blocks_read = blocks-are;
+  steps_of_pair = steps-on_state;
+  tail_of_bytes = with_tail-on_bytes;
   ending_of_pair = ending-once;
 }

@@ -9,7 +9,7 @@ use Rattle.sketch_base.proofs.BytesLemmas.{le-lt}
 use Rattle.sketch_hash.specs.Words.{IsWord}
 use Rattle.sketch_hash.specs.Pieces.{first_pieces, pieces, rest}
 use Rattle.sketch_hash.specs.Xxh64.{steps_of, steps}
-use Rattle.sketch_hash.specs.Laws.{IsStep}
+use Rattle.sketch_hash.specs.Laws.{IsStep, widths}
 use Rattle.sketch_hash.proofs.PiecesLemmas.{IsPiece, pieces-are, rest-are, length-rest_same}
 
 -- the number of at most eight bytes is a word
@@ -33,9 +33,6 @@ steps-are waiting h =
     let ones = steps_of-are 1 (rest 4 behind) (omega arith) (rest-are 4 behind behind_are) in
     All-append IsStep (steps_of 8 waiting ++ steps_of 4 behind) (steps_of 1 (rest 4 behind))
     (All-append IsStep (steps_of 8 waiting) (steps_of 4 behind) eights fours) ones
-
-abbrev pub widths : List (ℕ × ℕ) → List ℕ
-widths list = map (λ s. s.0) list
 
 widths-steps_of : (w : ℕ) (bytes : List ℕ) → widths (steps_of w bytes) ≡ replicate (length bytes / w) w
 unfolding pieces

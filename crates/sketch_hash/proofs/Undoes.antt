@@ -5,9 +5,9 @@ use Rattle.std.specs.Int.Bits.{xor_assoc, xor_self, xor_zero_r, xor_shr}
 use Rattle.std.proofs.Math.Nat.{div-eq_of_lt, pow-le-pow_right}
 use Rattle.std.proofs.lemmas.Nat.{xor_comm, mul-mod_first, mul-mod_second, shr_le, shr_split, shr_below, shr_high, mod_low, mul-add-lt, shr-shr, mod_below, pow_pos, pow-add}
 use Rattle.sketch_hash.specs.Words.{IsWord, plus, minus, times, xor, rotate, xor_shift}
-use Rattle.sketch_hash.specs.Laws.{OneToOne}
+use Rattle.sketch_hash.specs.OneToOne.{OneToOne}
 use Rattle.sketch_hash.proofs.WordsLemmas.{xor-is, xor-lt, xor_shift-is, rotated_up, times-lt}
-use Rattle.sketch_hash.proofs.OneToOne.{alike}
+use Rattle.sketch_hash.specs.OneToOneLemmas.{alike}
 
 -- f takes S to T, and g undoes it
 pub record Undoes {A B : Type 0} (S : A → Type 0) (T : B → Type 0) (f : A → B) (g : B → A) : Type 0 where

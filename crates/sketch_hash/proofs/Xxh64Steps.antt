@@ -3,8 +3,11 @@ use Rattle.std.proofs.Common.{ℕ, refl, arith}
 use Rattle.std.specs.Prelude.{◌==◌}
 use Rattle.sketch_hash.specs.Words.{IsWord, plus, times, rotate}
 use Rattle.sketch_hash.specs.Xxh64.{prime1, prime2, prime3, prime4, prime5, round, eight_step, four_step, byte_step, tail_step, avalanche}
-use Rattle.sketch_hash.specs.Laws.{OneToOne, IsStep, Xxh64StepLaws}
-use Rattle.sketch_hash.proofs.OneToOne.{◌▸◌, choice}
+use Rattle.sketch_hash.specs.OneToOne.{OneToOne}
+use Rattle.sketch_hash.specs.Laws.{IsStep, Xxh64StepLaws}
+use Rattle.sketch_hash.specs.OneToOneLemmas.{◌▸◌, choice, along}
+use Rattle.sketch_hash.proofs.Xxh64Lemmas.{xxh64-eight}
+use Rattle.sketch_hash.proofs.TailSteps.{steps-are, widths-same}
 use Rattle.sketch_hash.proofs.Undoes.{times-once, plus-once, plus_word-once, xor-once, xor_word-once, rotate-once, shifted-once, shifted_less-once}
 
 -- the product with each prime that a step multiplies by
@@ -62,4 +65,8 @@ xxh64_step_laws = record {
   step_of_word = tail_step-on_state;
   step_of_number = tail_step-on_number;
   last_mixing = avalanche-once;
+  tail_read = steps-are;
+  tail_widths = widths-same;
+  steps_of_word = along tail_step tail_step-on_state;
+  eight_bytes = xxh64-eight;
 }

@@ -9,7 +9,8 @@ use Rattle.sketch_hash.specs.Murmur.{murmur, murmur_start, murmur_after, MurmurS
 use Rattle.sketch_hash.specs.Xxh64.{xxh64, xxh64_start, Xxh64Stands}
 use Rattle.sketch_hash.specs.SeedHash.{seed_hash}
 use Rattle.sketch_hash.specs.Values.{integer_bytes}
-use Rattle.sketch_hash.specs.Laws.{OneToOne, AreWords, IsBlock, IsStep}
+use Rattle.sketch_hash.specs.OneToOne.{OneToOne}
+use Rattle.sketch_hash.specs.Laws.{AreWords, IsBlock, IsStep}
 
 -- the sentence that hash functions are shown on
 abbrev pub fox : List ℕ

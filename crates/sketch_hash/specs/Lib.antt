@@ -9,4 +9,6 @@ pub mod Values
 pub mod Lending
 pub mod SeedHash
 pub mod Examples
+pub mod OneToOne
+pub mod OneToOneLemmas
 pub mod Laws

@@ -3,7 +3,12 @@
 //! The laws of whole hashes, which users rely on, stand above these, in the module `laws` of
 //! `datasketches`. Each function here does nothing: its contract is the law.
 
-ghost use Rattle.sketch_hash.specs.Laws.{MurmurStepLaws, Xxh64StepLaws};
+ghost use Rattle.sketch_hash.specs.Laws.{MurmurStepLaws, PieceLaws, Xxh64StepLaws};
+
+/// Whole pieces of a stream leave what is behind them, and a word stands in eight bytes.
+pub fn piece_laws()
+    ensures { PieceLaws }
+{}
 
 /// Each step of Murmur takes every word, or every pair of words, exactly once.
 pub fn murmur_step_laws()

@@ -2,4 +2,4 @@ use Rattle.datasketches.proofs.Extends.{extend_law}
 use Rattle.datasketches.proofs.laws.extend_law.Goals as goal
 
 pub returns : goal.returns
-returns c = extend_law
+returns c = extend_law c.piece_laws.ensures

@@ -2,4 +2,4 @@ use Rattle.datasketches.proofs.Xxh64Laws.{hash_u64_law}
 use Rattle.datasketches.proofs.laws.hash_u64_law.Goals as goal
 
 pub returns : goal.returns
-returns c = hash_u64_law
+returns c = hash_u64_law c.piece_laws.ensures c.xxh64_step_laws.ensures

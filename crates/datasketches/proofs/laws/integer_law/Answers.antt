@@ -2,7 +2,7 @@ use Rattle.datasketches.proofs.Integers.{murmur_integers, xxh64_integers}
 use Rattle.datasketches.proofs.laws.integer_law.Goals as goal
 
 pub returns-clause-murmur : goal.returns-clause-murmur
-returns-clause-murmur c = murmur_integers
+returns-clause-murmur c = murmur_integers c.piece_laws.ensures c.murmur_step_laws.ensures
 
 pub returns-clause-xxh64 : goal.returns-clause-xxh64
-returns-clause-xxh64 c = xxh64_integers
+returns-clause-xxh64 c = xxh64_integers c.piece_laws.ensures c.xxh64_step_laws.ensures

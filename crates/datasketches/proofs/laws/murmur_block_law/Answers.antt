@@ -2,4 +2,4 @@ use Rattle.datasketches.proofs.MurmurLaws.{murmur_block_law}
 use Rattle.datasketches.proofs.laws.murmur_block_law.Goals as goal
 
 pub returns : goal.returns
-returns c = murmur_block_law
+returns c = murmur_block_law c.piece_laws.ensures c.murmur_step_laws.ensures

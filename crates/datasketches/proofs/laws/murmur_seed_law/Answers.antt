@@ -2,4 +2,4 @@ use Rattle.datasketches.proofs.MurmurLaws.{murmur_seed_law}
 use Rattle.datasketches.proofs.laws.murmur_seed_law.Goals as goal
 
 pub returns : goal.returns
-returns c = murmur_seed_law
+returns c = murmur_seed_law c.murmur_step_laws.ensures

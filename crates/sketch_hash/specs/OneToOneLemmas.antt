@@ -2,7 +2,7 @@
 use Rattle.std.proofs.Common.{◌≡◌, List, [], ◌∷◌, refl, sym, ap, ◌∙◌, Bool, true, false, cond}
 use Rattle.std.specs.List.{All, fold}
 use Rattle.std.proofs.lemmas.List.Elements.{All-head, All-tail}
-use Rattle.sketch_hash.specs.Laws.{OneToOne}
+use Rattle.sketch_hash.specs.OneToOne.{OneToOne}
 
 -- the function that leaves every value
 pub same : {A : Type 0} {S : A → Type 0} → OneToOne S S (λ x. x)
