@@ -3,11 +3,11 @@ use Rattle.std.specs.Prelude.{ℕ, List, [], ◌∷◌, ◌++◌, codes, ◌≡�
 use Rattle.std.specs.List.{flat_map}
 use Rattle.std.specs.Fmt.{decimal}
 use Rattle.sketch_base.specs.declared.error.ErrorKind.{ErrorKind}
-use Rattle.sketch_base.specs.ErrorValue.{ErrorValue, plain, unheard}
+use Rattle.sketch_base.specs.ErrorValue.{ErrorValue, error_of, memory_error}
 
 -- the error has this kind and text and no context, or its text found no memory
 abbrev pub Refuses : ErrorKind → List ℕ → ErrorValue → Type 0
-Refuses kind text error = (error ≡ plain kind text) ⊎ (error ≡ unheard)
+Refuses kind text error = (error ≡ error_of kind text) ⊎ (error ≡ memory_error)
 
 -- a text is what a value prints; any text is where the value's type does not say what it prints
 abbrev pub Prints : Option (List ℕ) → List ℕ → Type 0

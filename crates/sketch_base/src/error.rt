@@ -2,7 +2,7 @@
 
 ghost use Rattle.std.specs.Prelude.{◌≡◌, ◌⊎◌, ◌++◌, ℕ, codes, List, IfOk, IfErr, IfSome, map, MatchResult, Some, string_bytes};
 ghost use Rattle.std.specs.Fmt.{decimal, DisplaysOnOk};
-ghost use Rattle.sketch_base.specs.ErrorValue.{contexts_text, kind_name, message_text};
+ghost use Rattle.sketch_base.specs.ErrorValue.{contexts_text, error_kind_name, message_text};
 
 use std::alloc::{AllocError, Global};
 use std::fmt;
@@ -22,7 +22,7 @@ pub enum ErrorKind {
 impl ErrorKind {
     /// The variant's name.
     pub fn into_static(self) -> &'static str
-        ensures { result.now ≡ kind_name self }
+        ensures { result.now ≡ error_kind_name self }
     {
         match self {
             ErrorKind::InvalidArgument => "InvalidArgument",
@@ -33,7 +33,7 @@ impl ErrorKind {
 }
 
 impl fmt::Display for ErrorKind {
-    ghost output = { λ kind. Some (kind_name kind) };
+    ghost output = { λ kind. Some (error_kind_name kind) };
 
     fn fmt<W: fmt::Write>(&self, f: &mut fmt::Formatter<W>) -> fmt::Result {
         f.write_str(self.into_static())
@@ -63,7 +63,7 @@ impl Model for Error {
 }
 
 impl Error {
-    ghost use Rattle.sketch_base.specs.ErrorValue.{in_context, plain, unheard};
+    ghost use Rattle.sketch_base.specs.ErrorValue.{add_context, error_of, memory_error};
     ghost use Rattle.sketch_base.specs.Refusals.{
       insufficient_data_text,
       insufficient_data_of_text,
@@ -76,7 +76,7 @@ impl Error {
 
     /// An error with this kind and message, and no context.
     pub fn new(kind: ErrorKind, message: String) -> Error
-        ensures { result ≡ plain kind (string_bytes message) }
+        ensures { result ≡ error_of kind (string_bytes message) }
     {
         let alloc = *message.allocator();
         Error {
@@ -112,7 +112,7 @@ impl Error {
         value: V,
     ) -> Result<Error, Error>
         ensures added { IfOk result (λ error.
-            (text : List ℕ) × Prints (V.output value) text × (error ≡ in_context self key.entry.now text)) }
+            (text : List ℕ) × Prints (V.output value) text × (error ≡ add_context self key.entry.now text)) }
         ensures refused { IfErr result (λ error. error ≡ self) }
     {
         let Ok(text) = value.to_string(alloc) else {
@@ -128,7 +128,7 @@ impl Error {
     /// memory for its text: of kind `OutOfMemory`, with no message.
     pub fn from_text(alloc: Global, kind: ErrorKind, text: Result<String, AllocError>) -> Error
         ensures { MatchResult text
-            (λ message. result ≡ plain kind (string_bytes message)) (λ _. result ≡ unheard) }
+            (λ message. result ≡ error_of kind (string_bytes message)) (λ _. result ≡ memory_error) }
     {
         match text {
             Ok(message) => Error::new(kind, message),
@@ -138,14 +138,14 @@ impl Error {
 
     /// An argument is invalid, as the message says.
     pub fn invalid_argument(message: String) -> Error
-        ensures { result ≡ plain ErrorKind.InvalidArgument (string_bytes message) }
+        ensures { result ≡ error_of ErrorKind.InvalidArgument (string_bytes message) }
     {
         Error::new(ErrorKind::InvalidArgument, message)
     }
 
     /// Serialized data is malformed, as the message says.
     pub fn deserial(message: String) -> Error
-        ensures { result ≡ plain ErrorKind.InvalidData (string_bytes message) }
+        ensures { result ≡ error_of ErrorKind.InvalidData (string_bytes message) }
     {
         Error::new(ErrorKind::InvalidData, message)
     }

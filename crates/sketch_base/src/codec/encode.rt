@@ -11,7 +11,8 @@ use std::marker::Model;
 
 /// Writes numbers into bytes that grow as they are needed.
 ///
-/// A write that finds no memory is refused and changes nothing.
+/// A write is refused only where there is no room and memory for more runs out, and then it
+/// changes nothing.
 #[derive(Drop)]
 pub struct SketchBytes {
     bytes: Vec<u8>,
@@ -19,14 +20,14 @@ pub struct SketchBytes {
 
 impl Model for SketchBytes {
     ghost use Rattle.std.specs.Prelude.{vec_capacity};
-    ghost use Rattle.sketch_base.specs.Written.{Written};
+    ghost use Rattle.sketch_base.specs.WriterValue.{WriterValue};
 
-    ghost Value = { Written };
+    ghost Value = { WriterValue };
 
     ghost view = { λ s. record { bytes = s.bytes.items; room = vec_capacity s.bytes } };
 }
 
-/// A list of items was written in part, since memory ran out.
+/// A list of items was written in part: for the next one there is no room, and memory ran out.
 #[derive(Clone, Copy, Debug, PartialEq, Eq)]
 pub struct Stopped {
     /// How many items were written.
@@ -62,6 +63,7 @@ impl SketchBytes {
     pub fn write(&mut self, buf: &[u8]) -> Result<(), AllocError>
         ensures { Writes buf.now self.old result self.new }
     {
+        self.bytes.reserve(buf.len())?;
         self.bytes.extend_from_slice(buf)
     }
 

@@ -1,5 +1,5 @@
 ghost use Rattle.std.specs.Prelude.{◌≡◌, IfOk, length, map};
-ghost use Rattle.sketch_base.specs.Items.{kind_of};
+ghost use Rattle.sketch_base.specs.Items.{item_kind};
 
 use super::*;
 use std::alloc::{AllocError, Global};
@@ -14,7 +14,7 @@ fn there_and_back(
     behind: &[u8],
     places: &mut [Item],
 ) -> Result<Vec<u8>, AllocError>
-    requires kinds { kinds.now ≡ map kind_of items.now }
+    requires kinds { kinds.now ≡ map item_kind items.now }
     requires places { length places.old ≡ length items.now }
     ensures items { IfOk result (λ _. places.new ≡ items.now) }
     ensures rest { IfOk result (λ rest. rest.items ≡ behind.now) }

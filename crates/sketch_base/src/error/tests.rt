@@ -349,12 +349,12 @@ fn answers_a_value_that_does_not_print(rt: HostRuntime) -> Result<(), Fail> {
 #[test]
 fn answers_a_message_that_does_not_print(rt: HostRuntime) {
     let alloc = rt.alloc();
-    for unheard in [
+    for memory_error in [
         Error::insufficient_data(alloc, Unprintable),
         Error::insufficient_data_of(alloc, "header", Unprintable),
     ] {
         assert_eq!(rt;
-            (unheard.kind(), unheard.message()),
+            (memory_error.kind(), memory_error.message()),
             (ErrorKind::OutOfMemory, "")
         );
     }
@@ -404,8 +404,8 @@ fn constructors_answer_want_of_memory(rt: HostRuntime) {
         ),
     ] {
         let told = (ErrorKind::InvalidData, message);
-        let unheard = (ErrorKind::OutOfMemory, "");
+        let memory_error = (ErrorKind::OutOfMemory, "");
         let answer = (error.kind(), error.message());
-        assert!(rt; answer == told || answer == unheard, "not {message}");
+        assert!(rt; answer == told || answer == memory_error, "not {message}");
     }
 }

@@ -12,9 +12,9 @@ returns-in-Err c =
     let whole = written-more c.args.self.now.bytes loop.self.bytes c.args.items.now loop.accepted (U8 0)
     c.loop-accepted-test.true loop.invariant.written in
     record {
-      written = refused.outcome.0 ∙ loop.invariant.written;
+      written = rw refused.outcome.0 loop.invariant.written;
       in_type = loop.invariant.in_type;
-      stopped = (c.loop-accepted-test.true, omega (arith, refused.outcome.1, ap length whole));
+      stopped = (c.loop-accepted-test.true, rw refused.outcome.0 (omega (arith, refused.outcome.1, ap length whole)));
       room = omega (arith, refused.room);
     }
 
