@@ -1,5 +1,6 @@
 -- What a reader of bytes answers. A reader is the list of the bytes that remain.
-use Rattle.std.specs.Prelude.{ℕ, ◌+◌, ◌<◌, ◌≤◌, ◌≡◌, List, [], ◌++◌, length, take, drop, Result, MatchResult}
+use Rattle.std.specs.Prelude.{ℕ, ◌+◌, ◌<◌, ◌≤◌, ◌≡◌, List, [], ◌++◌, length, take, drop, codes, Result, MatchResult}
+use Rattle.std.specs.Fmt.{decimal}
 use Rattle.std.specs.declared.io.Error.{Error}
 use Rattle.std.specs.declared.io.ErrorKind.TheVariants.{UnexpectedEof}
 use Rattle.std.specs.IoError.{error_kind}
@@ -27,3 +28,7 @@ ReadsItems kinds before places result after placed = MatchResult result
     × (length before < widths (take (short.read + 1) kinds))
     × (placed ≡ unspell_all (take short.read kinds) before ++ drop short.read places)
     × (after ≡ []))
+
+-- how a list of items that ended too early is displayed
+abbrev pub short_text : ℕ → List ℕ
+short_text read = codes "insufficient data after " ++ decimal read ++ codes " items"

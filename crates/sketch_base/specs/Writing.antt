@@ -1,6 +1,7 @@
 -- What a writer of bytes answers.
-use Rattle.std.specs.Prelude.{ℕ, ◌+◌, ◌<◌, ◌≤◌, ◌≡◌, List, ◌++◌, length, take, Result, Ok, Err, MatchResult, IfErr}
+use Rattle.std.specs.Prelude.{ℕ, ◌+◌, ◌<◌, ◌≤◌, ◌≡◌, List, ◌++◌, length, take, codes, Result, Ok, Err, MatchResult, IfErr}
 use Rattle.std.specs.List.{All}
+use Rattle.std.specs.Fmt.{decimal}
 use Rattle.std.specs.declared.alloc.AllocError.{AllocError}
 use Rattle.sketch_base.specs.declared.codec.encode.Stopped.{Stopped}
 use Rattle.sketch_base.specs.declared.codec.item.Item.{Item}
@@ -32,3 +33,7 @@ pub record WritesItems (items : List Item) (before : WriterValue) (result : Resu
   pub stopped : IfErr result (λ stopped. (stopped.accepted < length items)
       × (after.room < length (before.bytes ++ spell_all (take (stopped.accepted + 1) items))))
   pub room : before.room ≤ after.room
+
+-- how a list of items that was written in part is displayed
+abbrev pub stopped_text : ℕ → List ℕ
+stopped_text accepted = codes "out of memory after " ++ decimal accepted ++ codes " items"

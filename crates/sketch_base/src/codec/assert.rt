@@ -118,4 +118,4 @@ fn printed_range(alloc: Global, start: Bound<u8>, end: Bound<u8>) -> Result<Stri
 }
 
 #[cfg(test)]
-mod tests;
+pub(crate) mod tests;

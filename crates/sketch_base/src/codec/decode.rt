@@ -1,13 +1,13 @@
 //! Reading numbers from bytes.
 
-ghost use Rattle.std.specs.Prelude.{◌≡◌, ℕ, List, [], length, take, drop, is_ok, if◌then◌else◌};
+ghost use Rattle.std.specs.Prelude.{◌≡◌, ℕ, List, [], length, take, drop, is_ok, Some, if◌then◌else◌};
 ghost use Rattle.sketch_base.specs.Bytes.{le, be, twos_complement};
 ghost use Rattle.sketch_base.specs.Items.{unspell, width};
-ghost use Rattle.sketch_base.specs.Reading.{Reads, ReadsItems};
+ghost use Rattle.sketch_base.specs.Reading.{Reads, ReadsItems, short_text};
 
 use crate::codec::item::{Item, Kind};
-use std::io;
 use std::marker::Model;
+use std::{fmt, io};
 
 /// Reads numbers from a borrowed slice of bytes, without copying it.
 ///
@@ -30,6 +30,16 @@ pub struct Short {
     /// How many items were read.
     pub read: usize,
 }
+
+impl fmt::Display for Short {
+    ghost output = { λ short. Some (short_text short.read) };
+
+    fn fmt<W: fmt::Write>(&self, f: &mut fmt::Formatter<W>) -> fmt::Result {
+        write!(f, "insufficient data after {} items", self.read)
+    }
+}
+
+impl std::error::Error for Short {}
 
 impl SketchSlice<'_> {
     /// A reader of all bytes of the slice.

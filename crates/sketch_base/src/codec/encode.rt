@@ -1,12 +1,13 @@
 //! Writing numbers into bytes.
 
-ghost use Rattle.std.specs.Prelude.{◌≡◌, [], ◌∷◌, IfOk, reverse};
+ghost use Rattle.std.specs.Prelude.{◌≡◌, [], ◌∷◌, IfOk, Some, reverse};
 ghost use Rattle.sketch_base.specs.Bytes.{low_bytes, modulo};
 ghost use Rattle.sketch_base.specs.Items.{InType, spell};
-ghost use Rattle.sketch_base.specs.Writing.{Writes, WritesItems};
+ghost use Rattle.sketch_base.specs.Writing.{Writes, WritesItems, stopped_text};
 
 use crate::codec::item::Item;
 use std::alloc::{AllocError, Global};
+use std::fmt;
 use std::marker::Model;
 
 /// Writes numbers into bytes that grow as they are needed.
@@ -33,6 +34,16 @@ pub struct Stopped {
     /// How many items were written.
     pub accepted: usize,
 }
+
+impl fmt::Display for Stopped {
+    ghost output = { λ stopped. Some (stopped_text stopped.accepted) };
+
+    fn fmt<W: fmt::Write>(&self, f: &mut fmt::Formatter<W>) -> fmt::Result {
+        write!(f, "out of memory after {} items", self.accepted)
+    }
+}
+
+impl std::error::Error for Stopped {}
 
 impl SketchBytes {
     /// A writer that has no bytes yet, with room for so many.

@@ -117,3 +117,6 @@ impl Family {
         }
     }
 }
+
+#[cfg(test)]
+mod tests;

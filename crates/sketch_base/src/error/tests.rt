@@ -1,11 +1,11 @@
-ghost use Rattle.std.specs.Prelude.{◌≡◌, codes, IfSome, string_bytes};
+ghost use Rattle.std.specs.Prelude.{◌≡◌, ◌↔◌, codes, IfSome, IsTrue, string_bytes};
 
 use super::*;
 use std::process::Abort;
 use std::test::Fail;
 
 // A caller's proof knows the displayed bytes of an error that it made.
-fn displayed(alloc: Global) -> Option<String>
+fn line_in_two_contexts(alloc: Global) -> Option<String>
     ensures { IfSome result (λ text. string_bytes text
         ≡ codes "InvalidData, context: { index: 42, file: foo } => parsing failed") }
 {
@@ -20,6 +20,13 @@ fn displayed(alloc: Global) -> Option<String>
         return None;
     };
     error.to_string(alloc).ok()
+}
+
+// A caller's proof knows that `==` says yes exactly of kinds that are one.
+fn is_same_kind(a: ErrorKind, b: ErrorKind) -> bool
+    ensures { IsTrue result ↔ (a ≡ b) }
+{
+    a == b
 }
 
 // A value whose printing fails by itself, as it does where memory runs out.
@@ -175,7 +182,7 @@ fn assert_text(rt: &impl Abort, made: Result<String, AllocError>, text: &str) {
 
 #[test]
 fn shows_a_concrete_error(rt: HostRuntime) {
-    let text = displayed(rt.alloc()).ok_or(AllocError);
+    let text = line_in_two_contexts(rt.alloc()).ok_or(AllocError);
     assert_text(
         &rt,
         text,
@@ -270,6 +277,20 @@ fn keeps_kind_and_message(rt: HostRuntime) -> Result<(), Fail> {
 }
 
 #[test]
+fn tells_kinds_apart(rt: HostRuntime) {
+    let kinds = [
+        ErrorKind::InvalidArgument,
+        ErrorKind::InvalidData,
+        ErrorKind::OutOfMemory,
+    ];
+    for (i, a) in kinds.iter().enumerate() {
+        for (j, b) in kinds.iter().enumerate() {
+            assert_eq!(rt; (is_same_kind(*a, *b), *a != *b), (i == j, i != j));
+        }
+    }
+}
+
+#[test]
 fn prints_the_names_of_the_kinds(rt: HostRuntime) {
     let alloc = rt.alloc();
     for (kind, name) in [
@@ -349,12 +370,12 @@ fn answers_a_value_that_does_not_print(rt: HostRuntime) -> Result<(), Fail> {
 #[test]
 fn answers_a_message_that_does_not_print(rt: HostRuntime) {
     let alloc = rt.alloc();
-    for memory_error in [
+    for error in [
         Error::insufficient_data(alloc, Unprintable),
         Error::insufficient_data_of(alloc, "header", Unprintable),
     ] {
         assert_eq!(rt;
-            (memory_error.kind(), memory_error.message()),
+            (error.kind(), error.message()),
             (ErrorKind::OutOfMemory, "")
         );
     }
@@ -403,9 +424,9 @@ fn constructors_answer_want_of_memory(rt: HostRuntime) {
             "invalid preamble ints: expected 2, got 9",
         ),
     ] {
-        let told = (ErrorKind::InvalidData, message);
-        let memory_error = (ErrorKind::OutOfMemory, "");
         let answer = (error.kind(), error.message());
-        assert!(rt; answer == told || answer == memory_error, "not {message}");
+        let with_text = answer == (ErrorKind::InvalidData, message);
+        let without_memory = answer == (ErrorKind::OutOfMemory, "");
+        assert!(rt; with_text || without_memory, "not {message}");
     }
 }
