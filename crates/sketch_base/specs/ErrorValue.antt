@@ -51,4 +51,5 @@ message_text message = if length message == 0 then [] else codes " => " ++ messa
 
 -- the displayed line
 abbrev pub line : ErrorValue → List ℕ
-line error = error_kind_name error.kind ++ contexts_text error.contexts ++ message_text error.message
+line error =
+    error_kind_name error.kind ++ contexts_text error.contexts ++ message_text error.message

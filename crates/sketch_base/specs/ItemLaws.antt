@@ -11,14 +11,16 @@ pub record Holds (bytes : List ℕ) (i : Item) : Type 0 where
   pub count : length bytes ≡ width (item_kind i)
   pub item : unspell (item_kind i) bytes ≡ i
 
--- Each item stands in bytes in one way, and so does each list of items of known kinds, in as many bytes as
--- these have. Whatever stands behind the bytes of items, they are read back in order, and it remains.
+-- Each item stands in bytes in one way, and so does each list of items of known kinds, in as many
+-- bytes as these have. Whatever stands behind the bytes of items, they are read back in order, and
+-- it remains.
 pub record ItemLaw : Type 0 where
   pub spell_holds : (i : Item) → InType i → Holds (spell i) i
   pub spell_only : (i : Item) (bytes : List ℕ) → InType i → Holds bytes i → bytes ≡ spell i
   pub once : (xs ys : List Item) → All InType xs → All InType ys →
       map item_kind xs ≡ map item_kind ys → spell_all xs ≡ spell_all ys → xs ≡ ys
-  pub count : (items : List Item) → All InType items → length (spell_all items) ≡ widths (map item_kind items)
+  pub count : (items : List Item) → All InType items →
+      length (spell_all items) ≡ widths (map item_kind items)
   pub read_back : (items : List Item) (behind : List ℕ) → All InType items →
       unspell_all (map item_kind items) (spell_all items ++ behind) ≡ items
   pub leave_rest : (items : List Item) (behind : List ℕ) → All InType items →

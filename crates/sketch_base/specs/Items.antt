@@ -100,7 +100,8 @@ widths (k ∷ kinds) = width k + widths kinds
 -- the items of these kinds that bytes hold, one after another
 abbrev pub unspell_all : List Kind → List ℕ → List Item
 unspell_all [] bytes = []
-unspell_all (k ∷ kinds) bytes = unspell k (take (width k) bytes) ∷ unspell_all kinds (drop (width k) bytes)
+unspell_all (k ∷ kinds) bytes =
+    unspell k (take (width k) bytes) ∷ unspell_all kinds (drop (width k) bytes)
 
 -- the bytes of items, one after another
 abbrev pub spell_all : List Item → List ℕ

@@ -11,5 +11,6 @@ pub refused : {Z E : Type 0} (kind : ErrorKind) (message : List ℕ) (text : Res
     (error : ErrorValue) →
     MatchResult text (λ made. error ≡ error_of kind (string_bytes made)) (λ _. error ≡ memory_error) →
     IfOk text (λ made. string_bytes made ≡ message) → Refuses kind message error
+unfolding Refuses
 refused kind message (Ok made) error e m = inl (e ∙ ap (error_of kind) m)
 refused kind message (Err none) error e m = inr e

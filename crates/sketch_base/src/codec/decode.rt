@@ -72,7 +72,8 @@ impl SketchSlice<'_> {
     /// Where fewer bytes remain than the buffer holds: the buffer is as it was.
     pub fn read_exact(&mut self, buf: &mut [u8]) -> io::Result<()>
         ensures read { Reads (length buf.old) (λ _. tt) self.old result self.new }
-        ensures filled { buf.new ≡ (if is_ok result then take (length buf.old) self.old else buf.old) }
+        ensures filled { buf.new
+            ≡ (if is_ok result then take (length buf.old) self.old else buf.old) }
     {
         let slice = self.slice;
         if slice.len() < buf.len() {
@@ -219,6 +220,7 @@ impl SketchSlice<'_> {
     ///
     /// At the first item for which too few bytes remain: how many were read. Their places are
     /// filled, the others are as they were.
+    #[tactic(auto, using(crate::proofs::ItemLemmas::one_item_more))]
     pub fn read_items(&mut self, kinds: &[Kind], out: &mut [Item]) -> Result<(), Short>
         requires { length kinds.now ≡ length out.old }
         ensures { ReadsItems kinds.now self.old out.old result self.new out.new }

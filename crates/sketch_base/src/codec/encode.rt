@@ -203,6 +203,7 @@ impl SketchBytes {
     /// # Errors
     ///
     /// Where memory runs out: how many items were written. Nothing is written of the others.
+    #[tactic(auto, using(crate::proofs::ItemLemmas::one_item_more))]
     pub fn write_items(&mut self, items: &[Item]) -> Result<(), Stopped>
         ensures { WritesItems items.now self.old result self.new }
     {

@@ -100,8 +100,8 @@ fn writes_items_into_memory_that_grows(rt: HostRuntime) -> Result<(), Fail> {
     Ok(())
 }
 
-// Holds also where a request for memory is refused, as `rt try --test --fail-alloc N` does with the Nth:
-// then just the first items are there, and where the second request is refused these are two.
+// Holds also where a request for memory is refused, as `rt try --test --fail-alloc N` does with the
+// Nth: then just the first items are there, and where the second request is refused these are two.
 #[test]
 fn tells_how_many_items_had_room(rt: HostRuntime) {
     let Ok(mut writer) = SketchBytes::with_capacity(rt.alloc(), 5) else {

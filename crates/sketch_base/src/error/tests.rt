@@ -1,4 +1,5 @@
-ghost use Rattle.std.specs.Prelude.{◌≡◌, ◌↔◌, codes, IfSome, IsTrue, string_bytes};
+ghost use Rattle.std.specs.Prelude.{◌≡◌, ◌↔◌, codes, IfErr, IfSome, IsTrue, string_bytes};
+ghost use Rattle.sketch_base.specs.ErrorValue.{memory_error};
 
 use super::*;
 use std::process::Abort;
@@ -27,6 +28,13 @@ fn is_same_kind(a: ErrorKind, b: ErrorKind) -> bool
     ensures { IsTrue result ↔ (a ≡ b) }
 {
     a == b
+}
+
+// A caller's proof knows the error that `?` makes of a refusal of memory.
+fn copy_of_text(alloc: Global, text: &str) -> Result<String, Error>
+    ensures { IfErr result (λ error. error ≡ memory_error) }
+{
+    Ok(String::from_str(alloc, text)?)
 }
 
 // A value whose printing fails by itself, as it does where memory runs out.
@@ -354,6 +362,28 @@ fn prints_what_the_constructors_make(rt: HostRuntime) -> Result<(), Fail> {
 }
 
 #[test]
+fn a_refusal_of_memory_becomes_an_error(rt: HostRuntime) -> Result<(), Fail> {
+    let alloc = rt.alloc();
+    assert_text(&rt, copy_of_text(alloc, "x").map_err(|_| AllocError), "x");
+    let error = Error::from(AllocError);
+    assert_eq!(rt;
+        (error.kind(), error.message()),
+        (ErrorKind::OutOfMemory, "")
+    );
+    assert_text(&rt, error.to_string(alloc), "OutOfMemory");
+    assert_text(&rt, format!(in alloc; "{error:?}"), "OutOfMemory\n");
+    let fields = "Error {\n    kind: OutOfMemory,\n    message: \"\",\n    context: [],\n}";
+    assert_text(&rt, format!(in alloc; "{error:#?}"), fields);
+    let error = error.with_context(alloc, "a", 1u8)?;
+    assert_text(
+        &rt,
+        error.to_string(alloc),
+        "OutOfMemory, context: { a: 1 }",
+    );
+    Ok(())
+}
+
+#[test]
 fn answers_a_value_that_does_not_print(rt: HostRuntime) -> Result<(), Fail> {
     let alloc = rt.alloc();
     let error = error(alloc, ErrorKind::InvalidData, "m")?.with_context(alloc, "a", 1u8)?;
@@ -381,8 +411,8 @@ fn answers_a_message_that_does_not_print(rt: HostRuntime) {
     }
 }
 
-// Holds also where any one request for memory is refused, as `rt try --test --fail-alloc N` does with the
-// Nth: then the error stays as it was.
+// Holds also where any one request for memory is refused, as `rt try --test --fail-alloc N` does
+// with the Nth: then the error stays as it was.
 #[test]
 fn keeps_an_error_at_want_of_memory(rt: HostRuntime) {
     let alloc = rt.alloc();

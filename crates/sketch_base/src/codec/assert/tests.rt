@@ -118,8 +118,8 @@ pub(crate) fn is_refusal_with(answer: &Result<(), Error>, message: &str) -> bool
     }
 }
 
-// Holds also where any one request for memory is refused, as `rt try --test --fail-alloc N` does with
-// the Nth: then the refusal tells of memory, and what is accepted stays accepted.
+// Holds also where any one request for memory is refused, as `rt try --test --fail-alloc N` does
+// with the Nth: then the refusal tells of memory, and what is accepted stays accepted.
 #[test]
 fn checks_answer_want_of_memory(rt: HostRuntime) {
     let alloc = rt.alloc();

@@ -73,8 +73,8 @@ fn accepts_its_own_id(rt: HostRuntime) {
     );
 }
 
-// Holds also where any one request for memory is refused, as `rt try --test --fail-alloc N` does with
-// the Nth: then the refusal tells of memory, and its own id stays accepted.
+// Holds also where any one request for memory is refused, as `rt try --test --fail-alloc N` does
+// with the Nth: then the refusal tells of memory, and its own id stays accepted.
 #[test]
 fn ids_are_checked_at_want_of_memory(rt: HostRuntime) {
     let alloc = rt.alloc();
