@@ -1,4 +1,5 @@
--- The texts of refusals, each as it is printed.
+-- The texts of refusals, each as it is printed. Their pieces are grouped from the right, as the
+-- library groups what it prints.
 use Rattle.std.specs.Prelude.{ℕ, List, [], ◌∷◌, ◌++◌, codes, ◌≡◌, ◌⊎◌, Option, IfSome}
 use Rattle.std.specs.List.{flat_map}
 use Rattle.std.specs.Fmt.{decimal}

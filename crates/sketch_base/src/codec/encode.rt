@@ -70,7 +70,7 @@ impl SketchBytes {
     ///
     /// # Errors
     ///
-    /// Where memory runs out, as at every write: nothing is written.
+    /// Where there is no room and memory runs out, as at every write: the writer is as it was.
     pub fn write(&mut self, buf: &[u8]) -> Result<(), AllocError>
         ensures { Writes buf.now self.old result self.new }
     {
@@ -202,7 +202,8 @@ impl SketchBytes {
     ///
     /// # Errors
     ///
-    /// Where memory runs out: how many items were written. Nothing is written of the others.
+    /// Where there is no room for an item at that moment, and memory runs out: how many items were
+    /// written before it. Nothing is written of the others.
     #[tactic(auto, using(crate::proofs::ItemLemmas::one_item_more))]
     pub fn write_items(&mut self, items: &[Item]) -> Result<(), Stopped>
         ensures { WritesItems items.now self.old result self.new }
