@@ -257,7 +257,7 @@ impl Error {
     }
 }
 
-// So `?` passes on a refusal of memory where an `Error` is answered: kind `OutOfMemory`, no message.
+// So `?` passes on a refusal of memory: kind `OutOfMemory`, no message, no context.
 impl From<AllocError> for Error {
     ghost use Rattle.sketch_base.specs.ErrorValue.{memory_error};
 
