@@ -40,10 +40,10 @@ le-low_bytes (suc count) n =
     let others = le-low_bytes count (n / 256) in
     let split = mod-mul n {m = 256 ^ count} {c = 256} (one-le-pow count 256 (omega arith)) (omega arith) in
     le-cons (n % 256) (low_bytes count (n / 256)) ∙ ap (λ v. n % 256 + 256 * v) others
-    ∙ turned (n % 256) (n / 256 % 256 ^ count) ∙ sym split ∙ ap (λ p. n % p) (sym (pow-suc 256 count))
+    ∙ swap-sum (n % 256) (n / 256 % 256 ^ count) ∙ sym split ∙ ap (λ p. n % p) (sym (pow-suc 256 count))
   where
-    turned : (a b : ℕ) → a + 256 * b ≡ b * 256 + a
-    turned a b = omega arith
+    swap-sum : (a b : ℕ) → a + 256 * b ≡ b * 256 + a
+    swap-sum a b = omega arith
 
 pub length-low_bytes : (count n : ℕ) → length (low_bytes count n) ≡ count
 length-low_bytes zero n = refl
@@ -78,10 +78,10 @@ to_le_bytes-is w n = bytes_low_first-is 0 (byte_len w) n ∙ ap (low_bytes (byte
 -- the last byte counts by its place
 weighted_from-push : (bytes : List ℕ) (i b : ℕ) →
     weighted_from i (bytes ++ b ∷ []) ≡ weighted_from i bytes + b * 256 ^ (i + length bytes)
-weighted_from-push [] i b = plain (b * 256 ^ i) ∙ ap (λ n. 0 + b * 256 ^ n) (sym (add-zero i))
+weighted_from-push [] i b = zero-side (b * 256 ^ i) ∙ ap (λ n. 0 + b * 256 ^ n) (sym (add-zero i))
   where
-    plain : (v : ℕ) → v + 0 ≡ 0 + v
-    plain v = omega arith
+    zero-side : (v : ℕ) → v + 0 ≡ 0 + v
+    zero-side v = omega arith
 weighted_from-push (a ∷ bytes) i b =
     let others = weighted_from-push bytes (i + 1) b in
     let place : i + 1 + length bytes ≡ i + suc (length bytes) = omega arith in

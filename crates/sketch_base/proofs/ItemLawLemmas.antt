@@ -12,7 +12,7 @@ use Rattle.sketch_base.specs.declared.codec.item.Item.{Item}
 use Rattle.sketch_base.specs.declared.codec.item.Item.TheVariants as item
 use Rattle.sketch_base.specs.declared.codec.item.Kind.{Kind}
 use Rattle.sketch_base.specs.declared.codec.item.Kind.TheVariants as kind
-use Rattle.sketch_base.specs.Items.{InType, kind_of, width, widths, spell, spell_all, unspell, unspell_all}
+use Rattle.sketch_base.specs.Items.{InType, item_kind, width, widths, spell, spell_all, unspell, unspell_all}
 use Rattle.sketch_base.specs.ItemLaws.{Holds, ItemLaw}
 use Rattle.std.proofs.Math.Seq.{take-append_seam, drop-append_seam}
 use Rattle.sketch_base.specs.Bytes.{AreBytes, le, be, low_bytes, twos_complement, modulo}
@@ -94,8 +94,8 @@ signed_be-back w half count z low whole same small =
     ∙ signed_le-back w half count z low whole same small
 
 -- lowest bytes hold an item that its kind makes of them, in either order
-low-holds : (i : Item) (count n : ℕ) → count ≡ width (kind_of i) →
-    unspell (kind_of i) (low_bytes count n) ≡ i →
+low-holds : (i : Item) (count n : ℕ) → count ≡ width (item_kind i) →
+    unspell (item_kind i) (low_bytes count n) ≡ i →
     Holds (low_bytes count n) i
 low-holds i count n is made = record {
   are_bytes = AreBytes-low_bytes count n;
@@ -103,8 +103,8 @@ low-holds i count n is made = record {
   item = made;
 }
 
-high-holds : (i : Item) (count n : ℕ) → count ≡ width (kind_of i) →
-    unspell (kind_of i) (reverse (low_bytes count n)) ≡ i → Holds (reverse (low_bytes count n)) i
+high-holds : (i : Item) (count n : ℕ) → count ≡ width (item_kind i) →
+    unspell (item_kind i) (reverse (low_bytes count n)) ≡ i → Holds (reverse (low_bytes count n)) i
 high-holds i count n is made = record {
   are_bytes = AreBytes-reverse (low_bytes count n) (AreBytes-low_bytes count n);
   count = length-reverse (low_bytes count n) ∙ length-low_bytes count n ∙ is;
@@ -112,33 +112,33 @@ high-holds i count n is made = record {
 }
 
 -- the bytes of each item hold it
-spelled : (i : Item) → InType i → Holds (spell i) i
-spelled (item.U8 n) h = low-holds (item.U8 n) 1 n refl (ap item.U8 (le-back 1 n h))
-spelled (item.I8 n) h =
+spell_holds : (i : Item) → InType i → Holds (spell i) i
+spell_holds (item.U8 n) h = low-holds (item.U8 n) 1 n refl (ap item.U8 (le-back 1 n h))
+spell_holds (item.I8 n) h =
     low-holds (item.I8 n) 1 (modulo 8 n) refl (ap item.I8 (signed_le-back 8
     (2 ^ 7) 1 n refl refl refl h.sfits))
-spelled (item.U16Le n) h = low-holds (item.U16Le n) 2 n refl (ap item.U16Le (le-back 2 n h))
-spelled (item.U16Be n) h = high-holds (item.U16Be n) 2 n refl (ap item.U16Be (be-back 2 n h))
-spelled (item.I16Le n) h =
+spell_holds (item.U16Le n) h = low-holds (item.U16Le n) 2 n refl (ap item.U16Le (le-back 2 n h))
+spell_holds (item.U16Be n) h = high-holds (item.U16Be n) 2 n refl (ap item.U16Be (be-back 2 n h))
+spell_holds (item.I16Le n) h =
     low-holds (item.I16Le n) 2 (modulo 16 n) refl (ap item.I16Le (signed_le-back 16
     (2 ^ 15) 2 n refl refl refl h.sfits))
-spelled (item.I16Be n) h =
+spell_holds (item.I16Be n) h =
     high-holds (item.I16Be n) 2 (modulo 16 n) refl (ap item.I16Be (signed_be-back 16
     (2 ^ 15) 2 n refl refl refl h.sfits))
-spelled (item.U32Le n) h = low-holds (item.U32Le n) 4 n refl (ap item.U32Le (le-back 4 n h))
-spelled (item.U32Be n) h = high-holds (item.U32Be n) 4 n refl (ap item.U32Be (be-back 4 n h))
-spelled (item.I32Le n) h =
+spell_holds (item.U32Le n) h = low-holds (item.U32Le n) 4 n refl (ap item.U32Le (le-back 4 n h))
+spell_holds (item.U32Be n) h = high-holds (item.U32Be n) 4 n refl (ap item.U32Be (be-back 4 n h))
+spell_holds (item.I32Le n) h =
     low-holds (item.I32Le n) 4 (modulo 32 n) refl (ap item.I32Le (signed_le-back 32
     (2 ^ 31) 4 n refl refl refl h.sfits))
-spelled (item.I32Be n) h =
+spell_holds (item.I32Be n) h =
     high-holds (item.I32Be n) 4 (modulo 32 n) refl (ap item.I32Be (signed_be-back 32
     (2 ^ 31) 4 n refl refl refl h.sfits))
-spelled (item.U64Le n) h = low-holds (item.U64Le n) 8 n refl (ap item.U64Le (le-back 8 n h))
-spelled (item.U64Be n) h = high-holds (item.U64Be n) 8 n refl (ap item.U64Be (be-back 8 n h))
-spelled (item.I64Le n) h =
+spell_holds (item.U64Le n) h = low-holds (item.U64Le n) 8 n refl (ap item.U64Le (le-back 8 n h))
+spell_holds (item.U64Be n) h = high-holds (item.U64Be n) 8 n refl (ap item.U64Be (be-back 8 n h))
+spell_holds (item.I64Le n) h =
     low-holds (item.I64Le n) 8 (modulo 64 n) refl (ap item.I64Le (signed_le-back 64
     (2 ^ 63) 8 n refl refl refl h.sfits))
-spelled (item.I64Be n) h =
+spell_holds (item.I64Be n) h =
     high-holds (item.I64Be n) 8 (modulo 64 n) refl (ap item.I64Be (signed_be-back 64
     (2 ^ 63) 8 n refl refl refl h.sfits))
 
@@ -191,45 +191,45 @@ spell-unspell kind.I64Be bytes h count = signed_be-again 64 (2 ^ 63) 8 bytes ref
 
 -- the bytes of items have the widths of their kinds
 pub length-spell_all : (items : List Item) → All InType items →
-    length (spell_all items) ≡ widths (map kind_of items)
+    length (spell_all items) ≡ widths (map item_kind items)
 length-spell_all [] h = refl
 length-spell_all (i ∷ items) h =
     length-append (spell i) (spell_all items)
-    ∙ ap (λ n. n + length (spell_all items)) ((spelled i (All-head InType i items h)).count)
-    ∙ ap (λ n. width (kind_of i) + n) (length-spell_all items (All-tail InType i items h))
+    ∙ ap (λ n. n + length (spell_all items)) ((spell_holds i (All-head InType i items h)).count)
+    ∙ ap (λ n. width (item_kind i) + n) (length-spell_all items (All-tail InType i items h))
 
 -- items are read back, whatever stands behind their bytes
 pub read_back : (items : List Item) (behind : List ℕ) → All InType items →
-    unspell_all (map kind_of items) (spell_all items ++ behind) ≡ items
+    unspell_all (map item_kind items) (spell_all items ++ behind) ≡ items
 read_back [] behind h = refl
 read_back (i ∷ items) behind h =
-    let first = spelled i (All-head InType i items h) in
+    let first = spell_holds i (All-head InType i items h) in
     let others = spell_all items ++ behind in
     let whole : (spell i ++ spell_all items) ++ behind
     ≡ spell i ++ others = append_assoc (spell i) (spell_all items) behind in
-    let front : take (width (kind_of i)) (spell i ++ others) ≡ spell i =
+    let front : take (width (item_kind i)) (spell i ++ others) ≡ spell i =
     ap (λ n. take n (spell i ++ others)) (sym first.count) ∙ take-append_seam (spell i) others in
-    let back : drop (width (kind_of i)) (spell i ++ others) ≡ others =
+    let back : drop (width (item_kind i)) (spell i ++ others) ≡ others =
     ap (λ n. drop n (spell i ++ others)) (sym first.count) ∙ drop-append_seam (spell i) others in
     rw (whole, front, back, first.item, read_back items behind (All-tail InType i items h)) refl
 
-pub remains : (items : List Item) (behind : List ℕ) → All InType items →
-    drop (widths (map kind_of items)) (spell_all items ++ behind) ≡ behind
-remains items behind h =
+pub leave_rest : (items : List Item) (behind : List ℕ) → All InType items →
+    drop (widths (map item_kind items)) (spell_all items ++ behind) ≡ behind
+leave_rest items behind h =
     ap (λ n. drop n (spell_all items ++ behind)) (sym (length-spell_all items h))
     ∙ drop-append_seam (spell_all items) behind
 
 pub item_law : ItemLaw
 item_law = record {
-  spelled = spelled;
-  only = λ i bytes h held.
-      sym (spell-unspell (kind_of i) bytes held.are_bytes held.count) ∙ ap spell held.item;
-  apart = λ xs ys hx hy kinds bytes.
+  spell_holds = spell_holds;
+  spell_only = λ i bytes h held.
+      sym (spell-unspell (item_kind i) bytes held.are_bytes held.count) ∙ ap spell held.item;
+  once = λ xs ys hx hy kinds bytes.
       sym (read_back xs [] hx)
       ∙ ap (λ ks. unspell_all ks (spell_all xs ++ [])) kinds
-      ∙ ap (λ bs. unspell_all (map kind_of ys) (bs ++ [])) bytes
+      ∙ ap (λ bs. unspell_all (map item_kind ys) (bs ++ [])) bytes
       ∙ read_back ys [] hy;
   count = length-spell_all;
   read_back = read_back;
-  remains = remains;
+  leave_rest = leave_rest;
 }

@@ -1,10 +1,12 @@
 -- Items one after another: what one more item does to widths, bytes and places.
-use Rattle.std.proofs.Common.{◌≡◌, ℕ, zero, suc, ◌+◌, ◌<◌, ◌≤◌, List, [], ◌∷◌, ◌++◌, length, take, drop, get_or, set, refl, ap, sym, ◌∙◌, arith, add-one, append_assoc, append-nil}
+use Rattle.std.proofs.Common.{◌≡◌, ℕ, zero, suc, ◌+◌, ◌<◌, ◌≤◌, List, [], ◌∷◌, ◌++◌, length, take, drop, get_or, set, refl, ap, sym, ◌∙◌, arith, add-one, append_assoc, append-nil, length-drop}
+use Rattle.std.proofs.lemmas.List.Elements.{All-more}
+use Rattle.std.specs.List.{All}
 use Rattle.std.proofs.lemmas.List.{drop-drop, take_more, length-take-le}
 use Rattle.std.proofs.Math.Seq.{drop-cons, set-append_seam}
 use Rattle.sketch_base.specs.declared.codec.item.Item.{Item}
 use Rattle.sketch_base.specs.declared.codec.item.Kind.{Kind}
-use Rattle.sketch_base.specs.Items.{width, widths, spell, spell_all, unspell, unspell_all}
+use Rattle.sketch_base.specs.Items.{InType, width, widths, spell, spell_all, unspell, unspell_all}
 
 pub widths-push : (kinds : List Kind) (kind : Kind) → widths (kinds ++ kind ∷ []) ≡ widths kinds + width kind
 widths-push [] kind = omega arith
@@ -80,3 +82,10 @@ placed-more kinds bytes places i kind item within lengths is =
     ∙ set-append_seam front (get_or places i item) (drop (i + 1) places) item
     ∙ sym (append_assoc front (item ∷ []) (drop (i + 1) places))
     ∙ ap (λ items. items ++ drop (i + 1) places) (sym all)
+
+pub in_type-more : (items : List Item) (i : ℕ) (item : Item) → i < length items →
+    All InType (take i items) → InType (get_or items i item) → All InType (take (i + 1) items)
+in_type-more items i item within front next = All-more InType items i item within front next
+
+-- one step of a loop over items
+pub ruleset one_item_more = (written-more, in_type-more, widths-more, placed-more, length-drop, drop-drop)

@@ -6,7 +6,8 @@ use Rattle.std.specs.List.{All}
 abbrev pub AreBytes : List ℕ → Type 0
 AreBytes bytes = All (λ b. b < 256) bytes
 
--- the sum of b * 256 ^ i over the bytes b, where the first stands at place i, the next at i + 1, and so on
+-- the sum of b * 256 ^ i over the bytes b, where the first stands at place i, the next at i + 1,
+-- and so on
 abbrev pub weighted_from : ℕ → List ℕ → ℕ
 weighted_from i [] = 0
 weighted_from i (b ∷ bytes) = b * 256 ^ i + weighted_from (i + 1) bytes

@@ -20,23 +20,35 @@ pub record Range : Type 0 where
 -- The range between two ends. The one that is open at both ends has every number, and never prints.
 abbrev pub range : Bound ℕ → Bound ℕ → Range
 range (Included a) (Included b) = record {
-  text = codes "[" ++ decimal a ++ codes ", " ++ decimal b ++ codes "]";
+  text = codes "[" ++ (decimal a ++ (codes ", " ++ (decimal b ++ codes "]")));
   has = λ x. nat_le a x && nat_le x b;
 }
 range (Included a) (Excluded b) = record {
-  text = codes "[" ++ decimal a ++ codes ", " ++ decimal b ++ codes ")";
+  text = codes "[" ++ (decimal a ++ (codes ", " ++ (decimal b ++ codes ")")));
   has = λ x. nat_le a x && nat_lt x b;
 }
 range (Excluded a) (Included b) = record {
-  text = codes "(" ++ decimal a ++ codes ", " ++ decimal b ++ codes "]";
+  text = codes "(" ++ (decimal a ++ (codes ", " ++ (decimal b ++ codes "]")));
   has = λ x. nat_lt a x && nat_le x b;
 }
 range (Excluded a) (Excluded b) = record {
-  text = codes "(" ++ decimal a ++ codes ", " ++ decimal b ++ codes ")";
+  text = codes "(" ++ (decimal a ++ (codes ", " ++ (decimal b ++ codes ")")));
   has = λ x. nat_lt a x && nat_lt x b;
 }
-range Unbounded (Included b) = record { text = codes "at most " ++ decimal b; has = λ x. nat_le x b }
-range Unbounded (Excluded b) = record { text = codes "less than " ++ decimal b; has = λ x. nat_lt x b }
-range (Included a) Unbounded = record { text = codes "at least " ++ decimal a; has = λ x. nat_le a x }
-range (Excluded a) Unbounded = record { text = codes "greater than " ++ decimal a; has = λ x. nat_lt a x }
+range Unbounded (Included b) = record {
+  text = codes "at most " ++ decimal b;
+  has = λ x. nat_le x b;
+}
+range Unbounded (Excluded b) = record {
+  text = codes "less than " ++ decimal b;
+  has = λ x. nat_lt x b;
+}
+range (Included a) Unbounded = record {
+  text = codes "at least " ++ decimal a;
+  has = λ x. nat_le a x;
+}
+range (Excluded a) Unbounded = record {
+  text = codes "greater than " ++ decimal a;
+  has = λ x. nat_lt a x;
+}
 range Unbounded Unbounded = record { text = []; has = λ x. true }

@@ -16,23 +16,23 @@ pub record ErrorValue : Type 0 where
   pub contexts : List ContextValue
 
 -- an error with no context
-abbrev pub plain : ErrorKind → List ℕ → ErrorValue
-plain kind message = record { kind = kind; message = message; contexts = [] }
+abbrev pub error_of : ErrorKind → List ℕ → ErrorValue
+error_of kind message = record { kind = kind; message = message; contexts = [] }
 
 -- the error in place of a refusal whose text found no memory
-abbrev pub unheard : ErrorValue
-unheard = plain OutOfMemory []
+abbrev pub memory_error : ErrorValue
+memory_error = error_of OutOfMemory []
 
 -- the error with one more context, behind those that it has
-abbrev pub in_context : ErrorValue → List ℕ → List ℕ → ErrorValue
-in_context error key text =
+abbrev pub add_context : ErrorValue → List ℕ → List ℕ → ErrorValue
+add_context error key text =
     record error { contexts = error.contexts ++ record { key = key; text = text } ∷ [] }
 
 -- the kind's name
-abbrev pub kind_name : ErrorKind → List ℕ
-kind_name InvalidArgument = codes "InvalidArgument"
-kind_name InvalidData = codes "InvalidData"
-kind_name OutOfMemory = codes "OutOfMemory"
+abbrev pub error_kind_name : ErrorKind → List ℕ
+error_kind_name InvalidArgument = codes "InvalidArgument"
+error_kind_name InvalidData = codes "InvalidData"
+error_kind_name OutOfMemory = codes "OutOfMemory"
 
 -- one context as it is displayed, `key: text`
 abbrev pub pair_text : ContextValue → List ℕ
@@ -51,4 +51,5 @@ message_text message = if length message == 0 then [] else codes " => " ++ messa
 
 -- the displayed line
 abbrev pub line : ErrorValue → List ℕ
-line error = kind_name error.kind ++ contexts_text error.contexts ++ message_text error.message
+line error =
+    error_kind_name error.kind ++ contexts_text error.contexts ++ message_text error.message

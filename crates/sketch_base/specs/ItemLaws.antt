@@ -3,23 +3,25 @@ use Rattle.std.specs.Prelude.{ℕ, ◌≡◌, List, ◌++◌, length, drop, map}
 use Rattle.std.specs.List.{All}
 use Rattle.sketch_base.specs.declared.codec.item.Item.{Item}
 use Rattle.sketch_base.specs.Bytes.{AreBytes}
-use Rattle.sketch_base.specs.Items.{InType, kind_of, width, widths, spell, spell_all, unspell, unspell_all}
+use Rattle.sketch_base.specs.Items.{InType, item_kind, width, widths, spell, spell_all, unspell, unspell_all}
 
 -- bytes hold an item: so many as its kind has, of which its kind makes the item
 pub record Holds (bytes : List ℕ) (i : Item) : Type 0 where
   pub are_bytes : AreBytes bytes
-  pub count : length bytes ≡ width (kind_of i)
-  pub item : unspell (kind_of i) bytes ≡ i
+  pub count : length bytes ≡ width (item_kind i)
+  pub item : unspell (item_kind i) bytes ≡ i
 
--- Each item stands in bytes in one way, and so does each list of items of known kinds, in as many bytes as
--- these have. Whatever stands behind the bytes of items, they are read back in order, and it remains.
+-- Each item stands in bytes in one way, and so does each list of items of known kinds, in as many
+-- bytes as these have. Whatever stands behind the bytes of items, they are read back in order, and
+-- it remains.
 pub record ItemLaw : Type 0 where
-  pub spelled : (i : Item) → InType i → Holds (spell i) i
-  pub only : (i : Item) (bytes : List ℕ) → InType i → Holds bytes i → bytes ≡ spell i
-  pub apart : (xs ys : List Item) → All InType xs → All InType ys →
-      map kind_of xs ≡ map kind_of ys → spell_all xs ≡ spell_all ys → xs ≡ ys
-  pub count : (items : List Item) → All InType items → length (spell_all items) ≡ widths (map kind_of items)
+  pub spell_holds : (i : Item) → InType i → Holds (spell i) i
+  pub spell_only : (i : Item) (bytes : List ℕ) → InType i → Holds bytes i → bytes ≡ spell i
+  pub once : (xs ys : List Item) → All InType xs → All InType ys →
+      map item_kind xs ≡ map item_kind ys → spell_all xs ≡ spell_all ys → xs ≡ ys
+  pub count : (items : List Item) → All InType items →
+      length (spell_all items) ≡ widths (map item_kind items)
   pub read_back : (items : List Item) (behind : List ℕ) → All InType items →
-      unspell_all (map kind_of items) (spell_all items ++ behind) ≡ items
-  pub remains : (items : List Item) (behind : List ℕ) → All InType items →
-      drop (widths (map kind_of items)) (spell_all items ++ behind) ≡ behind
+      unspell_all (map item_kind items) (spell_all items ++ behind) ≡ items
+  pub leave_rest : (items : List Item) (behind : List ℕ) → All InType items →
+      drop (widths (map item_kind items)) (spell_all items ++ behind) ≡ behind

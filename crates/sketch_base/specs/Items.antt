@@ -8,21 +8,21 @@ use Rattle.sketch_base.specs.declared.codec.item.Kind.TheVariants as kind
 use Rattle.sketch_base.specs.Bytes.{le, be, low_bytes, twos_complement, modulo}
 
 -- the kind of an item
-abbrev pub kind_of : Item → Kind
-kind_of (item.U8 n) = kind.U8
-kind_of (item.I8 n) = kind.I8
-kind_of (item.U16Le n) = kind.U16Le
-kind_of (item.U16Be n) = kind.U16Be
-kind_of (item.I16Le n) = kind.I16Le
-kind_of (item.I16Be n) = kind.I16Be
-kind_of (item.U32Le n) = kind.U32Le
-kind_of (item.U32Be n) = kind.U32Be
-kind_of (item.I32Le n) = kind.I32Le
-kind_of (item.I32Be n) = kind.I32Be
-kind_of (item.U64Le n) = kind.U64Le
-kind_of (item.U64Be n) = kind.U64Be
-kind_of (item.I64Le n) = kind.I64Le
-kind_of (item.I64Be n) = kind.I64Be
+abbrev pub item_kind : Item → Kind
+item_kind (item.U8 n) = kind.U8
+item_kind (item.I8 n) = kind.I8
+item_kind (item.U16Le n) = kind.U16Le
+item_kind (item.U16Be n) = kind.U16Be
+item_kind (item.I16Le n) = kind.I16Le
+item_kind (item.I16Be n) = kind.I16Be
+item_kind (item.U32Le n) = kind.U32Le
+item_kind (item.U32Be n) = kind.U32Be
+item_kind (item.I32Le n) = kind.I32Le
+item_kind (item.I32Be n) = kind.I32Be
+item_kind (item.U64Le n) = kind.U64Le
+item_kind (item.U64Be n) = kind.U64Be
+item_kind (item.I64Le n) = kind.I64Le
+item_kind (item.I64Be n) = kind.I64Be
 
 -- how many bytes an item of a kind has
 abbrev pub width : Kind → ℕ
@@ -100,7 +100,8 @@ widths (k ∷ kinds) = width k + widths kinds
 -- the items of these kinds that bytes hold, one after another
 abbrev pub unspell_all : List Kind → List ℕ → List Item
 unspell_all [] bytes = []
-unspell_all (k ∷ kinds) bytes = unspell k (take (width k) bytes) ∷ unspell_all kinds (drop (width k) bytes)
+unspell_all (k ∷ kinds) bytes =
+    unspell k (take (width k) bytes) ∷ unspell_all kinds (drop (width k) bytes)
 
 -- the bytes of items, one after another
 abbrev pub spell_all : List Item → List ℕ

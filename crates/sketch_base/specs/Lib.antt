@@ -5,5 +5,5 @@ pub mod ItemLaws
 pub mod Items
 pub mod Reading
 pub mod Refusals
+pub mod WriterValue
 pub mod Writing
-pub mod Written

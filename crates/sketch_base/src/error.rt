@@ -2,7 +2,7 @@
 
 ghost use Rattle.std.specs.Prelude.{◌≡◌, ◌⊎◌, ◌++◌, ℕ, codes, List, IfOk, IfErr, IfSome, map, MatchResult, Some, string_bytes};
 ghost use Rattle.std.specs.Fmt.{decimal, DisplaysOnOk};
-ghost use Rattle.sketch_base.specs.ErrorValue.{contexts_text, kind_name, message_text};
+ghost use Rattle.sketch_base.specs.ErrorValue.{contexts_text, error_kind_name, message_text};
 
 use std::alloc::{AllocError, Global};
 use std::fmt;
@@ -22,7 +22,7 @@ pub enum ErrorKind {
 impl ErrorKind {
     /// The variant's name.
     pub fn into_static(self) -> &'static str
-        ensures { result.now ≡ kind_name self }
+        ensures { result.now ≡ error_kind_name self }
     {
         match self {
             ErrorKind::InvalidArgument => "InvalidArgument",
@@ -33,7 +33,7 @@ impl ErrorKind {
 }
 
 impl fmt::Display for ErrorKind {
-    ghost output = { λ kind. Some (kind_name kind) };
+    ghost output = { λ kind. Some (error_kind_name kind) };
 
     fn fmt<W: fmt::Write>(&self, f: &mut fmt::Formatter<W>) -> fmt::Result {
         f.write_str(self.into_static())
@@ -44,8 +44,9 @@ impl fmt::Display for ErrorKind {
 #[derive(Drop)]
 pub struct Error {
     kind: ErrorKind,
-    message: String,
-    context: Vec<(&'static str, String)>,
+    // Neither is there in an error that `?` made of a refusal of memory, which brings no allocator.
+    message: Option<String>,
+    context: Option<Vec<(&'static str, String)>>,
 }
 
 impl Model for Error {
@@ -53,17 +54,19 @@ impl Model for Error {
 
     ghost Value = { ErrorValue };
 
-    ghost use Rattle.std.specs.Prelude.{map, string_bytes};
+    ghost use Rattle.std.specs.Prelude.{[], map, string_bytes};
+    ghost use Rattle.std.specs.Option.{option_map_or};
 
     ghost view = { λ e. record {
       kind = e.kind;
-      message = string_bytes e.message;
-      contexts = map (λ c. record { key = c.0.now; text = string_bytes c.1 }) e.context.items;
+      message = option_map_or string_bytes e.message [];
+      contexts = option_map_or (λ contexts.
+          map (λ c. record { key = c.0.now; text = string_bytes c.1 }) contexts.items) e.context [];
     } };
 }
 
 impl Error {
-    ghost use Rattle.sketch_base.specs.ErrorValue.{in_context, plain, unheard};
+    ghost use Rattle.sketch_base.specs.ErrorValue.{add_context, error_of, memory_error};
     ghost use Rattle.sketch_base.specs.Refusals.{
       insufficient_data_text,
       insufficient_data_of_text,
@@ -76,13 +79,12 @@ impl Error {
 
     /// An error with this kind and message, and no context.
     pub fn new(kind: ErrorKind, message: String) -> Error
-        ensures { result ≡ plain kind (string_bytes message) }
+        ensures { result ≡ error_of kind (string_bytes message) }
     {
-        let alloc = *message.allocator();
         Error {
             kind,
-            message,
-            context: Vec::new(alloc),
+            message: Some(message),
+            context: None,
         }
     }
 
@@ -97,7 +99,21 @@ impl Error {
     pub fn message(&self) -> &str
         ensures { result.now ≡ self.now.message }
     {
-        self.message.as_str()
+        match &self.message {
+            Some(message) => message.as_str(),
+            None => "",
+        }
+    }
+
+    // The contexts, in the order in which they were added.
+    fn contexts(&self) -> &[(&'static str, String)]
+        ensures { map (λ c. record { key = c.0.now; text = string_bytes c.1 }) result.now
+            ≡ self.now.contexts }
+    {
+        match &self.context {
+            Some(contexts) => contexts.as_slice(),
+            None => &[],
+        }
     }
 
     /// Adds a context, the key and what the value prints, behind those that the error has.
@@ -106,21 +122,29 @@ impl Error {
     ///
     /// Where memory runs out, or the value fails to print: the error as it was.
     pub fn with_context<V: fmt::Display + Drop>(
-        mut self,
+        self,
         alloc: Global,
         key: &'static str,
         value: V,
     ) -> Result<Error, Error>
         ensures added { IfOk result (λ error.
-            (text : List ℕ) × Prints (V.output value) text × (error ≡ in_context self key.entry.now text)) }
+            (text : List ℕ) × Prints (V.output value) text
+            × (error ≡ add_context self key.entry.now text)) }
         ensures refused { IfErr result (λ error. error ≡ self) }
     {
         let Ok(text) = value.to_string(alloc) else {
             return Err(self);
         };
-        match self.context.push((key, text)) {
-            Ok(()) => Ok(self),
-            Err(_) => Err(self),
+        let mut contexts = self.context.unwrap_or(Vec::new(alloc));
+        let pushed = contexts.push((key, text));
+        let error = Error {
+            kind: self.kind,
+            message: self.message,
+            context: Some(contexts),
+        };
+        match pushed {
+            Ok(()) => Ok(error),
+            Err(_) => Err(error),
         }
     }
 
@@ -128,7 +152,8 @@ impl Error {
     /// memory for its text: of kind `OutOfMemory`, with no message.
     pub fn from_text(alloc: Global, kind: ErrorKind, text: Result<String, AllocError>) -> Error
         ensures { MatchResult text
-            (λ message. result ≡ plain kind (string_bytes message)) (λ _. result ≡ unheard) }
+            (λ message. result ≡ error_of kind (string_bytes message))
+            (λ _. result ≡ memory_error) }
     {
         match text {
             Ok(message) => Error::new(kind, message),
@@ -138,14 +163,14 @@ impl Error {
 
     /// An argument is invalid, as the message says.
     pub fn invalid_argument(message: String) -> Error
-        ensures { result ≡ plain ErrorKind.InvalidArgument (string_bytes message) }
+        ensures { result ≡ error_of ErrorKind.InvalidArgument (string_bytes message) }
     {
         Error::new(ErrorKind::InvalidArgument, message)
     }
 
     /// Serialized data is malformed, as the message says.
     pub fn deserial(message: String) -> Error
-        ensures { result ≡ plain ErrorKind.InvalidData (string_bytes message) }
+        ensures { result ≡ error_of ErrorKind.InvalidData (string_bytes message) }
     {
         Error::new(ErrorKind::InvalidData, message)
     }
@@ -173,7 +198,8 @@ impl Error {
         value: V,
     ) -> Error
         ensures { (text : List ℕ) × Prints (V.output value) text
-            × Refuses ErrorKind.InvalidData (insufficient_data_of_text context.entry.now text) result }
+            × Refuses ErrorKind.InvalidData
+            (insufficient_data_of_text context.entry.now text) result }
     {
         let text = match value.to_string(alloc) {
             Ok(text) => format!(in alloc; "insufficient data ({context}): {text}"),
@@ -186,7 +212,8 @@ impl Error {
     ///
     /// Where the text finds no memory, the error is of kind `OutOfMemory`, with no message.
     pub fn invalid_family(alloc: Global, expected: u8, actual: u8, name: &'static str) -> Error
-        ensures { Refuses ErrorKind.InvalidData (invalid_family_text expected actual name.entry.now) result }
+        ensures { Refuses ErrorKind.InvalidData
+            (invalid_family_text expected actual name.entry.now) result }
     {
         Error::refusal(
             alloc,
@@ -198,7 +225,8 @@ impl Error {
     ///
     /// Where the text finds no memory, the error is of kind `OutOfMemory`, with no message.
     pub fn invalid_preamble_longs(alloc: Global, expected: &[u8], actual: u8) -> Error
-        ensures { Refuses ErrorKind.InvalidData (invalid_preamble_longs_text expected.now actual) result }
+        ensures { Refuses ErrorKind.InvalidData
+            (invalid_preamble_longs_text expected.now actual) result }
     {
         Error::refusal(
             alloc,
@@ -210,7 +238,8 @@ impl Error {
     ///
     /// Where the text finds no memory, the error is of kind `OutOfMemory`, with no message.
     pub fn invalid_preamble_ints(alloc: Global, expected: u8, actual: u8) -> Error
-        ensures { Refuses ErrorKind.InvalidData (invalid_preamble_ints_text expected actual) result }
+        ensures { Refuses ErrorKind.InvalidData
+            (invalid_preamble_ints_text expected actual) result }
     {
         Error::refusal(
             alloc,
@@ -219,11 +248,27 @@ impl Error {
     }
 
     // Malformed data is refused, with a text that was just made.
+    #[tactic(auto, unfolding(crate::specs::Refusals::Refuses))]
     pub(crate) fn refusal(alloc: Global, text: Result<String, AllocError>) -> Error
         ensures { (message : List ℕ) → IfOk text (λ made. string_bytes made ≡ message)
             → Refuses ErrorKind.InvalidData message result }
     {
         Error::from_text(alloc, ErrorKind::InvalidData, text)
+    }
+}
+
+// So `?` passes on a refusal of memory: kind `OutOfMemory`, no message, no context.
+impl From<AllocError> for Error {
+    ghost use Rattle.sketch_base.specs.ErrorValue.{memory_error};
+
+    ghost from_gives = { λ _ error. error ≡ memory_error };
+
+    fn from(_error: AllocError) -> Error {
+        Error {
+            kind: ErrorKind::OutOfMemory,
+            message: None,
+            context: None,
+        }
     }
 }
 
@@ -233,9 +278,9 @@ impl fmt::Display for Error {
     ghost output = { λ error. Some (line error) };
 
     fn fmt<W: fmt::Write>(&self, f: &mut fmt::Formatter<W>) -> fmt::Result {
-        write!(f, "{}", self.kind)?;
-        write_contexts(&self.context, f)?;
-        write_message(&self.message, f)
+        write!(f, "{}", self.kind())?;
+        write_contexts(self.contexts(), f)?;
+        write_message(self.message(), f)
     }
 }
 
@@ -271,20 +316,26 @@ fn write_message<W: fmt::Write>(message: &str, f: &mut fmt::Formatter<W>) -> fmt
 impl fmt::Debug for Error {
     fn fmt<W: fmt::Write>(&self, f: &mut fmt::Formatter<W>) -> fmt::Result {
         if f.alternate() {
-            return f
-                .debug_struct("Error")
-                .field("kind", &self.kind)
-                .field("message", &self.message)
-                .field("context", &self.context)
-                .finish();
+            let mut fields = f.debug_struct("Error");
+            fields.field("kind", &self.kind);
+            match &self.message {
+                Some(message) => fields.field("message", message),
+                None => fields.field("message", &""),
+            };
+            match &self.context {
+                Some(contexts) => fields.field("context", contexts),
+                None => fields.field("context", &[(); 0]),
+            };
+            return fields.finish();
         }
+        let contexts = self.contexts();
         write!(f, "{}", self.kind)?;
-        write_message(&self.message, f)?;
+        write_message(self.message(), f)?;
         writeln!(f)?;
-        if !self.context.is_empty() {
+        if !contexts.is_empty() {
             writeln!(f)?;
             writeln!(f, "Context:")?;
-            for (key, text) in &self.context {
+            for (key, text) in contexts {
                 writeln!(f, "   {key}: {text}")?;
             }
         }

@@ -33,7 +33,8 @@ pub fn insufficient_data(alloc: Global, tag: &'static str, error: io::Error) -> 
 ///
 /// At any other: `InvalidData`, or `OutOfMemory` with no message where the text finds no memory.
 pub fn ensure_serial_version_is(alloc: Global, expected: u8, actual: u8) -> Result<(), Error>
-    ensures { AcceptsExactly (actual ≡ expected) (unsupported_serial_version_text expected actual) result }
+    ensures { AcceptsExactly (actual ≡ expected)
+        (unsupported_serial_version_text expected actual) result }
 {
     if expected == actual {
         return Ok(());
@@ -118,4 +119,4 @@ fn printed_range(alloc: Global, start: Bound<u8>, end: Bound<u8>) -> Result<Stri
 }
 
 #[cfg(test)]
-mod tests;
+pub(crate) mod tests;

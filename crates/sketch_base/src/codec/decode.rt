@@ -1,13 +1,13 @@
 //! Reading numbers from bytes.
 
-ghost use Rattle.std.specs.Prelude.{◌≡◌, ℕ, List, [], length, take, drop, is_ok, if◌then◌else◌};
+ghost use Rattle.std.specs.Prelude.{◌≡◌, ℕ, List, [], length, take, drop, is_ok, Some, if◌then◌else◌};
 ghost use Rattle.sketch_base.specs.Bytes.{le, be, twos_complement};
 ghost use Rattle.sketch_base.specs.Items.{unspell, width};
-ghost use Rattle.sketch_base.specs.Reading.{Reads, ReadsItems};
+ghost use Rattle.sketch_base.specs.Reading.{Reads, ReadsItems, short_text};
 
 use crate::codec::item::{Item, Kind};
-use std::io;
 use std::marker::Model;
+use std::{fmt, io};
 
 /// Reads numbers from a borrowed slice of bytes, without copying it.
 ///
@@ -30,6 +30,16 @@ pub struct Short {
     /// How many items were read.
     pub read: usize,
 }
+
+impl fmt::Display for Short {
+    ghost output = { λ short. Some (short_text short.read) };
+
+    fn fmt<W: fmt::Write>(&self, f: &mut fmt::Formatter<W>) -> fmt::Result {
+        write!(f, "insufficient data after {} items", self.read)
+    }
+}
+
+impl std::error::Error for Short {}
 
 impl SketchSlice<'_> {
     /// A reader of all bytes of the slice.
@@ -62,7 +72,8 @@ impl SketchSlice<'_> {
     /// Where fewer bytes remain than the buffer holds: the buffer is as it was.
     pub fn read_exact(&mut self, buf: &mut [u8]) -> io::Result<()>
         ensures read { Reads (length buf.old) (λ _. tt) self.old result self.new }
-        ensures filled { buf.new ≡ (if is_ok result then take (length buf.old) self.old else buf.old) }
+        ensures filled { buf.new
+            ≡ (if is_ok result then take (length buf.old) self.old else buf.old) }
     {
         let slice = self.slice;
         if slice.len() < buf.len() {
@@ -209,6 +220,7 @@ impl SketchSlice<'_> {
     ///
     /// At the first item for which too few bytes remain: how many were read. Their places are
     /// filled, the others are as they were.
+    #[tactic(auto, using(crate::proofs::ItemLemmas::one_item_more))]
     pub fn read_items(&mut self, kinds: &[Kind], out: &mut [Item]) -> Result<(), Short>
         requires { length kinds.now ≡ length out.old }
         ensures { ReadsItems kinds.now self.old out.old result self.new out.new }

@@ -1,17 +1,19 @@
 //! Writing numbers into bytes.
 
-ghost use Rattle.std.specs.Prelude.{◌≡◌, [], ◌∷◌, IfOk, reverse};
+ghost use Rattle.std.specs.Prelude.{◌≡◌, [], ◌∷◌, IfOk, Some, reverse};
 ghost use Rattle.sketch_base.specs.Bytes.{low_bytes, modulo};
 ghost use Rattle.sketch_base.specs.Items.{InType, spell};
-ghost use Rattle.sketch_base.specs.Writing.{Writes, WritesItems};
+ghost use Rattle.sketch_base.specs.Writing.{Writes, WritesItems, stopped_text};
 
 use crate::codec::item::Item;
 use std::alloc::{AllocError, Global};
+use std::fmt;
 use std::marker::Model;
 
 /// Writes numbers into bytes that grow as they are needed.
 ///
-/// A write that finds no memory is refused and changes nothing.
+/// A write is refused only where there is no room and memory for more runs out, and then it
+/// changes nothing.
 #[derive(Drop)]
 pub struct SketchBytes {
     bytes: Vec<u8>,
@@ -19,19 +21,29 @@ pub struct SketchBytes {
 
 impl Model for SketchBytes {
     ghost use Rattle.std.specs.Prelude.{vec_capacity};
-    ghost use Rattle.sketch_base.specs.Written.{Written};
+    ghost use Rattle.sketch_base.specs.WriterValue.{WriterValue};
 
-    ghost Value = { Written };
+    ghost Value = { WriterValue };
 
     ghost view = { λ s. record { bytes = s.bytes.items; room = vec_capacity s.bytes } };
 }
 
-/// A list of items was written in part, since memory ran out.
+/// A list of items was written in part: for the next one there is no room, and memory ran out.
 #[derive(Clone, Copy, Debug, PartialEq, Eq)]
 pub struct Stopped {
     /// How many items were written.
     pub accepted: usize,
 }
+
+impl fmt::Display for Stopped {
+    ghost output = { λ stopped. Some (stopped_text stopped.accepted) };
+
+    fn fmt<W: fmt::Write>(&self, f: &mut fmt::Formatter<W>) -> fmt::Result {
+        write!(f, "out of memory after {} items", self.accepted)
+    }
+}
+
+impl std::error::Error for Stopped {}
 
 impl SketchBytes {
     /// A writer that has no bytes yet, with room for so many.
@@ -58,10 +70,11 @@ impl SketchBytes {
     ///
     /// # Errors
     ///
-    /// Where memory runs out, as at every write: nothing is written.
+    /// Where there is no room and memory runs out, as at every write: the writer is as it was.
     pub fn write(&mut self, buf: &[u8]) -> Result<(), AllocError>
         ensures { Writes buf.now self.old result self.new }
     {
+        self.bytes.reserve(buf.len())?;
         self.bytes.extend_from_slice(buf)
     }
 
@@ -189,7 +202,9 @@ impl SketchBytes {
     ///
     /// # Errors
     ///
-    /// Where memory runs out: how many items were written. Nothing is written of the others.
+    /// Where there is no room for an item at that moment, and memory runs out: how many items were
+    /// written before it. Nothing is written of the others.
+    #[tactic(auto, using(crate::proofs::ItemLemmas::one_item_more))]
     pub fn write_items(&mut self, items: &[Item]) -> Result<(), Stopped>
         ensures { WritesItems items.now self.old result self.new }
     {

@@ -105,7 +105,8 @@ impl Family {
     ///
     /// # Errors
     ///
-    /// At any other id: `InvalidData`, or `OutOfMemory` with no message where the text finds no memory.
+    /// At any other id: `InvalidData`, or `OutOfMemory` with no message where the text finds no
+    /// memory.
     pub fn validate_id(&self, alloc: Global, family_id: u8) -> Result<(), Error>
         ensures { AcceptsExactly (family_id ≡ self.now.id)
             (invalid_family_text self.now.id family_id self.now.name.now) result }
@@ -117,3 +118,6 @@ impl Family {
         }
     }
 }
+
+#[cfg(test)]
+mod tests;

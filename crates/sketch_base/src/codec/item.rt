@@ -1,7 +1,7 @@
 //! Numbers in the forms in which serialized sketches hold them.
 
 ghost use Rattle.std.specs.Prelude.{◌≡◌};
-ghost use Rattle.sketch_base.specs.Items.{kind_of, width};
+ghost use Rattle.sketch_base.specs.Items.{item_kind, width};
 
 /// A number and the form in which it stands in bytes: its width in bits, its sign, and for more
 /// than one byte whether the lowest byte comes first (`Le`) or the highest (`Be`).
@@ -45,7 +45,7 @@ pub enum Kind {
 impl Item {
     /// The form of the item.
     pub fn kind(&self) -> Kind
-        ensures { result ≡ kind_of self.now }
+        ensures { result ≡ item_kind self.now }
     {
         match self {
             Item::U8(_) => Kind::U8,

@@ -1,5 +1,5 @@
-ghost use Rattle.std.specs.Prelude.{◌≡◌, IfOk, length, map};
-ghost use Rattle.sketch_base.specs.Items.{kind_of};
+ghost use Rattle.std.specs.Prelude.{◌≡◌, ◌↔◌, IfOk, IsTrue, length, map};
+ghost use Rattle.sketch_base.specs.Items.{item_kind};
 
 use super::*;
 use std::alloc::{AllocError, Global};
@@ -14,7 +14,7 @@ fn there_and_back(
     behind: &[u8],
     places: &mut [Item],
 ) -> Result<Vec<u8>, AllocError>
-    requires kinds { kinds.now ≡ map kind_of items.now }
+    requires kinds { kinds.now ≡ map item_kind items.now }
     requires places { length places.old ≡ length items.now }
     ensures items { IfOk result (λ _. places.new ≡ items.now) }
     ensures rest { IfOk result (λ rest. rest.items ≡ behind.now) }
@@ -30,6 +30,40 @@ fn there_and_back(
         unreachable!();
     }
     Vec::from_slice(alloc, reader.remaining())
+}
+
+// A caller's proof knows that a write of no bytes is never refused.
+fn write_no_bytes(writer: &mut SketchBytes)
+    ensures { writer.new.bytes ≡ writer.old.bytes }
+{
+    if let Err(AllocError) = writer.write(&[]) {
+        unreachable!();
+    }
+}
+
+// A caller's proof knows that `==` says yes exactly of values that are one.
+fn is_same_item(a: &Item, b: &Item) -> bool
+    ensures { IsTrue result ↔ (a.now ≡ b.now) }
+{
+    a == b
+}
+
+fn is_same_kind(a: &Kind, b: &Kind) -> bool
+    ensures { IsTrue result ↔ (a.now ≡ b.now) }
+{
+    a == b
+}
+
+fn is_same_short(a: &Short, b: &Short) -> bool
+    ensures { IsTrue result ↔ (a.now ≡ b.now) }
+{
+    a == b
+}
+
+fn is_same_stopped(a: &Stopped, b: &Stopped) -> bool
+    ensures { IsTrue result ↔ (a.now ≡ b.now) }
+{
+    a == b
 }
 
 // The first items of a writer's row, which is written into room for five bytes.
@@ -66,8 +100,8 @@ fn writes_items_into_memory_that_grows(rt: HostRuntime) -> Result<(), Fail> {
     Ok(())
 }
 
-// Holds also where a request for memory is refused, as `rt try --test --fail-alloc N` does with the Nth:
-// then just the first items are there, and where the second request is refused these are two.
+// Holds also where a request for memory is refused, as `rt try --test --fail-alloc N` does with the
+// Nth: then just the first items are there, and where the second request is refused these are two.
 #[test]
 fn tells_how_many_items_had_room(rt: HostRuntime) {
     let Ok(mut writer) = SketchBytes::with_capacity(rt.alloc(), 5) else {
@@ -118,6 +152,66 @@ fn tells_how_many_items_fit(rt: HostRuntime) {
     let mut reader = SketchSlice::new(&[1]);
     let nothing = reader.read_items(&[], &mut []);
     assert_eq!(rt; (nothing, reader.remaining()), (Ok(()), [1].as_slice()));
+}
+
+// Items that differ in their form or in their number alone.
+const APART: [Item; 6] = [
+    Item::U8(1),
+    Item::U8(2),
+    Item::I8(1),
+    Item::U16Le(1),
+    Item::U16Be(1),
+    Item::I64Be(1),
+];
+
+#[test]
+fn tells_items_and_kinds_apart(rt: HostRuntime) {
+    for (i, a) in APART.iter().enumerate() {
+        for (j, b) in APART.iter().enumerate() {
+            assert_eq!(rt; (is_same_item(a, b), *a != *b), (i == j, i != j));
+            let (k, l) = (a.kind(), b.kind());
+            let same = i == j || i + j == 1;
+            assert_eq!(rt; (is_same_kind(&k, &l), k != l), (same, !same));
+        }
+    }
+}
+
+#[test]
+fn tells_counts_apart(rt: HostRuntime) {
+    for (a, b) in [(0, 0), (0, 1), (7, 7), (usize::MAX, 0)] {
+        let (short, other) = (Short { read: a }, Short { read: b });
+        assert_eq!(rt;
+            (is_same_short(&short, &other), short != other),
+            (a == b, a != b)
+        );
+        let (stopped, other) = (Stopped { accepted: a }, Stopped { accepted: b });
+        assert_eq!(rt;
+            (is_same_stopped(&stopped, &other), stopped != other),
+            (a == b, a != b)
+        );
+    }
+}
+
+#[test]
+fn prints_how_far_a_list_came(rt: HostRuntime) -> Result<(), Fail> {
+    let short = Short { read: 3 }.to_string(rt.alloc())?;
+    let stopped = Stopped { accepted: 0 }.to_string(rt.alloc())?;
+    assert_eq!(rt;
+        (short.as_str(), stopped.as_str()),
+        (
+            "insufficient data after 3 items",
+            "out of memory after 0 items"
+        )
+    );
+    Ok(())
+}
+
+#[test]
+fn writes_no_bytes_at_any_room(rt: HostRuntime) -> Result<(), Fail> {
+    let mut writer = SketchBytes::with_capacity(rt.alloc(), 0)?;
+    write_no_bytes(&mut writer);
+    assert!(rt; writer.into_bytes().is_empty());
+    Ok(())
 }
 
 // Each form at its edges, as the library that this one is ported from reads and writes it.
@@ -212,14 +306,14 @@ const EDGES: [(Item, &[u8]); 45] = [
 ];
 
 // The bytes of one item, written into memory that grows.
-fn written(alloc: Global, item: Item) -> Option<Vec<u8>> {
+fn bytes_of(alloc: Global, item: Item) -> Option<Vec<u8>> {
     let mut writer = SketchBytes::with_capacity(alloc, 0).ok()?;
     writer.write_items(&[item]).ok()?;
     Some(writer.into_bytes())
 }
 
 // The one item of this kind that the bytes start with.
-fn read(kind: Kind, bytes: &[u8]) -> Option<Item> {
+fn first_item(kind: Kind, bytes: &[u8]) -> Option<Item> {
     let mut places = [Item::U8(0)];
     SketchSlice::new(bytes)
         .read_items(&[kind], &mut places)
@@ -230,7 +324,7 @@ fn read(kind: Kind, bytes: &[u8]) -> Option<Item> {
 #[test]
 fn spells_every_form_at_its_edges(rt: HostRuntime) {
     for (item, bytes) in &EDGES {
-        let written = written(rt.alloc(), *item);
+        let written = bytes_of(rt.alloc(), *item);
         assert_eq!(rt; written.as_deref(), Some(*bytes), "writing {item:?}");
     }
 }
@@ -240,7 +334,7 @@ fn reads_every_form_at_its_edges(rt: HostRuntime) {
     for (item, bytes) in &EDGES {
         let kind = item.kind();
         assert_eq!(rt;
-            (kind.width(), read(kind, bytes)),
+            (kind.width(), first_item(kind, bytes)),
             (bytes.len(), Some(*item))
         );
     }

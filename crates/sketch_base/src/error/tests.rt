@@ -1,11 +1,12 @@
-ghost use Rattle.std.specs.Prelude.{◌≡◌, codes, IfSome, string_bytes};
+ghost use Rattle.std.specs.Prelude.{◌≡◌, ◌↔◌, codes, IfErr, IfSome, IsTrue, string_bytes};
+ghost use Rattle.sketch_base.specs.ErrorValue.{memory_error};
 
 use super::*;
 use std::process::Abort;
 use std::test::Fail;
 
 // A caller's proof knows the displayed bytes of an error that it made.
-fn displayed(alloc: Global) -> Option<String>
+fn line_in_two_contexts(alloc: Global) -> Option<String>
     ensures { IfSome result (λ text. string_bytes text
         ≡ codes "InvalidData, context: { index: 42, file: foo } => parsing failed") }
 {
@@ -20,6 +21,20 @@ fn displayed(alloc: Global) -> Option<String>
         return None;
     };
     error.to_string(alloc).ok()
+}
+
+// A caller's proof knows that `==` says yes exactly of kinds that are one.
+fn is_same_kind(a: ErrorKind, b: ErrorKind) -> bool
+    ensures { IsTrue result ↔ (a ≡ b) }
+{
+    a == b
+}
+
+// A caller's proof knows the error that `?` makes of a refusal of memory.
+fn copy_of_text(alloc: Global, text: &str) -> Result<String, Error>
+    ensures { IfErr result (λ error. error ≡ memory_error) }
+{
+    Ok(String::from_str(alloc, text)?)
 }
 
 // A value whose printing fails by itself, as it does where memory runs out.
@@ -175,7 +190,7 @@ fn assert_text(rt: &impl Abort, made: Result<String, AllocError>, text: &str) {
 
 #[test]
 fn shows_a_concrete_error(rt: HostRuntime) {
-    let text = displayed(rt.alloc()).ok_or(AllocError);
+    let text = line_in_two_contexts(rt.alloc()).ok_or(AllocError);
     assert_text(
         &rt,
         text,
@@ -270,6 +285,20 @@ fn keeps_kind_and_message(rt: HostRuntime) -> Result<(), Fail> {
 }
 
 #[test]
+fn tells_kinds_apart(rt: HostRuntime) {
+    let kinds = [
+        ErrorKind::InvalidArgument,
+        ErrorKind::InvalidData,
+        ErrorKind::OutOfMemory,
+    ];
+    for (i, a) in kinds.iter().enumerate() {
+        for (j, b) in kinds.iter().enumerate() {
+            assert_eq!(rt; (is_same_kind(*a, *b), *a != *b), (i == j, i != j));
+        }
+    }
+}
+
+#[test]
 fn prints_the_names_of_the_kinds(rt: HostRuntime) {
     let alloc = rt.alloc();
     for (kind, name) in [
@@ -333,6 +362,28 @@ fn prints_what_the_constructors_make(rt: HostRuntime) -> Result<(), Fail> {
 }
 
 #[test]
+fn a_refusal_of_memory_becomes_an_error(rt: HostRuntime) -> Result<(), Fail> {
+    let alloc = rt.alloc();
+    assert_text(&rt, copy_of_text(alloc, "x").map_err(|_| AllocError), "x");
+    let error = Error::from(AllocError);
+    assert_eq!(rt;
+        (error.kind(), error.message()),
+        (ErrorKind::OutOfMemory, "")
+    );
+    assert_text(&rt, error.to_string(alloc), "OutOfMemory");
+    assert_text(&rt, format!(in alloc; "{error:?}"), "OutOfMemory\n");
+    let fields = "Error {\n    kind: OutOfMemory,\n    message: \"\",\n    context: [],\n}";
+    assert_text(&rt, format!(in alloc; "{error:#?}"), fields);
+    let error = error.with_context(alloc, "a", 1u8)?;
+    assert_text(
+        &rt,
+        error.to_string(alloc),
+        "OutOfMemory, context: { a: 1 }",
+    );
+    Ok(())
+}
+
+#[test]
 fn answers_a_value_that_does_not_print(rt: HostRuntime) -> Result<(), Fail> {
     let alloc = rt.alloc();
     let error = error(alloc, ErrorKind::InvalidData, "m")?.with_context(alloc, "a", 1u8)?;
@@ -349,19 +400,19 @@ fn answers_a_value_that_does_not_print(rt: HostRuntime) -> Result<(), Fail> {
 #[test]
 fn answers_a_message_that_does_not_print(rt: HostRuntime) {
     let alloc = rt.alloc();
-    for unheard in [
+    for error in [
         Error::insufficient_data(alloc, Unprintable),
         Error::insufficient_data_of(alloc, "header", Unprintable),
     ] {
         assert_eq!(rt;
-            (unheard.kind(), unheard.message()),
+            (error.kind(), error.message()),
             (ErrorKind::OutOfMemory, "")
         );
     }
 }
 
-// Holds also where any one request for memory is refused, as `rt try --test --fail-alloc N` does with the
-// Nth: then the error stays as it was.
+// Holds also where any one request for memory is refused, as `rt try --test --fail-alloc N` does
+// with the Nth: then the error stays as it was.
 #[test]
 fn keeps_an_error_at_want_of_memory(rt: HostRuntime) {
     let alloc = rt.alloc();
@@ -403,9 +454,9 @@ fn constructors_answer_want_of_memory(rt: HostRuntime) {
             "invalid preamble ints: expected 2, got 9",
         ),
     ] {
-        let told = (ErrorKind::InvalidData, message);
-        let unheard = (ErrorKind::OutOfMemory, "");
         let answer = (error.kind(), error.message());
-        assert!(rt; answer == told || answer == unheard, "not {message}");
+        let with_text = answer == (ErrorKind::InvalidData, message);
+        let without_memory = answer == (ErrorKind::OutOfMemory, "");
+        assert!(rt; with_text || without_memory, "not {message}");
     }
 }

@@ -1,26 +1,26 @@
 use Rattle.std.proofs.Common.{◌≡◌, ℕ, ◌+◌, List, ◌++◌, ◌∙◌, ap, refl, [], length, length-append, Result, Ok, Err, IfOk, arith}
 use Rattle.sketch_base.specs.declared.codec.item.Item.{Item}
 use Rattle.sketch_base.specs.Items.{spell_all, widths}
-use Rattle.sketch_base.specs.Written.{Written}
+use Rattle.sketch_base.specs.WriterValue.{WriterValue}
 use Rattle.sketch_base.proofs.ItemLemmas.{widths-take-le}
-use Rattle.sketch_base.proofs.ItemLawLemmas.{length-spell_all, read_back, remains}
+use Rattle.sketch_base.proofs.ItemLawLemmas.{length-spell_all, read_back, leave_rest}
 use Rattle.sketch_base.proofs.codec.tests.there_and_back.Goals as goal
 
--- what holds anyhow holds of an Ok
-anyhow : {X E : Type 0} (r : Result X E) (P : Type 0) → P → IfOk r (λ _. P)
-anyhow (Ok x) P h = h
-anyhow (Err e) P h = tt
+-- what holds ok_of_any holds of an Ok
+ok_of_any : {X E : Type 0} (r : Result X E) (P : Type 0) → P → IfOk r (λ _. P)
+ok_of_any (Ok x) P h = h
+ok_of_any (Err e) P h = tt
 
 -- the bytes that are read are those of the items, and the others behind them
-taken : (empty filled : List ℕ) (items : List Item) (behind read : List ℕ) → empty ≡ [] →
+bytes_read : (empty filled : List ℕ) (items : List Item) (behind read : List ℕ) → empty ≡ [] →
     filled ≡ empty ++ spell_all items → read ≡ filled ++ behind → read ≡ spell_all items ++ behind
-taken empty filled items behind read none written is = rw (is, written, none) refl
+bytes_read empty filled items behind read none written is = rw (is, written, none) refl
 
 pub unreachable-requires : goal.unreachable-requires
 unreachable-requires c =
     let short = c.in-Err-read_items.ensures in
-    let whole = taken _ _ _ _ _ (ap (λ
-    (writer : Written). writer.bytes) c.in_ok-writer.ensures) c.in_default.ensures.written
+    let whole = bytes_read _ _ _ _ _ (ap (λ
+    (writer : WriterValue). writer.bytes) c.in_ok-writer.ensures) c.in_default.ensures.written
     (c.new-reader.ensures ∙ c.deref.ensures.value ∙ c.in_ok-extend_from_slice.ensures.items
     ∙ ap (λ bytes. bytes ++ c.args.behind.now) c.into_bytes-bytes.ensures) in
     let fits = length-spell_all c.args.items.now c.in_default.ensures.in_type in
@@ -35,8 +35,8 @@ unreachable-requires c =
 
 pub returns-clause-items : goal.returns-clause-items
 returns-clause-items c =
-    let whole = taken _ _ _ _ _ (ap (λ
-    (writer : Written). writer.bytes) c.in_ok-writer.ensures) c.in_default.ensures.written
+    let whole = bytes_read _ _ _ _ _ (ap (λ
+    (writer : WriterValue). writer.bytes) c.in_ok-writer.ensures) c.in_default.ensures.written
     (c.new-reader.ensures ∙ c.deref.ensures.value ∙ c.in_ok-extend_from_slice.ensures.items
     ∙ ap (λ bytes. bytes ++ c.args.behind.now) c.into_bytes-bytes.ensures) in
     let same : c.read_items.new.out ≡ c.args.items.now =
@@ -45,15 +45,15 @@ returns-clause-items c =
       whole,
       c.requires.kinds,
     ) (read_back c.args.items.now c.args.behind.now c.in_default.ensures.in_type) in
-    anyhow _ _ same
+    ok_of_any _ _ same
 
 pub returns-clause-rest : goal.returns-clause-rest
 returns-clause-rest c =
-    let whole = taken _ _ _ _ _ (ap (λ
-    (writer : Written). writer.bytes) c.in_ok-writer.ensures) c.in_default.ensures.written
+    let whole = bytes_read _ _ _ _ _ (ap (λ
+    (writer : WriterValue). writer.bytes) c.in_ok-writer.ensures) c.in_default.ensures.written
     (c.new-reader.ensures ∙ c.deref.ensures.value ∙ c.in_ok-extend_from_slice.ensures.items
     ∙ ap (λ bytes. bytes ++ c.args.behind.now) c.into_bytes-bytes.ensures) in
     let left : c.remaining.result.now ≡ c.args.behind.now =
     rw (c.remaining.ensures, c.in_default-read_items.ensures.2, whole, c.requires.kinds)
-    (remains c.args.items.now c.args.behind.now c.in_default.ensures.in_type) in
+    (leave_rest c.args.items.now c.args.behind.now c.in_default.ensures.in_type) in
     rw (← left) c.from_slice.ensures.items

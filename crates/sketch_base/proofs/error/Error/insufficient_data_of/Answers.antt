@@ -1,4 +1,4 @@
-use Rattle.std.proofs.Common.{append_assoc, string_bytes}
+use Rattle.std.proofs.Common.{string_bytes}
 use Rattle.sketch_base.proofs.RefusalLemmas.{some_text}
 use Rattle.sketch_base.proofs.error.Error.insufficient_data_of.Goals as goal
 use Rattle.sketch_base.proofs.error.Error.insufficient_data_of.Goals.{in-Ok, in-Err}
@@ -8,7 +8,7 @@ returns g c = elim c.match-to_string.branch [
   | in-Ok w ↦ (
     string_bytes w.in-Ok.text,
     w.in-Ok.ensures.ok,
-    c.refusal.ensures _ (rw w.text-is (simp append_assoc w.format-text.ensures.ok)),
+    c.refusal.ensures _ (rw w.text-is w.format-text.ensures.ok),
   )
   | in-Err w ↦ let any = some_text (g.V.Display.output c.args.value) in
       (any.0, any.1, c.refusal.ensures _ (rw w.text-is tt))

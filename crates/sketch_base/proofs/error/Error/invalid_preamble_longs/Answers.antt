@@ -1,4 +1,4 @@
-use Rattle.std.proofs.Common.{◌≡◌, ℕ, List, Option, Some, IfOk, IfSome, codes, string_bytes, subst, append_assoc}
+use Rattle.std.proofs.Common.{◌≡◌, ℕ, List, Option, Some, IfOk, IfSome, codes, string_bytes, subst}
 use Rattle.std.specs.Fmt.{decimal, ◌++?◌}
 use Rattle.sketch_base.proofs.RefusalLemmas.{debug_list-is}
 use Rattle.sketch_base.proofs.error.Error.invalid_preamble_longs.Goals as goal
@@ -11,4 +11,4 @@ returns c =
     ++? (list ++? (Some (codes ", got ") ++? Some (decimal c.args.actual))))
     (λ bytes. string_bytes made ≡ bytes)) in
     let made = subst Made (debug_list-is c.args.expected.now) c.format.ensures.ok in
-    c.refusal.ensures _ (simp append_assoc made)
+    c.refusal.ensures _ made

@@ -1,0 +1,85 @@
+ghost use Rattle.std.specs.Prelude.{◌≡◌, ℕ, List, [], ◌∷◌, codes, map};
+
+use super::*;
+use crate::codec::assert::tests::{assert_line, is_refusal_with};
+
+// A caller's proof knows the fields of each family.
+fn families() -> [Family; 10]
+    ensures { map {B = ℕ × List ℕ × ℕ × ℕ}
+        (λ family. (family.id, family.name.now, family.min_pre_longs, family.max_pre_longs)) result
+        ≡ (3, codes "THETA", 1, 3) ∷ (7, codes "HLL", 1, 1) ∷ (9, codes "TUPLE", 1, 3)
+        ∷ (10, codes "FREQUENCY", 1, 4) ∷ (15, codes "KLL", 1, 2) ∷ (16, codes "CPC", 1, 5)
+        ∷ (17, codes "REQ", 1, 2) ∷ (18, codes "COUNTMIN", 2, 2) ∷ (20, codes "TDIGEST", 1, 2)
+        ∷ (21, codes "BLOOMFILTER", 3, 4) ∷ [] }
+{
+    [
+        Family::THETA,
+        Family::HLL,
+        Family::TUPLE,
+        Family::FREQUENCY,
+        Family::KLL,
+        Family::CPC,
+        Family::REQ,
+        Family::COUNTMIN,
+        Family::TDIGEST,
+        Family::BLOOMFILTER,
+    ]
+}
+
+// Of each family its id, its name, and its least and greatest number of preamble longs.
+const FIELDS: [(u8, &'static str, u8, u8); 10] = [
+    (3, "THETA", 1, 3),
+    (7, "HLL", 1, 1),
+    (9, "TUPLE", 1, 3),
+    (10, "FREQUENCY", 1, 4),
+    (15, "KLL", 1, 2),
+    (16, "CPC", 1, 5),
+    (17, "REQ", 1, 2),
+    (18, "COUNTMIN", 2, 2),
+    (20, "TDIGEST", 1, 2),
+    (21, "BLOOMFILTER", 3, 4),
+];
+
+#[test]
+fn has_the_families_of_the_format(rt: HostRuntime) {
+    for (family, fields) in families().iter().zip(&FIELDS) {
+        assert_eq!(rt;
+            (
+                family.id,
+                family.name,
+                family.min_pre_longs,
+                family.max_pre_longs
+            ),
+            *fields
+        );
+    }
+}
+
+#[test]
+fn accepts_its_own_id(rt: HostRuntime) {
+    let alloc = rt.alloc();
+    assert_line(&rt, alloc, Family::HLL.validate_id(alloc, 7), "");
+    assert_line(
+        &rt,
+        alloc,
+        Family::HLL.validate_id(alloc, 8),
+        "InvalidData => invalid family: expected 7 (HLL), got 8",
+    );
+    assert_line(
+        &rt,
+        alloc,
+        Family::BLOOMFILTER.validate_id(alloc, 255),
+        "InvalidData => invalid family: expected 21 (BLOOMFILTER), got 255",
+    );
+}
+
+// Holds also where any one request for memory is refused, as `rt try --test --fail-alloc N` does
+// with the Nth: then the refusal tells of memory, and its own id stays accepted.
+#[test]
+fn ids_are_checked_at_want_of_memory(rt: HostRuntime) {
+    let alloc = rt.alloc();
+    let accepted = Family::HLL.validate_id(alloc, 7).is_ok();
+    let refused = Family::HLL.validate_id(alloc, 8);
+    let with_text = is_refusal_with(&refused, "invalid family: expected 7 (HLL), got 8");
+    assert_eq!(rt; (accepted, with_text), (true, true));
+}
