@@ -30,7 +30,8 @@ IsByte b = b < 256
 onward : List ℕ → ℕ → ℕ × ℕ → ℕ × ℕ
 onward bytes n h = ending (with_tail (fold step h (blocks bytes)) (tail bytes)) (n % 2 ^ 64)
 
-onward-once : PieceLaws → MurmurStepLaws → (bytes : List ℕ) (n : ℕ) → AreBytes bytes → OneToOne AreWords AreWords (onward bytes n)
+onward-once : PieceLaws → MurmurStepLaws →
+    (bytes : List ℕ) (n : ℕ) → AreBytes bytes → OneToOne AreWords AreWords (onward bytes n)
 unfolding onward
 onward-once ps ms bytes n h =
     ms.steps_of_pair (blocks bytes) (ms.blocks_read bytes h)
@@ -41,12 +42,14 @@ onward-once ps ms bytes n h =
 reached : ℕ → List ℕ → ℕ × ℕ
 reached seed before = fold step (seed, seed) (blocks before)
 
-reached-lands : PieceLaws → MurmurStepLaws → (seed : ℕ) (before : List ℕ) → IsWord seed → AreBytes before → AreWords (reached seed before)
+reached-lands : PieceLaws → MurmurStepLaws →
+    (seed : ℕ) (before : List ℕ) → IsWord seed → AreBytes before → AreWords (reached seed before)
 unfolding reached
 reached-lands ps ms seed before p h =
     (ms.steps_of_pair (blocks before) (ms.blocks_read before h)).lands (seed, seed) (p, p)
 
-blocks-aligned : PieceLaws → MurmurStepLaws → (i : ℕ) (before after : List ℕ) → length before ≡ 16 * i →
+blocks-aligned : PieceLaws → MurmurStepLaws →
+    (i : ℕ) (before after : List ℕ) → length before ≡ 16 * i →
     blocks (before ++ after) ≡ blocks before ++ blocks after
 blocks-aligned ps ms i before after e =
     let whole = ps.whole_rest 16 i before (omega arith) e in
@@ -54,7 +57,8 @@ blocks-aligned ps ms i before after e =
     ∙ map-append block_words (pieces 16 before) (pieces 16 after)
 
 -- the hash of bytes behind whole blocks
-murmur-aligned : PieceLaws → MurmurStepLaws → (seed i : ℕ) (before after : List ℕ) → length before ≡ 16 * i →
+murmur-aligned : PieceLaws → MurmurStepLaws →
+    (seed i : ℕ) (before after : List ℕ) → length before ≡ 16 * i →
     murmur seed (before ++ after) ≡ onward after (length before + length after) (reached seed before)
 unfolding murmur onward reached
 murmur-aligned ps ms seed i before after e =
@@ -68,12 +72,14 @@ murmur-aligned ps ms seed i before after e =
     rw (last, cut, length-append before after) refl
 
 -- the pair of words after one more block
-reached-more : PieceLaws → MurmurStepLaws → (seed i : ℕ) (before block : List ℕ) → length before ≡ 16 * i → length block ≡ 16 →
+reached-more : PieceLaws → MurmurStepLaws →
+    (seed i : ℕ) (before block : List ℕ) → length before ≡ 16 * i → length block ≡ 16 →
     reached seed (before ++ block) ≡ step (reached seed before) (block_words block)
 unfolding reached
 reached-more ps ms seed i before block e f =
     let one = ap (map block_words) (ps.one_piece 16 block (omega arith) f) in
-    ap (fold step (seed, seed)) (blocks-aligned ps ms i before block e ∙ ap (λ list. blocks before ++ list) one)
+    ap (fold step (seed, seed))
+    (blocks-aligned ps ms i before block e ∙ ap (λ list. blocks before ++ list) one)
     ∙ fold-append step (seed, seed) (blocks before) (block_words block ∷ [])
 
 -- ---- a block that is full, and a block that is cut off
@@ -81,7 +87,8 @@ reached-more ps ms seed i before block e f =
 pub murmur_block_law : PieceLaws → MurmurStepLaws → MurmurBlockLaw
 murmur_block_law ps ms seed i before after p h k e =
     alike (λ block. murmur seed (before ++ block ++ after)) same_hash
-    (ms.block_read ▸ ms.step_of_block start (reached-lands ps ms seed before p h) ▸ onward-once ps ms after n k)
+    (ms.block_read ▸ ms.step_of_block start (reached-lands ps ms seed before p h)
+    ▸ onward-once ps ms after n k)
   where
     n : ℕ
     n = length before + 16 + length after
@@ -102,7 +109,8 @@ pub murmur_seed_law : MurmurStepLaws → MurmurSeedLaw
 murmur_seed_law ms = ms.steps_of_pair
 
 -- the hash of whole blocks and a block that is cut off
-murmur-cut : PieceLaws → MurmurStepLaws → (seed i : ℕ) (before last : List ℕ) → length before ≡ 16 * i → length last < 16 →
+murmur-cut : PieceLaws → MurmurStepLaws →
+    (seed i : ℕ) (before last : List ℕ) → length before ≡ 16 * i → length last < 16 →
     murmur seed (before ++ last)
     ≡ ending (with_tail (reached seed before) last) ((length before + length last) % 2 ^ 64)
 unfolding onward
@@ -132,7 +140,8 @@ cut_block-once ps ms seed i before a b p h j k e m l q =
 -- ---- one stream, or one seed
 
 -- one stream has one hash under one seed only
-pub murmur_two_seeds : PieceLaws → MurmurStepLaws → (seed_a seed_b : ℕ) (bytes : List ℕ) → IsWord seed_a → IsWord seed_b → AreBytes bytes →
+pub murmur_two_seeds : PieceLaws → MurmurStepLaws →
+    (seed_a seed_b : ℕ) (bytes : List ℕ) → IsWord seed_a → IsWord seed_b → AreBytes bytes →
     murmur seed_a bytes ≡ murmur seed_b bytes → seed_a ≡ seed_b
 unfolding murmur onward
 murmur_two_seeds ps ms seed_a seed_b bytes p q h e =
@@ -148,7 +157,8 @@ record SameOutsideBlock (seed i : ℕ) (a b : List ℕ) : Type 0 where
   agree : AgreeOutside (16 * i) (16 * i + 16) a b
   one_hash : murmur seed a ≡ murmur seed b
 
-same_full_block : PieceLaws → MurmurStepLaws → (seed i : ℕ) (a b : List ℕ) → SameOutsideBlock seed i a b → 16 * i + 16 ≤ length a → a ≡ b
+same_full_block : PieceLaws → MurmurStepLaws →
+    (seed i : ℕ) (a b : List ℕ) → SameOutsideBlock seed i a b → 16 * i + 16 ≤ length a → a ≡ b
 same_full_block ps ms seed i a b s full =
     let low = 16 * i in
     let before = take low a in
@@ -174,7 +184,8 @@ same_full_block ps ms seed i a b s full =
       length-take-le 16 (drop (16 * i) bytes) (rw (length-drop (16 * i) bytes) (omega arith)),
     )
 
-same_cut_block : PieceLaws → MurmurStepLaws → (seed i : ℕ) (a b : List ℕ) → SameOutsideBlock seed i a b →
+same_cut_block : PieceLaws → MurmurStepLaws →
+    (seed i : ℕ) (a b : List ℕ) → SameOutsideBlock seed i a b →
     16 * i ≤ length a → length a < 16 * i + 16 → a ≡ b
 same_cut_block ps ms seed i a b s begun cut =
     let low = 16 * i in
@@ -193,7 +204,8 @@ same_cut_block ps ms seed i a b s begun cut =
     sym in_a ∙ ap (λ t. before ++ t) same ∙ in_b
 
 -- under one seed two streams that differ in one block have two hashes
-pub murmur_one_block : PieceLaws → MurmurStepLaws → (seed : ℕ) (a b : List ℕ) → IsWord seed → AreBytes a → AreBytes b →
+pub murmur_one_block : PieceLaws → MurmurStepLaws →
+    (seed : ℕ) (a b : List ℕ) → IsWord seed → AreBytes a → AreBytes b →
     DifferInOneBlock a b → murmur seed a ≢ murmur seed b
 murmur_one_block ps ms seed a b p h k d e =
     let i = d.one_block.0 in

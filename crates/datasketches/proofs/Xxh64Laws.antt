@@ -35,7 +35,8 @@ begun-lands v n = plus-lt (if nat_lt n 32 then plus v.seed prime5 else merge v) 
 onward : List (ℕ × ℕ) → ℕ → ℕ
 onward list h = avalanche (fold tail_step h list)
 
-onward-once : PieceLaws → Xxh64StepLaws → (list : List (ℕ × ℕ)) → All IsStep list → OneToOne IsWord IsWord (onward list)
+onward-once : PieceLaws → Xxh64StepLaws →
+    (list : List (ℕ × ℕ)) → All IsStep list → OneToOne IsWord IsWord (onward list)
 unfolding onward
 onward-once ps ss list p = ss.steps_of_word list p ▸ ss.last_mixing
 
@@ -44,7 +45,8 @@ xxh64-is : (seed : ℕ) (bytes : List ℕ) →
 unfolding xxh64 ending onward begun
 xxh64-is seed bytes = refl
 
-tail_steps-are : PieceLaws → Xxh64StepLaws → (bytes : List ℕ) → AreBytes bytes → All IsStep (tail_steps bytes)
+tail_steps-are : PieceLaws → Xxh64StepLaws →
+    (bytes : List ℕ) → AreBytes bytes → All IsStep (tail_steps bytes)
 tail_steps-are ps ss bytes h = ss.tail_read (rest 32 bytes) (ps.rest_bytes 32 bytes h)
 
 -- ---- one step of the tail
@@ -77,7 +79,8 @@ one_width h i xs ys s l k =
     ∙ get_or-map (λ s. s.0) ys i (0, 0) 0 k
 
 -- the two steps at the place have one number
-one_number : PieceLaws → Xxh64StepLaws → (h i : ℕ) (xs ys : List (ℕ × ℕ)) → SameOutsideStep h i xs ys → i < length xs → i < length ys →
+one_number : PieceLaws → Xxh64StepLaws →
+    (h i : ℕ) (xs ys : List (ℕ × ℕ)) → SameOutsideStep h i xs ys → i < length xs → i < length ys →
     (get_or xs i (0, 0)).1 ≡ (get_or ys i (0, 0)).1
 one_number ps ss h i xs ys s l k =
     let x = get_or xs i (0, 0) in
@@ -98,7 +101,8 @@ one_number ps ss h i xs ys s l k =
     let once = (ss.step_of_number x.0 start start_is ▸ onward_is).once in
     once x.1 y.1 (All-get_or IsStep xs i (0, 0) l s.xs_are) (All-get_or IsStep ys i (0, 0) k s.ys_are) one_end
 
-same_steps : PieceLaws → Xxh64StepLaws → (h i : ℕ) (xs ys : List (ℕ × ℕ)) → SameOutsideStep h i xs ys → xs ≡ ys
+same_steps : PieceLaws → Xxh64StepLaws →
+    (h i : ℕ) (xs ys : List (ℕ × ℕ)) → SameOutsideStep h i xs ys → xs ≡ ys
 same_steps ps ss h i xs ys s =
     let m = one_length h i xs ys s in
     elim (cases_lt i (length xs)) [
@@ -107,7 +111,8 @@ same_steps ps ss h i xs ys s =
           let y = get_or ys i (0, 0) in
           sym (parts_at xs i (0, 0) l)
           ∙ ap (λ t. t ++ get_or xs i (0, 0) ∷ drop (i + 1) xs) (agree-front i (i + 1) xs ys m s.agree)
-          ∙ ap (λ n. take i ys ++ ((get_or xs i (0, 0)).0, n) ∷ drop (i + 1) xs) (one_number ps ss h i xs ys s l k)
+          ∙ ap (λ n. take i ys ++ ((get_or xs i (0, 0)).0, n) ∷ drop (i + 1) xs)
+          (one_number ps ss h i xs ys s l k)
           ∙ ap (λ w. take i ys ++ (w, y.1) ∷ drop (i + 1) xs) (one_width h i xs ys s l k)
           ∙ ap (λ t. take i ys ++ y ∷ t) (agree-back i (i + 1) xs ys m s.agree) ∙ parts_at ys i (0, 0) k
       | inr beyond ↦ agree-beyond i (i + 1) xs ys m s.agree beyond
@@ -151,7 +156,8 @@ xx_seed_law ps ss seed_a seed_b bytes p q h l differ e =
     let a_is = begun-lands (lanes seed_a bytes) (length bytes % 2 ^ 64) in
     let b_is = begun-lands (lanes seed_b bytes) (length bytes % 2 ^ 64) in
     let one_end = sym (xxh64-is seed_a bytes) ∙ e ∙ xxh64-is seed_b bytes in
-    let one_start = (onward-once ps ss (tail_steps bytes) (tail_steps-are ps ss bytes h)).once _ _ a_is b_is one_end in
+    let once = (onward-once ps ss (tail_steps bytes) (tail_steps-are ps ss bytes h)).once in
+    let one_start = once _ _ a_is b_is one_end in
     let one_sum = sym (begun-short seed_a bytes l) ∙ one_start ∙ begun-short seed_b bytes l in
     differ (same_seed (length bytes) seed_a seed_b p q one_sum)
   where

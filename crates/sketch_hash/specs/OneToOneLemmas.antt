@@ -1,4 +1,5 @@
--- Functions that take each value exactly once, composed: in turn, in a part of a pair, along a list.
+-- Functions that take each value exactly once, composed: in turn, in a part of a pair, along a
+-- list.
 use Rattle.std.proofs.Common.{◌≡◌, List, [], ◌∷◌, refl, sym, ap, ◌∙◌, Bool, true, false, cond}
 use Rattle.std.specs.List.{All, fold}
 use Rattle.std.proofs.lemmas.List.Elements.{All-head, All-tail}
@@ -10,7 +11,8 @@ same = record { lands = λ x h. h; once = λ x y h k e. e; reached = λ y h. (y,
 
 -- one function, and then another
 infixr 20 ◌▸◌
-pub ◌▸◌ : {A B C : Type 0} {S : A → Type 0} {T : B → Type 0} {U : C → Type 0} {f : A → B} {g : B → C} →
+pub ◌▸◌ : {A B C : Type 0} {S : A → Type 0} {T : B → Type 0} {U : C → Type 0}
+    {f : A → B} {g : B → C} →
     OneToOne S T f → OneToOne T U g → OneToOne S U (λ x. g (f x))
 ◌▸◌ {f = f} {g = g} p q = record {
   lands = λ x h. q.lands (f x) (p.lands x h);
@@ -36,14 +38,16 @@ on_first {A = A} {B = B} {C = C} f law = record {
   once = λ p q h k e.
       let second = ap (λ (t : C × B). t.1) e in
       let first = ap (λ (t : C × B). t.0) e ∙ ap (f q.0) (sym second) in
-      ap (λ (a : A). (a, p.1)) ((law p.1 h.1).once p.0 q.0 h.0 k.0 first) ∙ ap (λ (b : B). (q.0, b)) second;
+      ap (λ (a : A). (a, p.1)) ((law p.1 h.1).once p.0 q.0 h.0 k.0 first)
+      ∙ ap (λ (b : B). (q.0, b)) second;
   reached = λ p h.
       let r = (law p.1 h.1).reached p.0 h.0 in
       ((r.0, p.1), (r.1, h.1), ap (λ (c : C). (c, p.1)) r.2);
 }
 
 -- the second of a pair, by a function that may look at the first
-pub on_second : {A B C : Type 0} {S : A → Type 0} {T : B → Type 0} {U : C → Type 0} (f : A → B → C) →
+pub on_second : {A B C : Type 0} {S : A → Type 0} {T : B → Type 0} {U : C → Type 0}
+    (f : A → B → C) →
     ((a : A) → S a → OneToOne T U (f a)) →
     OneToOne (λ (p : A × B). S p.0 × T p.1) (λ (p : A × C). S p.0 × U p.1) (λ p. (p.0, f p.0 p.1))
 on_second {A = A} {B = B} {C = C} f law = record {
@@ -51,7 +55,8 @@ on_second {A = A} {B = B} {C = C} f law = record {
   once = λ p q h k e.
       let first = ap (λ (t : A × C). t.0) e in
       let second = ap (λ (t : A × C). t.1) e ∙ ap (λ a. f a q.1) (sym first) in
-      ap (λ (b : B). (p.0, b)) ((law p.0 h.0).once p.1 q.1 h.1 k.1 second) ∙ ap (λ (a : A). (a, q.1)) first;
+      ap (λ (b : B). (p.0, b)) ((law p.0 h.0).once p.1 q.1 h.1 k.1 second)
+      ∙ ap (λ (a : A). (a, q.1)) first;
   reached = λ p h.
       let r = (law p.0 h.0).reached p.1 h.1 in
       ((p.0, r.0), (h.0, r.1), ap (λ (c : C). (p.0, c)) r.2);
@@ -71,6 +76,7 @@ choice false p q = q
 
 -- all elements of a list, one after another
 pub along : {A X : Type 0} {S : A → Type 0} {P : X → Type 0} (f : A → X → A) →
-    ((x : X) → P x → OneToOne S S (λ a. f a x)) → (xs : List X) → All P xs → OneToOne S S (λ a. fold f a xs)
+    ((x : X) → P x → OneToOne S S (λ a. f a x)) → (xs : List X) → All P xs →
+    OneToOne S S (λ a. fold f a xs)
 along f law [] h = same
 along {P = P} f law (x ∷ xs) h = law x (All-head P x xs h) ▸ along f law xs (All-tail P x xs h)

@@ -70,7 +70,8 @@ absorb-append w read f p state xs ys =
     let others = pieces w (rest w held ++ ys) in
     let joined : state.waiting ++ (xs ++ ys) ≡ held ++ ys =
     sym (append_assoc state.waiting xs ys) in
-    let all : map read (pieces w (state.waiting ++ (xs ++ ys))) ≡ map read first ++ map read others =
+    let all : map read (pieces w (state.waiting ++ (xs ++ ys)))
+    ≡ map read first ++ map read others =
     ap (λ t. map read (pieces w t)) joined ∙ ap (map read) (pieces-append w held ys p)
     ∙ map-append read first others in
     same_state _ _

@@ -11,11 +11,13 @@ returns-clause-one_block c = λ same d e.
     let a_are = bytes_known a c.type_inv.a in
     let b_are = bytes_known b c.type_inv.b in
     let one_pair : murmur c.args.seed_a a ≡ murmur c.args.seed_a b = cc in
-    murmur_one_block c.piece_laws.ensures c.murmur_step_laws.ensures c.args.seed_a a b (omega arith) a_are b_are d one_pair
+    murmur_one_block c.piece_laws.ensures c.murmur_step_laws.ensures
+    c.args.seed_a a b (omega arith) a_are b_are d one_pair
 
 pub returns-clause-two_seeds : goal.returns-clause-two_seeds
 returns-clause-two_seeds c = λ same differ e.
     let a = c.args.a.now in
     let a_are = bytes_known a c.type_inv.a in
     let one_pair : murmur c.args.seed_a a ≡ murmur c.args.seed_b a = cc in
-    differ (murmur_two_seeds c.piece_laws.ensures c.murmur_step_laws.ensures c.args.seed_a c.args.seed_b a (omega arith) (omega arith) a_are one_pair)
+    differ (murmur_two_seeds c.piece_laws.ensures c.murmur_step_laws.ensures
+    c.args.seed_a c.args.seed_b a (omega arith) (omega arith) a_are one_pair)

@@ -11,11 +11,13 @@ returns-clause-one_tail_step c = λ same d e.
     let a_are = bytes_known a c.type_inv.a in
     let b_are = bytes_known b c.type_inv.b in
     let one_hash : xxh64 c.args.seed_a a ≡ xxh64 c.args.seed_a b = cc in
-    xx_tail_law c.piece_laws.ensures c.xxh64_step_laws.ensures c.args.seed_a a b (omega arith) a_are b_are d one_hash
+    xx_tail_law c.piece_laws.ensures c.xxh64_step_laws.ensures
+    c.args.seed_a a b (omega arith) a_are b_are d one_hash
 
 pub returns-clause-two_seeds : goal.returns-clause-two_seeds
 returns-clause-two_seeds c = λ same l differ e.
     let a = c.args.a.now in
     let a_are = bytes_known a c.type_inv.a in
     let one_hash : xxh64 c.args.seed_a a ≡ xxh64 c.args.seed_b a = cc in
-    xx_seed_law c.piece_laws.ensures c.xxh64_step_laws.ensures c.args.seed_a c.args.seed_b a (omega arith) (omega arith) a_are l differ one_hash
+    xx_seed_law c.piece_laws.ensures c.xxh64_step_laws.ensures
+    c.args.seed_a c.args.seed_b a (omega arith) (omega arith) a_are l differ one_hash
