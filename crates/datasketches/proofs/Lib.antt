@@ -1,6 +1,7 @@
-pub mod Slices
-pub mod Agree
-pub mod MurmurLaws
-pub mod Xxh64Laws
-pub mod Integers
-pub mod Extends
+pub mod ExampleLemmas
+pub mod SliceLemmas
+pub mod AgreeLemmas
+pub mod MurmurLawLemmas
+pub mod Xxh64LawLemmas
+pub mod IntegerLemmas
+pub mod ExtendLemmas

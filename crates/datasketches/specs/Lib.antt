@@ -1,3 +1,4 @@
 pub mod Streams
 pub mod Laws
 pub mod Strategies
+pub mod Examples

@@ -6,4 +6,5 @@
 pub use sketch_base::{codec, error};
 pub use sketch_hash::hash;
 
+pub mod examples;
 pub mod laws;

@@ -1,4 +1,4 @@
-use Rattle.datasketches.proofs.Extends.{extend_law}
+use Rattle.datasketches.proofs.ExtendLemmas.{extend_law}
 use Rattle.datasketches.proofs.laws.extend_law.Goals as goal
 
 pub returns : goal.returns

@@ -1,4 +1,4 @@
-use Rattle.datasketches.proofs.Xxh64Laws.{hash_u64_law}
+use Rattle.datasketches.proofs.Xxh64LawLemmas.{hash_u64_law}
 use Rattle.datasketches.proofs.laws.hash_u64_law.Goals as goal
 
 pub returns : goal.returns

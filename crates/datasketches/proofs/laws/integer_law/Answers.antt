@@ -1,4 +1,4 @@
-use Rattle.datasketches.proofs.Integers.{murmur_integers, xxh64_integers}
+use Rattle.datasketches.proofs.IntegerLemmas.{murmur_integers, xxh64_integers}
 use Rattle.datasketches.proofs.laws.integer_law.Goals as goal
 
 pub returns-clause-murmur : goal.returns-clause-murmur

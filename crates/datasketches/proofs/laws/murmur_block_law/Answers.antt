@@ -1,4 +1,4 @@
-use Rattle.datasketches.proofs.MurmurLaws.{murmur_block_law}
+use Rattle.datasketches.proofs.MurmurLawLemmas.{murmur_block_law}
 use Rattle.datasketches.proofs.laws.murmur_block_law.Goals as goal
 
 pub returns : goal.returns

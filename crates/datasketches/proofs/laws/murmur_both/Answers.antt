@@ -1,7 +1,7 @@
 use Rattle.std.proofs.Common.{◌≡◌, arith}
 use Rattle.sketch_hash.specs.Murmur.{murmur}
-use Rattle.datasketches.proofs.Slices.{bytes_known}
-use Rattle.datasketches.proofs.MurmurLaws.{murmur_one_block, murmur_two_seeds}
+use Rattle.datasketches.proofs.SliceLemmas.{bytes_known}
+use Rattle.datasketches.proofs.MurmurLawLemmas.{murmur_one_block, murmur_two_seeds}
 use Rattle.datasketches.proofs.laws.murmur_both.Goals as goal
 
 pub returns-clause-one_block : goal.returns-clause-one_block

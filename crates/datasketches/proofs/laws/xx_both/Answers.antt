@@ -1,7 +1,7 @@
 use Rattle.std.proofs.Common.{◌≡◌, arith}
 use Rattle.sketch_hash.specs.Xxh64.{xxh64}
-use Rattle.datasketches.proofs.Slices.{bytes_known}
-use Rattle.datasketches.proofs.Xxh64Laws.{xx_tail_law, xx_seed_law}
+use Rattle.datasketches.proofs.SliceLemmas.{bytes_known}
+use Rattle.datasketches.proofs.Xxh64LawLemmas.{xx_tail_law, xx_seed_law}
 use Rattle.datasketches.proofs.laws.xx_both.Goals as goal
 
 pub returns-clause-one_tail_step : goal.returns-clause-one_tail_step

@@ -1,4 +1,4 @@
-use Rattle.datasketches.proofs.Xxh64Laws.{xx_tail_law}
+use Rattle.datasketches.proofs.Xxh64LawLemmas.{xx_tail_law}
 use Rattle.datasketches.proofs.laws.xx_tail_law.Goals as goal
 
 pub returns : goal.returns

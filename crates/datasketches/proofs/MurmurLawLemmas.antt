@@ -15,7 +15,7 @@ use Rattle.sketch_hash.specs.Laws.{AreWords, IsBlock, PieceLaws, MurmurStepLaws}
 use Rattle.sketch_hash.specs.OneToOneLemmas.{◌▸◌, alike}
 use Rattle.datasketches.specs.Streams.{AgreeOutside, DifferInOneBlock}
 use Rattle.datasketches.specs.Laws.{MurmurBlockLaw, MurmurSeedLaw}
-use Rattle.datasketches.proofs.Agree.{agree-front, agree-back, agree-beyond, three_parts}
+use Rattle.datasketches.proofs.AgreeLemmas.{agree-front, agree-back, agree-beyond, three_parts}
 
 length_word : (n : ℕ) → IsWord (n % 2 ^ 64)
 length_word n = mod_below n (2 ^ 64) (omega arith)

@@ -10,8 +10,8 @@ use Rattle.sketch_hash.specs.Murmur.{murmur}
 use Rattle.sketch_hash.specs.Xxh64.{xxh64}
 use Rattle.sketch_hash.specs.Laws.{PieceLaws, MurmurStepLaws, Xxh64StepLaws}
 use Rattle.datasketches.specs.Laws.{IsShort, IntegerLaw}
-use Rattle.datasketches.proofs.MurmurLaws.{IsByte, cut_block-once}
-use Rattle.datasketches.proofs.Xxh64Laws.{hash_u64_law}
+use Rattle.datasketches.proofs.MurmurLawLemmas.{IsByte, cut_block-once}
+use Rattle.datasketches.proofs.Xxh64LawLemmas.{hash_u64_law}
 
 pub modulo-lt : (z : ℤ) → IsWord (modulo 64 z)
 modulo-lt (pos n) = omega arith

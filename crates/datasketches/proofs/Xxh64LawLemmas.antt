@@ -16,7 +16,7 @@ use Rattle.sketch_hash.specs.Laws.{IsStep, widths, PieceLaws, Xxh64StepLaws}
 use Rattle.sketch_hash.specs.OneToOneLemmas.{◌▸◌, alike}
 use Rattle.datasketches.specs.Streams.{AgreeOutside}
 use Rattle.datasketches.specs.Laws.{HashU64Law, XxTailLaw, XxSeedLaw}
-use Rattle.datasketches.proofs.Agree.{agree-front, agree-back, agree-beyond, parts_at}
+use Rattle.datasketches.proofs.AgreeLemmas.{agree-front, agree-back, agree-beyond, parts_at}
 
 plus-lt : (x y : ℕ) → IsWord (plus x y)
 plus-lt x y = omega arith

@@ -9,7 +9,7 @@ use Rattle.sketch_base.specs.Bytes.{le, eight, twos_complement, modulo}
 use Rattle.sketch_hash.specs.Values.{integer_bytes}
 use Rattle.sketch_hash.specs.Laws.{PieceLaws}
 use Rattle.datasketches.specs.Strategies.{IsSigned, ExtendLawAt, ExtendLaw}
-use Rattle.datasketches.proofs.Integers.{modulo-lt}
+use Rattle.datasketches.proofs.IntegerLemmas.{modulo-lt}
 
 -- integers feed equal bytes exactly if they agree modulo 2 ^ 64
 integer_bytes-once : PieceLaws → (x y : ℤ) → (integer_bytes x ≡ integer_bytes y) ↔ (modulo 64 x ≡ modulo 64 y)
