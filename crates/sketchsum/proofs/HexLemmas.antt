@@ -35,8 +35,8 @@ pub record IsFilled (k n : ℕ) (text : List ℕ) : Type 0 where
   pub fits : length text ≤ suc k
 
 -- one digit
-one_filled : (k n : ℕ) → n / 16 ≡ 0 → IsFilled k n (hex_digit (n % 16) ∷ [])
-one_filled k n e = record {
+one_digit : (k n : ℕ) → n / 16 ≡ 0 → IsFilled k n (hex_digit (n % 16) ∷ [])
+one_digit k n e = record {
   shown = let rest : suc k - 1 ≡ k =
       omega arith in ap (λ m. replicate m 48 ++ hex_digit (n % 16) ∷ []) rest
       ∙ ap (λ t. t ++ hex_digit (n % 16) ∷ []) (sym (hex_digits-zero k) ∙ ap (hex_digits k) (sym e));
@@ -44,9 +44,9 @@ one_filled k n e = record {
 }
 
 -- one digit more
-more_filled : (k n : ℕ) (text : List ℕ) → IsFilled k (n / 16) text →
+one_digit_more : (k n : ℕ) (text : List ℕ) → IsFilled k (n / 16) text →
     IsFilled (suc k) n (text ++ hex_digit (n % 16) ∷ [])
-more_filled k n text h =
+one_digit_more k n text h =
     let longer : length (text ++ hex_digit (n % 16) ∷ []) ≡ length text + 1 =
     length-append text (hex_digit (n % 16) ∷ []) in
     let padding : suc (suc k) - length (text ++ hex_digit (n % 16) ∷ []) ≡ suc k - length text =
@@ -59,34 +59,34 @@ more_filled k n text h =
     }
 
 -- a number with at most k + 1 digits
-filled : (k j n : ℕ) → k < j → n < 16 ^ suc k → IsFilled k n (digits_onto j 16 false n [])
-filled k zero n h p = absurd (omega arith)
-filled zero (suc j) n h p = let only : n / 16 ≡ 0 = omega arith in rw only (one_filled 0 n only)
-filled (suc k) (suc j) n h p =
+all_digits : (k j n : ℕ) → k < j → n < 16 ^ suc k → IsFilled k n (digits_onto j 16 false n [])
+all_digits k zero n h p = absurd (omega arith)
+all_digits zero (suc j) n h p = let only : n / 16 ≡ 0 = omega arith in rw only (one_digit 0 n only)
+all_digits (suc k) (suc j) n h p =
     let fewer = div_below n 16 (16 ^ suc k) (omega arith) (rw (pow-suc 16 (suc k)) at p) in
-    by_cases (filled k j (n / 16) (omega arith) fewer) (n / 16 == 0) refl
+    by_cases (all_digits k j (n / 16) (omega arith) fewer) (n / 16 == 0) refl
   where
     by_cases : IsFilled k (n / 16) (digits_onto j 16 false (n / 16) []) → (b : Bool) → (n / 16 == 0) ≡ b →
         IsFilled (suc k) n (cond b (hex_digit (n % 16) ∷ [])
         (digits_onto j 16 false (n / 16) (hex_digit (n % 16) ∷ [])))
-    by_cases others true e = one_filled (suc k) n (eqb-true (n / 16) 0 e)
+    by_cases others true e = one_digit (suc k) n (eqb-true (n / 16) 0 e)
     by_cases others false e =
         rw (digits_onto-append j (n / 16) (hex_digit (n % 16) ∷ []))
-        (more_filled k n (digits_onto j 16 false (n / 16) []) others)
+        (one_digit_more k n (digits_onto j 16 false (n / 16) []) others)
 
-padded : (text : List ℕ) →
+digits_padding : (text : List ℕ) →
     padded_integral (format_spec 32 0 4 16 (2 ^ 64 - 1)) false [] text ≡ replicate
     (16 - length text) 48 ++ text
 unfolding padded_integral char_count
-padded text =
-    ap (λ n. replicate n 48 ++ (text ++ [])) (plain (16 - length text))
+digits_padding text =
+    ap (λ n. replicate n 48 ++ (text ++ [])) (no_prefix (16 - length text))
     ∙ ap (λ t. replicate (16 - length text) 48 ++ t) (append-nil text)
   where
-    plain : (n : ℕ) → n - 0 - 0 ≡ n
-    plain n = omega arith
+    no_prefix : (n : ℕ) → n - 0 - 0 ≡ n
+    no_prefix n = omega arith
 
 pub hex_word-is : (n : ℕ) → n < 2 ^ 64 →
     padded_integral (format_spec 32 0 4 16 (2 ^ 64 - 1)) false [] (digits 16 false n) ≡ hex_word n
 unfolding digits hex_word
-hex_word-is n p = let whole = filled 15 64 n (omega arith) p in padded (digits_onto 64 16 false n [])
+hex_word-is n p = let whole = all_digits 15 64 n (omega arith) p in digits_padding (digits_onto 64 16 false n [])
     ∙ whole.shown
