@@ -10,11 +10,8 @@ mod streams;
 mod tests;
 mod words;
 
-use self::program::program;
-use std::process::ExitCode;
+use self::program::{ProgramEnd, program};
 
-fn main(rt: HostRuntime) -> ExitCode {
-    let (mut stdin, mut stdout, mut stderr) = (rt.stdin(), rt.stdout(), rt.stderr());
-    let status = program(&rt, rt.alloc(), &mut stdin, &mut stdout, &mut stderr);
-    ExitCode::from(status)
+fn main(rt: HostRuntime) -> ProgramEnd {
+    program(&rt, rt.alloc(), &mut rt.stdin(), &mut rt.stdout())
 }

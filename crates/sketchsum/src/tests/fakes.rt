@@ -1,8 +1,10 @@
-//! A reader, a writer and an environment as a test wants them.
+//! A reader, a writer, an environment and a screen as a test wants them.
 
 use std::alloc::Global;
+use std::cell::RefCell;
 use std::env::FillError;
-use std::io::{self, ErrorKind, Read, Write};
+use std::fmt::Display;
+use std::io::{self, Eprint, ErrorKind, Read, Write};
 use std::rt::Env;
 
 /// Gives at most `most` bytes at a read, and at its end fails with the fault that it has.
@@ -117,5 +119,36 @@ impl Env for Arguments<'_> {
 
     fn var_at(&self, _i: usize, _buf: &mut [u8]) -> Result<usize, FillError> {
         Err(FillError::NotPresent)
+    }
+}
+
+/// Keeps what is written to standard error.
+#[derive(Drop)]
+pub struct Screen(RefCell<Vec<u8>>);
+
+impl Screen {
+    pub fn new(alloc: Global) -> Screen {
+        Screen(RefCell::new(Vec::new(alloc)))
+    }
+
+    /// What was written.
+    pub fn text(self) -> Vec<u8> {
+        self.0.into_inner()
+    }
+}
+
+impl Eprint for Screen {
+    fn eprint<D: Display + Drop>(&self, value: D) -> io::Result<()> {
+        match self.0.try_borrow_mut() {
+            Ok(mut text) => text.write_fmt(value),
+            Err(_) => Err(io::Error::from(ErrorKind::Other)),
+        }
+    }
+
+    fn eprintln<D: Display + Drop>(&self, value: D) -> io::Result<()> {
+        match self.0.try_borrow_mut() {
+            Ok(mut text) => text.writeln(value),
+            Err(_) => Err(io::Error::from(ErrorKind::Other)),
+        }
     }
 }

@@ -1,7 +1,8 @@
-use super::fakes::{Arguments, Full, NarrowWriter, SlowReader};
+use super::fakes::{Arguments, Full, NarrowWriter, Screen, SlowReader};
 use super::{FOX, FOX_LINE};
 use crate::program::program;
 use std::io::ErrorKind;
+use std::process::{ExitCode, Termination};
 
 const USAGE: &str = "usage: sketchsum murmur|xx SEED\n";
 
@@ -19,13 +20,13 @@ fn words_become_a_line_and_a_status(rt: HostRuntime) {
         (&[name], 2, "", USAGE),
     ];
     for (words, status, line, told) in cases {
-        let (mut output, mut errors) = (Vec::new(rt.alloc()), Vec::new(rt.alloc()));
+        let mut output = Vec::new(rt.alloc());
         let mut input = SlowReader::new(FOX, 7, None);
-        let env = Arguments(words);
-        let end = program(&env, rt.alloc(), &mut input, &mut output, &mut errors);
-        assert_eq!(rt; end, status);
+        let screen = Screen::new(rt.alloc());
+        let end = program(&Arguments(words), rt.alloc(), &mut input, &mut output);
+        assert_eq!(rt; end.report(&screen), ExitCode::from(status));
         assert_eq!(rt; output.as_slice(), line.as_bytes());
-        assert_eq!(rt; errors.as_slice(), told.as_bytes());
+        assert_eq!(rt; screen.text().as_slice(), told.as_bytes());
         assert_eq!(rt; input.reads == 0, status == 2);
     }
 }
@@ -39,10 +40,10 @@ fn faults_become_a_line_and_a_status(rt: HostRuntime) {
     for (fault, room, told) in cases {
         let mut input = SlowReader::new(FOX, 7, fault);
         let mut output = NarrowWriter::new(rt.alloc(), room, Full::Fails, true);
-        let mut errors = Vec::new(rt.alloc());
-        let env = Arguments(&[b"sketchsum", b"murmur", b"0"]);
-        let end = program(&env, rt.alloc(), &mut input, &mut output, &mut errors);
-        assert_eq!(rt; end, 1);
-        assert_eq!(rt; errors.as_slice(), told.as_bytes());
+        let screen = Screen::new(rt.alloc());
+        let words = Arguments(&[b"sketchsum", b"murmur", b"0"]);
+        let end = program(&words, rt.alloc(), &mut input, &mut output);
+        assert_eq!(rt; end.report(&screen), ExitCode::from(1));
+        assert_eq!(rt; screen.text().as_slice(), told.as_bytes());
     }
 }
