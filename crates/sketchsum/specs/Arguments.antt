@@ -27,3 +27,7 @@ pub record IsSeed (word : List ℕ) (seed : ℕ) : Type 0 where
 abbrev pub AskFor : List (List ℕ) → Algorithm → ℕ → Type 0
 AskFor words algorithm seed = (numeral : List ℕ) × (words ≡ name_of algorithm ∷ numeral ∷ [])
     × IsSeed numeral seed
+
+-- the words ask for no hash
+pub record AskForNone (words : List (List ℕ)) : Type 0 where
+  pub none : (algorithm : Algorithm) (seed : ℕ) → ¬ AskFor words algorithm seed

@@ -1,7 +1,7 @@
 -- The line that the program writes.
 use Rattle.std.specs.Prelude.{ℕ, zero, suc, ◌+◌, ◌/◌, ◌%◌, List, [], ◌∷◌, ◌++◌, nat_lt, if◌then◌else◌}
-use Rattle.sketch_hash.specs.Murmur.{murmur}
-use Rattle.sketch_hash.specs.Xxh64.{xxh64}
+use Rattle.datasketches.specs.Murmur.{murmur}
+use Rattle.datasketches.specs.Xxh64.{xxh64}
 use Rattle.sketchsum.specs.declared.arguments.Algorithm.{Algorithm}
 use Rattle.sketchsum.specs.declared.arguments.Algorithm.TheVariants.{Murmur, Xx}
 
@@ -21,7 +21,9 @@ hex_word word = hex_digits 16 word
 abbrev pub newline : List ℕ
 newline = 10 ∷ []
 
--- the hash of the bytes under the seed, in hexadecimal, and a newline; Murmur's two words one after the other
+-- the hash of the bytes under the seed, in hexadecimal, and a newline; Murmur's two words one after
+-- the other
 abbrev pub digest_line : Algorithm → ℕ → List ℕ → List ℕ
-digest_line Murmur seed bytes = let hash = murmur seed bytes in hex_word hash.0 ++ hex_word hash.1 ++ newline
+digest_line Murmur seed bytes =
+    let hash = murmur seed bytes in hex_word hash.0 ++ hex_word hash.1 ++ newline
 digest_line Xx seed bytes = hex_word (xxh64 seed bytes) ++ newline

@@ -2,10 +2,10 @@
 use Rattle.std.specs.Prelude.{◌≡◌, ℕ, ◌*◌, ◌≤◌, List, length, OnOk, Err}
 use Rattle.std.specs.declared.option.Option.{Option}
 use Rattle.std.specs.declared.result.Result.{Result}
-use Rattle.std.specs.Io.KnownBytes.{Keeps, Appends, IsAtEnd}
+use Rattle.std.specs.Io.KnownBytes.{Appends, IsAtEnd}
 use Rattle.sketchsum.specs.declared.arguments.Algorithm.{Algorithm}
 use Rattle.sketchsum.specs.declared.ending.RunFault.{RunFault}
-use Rattle.sketchsum.specs.declared.ending.RunFault.TheVariants.{Read, TooLong, Write}
+use Rattle.sketchsum.specs.declared.ending.RunFault.TheVariants.{TooLong, Write}
 use Rattle.sketchsum.specs.Digest.{digest_line}
 use Rattle.sketchsum.specs.Reading.{HasRead}
 
@@ -19,10 +19,7 @@ pub record Runs (algorithm : Algorithm) (seed turns : ℕ) (result : Result (Uni
   pub whole : OnOk result (IsAtEnd left)
   -- nor is one where a write fails
   pub whole_at_write : result ≡ Err Write → IsAtEnd left
-  -- nothing was written where a read fails, nor where the input is too long, and then a byte a turn
-  -- was read at least
-  pub silent_at_read : result ≡ Err Read → Keeps held holds
-  pub silent_at_too_long : result ≡ Err TooLong → Keeps held holds
+  -- a byte a turn was read at least where the input is too long
   pub too_long : result ≡ Err TooLong → HasRead unread left (λ bytes. turns ≤ length bytes)
   -- never were more bytes read than the turns take
   pub bounded : HasRead unread left (λ bytes. length bytes ≤ 4096 * turns)

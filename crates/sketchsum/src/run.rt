@@ -1,19 +1,17 @@
 //! The hash of an input, written as a line.
 
-ghost use Rattle.std.specs.Prelude.{◌≡◌, ◌≢◌, ℕ, ◌*◌, ◌^◌, ◌≤◌, List, [], ◌∷◌, ◌++◌, length, OnOk, OnErr, Err, Some, IfSome};
-ghost use Rattle.std.specs.Io.KnownBytes.{Keeps, Appends, IsAtEnd};
-ghost use Rattle.sketchsum.specs.Digest.{hex_word};
+ghost use Rattle.std.specs.Prelude.{◌≡◌, ◌≢◌, ℕ, ◌+◌, ◌*◌, ◌^◌, ◌≤◌, List, ◌++◌, length, true, false, OnOk, OnErr, Err, Some, IfSome};
+ghost use Rattle.std.specs.Io.KnownBytes.{Appends, IsAtEnd};
+ghost use Rattle.sketchsum.specs.Digest.{hex_word, newline};
 ghost use Rattle.sketchsum.specs.Reading.{HasRead};
 ghost use Rattle.sketchsum.specs.Running.{Runs};
 
 use crate::arguments::Algorithm;
 use crate::ending::RunFault;
+use crate::streams::{BoundedReader, CheckedWriter, OutputState, PIECE_BYTES};
 use datasketches::hash::{Hasher, MurmurHash3X64128, XxHash64};
 use std::fmt::{self, Display};
 use std::io::{Read, Write};
-
-/// The most bytes that are read at a time, and held.
-const PIECE_BYTES: usize = 4096;
 
 /// The most reads of a run.
 const MAX_TURNS: u64 = 1 << 32;
@@ -25,14 +23,15 @@ pub fn run<R: Read, W: Write>(
     reader: &mut R,
     writer: &mut W,
 ) -> Result<(), RunFault>
-    ensures { Runs algorithm seed (2 ^ 32) result
-        (R.remaining reader.old) (R.remaining reader.new) (W.contents writer.old) (W.contents writer.new) }
+    ensures runs { Runs algorithm seed (2 ^ 32) result (R.remaining reader.old)
+        (R.remaining reader.new) (W.contents writer.old) (W.contents writer.new) }
+    ensures silent { OnErr result (result ≢ Err RunFault.Write → writer.new ≡ writer.old) }
 {
     run_bounded(algorithm, seed, MAX_TURNS, reader, writer)
 }
 
-/// Reads pieces of at most 4096 bytes, at most `turns` times, until a read gives no bytes. Then writes the
-/// hash in hexadecimal and a newline, and flushes.
+/// Reads pieces of at most 4096 bytes, at most `turns` times, until a read gives no bytes. Then
+/// writes the hash in hexadecimal and a newline, and flushes.
 ///
 /// # Errors
 ///
@@ -45,50 +44,88 @@ pub fn run_bounded<R: Read, W: Write>(
     reader: &mut R,
     writer: &mut W,
 ) -> Result<(), RunFault>
-    ensures { Runs algorithm seed turns result
-        (R.remaining reader.old) (R.remaining reader.new) (W.contents writer.old) (W.contents writer.new) }
+    ensures runs { Runs algorithm seed turns result (R.remaining reader.old)
+        (R.remaining reader.new) (W.contents writer.old) (W.contents writer.new) }
+    ensures silent { OnErr result (result ≢ Err RunFault.Write → writer.new ≡ writer.old) }
+{
+    let mut input = BoundedReader::new(reader, turns);
+    let mut output = CheckedWriter::new(writer);
+    run_within(algorithm, seed, &mut input, &mut output)
+}
+
+// As `run_bounded`, with the turns that the reader has left.
+fn run_within<R: Read, W: Write>(
+    algorithm: Algorithm,
+    seed: u64,
+    reader: &mut BoundedReader<'_, R>,
+    writer: &mut CheckedWriter<'_, W>,
+) -> Result<(), RunFault>
+    ensures same_reader { reader.new.reader.ghost_name ≡ reader.old.reader.ghost_name }
+    ensures same_writer { writer.new.writer.ghost_name ≡ writer.old.writer.ghost_name }
+    ensures runs { Runs algorithm seed reader.old.turns_left result
+        (R.remaining reader.old.reader.now) (R.remaining reader.new.reader.now)
+        (W.contents writer.old.writer.now) (W.contents writer.new.writer.now) }
+    ensures silent { OnErr result (result ≢ Err RunFault.Write → writer.new ≡ writer.old) }
+    ensures done { OnOk result ((reader.new.has_failed ≡ false)
+        × (writer.new.state ≡ OutputState.Flushed)) }
+    ensures read { result ≡ Err RunFault.Read → reader.new.has_failed ≡ true }
+    ensures too_long { result ≡ Err RunFault.TooLong → reader.new.turns_left ≡ 0 }
+    ensures write { result ≡ Err RunFault.Write → writer.new.state ≡ OutputState.Failed }
 {
     match algorithm {
         Algorithm::Murmur => {
             let mut hasher = MurmurHash3X64128::with_seed(seed);
-            read_into(&mut hasher, turns, reader)?;
+            read_into(&mut hasher, reader)?;
             let (h1, h2) = hasher.finish128();
             write_line(writer, format_args!("{}{}", HexWord(h1), HexWord(h2)))
         }
         Algorithm::Xx => {
             let mut hasher = XxHash64::with_seed(seed);
-            read_into(&mut hasher, turns, reader)?;
+            read_into(&mut hasher, reader)?;
             write_line(writer, HexWord(hasher.finish64()))
         }
     }
 }
 
 // Writes what `reader` gives until its end into the hasher.
-fn read_into<H: Hasher, R: Read>(hasher: &mut H, turns: u64, reader: &mut R) -> Result<(), RunFault>
-    ensures read { HasRead (R.remaining reader.old) (R.remaining reader.new)
-        (λ bytes. (hasher.new ≡ H.after hasher.old bytes) × (length bytes ≤ 4096 * turns)
-        × (result ≡ Err RunFault.TooLong → turns ≤ length bytes)) }
-    ensures whole { OnOk result (IsAtEnd (R.remaining reader.new)) }
-    ensures fault { result ≢ Err RunFault.Write }
+fn read_into<H: Hasher, R: Read>(
+    hasher: &mut H,
+    reader: &mut BoundedReader<'_, R>,
+) -> Result<(), RunFault>
+    ensures same_reader { reader.new.reader.ghost_name ≡ reader.old.reader.ghost_name }
+    ensures pieces { HasRead (R.remaining reader.old.reader.now) (R.remaining reader.new.reader.now)
+        (λ bytes. (hasher.new ≡ H.after hasher.old bytes)
+        × (length bytes ≤ 4096 * reader.old.turns_left)
+        × (result ≡ Err RunFault.TooLong → reader.old.turns_left ≤ length bytes)) }
+    ensures whole { OnOk result ((reader.new.has_failed ≡ false)
+        × IsAtEnd (R.remaining reader.new.reader.now)) }
+    ensures read { result ≡ Err RunFault.Read → reader.new.has_failed ≡ true }
+    ensures too_long { result ≡ Err RunFault.TooLong → reader.new.turns_left ≡ 0 }
+    ensures no_write { result ≢ Err RunFault.Write }
 {
     let mut piece = [0; PIECE_BYTES];
-    for _turn in 0..turns {
+    'turns: while reader.turns_left() > 0 {
         let Ok(count) = reader.read(&mut piece) else {
             return Err(RunFault::Read);
         };
         if count == 0 {
             return Ok(());
         }
-        let bytes = &piece[..count];
-        hasher.write(bytes);
+        hasher.write(&piece[..count]);
     }
     Err(RunFault::TooLong)
 }
 
-fn write_line<W: Write, D: Display + Drop>(writer: &mut W, line: D) -> Result<(), RunFault>
-    ensures written { OnOk result (IfSome (D.output line)
-        (λ text. Appends (W.contents writer.old) (W.contents writer.new) (text ++ 10 ∷ []))) }
-    ensures fault { OnErr result (result ≡ Err RunFault.Write) }
+fn write_line<W: Write, D: Display + Drop>(
+    writer: &mut CheckedWriter<'_, W>,
+    line: D,
+) -> Result<(), RunFault>
+    ensures same_writer { writer.new.writer.ghost_name ≡ writer.old.writer.ghost_name }
+    ensures line { OnOk result (IfSome (D.output line) (λ text. Appends
+        (W.contents writer.old.writer.now) (W.contents writer.new.writer.now) (text ++ newline))) }
+    ensures done { OnOk result (writer.new.state ≡ OutputState.Flushed) }
+    ensures fault { OnErr result ((result ≡ Err RunFault.Write)
+        × (writer.new.state ≡ OutputState.Failed)) }
 {
     writer.writeln(line).map_err(|_| RunFault::Write)?;
     writer.flush().map_err(|_| RunFault::Write)

@@ -1,0 +1,124 @@
+//! The streams of a run: what may be read of its input, and what became of its output.
+
+ghost use Rattle.std.specs.Prelude.{◌≡◌, ◌+◌, ◌<◌, ◌++◌, true, false, IfSome, OnOk, OnErr};
+ghost use Rattle.std.specs.Io.{ReadsAtMost};
+ghost use Rattle.std.specs.Io.KnownBytes.{ReadConsumes, Appends, Keeps};
+ghost use Rattle.sketchsum.specs.Digest.{newline};
+
+use std::fmt::Display;
+use std::io::{self, Read, Write};
+
+/// The most bytes that are read at a time, and held.
+pub const PIECE_BYTES: usize = 4096;
+
+/// A reader that may be read so many times, and that tells whether its last read failed.
+#[derive(Drop)]
+pub struct BoundedReader<'a, R> {
+    reader: &'a mut R,
+    turns_left: u64,
+    has_failed: bool,
+}
+
+impl<'a, R: Read> BoundedReader<'a, R> {
+    pub fn new(reader: &'a mut R, turns: u64) -> BoundedReader<'a, R>
+        ensures same_reference { result.reader.ghost_name ≡ reader.entry.ghost_name }
+        ensures reader { result.reader.now ≡ reader.old }
+        ensures turns { result.turns_left ≡ turns }
+        ensures failed { result.has_failed ≡ false }
+    {
+        BoundedReader {
+            reader,
+            turns_left: turns,
+            has_failed: false,
+        }
+    }
+
+    /// How many reads are left.
+    pub fn turns_left(&self) -> u64
+        ensures { result ≡ self.now.turns_left }
+    {
+        self.turns_left
+    }
+
+    /// Takes one turn: one read of up to a whole piece.
+    pub fn read(&mut self, piece: &mut [u8; PIECE_BYTES]) -> io::Result<usize>
+        requires { 0 < self.old.turns_left }
+        ensures same_reference { self.new.reader.ghost_name ≡ self.old.reader.ghost_name }
+        ensures turn { self.new.turns_left + 1 ≡ self.old.turns_left }
+        ensures ok { OnOk result (self.new.has_failed ≡ false) }
+        ensures err { OnErr result (self.new.has_failed ≡ true) }
+        ensures bound { ReadsAtMost result piece.new }
+        ensures bytes { ReadConsumes (R.remaining self.old.reader.now)
+            (R.remaining self.new.reader.now) result piece.new }
+    {
+        self.turns_left -= 1;
+        let result = self.reader.read(piece);
+        self.has_failed = result.is_err();
+        result
+    }
+}
+
+/// What became of what was written.
+#[derive(Clone, Copy, Debug, PartialEq, Eq)]
+pub enum OutputState {
+    /// Nothing was written.
+    Nothing,
+    /// The last write went well, and no flush came behind it.
+    Unflushed,
+    /// The last call was a flush that went well.
+    Flushed,
+    /// The last write or flush failed.
+    Failed,
+}
+
+/// A writer that tells what became of what was written.
+#[derive(Drop)]
+pub struct CheckedWriter<'a, W> {
+    writer: &'a mut W,
+    state: OutputState,
+}
+
+impl<'a, W: Write> CheckedWriter<'a, W> {
+    pub fn new(writer: &'a mut W) -> CheckedWriter<'a, W>
+        ensures same_reference { result.writer.ghost_name ≡ writer.entry.ghost_name }
+        ensures writer { result.writer.now ≡ writer.old }
+        ensures state { result.state ≡ OutputState.Nothing }
+    {
+        CheckedWriter {
+            writer,
+            state: OutputState::Nothing,
+        }
+    }
+
+    /// Writes a line.
+    pub fn writeln<D: Display + Drop>(&mut self, line: D) -> io::Result<()>
+        ensures same_reference { self.new.writer.ghost_name ≡ self.old.writer.ghost_name }
+        ensures ok { OnOk result (self.new.state ≡ OutputState.Unflushed) }
+        ensures err { OnErr result (self.new.state ≡ OutputState.Failed) }
+        ensures bytes { OnOk result (IfSome (D.output line) (λ text.
+            Appends (W.contents self.old.writer.now) (W.contents self.new.writer.now)
+            (text ++ newline))) }
+    {
+        let result = self.writer.writeln(line);
+        self.state = match result {
+            Ok(()) => OutputState::Unflushed,
+            Err(_) => OutputState::Failed,
+        };
+        result
+    }
+
+    /// Hands on all that was written.
+    pub fn flush(&mut self) -> io::Result<()>
+        ensures same_reference { self.new.writer.ghost_name ≡ self.old.writer.ghost_name }
+        ensures ok { OnOk result (self.new.state ≡ OutputState.Flushed) }
+        ensures err { OnErr result (self.new.state ≡ OutputState.Failed) }
+        ensures bytes { Keeps (W.contents self.old.writer.now) (W.contents self.new.writer.now) }
+    {
+        let result = self.writer.flush();
+        self.state = match result {
+            Ok(()) => OutputState::Flushed,
+            Err(_) => OutputState::Failed,
+        };
+        result
+    }
+}

@@ -1,0 +1,100 @@
+use super::fakes::{Full, NarrowWriter, SlowReader};
+use super::{FOX, FOX_LINE};
+use crate::arguments::Algorithm;
+use crate::ending::RunFault;
+use crate::run::{run, run_bounded};
+use std::io::{self, ErrorKind, Read};
+
+#[test]
+fn an_input_becomes_its_line(rt: HostRuntime) {
+    let cases: [(Algorithm, u64, &[u8], &str); 5] = [
+        (
+            Algorithm::Murmur,
+            0,
+            b"",
+            "00000000000000000000000000000000\n",
+        ),
+        (Algorithm::Murmur, 0, FOX, FOX_LINE),
+        (Algorithm::Xx, 0, b"", "ef46db3751d8e999\n"),
+        (Algorithm::Xx, 2654435761, b"", "ac75fda2929b17ef\n"),
+        (Algorithm::Xx, 0, b"\0", "e934a84adb052768\n"),
+    ];
+    for (algorithm, seed, input, line) in cases {
+        let mut written = Vec::new(rt.alloc());
+        let mut reader = input;
+        assert_eq!(rt; run(algorithm, seed, &mut reader, &mut written), Ok(()));
+        assert_eq!(rt; written.as_slice(), line.as_bytes());
+        assert!(rt; reader.is_empty());
+    }
+}
+
+#[test]
+fn five_million_bytes_become_their_line(rt: HostRuntime) {
+    let mut reader = io::repeat(b'a').take(5_000_000);
+    let mut written = Vec::new(rt.alloc());
+    assert_eq!(rt; run(Algorithm::Xx, 7, &mut reader, &mut written), Ok(()));
+    assert_eq!(rt; written.as_slice(), "62f1d069a970795b\n".as_bytes());
+}
+
+#[test]
+fn slow_readers_and_writers_change_nothing(rt: HostRuntime) {
+    let mut reader = SlowReader::new(FOX, 7, None);
+    let mut writer = NarrowWriter::new(rt.alloc(), 33, Full::Fails, true);
+    assert_eq!(rt; run(Algorithm::Murmur, 0, &mut reader, &mut writer), Ok(()));
+    assert_eq!(rt; writer.taken.as_slice(), FOX_LINE.as_bytes());
+    assert_eq!(rt; (writer.flushed, reader.reads, reader.room), (33, 8, 4096));
+}
+
+#[test]
+fn a_read_that_fails_in_mid_stream_writes_nothing(rt: HostRuntime) {
+    for kind in [ErrorKind::Other, ErrorKind::Interrupted] {
+        let mut reader = SlowReader::new(b"The q", 3, Some(kind));
+        let mut written = Vec::new(rt.alloc());
+        let fault = run(Algorithm::Murmur, 0, &mut reader, &mut written);
+        assert_eq!(rt; fault, Err(RunFault::Read));
+        assert!(rt; written.is_empty());
+    }
+}
+
+#[test]
+fn the_last_turn_has_to_find_the_end(rt: HostRuntime) {
+    let long = [0; 4097];
+    let cases: [(Algorithm, &[u8], usize, u64, bool); 7] = [
+        (Algorithm::Murmur, FOX, 4096, 2, true),
+        (Algorithm::Xx, b"a", 1, 2, true),
+        (Algorithm::Xx, b"a", 1, 1, false),
+        (Algorithm::Murmur, b"ab", 1, 2, false),
+        (Algorithm::Murmur, b"ab", 1, 0, false),
+        (Algorithm::Xx, &long, 5000, 2, false),
+        (Algorithm::Xx, &long, 5000, 3, true),
+    ];
+    for (algorithm, input, most, turns, is_enough) in cases {
+        let mut reader = SlowReader::new(input, most, None);
+        let mut written = Vec::new(rt.alloc());
+        let result = run_bounded(algorithm, 0, turns, &mut reader, &mut written);
+        let expected = if is_enough {
+            Ok(())
+        } else {
+            Err(RunFault::TooLong)
+        };
+        assert_eq!(rt; result, expected);
+        assert_eq!(rt; reader.reads, turns);
+        assert_eq!(rt; written.is_empty(), !is_enough);
+    }
+}
+
+#[test]
+fn writers_that_fail_are_told(rt: HostRuntime) {
+    for (algorithm, room, when_full, can_flush) in [
+        (Algorithm::Xx, 0, Full::Fails, true),
+        (Algorithm::Xx, 10, Full::Fails, true),
+        (Algorithm::Xx, 100, Full::Fails, false),
+        (Algorithm::Xx, 0, Full::TakesNone, true),
+        (Algorithm::Murmur, 10, Full::Fails, true),
+    ] {
+        let mut reader = FOX;
+        let mut writer = NarrowWriter::new(rt.alloc(), room, when_full, can_flush);
+        let fault = run(algorithm, 0, &mut reader, &mut writer);
+        assert_eq!(rt; fault, Err(RunFault::Write));
+    }
+}
