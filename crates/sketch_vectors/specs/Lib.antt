@@ -1,3 +1,4 @@
 pub mod FirstBytes
 pub mod FirstBytesLemmas
 pub mod Callers
+pub mod Examples

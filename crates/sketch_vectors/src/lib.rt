@@ -9,6 +9,7 @@
 #![tactic(auto)]
 
 pub mod callers;
+pub mod examples;
 pub mod first_bytes;
 #[cfg(test)]
 mod tests;

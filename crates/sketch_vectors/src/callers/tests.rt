@@ -1,6 +1,11 @@
-use super::{hash_pieces, is_new_key, is_same_key, pair_of, read_sketch};
+use super::keys::{is_new_key, is_same_key, pair_of};
+use super::own::{BigEndian, Point};
+use super::sketch::{read_sketch, write_sketch};
+use super::streams::{murmur_of_pieces, xxh64_of_pieces};
+use crate::first_bytes::FirstBytes;
 use datasketches::codec::{Item, Kind};
 use datasketches::error::{Error, ErrorKind};
+use datasketches::hash::Hash;
 use datasketches::hash::value::raw_bytes;
 use std::alloc::Global;
 
@@ -118,7 +123,27 @@ fn a_stream_in_pieces_has_one_hash(rt: HostRuntime) {
         raw_bytes::from_slice(b"jumps over the lazy dog"),
     ];
     assert_eq!(rt;
-        hash_pieces(0, &pieces),
+        murmur_of_pieces(0, &pieces),
         (0xe34b_bc7b_bc07_1b6c, 0x7a43_3ca9_c49a_9347)
     );
+    assert_eq!(rt; xxh64_of_pieces(0, &pieces), 0x0b24_2d36_1fda_71bc);
+}
+
+#[test]
+fn a_sketch_that_was_written_is_read(rt: HostRuntime) {
+    let sketch = write_sketch(rt.alloc(), 9001, &[Item::U64Le(258)]).ok();
+    assert_eq!(rt; sketch.as_deref(), Some(SKETCH.as_slice()));
+}
+
+#[test]
+fn own_types_feed_their_bytes(rt: HostRuntime) {
+    let mut point = FirstBytes::new();
+    Point { x: 1, y: -1 }.hash(&mut point);
+    assert_eq!(rt;
+        point.bytes(),
+        [1, 0, 0, 0, 0xff, 0xff, 0xff, 0xff].as_slice()
+    );
+    let mut key = FirstBytes::new();
+    BigEndian::new(258).hash(&mut key);
+    assert_eq!(rt; key.bytes(), [0, 0, 0, 0, 0, 0, 1, 2].as_slice());
 }

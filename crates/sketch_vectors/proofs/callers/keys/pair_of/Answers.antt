@@ -2,7 +2,7 @@ use Rattle.std.proofs.Common.{[], ◌∙◌, ap, rules, ◌≡◌}
 use Rattle.sketch_hash.specs.Murmur.{murmur_after}
 use Rattle.sketch_hash.specs.MurmurWriteLemmas.{murmur_stands-after}
 use Rattle.sketch_hash.specs.Values.{integer_bytes}
-use Rattle.sketch_vectors.proofs.callers.pair_of.Goals as goal
+use Rattle.sketch_vectors.proofs.callers.keys.pair_of.Goals as goal
 
 pub returns : goal.returns
 returns c =

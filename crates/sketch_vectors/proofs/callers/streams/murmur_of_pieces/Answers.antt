@@ -1,7 +1,7 @@
 use Rattle.std.proofs.Common.{[]}
 use Rattle.std.specs.List.{flat_map}
 use Rattle.sketch_hash.specs.MurmurWriteLemmas.{murmur_stands-after}
-use Rattle.sketch_vectors.proofs.callers.hash_pieces.Goals as goal
+use Rattle.sketch_vectors.proofs.callers.streams.murmur_of_pieces.Goals as goal
 
 pub returns : goal.returns
 returns c =

@@ -1,6 +1,6 @@
 use Rattle.std.proofs.Common.{◌+◌, ap, length, drop, arith}
 use Rattle.sketch_base.proofs.ItemLemmas.{widths-take-le}
-use Rattle.sketch_vectors.proofs.callers.read_sketch.Goals as goal
+use Rattle.sketch_vectors.proofs.callers.sketch.read_sketch.Goals as goal
 
 pub returns-in-Err : goal.returns-in-Err
 returns-in-Err c =

@@ -1,0 +1,28 @@
+//! Streams that come in pieces.
+
+ghost use Rattle.std.specs.Prelude.{◌≡◌};
+ghost use Rattle.std.specs.List.{flat_map};
+ghost use Rattle.sketch_hash.specs.Murmur.{murmur};
+ghost use Rattle.sketch_hash.specs.Xxh64.{xxh64};
+
+use datasketches::hash::value::feed_all;
+use datasketches::hash::value::raw_bytes::RawBytes;
+use datasketches::hash::{MurmurHash3X64128, XxHash64};
+
+/// The Murmur pair of a stream that comes in pieces.
+pub fn murmur_of_pieces(seed: u64, pieces: &[RawBytes<&[u8]>]) -> (u64, u64)
+    ensures { result ≡ murmur seed (flat_map (λ piece. piece.now) pieces.now) }
+{
+    let mut hasher = MurmurHash3X64128::with_seed(seed);
+    feed_all(pieces, &mut hasher);
+    hasher.finish128()
+}
+
+/// The XXH64 hash of a stream that comes in pieces.
+pub fn xxh64_of_pieces(seed: u64, pieces: &[RawBytes<&[u8]>]) -> u64
+    ensures { result ≡ xxh64 seed (flat_map (λ piece. piece.now) pieces.now) }
+{
+    let mut hasher = XxHash64::with_seed(seed);
+    feed_all(pieces, &mut hasher);
+    hasher.finish64()
+}
