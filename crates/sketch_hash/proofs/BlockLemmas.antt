@@ -13,7 +13,7 @@ use Rattle.sketch_hash.specs.Laws.{AreWords, IsBlock, PieceLaws}
 use Rattle.sketch_hash.proofs.Undoes.{Undoes, one_to_one}
 use Rattle.sketch_hash.proofs.PiecesLemmas.{IsByte, IsPiece, rest-whole, pieces-aligned, rest-aligned, pieces_short, rest_short, pieces_one, rest-are, rest-lt, length-rest_same}
 
-low_bytes-are : (count n : ℕ) → AreBytes (low_bytes count n)
+pub low_bytes-are : (count n : ℕ) → AreBytes (low_bytes count n)
 low_bytes-are zero n = All-nil IsByte
 low_bytes-are (suc count) n =
     let others = low_bytes-are count (n / 256) in
@@ -47,7 +47,7 @@ block_of_words : ℕ × ℕ → List ℕ
 block_of_words k = eight k.0 ++ eight k.1
 
 -- a block's words are the numbers of its halves
-halves : (bytes : List ℕ) → IsBlock bytes → block_words bytes ≡ (le (take 8 bytes), le (drop 8 bytes))
+pub halves : (bytes : List ℕ) → IsBlock bytes → block_words bytes ≡ (le (take 8 bytes), le (drop 8 bytes))
 halves bytes h =
     ap block_words (sym (take-append-drop 8 bytes))
     ∙ joined_words (take 8 bytes) (drop 8 bytes) (first_half bytes h).1 (second_half bytes h).1

@@ -10,3 +10,6 @@ pub mod BlockLemmas
 pub mod MurmurSteps
 pub mod Xxh64Steps
 pub mod TailSteps
+pub mod LanesLemmas
+pub mod PutLemmas
+pub mod NumberLemmas

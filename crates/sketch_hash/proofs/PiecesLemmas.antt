@@ -1,7 +1,8 @@
 -- Lists cut into pieces: what the pieces and the rest of a list are.
-use Rattle.std.proofs.Common.{◌≡◌, ℕ, zero, suc, ◌+◌, ◌-◌, ◌*◌, ◌/◌, ◌<◌, ◌≤◌, List, [], ◌∷◌, ◌++◌, length, take, drop, sym, ap, ◌∙◌, arith, suc-mul, mul-div_cancel, mul_comm, div-mul-le_self}
+use Rattle.std.proofs.Common.{◌≡◌, ℕ, zero, suc, ◌+◌, ◌-◌, ◌*◌, ◌/◌, ◌<◌, ◌≤◌, List, [], ◌∷◌, ◌++◌, length, take, drop, refl, sym, ap, ◌∙◌, arith, suc-mul, mul-div_cancel, mul_comm, div-mul-le_self}
 use Rattle.std.proofs.Math.Nat.{div-eq_of_lt, div_self, zero-mul}
 use Rattle.std.specs.List.{All}
+use Rattle.std.specs.Simd.{first_chunks}
 use Rattle.std.proofs.lemmas.List.{take_all, drop_all, length-take-le, length-drop, take-append-drop}
 use Rattle.std.proofs.lemmas.List.Elements.{All-nil, All-cons, All-take, All-drop}
 use Rattle.sketch_base.specs.Bytes.{AreBytes}
@@ -99,3 +100,8 @@ length-rest_same w a b e = length-rest w a ∙ ap (λ n. n - n / w * w) e ∙ sy
 -- the rest is shorter than a piece
 pub rest-lt : (w : ℕ) (bytes : List ℕ) → 0 < w → length (rest w bytes) < w
 rest-lt w bytes p = rw (length-rest w bytes) (omega arith)
+
+-- a slice as arrays of w bytes is its pieces
+pub chunks-are : (n w : ℕ) (bytes : List ℕ) → first_chunks w n bytes ≡ first_pieces n w bytes
+chunks-are zero w bytes = refl
+chunks-are (suc n) w bytes = ap (λ t. take w bytes ∷ t) (chunks-are n w (drop w bytes))

@@ -3,7 +3,7 @@ use Rattle.std.proofs.Common.{◌≡◌, ℕ, zero, suc, ◌+◌, ◌-◌, ◌*�
 use Rattle.std.specs.Prelude.{◌==◌, bit_xor, bit_or}
 use Rattle.std.specs.Int.{bit_at, rotate_left, w64}
 use Rattle.std.proofs.lemmas.Bool.{cond_both, eqb-true, eqb-false}
-use Rattle.std.proofs.lemmas.Nat.{mod-pow-add, xor_lt, mod_below, or_shifted, shr_below, shl_below, shr_split, mod_low, pow-add, pow_pos, or_lt, shr_le}
+use Rattle.std.proofs.lemmas.Nat.{mod-pow-add, xor_lt, mod_below, or_shifted, shr_below, shl_below, shr_split, mod_low, pow-add, pow_pos, shr_le}
 use Rattle.std.proofs.lemmas.Nat.Bits.{bit_at_xor, bit_at-lt}
 use Rattle.std.proofs.Math.Nat.{mod-eq_of_lt}
 use Rattle.sketch_hash.specs.Words.{IsWord, plus, times, digit, xor_below, xor, rotate, xor_shift}
@@ -71,20 +71,6 @@ rotate-is x r low high p =
     let left : r % 64 ≡ r = omega arith in
     let right : (64 - r % 64) % 64 ≡ 64 - r = omega arith in
     rw (right, left) (rotate_parts x r (64 - r) (omega arith) p)
-
-pub rotate-lt : (x r : ℕ) → 0 < r → r < 64 → IsWord x → IsWord (rotate x r)
-unfolding rotate
-rotate-lt x r low high p =
-    let up : x * 2 ^ r % 2 ^ 64 < 2 ^ 64 = mod_below (x * 2 ^ r) (2 ^ 64) (omega arith) in
-    let less = shr_le x (64 - r) in
-    let down : x / 2 ^ (64 - r) < 2 ^ 64 = omega arith in
-    rw (rotate_parts x r (64 - r) (omega arith) p) (or_lt 64 (x * 2 ^ r % 2 ^ 64) (x / 2 ^ (64 - r)) up down)
-
--- a rotated exclusive or, as machines compute it
-pub rotate-xor : (x y r : ℕ) → 0 < r → r < 64 → IsWord x → IsWord y →
-    rotate_left w64 (bit_xor x y) r ≡ rotate (xor x y) r
-rotate-xor x y r low high p q =
-    sym (rotate-is (bit_xor x y) r low high (xor_lt 64 x y p q)) ∙ ap (λ v. rotate v r) (sym (xor-is x y p q))
 
 pub plus-lt : (x y : ℕ) → IsWord (plus x y)
 plus-lt x y = omega arith

@@ -9,6 +9,7 @@ use Rattle.sketch_base.proofs.BytesLemmas.{le-low_bytes}
 use Rattle.sketch_hash.specs.Pieces.{pieces, rest, word_at, State, absorb}
 use Rattle.sketch_hash.specs.Xxh64.{Lanes, prime5, round, lane, lanes_start, lanes, stripe_step, steps_of, steps, tail_step, eight_step, four_step, byte_step, avalanche, ending, xxh64, xxh64_start, xxh64_after, xxh64_answer, Xxh64Stands}
 use Rattle.sketch_hash.specs.Words.{IsWord, plus}
+use Rattle.sketch_hash.proofs.LanesLemmas.{fold-each_lane}
 use Rattle.sketch_hash.proofs.PiecesLemmas.{pieces_short, rest_short, pieces-first, rest-first}
 
 -- ---- the tail
@@ -65,19 +66,7 @@ fold_short hash bytes h =
     let singles = steps_of_one bytes in
     rw (no_eight, all, no_four, behind, singles) (fold-map tail_step (λ b. (1, b)) hash bytes)
 
--- ---- the stripes
-
--- the fold over stripes gives each lane the fold over its own words
-fold_stripes : (stripes : List (List ℕ)) (v : Lanes) → fold stripe_step v stripes ≡ record {
-  seed = v.seed;
-  v1 = fold round v.v1 (map (word_at 0) stripes);
-  v2 = fold round v.v2 (map (word_at 1) stripes);
-  v3 = fold round v.v3 (map (word_at 2) stripes);
-  v4 = fold round v.v4 (map (word_at 3) stripes);
-}
-unfolding stripe_step
-fold_stripes [] v = refl
-fold_stripes (s ∷ stripes) v = fold_stripes stripes (stripe_step v s)
+-- ---- the whole
 
 -- the definition of the whole bytes
 pub xxh64_answer-after : (seed : ℕ) (bytes : List ℕ) →
@@ -86,7 +75,7 @@ unfolding xxh64_answer xxh64_after xxh64 absorb pieces rest lanes lane lanes_sta
 xxh64_answer-after seed [] = refl
 xxh64_answer-after seed (b ∷ bytes) =
     let all = map-id (pieces 32 (b ∷ bytes)) in
-    let by_lane = fold_stripes (pieces 32 (b ∷ bytes)) (lanes_start seed) in
+    let by_lane = fold-each_lane (pieces 32 (b ∷ bytes)) (lanes_start seed) in
     rw (zero-add, all, by_lane) refl
 
 pub xxh64_answer-stands : (seed : ℕ) (bytes : List ℕ) (state : State Lanes) →

@@ -5,6 +5,7 @@ pub mod Murmur
 pub mod MurmurWriteLemmas
 pub mod Xxh64
 pub mod Xxh64WriteLemmas
+pub mod Lanes
 pub mod Values
 pub mod Lending
 pub mod SeedHash

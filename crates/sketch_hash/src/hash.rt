@@ -1,12 +1,14 @@
 //! Hashing for sketches: a trait for hashers with its laws, and the two hashers.
 
 mod hasher;
+mod lanes;
 mod murmurhash;
+mod put;
 mod seed;
+mod tail;
 #[cfg(test)]
 mod tests;
 pub mod value;
-mod waiting;
 mod words;
 mod xxhash;
 

@@ -1,14 +1,16 @@
 //! MurmurHash3 x64 128, after Austin Appleby's MurmurHash3_x64_128.
 
-ghost use Rattle.std.specs.Prelude.{◌≡◌, ℕ, List, [], ◌∷◌, ◌++◌, length};
+ghost use Rattle.std.specs.Prelude.{◌≡◌, ℕ, ◌+◌, ◌-◌, ◌*◌, ◌/◌, ◌%◌, ◌^◌, ◌<◌, ◌≤◌, List, [], ◌++◌, length, take, map, min};
+ghost use Rattle.std.specs.List.{fold};
+ghost use Rattle.sketch_base.specs.Bytes.{le, low_bytes};
 ghost use Rattle.sketch_hash.specs.Pieces.{State};
 ghost use Rattle.sketch_hash.specs.Murmur.{mix1, mix2, fmix, step, with_tail, ending, block_words, murmur, murmur_start, murmur_after, murmur_answer, MurmurStands};
 ghost use Rattle.sketch_hash.specs.MurmurWriteLemmas.{murmur_after-append, murmur_after-empty};
 
 use super::DEFAULT_UPDATE_SEED;
 use super::hasher::Hasher;
-use super::waiting::{TakesBytes, Waiting, push_all};
-use super::words::{read_u64_le, xor_shift};
+use super::tail::read_few_le;
+use super::words::{read_u64_le, read_u128_le, rotate, xor_shift};
 use std::fmt;
 use std::marker::Model;
 
@@ -16,23 +18,36 @@ const C1: u64 = 0x87c3_7b91_1142_53d5;
 
 const C2: u64 = 0x4cf5_ad43_2745_937f;
 
+// The bytes of a block.
+const BLOCK: usize = 16;
+
 /// MurmurHash3 x64 128: a fast hash of 128 bits for data that no adversary chooses.
 #[derive(Drop)]
 pub struct MurmurHash3X64128 {
     h1: u64,
     h2: u64,
     total: u64,
-    waiting: Waiting<16>,
+    low: u64,
+    high: u64,
+    count: usize,
 }
 
 impl Model for MurmurHash3X64128 {
     ghost Value = { State (ℕ × ℕ) };
 
-    ghost view = { λ h. record { folded = (h.h1, h.h2); total = h.total; waiting = h.waiting } };
+    ghost view = { λ h. record {
+      folded = (h.h1, h.h2);
+      total = h.total;
+      waiting = low_bytes h.count (h.low + h.high * 2 ^ 64);
+    } };
+
+    // The first eight waiting bytes are in `low`, those behind them in `high`, absent ones as zeros.
+    ghost invariant = { λ h. (h.count < 16) × (h.low < 256 ^ min h.count 8) × (h.high < 256 ^ (h.count - 8)) };
 }
 
 impl MurmurHash3X64128 {
     /// A hasher with a seed, and no bytes.
+    #[inline(always)]
     pub fn with_seed(seed: u64) -> Self
         ensures { MurmurStands result seed [] }
     {
@@ -40,22 +55,63 @@ impl MurmurHash3X64128 {
             h1: seed,
             h2: seed,
             total: 0,
-            waiting: Waiting::new(),
+            low: 0,
+            high: 0,
+            count: 0,
         }
     }
 
     /// The 128-bit hash of all bytes so far, as its first and its second word.
+    #[inline(always)]
     pub fn finish128(&self) -> (u64, u64)
         ensures answer { result ≡ murmur_answer self.now }
         ensures stands { (seed : ℕ) (bytes : List ℕ) → MurmurStands self.now seed bytes →
             result ≡ murmur seed bytes }
     {
-        let padded = self.waiting.padded();
-        let (h1, h2) = (
-            self.h1 ^ mix1(read_u64_le(&padded[0..8])),
-            self.h2 ^ mix2(read_u64_le(&padded[8..16])),
-        );
-        ending(h1, h2, self.total)
+        ending(
+            self.h1 ^ mix1(self.low),
+            self.h2 ^ mix2(self.high),
+            self.total,
+        )
+    }
+
+    // Takes fewer bytes than a block has.
+    #[inline(always)]
+    fn take_few(&mut self, bytes: &[u8])
+        requires { length bytes.now < 16 }
+        ensures { self.new ≡ murmur_after self.old bytes.now }
+    {
+        self.total = self.total.wrapping_add(bytes.len() as u64);
+        let number = read_few_le(bytes);
+        let waiting = joined(self.low, self.high);
+        let (k1, k2) = words(waiting.wrapping_add(number << (8 * self.count)));
+        let count = self.count + bytes.len();
+        if count < BLOCK {
+            (self.low, self.high) = (k1, k2);
+            self.count = count;
+        } else {
+            (self.h1, self.h2) = step(self.h1, self.h2, k1, k2);
+            // What fell out of the block.
+            (self.low, self.high) = words(number >> (8 * (BLOCK - self.count)));
+            self.count = count - BLOCK;
+        }
+    }
+
+    // Takes at least as many bytes as a block has: all blocks but the first straight from the slice.
+    #[inline(always)]
+    fn take_many(&mut self, bytes: &[u8])
+        requires { 16 ≤ length bytes.now }
+        ensures { self.new ≡ murmur_after self.old bytes.now }
+    {
+        self.total = self.total.wrapping_add(bytes.len() as u64);
+        // Of the first 16 bytes, those behind the block fall out.
+        let first = read_u128_le(&bytes[..BLOCK]) << (8 * self.count);
+        let (k1, k2) = words(joined(self.low, self.high).wrapping_add(first));
+        let (h1, h2) = step(self.h1, self.h2, k1, k2);
+        let (blocks, last) = bytes[BLOCK - self.count..].as_chunks::<BLOCK>();
+        (self.h1, self.h2) = fold_blocks(h1, h2, blocks);
+        (self.low, self.high) = words(read_few_le(last));
+        self.count = last.len();
     }
 }
 
@@ -63,6 +119,7 @@ impl Default for MurmurHash3X64128 {
     ghost is_default = { λ h. MurmurStands h 9001 [] };
 
     /// A hasher with the seed of sketch updates, [`DEFAULT_UPDATE_SEED`].
+    #[inline(always)]
     fn default() -> Self {
         MurmurHash3X64128::with_seed(DEFAULT_UPDATE_SEED)
     }
@@ -74,32 +131,25 @@ impl fmt::Debug for MurmurHash3X64128 {
     }
 }
 
-impl TakesBytes for MurmurHash3X64128 {
-    ghost after_byte = { λ h byte. murmur_after h (byte ∷ []) };
-
-    fn push(&mut self, byte: u8) {
-        self.total = self.total.wrapping_add(1);
-        if let Some(block) = self.waiting.push(byte) {
-            let k1 = read_u64_le(&block[0..8]);
-            let k2 = read_u64_le(&block[8..16]);
-            (self.h1, self.h2) = step(self.h1, self.h2, k1, k2);
-        }
-    }
-}
-
 impl Hasher for MurmurHash3X64128 {
     ghost after = { murmur_after };
 
     ghost answer = { λ h. (murmur_answer h).0 };
 
+    #[inline(always)]
     fn write(&mut self, bytes: &[u8])
         ensures after { self.new ≡ murmur_after self.old bytes.now }
         ensures stands { (seed : ℕ) (before : List ℕ) → MurmurStands self.old seed before →
             MurmurStands self.new seed (before ++ bytes.now) }
     {
-        push_all(self, bytes);
+        if bytes.len() < BLOCK {
+            self.take_few(bytes);
+        } else {
+            self.take_many(bytes);
+        }
     }
 
+    #[inline(always)]
     fn finish(&self) -> u64
         ensures answer { result ≡ (murmur_answer self.now).0 }
         ensures stands { (seed : ℕ) (bytes : List ℕ) → MurmurStands self.now seed bytes →
@@ -114,35 +164,69 @@ impl Hasher for MurmurHash3X64128 {
     ghost empty_write = { murmur_after-empty };
 }
 
+#[inline(always)]
 fn mix1(k1: u64) -> u64
     ensures { result ≡ mix1 k1 }
 {
-    k1.wrapping_mul(C1).rotate_left(31).wrapping_mul(C2)
+    rotate::<31>(k1.wrapping_mul(C1)).wrapping_mul(C2)
 }
 
+#[inline(always)]
 fn mix2(k2: u64) -> u64
     ensures { result ≡ mix2 k2 }
 {
-    k2.wrapping_mul(C2).rotate_left(33).wrapping_mul(C1)
+    rotate::<33>(k2.wrapping_mul(C2)).wrapping_mul(C1)
 }
 
 // The pair after one block of the words `k1` and `k2`.
+#[inline(always)]
 fn step(h1: u64, h2: u64, k1: u64, k2: u64) -> (u64, u64)
     ensures { result ≡ step (h1, h2) (k1, k2) }
 {
-    let h1 = (h1 ^ mix1(k1))
-        .rotate_left(27)
+    let h1 = rotate::<27>(h1 ^ mix1(k1))
         .wrapping_add(h2)
         .wrapping_mul(5)
         .wrapping_add(0x52dc_e729);
-    let h2 = (h2 ^ mix2(k2))
-        .rotate_left(31)
+    let h2 = rotate::<31>(h2 ^ mix2(k2))
         .wrapping_add(h1)
         .wrapping_mul(5)
         .wrapping_add(0x3849_5ab5);
     (h1, h2)
 }
 
+// The pair after blocks.
+#[inline(always)]
+fn fold_blocks(mut h1: u64, mut h2: u64, blocks: &[[u8; BLOCK]]) -> (u64, u64)
+    ensures { result ≡ fold step (h1, h2) (map block_words blocks.now) }
+{
+    for block in blocks {
+        (h1, h2) = step(
+            h1,
+            h2,
+            read_u64_le(&block[0..8]),
+            read_u64_le(&block[8..16]),
+        );
+    }
+    (h1, h2)
+}
+
+// The number of a block, from its two words.
+#[inline(always)]
+fn joined(low: u64, high: u64) -> u128
+    ensures { result ≡ low + high * 2 ^ 64 }
+{
+    u128::from(low) + (u128::from(high) << 64)
+}
+
+// The two words of a block, from its number.
+#[inline(always)]
+fn words(number: u128) -> (u64, u64)
+    ensures { result ≡ (number % 2 ^ 64, number / 2 ^ 64) }
+{
+    ((number % (1 << 64)) as u64, (number >> 64) as u64)
+}
+
+#[inline(always)]
 fn fmix(word: u64) -> u64
     ensures { result ≡ fmix word }
 {
@@ -152,6 +236,7 @@ fn fmix(word: u64) -> u64
 }
 
 // The hash of `total` bytes, from the pair that their blocks and their tail left.
+#[inline(always)]
 fn ending(h1: u64, h2: u64, total: u64) -> (u64, u64)
     ensures { result ≡ ending (h1, h2) total }
 {

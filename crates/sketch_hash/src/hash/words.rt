@@ -2,8 +2,9 @@
 
 ghost use Rattle.std.specs.Prelude.{◌≡◌, ℕ, ◌+◌, ◌/◌, ◌^◌, ◌<◌, length};
 ghost use Rattle.sketch_base.specs.Bytes.{le};
-ghost use Rattle.sketch_hash.specs.Words.{plus, times, xor, xor_shift};
+ghost use Rattle.sketch_hash.specs.Words.{plus, times, xor, xor_shift, rotate};
 
+#[inline(always)]
 pub(crate) fn read_u64_le(bytes: &[u8]) -> u64
     requires { length bytes.now ≡ 8 }
     ensures { result ≡ le bytes.now }
@@ -13,6 +14,17 @@ pub(crate) fn read_u64_le(bytes: &[u8]) -> u64
     u64::from_le_bytes(word)
 }
 
+#[inline(always)]
+pub(crate) fn read_u16_le(bytes: &[u8]) -> u16
+    requires { length bytes.now ≡ 2 }
+    ensures { result ≡ le bytes.now }
+{
+    let mut word = [0u8; 2];
+    word.copy_from_slice(bytes);
+    u16::from_le_bytes(word)
+}
+
+#[inline(always)]
 pub(crate) fn read_u32_le(bytes: &[u8]) -> u32
     requires { length bytes.now ≡ 4 }
     ensures { result ≡ le bytes.now }
@@ -22,10 +34,33 @@ pub(crate) fn read_u32_le(bytes: &[u8]) -> u32
     u32::from_le_bytes(word)
 }
 
+#[inline(always)]
+pub(crate) fn read_u128_le(bytes: &[u8]) -> u128
+    requires { length bytes.now ≡ 16 }
+    ensures { result ≡ le bytes.now }
+{
+    let mut word = [0u8; 16];
+    word.copy_from_slice(bytes);
+    u128::from_le_bytes(word)
+}
+
 /// A word xor itself, shifted to the right by `places`.
+#[inline(always)]
 pub(crate) fn xor_shift(word: u64, places: u32) -> u64
     requires { places < 64 }
     ensures { result ≡ xor_shift places word }
 {
     word ^ (word >> places)
+}
+
+/// A word rotated to the left.
+///
+/// Beside a product LLVM makes a second product of one of the rotation's shifts. In a function of its own, and
+/// with a constant number of places, it sees the rotation first.
+pub(crate) fn rotate<const PLACES: u32>(word: u64) -> u64
+    requires above { 0 < PLACES }
+    requires below { PLACES < 64 }
+    ensures { result ≡ rotate word PLACES }
+{
+    word.rotate_left(PLACES)
 }

@@ -1,21 +1,24 @@
 //! XXH64, after Yann Collet's xxHash specification.
 
-ghost use Rattle.std.specs.Prelude.{◌≡◌, ℕ, List, [], ◌∷◌, ◌++◌, nat_lt};
+ghost use Rattle.std.specs.Prelude.{◌≡◌, ℕ, ◌+◌, ◌-◌, ◌%◌, ◌<◌, List, [], ◌∷◌, ◌++◌, nat_lt, length, take};
 ghost use Rattle.std.specs.List.{fold};
 ghost use Rattle.sketch_base.specs.Bytes.{eight};
 ghost use Rattle.sketch_hash.specs.Pieces.{State};
 ghost use Rattle.sketch_hash.specs.Xxh64.{Lanes, round, merge_lane, merge, eight_step, four_step, byte_step, tail_step, steps, avalanche, xxh64, xxh64_start, xxh64_after, xxh64_answer, Xxh64Stands};
+ghost use Rattle.sketch_hash.specs.Lanes.{lanes_of};
 ghost use Rattle.sketch_hash.specs.Xxh64WriteLemmas.{xxh64_after-append, xxh64_after-empty};
 
 use super::hasher::Hasher;
-use super::waiting::{TakesBytes, Waiting, push_all};
-use super::words::{read_u32_le, read_u64_le, xor_shift};
+use super::lanes::{Turn, fold_run, round};
+use super::put::put;
+use super::words::{read_u32_le, read_u64_le, rotate, xor_shift};
 use std::fmt;
 use std::marker::Model;
+use std::simd::prelude::*;
 
-const PRIME1: u64 = 0x9E37_79B1_85EB_CA87;
+pub(crate) const PRIME1: u64 = 0x9E37_79B1_85EB_CA87;
 
-const PRIME2: u64 = 0xC2B2_AE3D_27D4_EB4F;
+pub(crate) const PRIME2: u64 = 0xC2B2_AE3D_27D4_EB4F;
 
 const PRIME3: u64 = 0x1656_67B1_9E37_79F9;
 
@@ -23,7 +26,8 @@ const PRIME4: u64 = 0x85EB_CA77_C2B2_AE63;
 
 const PRIME5: u64 = 0x27D4_EB2F_1656_67C5;
 
-const STRIPE_BYTES: u64 = 32;
+// The bytes of a stripe.
+const STRIPE: usize = 32;
 
 /// XXH64: a fast hash of 64 bits for data that no adversary chooses.
 ///
@@ -32,41 +36,46 @@ const STRIPE_BYTES: u64 = 32;
 #[derive(Drop)]
 pub struct XxHash64 {
     seed: u64,
-    v1: u64,
-    v2: u64,
-    v3: u64,
-    v4: u64,
+    lanes: u64x4,
     total: u64,
-    waiting: Waiting<32>,
+    buffer: [u8; STRIPE],
+    count: usize,
 }
 
 impl Model for XxHash64 {
     ghost Value = { State Lanes };
 
     ghost view = { λ h. record {
-      folded = record { seed = h.seed; v1 = h.v1; v2 = h.v2; v3 = h.v3; v4 = h.v4 };
+      folded = lanes_of h.seed h.lanes;
       total = h.total;
-      waiting = h.waiting;
+      waiting = take h.count h.buffer;
     } };
+
+    ghost invariant = { λ h. h.count < 32 };
 }
 
 impl XxHash64 {
     /// A hasher with a seed, and no bytes.
+    #[inline(always)]
     pub fn with_seed(seed: u64) -> Self
         ensures { Xxh64Stands result seed [] }
     {
         XxHash64 {
             seed,
-            v1: seed.wrapping_add(PRIME1).wrapping_add(PRIME2),
-            v2: seed.wrapping_add(PRIME2),
-            v3: seed,
-            v4: seed.wrapping_sub(PRIME1),
+            lanes: u64x4::from_array([
+                seed.wrapping_add(PRIME1).wrapping_add(PRIME2),
+                seed.wrapping_add(PRIME2),
+                seed,
+                seed.wrapping_sub(PRIME1),
+            ]),
             total: 0,
-            waiting: Waiting::new(),
+            buffer: [0; STRIPE],
+            count: 0,
         }
     }
 
     /// The 64-bit hash of all bytes so far.
+    #[inline(always)]
     pub fn finish64(&self) -> u64
         ensures answer { result ≡ xxh64_answer self.now }
         ensures stands { (seed : ℕ) (bytes : List ℕ) → Xxh64Stands self.now seed bytes →
@@ -77,10 +86,11 @@ impl XxHash64 {
         } else {
             self.merge()
         };
-        avalanche(fold_tail(hash.wrapping_add(self.total), self.waiting.bytes()))
+        avalanche(fold_tail(hash.wrapping_add(self.total), &self.buffer[..self.count]))
     }
 
     /// The 64-bit hash of the eight little-endian bytes of `input`, under a seed.
+    #[inline(always)]
     pub fn hash_u64(input: u64, seed: u64) -> u64
         ensures { result ≡ xxh64 seed (eight input) }
     {
@@ -88,26 +98,81 @@ impl XxHash64 {
     }
 
     // Whether the hash starts from the seed alone: where less than a stripe was counted.
+    #[inline(always)]
     fn is_short(&self) -> bool
         ensures { result ≡ nat_lt self.now.total 32 }
     {
-        self.total < STRIPE_BYTES
+        self.total < STRIPE as u64
     }
 
     // The four lanes as one word.
+    #[inline(always)]
     fn merge(&self) -> u64
         ensures { result ≡ merge self.now.folded }
     {
-        let sum = self
-            .v1
-            .rotate_left(1)
-            .wrapping_add(self.v2.rotate_left(7))
-            .wrapping_add(self.v3.rotate_left(12))
-            .wrapping_add(self.v4.rotate_left(18));
-        let hash = merge_lane(sum, self.v1);
-        let hash = merge_lane(hash, self.v2);
-        let hash = merge_lane(hash, self.v3);
-        merge_lane(hash, self.v4)
+        let [v1, v2, v3, v4] = self.lanes.to_array();
+        let sum = rotate::<1>(v1)
+            .wrapping_add(rotate::<7>(v2))
+            .wrapping_add(rotate::<12>(v3))
+            .wrapping_add(rotate::<18>(v4));
+        let hash = merge_lane(sum, v1);
+        let hash = merge_lane(hash, v2);
+        let hash = merge_lane(hash, v3);
+        merge_lane(hash, v4)
+    }
+
+    // How many bytes the stripe that is begun still takes, or 0 where none is.
+    #[inline(always)]
+    fn room(&self) -> usize
+        ensures room { result ≡ (32 - length self.now.waiting) % 32 }
+        ensures short { length self.now.waiting < 32 }
+    {
+        (STRIPE - self.count) % STRIPE
+    }
+
+    // Takes bytes that fill no stripe.
+    #[inline(always)]
+    fn keep(&mut self, bytes: &[u8])
+        requires { length self.old.waiting + length bytes.now < 32 }
+        ensures { self.new ≡ xxh64_after self.old bytes.now }
+    {
+        self.total = self.total.wrapping_add(bytes.len() as u64);
+        let count = self.count;
+        put(&mut self.buffer, count, bytes);
+        self.count = count + bytes.len();
+    }
+
+    // Takes the bytes that fill the stripe that is begun, and none where no stripe is begun.
+    #[inline(always)]
+    fn fill(&mut self, bytes: &[u8])
+        requires short { length self.old.waiting < 32 }
+        requires fills { length bytes.now ≡ (32 - length self.old.waiting) % 32 }
+        ensures after { self.new ≡ xxh64_after self.old bytes.now }
+        ensures empty { self.new.waiting ≡ [] }
+    {
+        if bytes.is_empty() {
+            return;
+        }
+        self.total = self.total.wrapping_add(bytes.len() as u64);
+        let count = self.count;
+        put(&mut self.buffer, count, bytes);
+        self.count = 0;
+        let mut lanes = self.lanes;
+        lanes.turn(&self.buffer);
+        self.lanes = lanes;
+    }
+
+    // Takes whole stripes straight from the slice, and then the bytes behind them, where no byte waits.
+    #[inline(always)]
+    fn take(&mut self, bytes: &[u8])
+        requires { self.old.waiting ≡ [] }
+        ensures { self.new ≡ xxh64_after self.old bytes.now }
+    {
+        self.total = self.total.wrapping_add(bytes.len() as u64);
+        let (stripes, last) = bytes.as_chunks::<STRIPE>();
+        self.lanes = fold_run(self.lanes, stripes);
+        put(&mut self.buffer, 0, last);
+        self.count = last.len();
     }
 }
 
@@ -115,6 +180,7 @@ impl Default for XxHash64 {
     ghost is_default = { λ h. Xxh64Stands h 0 [] };
 
     /// A hasher with the seed 0.
+    #[inline(always)]
     fn default() -> Self {
         XxHash64::with_seed(0)
     }
@@ -126,33 +192,28 @@ impl fmt::Debug for XxHash64 {
     }
 }
 
-impl TakesBytes for XxHash64 {
-    ghost after_byte = { λ h byte. xxh64_after h (byte ∷ []) };
-
-    fn push(&mut self, byte: u8) {
-        self.total = self.total.wrapping_add(1);
-        if let Some(stripe) = self.waiting.push(byte) {
-            self.v1 = round(self.v1, read_u64_le(&stripe[0..8]));
-            self.v2 = round(self.v2, read_u64_le(&stripe[8..16]));
-            self.v3 = round(self.v3, read_u64_le(&stripe[16..24]));
-            self.v4 = round(self.v4, read_u64_le(&stripe[24..32]));
-        }
-    }
-}
-
 impl Hasher for XxHash64 {
     ghost after = { xxh64_after };
 
     ghost answer = { xxh64_answer };
 
+    #[inline(always)]
     fn write(&mut self, bytes: &[u8])
         ensures after { self.new ≡ xxh64_after self.old bytes.now }
         ensures stands { (seed : ℕ) (before : List ℕ) → Xxh64Stands self.old seed before →
             Xxh64Stands self.new seed (before ++ bytes.now) }
     {
-        push_all(self, bytes);
+        let room = self.room();
+        if bytes.len() < room {
+            self.keep(bytes);
+            return;
+        }
+        let (front, behind) = bytes.split_at(room);
+        self.fill(front);
+        self.take(behind);
     }
 
+    #[inline(always)]
     fn finish(&self) -> u64
         ensures answer { result ≡ xxh64_answer self.now }
         ensures stands { (seed : ℕ) (bytes : List ℕ) → Xxh64Stands self.now seed bytes →
@@ -166,15 +227,7 @@ impl Hasher for XxHash64 {
     ghost empty_write = { xxh64_after-empty };
 }
 
-// A lane after an input word.
-fn round(lane: u64, word: u64) -> u64
-    ensures { result ≡ round lane word }
-{
-    lane.wrapping_add(word.wrapping_mul(PRIME2))
-        .rotate_left(31)
-        .wrapping_mul(PRIME1)
-}
-
+#[inline(always)]
 fn merge_lane(hash: u64, lane: u64) -> u64
     ensures { result ≡ merge_lane hash lane }
 {
@@ -184,6 +237,7 @@ fn merge_lane(hash: u64, lane: u64) -> u64
 }
 
 // The hash after the bytes behind the stripes.
+#[inline(always)]
 fn fold_tail(mut hash: u64, tail: &[u8]) -> u64
     ensures { result ≡ fold tail_step hash (steps tail.now) }
 {
@@ -200,39 +254,40 @@ fn fold_tail(mut hash: u64, tail: &[u8]) -> u64
     fold_bytes(hash, rest)
 }
 
+#[inline(always)]
 fn fold_bytes(hash: u64, bytes: &[u8]) -> u64
     ensures { result ≡ fold byte_step hash bytes.now }
 {
     bytes.iter().fold(hash, |hash, byte| byte_step(hash, *byte))
 }
 
+#[inline(always)]
 fn eight_step(hash: u64, word: u64) -> u64
     ensures { result ≡ eight_step hash word }
 {
-    (hash ^ round(0, word))
-        .rotate_left(27)
+    rotate::<27>(hash ^ round(0, word))
         .wrapping_mul(PRIME1)
         .wrapping_add(PRIME4)
 }
 
+#[inline(always)]
 fn four_step(hash: u64, word: u32) -> u64
     ensures { result ≡ four_step hash word }
 {
-    (hash ^ u64::from(word).wrapping_mul(PRIME1))
-        .rotate_left(23)
+    rotate::<23>(hash ^ u64::from(word).wrapping_mul(PRIME1))
         .wrapping_mul(PRIME2)
         .wrapping_add(PRIME3)
 }
 
+#[inline(always)]
 fn byte_step(hash: u64, byte: u8) -> u64
     ensures { result ≡ byte_step hash byte }
 {
-    (hash ^ u64::from(byte).wrapping_mul(PRIME5))
-        .rotate_left(11)
-        .wrapping_mul(PRIME1)
+    rotate::<11>(hash ^ u64::from(byte).wrapping_mul(PRIME5)).wrapping_mul(PRIME1)
 }
 
 // The last mixing.
+#[inline(always)]
 fn avalanche(hash: u64) -> u64
     ensures { result ≡ avalanche hash }
 {

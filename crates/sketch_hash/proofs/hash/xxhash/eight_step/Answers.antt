@@ -1,11 +1,10 @@
-use Rattle.std.proofs.Common.{refl, ◌∙◌, lit<}
+use Rattle.std.proofs.Common.{refl}
 use Rattle.sketch_hash.specs.Xxh64.{eight_step}
-use Rattle.sketch_hash.proofs.WordsLemmas.{rotate-xor}
+use Rattle.sketch_hash.proofs.WordsLemmas.{xor-is}
 use Rattle.sketch_hash.proofs.hash.xxhash.eight_step.Goals as goal
 
 pub returns : goal.returns
 unfolding eight_step
 returns c =
-    let turned = c.rotate_left.ensures
-    ∙ rotate-xor c.args.hash c.round.result 27 (lit< tt) (lit< tt) c.ranges.hash.fits c.round.type_inv in
-    rw (turned, c.round.ensures) refl
+    let mixed = xor-is c.args.hash c.round.result c.ranges.hash.fits c.round.type_inv in
+    rw (c.rotate.ensures, ← mixed, c.round.ensures) refl

@@ -1,14 +1,12 @@
-use Rattle.std.proofs.Common.{refl, ◌∙◌, lit<}
+use Rattle.std.proofs.Common.{refl}
 use Rattle.sketch_hash.specs.Words.{times}
 use Rattle.sketch_hash.specs.Xxh64.{prime1, four_step}
-use Rattle.sketch_hash.proofs.WordsLemmas.{rotate-xor, times-lt}
+use Rattle.sketch_hash.proofs.WordsLemmas.{xor-is, times-lt}
 use Rattle.sketch_hash.proofs.hash.xxhash.four_step.Goals as goal
 
 pub returns : goal.returns
 unfolding four_step
 returns c =
-    let mixed = times c.from.result prime1 in
-    let turned = c.rotate_left.ensures
-    ∙ rotate-xor c.args.hash mixed 23 (lit< tt) (lit< tt) c.ranges.hash.fits
+    let mixed = xor-is c.args.hash (times c.from.result prime1) c.ranges.hash.fits
     (times-lt c.from.result prime1) in
-    rw (turned, c.from.ensures) refl
+    rw (c.rotate.ensures, ← mixed, c.from.ensures) refl

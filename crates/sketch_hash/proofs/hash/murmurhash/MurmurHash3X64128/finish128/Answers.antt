@@ -1,17 +1,24 @@
-use Rattle.std.proofs.Common.{◌≡◌, refl, ◌∙◌, rules}
+use Rattle.std.proofs.Common.{◌≡◌, ◌+◌, ◌*◌, ◌^◌, ◌<◌, refl, ap, ◌∙◌, rules}
 use Rattle.sketch_hash.specs.Words.{IsWord}
 use Rattle.sketch_hash.specs.Murmur.{murmur_answer, with_tail}
 use Rattle.sketch_hash.proofs.WordsLemmas.{xor-is}
 use Rattle.sketch_hash.proofs.MurmurLemmas.{murmur_answer-stands}
+use Rattle.sketch_hash.proofs.NumberLemmas.{padded_words, number-lt, number-words}
 use Rattle.sketch_hash.proofs.hash.murmurhash.MurmurHash3X64128.finish128.Goals as goal
+use Rattle.sketch_hash.proofs.hash.murmurhash.MurmurHash3X64128.finish128.Goals.{After-ending}
 
-finished : (c : goal.After-ending) → c.ending.result ≡ murmur_answer c.args.self.now
+finished : (c : After-ending) → c.ending.result ≡ murmur_answer c.args.self.now
 unfolding murmur_answer with_tail
 finished c =
-    let w1 : IsWord c.self.inside.h1 = search rules in
-    let w2 : IsWord c.self.inside.h2 = search rules in
-    let first = xor-is c.self.inside.h1 c.mix1.result w1 c.mix1.type_inv in
-    let second = xor-is c.self.inside.h2 c.mix2.result w2 c.mix2.type_inv in
+    let i = c.self.inside in
+    let w1 : IsWord i.h1 = search rules in
+    let w2 : IsWord i.h2 = search rules in
+    let first = xor-is i.h1 c.mix1.result w1 c.mix1.type_inv in
+    let second = xor-is i.h2 c.mix2.result w2 c.mix2.type_inv in
+    let below = number-lt i.count i.low i.high c.self.invariant.1 c.self.invariant.2 in
+    let words = padded_words i.count (i.low + i.high * 2 ^ 64) c.self.invariant.0 below in
+    let low : i.low < 2 ^ 64 = search rules in
+    let parts = number-words i.low i.high low in
     rw (
       ← c.self.view_is,
       c.ending.ensures,
@@ -19,9 +26,10 @@ finished c =
       ← second,
       c.mix1.ensures,
       c.mix2.ensures,
-      c.read_u64_le.ensures,
-      c.read_u64_le-2.ensures,
-      c.padded-padded.ensures,
+      ap (λ k. k.0) words,
+      ap (λ k. k.1) words,
+      parts.0,
+      parts.1,
     ) refl
 
 pub returns-clause-answer : goal.returns-clause-answer

@@ -1,7 +1,7 @@
-use Rattle.std.proofs.Common.{ap}
+use Rattle.std.proofs.Common.{refl}
 use Rattle.sketch_hash.specs.Murmur.{murmur_after}
 use Rattle.sketch_hash.proofs.hash.murmurhash.MurmurHash3X64128.with_seed.Goals as goal
 
 pub returns : goal.returns
 unfolding murmur_after
-returns c = ap (λ w. record { folded = (c.args.seed, c.args.seed); total = 0; waiting = w }) c.new.ensures
+returns c = refl

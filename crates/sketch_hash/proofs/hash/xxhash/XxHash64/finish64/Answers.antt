@@ -26,7 +26,7 @@ finished : (c : goal.After-avalanche) → c.avalanche.result ≡ xxh64_answer c.
 unfolding xxh64_answer ending
 finished c =
     let form = formed c in
-    rw (c.avalanche.ensures, c.fold_tail.ensures, c.bytes.ensures, form, ← c.self.view_is) refl
+    rw (c.avalanche.ensures, c.fold_tail.ensures, form, ← c.self.view_is) refl
 
 pub returns-clause-answer : goal.returns-clause-answer
 returns-clause-answer c = finished c

@@ -1,13 +1,15 @@
-use Rattle.std.proofs.Common.{◌≡◌, ◌∙◌, arith}
-use Rattle.sketch_hash.specs.Xxh64.{xxh64_after, stripe_step}
-use Rattle.sketch_hash.specs.Xxh64WriteLemmas.{xxh64_stands-after}
-use Rattle.sketch_hash.proofs.StateLemmas.{fold-state_after}
+use Rattle.std.proofs.Common.{◌≡◌, ap, sym, ◌∙◌}
+use Rattle.sketch_hash.specs.Xxh64.{xxh64_after}
+use Rattle.sketch_hash.specs.Xxh64WriteLemmas.{xxh64_after-append, xxh64_stands-after}
 use Rattle.sketch_hash.proofs.hash.xxhash.XxHash64Hasher.write.Goals as goal
 
-written : (c : goal.After-push_all) → c.push_all.new.taker ≡ xxh64_after c.args.self.now c.args.bytes.now
-unfolding xxh64_after
-written c = c.push_all.ensures
-    ∙ fold-state_after 32 (λ stripe. stripe) stripe_step (omega arith) c.args.bytes.now c.args.self.now
+written : (c : goal.After-take) → c.take.new.self ≡ xxh64_after c.args.self.now c.args.bytes.now
+written c =
+    let front = c.split_at.result.0.now in
+    let behind = c.split_at.result.1.now in
+    c.take.ensures ∙ ap (λ s. xxh64_after s behind) c.fill.ensures.after
+    ∙ xxh64_after-append c.args.self.now front behind
+    ∙ ap (xxh64_after c.args.self.now) (sym c.split_at.ensures.by_index.0)
 
 pub returns-clause-after : goal.returns-clause-after
 returns-clause-after c = written c
@@ -15,4 +17,9 @@ returns-clause-after c = written c
 pub returns-clause-stands : goal.returns-clause-stands
 returns-clause-stands c =
     λ seed before stands. xxh64_stands-after seed before c.args.bytes.now c.args.self.now
-    c.push_all.new.taker stands (written c)
+    c.take.new.self stands (written c)
+
+pub returns-then-bytes-room-clause-stands : goal.returns-then-bytes-room-clause-stands
+returns-then-bytes-room-clause-stands c =
+    λ seed before stands. xxh64_stands-after seed before c.args.bytes.now c.args.self.now
+    c.keep.new.self stands c.keep.ensures

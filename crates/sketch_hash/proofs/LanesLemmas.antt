@@ -1,0 +1,31 @@
+-- The lanes as the code holds them follow the lanes of the definition.
+use Rattle.std.proofs.Common.{◌≡◌, ℕ, List, [], ◌∷◌, ◌++◌, length, refl, sym, ap, ◌∙◌, arith}
+use Rattle.std.specs.List.{fold}
+use Rattle.std.specs.Simd.Lanes.{zip2}
+use Rattle.std.proofs.lemmas.List.Sums.{fold-append}
+use Rattle.sketch_hash.specs.Xxh64.{Lanes, round, stripe_step}
+use Rattle.sketch_hash.specs.Lanes.{lanes_of, stripe_words, each_lane}
+
+-- stripe by stripe, each lane is folded over its own words
+pub fold-each_lane : (stripes : List (List ℕ)) (v : Lanes) → fold stripe_step v stripes ≡ each_lane v stripes
+unfolding stripe_step
+fold-each_lane [] v = refl
+fold-each_lane (s ∷ stripes) v = fold-each_lane stripes (stripe_step v s)
+
+-- one stripe more
+pub each_lane-more : (v : Lanes) (stripes : List (List ℕ)) (s : List ℕ) →
+    stripe_step (each_lane v stripes) s ≡ each_lane v (stripes ++ s ∷ [])
+each_lane-more v stripes s =
+    ap (λ v. stripe_step v s) (sym (fold-each_lane stripes v))
+    ∙ sym (fold-append stripe_step v stripes (s ∷ [])) ∙ fold-each_lane (stripes ++ s ∷ []) v
+
+-- a list of four lanes and the words of a stripe, one by one
+pub lanes_of-turn : (seed : ℕ) (v : List ℕ) (stripe : List ℕ) → length v ≡ 4 →
+    lanes_of seed (zip2 round v (stripe_words stripe)) ≡ stripe_step (lanes_of seed v) stripe
+unfolding stripe_step
+lanes_of-turn seed [] stripe h = absurd (omega arith)
+lanes_of-turn seed (a ∷ []) stripe h = absurd (omega arith)
+lanes_of-turn seed (a ∷ b ∷ []) stripe h = absurd (omega arith)
+lanes_of-turn seed (a ∷ b ∷ c ∷ []) stripe h = absurd (omega arith)
+lanes_of-turn seed (a ∷ b ∷ c ∷ d ∷ []) stripe h = refl
+lanes_of-turn seed (a ∷ b ∷ c ∷ d ∷ e ∷ v) stripe h = absurd (omega arith)

@@ -1,0 +1,257 @@
+-- Numbers of lists of bytes: joined, cut, and as a block's two words.
+use Rattle.std.proofs.Common.{◌≡◌, ℕ, zero, suc, ◌+◌, ◌-◌, ◌*◌, ◌/◌, ◌%◌, ◌^◌, ◌<◌, ◌≤◌, List, [], ◌∷◌, ◌++◌, length, take, drop, replicate, get_or, Fits, w8, refl, sym, ap, ◌∙◌, arith, subst, length-append, length-drop, zero-add, lt_of_lt_of_le, min, inl, inr}
+use Rattle.std.proofs.Math.Nat.{pow-suc, mod-eq_of_lt, div-eq_of_lt, add-mod-mod, add-mul-mod_self_right, add-mul-div_right, one-le-pow, pow-le-pow_right, min-eq_left, min-eq_right}
+use Rattle.std.proofs.lemmas.Bool.{cases_lt}
+use Rattle.std.proofs.lemmas.Nat.{pow-add}
+use Rattle.std.proofs.lemmas.List.{length-take, length-take-le, take-append-drop, drop-drop, take-take, length-replicate}
+use Rattle.std.proofs.lemmas.List.Elements.{All-append, All-take, All-drop, All-replicate, All-from_get_or}
+use Rattle.sketch_base.specs.Bytes.{AreBytes, le, low_bytes}
+use Rattle.sketch_base.proofs.BytesLemmas.{le-cons, le-lt, le-low_bytes, length-low_bytes, low_bytes-le}
+use Rattle.sketch_hash.specs.Murmur.{block_words}
+use Rattle.sketch_hash.proofs.BlockLemmas.{low_bytes-are, halves}
+
+-- eight places are a byte
+pub pow_eight : (n : ℕ) → 2 ^ (8 * n) ≡ 256 ^ n
+pow_eight zero = refl
+pow_eight (suc n) =
+    let e : 8 * suc n ≡ 8 * n + 8 = omega arith in
+    ap (λ k. 2 ^ k) e ∙ pow-add 2 (8 * n) 8 ∙ ap (λ p. p * 256) (pow_eight n) ∙ sym (pow-suc 256 n)
+
+pow_256 : (n : ℕ) → 0 < 256 ^ n
+pow_256 n = one-le-pow n 256 (omega arith)
+
+-- the number of joined bytes
+le-append : (xs ys : List ℕ) → le (xs ++ ys) ≡ le xs + le ys * 256 ^ length xs
+le-append [] ys = omega arith
+le-append (x ∷ xs) ys =
+    rw (le-cons x (xs ++ ys), le-cons x xs, le-append xs ys, pow-suc 256 (length xs))
+    (spread x (le xs) (le ys) (256 ^ length xs))
+  where
+    spread : (x a b p : ℕ) → x + 256 * (a + b * p) ≡ (x + 256 * a) + b * (p * 256)
+    spread x a b p = omega arith
+
+-- the number of the first bytes, and of those behind them
+pub le-cut : (n : ℕ) (bytes : List ℕ) → n ≤ length bytes →
+    le bytes ≡ le (take n bytes) + le (drop n bytes) * 256 ^ n
+le-cut n bytes h =
+    ap le (sym (take-append-drop n bytes)) ∙ le-append (take n bytes) (drop n bytes)
+    ∙ ap (λ k. le (take n bytes) + le (drop n bytes) * 256 ^ k) (length-take-le n bytes h)
+
+le_take-lt : (n : ℕ) (bytes : List ℕ) → AreBytes bytes → n ≤ length bytes → le (take n bytes) < 256 ^ n
+le_take-lt n bytes b h =
+    subst (λ k. le (take n bytes) < 256 ^ k) (length-take-le n bytes h)
+    (le-lt (take n bytes) (All-take (λ x. x < 256) n bytes b))
+
+-- the number of what is behind the first bytes, as a quotient
+pub le-drop : (n : ℕ) (bytes : List ℕ) → AreBytes bytes → n ≤ length bytes → le (drop n bytes) ≡ le bytes / 256 ^ n
+le-drop n bytes b h =
+    let small = div-eq_of_lt (le_take-lt n bytes b h) in
+    sym (ap (λ v. v / 256 ^ n) (le-cut n bytes h)
+    ∙ add-mul-div_right (le (take n bytes)) (le (drop n bytes)) (pow_256 n)
+    ∙ ap (λ v. v + le (drop n bytes)) small ∙ zero-add (le (drop n bytes)))
+
+le-take : (n : ℕ) (bytes : List ℕ) → AreBytes bytes → n ≤ length bytes → le (take n bytes) ≡ le bytes % 256 ^ n
+le-take n bytes b h =
+    sym (ap (λ v. v % 256 ^ n) (le-cut n bytes h)
+    ∙ add-mul-mod_self_right (le (take n bytes)) (le (drop n bytes)) (256 ^ n)
+    ∙ mod-eq_of_lt (le_take-lt n bytes b h))
+
+-- the number of bytes, from those of their first and of their last w bytes, which may overlap
+pub le-ends : (w : ℕ) (bytes : List ℕ) → AreBytes bytes → w ≤ length bytes → length bytes ≤ w + w →
+    le (take w bytes) + le (drop (length bytes - w) bytes) / 256 ^ (w + w - length bytes) * 256 ^ w ≡ le bytes
+le-ends w bytes b low high =
+    let n : ℕ = length bytes in
+    let back : List ℕ = drop (n - w) bytes in
+    let long : length back ≡ n - (n - w) = length-drop (n - w) bytes in
+    let within : w + w - n ≤ length back = omega (arith, long) in
+    let all : (n - w) + (w + w - n) ≡ w = omega arith in
+    let behind : drop (w + w - n) back ≡ drop w bytes = drop-drop (w + w - n) (n - w) bytes
+    ∙ ap (λ k. drop k bytes) all in
+    let quotient = le-drop (w + w - n) back (All-drop (λ x. x < 256) (n - w) bytes b) within in
+    ap (λ v. le (take w bytes) + v * 256 ^ w) (sym quotient ∙ ap le behind) ∙ sym (le-cut w bytes low)
+
+pub bytes_known : (bytes : List ℕ) → ((i : ℕ) → Fits w8 (get_or bytes i 0)) → AreBytes bytes
+bytes_known bytes h = All-from_get_or (λ x. x < 256) bytes 0 (λ i l. (h i).fits)
+
+-- a number's lowest bytes, and bytes joined behind them
+le-joined : (count n : ℕ) (bytes : List ℕ) → n < 256 ^ count →
+    le (low_bytes count n ++ bytes) ≡ n + le bytes * 256 ^ count
+le-joined count n bytes h =
+    le-append (low_bytes count n) bytes
+    ∙ ap (λ v. v + le bytes * 256 ^ length (low_bytes count n)) (le-low_bytes count n ∙ mod-eq_of_lt h)
+    ∙ ap (λ k. n + le bytes * 256 ^ k) (length-low_bytes count n)
+
+joined-are : (count n : ℕ) (bytes : List ℕ) → AreBytes bytes → AreBytes (low_bytes count n ++ bytes)
+joined-are count n bytes b = All-append (λ x. x < 256) (low_bytes count n) bytes (low_bytes-are count n) b
+
+joined-length : (count n : ℕ) (bytes : List ℕ) → length (low_bytes count n ++ bytes) ≡ count + length bytes
+joined-length count n bytes = length-append (low_bytes count n) bytes
+    ∙ ap (λ k. k + length bytes) (length-low_bytes count n)
+
+pub low_bytes-joined : (count n : ℕ) (bytes : List ℕ) → AreBytes bytes → n < 256 ^ count →
+    low_bytes (count + length bytes) (n + le bytes * 256 ^ count) ≡ low_bytes count n ++ bytes
+low_bytes-joined count n bytes b h =
+    ap (λ k. low_bytes k (n + le bytes * 256 ^ count)) (sym (joined-length count n bytes))
+    ∙ ap (low_bytes (length (low_bytes count n ++ bytes))) (sym (le-joined count n bytes h))
+    ∙ low_bytes-le (low_bytes count n ++ bytes) (joined-are count n bytes b)
+
+pub joined-lt : (count n : ℕ) (bytes : List ℕ) → AreBytes bytes → n < 256 ^ count →
+    n + le bytes * 256 ^ count < 256 ^ (count + length bytes)
+joined-lt count n bytes b h =
+    subst (λ v. v < 256 ^ (count + length bytes)) (le-joined count n bytes h)
+    (subst (λ k. le (low_bytes count n ++ bytes) < 256 ^ k) (joined-length count n bytes)
+    (le-lt (low_bytes count n ++ bytes) (joined-are count n bytes b)))
+
+-- of bytes behind those of a number, what goes beyond 16 in all falls out
+le-block : (count n : ℕ) (bytes : List ℕ) → AreBytes bytes → n < 256 ^ count → count ≤ 16 →
+    16 ≤ count + length bytes →
+    (n + le (take 16 bytes) * 2 ^ (8 * count) % 2 ^ 128) % 2 ^ 128 ≡ le (low_bytes count n ++ take (16 - count) bytes)
+le-block count n bytes b h low high =
+    let room : ℕ = 16 - count in
+    let front : List ℕ = take room bytes in
+    let wide : List ℕ = take 16 bytes in
+    let behind : ℕ = le (drop room wide) in
+    let room_len : length front ≡ room = length-take-le room bytes (omega arith) in
+    let within : room ≤ length wide = room_within room bytes (omega arith) (omega arith) in
+    let cut : le wide ≡ le front + behind * 256 ^ room =
+    le-cut room wide within ∙ ap (λ t. le t + behind * 256 ^ room) (take-take room 16 bytes (omega arith)) in
+    let all : 256 ^ room * 256 ^ count ≡ 2 ^ 128 =
+    sym (pow-add 256 room count) ∙ ap (λ k. 256 ^ k) (whole count low) in
+    let block : List ℕ = low_bytes count n ++ front in
+    let front_are : AreBytes front = All-take (λ x. x < 256) room bytes b in
+    let size : length block ≡ 16 = joined-length count n front ∙ omega (arith, room_len) in
+    let below : le block < 2 ^ 128 = subst (λ k. le block < 256 ^ k) size (le-lt block (joined-are count n front front_are)) in
+    ap (λ p. (n + le wide * p % 2 ^ 128) % 2 ^ 128) (pow_eight count)
+    ∙ add-mod-mod n (le wide * 256 ^ count) (2 ^ 128)
+    ∙ ap (λ v. (n + v * 256 ^ count) % 2 ^ 128) cut
+    ∙ ap (λ v. v % 2 ^ 128) (spread n (le front) behind (256 ^ room) (256 ^ count)
+    ∙ ap (λ p. n + le front * 256 ^ count + behind * p) all
+    ∙ ap (λ v. v + behind * 2 ^ 128) (sym (le-joined count n front h)))
+    ∙ add-mul-mod_self_right (le block) behind (2 ^ 128) ∙ mod-eq_of_lt below
+  where
+    whole : (count : ℕ) → count ≤ 16 → (16 - count) + count ≡ 16
+    whole count h = omega arith
+
+    spread : (n a b p q : ℕ) → n + (a + b * p) * q ≡ n + a * q + b * (p * q)
+    spread n a b p q = omega arith
+
+    room_within : (k : ℕ) (bytes : List ℕ) → k ≤ 16 → k ≤ length bytes → k ≤ length (take 16 bytes)
+    room_within k bytes m h = rw (length-take 16 bytes) (omega arith)
+
+-- the two words of a block, from its number
+block_words-le : (block : List ℕ) → AreBytes block → length block ≡ 16 →
+    block_words block ≡ (le block % 2 ^ 64, le block / 2 ^ 64)
+block_words-le block b h =
+    halves block (b, h) ∙ ap (λ v. (v, le (drop 8 block))) (le-take 8 block b (omega arith))
+    ∙ ap (λ v. (le block % 2 ^ 64, v)) (le-drop 8 block b (omega arith))
+
+-- zeros behind bytes count nothing
+le-padded : (n : ℕ) (bytes : List ℕ) → le (bytes ++ replicate n 0) ≡ le bytes
+le-padded n bytes =
+    le-append bytes (replicate n 0) ∙ ap (λ v. le bytes + v * 256 ^ length bytes) (zeros n)
+    ∙ nothing (le bytes) (256 ^ length bytes)
+  where
+    zeros : (n : ℕ) → le (replicate n 0) ≡ 0
+    zeros zero = refl
+    zeros (suc n) = le-cons 0 (replicate n 0) ∙ ap (λ v. 0 + 256 * v) (zeros n)
+
+    nothing : (a p : ℕ) → a + 0 * p ≡ a
+    nothing a p = omega arith
+
+-- fewer than 16 bytes, padded with zeros to a block, have the words of their number
+pub padded_words : (count n : ℕ) → count < 16 → n < 256 ^ count →
+    block_words (low_bytes count n ++ replicate (16 - length (low_bytes count n)) 0) ≡ (n % 2 ^ 64, n / 2 ^ 64)
+padded_words count n low h =
+    let zeros : List ℕ = replicate (16 - length (low_bytes count n)) 0 in
+    let are : AreBytes zeros = All-replicate (λ x. x < 256) (16 - length (low_bytes count n)) 0 (omega arith) in
+    let size : length zeros ≡ 16 - length (low_bytes count n) = length-replicate (16 - length (low_bytes count n)) 0 in
+    let count_len = length-low_bytes count n in
+    let whole : length (low_bytes count n ++ zeros) ≡ 16 = joined-length count n zeros ∙ omega (arith, size, count_len) in
+    let number : le (low_bytes count n ++ zeros) ≡ n =
+    le-padded (16 - length (low_bytes count n)) (low_bytes count n) ∙ le-low_bytes count n ∙ mod-eq_of_lt h in
+    block_words-le (low_bytes count n ++ zeros) (joined-are count n zeros are) whole
+    ∙ ap (λ v. (v % 2 ^ 64, v / 2 ^ 64)) number
+
+-- bytes behind those of a number, where all are fewer than 16
+kept-lt : (count n : ℕ) (bytes : List ℕ) → AreBytes bytes → n < 256 ^ count → count + length bytes < 16 →
+    n + le bytes * 256 ^ count < 2 ^ 128
+kept-lt count n bytes b h short =
+    let within : count + length bytes ≤ 16 = omega arith in
+    lt_of_lt_of_le (joined-lt count n bytes b h) (pow-le-pow_right {n = 256} (omega arith) within)
+
+kept-is : (count n : ℕ) (bytes : List ℕ) → AreBytes bytes → n < 256 ^ count → count + length bytes < 16 →
+    n + le bytes * 2 ^ (8 * count) % 2 ^ 128 ≡ n + le bytes * 256 ^ count
+kept-is count n bytes b h short =
+    let below = kept-lt count n bytes b h short in
+    let alone : le bytes * 256 ^ count < 2 ^ 128 = less n (le bytes * 256 ^ count) below in
+    ap (λ p. n + le bytes * p % 2 ^ 128) (pow_eight count) ∙ ap (λ v. n + v) (mod-eq_of_lt alone)
+  where
+    less : (a b : ℕ) → a + b < 2 ^ 128 → b < 2 ^ 128
+    less a b h = omega arith
+
+-- the words of the block that a number's bytes and the first bytes behind them fill
+pub block_words-filled : (count n : ℕ) (bytes : List ℕ) → AreBytes bytes → n < 256 ^ count → count < 16 →
+    16 ≤ count + length bytes →
+    block_words (low_bytes count n ++ take (16 - count) bytes)
+    ≡ (
+      (n + le (take 16 bytes) * 2 ^ (8 * count) % 2 ^ 128) % 2 ^ 128 % 2 ^ 64,
+      (n + le (take 16 bytes) * 2 ^ (8 * count) % 2 ^ 128) % 2 ^ 128 / 2 ^ 64,
+    )
+block_words-filled count n bytes b h low high =
+    let front : List ℕ = take (16 - count) bytes in
+    let front_are : AreBytes front = All-take (λ x. x < 256) (16 - count) bytes b in
+    let front_len = length-take-le (16 - count) bytes (omega arith) in
+    let size : length (low_bytes count n ++ front) ≡ 16 = joined-length count n front ∙ omega (arith, front_len) in
+    block_words-le (low_bytes count n ++ front) (joined-are count n front front_are) size
+    ∙ ap (λ v. (v % 2 ^ 64, v / 2 ^ 64)) (sym (le-block count n bytes b h (omega arith) high))
+
+pub joined-is : (count n : ℕ) (bytes : List ℕ) → AreBytes bytes → n < 256 ^ count → count + length bytes < 16 →
+    (n + le bytes * 2 ^ (8 * count) % 2 ^ 128) % 2 ^ 128 ≡ n + le bytes * 256 ^ count
+joined-is count n bytes b h short =
+    ap (λ v. v % 2 ^ 128) (kept-is count n bytes b h short) ∙ mod-eq_of_lt (kept-lt count n bytes b h short)
+
+-- ---- two words of waiting bytes, and their number
+
+pub words-number : (n : ℕ) → n % 2 ^ 64 + n / 2 ^ 64 * 2 ^ 64 ≡ n
+words-number n = omega arith
+
+pub number-words : (low high : ℕ) → low < 2 ^ 64 →
+    ((low + high * 2 ^ 64) % 2 ^ 64 ≡ low) × ((low + high * 2 ^ 64) / 2 ^ 64 ≡ high)
+number-words low high p = (omega arith, omega arith)
+
+-- the second word is what is beyond eight bytes
+beyond_eight : (count : ℕ) → 8 ≤ count → 256 ^ count ≡ 256 ^ (count - 8) * 2 ^ 64
+beyond_eight count m = let split : count ≡ count - 8 + 8 = omega arith in
+    ap (λ k. 256 ^ k) split ∙ pow-add 256 (count - 8) 8
+
+-- the words' sizes give that of their number
+pub number-lt : (count low high : ℕ) → low < 256 ^ min count 8 → high < 256 ^ (count - 8) →
+    low + high * 2 ^ 64 < 256 ^ count
+number-lt count low high p q = elim (cases_lt count 8) [
+  | inl l ↦
+      let few : min count 8 ≡ count = min-eq_left (omega arith) in
+      let none : count - 8 ≡ 0 = omega arith in
+      let first : low < 256 ^ count = subst (λ k. low < 256 ^ k) few p in
+      let second : high < 1 = subst (λ k. high < 256 ^ k) none q in
+      omega arith
+  | inr m ↦
+      let many : min count 8 ≡ 8 = min-eq_right m in
+      let first : low < 2 ^ 64 = subst (λ k. low < 256 ^ k) many p in
+      rw (beyond_eight count m) (omega arith)
+]
+
+-- and the number's size those of the words
+pub words-lt : (count n : ℕ) → n < 256 ^ count →
+    (n % 2 ^ 64 < 256 ^ min count 8) × (n / 2 ^ 64 < 256 ^ (count - 8))
+words-lt count n p = elim (cases_lt count 8) [
+  | inl l ↦
+      let few : min count 8 ≡ count = min-eq_left (omega arith) in
+      let none : count - 8 ≡ 0 = omega arith in
+      let within : count ≤ 8 = omega arith in
+      let below : n < 2 ^ 64 = lt_of_lt_of_le p (pow-le-pow_right {n = 256} (omega arith) within) in
+      (rw (few, mod-eq_of_lt below) p, rw none (omega arith))
+  | inr m ↦
+      let many : min count 8 ≡ 8 = min-eq_right m in
+      let all : n < 256 ^ (count - 8) * 2 ^ 64 = subst (λ k. n < k) (beyond_eight count m) p in
+      (rw many (omega arith), omega arith)
+]
