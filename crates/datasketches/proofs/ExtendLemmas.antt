@@ -8,7 +8,7 @@ use Rattle.std.proofs.lemmas.Bool.{cases_lt}
 use Rattle.sketch_base.specs.Bytes.{le, eight, twos_complement, modulo}
 use Rattle.sketch_hash.specs.Values.{integer_bytes}
 use Rattle.sketch_hash.specs.Laws.{PieceLaws}
-use Rattle.datasketches.specs.Strategies.{IsSigned, ExtendLawAt, ExtendLaw}
+use Rattle.datasketches.specs.Strategies.{IsSigned, ExtendLawAt, ExtendLawAt64, ExtendLaw}
 use Rattle.datasketches.proofs.IntegerLemmas.{modulo-lt}
 
 -- integers feed equal bytes exactly if they agree modulo 2 ^ 64
@@ -130,9 +130,28 @@ extend_law_at ps w p m = record {
   across = λ x y h l. sign_extend ps w x y p (omega arith) h l;
 }
 
+-- at 64 bits a number is its own word, whichever way it is read
+sign_word : (y : ℕ) → y < 2 ^ 64 → modulo 64 (pos y) ≡ modulo 64 (twos_complement 64 y)
+sign_word y l =
+    let s = lifted 64 y (omega arith) (omega arith) l in
+    let word : y % 2 ^ 64 ≡ y = mod-eq_of_lt l in
+    elim (cases_lt y (2 ^ 63)) [
+      | inl low ↦ word ∙ sym (s.low low)
+      | inr high ↦ word ∙ sym (s.high high ∙ omega arith)
+    ]
+
+extend_law_64 : PieceLaws → ExtendLawAt64 integer_bytes (λ y. integer_bytes (pos y))
+    integer_bytes (λ y. integer_bytes (twos_complement 64 y))
+extend_law_64 ps = record {
+  signed_alike = λ x. refl;
+  unsigned_alike = λ y l. ap eight (sign_word y l);
+  across = λ x y h l. sign_extend ps 64 x y (omega arith) (omega arith) h l;
+}
+
 pub extend_law : PieceLaws → ExtendLaw
 extend_law ps = record {
   bits_8 = extend_law_at ps 8 (omega arith) (omega arith);
   bits_16 = extend_law_at ps 16 (omega arith) (omega arith);
   bits_32 = extend_law_at ps 32 (omega arith) (omega arith);
+  bits_64 = extend_law_64 ps;
 }

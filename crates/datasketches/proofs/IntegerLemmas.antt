@@ -9,7 +9,7 @@ use Rattle.sketch_hash.specs.Words.{IsWord}
 use Rattle.sketch_hash.specs.Murmur.{murmur}
 use Rattle.sketch_hash.specs.Xxh64.{xxh64}
 use Rattle.sketch_hash.specs.Laws.{PieceLaws, MurmurStepLaws, Xxh64StepLaws}
-use Rattle.datasketches.specs.Laws.{IsShort, IntegerLaw}
+use Rattle.datasketches.specs.Laws.{IsShort, IntegerLaw, ModuloLaw}
 use Rattle.datasketches.proofs.MurmurLawLemmas.{IsByte, cut_block-once}
 use Rattle.datasketches.proofs.Xxh64LawLemmas.{hash_u64_law}
 
@@ -27,6 +27,13 @@ modulo-once (negsuc n) (negsuc m) h k e = ap negsuc (omega (arith, ints))
 abbrev TellsWordsApart : {B : Type 0} → (ℕ → List ℕ → B) → Type 0
 TellsWordsApart hash =
     (seed u v : ℕ) → IsWord seed → IsWord u → IsWord v → hash seed (eight u) ≡ hash seed (eight v) → u ≡ v
+
+-- eight bytes of integers, and the words that these are modulo 2 ^ 64
+modulo_law : {B : Type 0} (hash : ℕ → List ℕ → B) → TellsWordsApart hash → ModuloLaw hash
+modulo_law hash apart seed x y p = (
+  λ e. apart seed (modulo 64 x) (modulo 64 y) p (modulo-lt x) (modulo-lt y) e,
+  ap (λ u. hash seed (eight u)),
+)
 
 integers : {B : Type 0} (hash : ℕ → List ℕ → B) → TellsWordsApart hash → IntegerLaw hash
 integers hash apart seed x y p h k = (
@@ -47,3 +54,9 @@ murmur_integers ps ms = integers murmur (murmur-apart ps ms)
 
 pub xxh64_integers : PieceLaws → Xxh64StepLaws → IntegerLaw xxh64
 xxh64_integers ps ss = integers xxh64 (λ seed u v p. (hash_u64_law ps ss seed p).once u v)
+
+pub murmur_modulo : PieceLaws → MurmurStepLaws → ModuloLaw murmur
+murmur_modulo ps ms = modulo_law murmur (murmur-apart ps ms)
+
+pub xxh64_modulo : PieceLaws → Xxh64StepLaws → ModuloLaw xxh64
+xxh64_modulo ps ss = modulo_law xxh64 (λ seed u v p. (hash_u64_law ps ss seed p).once u v)

@@ -5,3 +5,4 @@ pub mod MurmurLawLemmas
 pub mod Xxh64LawLemmas
 pub mod IntegerLemmas
 pub mod ExtendLemmas
+pub mod StrategyLemmas

@@ -2,7 +2,7 @@
 -- integers.
 use Rattle.std.specs.Prelude.{◌≡◌, ◌≢◌, ◌↔◌, ℕ, ◌*◌, ◌^◌, ◌<◌, ℤ, pos, neg_ℤ, ◌≤ℤ◌, ◌<ℤ◌, List, ◌++◌, length}
 use Rattle.std.specs.List.{All, fold}
-use Rattle.sketch_base.specs.Bytes.{AreBytes, eight}
+use Rattle.sketch_base.specs.Bytes.{AreBytes, eight, modulo}
 use Rattle.sketch_hash.specs.Words.{IsWord}
 use Rattle.sketch_hash.specs.Murmur.{step, murmur}
 use Rattle.sketch_hash.specs.Xxh64.{xxh64}
@@ -36,6 +36,12 @@ abbrev pub IntegerLaw : {B : Type 0} → (ℕ → List ℕ → B) → Type 0
 IntegerLaw hash =
     (seed : ℕ) (x y : ℤ) → IsWord seed → IsShort x → IsShort y →
     (hash seed (integer_bytes x) ≡ hash seed (integer_bytes y)) ↔ (x ≡ y)
+
+-- Any two integers do so exactly if they agree modulo 2 ^ 64.
+abbrev pub ModuloLaw : {B : Type 0} → (ℕ → List ℕ → B) → Type 0
+ModuloLaw hash =
+    (seed : ℕ) (x y : ℤ) → IsWord seed →
+    (hash seed (integer_bytes x) ≡ hash seed (integer_bytes y)) ↔ (modulo 64 x ≡ modulo 64 y)
 
 -- For each seed, the hash of eight bytes takes every word exactly once.
 abbrev pub HashU64Law : Type 0

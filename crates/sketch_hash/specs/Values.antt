@@ -1,4 +1,4 @@
--- What short integers feed to a hasher.
+-- What extended integers feed to a hasher.
 use Rattle.std.specs.Prelude.{ℕ, ℤ, List}
 use Rattle.sketch_base.specs.Bytes.{eight, modulo}
 

@@ -1,8 +1,8 @@
 //! Values that are fed to hashers as the same bytes by every implementation of the library, in any
 //! language.
 //!
-//! * [`natural_extend`]: short integers as eight bytes, by their value.
-//! * [`sign_extend`]: short integers as eight bytes, their highest bit taken for a sign.
+//! * [`natural_extend`]: integers as eight bytes, by their value.
+//! * [`sign_extend`]: integers as eight bytes, their highest bit taken for a sign.
 //! * [`raw_bytes`]: bytes and text as they are, with no length and no end mark.
 
 pub mod natural_extend;

@@ -1,4 +1,4 @@
-//! Short integers that are fed as eight bytes, by their value: a signed number with its sign, an
+//! Integers that are fed as eight bytes, by their value: a signed number with its sign, an
 //! unsigned one with zeros in front.
 //!
 //! So the unsigned 255 of eight bits feeds what 255 of 64 bits feeds.
@@ -53,6 +53,20 @@ pub fn from_i32(v: i32) -> NaturalExtend<i32>
 
 /// The number, to be fed by its value.
 pub fn from_u32(v: u32) -> NaturalExtend<u32>
+    ensures { result ≡ v }
+{
+    Value::new(v)
+}
+
+/// The number, to be fed by its value.
+pub fn from_i64(v: i64) -> NaturalExtend<i64>
+    ensures { result ≡ v }
+{
+    Value::new(v)
+}
+
+/// The number, to be fed by its value.
+pub fn from_u64(v: u64) -> NaturalExtend<u64>
     ensures { result ≡ v }
 {
     Value::new(v)
@@ -113,6 +127,26 @@ impl HashStrategy<u32> for NaturalExtendStrategy {
 
     fn hash<H: Hasher>(value: &u32, state: &mut H) {
         state.write_u64(u64::from(*value));
+    }
+
+    ghost respects_eq = { Prim.search rules };
+}
+
+impl HashStrategy<i64> for NaturalExtendStrategy {
+    ghost fed = { integer_bytes };
+
+    fn hash<H: Hasher>(value: &i64, state: &mut H) {
+        state.write_i64(*value);
+    }
+
+    ghost respects_eq = { Prim.search rules };
+}
+
+impl HashStrategy<u64> for NaturalExtendStrategy {
+    ghost fed = { λ x. integer_bytes (pos x) };
+
+    fn hash<H: Hasher>(value: &u64, state: &mut H) {
+        state.write_u64(*value);
     }
 
     ghost respects_eq = { Prim.search rules };

@@ -1,5 +1,5 @@
-//! Short integers that are fed as eight bytes, their highest bit taken for a sign, whether the type
-//! is signed or not.
+//! Integers that are fed as eight bytes, their highest bit taken for a sign, whether the type is
+//! signed or not.
 //!
 //! So the unsigned 255 of eight bits feeds what -1 feeds.
 
@@ -54,6 +54,20 @@ pub fn from_i32(v: i32) -> SignExtend<i32>
 
 /// The number, to be fed with its highest bit as its sign.
 pub fn from_u32(v: u32) -> SignExtend<u32>
+    ensures { result ≡ v }
+{
+    Value::new(v)
+}
+
+/// The number, to be fed with its highest bit as its sign.
+pub fn from_i64(v: i64) -> SignExtend<i64>
+    ensures { result ≡ v }
+{
+    Value::new(v)
+}
+
+/// The number, to be fed with its highest bit as its sign.
+pub fn from_u64(v: u64) -> SignExtend<u64>
     ensures { result ≡ v }
 {
     Value::new(v)
@@ -114,6 +128,26 @@ impl HashStrategy<u32> for SignExtendStrategy {
 
     fn hash<H: Hasher>(value: &u32, state: &mut H) {
         state.write_i64(i64::from(value.cast_signed()));
+    }
+
+    ghost respects_eq = { Prim.search rules };
+}
+
+impl HashStrategy<i64> for SignExtendStrategy {
+    ghost fed = { integer_bytes };
+
+    fn hash<H: Hasher>(value: &i64, state: &mut H) {
+        state.write_i64(*value);
+    }
+
+    ghost respects_eq = { Prim.search rules };
+}
+
+impl HashStrategy<u64> for SignExtendStrategy {
+    ghost fed = { λ x. integer_bytes (twos_complement 64 x) };
+
+    fn hash<H: Hasher>(value: &u64, state: &mut H) {
+        state.write_i64(value.cast_signed());
     }
 
     ghost respects_eq = { Prim.search rules };
