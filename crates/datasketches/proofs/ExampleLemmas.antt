@@ -98,4 +98,8 @@ relations = record {
   across_16_bits = refl;
   across_32_bits = refl;
   not_across = λ e. let number : 255 ≡ 254 = e in omega (arith, number);
+  least_of_64_bits = (omega (arith, ints), omega (arith, ints));
+  above_64_bits = λ h. omega (arith, ints, h.1);
+  across_64_bits = refl;
+  not_across_64_bits = λ e. let byte : 255 ≡ 254 = ap (λ t. get_or t 0 0) e in omega (arith, byte);
 }

@@ -4,7 +4,7 @@ use Rattle.sketch_base.specs.Bytes.{modulo}
 use Rattle.sketch_hash.specs.Examples.{fox}
 use Rattle.datasketches.specs.Streams.{DifferInOneBlock, DifferInOneTailStep}
 use Rattle.datasketches.specs.Laws.{IsShort}
-use Rattle.datasketches.specs.Strategies.{IsSigned}
+use Rattle.datasketches.specs.Strategies.{IsSigned, I64, U64, natural_fed, sign_fed}
 
 -- the sentence with another animal: its last block differs, and is cut off
 abbrev pub eog : List ℕ
@@ -38,3 +38,7 @@ pub record Relations : Type 0 where
   pub across_16_bits : modulo 16 (negsuc 0) ≡ modulo 16 (pos 65535)
   pub across_32_bits : modulo 32 (negsuc 0) ≡ modulo 32 (pos 4294967295)
   pub not_across : modulo 8 (negsuc 0) ≡ modulo 8 (pos 254) → ⊥
+  pub least_of_64_bits : IsSigned 64 (negsuc (2 ^ 63 - 1))
+  pub above_64_bits : IsSigned 64 (pos (2 ^ 63)) → ⊥
+  pub across_64_bits : natural_fed I64 (negsuc 0) ≡ natural_fed U64 (2 ^ 64 - 1)
+  pub not_across_64_bits : sign_fed I64 (negsuc 0) ≡ natural_fed U64 (2 ^ 64 - 2) → ⊥

@@ -1,5 +1,5 @@
-//! Values that each relation and range of the laws holds of, and values beside them that it does not
-//! hold of.
+//! Values that each relation and range of the laws holds of, and values beside them that it does
+//! not hold of.
 
 ghost use Rattle.datasketches.specs.Examples.{Relations};
 

@@ -98,8 +98,8 @@ pub fn xx_seed_law()
 }
 
 /// Integers of 8 to 32 bits, extended to eight bytes and written alone after one seed, have equal
-/// Murmur pairs exactly if they are equal, and equal XXH64 hashes exactly if they are equal. Any two
-/// integers have exactly if they agree modulo 2^64.
+/// Murmur pairs exactly if they are equal, and equal XXH64 hashes exactly if they are equal. Any
+/// two integers have exactly if they agree modulo 2^64.
 pub fn integer_law()
     ensures murmur { IntegerLaw murmur }
     ensures xxh64 { IntegerLaw xxh64 }
@@ -112,7 +112,8 @@ pub fn integer_law()
 }
 
 /// Under one strategy, two values of any two of the eight integer types, each fed alone after one
-/// seed, have equal hashes exactly if the numbers that the strategy reads in them agree modulo 2^64.
+/// seed, have equal hashes exactly if the numbers that the strategy reads in them agree modulo
+/// 2^64.
 pub fn strategy_law()
     ensures natural_murmur { StrategyLaw murmur natural_fed natural_number }
     ensures natural_xxh64 { StrategyLaw xxh64 natural_fed natural_number }

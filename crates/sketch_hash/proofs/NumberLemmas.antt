@@ -43,14 +43,16 @@ le_take-lt n bytes b h =
     (le-lt (take n bytes) (All-take (λ x. x < 256) n bytes b))
 
 -- the number of what is behind the first bytes, as a quotient
-pub le-drop : (n : ℕ) (bytes : List ℕ) → AreBytes bytes → n ≤ length bytes → le (drop n bytes) ≡ le bytes / 256 ^ n
+pub le-drop : (n : ℕ) (bytes : List ℕ) → AreBytes bytes → n ≤ length bytes →
+    le (drop n bytes) ≡ le bytes / 256 ^ n
 le-drop n bytes b h =
     let small = div-eq_of_lt (le_take-lt n bytes b h) in
     sym (ap (λ v. v / 256 ^ n) (le-cut n bytes h)
     ∙ add-mul-div_right (le (take n bytes)) (le (drop n bytes)) (pow_256 n)
     ∙ ap (λ v. v + le (drop n bytes)) small ∙ zero-add (le (drop n bytes)))
 
-le-take : (n : ℕ) (bytes : List ℕ) → AreBytes bytes → n ≤ length bytes → le (take n bytes) ≡ le bytes % 256 ^ n
+le-take : (n : ℕ) (bytes : List ℕ) → AreBytes bytes → n ≤ length bytes →
+    le (take n bytes) ≡ le bytes % 256 ^ n
 le-take n bytes b h =
     sym (ap (λ v. v % 256 ^ n) (le-cut n bytes h)
     ∙ add-mul-mod_self_right (le (take n bytes)) (le (drop n bytes)) (256 ^ n)
@@ -105,7 +107,8 @@ joined-lt count n bytes b h =
 -- of bytes behind those of a number, what goes beyond 16 in all falls out
 le-block : (count n : ℕ) (bytes : List ℕ) → AreBytes bytes → n < 256 ^ count → count ≤ 16 →
     16 ≤ count + length bytes →
-    (n + le (take 16 bytes) * 2 ^ (8 * count) % 2 ^ 128) % 2 ^ 128 ≡ le (low_bytes count n ++ take (16 - count) bytes)
+    (n + le (take 16 bytes) * 2 ^ (8 * count) % 2 ^ 128) % 2 ^ 128
+    ≡ le (low_bytes count n ++ take (16 - count) bytes)
 le-block count n bytes b h low high =
     let room : ℕ = 16 - count in
     let front : List ℕ = take room bytes in
@@ -120,7 +123,8 @@ le-block count n bytes b h low high =
     let block : List ℕ = low_bytes count n ++ front in
     let front_are : AreBytes front = All-take (λ x. x < 256) room bytes b in
     let size : length block ≡ 16 = joined-length count n front ∙ omega (arith, room_len) in
-    let below : le block < 2 ^ 128 = subst (λ k. le block < 256 ^ k) size (le-lt block (joined-are count n front front_are)) in
+    let below : le block < 2 ^ 128 =
+    subst (λ k. le block < 256 ^ k) size (le-lt block (joined-are count n front front_are)) in
     ap (λ p. (n + le wide * p % 2 ^ 128) % 2 ^ 128) (pow_eight count)
     ∙ add-mod-mod n (le wide * 256 ^ count) (2 ^ 128)
     ∙ ap (λ v. (n + v * 256 ^ count) % 2 ^ 128) cut
@@ -160,13 +164,17 @@ le-padded n bytes =
 
 -- fewer than 16 bytes, padded with zeros to a block, have the words of their number
 pub padded_words : (count n : ℕ) → count < 16 → n < 256 ^ count →
-    block_words (low_bytes count n ++ replicate (16 - length (low_bytes count n)) 0) ≡ (n % 2 ^ 64, n / 2 ^ 64)
+    block_words (low_bytes count n ++ replicate (16 - length (low_bytes count n)) 0)
+    ≡ (n % 2 ^ 64, n / 2 ^ 64)
 padded_words count n low h =
     let zeros : List ℕ = replicate (16 - length (low_bytes count n)) 0 in
-    let are : AreBytes zeros = All-replicate (λ x. x < 256) (16 - length (low_bytes count n)) 0 (omega arith) in
-    let size : length zeros ≡ 16 - length (low_bytes count n) = length-replicate (16 - length (low_bytes count n)) 0 in
+    let are : AreBytes zeros =
+    All-replicate (λ x. x < 256) (16 - length (low_bytes count n)) 0 (omega arith) in
+    let size : length zeros ≡ 16 - length (low_bytes count n) =
+    length-replicate (16 - length (low_bytes count n)) 0 in
     let count_len = length-low_bytes count n in
-    let whole : length (low_bytes count n ++ zeros) ≡ 16 = joined-length count n zeros ∙ omega (arith, size, count_len) in
+    let whole : length (low_bytes count n ++ zeros) ≡ 16 =
+    joined-length count n zeros ∙ omega (arith, size, count_len) in
     let number : le (low_bytes count n ++ zeros) ≡ n =
     le-padded (16 - length (low_bytes count n)) (low_bytes count n) ∙ le-low_bytes count n ∙ mod-eq_of_lt h in
     block_words-le (low_bytes count n ++ zeros) (joined-are count n zeros are) whole
@@ -201,11 +209,13 @@ block_words-filled count n bytes b h low high =
     let front : List ℕ = take (16 - count) bytes in
     let front_are : AreBytes front = All-take (λ x. x < 256) (16 - count) bytes b in
     let front_len = length-take-le (16 - count) bytes (omega arith) in
-    let size : length (low_bytes count n ++ front) ≡ 16 = joined-length count n front ∙ omega (arith, front_len) in
+    let size : length (low_bytes count n ++ front) ≡ 16 =
+    joined-length count n front ∙ omega (arith, front_len) in
     block_words-le (low_bytes count n ++ front) (joined-are count n front front_are) size
     ∙ ap (λ v. (v % 2 ^ 64, v / 2 ^ 64)) (sym (le-block count n bytes b h (omega arith) high))
 
-pub joined-is : (count n : ℕ) (bytes : List ℕ) → AreBytes bytes → n < 256 ^ count → count + length bytes < 16 →
+pub joined-is : (count n : ℕ) (bytes : List ℕ) → AreBytes bytes → n < 256 ^ count →
+    count + length bytes < 16 →
     (n + le bytes * 2 ^ (8 * count) % 2 ^ 128) % 2 ^ 128 ≡ n + le bytes * 256 ^ count
 joined-is count n bytes b h short =
     ap (λ v. v % 2 ^ 128) (kept-is count n bytes b h short) ∙ mod-eq_of_lt (kept-lt count n bytes b h short)

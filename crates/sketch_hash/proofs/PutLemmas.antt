@@ -41,12 +41,14 @@ put_ends-is buffer bytes front back at k low high within f b =
     ∙ ap (λ t. (take at buffer ++ take (n - k) bytes) ++ t ++ drop (m + k) one) whole
     ∙ ap (λ i. (take at buffer ++ take (n - k) bytes) ++ drop (n - k) bytes ++ drop i one) all
     ∙ ap (λ t. (take at buffer ++ take (n - k) bytes) ++ drop (n - k) bytes ++ t) late
-    ∙ ap (λ t. t ++ drop (at + n) buffer) (append_assoc (take at buffer) (take (n - k) bytes) (drop (n - k) bytes)
+    ∙ ap (λ t. t ++ drop (at + n) buffer)
+    (append_assoc (take at buffer) (take (n - k) bytes) (drop (n - k) bytes)
     ∙ ap (λ t. take at buffer ++ t) (take-append-drop (n - k) bytes))
 
 -- the bytes in front of which others were put
 pub put_taken : (buffer bytes : List ℕ) (at : ℕ) → at + length bytes ≤ length buffer →
-    take (at + length bytes) (take at buffer ++ bytes ++ drop (at + length bytes) buffer) ≡ take at buffer ++ bytes
+    take (at + length bytes) (take at buffer ++ bytes ++ drop (at + length bytes) buffer)
+    ≡ take at buffer ++ bytes
 put_taken buffer bytes at h =
     let at_len : length (take at buffer) ≡ at = length-take-le at buffer (omega arith) in
     let seam : at + length bytes ≡ length (take at buffer ++ bytes) =
@@ -58,4 +60,5 @@ put_taken buffer bytes at h =
 pub put_full : (buffer bytes : List ℕ) (at : ℕ) → length buffer ≤ at + length bytes →
     take at buffer ++ bytes ++ drop (at + length bytes) buffer ≡ take at buffer ++ bytes
 put_full buffer bytes at h =
-    ap (λ t. take at buffer ++ bytes ++ t) (drop_all (at + length bytes) buffer h) ∙ append-nil (take at buffer ++ bytes)
+    ap (λ t. take at buffer ++ bytes ++ t) (drop_all (at + length bytes) buffer h)
+    ∙ append-nil (take at buffer ++ bytes)

@@ -8,7 +8,8 @@ use Rattle.sketch_hash.specs.PiecesWriteLemmas.{state_after-append}
 use Rattle.sketch_hash.proofs.PiecesLemmas.{pieces_short, rest_short, pieces_one, rest_one}
 
 -- no write is a special case
-state_after-is : {P R : Type 0} (w : ℕ) (read : List ℕ → R) (f : P → R → P) (state : State P) (bytes : List ℕ) →
+state_after-is : {P R : Type 0} (w : ℕ) (read : List ℕ → R) (f : P → R →
+    P) (state : State P) (bytes : List ℕ) →
     length state.waiting < w → state.total < 2 ^ 64 →
     state_after w read f state bytes ≡ absorb w read f state bytes
 unfolding absorb
@@ -21,7 +22,8 @@ state_after-is w read f state [] h t =
 state_after-is w read f state (b ∷ bytes) h t = refl
 
 -- bytes that fill no piece wait
-pub state_after-waits : {P R : Type 0} (w : ℕ) (read : List ℕ → R) (f : P → R → P) (state : State P) (bytes : List ℕ) →
+pub state_after-waits : {P R : Type 0} (w : ℕ) (read : List ℕ → R) (f : P → R →
+    P) (state : State P) (bytes : List ℕ) →
     state.total < 2 ^ 64 → length (state.waiting ++ bytes) < w →
     state_after w read f state bytes ≡ record {
       folded = state.folded;
@@ -36,7 +38,8 @@ state_after-waits w read f state bytes t h =
     state_after-is w read f state bytes short t ∙ rw (none, all) refl
 
 -- bytes that fill a piece have it folded
-pub state_after-fills : {P R : Type 0} (w : ℕ) (read : List ℕ → R) (f : P → R → P) (state : State P) (bytes : List ℕ) →
+pub state_after-fills : {P R : Type 0} (w : ℕ) (read : List ℕ → R) (f : P → R →
+    P) (state : State P) (bytes : List ℕ) →
     0 < w → state.total < 2 ^ 64 → length state.waiting < w → length (state.waiting ++ bytes) ≡ w →
     state_after w read f state bytes ≡ record {
       folded = f state.folded (read (state.waiting ++ bytes));
@@ -50,7 +53,8 @@ state_after-fills w read f state bytes p t short h =
     state_after-is w read f state bytes short t ∙ rw (one, none) refl
 
 -- where no byte waits, the pieces are those of the bytes alone
-pub state_after-fresh : {P R : Type 0} (w : ℕ) (read : List ℕ → R) (f : P → R → P) (state : State P) (bytes : List ℕ) →
+pub state_after-fresh : {P R : Type 0} (w : ℕ) (read : List ℕ → R) (f : P → R →
+    P) (state : State P) (bytes : List ℕ) →
     0 < w → state.total < 2 ^ 64 → state.waiting ≡ [] →
     state_after w read f state bytes ≡ record {
       folded = fold f state.folded (map read (pieces w bytes));
@@ -63,11 +67,13 @@ state_after-fresh w read f state bytes p t h =
     state_after-is w read f state bytes short t ∙ rw h refl
 
 -- bytes whose first k fill a piece: the pieces behind it are those of the others alone
-pub state_after-through : {P R : Type 0} (w : ℕ) (read : List ℕ → R) (f : P → R → P) (state : State P) (bytes : List ℕ)
+pub state_after-through : {P R : Type 0} (w : ℕ) (read : List ℕ → R) (f : P → R →
+    P) (state : State P) (bytes : List ℕ)
     (k : ℕ) → 0 < w → state.total < 2 ^ 64 → length state.waiting < w → k ≤ length bytes →
     length (state.waiting ++ take k bytes) ≡ w →
     state_after w read f state bytes ≡ record {
-      folded = fold f (f state.folded (read (state.waiting ++ take k bytes))) (map read (pieces w (drop k bytes)));
+      folded =
+          fold f (f state.folded (read (state.waiting ++ take k bytes))) (map read (pieces w (drop k bytes)));
       total = (state.total + length bytes) % 2 ^ 64;
       waiting = rest w (drop k bytes);
     }
@@ -83,4 +89,6 @@ state_after-through w read f state bytes k p t short h full =
     ∙ sym (state_after-append w read f p state front behind)
     ∙ ap (λ s. state_after w read f s behind) (state_after-fills w read f state front p t short full)
     ∙ state_after-fresh w read f (record { folded = filled; total = total; waiting = [] }) behind p below refl
-    ∙ ap (λ n. record { folded = fold f filled (map read (pieces w behind)); total = n; waiting = rest w behind }) counted
+    ∙ ap
+    (λ n. record { folded = fold f filled (map read (pieces w behind)); total = n; waiting = rest w behind })
+    counted

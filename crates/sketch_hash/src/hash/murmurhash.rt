@@ -41,8 +41,10 @@ impl Model for MurmurHash3X64128 {
       waiting = low_bytes h.count (h.low + h.high * 2 ^ 64);
     } };
 
-    // The first eight waiting bytes are in `low`, those behind them in `high`, absent ones as zeros.
-    ghost invariant = { λ h. (h.count < 16) × (h.low < 256 ^ min h.count 8) × (h.high < 256 ^ (h.count - 8)) };
+    // The first eight waiting bytes are in `low`, those behind them in `high`, absent ones as
+    // zeros.
+    ghost invariant = { λ h. (h.count < 16)
+        × (h.low < 256 ^ min h.count 8) × (h.high < 256 ^ (h.count - 8)) };
 }
 
 impl MurmurHash3X64128 {
@@ -97,7 +99,8 @@ impl MurmurHash3X64128 {
         }
     }
 
-    // Takes at least as many bytes as a block has: all blocks but the first straight from the slice.
+    // Takes at least as many bytes as a block has: all blocks but the first straight from the
+    // slice.
     #[inline(always)]
     fn take_many(&mut self, bytes: &[u8])
         requires { 16 ≤ length bytes.now }

@@ -162,7 +162,8 @@ impl XxHash64 {
         self.lanes = lanes;
     }
 
-    // Takes whole stripes straight from the slice, and then the bytes behind them, where no byte waits.
+    // Takes whole stripes straight from the slice, and then the bytes behind them, where no byte
+    // waits.
     #[inline(always)]
     fn take(&mut self, bytes: &[u8])
         requires { self.old.waiting ≡ [] }

@@ -1,4 +1,4 @@
-use super::keys::{is_new_key, is_same_key, pair_of};
+use super::keys::{is_new_key, is_same_key, is_same_word, pair_of};
 use super::own::{BigEndian, Point};
 use super::sketch::{read_sketch, write_sketch};
 use super::streams::{murmur_of_pieces, xxh64_of_pieces};
@@ -19,6 +19,8 @@ fn keys_are_told_apart(rt: HostRuntime) {
     assert!(rt; is_new_key(9001, &[1, 2, 3], 4));
     assert!(rt; !is_new_key(9001, &[1, 2, 3], 2));
     assert!(rt; pair_of(0, 1) != pair_of(1, 1));
+    assert!(rt; is_same_word(9001, u64::MAX, -1));
+    assert!(rt; !is_same_word(9001, 1, -1));
 }
 
 // The one item of a sketch.

@@ -66,6 +66,22 @@ fn numbers_extended_by_their_value(rt: HostRuntime) {
     );
 }
 
+#[test]
+fn numbers_of_64_bits_meet_the_short_ones(rt: HostRuntime) {
+    assert_eq!(rt;
+        [
+            calculate_hash(natural_extend::from_i64(-1)),
+            calculate_hash(natural_extend::from_u8(255)),
+            calculate_hash(sign_extend::from_u8(255)),
+        ],
+        [
+            calculate_hash(natural_extend::from_u64(18446744073709551615)),
+            calculate_hash(natural_extend::from_u64(255)),
+            calculate_hash(sign_extend::from_i64(-1)),
+        ]
+    );
+}
+
 // The hashes of one text, by each of the four ways to wrap it.
 fn of_text(alloc: Global, text: &str) -> Result<[u64; 4], AllocError> {
     Ok([

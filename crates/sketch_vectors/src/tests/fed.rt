@@ -146,6 +146,28 @@ fn signed_numbers_extended_in_both_ways(rt: HostRuntime) {
     );
 }
 
+// Of 64 bits both ways feed the same: a number is its own word.
+#[test]
+fn long_numbers_extended_in_both_ways(rt: HostRuntime) {
+    let half: &[u8] = &[0, 0, 0, 0, 0, 0, 0, 0x80];
+    assert_fed(
+        &rt,
+        &[
+            (fed(natural_extend::from_i64(-1)), &[0xff; 8]),
+            (
+                fed(natural_extend::from_u64(18446744073709551615)),
+                &[0xff; 8],
+            ),
+            (fed(natural_extend::from_u64(9223372036854775808)), half),
+            (fed(sign_extend::from_u64(9223372036854775808)), half),
+            (
+                fed(sign_extend::from_i64(-2)),
+                &[0xfe, 0xff, 0xff, 0xff, 0xff, 0xff, 0xff, 0xff],
+            ),
+        ],
+    );
+}
+
 #[test]
 fn plain_numbers(rt: HostRuntime) {
     assert_fed(

@@ -29,7 +29,8 @@ down = act2 (shr unsigned) (s_int w64) (s_int w64) (s_int w64)
 
 -- one lane
 one : (v w : ℕ) →
-    product (either (up (sum v (product w prime2)) 31) (down (sum v (product w prime2)) 33)) prime1 ≡ round v w
+    product (either (up (sum v (product w prime2)) 31) (down (sum v (product w prime2)) 33)) prime1
+    ≡ round v w
 unfolding round
 one v w =
     let s : ℕ = (v + w * prime2 % 2 ^ 64) in

@@ -5,4 +5,5 @@ use Rattle.sketch_hash.proofs.hash.murmurhash.fold_blocks.Given as goal
 
 abbrev pub invariant-loop-block : goal.invariant-loop-block
 invariant-loop-block l =
-    ◌≡◌ {A = ℕ × ℕ} (l.h1, l.h2) (fold step (l.fn.h1, l.fn.h2) (map block_words (take l.block-index l.blocks)))
+    ◌≡◌ {A = ℕ × ℕ} (l.h1, l.h2)
+    (fold step (l.fn.h1, l.fn.h2) (map block_words (take l.block-index l.blocks)))

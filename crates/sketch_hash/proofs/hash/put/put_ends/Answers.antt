@@ -10,7 +10,8 @@ returns g c =
     let last : length (drop (n - g.row.K) c.args.bytes.now) ≤ n - (n - g.row.K) =
     rw (length-drop (n - g.row.K) c.args.bytes.now) (omega arith) in
     let back : c.copy_from_slice-2.new.self ≡ drop (n - g.row.K) c.args.bytes.now =
-    c.copy_from_slice-2.ensures.after ∙ take_all (n - (n - g.row.K)) (drop (n - g.row.K) c.args.bytes.now) last in
+    c.copy_from_slice-2.ensures.after
+    ∙ take_all (n - (n - g.row.K)) (drop (n - g.row.K) c.args.bytes.now) last in
     let within : c.args.at + n ≤ length c.args.buffer.now = omega arith in
     put_ends-is c.args.buffer.now c.args.bytes.now c.copy_from_slice.new.self c.copy_from_slice-2.new.self
     c.args.at g.row.K c.requires.low c.requires.high within front back

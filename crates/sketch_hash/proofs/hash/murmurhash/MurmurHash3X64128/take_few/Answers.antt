@@ -63,7 +63,8 @@ invariant_of-self-else-count-lt-BLOCK c =
     let behind_are : AreBytes behind = All-drop (λ x. x < 256) room bytes are in
     let low : i.count < 16 = c.self.invariant.0 in
     let within : room ≤ length bytes = omega (arith, enough) in
-    let size : length behind ≡ i.count + length bytes - 16 = length-drop room bytes ∙ omega (arith, low, enough) in
+    let size : length behind ≡ i.count + length bytes - 16 =
+    length-drop room bytes ∙ omega (arith, low, enough) in
     let number : le bytes / 2 ^ (8 * room) ≡ le behind =
     ap (λ p. le bytes / p) (pow_eight room) ∙ sym (le-drop room bytes are within) in
     let below : le behind < 256 ^ (i.count + length bytes - 16) =
@@ -94,7 +95,8 @@ returns-else-count-lt-BLOCK c =
     let full : length (held ++ front) ≡ 16 =
     omega (arith, length-append held front, length-take-le room bytes within, count, low) in
     let total : i.total < 2 ^ 64 = search rules in
-    let size : length behind ≡ i.count + length bytes - 16 = length-drop room bytes ∙ omega (arith, low, enough) in
+    let size : length behind ≡ i.count + length bytes - 16 =
+    length-drop room bytes ∙ omega (arith, low, enough) in
     let less : length behind < 16 = omega (arith, size, c.requires, low) in
     let number : le bytes / 2 ^ (8 * room) ≡ le behind =
     ap (λ p. le bytes / p) (pow_eight room) ∙ sym (le-drop room bytes are within) in
@@ -102,7 +104,8 @@ returns-else-count-lt-BLOCK c =
     ap (λ n. low_bytes n (le behind)) (sym size) ∙ low_bytes-le behind behind_are in
     let all : take 16 bytes ≡ bytes = take_all 16 bytes (omega (arith, c.requires)) in
     let read = block_words-filled i.count n bytes are below low enough in
-    let through = state_after-through 16 block_words step s bytes room (omega arith) total short within full in
+    let through =
+    state_after-through 16 block_words step s bytes room (omega arith) total short within full in
     let none = pieces_short 16 behind less in
     let same = rest_short 16 behind less in
     rw (

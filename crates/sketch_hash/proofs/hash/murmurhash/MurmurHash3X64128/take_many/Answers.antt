@@ -57,7 +57,8 @@ returns c =
     omega (arith, length-append held front, length-take-le room bytes within, count, low) in
     let total : i.total < 2 ^ 64 = search rules in
     let read = block_words-filled i.count n bytes bytes_are below low enough in
-    let through = state_after-through 16 block_words step s bytes room (omega arith) total short within full in
+    let through =
+    state_after-through 16 block_words step s bytes room (omega arith) total short within full in
     rw (
       ← c.self.view_is,
       c.fold_blocks.ensures,
