@@ -39,14 +39,29 @@ struct FourWords {
     v4: u64,
 }
 
+impl FourWords {
+    ghost use Rattle.sketch_hash.specs.FourWords.{lanes_of_words};
+
+    #[inline(always)]
+    fn from_vector(lanes: u64x4) -> Self
+        ensures { (seed : ℕ) → lanes_of seed lanes ≡ lanes_of_words seed result }
+    {
+        let [v1, v2, v3, v4] = lanes.to_array();
+        FourWords { v1, v2, v3, v4 }
+    }
+
+    #[inline(always)]
+    fn into_vector(self) -> u64x4
+        ensures { (seed : ℕ) → lanes_of seed result ≡ lanes_of_words seed self }
+    {
+        u64x4::from_array([self.v1, self.v2, self.v3, self.v4])
+    }
+}
+
 impl Turn for FourWords {
-    ghost lanes = { λ seed v. record {
-      seed = seed;
-      v1 = v.v1;
-      v2 = v.v2;
-      v3 = v.v3;
-      v4 = v.v4;
-    } };
+    ghost use Rattle.sketch_hash.specs.FourWords.{lanes_of_words};
+
+    ghost lanes = { lanes_of_words };
 
     #[inline(always)]
     fn turn(&mut self, stripe: &[u8; 32]) {
@@ -62,14 +77,15 @@ impl Turn for FourWords {
 pub(crate) fn fold_run(lanes: u64x4, stripes: &[[u8; 32]]) -> u64x4
     ensures { (seed : ℕ) → lanes_of seed result ≡ each_lane (lanes_of seed lanes) stripes.now }
 {
-    let [v1, v2, v3, v4] = lanes.to_array();
-    let mut words = FourWords { v1, v2, v3, v4 };
-    if stripes.len() < LONG_RUN {
-        fold_stripes(&mut words, stripes);
-    } else {
-        words = fold_long(words, stripes);
+    if stripes.is_empty() {
+        return lanes;
     }
-    u64x4::from_array([words.v1, words.v2, words.v3, words.v4])
+    let mut words = FourWords::from_vector(lanes);
+    if stripes.len() >= LONG_RUN {
+        return fold_long(words, stripes).into_vector();
+    }
+    fold_stripes(&mut words, stripes);
+    words.into_vector()
 }
 
 // In a call of its own LLVM keeps the words apart, and makes no vector of them.
