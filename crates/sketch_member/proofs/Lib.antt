@@ -1,0 +1,2 @@
+pub mod BitLemmas
+pub mod SizeLemmas

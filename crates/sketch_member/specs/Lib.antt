@@ -1,0 +1,3 @@
+pub mod Table
+pub mod Form
+pub mod Limits
