@@ -1,2 +1,4 @@
 pub mod BitLemmas
+pub mod FaultLemmas
+pub mod FormLemmas
 pub mod SizeLemmas

@@ -1,3 +1,4 @@
+pub mod Limits
 pub mod Table
 pub mod Form
-pub mod Limits
+pub mod Faults

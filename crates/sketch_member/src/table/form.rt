@@ -17,11 +17,11 @@ pub const MEMBER: Family = Family {
     max_pre_longs: 2,
 };
 
-const PREAMBLE_LONGS: u8 = 2;
+pub(super) const PREAMBLE_LONGS: u8 = 2;
 
-const SERIAL_VERSION: u8 = 1;
+pub(super) const SERIAL_VERSION: u8 = 1;
 
-const HEADER_BYTES: usize = 16;
+pub(super) const HEADER_BYTES: usize = 16;
 
 impl MemberTable {
     /// The table in bytes: a header of 16 bytes, and then the bits.
