@@ -1,5 +1,5 @@
 -- Bits packed into bytes.
-use Rattle.std.proofs.Common.{◌≡◌, ◌≢◌, ◌↔◌, ◌⊎◌, ℕ, ◌+◌, ◌*◌, ◌/◌, ◌%◌, ◌^◌, ◌<◌, List, length, set, get_or, replicate, refl, sym, ap, subst, ◌∙◌, inl, inr, arith, bit_or, Fits}
+use Rattle.std.proofs.Common.{◌≡◌, ◌≢◌, ◌↔◌, ◌⊎◌, ℕ, ◌*◌, ◌/◌, ◌%◌, ◌^◌, ◌<◌, List, length, set, get_or, replicate, sym, ap, subst, ◌∙◌, inl, inr, arith, bit_or, Fits}
 use Rattle.std.specs.Int.{w8, bit_at}
 use Rattle.std.proofs.lemmas.List.{get_or-set_same, get_or-set_other, get_or-replicate, get_or_past, length-replicate}
 use Rattle.std.proofs.lemmas.Nat.{or_of_8}

@@ -5,7 +5,7 @@ use Rattle.datasketches.specs.declared.error.ErrorKind.TheVariants.{InvalidData}
 use Rattle.datasketches.specs.ErrorValue.{ErrorValue, memory_error}
 use Rattle.datasketches.specs.Refusals.{Refuses}
 use Rattle.sketch_member.specs.Table.{byte_count}
-use Rattle.sketch_member.specs.Faults.{Step, Passes, Fails, AllPass, FirstFault, steps, kind_steps, size_steps, seed_steps, bits_steps, missing_bits_text, trailing_bytes_text}
+use Rattle.sketch_member.specs.Faults.{Step, Fails, AllPass, FirstFault, steps, kind_steps, size_steps, seed_steps, bits_steps, missing_bits_text, trailing_bytes_text}
 
 -- what holds of its error holds of an Err
 pub of_err : {X E : Type 0} (r : Result X E) (A : X → Type 0) (P : E → Type 0) (e : E) →
@@ -31,11 +31,13 @@ pub bits_fault : (bytes : List ℕ) (need : ℕ) (error : ErrorValue) → 16 ≤
     × Refuses InvalidData (trailing_bytes_text (length bytes - 16 - need)) error) →
     FirstFault (length bytes) (bits_steps bytes need) error
 bits_fault bytes need error header told = elim told [
-    inl few ↦ inl (inr (header, (λ enough. below_not _ _ few.0 enough), few.1))
+  | inl few ↦ inl (inr (header, (λ enough. below_not _ _ few.0 enough), few.1))
   | inr many ↦
-      inr ((header, omega (arith, many.0)),
-      inl (inr (header, (λ enough. below_not _ _ many.0 enough), many.1)))
-  ]
+      inr (
+        (header, omega (arith, many.0)),
+        inl (inr (header, (λ enough. below_not _ _ many.0 enough), many.1)),
+      )
+]
   where
     below_not : (m n : ℕ) → m < n → n ≤ m → ⊥
     below_not m n l h = omega arith
@@ -50,9 +52,9 @@ fault-front : (count : ℕ) (front others : List Step) (error : ErrorValue) →
     FirstFault count front error → FirstFault count (front ++ others) error
 fault-front count [] others error fault = absurd fault
 fault-front count (step ∷ front) others error fault = elim fault [
-    inl here ↦ inl here
+  | inl here ↦ inl here
   | inr later ↦ inr (later.0, fault-front count front others error later.1)
-  ]
+]
 
 fault-later : (count : ℕ) (front others : List Step) (error : ErrorValue) →
     AllPass count front → FirstFault count others error → FirstFault count (front ++ others) error
@@ -109,9 +111,9 @@ bits_refused bytes error kind size seed log2_bits same refused =
     let count = length bytes in
     let bits_on = bits_steps bytes (byte_count (slice_index bytes 3)) in
     elim (rw same at refused) [
-      inl fault ↦
-        inl (fault-later count (kind_steps bytes) (size_on bytes) error kind
-        (fault-later count (size_steps bytes) (seed_steps bytes ++ bits_on) error size
-        (fault-later count (seed_steps bytes) bits_on error seed fault)))
-    | inr memory ↦ inr (all_pass bytes kind size seed memory.0, memory.1)
+      | inl fault ↦
+          inl (fault-later count (kind_steps bytes) (size_on bytes) error kind
+          (fault-later count (size_steps bytes) (seed_steps bytes ++ bits_on) error size
+          (fault-later count (seed_steps bytes) bits_on error seed fault)))
+      | inr memory ↦ inr (all_pass bytes kind size seed memory.0, memory.1)
     ]

@@ -85,16 +85,17 @@ table_read bytes fit seed log2_bits hashes bits kind size seeds rest is_seed is_
     let are = All-from_get_or (λ b. b < 256) bytes 0 (λ i l. (fit i).fits) in
     let within = subst IsLog2Bits (sym is_log2) size.0.1 in
     let count : length bits ≡ byte_count log2_bits =
-    ap length is_bits ∙ length-drop 16 bytes ∙ between _ _ rest.0.1 rest.1.0.1 in
-    (record {
-      seed = rw is_seed (seed_word bytes are seeds.1.0.0);
-      log2_bits = within;
-      hashes = subst IsHashes (sym is_hashes) size.1.0.1;
-      count = ap (λ n. n * 8) count ∙ whole_bytes log2_bits (omega (arith, within.0));
-      bytes = λ k. rw (is_bits, get_or-drop 16 bytes k 0) (fit (16 + k)).fits;
-    },
-    rw (is_seed, is_log2, is_hashes, is_bits)
-    (form_of bytes are (all_pass bytes kind size seeds (rw is_log2 at rest))))
+    ap length is_bits ∙ length-drop 16 bytes ∙ between _ _ rest.0.1 rest.1.0.1 in (
+      record {
+        seed = rw is_seed (seed_word bytes are seeds.1.0.0);
+        log2_bits = within;
+        hashes = subst IsHashes (sym is_hashes) size.1.0.1;
+        count = ap (λ n. n * 8) count ∙ whole_bytes log2_bits (omega (arith, within.0));
+        bytes = λ k. rw (is_bits, get_or-drop 16 bytes k 0) (fit (16 + k)).fits;
+      },
+      rw (is_seed, is_log2, is_hashes, is_bits)
+          (form_of bytes are (all_pass bytes kind size seeds (rw is_log2 at rest))),
+    )
   where
     between : (m n : ℕ) → m ≤ n → n ≤ m → n ≡ m
     between m n l h = omega arith

@@ -1,5 +1,5 @@
 -- How a table stands in bytes.
-use Rattle.std.specs.Prelude.{ℕ, List, [], ◌∷◌, ◌++◌}
+use Rattle.std.specs.Prelude.{ℕ, List, ◌∷◌, ◌++◌}
 use Rattle.datasketches.specs.Bytes.{eight}
 use Rattle.sketch_member.specs.Table.{Table}
 

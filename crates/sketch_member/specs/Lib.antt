@@ -2,3 +2,4 @@ pub mod Limits
 pub mod Table
 pub mod Form
 pub mod Faults
+pub mod Laws

@@ -1,9 +1,6 @@
 -- The limits of a table's sizes, and what is said of a size outside of them.
-use Rattle.std.specs.Prelude.{◌⊎◌, ◌≡◌, ℕ, ◌≤◌, List, ◌++◌, codes, Result, MatchResult}
+use Rattle.std.specs.Prelude.{ℕ, ◌≤◌, List, ◌++◌, codes}
 use Rattle.std.specs.Fmt.{decimal}
-use Rattle.datasketches.specs.ErrorValue.{ErrorValue, memory_error}
-use Rattle.datasketches.specs.Refusals.{Refuses}
-use Rattle.datasketches.specs.declared.error.ErrorKind.{ErrorKind}
 
 abbrev pub IsLog2Bits : ℕ → Type 0
 IsLog2Bits n = (6 ≤ n) × (n ≤ 20)

@@ -5,6 +5,7 @@
 #![tactic(auto)]
 
 mod bits;
+pub mod laws;
 mod limits;
 mod table;
 #[cfg(test)]

@@ -9,8 +9,8 @@ ghost use Rattle.sketch_member.specs.Form.{form};
 ghost use Rattle.sketch_member.specs.Limits.{IsLog2Bits};
 ghost use Rattle.sketch_member.specs.Table.{IsTable, byte_count};
 
-use super::{MemberTable, byte_count};
 use super::form::{HEADER_BYTES, MEMBER, PREAMBLE_LONGS, SERIAL_VERSION};
+use super::{MemberTable, byte_count};
 use crate::limits::{ensure_hashes, ensure_log2_bits};
 use datasketches::codec::SketchSlice;
 use datasketches::codec::assert::{

@@ -1,4 +1,4 @@
-use Rattle.std.proofs.Common.{inl, arith, ap}
+use Rattle.std.proofs.Common.{inl, ap}
 use Rattle.sketch_member.proofs.FaultLemmas.{of_err, kind_fault, size_fault, bits_refused}
 use Rattle.sketch_member.proofs.FormLemmas.{table_read}
 use Rattle.sketch_member.proofs.table.MemberTable.from_bytes.Goals as goal

@@ -1,4 +1,4 @@
-use Rattle.std.proofs.Common.{◌≡◌, ℕ, ◌*◌, length, replicate, ◌∙◌, ap, arith, rules}
+use Rattle.std.proofs.Common.{◌≡◌, ◌*◌, length, replicate, ◌∙◌, ap, arith, rules}
 use Rattle.std.proofs.lemmas.List.{length-replicate}
 use Rattle.sketch_member.specs.Table.{byte_count}
 use Rattle.sketch_member.proofs.BitLemmas.{zeros-get}

@@ -20,5 +20,7 @@ returns-then-have-need c =
 
 pub returns-then-need-have : goal.returns-then-need-have
 returns-then-need-have c =
-    inr (c.if-need-have.true,
-    refused InvalidData (trailing_bytes_text (c.args.have - c.args.need)) _ _ c.from_text.ensures c.format-text.ensures.ok)
+    inr (
+      c.if-need-have.true,
+      refused InvalidData (trailing_bytes_text (c.args.have - c.args.need)) _ _ c.from_text.ensures c.format-text.ensures.ok,
+    )
