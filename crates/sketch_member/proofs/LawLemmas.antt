@@ -26,7 +26,7 @@ seed_back seed word = le-low_bytes 8 seed ∙ below seed word
     below : (n : ℕ) → n < 2 ^ 64 → n % 2 ^ 64 ≡ n
     below n h = omega arith
 
-same_table : (s l h s' l' h' : ℕ) (b b' : List ℕ) → s ≡ s' → l ≡ l' → h ≡ h' → b ≡ b' →
+pub same_table : (s l h s' l' h' : ℕ) (b b' : List ℕ) → s ≡ s' → l ≡ l' → h ≡ h' → b ≡ b' →
     let table : Table = record { seed = s; log2_bits = l; hashes = h; bits = b } in
     let other : Table = record { seed = s'; log2_bits = l'; hashes = h'; bits = b' } in
     table ≡ other

@@ -1,4 +1,4 @@
--- What is wrong with bytes that are to be read as a table: the first step of the reading that fails.
+-- What is wrong with bytes that are to be read as a table: the first step that fails.
 use Rattle.std.specs.Prelude.{◌≡◌, ◌⊎◌, ℕ, ◌-◌, ◌<◌, ◌≤◌, List, [], ◌∷◌, ◌++◌, codes, length, slice_index, Contains}
 use Rattle.std.specs.Fmt.{decimal}
 use Rattle.datasketches.specs.declared.error.ErrorKind.TheVariants.{InvalidData}
@@ -16,7 +16,8 @@ pub record Step : Type 1 where
 -- the error tells that the header ends too early, and why in any words
 abbrev pub HeaderEnds : ErrorValue → Type 0
 HeaderEnds error =
-    (text : List ℕ) × Refuses InvalidData (insufficient_data_of_text (codes "member table") text) error
+    (text : List ℕ)
+    × Refuses InvalidData (insufficient_data_of_text (codes "member table") text) error
 
 -- with so many bytes the step passes
 abbrev pub Passes : ℕ → Step → Type 0

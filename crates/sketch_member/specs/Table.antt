@@ -54,5 +54,5 @@ pub record Inserts (fed : List ℕ) (before after : Table) : Type 0 where
   pub bits : (i : ℕ) → IsSet after.bits i ↔ (IsSet before.bits i ⊎ IsIndex before fed i)
 
 -- the bits at all indexes of a value that feeds these bytes are set
-abbrev pub Contains : Table → List ℕ → Type 0
-Contains table fed = (i : ℕ) → IsIndex table fed i → IsSet table.bits i
+abbrev pub IsMember : Table → List ℕ → Type 0
+IsMember table fed = (i : ℕ) → IsIndex table fed i → IsSet table.bits i

@@ -4,7 +4,7 @@ ghost use Rattle.std.specs.Prelude.{◌≡◌, ◌⊎◌, ℕ, ◌*◌, ◌<◌,
 ghost use Rattle.datasketches.specs.ErrorValue.{memory_error};
 ghost use Rattle.datasketches.specs.Refusals.{Refuses};
 ghost use Rattle.sketch_member.specs.Limits.{IsLog2Bits, IsHashes, invalid_log2_bits_text, invalid_hashes_text};
-ghost use Rattle.sketch_member.specs.Table.{Table, IsTable, byte_count, empty_table, index, Inserts, Contains, IsSet};
+ghost use Rattle.sketch_member.specs.Table.{Table, IsTable, byte_count, empty_table, index, Inserts, IsMember, IsSet};
 
 use crate::bits::{is_set, set};
 use crate::limits::{ensure_hashes, ensure_log2_bits};
@@ -91,7 +91,7 @@ impl MemberTable {
 
     /// Whether all bits at the value's indexes are set, as they are once it was inserted.
     pub fn contains<T: Hash>(&self, value: &T) -> bool
-        ensures { IsTrue result ↔ Contains self.now (T.fed value.now) }
+        ensures { IsTrue result ↔ IsMember self.now (T.fed value.now) }
     {
         for j in 0..self.hashes {
             if !is_set(&self.bits, self.index(value, j)) {

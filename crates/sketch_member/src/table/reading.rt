@@ -114,8 +114,10 @@ fn read_bits(alloc: Global, bytes: &[u8], log2_bits: u8) -> Result<Vec<u8>, Erro
 // Accepts exactly as many bytes of bits as are needed.
 fn ensure_bits_count(alloc: Global, need: usize, have: usize) -> Result<(), Error>
     ensures { MatchResult result (λ _. have ≡ need)
-        (λ error. ((have < need) × Refuses ErrorKind.InvalidData (missing_bits_text need have) error)
-        ⊎ ((need < have) × Refuses ErrorKind.InvalidData (trailing_bytes_text (have - need)) error)) }
+        (λ error. ((have < need)
+        × Refuses ErrorKind.InvalidData (missing_bits_text need have) error)
+        ⊎ ((need < have)
+        × Refuses ErrorKind.InvalidData (trailing_bytes_text (have - need)) error)) }
 {
     if have < need {
         let text = format!(in alloc; "expected {need}, got {have}")?;
