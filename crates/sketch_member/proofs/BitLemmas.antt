@@ -1,0 +1,71 @@
+-- Bits packed into bytes.
+use Rattle.std.proofs.Common.{◌≡◌, ◌≢◌, ◌↔◌, ◌⊎◌, ℕ, ◌*◌, ◌/◌, ◌%◌, ◌^◌, ◌<◌, List, length, set, get_or, replicate, sym, ap, subst, ◌∙◌, inl, inr, arith, bit_or, Fits}
+use Rattle.std.specs.Int.{w8, bit_at}
+use Rattle.std.proofs.lemmas.List.{get_or-set_same, get_or-set_other, get_or-replicate, get_or_past, length-replicate}
+use Rattle.std.proofs.lemmas.Nat.{or_of_8}
+use Rattle.std.proofs.lemmas.Nat.Bits.{bit_at_set_same, bit_at_set_other}
+use Rattle.std.proofs.lemmas.Bool.{cases_eq, cases_lt}
+use Rattle.sketch_member.specs.Table.{IsSet}
+
+-- the byte of place i with its bit set
+abbrev byte_with : List ℕ → ℕ → ℕ
+byte_with xs i = bit_or (get_or xs (i / 8) 0) (1 * 2 ^ (i % 8) % 2 ^ 8)
+
+-- the bit itself
+set_here : (xs : List ℕ) (i : ℕ) → i / 8 < length xs → IsSet (set xs (i / 8) (byte_with xs i)) i
+set_here xs i within =
+    ap (λ b. bit_at b (i % 8)) (get_or-set_same xs (i / 8) (byte_with xs i) 0 within)
+    ∙ bit_at_set_same w8 (get_or xs (i / 8) 0) (i % 8) (omega arith)
+
+-- each other bit
+kept_elsewhere : (xs : List ℕ) (i k : ℕ) → i / 8 < length xs → k ≢ i →
+    bit_at (get_or (set xs (i / 8) (byte_with xs i)) (k / 8) 0) (k % 8)
+    ≡ bit_at (get_or xs (k / 8) 0) (k % 8)
+kept_elsewhere xs i k within differ = elim (cases_eq (k / 8) (i / 8)) [
+  | inl same ↦
+      let byte : get_or (set xs (i / 8) (byte_with xs i)) (k / 8) 0 ≡ byte_with xs i =
+      ap (λ p. get_or (set xs (i / 8) (byte_with xs i)) p 0) same
+      ∙ get_or-set_same xs (i / 8) (byte_with xs i) 0 within in
+      let apart : k % 8 ≢ i % 8 = λ e. differ (omega (arith, e, same)) in
+      ap (λ b. bit_at b (k % 8)) byte
+      ∙ bit_at_set_other w8 (get_or xs (i / 8) 0) (i % 8) (omega arith) (k % 8) apart
+      ∙ ap (λ p. bit_at (get_or xs p 0) (k % 8)) (sym same)
+  | inr other ↦
+      ap (λ b. bit_at b (k % 8)) (get_or-set_other xs (i / 8) (k / 8) (byte_with xs i) 0 other)
+]
+
+-- setting bit i sets it and leaves the others
+pub set_bit : (xs : List ℕ) (i k : ℕ) → i / 8 < length xs →
+    IsSet (set xs (i / 8) (bit_or (get_or xs (i / 8) 0) (1 * 2 ^ (i % 8) % 2 ^ 8))) k
+    ↔ (IsSet xs k ⊎ (k ≡ i))
+set_bit xs i k within = elim (cases_eq k i) [
+  | inl same ↦
+      let P : ℕ → Type 0 = IsSet (set xs (i / 8) (byte_with xs i)) in
+      ((λ _. inr same), (λ _. subst P (sym same) (set_here xs i within)))
+  | inr differ ↦
+      let kept = kept_elsewhere xs i k within differ in (
+        (λ is. inl (sym kept ∙ is)),
+        (λ was. elim was [ inl is ↦ kept ∙ is | inr same ↦ absurd (differ same) ]),
+      )
+]
+
+-- and leaves bytes
+pub set_bit_bytes : (xs : List ℕ) (i : ℕ) → i / 8 < length xs → ((k : ℕ) → Fits w8 (get_or xs k 0)) →
+    (k : ℕ) →
+    get_or (set xs (i / 8) (bit_or (get_or xs (i / 8) 0) (1 * 2 ^ (i % 8) % 2 ^ 8))) k 0 < 256
+set_bit_bytes xs i within bytes k = elim (cases_eq k (i / 8)) [
+  | inl same ↦
+      rw (same, get_or-set_same xs (i / 8) (byte_with xs i) 0 within)
+      (or_of_8 (get_or xs (i / 8) 0) (1 * 2 ^ (i % 8) % 2 ^ 8) (bytes (i / 8)).fits (omega arith))
+  | inr other ↦ rw (get_or-set_other xs (i / 8) k (byte_with xs i) 0 other) (bytes k).fits
+]
+
+-- no bit is set in zeros
+pub zeros-get : (n k : ℕ) → get_or (replicate {A = ℕ} n 0) k 0 ≡ 0
+zeros-get n k =
+    let zeros : List ℕ = replicate n 0 in
+    let count : length zeros ≡ n = length-replicate n 0 in
+    elim (cases_lt k n) [
+      | inl within ↦ get_or-replicate n k 0 0 within
+      | inr past ↦ get_or_past zeros k 0 (omega (arith, count))
+    ]

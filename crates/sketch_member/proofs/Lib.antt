@@ -1,0 +1,6 @@
+pub mod BitLemmas
+pub mod FaultLemmas
+pub mod FormLemmas
+pub mod InsertLemmas
+pub mod LawLemmas
+pub mod SizeLemmas

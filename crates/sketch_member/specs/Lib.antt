@@ -1,0 +1,5 @@
+pub mod Limits
+pub mod Table
+pub mod Form
+pub mod Faults
+pub mod Laws

@@ -1,0 +1,14 @@
+//! A table of members: it tells of a value whether it was inserted, is never wrong about one that
+//! was, and may be wrong about one that was not.
+//!
+//! What it tells depends on nothing but the bytes that the values feed.
+#![tactic(auto)]
+
+mod bits;
+pub mod laws;
+mod limits;
+mod table;
+#[cfg(test)]
+mod tests;
+
+pub use self::table::{MEMBER, MemberTable};
