@@ -29,6 +29,13 @@ fox_and_eog = record {
   one_block = (2, agree 32 48 fox eog refl refl);
 }
 
+whole_block : DifferInOneBlock (zeros 48) (zeros 16 ++ 1 ∷ zeros 14 ++ 1 ∷ zeros 16)
+whole_block = record {
+  differ = λ e. let byte : 0 ≡ 1 = ap (λ t. get_or t 16 0) e in omega (arith, byte);
+  one_length = refl;
+  one_block = (1, agree 16 32 (zeros 48) (zeros 16 ++ 1 ∷ zeros 14 ++ 1 ∷ zeros 16) refl refl);
+}
+
 two_blocks : DifferInOneBlock (zeros 32) (1 ∷ zeros 15 ++ 1 ∷ zeros 15) → ⊥
 two_blocks d =
     let i = d.one_block.0 in
@@ -54,6 +61,19 @@ tail_step = record {
   one_step = (0, agree 0 1 (tail_steps (zeros 33)) (tail_steps (zeros 32 ++ 1 ∷ [])) refl refl);
 }
 
+second_number : List (ℕ × ℕ) → ℕ
+second_number [] = 0
+second_number (s ∷ list) = first_number list
+
+later_step : DifferInOneTailStep (zeros 12) (zeros 8 ++ 1 ∷ zeros 3)
+unfolding pieces rest steps first_number second_number
+later_step = record {
+  one_length = refl;
+  same_stripes = refl;
+  differ = λ e. let number : 0 ≡ 1 = ap second_number e in omega (arith, number);
+  one_step = (1, agree 1 2 (tail_steps (zeros 12)) (tail_steps (zeros 8 ++ 1 ∷ zeros 3)) refl refl);
+}
+
 two_tail_steps : DifferInOneTailStep (zeros 2) (1 ∷ 1 ∷ []) → ⊥
 unfolding pieces rest steps
 two_tail_steps d =
@@ -75,10 +95,12 @@ other_stripe d =
 pub relations : Relations
 relations = record {
   block = fox_and_eog;
+  whole_block = whole_block;
   same_stream = λ d. d.differ refl;
   other_length = λ d. let size : 16 ≡ 17 = d.one_length in omega (arith, size);
   two_blocks = two_blocks;
   tail_step = tail_step;
+  later_step = later_step;
   same_tail = λ d. d.differ refl;
   two_tail_steps = two_tail_steps;
   other_stripe = other_stripe;
@@ -91,8 +113,12 @@ relations = record {
   greatest_of_8_bits = (omega (arith, ints), omega (arith, ints));
   above_8_bits = λ h. omega (arith, ints, h.1);
   least_of_16_bits = (omega (arith, ints), omega (arith, ints));
+  below_16_bits = λ h. omega (arith, ints, h.0);
+  greatest_of_16_bits = (omega (arith, ints), omega (arith, ints));
   above_16_bits = λ h. omega (arith, ints, h.1);
   least_of_32_bits = (omega (arith, ints), omega (arith, ints));
+  below_32_bits = λ h. omega (arith, ints, h.0);
+  greatest_of_32_bits = (omega (arith, ints), omega (arith, ints));
   above_32_bits = λ h. omega (arith, ints, h.1);
   across_8_bits = refl;
   across_16_bits = refl;

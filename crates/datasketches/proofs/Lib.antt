@@ -6,7 +6,6 @@ pub mod Xxh64LawLemmas
 pub mod IntegerLemmas
 pub mod ExtendLemmas
 pub mod StrategyLemmas
-
 -- lemmas of the crates below, for the crates above
 pub use Rattle.sketch_base.proofs.BytesLemmas
 pub use Rattle.sketch_hash.proofs.RefusalLemmas

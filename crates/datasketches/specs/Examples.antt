@@ -15,10 +15,12 @@ zeros n = replicate n 0
 
 pub record Relations : Type 0 where
   pub block : DifferInOneBlock fox eog
+  pub whole_block : DifferInOneBlock (zeros 48) (zeros 16 ++ 1 ∷ zeros 14 ++ 1 ∷ zeros 16)
   pub same_stream : DifferInOneBlock fox fox → ⊥
   pub other_length : DifferInOneBlock (zeros 16) (zeros 17) → ⊥
   pub two_blocks : DifferInOneBlock (zeros 32) (1 ∷ zeros 15 ++ 1 ∷ zeros 15) → ⊥
   pub tail_step : DifferInOneTailStep (zeros 33) (zeros 32 ++ 1 ∷ [])
+  pub later_step : DifferInOneTailStep (zeros 12) (zeros 8 ++ 1 ∷ zeros 3)
   pub same_tail : DifferInOneTailStep (zeros 33) (zeros 33) → ⊥
   pub two_tail_steps : DifferInOneTailStep (zeros 2) (1 ∷ 1 ∷ []) → ⊥
   pub other_stripe : DifferInOneTailStep (zeros 33) (1 ∷ zeros 31 ++ 1 ∷ []) → ⊥
@@ -31,8 +33,12 @@ pub record Relations : Type 0 where
   pub greatest_of_8_bits : IsSigned 8 (pos 127)
   pub above_8_bits : IsSigned 8 (pos 128) → ⊥
   pub least_of_16_bits : IsSigned 16 (negsuc 32767)
+  pub below_16_bits : IsSigned 16 (negsuc 32768) → ⊥
+  pub greatest_of_16_bits : IsSigned 16 (pos 32767)
   pub above_16_bits : IsSigned 16 (pos 32768) → ⊥
   pub least_of_32_bits : IsSigned 32 (negsuc 2147483647)
+  pub below_32_bits : IsSigned 32 (negsuc 2147483648) → ⊥
+  pub greatest_of_32_bits : IsSigned 32 (pos 2147483647)
   pub above_32_bits : IsSigned 32 (pos 2147483648) → ⊥
   pub across_8_bits : modulo 8 (negsuc 0) ≡ modulo 8 (pos 255)
   pub across_16_bits : modulo 16 (negsuc 0) ≡ modulo 16 (pos 65535)

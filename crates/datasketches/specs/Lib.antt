@@ -2,7 +2,6 @@ pub mod Streams
 pub mod Laws
 pub mod Strategies
 pub mod Examples
-
 -- what the public contracts of the crates below speak of, for the crates above
 pub use Rattle.sketch_base.specs.Bytes
 pub use Rattle.sketch_base.specs.Checks

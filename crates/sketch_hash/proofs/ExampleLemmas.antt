@@ -75,6 +75,8 @@ relations = record {
   step = lit< tt;
   no_step = λ h. omega (arith, h);
   successor = plus-once 1 (lit< tt);
+  one_reached = λ p. let found = p.reached 1 (lit< tt) in omega (arith, found.1, found.2);
+  one_lands = λ p. let low : 1 < 1 = p.lands 1 (lit< tt) in omega (arith, low);
   double = λ p. let one : 0 ≡ 2 ^ 63 = p.once 0 (2 ^ 63) (lit< tt) (lit< tt) refl in omega (arith, one);
   murmur_stands = refl;
   murmur_seeds = λ e. let seed : 7 ≡ 8 = ap (λ s. s.folded.0) e in omega (arith, seed);

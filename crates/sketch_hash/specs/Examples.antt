@@ -1,7 +1,7 @@
 -- What the definitions give for small inputs, and what each range and relation holds of. The hashes
 -- are known from elsewhere: from the tests of xxHash and of the library that is ported, and from
 -- running these two.
-use Rattle.std.specs.Prelude.{◌≡◌, ℕ, zero, suc, ◌-◌, ◌/◌, ◌^◌, negsuc, List, [], ◌∷◌, codes, replicate}
+use Rattle.std.specs.Prelude.{◌≡◌, ℕ, zero, suc, ◌-◌, ◌/◌, ◌^◌, ◌<◌, negsuc, List, [], ◌∷◌, codes, replicate}
 use Rattle.sketch_base.specs.Bytes.{AreBytes, eight}
 use Rattle.sketch_hash.specs.Words.{IsWord, plus, minus, times, xor, xor_shift, rotate}
 use Rattle.sketch_hash.specs.Pieces.{pieces, rest}
@@ -90,6 +90,8 @@ pub record Relations : Type 0 where
   pub step : IsStep (1, 2 ^ 64 - 1)
   pub no_step : IsStep (8, 2 ^ 64) → ⊥
   pub successor : OneToOne IsWord IsWord (λ x. plus x 1)
+  pub one_reached : OneToOne (λ x. x < 1) IsWord (λ x. x) → ⊥
+  pub one_lands : OneToOne IsWord (λ x. x < 1) (λ x. x) → ⊥
   pub double : OneToOne IsWord IsWord (λ x. times x 2) → ⊥
   pub murmur_stands : MurmurStands (murmur_start 7) 7 []
   pub murmur_seeds : MurmurStands (murmur_start 7) 8 [] → ⊥

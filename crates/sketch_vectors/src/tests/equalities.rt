@@ -133,21 +133,22 @@ fn wrapped_numbers_behave_as_numbers(rt: HostRuntime) {
 }
 
 // The printed texts of the wrapped -1.
-fn texts_of_minus_one(alloc: Global) -> Result<[String; 3], AllocError> {
+fn texts_of_minus_one(alloc: Global) -> Result<[String; 4], AllocError> {
     let minus_one = sign_extend::from_i8(-1);
     Ok([
         format!(in alloc; "{minus_one}")?,
         format!(in alloc; "{minus_one:4}")?,
         format!(in alloc; "{minus_one:?}")?,
+        format!(in alloc; "{minus_one:4?}")?,
     ])
 }
 
 #[test]
 fn wrapped_numbers_print_as_numbers(rt: HostRuntime) -> Result<(), AllocError> {
-    let [text, wide, debug] = texts_of_minus_one(rt.alloc())?;
+    let [text, wide, debug, wide_debug] = texts_of_minus_one(rt.alloc())?;
     assert_eq!(rt;
-        [text.as_str(), wide.as_str(), debug.as_str()],
-        ["-1", "  -1", "-1"]
+        [text.as_str(), wide.as_str(), debug.as_str(), wide_debug.as_str()],
+        ["-1", "  -1", "-1", "  -1"]
     );
     Ok(())
 }
