@@ -1,5 +1,5 @@
 use crate::MemberTable;
-use datasketches::error::Error;
+use datasketches::error::{Error, ErrorKind};
 use datasketches::hash::value::raw_bytes;
 use std::alloc::Global;
 use std::process::Abort;
@@ -197,4 +197,44 @@ fn bytes_cut_short_are_refused(rt: HostRuntime) -> Result<(), Fail> {
         }
     }
     Ok(())
+}
+
+// Whether the error tells of want of memory.
+fn is_want_of_memory(error: &Error) -> bool {
+    error.kind() == ErrorKind::OutOfMemory && error.message().is_empty()
+}
+
+// Whether the answer is a table, or tells of want of memory.
+fn is_table_or_want(answer: &Result<MemberTable, Error>) -> bool {
+    match answer {
+        Ok(_) => true,
+        Err(error) => is_want_of_memory(error),
+    }
+}
+
+// Whether the answer is a refusal with this message, or tells of want of memory.
+fn is_refusal_or_want(answer: &Result<MemberTable, Error>, message: &str) -> bool {
+    match answer {
+        Ok(_) => false,
+        Err(error) => error.message() == message || is_want_of_memory(error),
+    }
+}
+
+// Holds also where any one request for memory is refused, as `rt try --test --fail-alloc N` does
+// with the Nth: then the answer tells of memory.
+#[test]
+fn want_of_memory_is_told(rt: HostRuntime) {
+    let alloc = rt.alloc();
+    assert!(rt; is_table_or_want(&MemberTable::new(alloc, 0, 6, 1)));
+    assert!(rt; is_table_or_want(&MemberTable::from_bytes(alloc, &ONE_VALUE)));
+    for (place, byte, message) in [
+        (0, 3, "invalid preamble longs: expected one of [2], got 3"),
+        (3, 5, "invalid log2 bits: expected 6 to 20, got 5"),
+        (3, 7, "insufficient data (member bits): expected 16, got 8"),
+        (5, 1, "reserved bytes are not zero"),
+    ] {
+        let mut bytes = ONE_VALUE;
+        bytes[place] = byte;
+        assert!(rt; is_refusal_or_want(&MemberTable::from_bytes(alloc, &bytes), message));
+    }
 }
