@@ -147,7 +147,12 @@ fn texts_of_minus_one(alloc: Global) -> Result<[String; 4], AllocError> {
 fn wrapped_numbers_print_as_numbers(rt: HostRuntime) -> Result<(), AllocError> {
     let [text, wide, debug, wide_debug] = texts_of_minus_one(rt.alloc())?;
     assert_eq!(rt;
-        [text.as_str(), wide.as_str(), debug.as_str(), wide_debug.as_str()],
+        [
+            text.as_str(),
+            wide.as_str(),
+            debug.as_str(),
+            wide_debug.as_str()
+        ],
         ["-1", "  -1", "-1", "  -1"]
     );
     Ok(())
