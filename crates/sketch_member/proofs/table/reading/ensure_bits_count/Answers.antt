@@ -15,12 +15,14 @@ pub returns-then-have-need : goal.returns-then-have-need
 returns-then-have-need c =
     let told = c.insufficient_data_of.ensures in
     let P : List ℕ → Type 0 = λ text.
-    Refuses InvalidData (insufficient_data_of_text (codes "member bits") text) c.insufficient_data_of.result in
+    Refuses InvalidData (insufficient_data_of_text (codes "member bits") text)
+    c.insufficient_data_of.result in
     inl (c.if-have-need.true, subst P (told.1 ∙ c.in_ok-text.ensures.ok) told.2)
 
 pub returns-then-need-have : goal.returns-then-need-have
 returns-then-need-have c =
     inr (
       c.if-need-have.true,
-      refused InvalidData (trailing_bytes_text (c.args.have - c.args.need)) _ _ c.from_text.ensures c.format-text.ensures.ok,
+      refused InvalidData (trailing_bytes_text (c.args.have - c.args.need)) _ _ c.from_text.ensures
+          c.format-text.ensures.ok,
     )
