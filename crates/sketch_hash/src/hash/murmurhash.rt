@@ -85,7 +85,7 @@ impl MurmurHash3X64128 {
     {
         self.total = self.total.wrapping_add(bytes.len() as u64);
         let number = read_few_le(bytes);
-        let waiting = joined(self.low, self.high);
+        let waiting = join_words(self.low, self.high);
         let (k1, k2) = words(waiting.wrapping_add(number << (8 * self.count)));
         let count = self.count + bytes.len();
         if count < BLOCK {
@@ -109,7 +109,7 @@ impl MurmurHash3X64128 {
         self.total = self.total.wrapping_add(bytes.len() as u64);
         // Of the first 16 bytes, those behind the block fall out.
         let first = read_u128_le(&bytes[..BLOCK]) << (8 * self.count);
-        let (k1, k2) = words(joined(self.low, self.high).wrapping_add(first));
+        let (k1, k2) = words(join_words(self.low, self.high).wrapping_add(first));
         let (h1, h2) = step(self.h1, self.h2, k1, k2);
         let (blocks, last) = bytes[BLOCK - self.count..].as_chunks::<BLOCK>();
         (self.h1, self.h2) = fold_blocks(h1, h2, blocks);
@@ -215,7 +215,7 @@ fn fold_blocks(mut h1: u64, mut h2: u64, blocks: &[[u8; BLOCK]]) -> (u64, u64)
 
 // The number of a block, from its two words.
 #[inline(always)]
-fn joined(low: u64, high: u64) -> u128
+fn join_words(low: u64, high: u64) -> u128
     ensures { result ≡ low + high * 2 ^ 64 }
 {
     u128::from(low) + (u128::from(high) << 64)

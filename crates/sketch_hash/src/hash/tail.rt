@@ -17,13 +17,13 @@ pub(crate) fn read_few_le(bytes: &[u8]) -> u128
         1 => u128::from(bytes[0]),
         2..4 => {
             let first = u64::from(read_u16_le(&bytes[..2]));
-            joined_ends(first, u64::from(read_u16_le(&bytes[count - 2..])), 2, count)
+            join_ends(first, u64::from(read_u16_le(&bytes[count - 2..])), 2, count)
         }
         4..8 => {
             let first = u64::from(read_u32_le(&bytes[..4]));
-            joined_ends(first, u64::from(read_u32_le(&bytes[count - 4..])), 4, count)
+            join_ends(first, u64::from(read_u32_le(&bytes[count - 4..])), 4, count)
         }
-        _ => joined_ends(
+        _ => join_ends(
             read_u64_le(&bytes[..8]),
             read_u64_le(&bytes[count - 8..]),
             8,
@@ -34,7 +34,7 @@ pub(crate) fn read_few_le(bytes: &[u8]) -> u128
 
 // The number of `count` bytes, from those of their first and of their last `width` bytes.
 #[inline(always)]
-fn joined_ends(first: u64, last: u64, width: usize, count: usize) -> u128
+fn join_ends(first: u64, last: u64, width: usize, count: usize) -> u128
     requires width { width ≤ 8 }
     requires low { width ≤ count }
     requires high { count < width + width }

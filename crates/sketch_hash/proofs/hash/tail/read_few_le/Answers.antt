@@ -12,7 +12,7 @@ returns-in-4-to-7 c =
     rw (length-drop (length bytes - 4) bytes) (omega arith) in
     let last = take_all (length bytes - (length bytes - 4)) (drop (length bytes - 4) bytes) back in
     rw (
-      c.joined_ends-in-4-to-7.ensures,
+      c.join_ends-in-4-to-7.ensures,
       c.from-first-in-4-to-7.ensures,
       c.from-in-4-to-7.ensures,
       c.read_u32_le.ensures,
@@ -30,7 +30,7 @@ returns-in_default c =
     rw (length-drop (length bytes - 8) bytes) (omega arith) in
     let last = take_all (length bytes - (length bytes - 8)) (drop (length bytes - 8) bytes) back in
     rw (
-      c.joined_ends-in_default.ensures,
+      c.join_ends-in_default.ensures,
       c.read_u64_le.ensures,
       c.read_u64_le-in_default.ensures,
       last,

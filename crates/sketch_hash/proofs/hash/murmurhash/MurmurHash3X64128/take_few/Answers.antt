@@ -21,7 +21,7 @@ invariant_of-self c =
     let sizes = words-lt (i.count + length bytes) _ (joined-lt i.count _ bytes are held) in
     rw (
       c.words-k1.ensures,
-      c.joined-waiting.ensures,
+      c.join_words-waiting.ensures,
       c.read_few_le-number.ensures,
       joined-is i.count _ bytes are held few,
     )
@@ -43,7 +43,7 @@ returns-then-count-lt-BLOCK c =
     rw (
       ← c.self.view_is,
       c.words-k1.ensures,
-      c.joined-waiting.ensures,
+      c.join_words-waiting.ensures,
       c.read_few_le-number.ensures,
       words-number,
       joined-is i.count n bytes are below few,
@@ -113,7 +113,7 @@ returns-else-count-lt-BLOCK c =
       c.step.ensures,
       c.words-k1.ensures,
       c.words.ensures,
-      c.joined-waiting.ensures,
+      c.join_words-waiting.ensures,
       c.read_few_le-number.ensures,
       number,
       words-number,

@@ -65,7 +65,7 @@ returns c =
       c.step-h1.ensures,
       c.words-k1.ensures,
       c.read_u128_le.ensures,
-      c.joined.ensures,
+      c.join_words.ensures,
       c.words.ensures,
       c.read_few_le.ensures,
       words-number,

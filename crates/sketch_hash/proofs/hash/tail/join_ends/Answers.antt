@@ -1,7 +1,7 @@
 use Rattle.std.proofs.Common.{◌≡◌, ◌+◌, ◌-◌, ◌*◌, ◌/◌, ◌^◌, ◌<◌, ◌≤◌, ◌∙◌, ap, arith, refl}
 use Rattle.std.proofs.lemmas.Nat.{shl_whole, shr_le}
 use Rattle.sketch_hash.proofs.NumberLemmas.{pow_eight}
-use Rattle.sketch_hash.proofs.hash.tail.joined_ends.Goals as goal
+use Rattle.sketch_hash.proofs.hash.tail.join_ends.Goals as goal
 
 pub returns : goal.returns
 returns c =
