@@ -16,9 +16,9 @@ abbrev pub StandsFor : Table → List (List ℕ) → Type 0
 StandsFor table values =
     (i : ℕ) → IsSet table.bits i ↔ ((fed : List ℕ) × Contains values fed × IsIndex table fed i)
 
--- A table with no bit set stands for no values, and each insert adds one. A table misses none of its
--- values. Of one seed and sizes, tables that stand for the same values are the same, in whatever
--- order and however often these were inserted.
+-- A table with no bit set stands for no values, and each insert adds one. A table misses none of
+-- its values. Of one seed and sizes, tables that stand for the same values are the same, in
+-- whatever order and however often these were inserted.
 pub record InsertLaw : Type 0 where
   pub none : (table : Table) → ((i : ℕ) → IsSet table.bits i → ⊥) → StandsFor table []
   pub one_more : (before after : Table) (fed : List ℕ) (values : List (List ℕ)) →
