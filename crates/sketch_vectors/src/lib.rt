@@ -1,5 +1,5 @@
 //! Tests that cross crates: that the hashes and the values answer what the library that is ported
-//! answers, and three callers that are proved from the public contracts alone.
+//! answers, and callers that are proved from the public contracts alone.
 //!
 //! The vectors in `tests/vectors.rt` are those of the original's own tests, and one made by running
 //! xxHash 0.8.1. The samples in `tests/samples.rt`, and those of single numbers in `tests/fed.rt`,
