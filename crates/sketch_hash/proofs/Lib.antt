@@ -13,3 +13,4 @@ pub mod TailSteps
 pub mod LanesLemmas
 pub mod PutLemmas
 pub mod NumberLemmas
+pub mod HeldLemmas

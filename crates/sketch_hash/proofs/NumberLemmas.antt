@@ -1,6 +1,7 @@
 -- Numbers of lists of bytes: joined, cut, and as a block's two words.
-use Rattle.std.proofs.Common.{◌≡◌, ℕ, zero, suc, ◌+◌, ◌-◌, ◌*◌, ◌/◌, ◌%◌, ◌^◌, ◌<◌, ◌≤◌, List, [], ◌∷◌, ◌++◌, length, take, drop, replicate, get_or, Fits, w8, refl, sym, ap, ◌∙◌, arith, subst, length-append, length-drop, zero-add, lt_of_lt_of_le, min, inl, inr}
+use Rattle.std.proofs.Common.{◌≡◌, ℕ, zero, suc, ◌+◌, ◌-◌, ◌*◌, ◌/◌, ◌%◌, ◌^◌, ◌<◌, ◌≤◌, List, [], ◌∷◌, ◌++◌, length, take, drop, replicate, get_or, Fits, w8, refl, sym, ap, ◌∙◌, arith, subst, length-append, length-drop, zero-add, lt_of_lt_of_le, one-mul, min, inl, inr}
 use Rattle.std.proofs.Math.Nat.{pow-suc, mod-eq_of_lt, div-eq_of_lt, add-mod-mod, add-mul-mod_self_right, add-mul-div_right, one-le-pow, pow-le-pow_right, min-eq_left, min-eq_right}
+use Rattle.std.proofs.Math.Pow.{pow-lt}
 use Rattle.std.proofs.lemmas.Bool.{cases_lt}
 use Rattle.std.proofs.lemmas.Nat.{pow-add}
 use Rattle.std.proofs.lemmas.List.{length-take, length-take-le, take-append-drop, drop-drop, take-take, length-replicate}
@@ -37,7 +38,7 @@ le-cut n bytes h =
     ap le (sym (take-append-drop n bytes)) ∙ le-append (take n bytes) (drop n bytes)
     ∙ ap (λ k. le (take n bytes) + le (drop n bytes) * 256 ^ k) (length-take-le n bytes h)
 
-le_take-lt : (n : ℕ) (bytes : List ℕ) → AreBytes bytes → n ≤ length bytes → le (take n bytes) < 256 ^ n
+pub le_take-lt : (n : ℕ) (bytes : List ℕ) → AreBytes bytes → n ≤ length bytes → le (take n bytes) < 256 ^ n
 le_take-lt n bytes b h =
     subst (λ k. le (take n bytes) < 256 ^ k) (length-take-le n bytes h)
     (le-lt (take n bytes) (All-take (λ x. x < 256) n bytes b))
@@ -57,6 +58,14 @@ le-take n bytes b h =
     sym (ap (λ v. v % 256 ^ n) (le-cut n bytes h)
     ∙ add-mul-mod_self_right (le (take n bytes)) (le (drop n bytes)) (256 ^ n)
     ∙ mod-eq_of_lt (le_take-lt n bytes b h))
+
+-- the same, as a word of 128 bits gives it
+pub le-front : (n : ℕ) (bytes : List ℕ) → AreBytes bytes → n < 16 → n ≤ length bytes →
+    le bytes % (1 * 2 ^ (8 * n) % 2 ^ 128) ≡ le (take n bytes)
+le-front n bytes b low h =
+    let less : 8 * n < 128 = omega (arith, low) in
+    let below : 1 * 2 ^ (8 * n) < 2 ^ 128 = rw (one-mul (2 ^ (8 * n))) (pow-lt less) in
+    ap (λ m. le bytes % m) (mod-eq_of_lt below ∙ one-mul (2 ^ (8 * n)) ∙ pow_eight n) ∙ sym (le-take n bytes b h)
 
 -- the number of bytes, from those of their first and of their last w bytes, which may overlap
 pub le-ends : (w : ℕ) (bytes : List ℕ) → AreBytes bytes → w ≤ length bytes → length bytes ≤ w + w →

@@ -90,7 +90,7 @@ pub rest-are : (w : ℕ) (bytes : List ℕ) → AreBytes bytes → AreBytes (res
 unfolding rest
 rest-are w bytes h = All-drop IsByte (length bytes / w * w) bytes h
 
-length-rest : (w : ℕ) (bytes : List ℕ) → length (rest w bytes) ≡ length bytes - length bytes / w * w
+pub length-rest : (w : ℕ) (bytes : List ℕ) → length (rest w bytes) ≡ length bytes - length bytes / w * w
 unfolding rest
 length-rest w bytes = length-drop (length bytes / w * w) bytes
 

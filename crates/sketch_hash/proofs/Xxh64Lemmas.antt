@@ -6,8 +6,8 @@ use Rattle.std.proofs.lemmas.List.{map-id}
 use Rattle.std.proofs.lemmas.List.Folds.{fold-map}
 use Rattle.sketch_base.specs.Bytes.{le, eight}
 use Rattle.sketch_base.proofs.BytesLemmas.{le-low_bytes}
-use Rattle.sketch_hash.specs.Pieces.{pieces, rest, word_at, State, absorb}
-use Rattle.sketch_hash.specs.Xxh64.{Lanes, prime5, round, lane, lanes_start, lanes, stripe_step, steps_of, steps, tail_step, eight_step, four_step, byte_step, avalanche, ending, xxh64, xxh64_start, xxh64_after, xxh64_answer, Xxh64Stands}
+use Rattle.sketch_hash.specs.Pieces.{pieces, rest, State, absorb}
+use Rattle.sketch_hash.specs.Xxh64.{Lanes, prime5, lane, lanes_start, lanes, steps_of, steps, tail_step, eight_step, four_step, byte_step, avalanche, ending, xxh64, xxh64_start, xxh64_after, xxh64_answer, Xxh64Stands}
 use Rattle.sketch_hash.specs.Words.{IsWord, plus}
 use Rattle.sketch_hash.proofs.LanesLemmas.{fold-each_lane}
 use Rattle.sketch_hash.proofs.PiecesLemmas.{pieces_short, rest_short, pieces-first, rest-first}

@@ -7,6 +7,7 @@ pub mod Xxh64
 pub mod Xxh64WriteLemmas
 pub mod Lanes
 pub mod FourWords
+pub mod Held
 pub mod Values
 pub mod Lending
 pub mod SeedHash

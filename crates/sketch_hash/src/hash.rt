@@ -13,10 +13,10 @@ mod words;
 mod xxhash;
 
 pub use self::hasher::Hasher;
-pub use self::murmurhash::MurmurHash3X64128;
+pub use self::murmurhash::{MurmurHash3X64128, MurmurState};
 pub use self::seed::{check_seed_hash, compute_seed_hash};
 pub use self::value::Hash;
-pub use self::xxhash::XxHash64;
+pub use self::xxhash::{XxHash64, XxHash64State};
 
 /// The seed of the hashes that update a sketch, 9001.
 ///

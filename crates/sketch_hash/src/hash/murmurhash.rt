@@ -7,6 +7,9 @@ ghost use Rattle.sketch_hash.specs.Pieces.{State};
 ghost use Rattle.sketch_hash.specs.Murmur.{mix1, mix2, fmix, step, with_tail, ending, block_words, murmur, murmur_start, murmur_after, murmur_answer, MurmurStands};
 ghost use Rattle.sketch_hash.specs.MurmurWriteLemmas.{murmur_after-append, murmur_after-empty};
 
+mod state;
+
+pub use self::state::MurmurState;
 use super::DEFAULT_UPDATE_SEED;
 use super::hasher::Hasher;
 use super::tail::read_few_le;

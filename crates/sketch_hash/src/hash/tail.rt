@@ -1,9 +1,9 @@
 //! Numbers of fewer than 16 bytes.
 
-ghost use Rattle.std.specs.Prelude.{◌≡◌, ℕ, ◌+◌, ◌-◌, ◌*◌, ◌/◌, ◌^◌, ◌<◌, ◌≤◌, length};
-ghost use Rattle.sketch_base.specs.Bytes.{le};
+ghost use Rattle.std.specs.Prelude.{◌≡◌, ℕ, ◌+◌, ◌-◌, ◌*◌, ◌/◌, ◌^◌, ◌<◌, ◌≤◌, length, take};
+ghost use Rattle.sketch_base.specs.Bytes.{le, low_bytes};
 
-use super::words::{read_u16_le, read_u32_le, read_u64_le};
+use super::words::{read_u16_le, read_u32_le, read_u64_le, read_u128_le};
 
 /// The number of fewer than 16 bytes.
 #[inline(always)]
@@ -45,4 +45,14 @@ fn join_ends(first: u64, last: u64, width: usize, count: usize) -> u128
     // Of the last bytes, those that `first` has fall out.
     let behind = u128::from(last) >> (8 * (2 * width - count));
     u128::from(first) + (behind << (8 * width))
+}
+
+/// The number of the first `count` bytes of a block, fewer than 16: its lowest bytes are they.
+#[inline(always)]
+pub(crate) fn read_front_le(block: &[u8; 16], count: usize) -> u128
+    requires { count < 16 }
+    ensures below { result < 256 ^ count }
+    ensures bytes { low_bytes count result ≡ take count block.now }
+{
+    read_u128_le(block) % (1 << (8 * count))
 }

@@ -8,6 +8,9 @@ ghost use Rattle.sketch_hash.specs.Xxh64.{Lanes, round, merge_lane, merge, eight
 ghost use Rattle.sketch_hash.specs.Lanes.{lanes_of};
 ghost use Rattle.sketch_hash.specs.Xxh64WriteLemmas.{xxh64_after-append, xxh64_after-empty};
 
+mod state;
+
+pub use self::state::XxHash64State;
 use super::hasher::Hasher;
 use super::lanes::{Turn, fold_run, round};
 use super::put::put;

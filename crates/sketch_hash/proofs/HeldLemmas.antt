@@ -1,0 +1,50 @@
+-- What the states hold: how many bytes wait, and the waiting bytes of a number.
+use Rattle.std.proofs.Common.{◌≡◌, ℕ, zero, suc, ◌+◌, ◌%◌, ◌/◌, ◌^◌, ◌<◌, ◌≤◌, List, [], ◌∷◌, length, take, refl, sym, ap, ◌∙◌, arith, ◌++◌, length-append}
+use Rattle.std.proofs.Math.Nat.{mod-add-mod, suc-add, mod-eq-sub-div-mul}
+use Rattle.std.proofs.lemmas.List.{length-take-le}
+use Rattle.std.proofs.lemmas.List.Elements.{All-take}
+use Rattle.sketch_base.specs.Bytes.{AreBytes, le, low_bytes}
+use Rattle.sketch_base.proofs.BytesLemmas.{low_bytes-le}
+use Rattle.sketch_hash.specs.Pieces.{State, absorb, state_after}
+use Rattle.sketch_hash.specs.Murmur.{murmur_after}
+use Rattle.sketch_hash.specs.Xxh64.{Lanes, xxh64_after}
+use Rattle.sketch_hash.proofs.PiecesLemmas.{length-rest}
+
+-- where as many bytes wait as the total has beyond the full pieces, it is so after a write
+counts-after : {P R : Type 0} (w : ℕ) (read : List ℕ → R) (f : P → R → P) (state : State P) (bytes : List ℕ) →
+    0 < w → ((n : ℕ) → n % 2 ^ 64 % w ≡ n % w) → length state.waiting ≡ state.total % w →
+    let after = state_after w read f state bytes in
+    length after.waiting ≡ after.total % w
+unfolding absorb
+counts-after w read f state [] p h e = e
+counts-after w read f state (b ∷ bytes) p h e =
+    let n : ℕ = length (b ∷ bytes) in
+    let all : List ℕ = state.waiting ++ b ∷ bytes in
+    length-rest w all ∙ sym (mod-eq-sub-div-mul (length all) w)
+    ∙ ap (λ k. k % w) (length-append state.waiting (b ∷ bytes) ∙ ap (λ k. k + n) e)
+    ∙ mod-add-mod state.total w n ∙ sym (h (state.total + n))
+
+pub murmur-counts : (state : State (ℕ × ℕ)) (bytes : List ℕ) → length state.waiting ≡ state.total % 16 →
+    length (murmur_after state bytes).waiting ≡ (murmur_after state bytes).total % 16
+unfolding murmur_after
+murmur-counts state bytes = counts-after 16 _ _ state bytes (omega arith) (λ n. omega arith)
+
+pub xxh64-counts : (state : State Lanes) (bytes : List ℕ) → length state.waiting ≡ state.total % 32 →
+    length (xxh64_after state bytes).waiting ≡ (xxh64_after state bytes).total % 32
+unfolding xxh64_after
+xxh64-counts state bytes = counts-after 32 _ _ state bytes (omega arith) (λ n. omega arith)
+
+-- the first of a number's lowest bytes
+pub take-low_bytes : (count k n : ℕ) → take count (low_bytes (count + k) n) ≡ low_bytes count n
+take-low_bytes zero k n = refl
+take-low_bytes (suc count) k n =
+    ap (λ m. take (suc count) (low_bytes m n)) (suc-add count k)
+    ∙ ap (λ t. n % 256 ∷ t) (take-low_bytes count k (n / 256))
+
+-- the first bytes, as the lowest of their number
+pub low_bytes-take : (count : ℕ) (bytes : List ℕ) → AreBytes bytes → count ≤ length bytes →
+    low_bytes count (le (take count bytes)) ≡ take count bytes
+low_bytes-take count bytes b h =
+    let front : List ℕ = take count bytes in
+    ap (λ k. low_bytes k (le front)) (sym (length-take-le count bytes h))
+    ∙ low_bytes-le front (All-take (λ x. x < 256) count bytes b)

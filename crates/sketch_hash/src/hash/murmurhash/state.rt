@@ -1,0 +1,61 @@
+//! What a Murmur hasher holds, as a plain value.
+
+ghost use Rattle.std.specs.Prelude.{◌≡◌, ℕ, ◌%◌, List, length};
+ghost use Rattle.sketch_hash.specs.Held.{murmur_held, MurmurHolds};
+ghost use Rattle.sketch_hash.specs.Murmur.{MurmurStands};
+
+use super::{BLOCK, MurmurHash3X64128, join_words, words};
+use crate::hash::tail::read_front_le;
+
+/// What a [`MurmurHash3X64128`] holds: a checkpoint of a stream, to be copied, kept and taken up
+/// again.
+///
+/// Of `waiting` the first `total % 16` bytes count. Every value is safe to take up.
+#[repr(C)]
+#[derive(Clone, Copy)]
+pub struct MurmurState {
+    pub h1: u64,
+    pub h2: u64,
+    /// The number of bytes so far, modulo 2^64.
+    pub total: u64,
+    /// The bytes behind the last whole block.
+    pub waiting: [u8; 16],
+}
+
+impl MurmurHash3X64128 {
+    /// The hasher that a state was taken from.
+    #[inline(always)]
+    pub fn resume(state: &MurmurState) -> Self
+        ensures held { result ≡ murmur_held state.now }
+        ensures counts { length result.waiting ≡ result.total % 16 }
+        ensures stands { (seed : ℕ) (bytes : List ℕ) → MurmurHolds state.now seed bytes →
+            MurmurStands result seed bytes }
+    {
+        let count = (state.total % BLOCK as u64) as usize;
+        let (low, high) = words(read_front_le(&state.waiting, count));
+        MurmurHash3X64128 {
+            h1: state.h1,
+            h2: state.h2,
+            total: state.total,
+            low,
+            high,
+            count,
+        }
+    }
+
+    /// The state of this hasher.
+    #[inline(always)]
+    pub fn state(&self) -> MurmurState
+        ensures held { length self.now.waiting ≡ self.now.total % 16 →
+            murmur_held result ≡ self.now }
+        ensures holds { (seed : ℕ) (bytes : List ℕ) → MurmurStands self.now seed bytes →
+            MurmurHolds result seed bytes }
+    {
+        MurmurState {
+            h1: self.h1,
+            h2: self.h2,
+            total: self.total,
+            waiting: join_words(self.low, self.high).to_le_bytes(),
+        }
+    }
+}

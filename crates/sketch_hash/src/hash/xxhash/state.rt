@@ -1,0 +1,64 @@
+//! What an XXH64 hasher holds, as a plain value.
+
+ghost use Rattle.std.specs.Prelude.{◌≡◌, ℕ, ◌%◌, List, length};
+ghost use Rattle.sketch_hash.specs.Held.{xxh64_held, Xxh64Holds};
+ghost use Rattle.sketch_hash.specs.Xxh64.{Xxh64Stands};
+
+use super::{STRIPE, XxHash64};
+use std::simd::prelude::*;
+
+/// What an [`XxHash64`] holds: a checkpoint of a stream, to be copied, kept and taken up again.
+///
+/// Of `waiting` the first `total % 32` bytes count. Every value is safe to take up.
+#[repr(C)]
+#[derive(Clone, Copy)]
+pub struct XxHash64State {
+    pub seed: u64,
+    pub v1: u64,
+    pub v2: u64,
+    pub v3: u64,
+    pub v4: u64,
+    /// The number of bytes so far, modulo 2^64.
+    pub total: u64,
+    /// The bytes behind the last whole stripe.
+    pub waiting: [u8; 32],
+}
+
+impl XxHash64 {
+    /// The hasher that a state was taken from.
+    #[inline(always)]
+    pub fn resume(state: &XxHash64State) -> Self
+        ensures held { result ≡ xxh64_held state.now }
+        ensures counts { length result.waiting ≡ result.total % 32 }
+        ensures stands { (seed : ℕ) (bytes : List ℕ) → Xxh64Holds state.now seed bytes →
+            Xxh64Stands result seed bytes }
+    {
+        XxHash64 {
+            seed: state.seed,
+            lanes: u64x4::from_array([state.v1, state.v2, state.v3, state.v4]),
+            total: state.total,
+            buffer: state.waiting,
+            count: (state.total % STRIPE as u64) as usize,
+        }
+    }
+
+    /// The state of this hasher.
+    #[inline(always)]
+    pub fn state(&self) -> XxHash64State
+        ensures held { length self.now.waiting ≡ self.now.total % 32 →
+            xxh64_held result ≡ self.now }
+        ensures holds { (seed : ℕ) (bytes : List ℕ) → Xxh64Stands self.now seed bytes →
+            Xxh64Holds result seed bytes }
+    {
+        let [v1, v2, v3, v4] = self.lanes.to_array();
+        XxHash64State {
+            seed: self.seed,
+            v1,
+            v2,
+            v3,
+            v4,
+            total: self.total,
+            waiting: self.buffer,
+        }
+    }
+}
