@@ -40,9 +40,7 @@ pub extern "C" fn sketch_murmur3_128_update(state: &mut MurmurState, input: &[u8
     ensures holds { (seed : ℕ) (before : List ℕ) → MurmurHolds state.old seed before →
         MurmurHolds state.new seed (before ++ input.now) }
 {
-    let mut hasher = MurmurHash3X64128::resume(state);
-    hasher.write(input);
-    *state = hasher.state();
+    state.write(input);
 }
 
 /// MurmurHash3 x64 128 of the stream so far, which may go on.

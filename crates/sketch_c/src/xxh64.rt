@@ -31,9 +31,7 @@ pub extern "C" fn sketch_xxh64_update(state: &mut XxHash64State, input: &[u8])
     ensures holds { (seed : ℕ) (before : List ℕ) → Xxh64Holds state.old seed before →
         Xxh64Holds state.new seed (before ++ input.now) }
 {
-    let mut hasher = XxHash64::resume(state);
-    hasher.write(input);
-    *state = hasher.state();
+    state.write(input);
 }
 
 /// XXH64 of the stream so far, which may go on.

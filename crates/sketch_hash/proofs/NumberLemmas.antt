@@ -65,7 +65,8 @@ pub le-front : (n : ℕ) (bytes : List ℕ) → AreBytes bytes → n < 16 → n 
 le-front n bytes b low h =
     let less : 8 * n < 128 = omega (arith, low) in
     let below : 1 * 2 ^ (8 * n) < 2 ^ 128 = rw (one-mul (2 ^ (8 * n))) (pow-lt less) in
-    ap (λ m. le bytes % m) (mod-eq_of_lt below ∙ one-mul (2 ^ (8 * n)) ∙ pow_eight n) ∙ sym (le-take n bytes b h)
+    ap (λ m. le bytes % m) (mod-eq_of_lt below ∙ one-mul (2 ^ (8 * n)) ∙ pow_eight n)
+    ∙ sym (le-take n bytes b h)
 
 -- the number of bytes, from those of their first and of their last w bytes, which may overlap
 pub le-ends : (w : ℕ) (bytes : List ℕ) → AreBytes bytes → w ≤ length bytes → length bytes ≤ w + w →

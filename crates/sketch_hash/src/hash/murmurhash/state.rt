@@ -1,10 +1,12 @@
 //! What a Murmur hasher holds, as a plain value.
 
-ghost use Rattle.std.specs.Prelude.{◌≡◌, ℕ, ◌%◌, List, length};
+ghost use Rattle.std.specs.Prelude.{◌≡◌, ℕ, ◌+◌, ◌%◌, ◌<◌, List, ◌++◌, length};
 ghost use Rattle.sketch_hash.specs.Held.{murmur_held, MurmurHolds};
-ghost use Rattle.sketch_hash.specs.Murmur.{MurmurStands};
+ghost use Rattle.sketch_hash.specs.Murmur.{murmur_after, MurmurStands};
 
 use super::{BLOCK, MurmurHash3X64128, join_words, words};
+use crate::hash::hasher::Hasher;
+use crate::hash::put::put;
 use crate::hash::tail::read_front_le;
 
 /// What a [`MurmurHash3X64128`] holds: a checkpoint of a stream, to be copied, kept and taken up
@@ -20,6 +22,43 @@ pub struct MurmurState {
     pub total: u64,
     /// The bytes behind the last whole block.
     pub waiting: [u8; 16],
+}
+
+impl MurmurState {
+    /// Adds bytes to the stream that the state holds.
+    #[inline(always)]
+    #[tactic(auto, using(crate::proofs::HeldLemmas::murmur_holds_after))]
+    pub fn write(&mut self, bytes: &[u8])
+        ensures after { murmur_held self.new ≡ murmur_after (murmur_held self.old) bytes.now }
+        ensures holds { (seed : ℕ) (before : List ℕ) → MurmurHolds self.old seed before →
+            MurmurHolds self.new seed (before ++ bytes.now) }
+    {
+        if bytes.len() < BLOCK - (self.total % BLOCK as u64) as usize {
+            self.keep(bytes);
+        } else {
+            self.take(bytes);
+        }
+    }
+
+    // Takes bytes that fill no block, in place.
+    #[inline(always)]
+    fn keep(&mut self, bytes: &[u8])
+        requires { self.old.total % 16 + length bytes.now < 16 }
+        ensures { murmur_held self.new ≡ murmur_after (murmur_held self.old) bytes.now }
+    {
+        let count = (self.total % BLOCK as u64) as usize;
+        self.total = self.total.wrapping_add(bytes.len() as u64);
+        put(&mut self.waiting, count, bytes);
+    }
+
+    #[inline(always)]
+    fn take(&mut self, bytes: &[u8])
+        ensures { murmur_held self.new ≡ murmur_after (murmur_held self.old) bytes.now }
+    {
+        let mut hasher = MurmurHash3X64128::resume(self);
+        hasher.write(bytes);
+        *self = hasher.state();
+    }
 }
 
 impl MurmurHash3X64128 {

@@ -1,10 +1,12 @@
 //! What an XXH64 hasher holds, as a plain value.
 
-ghost use Rattle.std.specs.Prelude.{◌≡◌, ℕ, ◌%◌, List, length};
+ghost use Rattle.std.specs.Prelude.{◌≡◌, ℕ, ◌+◌, ◌%◌, ◌<◌, List, ◌++◌, length};
 ghost use Rattle.sketch_hash.specs.Held.{xxh64_held, Xxh64Holds};
-ghost use Rattle.sketch_hash.specs.Xxh64.{Xxh64Stands};
+ghost use Rattle.sketch_hash.specs.Xxh64.{xxh64_after, Xxh64Stands};
 
 use super::{STRIPE, XxHash64};
+use crate::hash::hasher::Hasher;
+use crate::hash::put::put;
 use std::simd::prelude::*;
 
 /// What an [`XxHash64`] holds: a checkpoint of a stream, to be copied, kept and taken up again.
@@ -22,6 +24,43 @@ pub struct XxHash64State {
     pub total: u64,
     /// The bytes behind the last whole stripe.
     pub waiting: [u8; 32],
+}
+
+impl XxHash64State {
+    /// Adds bytes to the stream that the state holds.
+    #[inline(always)]
+    #[tactic(auto, using(crate::proofs::HeldLemmas::xxh64_holds_after))]
+    pub fn write(&mut self, bytes: &[u8])
+        ensures after { xxh64_held self.new ≡ xxh64_after (xxh64_held self.old) bytes.now }
+        ensures holds { (seed : ℕ) (before : List ℕ) → Xxh64Holds self.old seed before →
+            Xxh64Holds self.new seed (before ++ bytes.now) }
+    {
+        if bytes.len() < STRIPE - (self.total % STRIPE as u64) as usize {
+            self.keep(bytes);
+        } else {
+            self.take(bytes);
+        }
+    }
+
+    // Takes bytes that fill no stripe, in place.
+    #[inline(always)]
+    fn keep(&mut self, bytes: &[u8])
+        requires { self.old.total % 32 + length bytes.now < 32 }
+        ensures { xxh64_held self.new ≡ xxh64_after (xxh64_held self.old) bytes.now }
+    {
+        let count = (self.total % STRIPE as u64) as usize;
+        self.total = self.total.wrapping_add(bytes.len() as u64);
+        put(&mut self.waiting, count, bytes);
+    }
+
+    #[inline(always)]
+    fn take(&mut self, bytes: &[u8])
+        ensures { xxh64_held self.new ≡ xxh64_after (xxh64_held self.old) bytes.now }
+    {
+        let mut hasher = XxHash64::resume(self);
+        hasher.write(bytes);
+        *self = hasher.state();
+    }
 }
 
 impl XxHash64 {

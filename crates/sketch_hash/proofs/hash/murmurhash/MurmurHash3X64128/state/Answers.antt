@@ -13,7 +13,8 @@ returns-clause-held c waits =
     let held : length (low_bytes i.count n) ≡ i.total % 16 = rw (← c.self.view_is) at waits in
     let count : i.total % 16 ≡ i.count = sym held ∙ length-low_bytes i.count n in
     let all : i.count + (16 - i.count) ≡ 16 = omega (arith, c.self.invariant.0) in
-    let bytes = c.to_le_bytes.ensures ∙ to_le_bytes-is w128 _ ∙ ap (λ k. low_bytes k c.join_words.result) (sym all) in
+    let bytes = c.to_le_bytes.ensures ∙ to_le_bytes-is w128 _
+    ∙ ap (λ k. low_bytes k c.join_words.result) (sym all) in
     rw (← c.self.view_is, bytes, c.join_words.ensures, count, take-low_bytes i.count (16 - i.count) n) refl
 
 pub returns-clause-holds : goal.returns-clause-holds
