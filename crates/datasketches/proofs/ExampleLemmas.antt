@@ -1,10 +1,10 @@
 -- The examples, computed over the definitions.
-use Rattle.std.proofs.Common.{◌≡◌, ℕ, zero, suc, ◌+◌, ◌-◌, ◌*◌, ◌<◌, ◌≤◌, inl, inr, List, [], ◌∷◌, ◌++◌, length, take, drop, get_or, refl, sym, ap, ◌∙◌, arith, lit<, lit≤}
+use Rattle.std.proofs.Common.{◌≡◌, ℕ, ◌+◌, ◌-◌, inl, inr, List, [], ◌∷◌, ◌++◌, take, drop, get_or, refl, sym, ap, ◌∙◌, arith}
 use Rattle.std.proofs.lemmas.Int.{ints}
 use Rattle.std.proofs.lemmas.Bool.{cases_lt}
 use Rattle.std.proofs.lemmas.List.{get_or-take, get_or-drop}
 use Rattle.sketch_hash.specs.Pieces.{pieces, rest}
-use Rattle.sketch_hash.specs.Xxh64.{steps, stripes, tail_steps}
+use Rattle.sketch_hash.specs.Xxh64.{steps, tail_steps}
 use Rattle.sketch_hash.specs.Examples.{fox}
 use Rattle.datasketches.specs.Streams.{AgreeOutside, DifferInOneBlock, DifferInOneTailStep}
 use Rattle.datasketches.specs.Examples.{eog, zeros, Relations}

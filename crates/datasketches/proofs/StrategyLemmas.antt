@@ -1,5 +1,5 @@
 -- Two values of any two integer types collide exactly if they are read as one word.
-use Rattle.std.proofs.Common.{◌≡◌, ◌↔◌, ℕ, List, refl, sym, ap, ◌∙◌}
+use Rattle.std.proofs.Common.{◌≡◌, ℕ, List, refl, sym, ap, ◌∙◌}
 use Rattle.std.specs.Prelude.{ℤ}
 use Rattle.sketch_hash.specs.Values.{integer_bytes}
 use Rattle.datasketches.specs.Laws.{ModuloLaw}

@@ -1,5 +1,5 @@
 -- Bytes that are a sketch, and bytes beside them that are none.
-use Rattle.std.specs.Prelude.{List, [], ◌∷◌, replicate, ℕ, ◌++◌}
+use Rattle.std.specs.Prelude.{List, [], ◌∷◌, replicate, ℕ}
 use Rattle.sketch_base.specs.declared.codec.item.Kind.TheVariants.{U64Le}
 use Rattle.sketch_vectors.specs.Callers.{IsSketch}
 

@@ -1,7 +1,7 @@
 use super::keys::{is_new_key, is_same_key, is_same_word, pair_of};
 use super::own::{BigEndian, Point};
 use super::sketch::{read_sketch, write_sketch};
-use super::streams::{murmur_of_pieces, xxh64_of_pieces};
+use super::streams::{checkpoint, murmur_of_pieces, xxh64_from, xxh64_of_pieces};
 use crate::first_bytes::FirstBytes;
 use datasketches::codec::{Item, Kind};
 use datasketches::error::{Error, ErrorKind};
@@ -129,6 +129,12 @@ fn a_stream_in_pieces_has_one_hash(rt: HostRuntime) {
         (0xe34b_bc7b_bc07_1b6c, 0x7a43_3ca9_c49a_9347)
     );
     assert_eq!(rt; xxh64_of_pieces(0, &pieces), 0x0b24_2d36_1fda_71bc);
+}
+
+#[test]
+fn a_stream_goes_on_from_a_checkpoint(rt: HostRuntime) {
+    let state = checkpoint(0, b"The quick brown fox jumps over the");
+    assert_eq!(rt; xxh64_from(&state, b" lazy dog"), 0x0b24_2d36_1fda_71bc);
 }
 
 #[test]

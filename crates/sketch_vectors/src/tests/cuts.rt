@@ -1,6 +1,7 @@
 //! However a stream is cut into writes, the answer is that of one write.
 
 use super::both::Both;
+use datasketches::hash::{MurmurHash3X64128, XxHash64};
 
 // Both hashers, given nothing.
 fn fresh() -> Both {
@@ -72,5 +73,35 @@ fn each_byte_can_be_asked_after(rt: HostRuntime) {
             [so_far; 2],
             "after byte {at}"
         );
+    }
+}
+
+// What both states answer that are written to and taken up again, after a write of each piece.
+fn state_answers(pieces: &[&[u8]]) -> ((u64, u64), u64) {
+    let mut murmur = MurmurHash3X64128::with_seed(42).state();
+    let mut xxh64 = XxHash64::with_seed(0x9E37_79B1).state();
+    for piece in pieces {
+        murmur.write(piece);
+        xxh64.write(piece);
+    }
+    (
+        MurmurHash3X64128::resume(&murmur).finish128(),
+        XxHash64::resume(&xxh64).finish64(),
+    )
+}
+
+#[test]
+fn states_answer_as_hashers(rt: HostRuntime) {
+    let all = counting();
+    for second in 0..=97 {
+        let (front, back) = all.split_at(second);
+        for first in 0..=front.len() {
+            let (start, middle) = front.split_at(first);
+            assert_eq!(rt;
+                state_answers(&[start, middle, back]),
+                answers(&[&all]),
+                "{first}, {second}"
+            );
+        }
     }
 }

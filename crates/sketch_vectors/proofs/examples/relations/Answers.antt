@@ -1,4 +1,4 @@
-use Rattle.std.proofs.Common.{◌≡◌, ◌≢◌, ◌≤◌, ℕ, arith, sym, lit≤, refl, ◌∙◌}
+use Rattle.std.proofs.Common.{◌≡◌, ◌≤◌, arith, sym, lit≤, refl, ◌∙◌}
 use Rattle.sketch_hash.specs.SeedHash.{seed_hash}
 use Rattle.sketch_vectors.proofs.examples.relations.Goals as goal
 

@@ -11,10 +11,16 @@ known c =
 
 number : (c : goal.After-read_u128_le) →
     c.read_u128_le.result % (1 * 2 ^ (8 * c.args.count) % 2 ^ 128) ≡ le (take c.args.count c.args.block.now)
-number c = let k = known c in rw c.read_u128_le.ensures (le-front c.args.count c.args.block.now k.0 c.requires k.1)
+number c =
+    let k = known c in
+    rw c.read_u128_le.ensures (le-front c.args.count c.args.block.now k.0 c.requires k.1)
 
 pub returns-clause-below : goal.returns-clause-below
-returns-clause-below c = let k = known c in rw (number c) (le_take-lt c.args.count c.args.block.now k.0 k.1)
+returns-clause-below c =
+    let k = known c in
+    rw (number c) (le_take-lt c.args.count c.args.block.now k.0 k.1)
 
 pub returns-clause-bytes : goal.returns-clause-bytes
-returns-clause-bytes c = let k = known c in rw (number c) (low_bytes-take c.args.count c.args.block.now k.0 k.1)
+returns-clause-bytes c =
+    let k = known c in
+    rw (number c) (low_bytes-take c.args.count c.args.block.now k.0 k.1)
