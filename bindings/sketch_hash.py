@@ -36,8 +36,7 @@ def load(path):
             self.update(data)
 
         def update(self, data):
-            data = bytes(data)
-            update(self._state, data, len(data))
+            update(self._state, bytes(data), len(data))
 
         def hexdigest(self):
             return f"{digest(self._state):016x}"
@@ -53,8 +52,8 @@ if __name__ == "__main__":
     xxh64, murmur3_128 = load(sys.argv[1])
     fox = b"The quick brown fox jumps over the lazy dog"
     hasher = xxh64()
-    for at in range(0, len(fox), 7):
-        hasher.update(fox[at : at + 7])
+    hasher.update(fox[:7])
+    hasher.update(fox[7:])
     assert hasher.hexdigest() == xxh64(fox).hexdigest() == "0b242d361fda71bc"
     assert murmur3_128(fox) == "e34bbc7bbc071b6c7a433ca9c49a9347"
     print("xxh64 and murmur3_128 of a sentence")
