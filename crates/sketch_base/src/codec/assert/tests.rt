@@ -118,17 +118,22 @@ pub(crate) fn is_refusal_with(answer: &Result<(), Error>, message: &str) -> bool
     }
 }
 
-// Holds also where any one request for memory is refused, as `rt try --test --fail-alloc N` does
-// with the Nth: then the refusal tells of memory, and what is accepted stays accepted.
 #[test]
-fn checks_answer_want_of_memory(rt: HostRuntime) {
+fn accepting_checks_take_no_memory(rt: HostRuntime) {
     let alloc = rt.alloc();
     let accepted = [
         ensure_serial_version_is(alloc, 3, 3).is_ok(),
         ensure_preamble_longs_in(alloc, &[1, 2], 2).is_ok(),
         ensure_preamble_longs_in_range(alloc, Unbounded, Unbounded, 255).is_ok(),
+        ensure_preamble_longs_in_range(alloc, Excluded(1), Included(3), 3).is_ok(),
     ];
-    assert_eq!(rt; accepted, [true; 3]);
+    assert_eq!(rt; accepted, [true; 4]);
+}
+
+// Each refusal has its text, or tells of memory.
+#[test]
+fn refusing_checks_without_memory(rt: HostRuntime) {
+    let alloc = rt.alloc();
     for (answer, message) in [
         (
             ensure_serial_version_is(alloc, 3, 2),
@@ -145,4 +150,17 @@ fn checks_answer_want_of_memory(rt: HostRuntime) {
     ] {
         assert!(rt; is_refusal_with(&answer, message), "not {message}");
     }
+}
+
+#[test]
+fn an_empty_range_accepts_no_number(rt: HostRuntime) -> Result<(), Fail> {
+    let alloc = rt.alloc();
+    for x in 0..=255 {
+        let line = format!(in alloc;
+            "InvalidData => invalid preamble longs: expected (5, 5), got {x}"
+        )?;
+        let answer = ensure_preamble_longs_in_range(alloc, Excluded(5), Excluded(5), x);
+        assert_line(&rt, alloc, answer, &line);
+    }
+    Ok(())
 }
