@@ -198,14 +198,19 @@ fn shows_a_concrete_error(rt: HostRuntime) {
     );
 }
 
+// Asserts that an error prints as the row says, at any width.
+fn assert_printed(rt: &impl Abort, alloc: Global, error: &Error, row: &Row) {
+    assert_text(rt, error.to_string(alloc), row.line);
+    assert_text(rt, format!(in alloc; "{error:20}"), row.line);
+    assert_text(rt, format!(in alloc; "{error:?}"), row.debug);
+}
+
 #[test]
 fn prints_lines_and_debug_texts(rt: HostRuntime) -> Result<(), Fail> {
     let alloc = rt.alloc();
     for row in &ROWS {
         let error = error_in(alloc, row.kind, row.message, row.contexts)?;
-        assert_text(&rt, error.to_string(alloc), row.line);
-        assert_text(&rt, format!(in alloc; "{error:20}"), row.line);
-        assert_text(&rt, format!(in alloc; "{error:?}"), row.debug);
+        assert_printed(&rt, alloc, &error, row);
     }
     Ok(())
 }

@@ -1,7 +1,7 @@
 ghost use Rattle.std.specs.Prelude.{◌≡◌, ℕ, List, [], ◌∷◌, codes, map};
 
 use super::*;
-use crate::codec::assert::tests::{assert_line, is_refusal_with};
+use crate::codec::assert::tests::assert_line;
 
 // A caller's proof knows the fields of each family.
 fn families() -> [Family; 10]
@@ -71,15 +71,4 @@ fn accepts_its_own_id(rt: HostRuntime) {
         Family::BLOOMFILTER.validate_id(alloc, 255),
         "InvalidData => invalid family: expected 21 (BLOOMFILTER), got 255",
     );
-}
-
-#[test]
-fn its_own_id_takes_no_memory(rt: HostRuntime) {
-    assert!(rt; Family::HLL.validate_id(rt.alloc(), 7).is_ok());
-}
-
-#[test]
-fn another_id_without_memory(rt: HostRuntime) {
-    let refused = Family::HLL.validate_id(rt.alloc(), 8);
-    assert!(rt; is_refusal_with(&refused, "invalid family: expected 7 (HLL), got 8"));
 }
