@@ -1,10 +1,11 @@
-// A library to preload into a program: it refuses one request for memory, or faults one read or
-// write. `.ci/sweep` uses it. Two words of the environment say what it does:
+// A library to preload into a program, whose requests for memory it refuses, or whose reads and
+// writes it faults. `.ci/sweep` uses it. Two words of the environment say what it does:
 //
-//     FAULT=refuse  a request for memory is refused
-//     FAULT=fail    a read or a write fails, a read as an interrupted one does
-//     FAULT=short   a read or a write moves one byte
-//     FAULT_AT=N    at the Nth such call, counted from 1, and at no other
+//     FAULT=refuse   a request for memory is refused
+//     FAULT=exhaust  a request for memory is refused, and each one behind it
+//     FAULT=fail     a read or a write fails, a read as an interrupted one does
+//     FAULT=short    a read or a write moves one byte
+//     FAULT_AT=N     at the Nth such call, counted from 1; at none where N is 0
 //
 // Each such call, whether or not it is the Nth, is noted on file descriptor 9 by a letter: m for a
 // request for memory, r for a read, o for a write to standard output, e for one to standard error.
@@ -25,23 +26,25 @@ void *__libc_calloc(size count, size bytes);
 enum { SYS_READ = 0, SYS_WRITE = 1, EINTR = 4, EIO = 5, ENOMEM = 12, NOTES = 9 };
 
 static char fault; // the first letter of FAULT, and 0 until the program begins
-static long calls_until_fault;
+static long fault_at;
+static long calls;
 
 __attribute__((constructor)) static void begin(void) {
   const char *kind = getenv("FAULT");
   const char *at = getenv("FAULT_AT");
-  calls_until_fault = at ? atol(at) : 0;
+  fault_at = at ? atol(at) : 0;
   fault = kind ? *kind : 0;
 }
 
-// Notes a call, and says whether it is the one to fault.
+// Notes a call, and says whether it is one to fault.
 static int is_struck(char letter) {
   syscall(SYS_WRITE, NOTES, &letter, 1L);
-  return --calls_until_fault == 0;
+  calls++;
+  return calls == fault_at || (fault == 'e' && fault_at > 0 && calls > fault_at);
 }
 
 static int is_refused(void) {
-  if (fault != 'r' || !is_struck('m'))
+  if ((fault != 'r' && fault != 'e') || !is_struck('m'))
     return 0;
   *__errno_location() = ENOMEM;
   return 1;
