@@ -13,14 +13,14 @@ fn murmur_tells_apart_two_sentences_that_differ_in_their_cut_off_block(rt: HostR
 }
 
 #[test]
-fn murmur_tells_apart_two_seeds_of_no_bytes(rt: HostRuntime) {
+fn murmur_pairs_of_two_seeds_take_no_memory(rt: HostRuntime) {
     let (first, second) = murmur_both(0, &[], 1, &[]);
     assert_eq!(rt; first, (0, 0));
     assert!(rt; second != first);
 }
 
 #[test]
-fn xxh64_tells_apart_two_seeds(rt: HostRuntime) {
+fn xxh64_of_two_seeds_takes_no_memory(rt: HostRuntime) {
     let of_nothing = (0xef46_db37_51d8_e999, 0xac75_fda2_929b_17ef);
     assert_eq!(rt; xx_both(0, &[], OTHER_SEED, &[]), of_nothing);
     let stripe = &TEST_BUFFER[0..32];

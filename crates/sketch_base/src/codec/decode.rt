@@ -193,7 +193,7 @@ impl SketchSlice<'_> {
     }
 
     // The next item, of this kind.
-    fn read_item(&mut self, kind: Kind) -> io::Result<Item>
+    pub(super) fn read_item(&mut self, kind: Kind) -> io::Result<Item>
         ensures { Reads (width kind) (unspell kind) self.old result self.new }
     {
         Ok(match kind {

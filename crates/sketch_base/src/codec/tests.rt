@@ -1,6 +1,8 @@
 ghost use Rattle.std.specs.Prelude.{◌≡◌, ◌↔◌, IfOk, IsTrue, length, map};
 ghost use Rattle.sketch_base.specs.Items.{item_kind};
 
+mod without_memory;
+
 use super::*;
 use std::alloc::{AllocError, Global};
 use std::io;
@@ -100,44 +102,8 @@ fn writes_items_into_memory_that_grows(rt: HostRuntime) -> Result<(), Fail> {
     Ok(())
 }
 
-// Holds also where a request for memory is refused, as `rt try --test --fail-alloc N` does with the
-// Nth: then just the first items are there, and where the second request is refused these are two.
 #[test]
-fn tells_how_many_items_had_room(rt: HostRuntime) {
-    let Ok(mut writer) = SketchBytes::with_capacity(rt.alloc(), 5) else {
-        return;
-    };
-    let accepted = match writer.write_items(&ROW) {
-        Ok(()) => 5,
-        Err(Stopped { accepted }) => accepted,
-    };
-    assert!(rt; accepted >= 2);
-    let bytes = writer.into_bytes();
-    assert_eq!(rt;
-        bytes.as_slice(),
-        &ROW_BYTES[..[0, 1, 5, 13, 14, 15][accepted]]
-    );
-    let mut places = [Item::U8(0); 2];
-    let mut reader = SketchSlice::new(&bytes);
-    let answer = reader.read_items(&[Kind::U8, Kind::U32Be], &mut places);
-    assert_eq!(rt; (answer, places), (Ok(()), [Item::U8(1), Item::U32Be(2)]));
-}
-
-// The same of a single write, whose bytes are all there or none.
-#[test]
-fn writes_whole_numbers_or_nothing(rt: HostRuntime) {
-    let Ok(mut writer) = SketchBytes::with_capacity(rt.alloc(), 2) else {
-        return;
-    };
-    let wanted = match writer.write_u64_be(1) {
-        Ok(()) => [0, 0, 0, 0, 0, 0, 0, 1].as_slice(),
-        Err(AllocError) => [].as_slice(),
-    };
-    assert_eq!(rt; writer.into_bytes().as_slice(), wanted);
-}
-
-#[test]
-fn tells_how_many_items_fit(rt: HostRuntime) {
+fn lists_that_do_not_fit_take_no_memory(rt: HostRuntime) {
     let mut places = [Item::U8(0); 3];
     let mut reader = SketchSlice::new(&[9, 1]);
     let short = reader.read_items(&[Kind::U8, Kind::U16Le, Kind::U8], &mut places);
@@ -215,7 +181,7 @@ fn writes_no_bytes_at_any_room(rt: HostRuntime) -> Result<(), Fail> {
 }
 
 // Each form at its edges, as the library that this one is ported from reads and writes it.
-const EDGES: [(Item, &[u8]); 45] = [
+const EDGES: [(Item, &[u8]); 47] = [
     (Item::U8(0), &[0x00]),
     (Item::U8(255), &[0xff]),
     (Item::I8(-128), &[0x80]),
@@ -230,6 +196,7 @@ const EDGES: [(Item, &[u8]); 45] = [
     (Item::I16Le(-32768), &[0x00, 0x80]),
     (Item::I16Le(32767), &[0xff, 0x7f]),
     (Item::I16Le(-2), &[0xfe, 0xff]),
+    (Item::I16Le(-257), &[0xff, 0xfe]),
     (Item::I16Be(-32768), &[0x80, 0x00]),
     (Item::I16Be(32767), &[0x7f, 0xff]),
     (Item::I16Be(-2), &[0xff, 0xfe]),
@@ -239,6 +206,7 @@ const EDGES: [(Item, &[u8]); 45] = [
     (Item::U32Be(0), &[0x00, 0x00, 0x00, 0x00]),
     (Item::U32Be(4294967295), &[0xff, 0xff, 0xff, 0xff]),
     (Item::U32Be(67305985), &[0x04, 0x03, 0x02, 0x01]),
+    (Item::U32Be(16909060), &[0x01, 0x02, 0x03, 0x04]),
     (Item::I32Le(-2147483648), &[0x00, 0x00, 0x00, 0x80]),
     (Item::I32Le(2147483647), &[0xff, 0xff, 0xff, 0x7f]),
     (Item::I32Le(67305985), &[0x01, 0x02, 0x03, 0x04]),
@@ -330,7 +298,7 @@ fn spells_every_form_at_its_edges(rt: HostRuntime) {
 }
 
 #[test]
-fn reads_every_form_at_its_edges(rt: HostRuntime) {
+fn reads_of_every_form_take_no_memory(rt: HostRuntime) {
     for (item, bytes) in &EDGES {
         let kind = item.kind();
         assert_eq!(rt;
@@ -395,51 +363,6 @@ fn writes_every_kind_of_number(rt: HostRuntime) -> Result<(), Fail> {
     Ok(())
 }
 
-#[test]
-fn reads_numbers_of_one_and_two_bytes(rt: HostRuntime) {
-    assert_eq!(rt;
-        (
-            SketchSlice::new(&[0xfe]).read_u8().ok(),
-            SketchSlice::new(&[0xfe]).read_i8().ok(),
-            SketchSlice::new(&[0x80, 1]).read_u16_be().ok(),
-            SketchSlice::new(&[0xff, 0xfe]).read_i16_be().ok(),
-            SketchSlice::new(&[0xff, 0xfe]).read_i16_le().ok(),
-        ),
-        (Some(254), Some(-2), Some(32_769), Some(-2), Some(-257))
-    );
-}
-
-#[test]
-fn reads_numbers_of_four_bytes(rt: HostRuntime) {
-    assert_eq!(rt;
-        (
-            SketchSlice::new(&[1, 2, 3, 4]).read_u32_be().ok(),
-            SketchSlice::new(&[1, 2, 3, 4]).read_u32_le().ok(),
-            SketchSlice::new(&[0xff, 0xff, 0xff, 0xfe])
-                .read_i32_be()
-                .ok(),
-        ),
-        (Some(16_909_060), Some(67_305_985), Some(-2))
-    );
-}
-
-#[test]
-fn reads_numbers_of_eight_bytes(rt: HostRuntime) {
-    let words = [1, 2, 3, 4, 5, 6, 7, 8];
-    assert_eq!(rt;
-        (
-            SketchSlice::new(&words).read_u64_le().ok(),
-            SketchSlice::new(&words).read_u64_be().ok(),
-            SketchSlice::new(&words).read_i64_le().ok(),
-        ),
-        (
-            Some(578_437_695_752_307_201),
-            Some(72_623_859_790_382_856),
-            Some(578_437_695_752_307_201),
-        )
-    );
-}
-
 // -2 in eight bytes, the highest first, and then the least number of four bytes, the lowest first.
 const TWO_NUMBERS: [u8; 12] = [
     0xff, 0xff, 0xff, 0xff, 0xff, 0xff, 0xff, 0xfe, 0, 0, 0, 0x80,
@@ -471,23 +394,32 @@ fn reads_one_number_behind_another(rt: HostRuntime) {
 }
 
 #[test]
-fn refuses_what_does_not_remain(rt: HostRuntime) {
+fn refused_reads_take_no_memory(rt: HostRuntime) {
     let mut reader = SketchSlice::new(&[1, 0, 7]);
     let read = reader.read_u16_le().ok();
-    let refused = reader.read_u32_be().err().map(|error| error.kind());
-    assert_eq!(rt;
-        (read, refused),
-        (Some(1), Some(io::ErrorKind::UnexpectedEof))
-    );
-    let empty = reader.remaining().is_empty();
-    assert_eq!(rt;
-        (
-            empty,
-            reader.read_exact(&mut []).is_ok(),
-            reader.read_u8().is_err()
-        ),
-        (true, true, true)
-    );
+    let refused = reader.read_u32_be().is_err();
+    let rest = reader.remaining().len();
+    assert_eq!(rt; (read, refused, rest), (Some(1), true, 0));
+    assert!(rt; reader.read_exact(&mut []).is_ok());
+    assert!(rt; reader.read_u8().is_err());
+}
+
+#[test]
+fn numbers_cut_short_are_refused(rt: HostRuntime) {
+    for (item, _) in &EDGES {
+        for count in 0..item.kind().width() {
+            let mut reader = SketchSlice::new(&[1, 2, 3, 4, 5, 6, 7, 8][..count]);
+            let refused = reader
+                .read_item(item.kind())
+                .err()
+                .map(|error| error.kind());
+            assert_eq!(rt;
+                (refused, reader.remaining().len()),
+                (Some(io::ErrorKind::UnexpectedEof), 0),
+                "{count} bytes for {item:?}"
+            );
+        }
+    }
 }
 
 #[test]
@@ -506,7 +438,6 @@ fn advances_no_further_than_the_end(rt: HostRuntime) {
     for (first, then, rest) in [
         (u64::MAX, u64::MAX, [].as_slice()),
         (2, u64::MAX, [].as_slice()),
-        (1, u64::MAX - 1, [].as_slice()),
         (0, 2, [3].as_slice()),
     ] {
         let mut reader = SketchSlice::new(&[1, 2, 3]);
@@ -514,4 +445,29 @@ fn advances_no_further_than_the_end(rt: HostRuntime) {
         reader.advance(then);
         assert_eq!(rt; reader.remaining(), rest, "after {first} and {then}");
     }
+}
+
+#[test]
+fn stays_at_the_end(rt: HostRuntime) {
+    let mut reader = SketchSlice::new(&[1, 2, 3]);
+    reader.advance(1);
+    assert_eq!(rt; reader.remaining(), [2, 3].as_slice());
+    for n in [u64::MAX - 1, u64::MAX, 0] {
+        reader.advance(n);
+        assert!(rt; reader.remaining().is_empty(), "after {n}");
+    }
+    assert!(rt; reader.read_exact(&mut []).is_ok());
+    assert!(rt; reader.read_u8().is_err());
+}
+
+#[test]
+fn writes_a_hundred_thousand_numbers(rt: HostRuntime) -> Result<(), Fail> {
+    let mut writer = SketchBytes::with_capacity(rt.alloc(), 0)?;
+    for i in 0..100_000 {
+        writer.write_u64_le(i)?;
+    }
+    let bytes = writer.into_bytes();
+    let is_last = bytes.ends_with(&[0x9f, 0x86, 1, 0, 0, 0, 0, 0]);
+    assert_eq!(rt; (bytes.len(), is_last), (800_000, true));
+    Ok(())
 }

@@ -198,14 +198,19 @@ fn shows_a_concrete_error(rt: HostRuntime) {
     );
 }
 
+// Asserts that an error prints as the row says, at any width.
+fn assert_printed(rt: &impl Abort, alloc: Global, error: &Error, row: &Row) {
+    assert_text(rt, error.to_string(alloc), row.line);
+    assert_text(rt, format!(in alloc; "{error:20}"), row.line);
+    assert_text(rt, format!(in alloc; "{error:?}"), row.debug);
+}
+
 #[test]
 fn prints_lines_and_debug_texts(rt: HostRuntime) -> Result<(), Fail> {
     let alloc = rt.alloc();
     for row in &ROWS {
         let error = error_in(alloc, row.kind, row.message, row.contexts)?;
-        assert_text(&rt, error.to_string(alloc), row.line);
-        assert_text(&rt, format!(in alloc; "{error:20}"), row.line);
-        assert_text(&rt, format!(in alloc; "{error:?}"), row.debug);
+        assert_printed(&rt, alloc, &error, row);
     }
     Ok(())
 }
@@ -411,29 +416,36 @@ fn answers_a_message_that_does_not_print(rt: HostRuntime) {
     }
 }
 
-// Holds also where any one request for memory is refused, as `rt try --test --fail-alloc N` does
-// with the Nth: then the error stays as it was.
+// A context that finds no memory leaves the error as it was.
 #[test]
-fn keeps_an_error_at_want_of_memory(rt: HostRuntime) {
+fn contexts_without_memory(rt: HostRuntime) {
     let alloc = rt.alloc();
-    let error = Error::new(ErrorKind::InvalidData, String::new(alloc));
-    let (error, one) = match error.with_context(alloc, "a", 1u8) {
-        Ok(error) => (error, "InvalidData, context: { a: 1 }"),
-        Err(error) => (error, "InvalidData"),
+    let Ok(message) = String::from_str(alloc, "parsing failed") else {
+        return;
     };
-    let (error, line) = match error.with_context(alloc, "b", 2u8) {
-        Ok(error) if one == "InvalidData" => (error, "InvalidData, context: { b: 2 }"),
-        Ok(error) => (error, "InvalidData, context: { a: 1, b: 2 }"),
-        Err(error) => (error, one),
+    let error = Error::new(ErrorKind::InvalidData, message);
+    let (error, has_index) = match error.with_context(alloc, "index", 42u8) {
+        Ok(error) => (error, true),
+        Err(error) => (error, false),
+    };
+    let (error, has_file) = match error.with_context(alloc, "file", "foo") {
+        Ok(error) => (error, true),
+        Err(error) => (error, false),
+    };
+    let line = match (has_index, has_file) {
+        (true, true) => "InvalidData, context: { index: 42, file: foo } => parsing failed",
+        (true, false) => "InvalidData, context: { index: 42 } => parsing failed",
+        (false, true) => "InvalidData, context: { file: foo } => parsing failed",
+        (false, false) => "InvalidData => parsing failed",
     };
     if let Ok(text) = error.to_string(alloc) {
         assert_eq!(rt; text.as_str(), line);
     }
 }
 
-// The same of the errors that have a text: it is there, or the error tells of memory.
+// The text of an error is there, or the error tells of memory.
 #[test]
-fn constructors_answer_want_of_memory(rt: HostRuntime) {
+fn constructors_without_memory(rt: HostRuntime) {
     let alloc = rt.alloc();
     for (error, message) in [
         (Error::insufficient_data(alloc, "x"), "insufficient data: x"),

@@ -4,7 +4,7 @@ use super::{
     DEFAULT_UPDATE_SEED, Hasher, MurmurHash3X64128, XxHash64, check_seed_hash, compute_seed_hash,
 };
 use crate::examples::TEST_BUFFER;
-use sketch_base::error::ErrorKind;
+use sketch_base::error::{Error, ErrorKind};
 use std::alloc::{AllocError, Global};
 use std::test::Fail;
 
@@ -258,4 +258,41 @@ fn seed_hashes_and_their_refusals(rt: HostRuntime) -> Result<(), Fail> {
         "InvalidData => incompatible seed hash of theta: expected 37836, got 1"
     );
     Ok(())
+}
+
+#[test]
+fn seed_hashes_take_no_memory(rt: HostRuntime) {
+    let alloc = rt.alloc();
+    let kind = ErrorKind::InvalidArgument;
+    assert_eq!(rt; compute_seed_hash(alloc, 9001, kind).ok(), Some(37836));
+    assert!(rt; check_seed_hash(alloc, 37836, 37836, "theta", kind).is_ok());
+}
+
+// Whether the error has this kind and message, or tells of memory.
+fn is_refusal(error: Option<Error>, kind: ErrorKind, message: &str) -> bool {
+    error.is_some_and(|error| match error.kind() {
+        ErrorKind::OutOfMemory => error.message().is_empty(),
+        other => other == kind && error.message() == message,
+    })
+}
+
+#[test]
+fn seed_refusals_without_memory(rt: HostRuntime) {
+    let alloc = rt.alloc();
+    let kind = ErrorKind::InvalidArgument;
+    assert!(rt;
+        is_refusal(
+            compute_seed_hash(alloc, 50541, kind).err(),
+            kind,
+            "seed 50541 produces a seed hash of zero; choose a different seed"
+        )
+    );
+    let kind = ErrorKind::InvalidData;
+    assert!(rt;
+        is_refusal(
+            check_seed_hash(alloc, 37836, 1, "theta", kind).err(),
+            kind,
+            "incompatible seed hash of theta: expected 37836, got 1"
+        )
+    );
 }

@@ -1,3 +1,5 @@
+mod damage;
+
 use super::keys::{is_new_key, is_same_key, is_same_word, pair_of};
 use super::own::{BigEndian, Point};
 use super::sketch::{read_sketch, write_sketch};
@@ -24,21 +26,21 @@ fn keys_are_told_apart(rt: HostRuntime) {
 }
 
 // The one item of a sketch.
-fn read(alloc: Global, bytes: &[u8], seed: u64) -> Result<Item, Error> {
+fn read(alloc: Global, bytes: &[u8], seed: u64, kind: Kind) -> Result<Item, Error> {
     let mut places = [Item::U8(0)];
-    read_sketch(alloc, bytes, seed, &[Kind::U64Le], &mut places)?;
+    read_sketch(alloc, bytes, seed, &[kind], &mut places)?;
     Ok(places[0])
 }
 
 #[test]
-fn an_item_of_a_sketch_is_read(rt: HostRuntime) {
-    let item = read(rt.alloc(), &SKETCH, 9001);
+fn reading_a_sketch_takes_no_memory(rt: HostRuntime) {
+    let item = read(rt.alloc(), &SKETCH, 9001, Kind::U64Le);
     assert_eq!(rt; item.ok(), Some(Item::U64Le(258)));
 }
 
 // Whether the bytes are refused with this message.
 fn is_refused(alloc: Global, bytes: &[u8], message: &str) -> bool {
-    match read(alloc, bytes, 9001) {
+    match read(alloc, bytes, 9001, Kind::U64Le) {
         Ok(_) => false,
         Err(error) => error.kind() == ErrorKind::InvalidData && error.message() == message,
     }
@@ -89,7 +91,10 @@ fn read_or_refusal(
     seed: u64,
     message: &str,
 ) -> Result<Item, (ErrorKind, bool)> {
-    read(alloc, bytes, seed).map_err(|error| (error.kind(), error.message().starts_with(message)))
+    read(alloc, bytes, seed, Kind::U64Le).map_err(|error| (
+        error.kind(),
+        error.message().starts_with(message),
+    ))
 }
 
 #[test]

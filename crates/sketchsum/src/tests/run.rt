@@ -59,27 +59,26 @@ fn a_read_that_fails_in_mid_stream_writes_nothing(rt: HostRuntime) {
 #[test]
 fn the_last_turn_has_to_find_the_end(rt: HostRuntime) {
     let long = [0; 4097];
-    let cases: [(Algorithm, &[u8], usize, u64, bool); 7] = [
-        (Algorithm::Murmur, FOX, 4096, 2, true),
-        (Algorithm::Xx, b"a", 1, 2, true),
-        (Algorithm::Xx, b"a", 1, 1, false),
-        (Algorithm::Murmur, b"ab", 1, 2, false),
-        (Algorithm::Murmur, b"ab", 1, 0, false),
-        (Algorithm::Xx, &long, 5000, 2, false),
-        (Algorithm::Xx, &long, 5000, 3, true),
+    let cases: [(Algorithm, &[u8], usize, u64, Option<&str>); 7] = [
+        (Algorithm::Murmur, FOX, 4096, 2, Some(FOX_LINE)),
+        (Algorithm::Xx, b"\0", 1, 2, Some("e934a84adb052768\n")),
+        (Algorithm::Xx, b"\0", 1, 1, None),
+        (Algorithm::Xx, b"ab", 1, 2, None),
+        (Algorithm::Murmur, b"ab", 1, 0, None),
+        (Algorithm::Xx, &long, 5000, 2, None),
+        (Algorithm::Xx, &long, 5000, 3, Some("52028d196767ee18\n")),
     ];
-    for (algorithm, input, most, turns, is_enough) in cases {
+    for (algorithm, input, most, turns, line) in cases {
         let mut reader = SlowReader::new(input, most, None);
         let mut written = Vec::new(rt.alloc());
         let result = run_bounded(algorithm, 0, turns, &mut reader, &mut written);
-        let expected = if is_enough {
-            Ok(())
-        } else {
-            Err(RunFault::TooLong)
+        let expected = match line {
+            Some(_) => Ok(()),
+            None => Err(RunFault::TooLong),
         };
         assert_eq!(rt; result, expected);
         assert_eq!(rt; reader.reads, turns);
-        assert_eq!(rt; written.is_empty(), !is_enough);
+        assert_eq!(rt; written.as_slice(), line.unwrap_or("").as_bytes());
     }
 }
 

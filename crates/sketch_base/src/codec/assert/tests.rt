@@ -1,5 +1,6 @@
 use super::*;
 use crate::codec::SketchSlice;
+use crate::codec::family::Family;
 use std::process::Abort;
 use std::test::Fail;
 
@@ -12,50 +13,63 @@ pub(crate) fn assert_line(rt: &impl Abort, alloc: Global, answer: Result<(), Err
     assert_eq!(rt; printed.ok().as_deref(), Some(line));
 }
 
-// The numbers that are tried at each range.
-const NUMBERS: [u8; 7] = [0, 1, 2, 3, 4, 5, 255];
-
-// The two ends of a range, how it prints, and the numbers tried that it accepts.
-const RANGES: [(Bound<u8>, Bound<u8>, &'static str, &'static [u8]); 19] = [
-    (Unbounded, Unbounded, "", &NUMBERS),
-    (Unbounded, Included(3), "at most 3", &[0, 1, 2, 3]),
-    (Unbounded, Excluded(3), "less than 3", &[0, 1, 2]),
-    (Included(3), Unbounded, "at least 3", &[3, 4, 5, 255]),
-    (Excluded(3), Unbounded, "greater than 3", &[4, 5, 255]),
-    (Excluded(5), Unbounded, "greater than 5", &[255]),
-    (Included(0), Included(3), "[0, 3]", &[0, 1, 2, 3]),
-    (Included(0), Excluded(3), "[0, 3)", &[0, 1, 2]),
-    (Included(1), Excluded(3), "[1, 3)", &[1, 2]),
-    (Excluded(0), Included(3), "(0, 3]", &[1, 2, 3]),
-    (Excluded(1), Included(3), "(1, 3]", &[2, 3]),
-    (Excluded(0), Excluded(3), "(0, 3)", &[1, 2]),
-    (Excluded(1), Excluded(2), "(1, 2)", &[]),
-    (Included(3), Included(3), "[3, 3]", &[3]),
-    (Excluded(3), Excluded(3), "(3, 3)", &[]),
-    (Included(3), Included(0), "[3, 0]", &[]),
-    (Included(5), Included(3), "[5, 3]", &[]),
-    (Included(255), Included(0), "[255, 0]", &[]),
-    (Excluded(255), Excluded(255), "(255, 255)", &[]),
+// The two ends of a range, how it prints, and the first and the last number that it accepts.
+const RANGES: [(Bound<u8>, Bound<u8>, &'static str, u8, u8); 14] = [
+    (Unbounded, Unbounded, "", 0, 255),
+    (Unbounded, Included(3), "at most 3", 0, 3),
+    (Unbounded, Excluded(3), "less than 3", 0, 2),
+    (Included(3), Unbounded, "at least 3", 3, 255),
+    (Excluded(3), Unbounded, "greater than 3", 4, 255),
+    (Excluded(5), Unbounded, "greater than 5", 6, 255),
+    (Included(0), Included(3), "[0, 3]", 0, 3),
+    (Included(0), Excluded(3), "[0, 3)", 0, 2),
+    (Included(1), Excluded(3), "[1, 3)", 1, 2),
+    (Excluded(0), Included(3), "(0, 3]", 1, 3),
+    (Excluded(1), Included(3), "(1, 3]", 2, 3),
+    (Excluded(0), Excluded(3), "(0, 3)", 1, 2),
+    (Included(3), Included(3), "[3, 3]", 3, 3),
+    (Included(255), Included(255), "[255, 255]", 255, 255),
 ];
+
+// The two ends of a range that accepts no number, and how it prints.
+const EMPTY_RANGES: [(Bound<u8>, Bound<u8>, &'static str); 7] = [
+    (Excluded(1), Excluded(2), "(1, 2)"),
+    (Excluded(3), Excluded(3), "(3, 3)"),
+    (Excluded(5), Excluded(5), "(5, 5)"),
+    (Included(3), Included(0), "[3, 0]"),
+    (Included(5), Included(3), "[5, 3]"),
+    (Included(255), Included(0), "[255, 0]"),
+    (Excluded(255), Excluded(255), "(255, 255)"),
+];
+
+// The line of the refusal of a number that is not in a range.
+fn line_outside(alloc: Global, range: &str, x: u8) -> Result<String, AllocError> {
+    format!(in alloc; "InvalidData => invalid preamble longs: expected {range}, got {x}")
+}
 
 #[test]
 fn accepts_the_numbers_of_a_range(rt: HostRuntime) -> Result<(), Fail> {
     let alloc = rt.alloc();
-    for (start, end, range, accepted) in RANGES {
-        for x in NUMBERS {
-            let line = if accepted.contains(&x) {
-                String::new(alloc)
+    for (start, end, range, first, last) in RANGES {
+        for x in 0..=255 {
+            let answer = ensure_preamble_longs_in_range(alloc, start, end, x);
+            if first <= x && x <= last {
+                assert!(rt; answer.is_ok(), "{x} in {range}");
             } else {
-                format!(in alloc;
-                    "InvalidData => invalid preamble longs: expected {range}, got {x}"
-                )?
-            };
-            assert_line(
-                &rt,
-                alloc,
-                ensure_preamble_longs_in_range(alloc, start, end, x),
-                &line,
-            );
+                assert_line(&rt, alloc, answer, &line_outside(alloc, range, x)?);
+            }
+        }
+    }
+    Ok(())
+}
+
+#[test]
+fn accepts_no_number_of_an_empty_range(rt: HostRuntime) -> Result<(), Fail> {
+    let alloc = rt.alloc();
+    for (start, end, range) in EMPTY_RANGES {
+        for x in 0..=255 {
+            let answer = ensure_preamble_longs_in_range(alloc, start, end, x);
+            assert_line(&rt, alloc, answer, &line_outside(alloc, range, x)?);
         }
     }
     Ok(())
@@ -108,7 +122,7 @@ fn tells_what_a_read_was_is_refusal_with(rt: HostRuntime) -> Result<(), Fail> {
 }
 
 // Whether a refusal has this message, or tells of memory and has none.
-pub(crate) fn is_refusal_with(answer: &Result<(), Error>, message: &str) -> bool {
+fn is_refusal_with(answer: &Result<(), Error>, message: &str) -> bool {
     let Err(error) = answer else {
         return false;
     };
@@ -118,17 +132,22 @@ pub(crate) fn is_refusal_with(answer: &Result<(), Error>, message: &str) -> bool
     }
 }
 
-// Holds also where any one request for memory is refused, as `rt try --test --fail-alloc N` does
-// with the Nth: then the refusal tells of memory, and what is accepted stays accepted.
 #[test]
-fn checks_answer_want_of_memory(rt: HostRuntime) {
+fn accepting_checks_take_no_memory(rt: HostRuntime) {
     let alloc = rt.alloc();
     let accepted = [
         ensure_serial_version_is(alloc, 3, 3).is_ok(),
         ensure_preamble_longs_in(alloc, &[1, 2], 2).is_ok(),
         ensure_preamble_longs_in_range(alloc, Unbounded, Unbounded, 255).is_ok(),
+        Family::HLL.validate_id(alloc, 7).is_ok(),
     ];
-    assert_eq!(rt; accepted, [true; 3]);
+    assert_eq!(rt; accepted, [true; 4]);
+}
+
+// Each refusal has its text, or tells of memory.
+#[test]
+fn refusing_checks_without_memory(rt: HostRuntime) {
+    let alloc = rt.alloc();
     for (answer, message) in [
         (
             ensure_serial_version_is(alloc, 3, 2),
@@ -141,6 +160,10 @@ fn checks_answer_want_of_memory(rt: HostRuntime) {
         (
             ensure_preamble_longs_in_range(alloc, Included(5), Included(3), 4),
             "invalid preamble longs: expected [5, 3], got 4",
+        ),
+        (
+            Family::HLL.validate_id(alloc, 8),
+            "invalid family: expected 7 (HLL), got 8",
         ),
     ] {
         assert!(rt; is_refusal_with(&answer, message), "not {message}");

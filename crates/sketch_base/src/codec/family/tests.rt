@@ -1,7 +1,7 @@
 ghost use Rattle.std.specs.Prelude.{◌≡◌, ℕ, List, [], ◌∷◌, codes, map};
 
 use super::*;
-use crate::codec::assert::tests::{assert_line, is_refusal_with};
+use crate::codec::assert::tests::assert_line;
 
 // A caller's proof knows the fields of each family.
 fn families() -> [Family; 10]
@@ -71,15 +71,4 @@ fn accepts_its_own_id(rt: HostRuntime) {
         Family::BLOOMFILTER.validate_id(alloc, 255),
         "InvalidData => invalid family: expected 21 (BLOOMFILTER), got 255",
     );
-}
-
-// Holds also where any one request for memory is refused, as `rt try --test --fail-alloc N` does
-// with the Nth: then the refusal tells of memory, and its own id stays accepted.
-#[test]
-fn ids_are_checked_at_want_of_memory(rt: HostRuntime) {
-    let alloc = rt.alloc();
-    let accepted = Family::HLL.validate_id(alloc, 7).is_ok();
-    let refused = Family::HLL.validate_id(alloc, 8);
-    let with_text = is_refusal_with(&refused, "invalid family: expected 7 (HLL), got 8");
-    assert_eq!(rt; (accepted, with_text), (true, true));
 }

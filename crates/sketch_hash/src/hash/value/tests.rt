@@ -4,7 +4,7 @@ ghost use Rattle.std.specs.Prelude.{◌≡◌, ◌↔◌, IsTrue, MatchResult};
 
 use super::natural_extend::NaturalExtendStrategy;
 use super::sign_extend::{self, SignExtendStrategy};
-use super::{Value, value_law};
+use super::{Value, calculate_hash, raw_bytes, value_law};
 use std::alloc::AllocError;
 use std::cmp::Ordering;
 
@@ -47,4 +47,32 @@ fn wrapped_numbers_compare_as_numbers(rt: HostRuntime) {
 fn the_law_holds_of_each_strategy(_rt: HostRuntime) {
     value_law::<u8, NaturalExtendStrategy>();
     value_law::<u8, SignExtendStrategy>();
+}
+
+#[test]
+fn hashes_of_values_take_no_memory(rt: HostRuntime) {
+    let one = calculate_hash(sign_extend::from_u8(1));
+    assert_eq!(rt; one, calculate_hash(1i64));
+}
+
+#[test]
+fn bytes_are_cloned_with_their_value(rt: HostRuntime) -> Result<(), AllocError> {
+    let value = raw_bytes::from_vec(Vec::from_slice(rt.alloc(), &[1, 2, 3])?);
+    let clone = clone_of(&value)?;
+    assert!(rt; clone == value);
+    assert_eq!(rt; clone.into_inner().as_slice(), [1, 2, 3].as_slice());
+    Ok(())
+}
+
+#[test]
+fn clones_without_memory(rt: HostRuntime) {
+    let Ok(bytes) = Vec::from_slice(rt.alloc(), &[1, 2, 3]) else {
+        return;
+    };
+    let value = raw_bytes::from_vec(bytes);
+    if let Ok(clone) = clone_of(&value) {
+        assert_eq!(rt; clone.into_inner().as_slice(), [1, 2, 3].as_slice());
+    }
+    let hash = calculate_hash(value);
+    assert_eq!(rt; hash, calculate_hash(raw_bytes::from_slice(&[1, 2, 3])));
 }

@@ -1,0 +1,114 @@
+//! Sketches that are cut short or changed in a byte, and sketches where memory runs out.
+
+use super::{SKETCH, read};
+use crate::callers::sketch::write_sketch;
+use datasketches::codec::Item;
+use datasketches::error::{Error, ErrorKind};
+use std::alloc::{AllocError, Global};
+use std::test::Fail;
+
+const SEED: u64 = 9001;
+
+const ITEMS: [Item; 14] = [
+    Item::U8(200),
+    Item::I8(-2),
+    Item::U16Le(258),
+    Item::U16Be(258),
+    Item::I16Le(-3),
+    Item::I16Be(-3),
+    Item::U32Le(16909060),
+    Item::U32Be(16909060),
+    Item::I32Le(-4),
+    Item::I32Be(-4),
+    Item::U64Le(258),
+    Item::U64Be(258),
+    Item::I64Le(-5),
+    Item::I64Be(-5),
+];
+
+#[test]
+fn every_beginning_of_a_sketch_is_refused(rt: HostRuntime) -> Result<(), Fail> {
+    let alloc = rt.alloc();
+    for item in ITEMS {
+        let sketch = write_sketch(alloc, SEED, &[item])?;
+        for count in 0..sketch.len() {
+            let refused = read(alloc, &sketch[..count], SEED, item.kind()).is_err_and(|error| {
+                error.kind() == ErrorKind::InvalidData
+                    && error
+                        .message()
+                        .starts_with("insufficient data (hll sketch): ")
+            });
+            assert!(rt; refused, "{count} bytes of {item:?}");
+        }
+    }
+    Ok(())
+}
+
+// The message that refuses a sketch for what stands at this place, which is none where the place
+// is the item's.
+fn message_at(alloc: Global, place: usize, sketch: &[u8]) -> Result<String, AllocError> {
+    let [longs, version, family, low, high, ..] = sketch else {
+        return Ok(String::new(alloc));
+    };
+    match place {
+        0 => format!(in alloc; "invalid preamble longs: expected one of [1], got {longs}"),
+        1 => format!(in alloc; "unsupported serial version: expected 3, got {version}"),
+        2 => format!(in alloc; "invalid family: expected 7 (HLL), got {family}"),
+        3 | 4 => {
+            let hash = u16::from_le_bytes([*low, *high]);
+            format!(in alloc; "incompatible seed hash of hll: expected 37836, got {hash}")
+        }
+        _ => Ok(String::new(alloc)),
+    }
+}
+
+#[test]
+fn a_changed_byte_is_refused_or_read(rt: HostRuntime) -> Result<(), Fail> {
+    let alloc = rt.alloc();
+    for item in ITEMS {
+        let sketch = write_sketch(alloc, SEED, &[item])?;
+        for place in 0..sketch.len() {
+            for change in 1..=255 {
+                let mut bytes = sketch.clone()?;
+                if let Some(byte) = bytes.get_mut(place) {
+                    *byte ^= change;
+                }
+                let message = message_at(alloc, place, &bytes)?;
+                match read(alloc, &bytes, SEED, item.kind()) {
+                    Ok(changed) => {
+                        assert!(rt; message.is_empty() && changed != item);
+                        assert!(rt; write_sketch(alloc, SEED, &[changed])? == bytes);
+                    }
+                    Err(error) => assert_eq!(rt; error.message(), message.as_str()),
+                }
+            }
+        }
+    }
+    Ok(())
+}
+
+// Whether the error has this message, or tells of memory.
+fn is_refusal(error: Option<Error>, message: &str) -> bool {
+    error.is_some_and(|error| match error.kind() {
+        ErrorKind::OutOfMemory => error.message().is_empty(),
+        _ => error.message() == message,
+    })
+}
+
+#[test]
+fn sketches_without_memory(rt: HostRuntime) {
+    let alloc = rt.alloc();
+    let item = Item::U64Le(258);
+    match write_sketch(alloc, SEED, &[item]) {
+        Ok(sketch) => assert_eq!(rt; sketch.as_slice(), SKETCH.as_slice()),
+        Err(error) => assert_eq!(rt; error.kind(), ErrorKind::OutOfMemory),
+    }
+    let mut other = SKETCH;
+    other[4] = 0;
+    let refused = read(alloc, &other, SEED, item.kind()).err();
+    let message = "incompatible seed hash of hll: expected 37836, got 204";
+    assert!(rt; is_refusal(refused, message));
+    let refused = read(alloc, &SKETCH, 50541, item.kind()).err();
+    let message = "seed 50541 produces a seed hash of zero; choose a different seed";
+    assert!(rt; is_refusal(refused, message));
+}
