@@ -11,7 +11,7 @@ struct State {
 }
 
 #[link(name = "sketch_c", kind = "static")]
-unsafe extern "C" {
+extern "C" {
     fn sketch_xxh64(input: *const u8, length: usize, seed: u64) -> u64;
     fn sketch_xxh64_reset(state: &mut State, seed: u64);
     fn sketch_xxh64_update(state: &mut State, input: *const u8, length: usize);
