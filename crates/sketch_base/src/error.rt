@@ -346,4 +346,4 @@ impl fmt::Debug for Error {
 impl std::error::Error for Error {}
 
 #[cfg(test)]
-mod tests;
+pub(crate) mod tests;

@@ -318,51 +318,39 @@ fn prints_the_names_of_the_kinds(rt: HostRuntime) {
     }
 }
 
+// Asserts that an error prints this line.
+fn assert_line(rt: &impl Abort, alloc: Global, error: Error, line: &str) {
+    assert_text(rt, error.to_string(alloc), line);
+}
+
 #[test]
 fn prints_what_the_constructors_make(rt: HostRuntime) -> Result<(), Fail> {
     let alloc = rt.alloc();
-    let rows = [
-        (
-            Error::invalid_argument(String::from_str(alloc, "bad x")?),
-            "InvalidArgument => bad x",
-        ),
-        (Error::deserial(String::new(alloc)), "InvalidData"),
-        (
-            Error::deserial(String::from_str(alloc, "bad x")?),
-            "InvalidData => bad x",
-        ),
-        (
-            Error::insufficient_data(alloc, "x"),
-            "InvalidData => insufficient data: x",
-        ),
-        (
-            Error::insufficient_data_of(alloc, "header", 5u8),
-            "InvalidData => insufficient data (header): 5",
-        ),
-        (
-            Error::insufficient_data_of(alloc, "", ""),
-            "InvalidData => insufficient data (): ",
-        ),
-        (
-            Error::invalid_family(alloc, 0, 255, ""),
-            "InvalidData => invalid family: expected 0 (), got 255",
-        ),
-        (
-            Error::invalid_preamble_longs(alloc, &[1, 2], 3),
-            "InvalidData => invalid preamble longs: expected one of [1, 2], got 3",
-        ),
-        (
-            Error::invalid_preamble_longs(alloc, &[0, 10, 100, 255], 9),
-            "InvalidData => invalid preamble longs: expected one of [0, 10, 100, 255], got 9",
-        ),
-        (
-            Error::invalid_preamble_ints(alloc, 2, 9),
-            "InvalidData => invalid preamble ints: expected 2, got 9",
-        ),
-    ];
-    for (error, line) in &rows {
-        assert_text(&rt, error.to_string(alloc), line);
-    }
+    let error = Error::invalid_argument(String::from_str(alloc, "bad x")?);
+    assert_line(&rt, alloc, error, "InvalidArgument => bad x");
+    let error = Error::deserial(String::new(alloc));
+    assert_line(&rt, alloc, error, "InvalidData");
+    let error = Error::deserial(String::from_str(alloc, "bad x")?);
+    assert_line(&rt, alloc, error, "InvalidData => bad x");
+    let error = Error::insufficient_data(alloc, "x");
+    assert_line(&rt, alloc, error, "InvalidData => insufficient data: x");
+    let error = Error::insufficient_data_of(alloc, "header", 5u8);
+    let line = "InvalidData => insufficient data (header): 5";
+    assert_line(&rt, alloc, error, line);
+    let error = Error::insufficient_data_of(alloc, "", "");
+    assert_line(&rt, alloc, error, "InvalidData => insufficient data (): ");
+    let error = Error::invalid_family(alloc, 0, 255, "");
+    let line = "InvalidData => invalid family: expected 0 (), got 255";
+    assert_line(&rt, alloc, error, line);
+    let error = Error::invalid_preamble_longs(alloc, &[1, 2], 3);
+    let line = "InvalidData => invalid preamble longs: expected one of [1, 2], got 3";
+    assert_line(&rt, alloc, error, line);
+    let error = Error::invalid_preamble_longs(alloc, &[0, 10, 100, 255], 9);
+    let line = "InvalidData => invalid preamble longs: expected one of [0, 10, 100, 255], got 9";
+    assert_line(&rt, alloc, error, line);
+    let error = Error::invalid_preamble_ints(alloc, 2, 9);
+    let line = "InvalidData => invalid preamble ints: expected 2, got 9";
+    assert_line(&rt, alloc, error, line);
     Ok(())
 }
 
@@ -443,32 +431,26 @@ fn contexts_without_memory(rt: HostRuntime) {
     }
 }
 
-// The text of an error is there, or the error tells of memory.
+// Asserts that an error tells of the data by this message, or of memory by none.
+pub(crate) fn assert_told(rt: &impl Abort, error: Error, message: &str) {
+    let told = (error.kind(), error.message());
+    let is_of_data = told == (ErrorKind::InvalidData, message);
+    let is_of_memory = told == (ErrorKind::OutOfMemory, "");
+    assert!(rt; is_of_data || is_of_memory, "not {message}");
+}
+
 #[test]
 fn constructors_without_memory(rt: HostRuntime) {
     let alloc = rt.alloc();
-    for (error, message) in [
-        (Error::insufficient_data(alloc, "x"), "insufficient data: x"),
-        (
-            Error::insufficient_data_of(alloc, "header", 5u8),
-            "insufficient data (header): 5",
-        ),
-        (
-            Error::invalid_family(alloc, 7, 8, "HLL"),
-            "invalid family: expected 7 (HLL), got 8",
-        ),
-        (
-            Error::invalid_preamble_longs(alloc, &[1, 2], 3),
-            "invalid preamble longs: expected one of [1, 2], got 3",
-        ),
-        (
-            Error::invalid_preamble_ints(alloc, 2, 9),
-            "invalid preamble ints: expected 2, got 9",
-        ),
-    ] {
-        let answer = (error.kind(), error.message());
-        let with_text = answer == (ErrorKind::InvalidData, message);
-        let without_memory = answer == (ErrorKind::OutOfMemory, "");
-        assert!(rt; with_text || without_memory, "not {message}");
-    }
+    let error = Error::insufficient_data(alloc, "x");
+    assert_told(&rt, error, "insufficient data: x");
+    let error = Error::insufficient_data_of(alloc, "header", 5u8);
+    assert_told(&rt, error, "insufficient data (header): 5");
+    let error = Error::invalid_family(alloc, 7, 8, "HLL");
+    assert_told(&rt, error, "invalid family: expected 7 (HLL), got 8");
+    let error = Error::invalid_preamble_longs(alloc, &[1, 2], 3);
+    let message = "invalid preamble longs: expected one of [1, 2], got 3";
+    assert_told(&rt, error, message);
+    let error = Error::invalid_preamble_ints(alloc, 2, 9);
+    assert_told(&rt, error, "invalid preamble ints: expected 2, got 9");
 }

@@ -6,7 +6,6 @@ use super::{
 use crate::examples::TEST_BUFFER;
 use sketch_base::error::{Error, ErrorKind};
 use std::alloc::{AllocError, Global};
-use std::test::Fail;
 
 const FOX: &str = "The quick brown fox jumps over the lazy dog";
 
@@ -238,29 +237,6 @@ fn debug_texts_are_the_name_alone(rt: HostRuntime) -> Result<(), AllocError> {
 }
 
 #[test]
-fn seed_hashes_and_their_refusals(rt: HostRuntime) -> Result<(), Fail> {
-    let alloc = rt.alloc();
-    let kind = ErrorKind::InvalidArgument;
-    assert_eq!(rt; compute_seed_hash(alloc, 9001, kind).ok(), Some(37836));
-    let zero = compute_seed_hash(alloc, 50541, kind)
-        .err()
-        .ok_or("computed")?;
-    assert_eq!(rt;
-        zero.to_string(alloc)?.as_str(),
-        "InvalidArgument => seed 50541 produces a seed hash of zero; choose a different seed"
-    );
-    assert!(rt; check_seed_hash(alloc, 37836, 37836, "theta", kind).is_ok());
-    let other = check_seed_hash(alloc, 37836, 1, "theta", ErrorKind::InvalidData)
-        .err()
-        .ok_or("accepted")?;
-    assert_eq!(rt;
-        other.to_string(alloc)?.as_str(),
-        "InvalidData => incompatible seed hash of theta: expected 37836, got 1"
-    );
-    Ok(())
-}
-
-#[test]
 fn seed_hashes_take_no_memory(rt: HostRuntime) {
     let alloc = rt.alloc();
     let kind = ErrorKind::InvalidArgument;
@@ -268,31 +244,46 @@ fn seed_hashes_take_no_memory(rt: HostRuntime) {
     assert!(rt; check_seed_hash(alloc, 37836, 37836, "theta", kind).is_ok());
 }
 
-// Whether the error has this kind and message, or tells of memory.
-fn is_refusal(error: Option<Error>, kind: ErrorKind, message: &str) -> bool {
-    error.is_some_and(|error| match error.kind() {
-        ErrorKind::OutOfMemory => error.message().is_empty(),
-        other => other == kind && error.message() == message,
-    })
+// The displayed line of a refusal.
+fn line_of(alloc: Global, refusal: Option<Error>) -> Option<String> {
+    refusal?.to_string(alloc).ok()
+}
+
+#[test]
+fn seed_hashes_and_their_refusals(rt: HostRuntime) {
+    let alloc = rt.alloc();
+    let zero = compute_seed_hash(alloc, 50541, ErrorKind::InvalidArgument).err();
+    assert_eq!(rt;
+        line_of(alloc, zero).as_deref(),
+        Some("InvalidArgument => seed 50541 produces a seed hash of zero; choose a different seed")
+    );
+    let other = check_seed_hash(alloc, 37836, 1, "theta", ErrorKind::InvalidData).err();
+    assert_eq!(rt;
+        line_of(alloc, other).as_deref(),
+        Some("InvalidData => incompatible seed hash of theta: expected 37836, got 1")
+    );
+}
+
+// Whether a refusal has this kind and message, or tells of memory.
+fn is_told_or_want(refusal: Option<Error>, kind: ErrorKind, message: &str) -> bool {
+    match refusal {
+        None => false,
+        Some(error) => match error.kind() {
+            ErrorKind::OutOfMemory => error.message().is_empty(),
+            other => other == kind && error.message() == message,
+        },
+    }
 }
 
 #[test]
 fn seed_refusals_without_memory(rt: HostRuntime) {
     let alloc = rt.alloc();
     let kind = ErrorKind::InvalidArgument;
-    assert!(rt;
-        is_refusal(
-            compute_seed_hash(alloc, 50541, kind).err(),
-            kind,
-            "seed 50541 produces a seed hash of zero; choose a different seed"
-        )
-    );
+    let zero = compute_seed_hash(alloc, 50541, kind).err();
+    let message = "seed 50541 produces a seed hash of zero; choose a different seed";
+    assert!(rt; is_told_or_want(zero, kind, message));
     let kind = ErrorKind::InvalidData;
-    assert!(rt;
-        is_refusal(
-            check_seed_hash(alloc, 37836, 1, "theta", kind).err(),
-            kind,
-            "incompatible seed hash of theta: expected 37836, got 1"
-        )
-    );
+    let other = check_seed_hash(alloc, 37836, 1, "theta", kind).err();
+    let message = "incompatible seed hash of theta: expected 37836, got 1";
+    assert!(rt; is_told_or_want(other, kind, message));
 }

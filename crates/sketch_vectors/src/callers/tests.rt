@@ -98,18 +98,6 @@ fn read_or_refusal(
 }
 
 #[test]
-fn a_sketch_cut_short_is_refused(rt: HostRuntime) {
-    let message = "insufficient data (hll sketch): ";
-    for count in 0..SKETCH.len() {
-        assert_eq!(rt;
-            read_or_refusal(rt.alloc(), &SKETCH[..count], 9001, message),
-            Err((ErrorKind::InvalidData, true)),
-            "of {count} bytes"
-        );
-    }
-}
-
-#[test]
 fn a_seed_with_no_hash_is_refused(rt: HostRuntime) {
     assert_eq!(rt;
         read_or_refusal(

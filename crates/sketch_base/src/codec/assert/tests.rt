@@ -1,6 +1,7 @@
 use super::*;
 use crate::codec::SketchSlice;
 use crate::codec::family::Family;
+use crate::error::tests::assert_told;
 use std::process::Abort;
 use std::test::Fail;
 
@@ -13,8 +14,9 @@ pub(crate) fn assert_line(rt: &impl Abort, alloc: Global, answer: Result<(), Err
     assert_eq!(rt; printed.ok().as_deref(), Some(line));
 }
 
-// The two ends of a range, how it prints, and the first and the last number that it accepts.
-const RANGES: [(Bound<u8>, Bound<u8>, &'static str, u8, u8); 14] = [
+// The two ends of a range, how it prints, and the first and the last number that it accepts: where
+// it accepts none, the first is above the last.
+const RANGES: [(Bound<u8>, Bound<u8>, &'static str, u8, u8); 20] = [
     (Unbounded, Unbounded, "", 0, 255),
     (Unbounded, Included(3), "at most 3", 0, 3),
     (Unbounded, Excluded(3), "less than 3", 0, 2),
@@ -28,22 +30,20 @@ const RANGES: [(Bound<u8>, Bound<u8>, &'static str, u8, u8); 14] = [
     (Excluded(1), Included(3), "(1, 3]", 2, 3),
     (Excluded(0), Excluded(3), "(0, 3)", 1, 2),
     (Included(3), Included(3), "[3, 3]", 3, 3),
-    (Included(255), Included(255), "[255, 255]", 255, 255),
+    (Excluded(1), Excluded(2), "(1, 2)", 1, 0),
+    (Excluded(3), Excluded(3), "(3, 3)", 1, 0),
+    (Excluded(5), Excluded(5), "(5, 5)", 1, 0),
+    (Included(3), Included(0), "[3, 0]", 1, 0),
+    (Included(5), Included(3), "[5, 3]", 1, 0),
+    (Included(255), Included(0), "[255, 0]", 1, 0),
+    (Excluded(255), Excluded(255), "(255, 255)", 1, 0),
 ];
 
-// The two ends of a range that accepts no number, and how it prints.
-const EMPTY_RANGES: [(Bound<u8>, Bound<u8>, &'static str); 7] = [
-    (Excluded(1), Excluded(2), "(1, 2)"),
-    (Excluded(3), Excluded(3), "(3, 3)"),
-    (Excluded(5), Excluded(5), "(5, 5)"),
-    (Included(3), Included(0), "[3, 0]"),
-    (Included(5), Included(3), "[5, 3]"),
-    (Included(255), Included(0), "[255, 0]"),
-    (Excluded(255), Excluded(255), "(255, 255)"),
-];
-
-// The line of the refusal of a number that is not in a range.
-fn line_outside(alloc: Global, range: &str, x: u8) -> Result<String, AllocError> {
+// The line of what a range answers: that of a number that it accepts is empty.
+fn line_of(alloc: Global, range: &str, x: u8, is_accepted: bool) -> Result<String, AllocError> {
+    if is_accepted {
+        return Ok(String::new(alloc));
+    }
     format!(in alloc; "InvalidData => invalid preamble longs: expected {range}, got {x}")
 }
 
@@ -52,24 +52,9 @@ fn accepts_the_numbers_of_a_range(rt: HostRuntime) -> Result<(), Fail> {
     let alloc = rt.alloc();
     for (start, end, range, first, last) in RANGES {
         for x in 0..=255 {
+            let line = line_of(alloc, range, x, first <= x && x <= last)?;
             let answer = ensure_preamble_longs_in_range(alloc, start, end, x);
-            if first <= x && x <= last {
-                assert!(rt; answer.is_ok(), "{x} in {range}");
-            } else {
-                assert_line(&rt, alloc, answer, &line_outside(alloc, range, x)?);
-            }
-        }
-    }
-    Ok(())
-}
-
-#[test]
-fn accepts_no_number_of_an_empty_range(rt: HostRuntime) -> Result<(), Fail> {
-    let alloc = rt.alloc();
-    for (start, end, range) in EMPTY_RANGES {
-        for x in 0..=255 {
-            let answer = ensure_preamble_longs_in_range(alloc, start, end, x);
-            assert_line(&rt, alloc, answer, &line_outside(alloc, range, x)?);
+            assert_line(&rt, alloc, answer, &line);
         }
     }
     Ok(())
@@ -121,51 +106,44 @@ fn tells_what_a_read_was_is_refusal_with(rt: HostRuntime) -> Result<(), Fail> {
     Ok(())
 }
 
-// Whether a refusal has this message, or tells of memory and has none.
-fn is_refusal_with(answer: &Result<(), Error>, message: &str) -> bool {
-    let Err(error) = answer else {
-        return false;
-    };
-    match error.kind() {
-        ErrorKind::OutOfMemory => error.message().is_empty(),
-        _ => error.message() == message,
-    }
+// Whether a check accepted its number.
+fn is_accepted(answer: Result<(), Error>) -> bool {
+    answer.is_ok()
 }
 
 #[test]
 fn accepting_checks_take_no_memory(rt: HostRuntime) {
     let alloc = rt.alloc();
     let accepted = [
-        ensure_serial_version_is(alloc, 3, 3).is_ok(),
-        ensure_preamble_longs_in(alloc, &[1, 2], 2).is_ok(),
-        ensure_preamble_longs_in_range(alloc, Unbounded, Unbounded, 255).is_ok(),
-        Family::HLL.validate_id(alloc, 7).is_ok(),
+        is_accepted(ensure_serial_version_is(alloc, 3, 3)),
+        is_accepted(ensure_preamble_longs_in(alloc, &[1, 2], 2)),
+        is_accepted(ensure_preamble_longs_in_range(alloc, Unbounded, Unbounded, 255)),
+        is_accepted(Family::HLL.validate_id(alloc, 7)),
     ];
     assert_eq!(rt; accepted, [true; 4]);
 }
 
-// Each refusal has its text, or tells of memory.
+// Asserts that a check refuses its number with this message, or tells of memory.
+fn assert_refused(rt: &impl Abort, answer: Result<(), Error>, message: &str) {
+    match answer {
+        Ok(()) => assert!(rt; false, "not {message}"),
+        Err(error) => assert_told(rt, error, message),
+    }
+}
+
 #[test]
 fn refusing_checks_without_memory(rt: HostRuntime) {
     let alloc = rt.alloc();
-    for (answer, message) in [
-        (
-            ensure_serial_version_is(alloc, 3, 2),
-            "unsupported serial version: expected 3, got 2",
-        ),
-        (
-            ensure_preamble_longs_in(alloc, &[], 1),
-            "invalid preamble longs: expected one of [], got 1",
-        ),
-        (
-            ensure_preamble_longs_in_range(alloc, Included(5), Included(3), 4),
-            "invalid preamble longs: expected [5, 3], got 4",
-        ),
-        (
-            Family::HLL.validate_id(alloc, 8),
-            "invalid family: expected 7 (HLL), got 8",
-        ),
-    ] {
-        assert!(rt; is_refusal_with(&answer, message), "not {message}");
-    }
+    let answer = ensure_serial_version_is(alloc, 3, 2);
+    let message = "unsupported serial version: expected 3, got 2";
+    assert_refused(&rt, answer, message);
+    let answer = ensure_preamble_longs_in(alloc, &[], 1);
+    let message = "invalid preamble longs: expected one of [], got 1";
+    assert_refused(&rt, answer, message);
+    let answer = ensure_preamble_longs_in_range(alloc, Included(5), Included(3), 4);
+    let message = "invalid preamble longs: expected [5, 3], got 4";
+    assert_refused(&rt, answer, message);
+    let answer = Family::HLL.validate_id(alloc, 8);
+    let message = "invalid family: expected 7 (HLL), got 8";
+    assert_refused(&rt, answer, message);
 }

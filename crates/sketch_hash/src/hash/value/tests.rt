@@ -56,15 +56,6 @@ fn hashes_of_values_take_no_memory(rt: HostRuntime) {
 }
 
 #[test]
-fn bytes_are_cloned_with_their_value(rt: HostRuntime) -> Result<(), AllocError> {
-    let value = raw_bytes::from_vec(Vec::from_slice(rt.alloc(), &[1, 2, 3])?);
-    let clone = clone_of(&value)?;
-    assert!(rt; clone == value);
-    assert_eq!(rt; clone.into_inner().as_slice(), [1, 2, 3].as_slice());
-    Ok(())
-}
-
-#[test]
 fn clones_without_memory(rt: HostRuntime) {
     let Ok(bytes) = Vec::from_slice(rt.alloc(), &[1, 2, 3]) else {
         return;

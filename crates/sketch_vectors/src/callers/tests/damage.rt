@@ -2,7 +2,7 @@
 
 use super::{SKETCH, read};
 use crate::callers::sketch::write_sketch;
-use datasketches::codec::Item;
+use datasketches::codec::{Item, Kind};
 use datasketches::error::{Error, ErrorKind};
 use std::alloc::{AllocError, Global};
 use std::test::Fail;
@@ -26,26 +26,33 @@ const ITEMS: [Item; 14] = [
     Item::I64Be(-5),
 ];
 
+// Whether bytes that are cut short are refused for it.
+fn is_told_short(answer: Result<Item, Error>) -> bool {
+    match answer {
+        Ok(_) => false,
+        Err(error) => {
+            error.kind() == ErrorKind::InvalidData
+                && error
+                    .message()
+                    .starts_with("insufficient data (hll sketch): ")
+        }
+    }
+}
+
 #[test]
 fn every_beginning_of_a_sketch_is_refused(rt: HostRuntime) -> Result<(), Fail> {
     let alloc = rt.alloc();
     for item in ITEMS {
         let sketch = write_sketch(alloc, SEED, &[item])?;
         for count in 0..sketch.len() {
-            let refused = read(alloc, &sketch[..count], SEED, item.kind()).is_err_and(|error| {
-                error.kind() == ErrorKind::InvalidData
-                    && error
-                        .message()
-                        .starts_with("insufficient data (hll sketch): ")
-            });
-            assert!(rt; refused, "{count} bytes of {item:?}");
+            let answer = read(alloc, &sketch[..count], SEED, item.kind());
+            assert!(rt; is_told_short(answer), "{count} bytes of {item:?}");
         }
     }
     Ok(())
 }
 
-// The message that refuses a sketch for what stands at this place, which is none where the place
-// is the item's.
+// The message that refuses a sketch for what stands at this place of its preamble.
 fn message_at(alloc: Global, place: usize, sketch: &[u8]) -> Result<String, AllocError> {
     let [longs, version, family, low, high, ..] = sketch else {
         return Ok(String::new(alloc));
@@ -54,11 +61,22 @@ fn message_at(alloc: Global, place: usize, sketch: &[u8]) -> Result<String, Allo
         0 => format!(in alloc; "invalid preamble longs: expected one of [1], got {longs}"),
         1 => format!(in alloc; "unsupported serial version: expected 3, got {version}"),
         2 => format!(in alloc; "invalid family: expected 7 (HLL), got {family}"),
-        3 | 4 => {
+        _ => {
             let hash = u16::from_le_bytes([*low, *high]);
             format!(in alloc; "incompatible seed hash of hll: expected 37836, got {hash}")
         }
-        _ => Ok(String::new(alloc)),
+    }
+}
+
+// Whether a sketch that was changed at this place is refused with the message of the place, or is
+// the sketch of the item that is read from it.
+fn is_told_or_read(alloc: Global, sketch: &[u8], place: usize, kind: Kind) -> Result<bool, Error> {
+    match read(alloc, sketch, SEED, kind) {
+        Ok(item) => Ok(place >= 5 && write_sketch(alloc, SEED, &[item])?.as_slice() == sketch),
+        Err(error) => {
+            let message = message_at(alloc, place, sketch)?;
+            Ok(place < 5 && error.message() == message.as_str())
+        }
     }
 }
 
@@ -69,30 +87,27 @@ fn a_changed_byte_is_refused_or_read(rt: HostRuntime) -> Result<(), Fail> {
         let sketch = write_sketch(alloc, SEED, &[item])?;
         for place in 0..sketch.len() {
             for change in 1..=255 {
-                let mut bytes = sketch.clone()?;
-                if let Some(byte) = bytes.get_mut(place) {
+                let mut changed = sketch.clone()?;
+                if let Some(byte) = changed.get_mut(place) {
                     *byte ^= change;
                 }
-                let message = message_at(alloc, place, &bytes)?;
-                match read(alloc, &bytes, SEED, item.kind()) {
-                    Ok(changed) => {
-                        assert!(rt; message.is_empty() && changed != item);
-                        assert!(rt; write_sketch(alloc, SEED, &[changed])? == bytes);
-                    }
-                    Err(error) => assert_eq!(rt; error.message(), message.as_str()),
-                }
+                let is_right = is_told_or_read(alloc, &changed, place, item.kind())?;
+                assert!(rt; is_right, "{change} at {place} of {item:?}");
             }
         }
     }
     Ok(())
 }
 
-// Whether the error has this message, or tells of memory.
-fn is_refusal(error: Option<Error>, message: &str) -> bool {
-    error.is_some_and(|error| match error.kind() {
-        ErrorKind::OutOfMemory => error.message().is_empty(),
-        _ => error.message() == message,
-    })
+// Whether bytes are refused with this message, or for want of memory.
+fn is_told_or_want(answer: Result<Item, Error>, message: &str) -> bool {
+    match answer {
+        Ok(_) => false,
+        Err(error) => match error.kind() {
+            ErrorKind::OutOfMemory => error.message().is_empty(),
+            _ => error.message() == message,
+        },
+    }
 }
 
 #[test]
@@ -105,10 +120,10 @@ fn sketches_without_memory(rt: HostRuntime) {
     }
     let mut other = SKETCH;
     other[4] = 0;
-    let refused = read(alloc, &other, SEED, item.kind()).err();
+    let answer = read(alloc, &other, SEED, item.kind());
     let message = "incompatible seed hash of hll: expected 37836, got 204";
-    assert!(rt; is_refusal(refused, message));
-    let refused = read(alloc, &SKETCH, 50541, item.kind()).err();
+    assert!(rt; is_told_or_want(answer, message));
+    let answer = read(alloc, &SKETCH, 50541, item.kind());
     let message = "seed 50541 produces a seed hash of zero; choose a different seed";
-    assert!(rt; is_refusal(refused, message));
+    assert!(rt; is_told_or_want(answer, message));
 }
