@@ -6,7 +6,7 @@ use sketch_hash::hash::{MurmurHash3X64128, MurmurState, XxHash64, XxHash64State}
 const FOX: &[u8] = b"The quick brown fox jumps over the lazy dog";
 
 #[test]
-fn one_call_hashes_a_sentence(rt: HostRuntime) {
+fn one_call_takes_no_memory(rt: HostRuntime) {
     let pair = sketch_murmur3_128(FOX, 0);
     assert_eq!(rt;
         (pair.h1, pair.h2),
@@ -16,7 +16,7 @@ fn one_call_hashes_a_sentence(rt: HostRuntime) {
 }
 
 #[test]
-fn a_stream_in_pieces_hashes_the_same(rt: HostRuntime) {
+fn pieces_take_no_memory(rt: HostRuntime) {
     let mut murmur: MurmurState = MurmurHash3X64128::with_seed(7).state();
     let mut xxh64: XxHash64State = XxHash64::with_seed(7).state();
     for cut in 0..FOX.len() {
