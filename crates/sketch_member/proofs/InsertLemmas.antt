@@ -1,13 +1,13 @@
 -- The law of inserts.
 use Rattle.std.proofs.Common.{◌≡◌, ◌↔◌, ℕ, ◌+◌, ◌*◌, ◌/◌, ◌%◌, ◌^◌, ◌<◌, List, [], ◌∷◌, ◌++◌, length, get_or, sym, ap, subst, ◌∙◌, arith, inl, inr}
-use Rattle.std.specs.Prelude.{Contains}
+use Rattle.std.specs.Prelude.{◌-◌, Contains, Some, min}
 use Rattle.std.proofs.lemmas.List.{ext_get_or}
 use Rattle.std.proofs.lemmas.List.Elements.{Contains-append_left, Contains-push, Contains-push_cases}
 use Rattle.std.proofs.lemmas.Nat.Bits.{bit_at-lt, same_from_bits_below}
 use Rattle.std.proofs.lemmas.Bool.{cases_eq}
 use Rattle.sketch_member.proofs.LawLemmas.{same_table}
-use Rattle.sketch_member.specs.Laws.{InsertLaw, StandsFor}
-use Rattle.sketch_member.specs.Table.{Table, IsTable, IsSet, IsIndex, IsMember, Inserts, index}
+use Rattle.sketch_member.specs.Laws.{InsertLaw, StandsFor, counted}
+use Rattle.sketch_member.specs.Table.{Table, IsTable, IsSet, IsIndex, IsMember, Inserts, index, one_more}
 
 none : (table : Table) → ((i : ℕ) → IsSet table.bits i → ⊥) → StandsFor table []
 none table empty i =
@@ -23,9 +23,9 @@ same_index : (table other : Table) (fed : List ℕ) (i : ℕ) → table.seed ≡
 same_index table other fed i seed log2_bits hashes is =
     (is.0, rw (← hashes) is.1, rw (← seed, ← log2_bits) is.2)
 
-one_more : (before after : Table) (fed : List ℕ) (values : List (List ℕ)) →
+one_more_value : (before after : Table) (fed : List ℕ) (values : List (List ℕ)) →
     Inserts fed before after → StandsFor before values → StandsFor after (values ++ fed ∷ [])
-one_more before after fed values inserts stands i = (
+one_more_value before after fed values inserts stands i = (
   (λ is. elim ((inserts.bits i).0 is) [
     | inl was ↦
         let of = (stands i).0 was in (
@@ -77,18 +77,26 @@ same_bits bits others count bytes other_bytes same =
     let here = rw (at, place) at (same (k * 8 + j)) in
     same_digit _ _ (bit_at-lt (get_or bits k 0) j) (bit_at-lt (get_or others k 0) j) here.0 here.1))
 
+-- one insert more is counted
+one_counted : (before after : Table) (fed : List ℕ) (n : ℕ) →
+    Inserts fed before after → before.count ≡ counted n → after.count ≡ counted (n + 1)
+one_counted before after fed n inserts count =
+    inserts.count ∙ ap one_more count ∙ ap (λ k. Some k) (least n)
+  where
+    least : (n : ℕ) → min (min n (2 ^ 64 - 1) + 1) (2 ^ 64 - 1) ≡ min (n + 1) (2 ^ 64 - 1)
+    least n = omega arith
+
 once : (table other : Table) (values others : List (List ℕ)) →
     IsTable table → IsTable other → table.seed ≡ other.seed →
     table.log2_bits ≡ other.log2_bits → table.hashes ≡ other.hashes →
     StandsFor table values → StandsFor other others →
-    ((fed : List ℕ) → Contains values fed ↔ Contains others fed) → table ≡ other
+    ((fed : List ℕ) → Contains values fed ↔ Contains others fed) →
+    (table.bits ≡ other.bits) × (table.count ≡ other.count → table ≡ other)
 once table other values others is is_other seed log2_bits hashes stands stands_other same =
     let power : 2 ^ table.log2_bits ≡ 2 ^ other.log2_bits = ap (λ n. 2 ^ n) log2_bits in
-    let count : length table.bits ≡ length other.bits =
-    omega (arith, power, is.count, is_other.count) in
-    same_table table.seed table.log2_bits table.hashes other.seed other.log2_bits other.hashes
-    table.bits other.bits seed log2_bits hashes
-    (same_bits table.bits other.bits count is.bytes is_other.bytes (λ i. (
+    let length : length table.bits ≡ length other.bits =
+    omega (arith, power, is.bits, is_other.bits) in
+    let bits = same_bits table.bits other.bits length is.bytes is_other.bytes (λ i. (
       (λ set.
           let of = (stands i).0 set in
           (stands_other i).1 (
@@ -103,7 +111,19 @@ once table other values others is is_other seed log2_bits hashes stands stands_o
             (same of.0).1 of.1,
             same_index other table of.0 i (sym seed) (sym log2_bits) (sym hashes) of.2,
           )),
-    )))
+    )) in (
+      bits,
+      (λ count.
+          same_table table.seed table.log2_bits table.hashes other.seed other.log2_bits
+          other.hashes table.count other.count table.bits other.bits seed log2_bits hashes count
+          bits),
+    )
 
 pub insert_law : InsertLaw
-insert_law = record { none = none; one_more = one_more; found = found; once = once }
+insert_law = record {
+  none = none;
+  one_more = one_more_value;
+  one_counted = one_counted;
+  found = found;
+  once = once;
+}

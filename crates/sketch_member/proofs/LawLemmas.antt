@@ -1,47 +1,150 @@
 -- The law of tables and their bytes.
-use Rattle.std.proofs.Common.{◌≡◌, ℕ, ◌%◌, ◌^◌, ◌<◌, List, length, get_or, take, drop, refl, sym, ap, ◌∙◌, arith}
+use Rattle.std.proofs.Common.{◌≡◌, ℕ, ◌%◌, ◌^◌, ◌<◌, List, length, get_or, take, drop, refl, sym, ap, subst, ◌∙◌, arith, inl, inr}
+use Rattle.std.specs.Prelude.{Option, None, Some, IfSome}
 use Rattle.datasketches.specs.Bytes.{le, eight}
 use Rattle.datasketches.specs.Words.{IsWord}
 use Rattle.datasketches.proofs.BytesLemmas.{le-low_bytes}
 use Rattle.sketch_member.proofs.FaultLemmas.{all_pass}
-use Rattle.sketch_member.specs.Faults.{AllPass, steps}
-use Rattle.sketch_member.specs.Form.{form}
+use Rattle.sketch_member.specs.Faults.{AllPass, IsFlag, count_number, header, steps}
+use Rattle.sketch_member.specs.Form.{IsForm, flag_of, form1, form2, number_of}
 use Rattle.sketch_member.specs.Laws.{FormLaw}
 use Rattle.sketch_member.specs.Table.{Table, IsTable, byte_count}
 
--- the bytes of a table pass
-form_passes : (table : Table) → IsTable table → AllPass (length (form table)) (steps (form table))
-form_passes table is =
-    let full : byte_count table.log2_bits ≡ length table.bits = omega (arith, is.count) in
-    all_pass (form table)
-    ((omega arith, (0, omega arith, refl)), ((omega arith, refl), ((omega arith, refl), tt)))
-    ((omega arith, is.log2_bits), ((omega arith, is.hashes), tt))
-    ((omega arith, (refl, refl, refl)), ((omega arith, tt), tt))
-    ((omega arith, omega (arith, full)), ((omega arith, omega (arith, full)), tt))
-
 -- a word is the number of its eight bytes
-seed_back : (seed : ℕ) → IsWord seed → le (eight seed) ≡ seed
-seed_back seed word = le-low_bytes 8 seed ∙ below seed word
+word_back : (n : ℕ) → IsWord n → le (eight n) ≡ n
+word_back n word = le-low_bytes 8 n ∙ below n word
   where
     below : (n : ℕ) → n < 2 ^ 64 → n % 2 ^ 64 ≡ n
     below n h = omega arith
 
-pub same_table : (s l h s' l' h' : ℕ) (b b' : List ℕ) → s ≡ s' → l ≡ l' → h ≡ h' → b ≡ b' →
-    let table : Table = record { seed = s; log2_bits = l; hashes = h; bits = b } in
-    let other : Table = record { seed = s'; log2_bits = l'; hashes = h'; bits = b' } in
-    table ≡ other
-same_table s l h s' l' h' b b' e f g k = rw (e, f, g, k) refl
+number_word : (count : Option ℕ) → IfSome count IsWord → IsWord (number_of count)
+number_word None word = omega arith
+number_word (Some n) word = word
 
-form_once : (table other : Table) → IsTable table → IsTable other → form table ≡ form other →
+-- the flag of a count, and an unknown count's number
+flag_is : (count : Option ℕ) → IsFlag 3 (flag_of count)
+flag_is None = inl refl
+flag_is (Some n) = inr (refl, refl)
+
+unknown_zero : (count : Option ℕ) → flag_of count ≡ 0 → number_of count ≡ 0
+unknown_zero None e = refl
+unknown_zero (Some n) e = absurd (different e)
+  where
+    different : ◌≡◌ {A = ℕ} 1 0 → ⊥
+    different h = omega (arith, h)
+
+-- the bytes of a table pass
+passes1 : (table : Table) → IsTable table → AllPass (length (form1 table)) (steps (form1 table))
+passes1 table is =
+    let full : byte_count table.log2_bits ≡ length table.bits = omega (arith, is.bits) in
+    all_pass (form1 table)
+    ((omega arith, (0, omega arith, refl)), ((omega arith, refl), ((omega arith, refl), tt)))
+    ((omega arith, is.log2_bits), ((omega arith, is.hashes), tt))
+    ((omega arith, (inl refl, refl, refl)), ((omega arith, tt), ((omega arith, (λ _. refl)), tt)))
+    ((omega arith, omega (arith, full)), ((omega arith, omega (arith, full)), tt))
+
+passes2 : (table : Table) → IsTable table → AllPass (length (form2 table)) (steps (form2 table))
+passes2 table is =
+    let full : byte_count table.log2_bits ≡ length table.bits = omega (arith, is.bits) in
+    let back = word_back (number_of table.count) (number_word table.count is.count) in
+    all_pass (form2 table)
+    ((omega arith, (1, omega arith, refl)), ((omega arith, refl), ((omega arith, refl), tt)))
+    ((omega arith, is.log2_bits), ((omega arith, is.hashes), tt)) (
+      (omega arith, (flag_is table.count, refl, refl)),
+      (
+        (omega arith, tt),
+        ((omega arith, (λ zero. back ∙ unknown_zero table.count zero)), tt),
+      ),
+    )
+    ((omega arith, omega (arith, full)), ((omega arith, omega (arith, full)), tt))
+
+passes : (table : Table) (bytes : List ℕ) → IsTable table → IsForm table bytes →
+    AllPass (length bytes) (steps bytes)
+passes table bytes is form = elim form [
+  | inl first ↦ subst (λ b. AllPass (length b) (steps b)) (sym first.1) (passes1 table is)
+  | inr second ↦ subst (λ b. AllPass (length b) (steps b)) (sym second) (passes2 table is)
+]
+
+pub same_table : (s l h s' l' h' : ℕ) (c c' : Option ℕ) (b b' : List ℕ) →
+    s ≡ s' → l ≡ l' → h ≡ h' → c ≡ c' → b ≡ b' →
+    let table : Table =
+    record { seed = s; log2_bits = l; hashes = h; count = c; bits = b } in
+    let other : Table =
+    record { seed = s'; log2_bits = l'; hashes = h'; count = c'; bits = b' } in
     table ≡ other
-form_once table other is others e =
+same_table s l h s' l' h' c c' b b' e f g k m = rw (e, f, g, k, m) refl
+
+-- a table by its bytes
+record Places (table : Table) (bytes : List ℕ) : Type 0 where
+  seed : table.seed ≡ le (take 8 (drop 8 bytes))
+  log2_bits : table.log2_bits ≡ get_or bytes 3 0
+  hashes : table.hashes ≡ get_or bytes 4 0
+  flag : flag_of table.count ≡ get_or bytes 5 0
+  number : number_of table.count ≡ count_number bytes
+  bits : table.bits ≡ drop (header bytes) bytes
+
+places1 : (table : Table) → IsTable table → table.count ≡ None → Places table (form1 table)
+places1 table is unknown = record {
+  seed = sym (word_back table.seed is.seed);
+  log2_bits = refl;
+  hashes = refl;
+  flag = ap flag_of unknown;
+  number = ap number_of unknown;
+  bits = refl;
+}
+
+places2 : (table : Table) → IsTable table → Places table (form2 table)
+places2 table is = record {
+  seed = sym (word_back table.seed is.seed);
+  log2_bits = refl;
+  hashes = refl;
+  flag = refl;
+  number = sym (word_back (number_of table.count) (number_word table.count is.count));
+  bits = refl;
+}
+
+places : (table : Table) (bytes : List ℕ) → IsTable table → IsForm table bytes → Places table bytes
+places table bytes is form = elim form [
+  | inl first ↦ subst (Places table) (sym first.1) (places1 table is first.0)
+  | inr second ↦ subst (Places table) (sym second) (places2 table is)
+]
+
+-- a count is known by its flag and its number
+same_count : (a b : Option ℕ) → flag_of a ≡ flag_of b → number_of a ≡ number_of b → a ≡ b
+same_count None None e f = refl
+same_count None (Some n) e f = absurd (different e)
+  where
+    different : ◌≡◌ {A = ℕ} 0 1 → ⊥
+    different h = omega (arith, h)
+same_count (Some m) None e f = absurd (different e)
+  where
+    different : ◌≡◌ {A = ℕ} 1 0 → ⊥
+    different h = omega (arith, h)
+same_count (Some m) (Some n) e f = ap (λ k. Some k) f
+
+once : (table other : Table) (bytes : List ℕ) → IsTable table → IsTable other →
+    IsForm table bytes → IsForm other bytes → table ≡ other
+once table other bytes is others form other_form =
+    let p = places table bytes is form in
+    let q = places other bytes others other_form in
     same_table table.seed table.log2_bits table.hashes other.seed other.log2_bits other.hashes
-    table.bits other.bits
-    (sym (seed_back table.seed is.seed) ∙ ap (λ bytes. le (take 8 (drop 8 bytes))) e
-    ∙ seed_back other.seed others.seed)
-    (ap (λ bytes. get_or bytes 3 0) e)
-    (ap (λ bytes. get_or bytes 4 0) e)
-    (ap (λ bytes. drop 16 bytes) e)
+    table.count other.count table.bits other.bits
+    (p.seed ∙ sym q.seed) (p.log2_bits ∙ sym q.log2_bits) (p.hashes ∙ sym q.hashes)
+    (same_count table.count other.count (p.flag ∙ sym q.flag) (p.number ∙ sym q.number))
+    (p.bits ∙ sym q.bits)
+
+version1 : (table read : Table) → IsTable table → IsTable read → IsForm read (form1 table) →
+    read ≡ record table { count = None }
+version1 table read is reads form =
+    let kept : IsTable (record table { count = None }) = record {
+      seed = is.seed;
+      log2_bits = is.log2_bits;
+      hashes = is.hashes;
+      count = tt;
+      bits = is.bits;
+      bytes = is.bytes;
+    } in
+    once read (record table { count = None }) (form1 table) reads kept form (inl (refl, refl))
 
 pub form_law : FormLaw
-form_law = record { passes = form_passes; once = form_once }
+form_law = record { passes = passes; once = once; version1 = version1 }

@@ -1,6 +1,7 @@
 -- What is wrong with bytes that are to be read as a table: the first step that fails.
-use Rattle.std.specs.Prelude.{◌≡◌, ◌⊎◌, ℕ, ◌-◌, ◌<◌, ◌≤◌, List, [], ◌∷◌, ◌++◌, codes, length, slice_index, Contains}
+use Rattle.std.specs.Prelude.{◌≡◌, ◌⊎◌, ℕ, ◌-◌, ◌*◌, ◌<◌, ◌≤◌, List, [], ◌∷◌, ◌++◌, codes, length, take, drop, slice_index, Contains}
 use Rattle.std.specs.Fmt.{decimal}
+use Rattle.datasketches.specs.Bytes.{le}
 use Rattle.datasketches.specs.declared.error.ErrorKind.TheVariants.{InvalidData}
 use Rattle.datasketches.specs.ErrorValue.{ErrorValue}
 use Rattle.datasketches.specs.Refusals.{Refuses, insufficient_data_of_text, invalid_family_text, invalid_preamble_longs_text, unsupported_serial_version_text}
@@ -41,18 +42,27 @@ FirstFault count (step ∷ steps) error =
 
 -- ---- the steps of the reading, in order
 
--- that the bytes are a table of version 1
+-- the header's length, of the preamble longs in byte 0
+abbrev pub header : List ℕ → ℕ
+header bytes = 8 * slice_index bytes 0
+
+-- the number that stands for the count: the header's bytes behind the seed, which are none in
+-- version 1
+abbrev pub count_number : List ℕ → ℕ
+count_number bytes = le (take (header bytes - 16) (drop 16 bytes))
+
+-- that the bytes are a table, of version 1 or 2
 abbrev pub kind_steps : List ℕ → List Step
 kind_steps bytes =
     record {
       needs = 1;
-      Holds = Contains (2 ∷ []) (slice_index bytes 0);
-      message = invalid_preamble_longs_text (2 ∷ []) (slice_index bytes 0);
+      Holds = Contains (2 ∷ 3 ∷ []) (slice_index bytes 0);
+      message = invalid_preamble_longs_text (2 ∷ 3 ∷ []) (slice_index bytes 0);
     }
     ∷ record {
       needs = 2;
-      Holds = slice_index bytes 1 ≡ 1;
-      message = unsupported_serial_version_text 1 (slice_index bytes 1);
+      Holds = slice_index bytes 1 ≡ slice_index bytes 0 - 1;
+      message = unsupported_serial_version_text (slice_index bytes 0 - 1) (slice_index bytes 1);
     }
     ∷ record {
       needs = 3;
@@ -76,16 +86,33 @@ size_steps bytes =
     }
     ∷ []
 
--- that the reserved bytes are zero, and the seed is there
-abbrev pub seed_steps : List ℕ → List Step
-seed_steps bytes =
-    record {
-      needs = 8;
-      Holds = (slice_index bytes 5 ≡ 0) × (slice_index bytes 6 ≡ 0) × (slice_index bytes 7 ≡ 0);
-      message = codes "reserved bytes are not zero";
-    }
-    ∷ record { needs = 16; Holds = Unit {0}; message = [] }
-    ∷ []
+-- the flag that tells whether the count is known: version 1 has 0 alone
+abbrev pub IsFlag : ℕ → ℕ → Type 0
+IsFlag longs flag = (flag ≡ 0) ⊎ ((longs ≡ 3) × (flag ≡ 1))
+
+-- that the flag is one, and the reserved bytes behind it are zero
+abbrev pub flag_step : List ℕ → Step
+flag_step bytes = record {
+  needs = 8;
+  Holds = IsFlag (slice_index bytes 0) (slice_index bytes 5)
+      × (slice_index bytes 6 ≡ 0) × (slice_index bytes 7 ≡ 0);
+  message = codes "reserved bytes are not zero";
+}
+
+-- that the seed is there
+abbrev pub seed_step : Step
+seed_step = record { needs = 16; Holds = Unit {0}; message = [] }
+
+-- that the header is there, and a count that is not known is zero
+abbrev pub count_step : List ℕ → Step
+count_step bytes = record {
+  needs = header bytes;
+  Holds = slice_index bytes 5 ≡ 0 → count_number bytes ≡ 0;
+  message = codes "unknown count is not zero";
+}
+
+abbrev pub number_steps : List ℕ → List Step
+number_steps bytes = flag_step bytes ∷ seed_step ∷ count_step bytes ∷ []
 
 abbrev pub missing_bits_text : ℕ → ℕ → List ℕ
 missing_bits_text need have = insufficient_data_of_text (codes "member bits")
@@ -94,21 +121,21 @@ missing_bits_text need have = insufficient_data_of_text (codes "member bits")
 abbrev pub trailing_bytes_text : ℕ → List ℕ
 trailing_bytes_text count = codes "trailing bytes: " ++ decimal count
 
--- that as many bytes are left as the bits need, and no more
-abbrev pub bits_steps : List ℕ → ℕ → List Step
-bits_steps bytes need =
+-- that as many bytes are left behind a header as the bits need, and no more
+abbrev pub bits_steps : List ℕ → ℕ → ℕ → List Step
+bits_steps bytes header need =
     record {
-      needs = 16;
-      Holds = need ≤ length bytes - 16;
-      message = missing_bits_text need (length bytes - 16);
+      needs = header;
+      Holds = need ≤ length bytes - header;
+      message = missing_bits_text need (length bytes - header);
     }
     ∷ record {
-      needs = 16;
-      Holds = length bytes - 16 ≤ need;
-      message = trailing_bytes_text (length bytes - 16 - need);
+      needs = header;
+      Holds = length bytes - header ≤ need;
+      message = trailing_bytes_text (length bytes - header - need);
     }
     ∷ []
 
 abbrev pub steps : List ℕ → List Step
-steps bytes = kind_steps bytes ++ (size_steps bytes ++ (seed_steps bytes
-    ++ bits_steps bytes (byte_count (slice_index bytes 3))))
+steps bytes = kind_steps bytes ++ (size_steps bytes ++ (number_steps bytes
+    ++ bits_steps bytes (header bytes) (byte_count (slice_index bytes 3))))

@@ -1,7 +1,9 @@
 //! What follows for users of tables and their bytes.
 
-ghost use Rattle.std.specs.Prelude.{◌≡◌, MatchResult};
+ghost use Rattle.std.specs.Prelude.{◌≡◌, ◌↔◌, ℕ, List, None, IfOk, MatchResult};
 ghost use Rattle.datasketches.specs.ErrorValue.{memory_error};
+ghost use Rattle.sketch_member.specs.Form.{IsForm, form1};
+ghost use Rattle.sketch_member.specs.Table.{IsMember, IsTable, Table};
 ghost use Rattle.sketch_member.specs.Laws.{FormLaw, InsertLaw};
 
 use crate::MemberTable;
@@ -19,7 +21,8 @@ pub fn insert_law()
     ensures { InsertLaw }
 {}
 
-/// The table that is read from the bytes of a table: it is the same, so it contains the same.
+/// The table that is read from the bytes of a table: it is the same, count and all, so it contains
+/// the same.
 ///
 /// # Errors
 ///
@@ -30,4 +33,21 @@ pub fn read_back(alloc: Global, table: &MemberTable) -> Result<MemberTable, Erro
     form_law();
     let bytes = table.to_bytes(alloc)?;
     MemberTable::from_bytes(alloc, &bytes)
+}
+
+/// The table that is read from bytes, written and read again: it is the one that the bytes are. Of
+/// bytes of version 1 it contains what their table does, and it has no count.
+///
+/// # Errors
+///
+/// As those of [`MemberTable::from_bytes`], and where memory runs out.
+pub fn read_again(alloc: Global, bytes: &[u8]) -> Result<MemberTable, Error>
+    ensures same { IfOk result (λ again. IsTable again × IsForm again bytes.now) }
+    ensures version1 { (table : Table) → IsTable table → bytes.now ≡ form1 table →
+        IfOk result (λ again. (again.count ≡ None)
+        × ((fed : List ℕ) → IsMember again fed ↔ IsMember table fed)) }
+{
+    form_law();
+    let table = MemberTable::from_bytes(alloc, bytes)?;
+    read_back(alloc, &table)
 }

@@ -4,7 +4,7 @@ ghost use Rattle.std.specs.Prelude.{◌≡◌, ◌⊎◌, ℕ, ◌*◌, ◌<◌,
 ghost use Rattle.datasketches.specs.ErrorValue.{memory_error};
 ghost use Rattle.datasketches.specs.Refusals.{Refuses};
 ghost use Rattle.sketch_member.specs.Limits.{IsLog2Bits, IsHashes, invalid_log2_bits_text, invalid_hashes_text};
-ghost use Rattle.sketch_member.specs.Table.{Table, IsTable, byte_count, empty_table, index, Inserts, IsMember, IsSet};
+ghost use Rattle.sketch_member.specs.Table.{Table, IsTable, byte_count, empty_table, index, one_more, Inserts, IsMember, IsSet};
 
 use crate::bits::{is_set, set};
 use crate::limits::{ensure_hashes, ensure_log2_bits};
@@ -22,12 +22,14 @@ pub use self::form::MEMBER;
 ///
 /// Each value has `hashes` indexes: the XXH64 of what it feeds, under the table's seed and the
 /// seeds that follow it. A value is inserted by setting the bits at its indexes, and contained
-/// where all of them are set.
+/// where all of them are set. Inserts are counted.
 #[derive(Drop)]
 pub struct MemberTable {
     seed: u64,
     log2_bits: u8,
     hashes: u8,
+    // None where the table was read from bytes without a count
+    count: Option<u64>,
     bits: Vec<u8>,
 }
 
@@ -38,6 +40,7 @@ impl Model for MemberTable {
       seed = t.seed;
       log2_bits = t.log2_bits;
       hashes = t.hashes;
+      count = t.count;
       bits = t.bits.items;
     } };
 
@@ -45,12 +48,13 @@ impl Model for MemberTable {
       seed = t.seed;
       log2_bits = t.log2_bits;
       hashes = t.hashes;
+      count = t.count;
       bits = t.bits.items;
     }) };
 }
 
 impl MemberTable {
-    /// A table with no bit set.
+    /// A table with no bit set, of no inserts.
     ///
     /// # Errors
     ///
@@ -75,14 +79,17 @@ impl MemberTable {
             seed,
             log2_bits,
             hashes,
+            count: Some(0),
             bits,
         })
     }
 
-    /// Inserts a value.
+    /// Inserts a value. A known count grows by one and stays at the greatest `u64`; an unknown one
+    /// stays unknown.
     pub fn insert<T: Hash>(&mut self, value: &T)
         ensures { Inserts (T.fed value.now) self.old self.new }
     {
+        self.count = one_more(self.count);
         for j in 0..self.hashes {
             let i = self.index(value, j);
             set(&mut self.bits, i);
@@ -101,6 +108,13 @@ impl MemberTable {
         true
     }
 
+    /// How many inserts were counted; None where the table was read from bytes without a count.
+    pub fn count(&self) -> Option<u64>
+        ensures { result ≡ self.now.count }
+    {
+        self.count
+    }
+
     // The value's index of number `j`.
     fn index<T: Hash>(&self, value: &T, j: u8) -> usize
         ensures index { result ≡ index self.now.seed self.now.log2_bits (T.fed value.now) j }
@@ -109,6 +123,16 @@ impl MemberTable {
         let mut hasher = XxHash64::with_seed(self.seed.wrapping_add(u64::from(j)));
         value.hash(&mut hasher);
         (hasher.finish64() & ((1 << self.log2_bits) - 1)) as usize
+    }
+}
+
+// The count after one more insert.
+fn one_more(count: Option<u64>) -> Option<u64>
+    ensures { result ≡ one_more count }
+{
+    match count {
+        Some(n) => Some(n.saturating_add(1)),
+        None => None,
     }
 }
 

@@ -1,13 +1,28 @@
 use crate::MemberTable;
-use datasketches::error::{Error, ErrorKind};
+use crate::laws::{read_again, read_back};
+use datasketches::error::Error;
 use datasketches::hash::value::raw_bytes;
 use std::alloc::Global;
 use std::process::Abort;
 use std::test::Fail;
 
-// A table of 64 bits with one index a value, under seed 0, after the insert of no bytes.
-const ONE_VALUE: [u8; 24] = [
+mod without_memory;
+
+// A table of 64 bits with one index a value, under seed 0, after the insert of no bytes: in
+// version 1, and in version 2.
+const ONE_VALUE_1: [u8; 24] = [
     2, 1, 200, 6, 1, 0, 0, 0, 0, 0, 0, 0, 0, 0, 0, 0, 0, 0, 0, 2, 0, 0, 0, 0,
+];
+
+const ONE_VALUE_2: [u8; 32] = [
+    3, 2, 200, 6, 1, 1, 0, 0, 0, 0, 0, 0, 0, 0, 0, 0, 1, 0, 0, 0, 0, 0, 0, 0, 0, 0, 0, 2, 0, 0, 0,
+    0,
+];
+
+// The same in version 2, where the count is unknown.
+const UNKNOWN_COUNT: [u8; 32] = [
+    3, 2, 200, 6, 1, 0, 0, 0, 0, 0, 0, 0, 0, 0, 0, 0, 0, 0, 0, 0, 0, 0, 0, 0, 0, 0, 0, 2, 0, 0, 0,
+    0,
 ];
 
 // A seed, the two sizes, the values inserted, and the bits that are set then, as a model of the
@@ -51,7 +66,7 @@ fn inserted_values_set_their_bits(rt: HostRuntime) -> Result<(), Fail> {
         assert!(rt; !table.contains(&raw_bytes::from_str("zz")), "under {seed}");
         let bytes = table.to_bytes(rt.alloc())?;
         assert_eq!(rt;
-            bytes.as_slice().split_at(bytes.len().min(16)).1,
+            bytes.as_slice().split_at(bytes.len().min(24)).1,
             *bits,
             "under {seed}"
         );
@@ -64,14 +79,47 @@ fn a_table_is_written_and_read(rt: HostRuntime) -> Result<(), Fail> {
     let value = raw_bytes::from_str("");
     let mut table = MemberTable::new(rt.alloc(), 0, 6, 1)?;
     assert!(rt; !table.contains(&value));
+    assert_eq!(rt; table.count(), Some(0));
     table.insert(&value);
+    assert_eq!(rt; table.count(), Some(1));
     assert_eq!(rt;
         table.to_bytes(rt.alloc())?.as_slice(),
-        ONE_VALUE.as_slice()
+        ONE_VALUE_2.as_slice()
     );
-    let read = MemberTable::from_bytes(rt.alloc(), &ONE_VALUE)?;
+    let read = MemberTable::from_bytes(rt.alloc(), &ONE_VALUE_2)?;
     assert!(rt; read.contains(&value));
     assert!(rt; !read.contains(&raw_bytes::from_str("zz")));
+    assert_eq!(rt; read.count(), Some(1));
+    assert_eq!(rt; read_back(rt.alloc(), &read)?.count(), Some(1));
+    Ok(())
+}
+
+#[test]
+fn a_table_of_version_1_has_no_count(rt: HostRuntime) -> Result<(), Fail> {
+    let value = raw_bytes::from_str("");
+    let mut table = MemberTable::from_bytes(rt.alloc(), &ONE_VALUE_1)?;
+    assert!(rt; table.contains(&value));
+    assert_eq!(rt; table.count(), None);
+    assert_eq!(rt;
+        table.to_bytes(rt.alloc())?.as_slice(),
+        UNKNOWN_COUNT.as_slice()
+    );
+    table.insert(&raw_bytes::from_str("a"));
+    assert_eq!(rt; table.count(), None);
+    let again = read_again(rt.alloc(), &ONE_VALUE_1)?;
+    assert!(rt; again.contains(&value));
+    assert_eq!(rt; again.count(), None);
+    Ok(())
+}
+
+#[test]
+fn a_count_stays_at_the_greatest(rt: HostRuntime) -> Result<(), Fail> {
+    let mut bytes = ONE_VALUE_2;
+    bytes[16..24].copy_from_slice(&[0xff; 8]);
+    let mut table = MemberTable::from_bytes(rt.alloc(), &bytes)?;
+    assert_eq!(rt; table.count(), Some(u64::MAX));
+    table.insert(&raw_bytes::from_str("a"));
+    assert_eq!(rt; table.count(), Some(u64::MAX));
     Ok(())
 }
 
@@ -118,12 +166,19 @@ fn sizes_outside_their_limits_are_refused(rt: HostRuntime) {
     }
 }
 
-// A place of `ONE_VALUE`, another byte there, and how that is refused.
-const CHANGES: [(usize, u8, &str); 8] = [
+// A place in the bytes of a table, another byte there, and how that is refused.
+type Change = (usize, u8, &'static str);
+
+const CHANGES_1: [Change; 9] = [
+    (
+        0,
+        4,
+        "InvalidData => invalid preamble longs: expected one of [2, 3], got 4",
+    ),
     (
         0,
         3,
-        "InvalidData => invalid preamble longs: expected one of [2], got 3",
+        "InvalidData => unsupported serial version: expected 2, got 1",
     ),
     (
         1,
@@ -150,91 +205,130 @@ const CHANGES: [(usize, u8, &str); 8] = [
     (7, 128, "InvalidData => reserved bytes are not zero"),
 ];
 
+const CHANGES_2: [Change; 6] = [
+    (
+        0,
+        2,
+        "InvalidData => unsupported serial version: expected 1, got 2",
+    ),
+    (5, 2, "InvalidData => reserved bytes are not zero"),
+    (6, 1, "InvalidData => reserved bytes are not zero"),
+    (7, 1, "InvalidData => reserved bytes are not zero"),
+    (5, 0, "InvalidData => unknown count is not zero"),
+    (
+        3,
+        7,
+        "InvalidData => insufficient data (member bits): expected 16, got 8",
+    ),
+];
+
 #[test]
 fn changed_bytes_are_refused(rt: HostRuntime) {
     let alloc = rt.alloc();
-    for (place, byte, line) in CHANGES {
-        let mut bytes = ONE_VALUE;
+    for (place, byte, line) in CHANGES_1 {
+        let mut bytes = ONE_VALUE_1;
+        bytes[place.min(7)] = byte;
+        assert_refused(&rt, alloc, MemberTable::from_bytes(alloc, &bytes), line);
+    }
+    for (place, byte, line) in CHANGES_2 {
+        let mut bytes = ONE_VALUE_2;
         bytes[place.min(7)] = byte;
         assert_refused(&rt, alloc, MemberTable::from_bytes(alloc, &bytes), line);
     }
 }
 
+// Bytes in which each place is wrong are made right place by place, and each time the fault at the
+// next one is told.
 #[test]
 fn the_first_fault_is_told(rt: HostRuntime) {
     let alloc = rt.alloc();
-    let mut bytes = [0xff; 25];
-    for (place, byte, line) in CHANGES {
-        let place = place.min(7);
-        bytes[place] = byte;
-        if place < 6 {
-            assert_refused(&rt, alloc, MemberTable::from_bytes(alloc, &bytes), line);
-        }
-        bytes[place] = ONE_VALUE[place];
+    let mut bytes = [0xff; 33];
+    bytes[5] = 0;
+    for (place, right, line) in [
+        (
+            0,
+            3,
+            "InvalidData => invalid preamble longs: expected one of [2, 3], got 255",
+        ),
+        (
+            1,
+            2,
+            "InvalidData => unsupported serial version: expected 2, got 255",
+        ),
+        (
+            2,
+            200,
+            "InvalidData => invalid family: expected 200 (MEMBER), got 255",
+        ),
+        (
+            3,
+            6,
+            "InvalidData => invalid log2 bits: expected 6 to 20, got 255",
+        ),
+        (
+            4,
+            1,
+            "InvalidData => invalid hashes: expected 1 to 16, got 255",
+        ),
+        (6, 0, "InvalidData => reserved bytes are not zero"),
+        (7, 0, "InvalidData => reserved bytes are not zero"),
+        (5, 1, "InvalidData => unknown count is not zero"),
+    ] {
+        assert_refused(&rt, alloc, MemberTable::from_bytes(alloc, &bytes), line);
+        bytes[place.min(7)] = right;
     }
     let trailing = "InvalidData => trailing bytes: 1";
     assert_refused(&rt, alloc, MemberTable::from_bytes(alloc, &bytes), trailing);
 }
 
-#[test]
-fn bytes_cut_short_are_refused(rt: HostRuntime) -> Result<(), Fail> {
-    let alloc = rt.alloc();
-    for count in 0..ONE_VALUE.len() {
-        let answer = MemberTable::from_bytes(alloc, &ONE_VALUE[..count]);
-        if count < 16 {
-            let message = answer.err().map(|error| {
+// Asserts that each beginning of the bytes of a table with eight bytes of bits is refused.
+fn assert_beginnings_refused(
+    rt: &impl Abort,
+    alloc: Global,
+    bytes: &[u8],
+    header: usize,
+) -> Result<(), Fail> {
+    for count in 0..bytes.len() {
+        let answer = MemberTable::from_bytes(alloc, &bytes[..count]);
+        if count < header {
+            let is_told = answer.err().map(|error| {
                 error
                     .message()
                     .starts_with("insufficient data (member table): ")
             });
-            assert_eq!(rt; message, Some(true), "of {count} bytes");
+            assert_eq!(rt; is_told, Some(true), "of {count} bytes");
         } else {
             let line = format!(in alloc;
                 "InvalidData => insufficient data (member bits): expected 8, got {}",
-                count - 16
+                count - header
             )?;
-            assert_refused(&rt, alloc, answer, &line);
+            assert_refused(rt, alloc, answer, &line);
         }
     }
     Ok(())
 }
 
-// Whether the error tells of want of memory.
-fn is_want_of_memory(error: &Error) -> bool {
-    error.kind() == ErrorKind::OutOfMemory && error.message().is_empty()
-}
-
-// Whether the answer is a table, or tells of want of memory.
-fn is_table_or_want(answer: &Result<MemberTable, Error>) -> bool {
-    match answer {
-        Ok(_) => true,
-        Err(error) => is_want_of_memory(error),
-    }
-}
-
-// Whether the answer is a refusal with this message, or tells of want of memory.
-fn is_refusal_or_want(answer: &Result<MemberTable, Error>, message: &str) -> bool {
-    match answer {
-        Ok(_) => false,
-        Err(error) => error.message() == message || is_want_of_memory(error),
-    }
-}
-
-// Holds also where any one request for memory is refused, as `rt try --test --fail-alloc N` does
-// with the Nth: then the answer tells of memory.
 #[test]
-fn want_of_memory_is_told(rt: HostRuntime) {
+fn bytes_cut_short_are_refused(rt: HostRuntime) -> Result<(), Fail> {
+    assert_beginnings_refused(&rt, rt.alloc(), &ONE_VALUE_1, 16)?;
+    assert_beginnings_refused(&rt, rt.alloc(), &ONE_VALUE_2, 24)
+}
+
+#[test]
+fn trailing_bytes_are_refused(rt: HostRuntime) {
     let alloc = rt.alloc();
-    assert!(rt; is_table_or_want(&MemberTable::new(alloc, 0, 6, 1)));
-    assert!(rt; is_table_or_want(&MemberTable::from_bytes(alloc, &ONE_VALUE)));
-    for (place, byte, message) in [
-        (0, 3, "invalid preamble longs: expected one of [2], got 3"),
-        (3, 5, "invalid log2 bits: expected 6 to 20, got 5"),
-        (3, 7, "insufficient data (member bits): expected 16, got 8"),
-        (5, 1, "reserved bytes are not zero"),
+    let mut bytes = [0; 26];
+    bytes[..24].copy_from_slice(&ONE_VALUE_1);
+    for (count, line) in [
+        (25, "InvalidData => trailing bytes: 1"),
+        (26, "InvalidData => trailing bytes: 2"),
     ] {
-        let mut bytes = ONE_VALUE;
-        bytes[place] = byte;
-        assert!(rt; is_refusal_or_want(&MemberTable::from_bytes(alloc, &bytes), message));
+        let count = count.min(bytes.len());
+        assert_refused(
+            &rt,
+            alloc,
+            MemberTable::from_bytes(alloc, &bytes[..count]),
+            line,
+        );
     }
 }

@@ -2,6 +2,7 @@
 
 pub mod keys;
 pub mod own;
+pub mod seen;
 pub mod sketch;
 pub mod streams;
 #[cfg(test)]

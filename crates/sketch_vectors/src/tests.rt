@@ -2,5 +2,6 @@ mod both;
 mod cuts;
 mod equalities;
 mod fed;
+mod member;
 mod samples;
 mod vectors;

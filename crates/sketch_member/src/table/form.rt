@@ -1,7 +1,7 @@
-//! A table in bytes.
+//! A table in bytes, and what sets the versions of its form apart.
 
-ghost use Rattle.std.specs.Prelude.{◌≡◌, IfOk};
-ghost use Rattle.sketch_member.specs.Form.{form};
+ghost use Rattle.std.specs.Prelude.{◌≡◌, ◌-◌, ◌*◌, ◌≤◌, ◌↔◌, IfOk, IsTrue};
+ghost use Rattle.sketch_member.specs.Form.{form2};
 ghost use Rattle.sketch_member.specs.Table.{IsTable};
 
 use super::MemberTable;
@@ -14,33 +14,58 @@ pub const MEMBER: Family = Family {
     id: 200,
     name: "MEMBER",
     min_pre_longs: 2,
-    max_pre_longs: 2,
+    max_pre_longs: 3,
 };
 
-pub(super) const PREAMBLE_LONGS: u8 = 2;
+// The preamble longs of version 1, and of version 2, which has the count and tells whether it is
+// known.
+pub(super) const LONGS_1: u8 = 2;
 
-pub(super) const SERIAL_VERSION: u8 = 1;
+pub(super) const LONGS_2: u8 = 3;
 
-pub(super) const HEADER_BYTES: usize = 16;
+// The serial version under so many preamble longs.
+pub(super) fn serial_version(longs: u8) -> u8
+    requires { 1 ≤ longs }
+    ensures { result ≡ longs - 1 }
+{
+    longs - 1
+}
+
+// Whether a header of so many preamble longs has a count.
+pub(super) fn has_count(longs: u8) -> bool
+    ensures { IsTrue result ↔ (longs ≡ 3) }
+{
+    longs == LONGS_2
+}
+
+// How many bytes a header of so many preamble longs has.
+pub(super) fn header_bytes(longs: u8) -> usize
+    ensures { result ≡ 8 * longs }
+{
+    8 * usize::from(longs)
+}
 
 impl MemberTable {
-    /// The table in bytes: a header of 16 bytes, and then the bits.
+    /// The table in bytes of version 2: a header of 24 bytes, and then the bits.
     ///
     /// # Errors
     ///
     /// Where the bytes find no memory, which is asked for once.
     pub fn to_bytes(&self, alloc: Global) -> Result<Vec<u8>, AllocError>
-        ensures form { IfOk result (λ bytes. bytes.items ≡ form self.now) }
+        ensures form { IfOk result (λ bytes. bytes.items ≡ form2 self.now) }
         ensures is_table { IsTable self.now }
     {
-        let mut writer = SketchBytes::with_capacity(alloc, HEADER_BYTES + self.bits.len())?;
-        writer.write_u8(PREAMBLE_LONGS)?;
-        writer.write_u8(SERIAL_VERSION)?;
+        let count = self.bits.len() + header_bytes(LONGS_2);
+        let mut writer = SketchBytes::with_capacity(alloc, count)?;
+        writer.write_u8(LONGS_2)?;
+        writer.write_u8(serial_version(LONGS_2))?;
         writer.write_u8(MEMBER.id)?;
         writer.write_u8(self.log2_bits)?;
         writer.write_u8(self.hashes)?;
-        writer.write(&[0; 3])?;
+        writer.write_u8(u8::from(self.count.is_some()))?;
+        writer.write(&[0; 2])?;
         writer.write_u64_le(self.seed)?;
+        writer.write_u64_le(self.count.unwrap_or(0))?;
         writer.write(&self.bits)?;
         Ok(writer.into_bytes())
     }

@@ -15,5 +15,6 @@ returns g c =
       seed = inserts.seed;
       log2_bits = inserts.log2_bits;
       hashes = c.loop-j.invariant.1;
+      count = inserts.count;
       bits = subst P (ended ∙ all) inserts.bits;
     }

@@ -16,6 +16,7 @@ invariant_of-result c =
       seed = c.ranges.seed.fits;
       log2_bits = log2_bits;
       hashes = c.in_ok-ensure_hashes.ensures;
-      count = ap (λ k. k * 8) count ∙ whole_bytes n (omega arith);
+      count = omega arith;
+      bits = ap (λ k. k * 8) count ∙ whole_bytes n (omega arith);
       bytes = λ k. rw (items, zeros-get (byte_count n) k) (omega arith);
     }
