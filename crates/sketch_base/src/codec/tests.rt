@@ -322,18 +322,6 @@ fn writes_within_room_cannot_fail(rt: HostRuntime) -> Result<(), Fail> {
     Ok(())
 }
 
-#[test]
-fn writes_far_past_its_room(rt: HostRuntime) -> Result<(), Fail> {
-    let mut writer = SketchBytes::with_capacity(rt.alloc(), 5000)?;
-    for _ in 0..100 {
-        writer.write(&[7; 1000])?;
-    }
-    let bytes = writer.into_bytes();
-    let sevens = bytes.iter().all(|byte| *byte == 7);
-    assert_eq!(rt; (bytes.len(), sevens), (100_000, true));
-    Ok(())
-}
-
 // What the writes of the test below spell.
 const NUMBERS: [u8; 55] = [
     7, 7, 9, 0xfe, 0xff, 0xff, 0xfe, 4, 3, 2, 1, 1, 2, 3, 4, 0, 0, 0, 0x80, 0xff, 0xff, 0xff, 0xfe,

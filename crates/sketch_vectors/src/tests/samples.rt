@@ -334,96 +334,135 @@ fn hashes_of_streams_in_pieces(rt: HostRuntime) {
     }
 }
 
-// The first Murmur word and the XXH64 hash, under the seed 7, after this one write of a number.
-macro_rules! after {
-    ($write:ident) => {
-        |n| {
-            let mut murmur3 = MurmurHash3X64128::with_seed(7);
-            let mut xxhash = XxHash64::with_seed(7);
-            murmur3.$write(n);
-            xxhash.$write(n);
-            (murmur3.finish(), xxhash.finish())
-        }
-    };
+// A number that is written to a hasher.
+#[derive(Clone, Copy, Debug)]
+enum Number {
+    U8(u8),
+    I8(i8),
+    U16(u16),
+    I16(i16),
+    U32(u32),
+    I32(i32),
+    U64(u64),
+    I64(i64),
 }
 
-#[test]
-fn numbers_of_8_and_16_bits_after_one_write(rt: HostRuntime) {
-    for (answers, expected) in &[
-        (
-            [0u8, 127, 254].map(after!(write_u8)),
-            [
-                (0x7d48_0f9f_a80e_c469, 0xd90d_f86c_76f5_2e13),
-                (0x0482_b915_a4f4_0656, 0xb11b_6f0f_f02d_9507),
-                (0x5fad_8e26_3a9a_1f01, 0x080f_a50a_e87e_1b7d),
-            ],
-        ),
-        (
-            [-128i8, -2, 0].map(after!(write_i8)),
-            [
-                (0x0317_404c_d1ba_84da, 0x9113_45a7_8882_8073),
-                (0x5fad_8e26_3a9a_1f01, 0x080f_a50a_e87e_1b7d),
-                (0x7d48_0f9f_a80e_c469, 0xd90d_f86c_76f5_2e13),
-            ],
-        ),
-        (
-            [0u16, 32767, 65534].map(after!(write_u16)),
-            [
-                (0x3df4_60ff_3e17_b53a, 0x66b9_ba93_c911_8fc5),
-                (0x3361_0de1_43a8_14da, 0x7cb9_a3d8_353b_99d7),
-                (0x7685_2763_363c_efcb, 0xa6b5_c640_1e33_2ae2),
-            ],
-        ),
-        (
-            [-32768i16, -2, 0].map(after!(write_i16)),
-            [
-                (0xe73d_be42_cd69_f3c6, 0xbeac_7bb1_477b_13d4),
-                (0x7685_2763_363c_efcb, 0xa6b5_c640_1e33_2ae2),
-                (0x3df4_60ff_3e17_b53a, 0x66b9_ba93_c911_8fc5),
-            ],
-        ),
-    ] {
-        assert_eq!(rt; answers, expected);
+// What a hasher answers after this one write.
+fn after_write<H: Hasher>(hasher: &mut H, number: Number) -> u64 {
+    match number {
+        Number::U8(n) => hasher.write_u8(n),
+        Number::I8(n) => hasher.write_i8(n),
+        Number::U16(n) => hasher.write_u16(n),
+        Number::I16(n) => hasher.write_i16(n),
+        Number::U32(n) => hasher.write_u32(n),
+        Number::I32(n) => hasher.write_i32(n),
+        Number::U64(n) => hasher.write_u64(n),
+        Number::I64(n) => hasher.write_i64(n),
     }
+    hasher.finish()
 }
 
+// A number, and under the seed 7 the first Murmur word and the XXH64 hash after its write.
+const NUMBERS: [(Number, u64, u64); 24] = [
+    (Number::U8(0), 0x7d48_0f9f_a80e_c469, 0xd90d_f86c_76f5_2e13),
+    (
+        Number::U8(127),
+        0x0482_b915_a4f4_0656,
+        0xb11b_6f0f_f02d_9507,
+    ),
+    (
+        Number::U8(254),
+        0x5fad_8e26_3a9a_1f01,
+        0x080f_a50a_e87e_1b7d,
+    ),
+    (
+        Number::I8(-128),
+        0x0317_404c_d1ba_84da,
+        0x9113_45a7_8882_8073,
+    ),
+    (Number::I8(-2), 0x5fad_8e26_3a9a_1f01, 0x080f_a50a_e87e_1b7d),
+    (Number::I8(0), 0x7d48_0f9f_a80e_c469, 0xd90d_f86c_76f5_2e13),
+    (Number::U16(0), 0x3df4_60ff_3e17_b53a, 0x66b9_ba93_c911_8fc5),
+    (
+        Number::U16(32767),
+        0x3361_0de1_43a8_14da,
+        0x7cb9_a3d8_353b_99d7,
+    ),
+    (
+        Number::U16(65534),
+        0x7685_2763_363c_efcb,
+        0xa6b5_c640_1e33_2ae2,
+    ),
+    (
+        Number::I16(-32768),
+        0xe73d_be42_cd69_f3c6,
+        0xbeac_7bb1_477b_13d4,
+    ),
+    (
+        Number::I16(-2),
+        0x7685_2763_363c_efcb,
+        0xa6b5_c640_1e33_2ae2,
+    ),
+    (Number::I16(0), 0x3df4_60ff_3e17_b53a, 0x66b9_ba93_c911_8fc5),
+    (Number::U32(0), 0x79d5_4dd1_bf71_3748, 0x94c6_6b00_e254_04d3),
+    (
+        Number::U32(2147483647),
+        0x8ff8_90b3_c66c_ea63,
+        0xbffa_f7ed_3828_c5c6,
+    ),
+    (
+        Number::U32(4294967294),
+        0x0964_dc60_72d9_36ea,
+        0x41a2_4406_726d_ed05,
+    ),
+    (
+        Number::I32(-2147483648),
+        0xb838_05f1_cb43_8fc8,
+        0xccae_49b2_71ed_d0ff,
+    ),
+    (
+        Number::I32(-2),
+        0x0964_dc60_72d9_36ea,
+        0x41a2_4406_726d_ed05,
+    ),
+    (Number::I32(0), 0x79d5_4dd1_bf71_3748, 0x94c6_6b00_e254_04d3),
+    (Number::U64(0), 0x6ce1_13b1_15a5_6871, 0x8562_a8ca_30d1_d8c7),
+    (
+        Number::U64(9223372036854775807),
+        0x2413_15ee_a83e_4f34,
+        0x0910_5364_f867_692b,
+    ),
+    (
+        Number::U64(18446744073709551614),
+        0x09bf_526b_79e5_231d,
+        0xebec_947d_1050_6dd7,
+    ),
+    (
+        Number::I64(-9223372036854775808),
+        0x6e52_ad93_7294_91f0,
+        0xb733_43d4_5531_edb1,
+    ),
+    (
+        Number::I64(-2),
+        0x09bf_526b_79e5_231d,
+        0xebec_947d_1050_6dd7,
+    ),
+    (Number::I64(0), 0x6ce1_13b1_15a5_6871, 0x8562_a8ca_30d1_d8c7),
+];
+
 #[test]
-fn numbers_of_32_and_64_bits_after_one_write(rt: HostRuntime) {
-    for (answers, expected) in &[
-        (
-            [0u32, 2147483647, 4294967294].map(after!(write_u32)),
-            [
-                (0x79d5_4dd1_bf71_3748, 0x94c6_6b00_e254_04d3),
-                (0x8ff8_90b3_c66c_ea63, 0xbffa_f7ed_3828_c5c6),
-                (0x0964_dc60_72d9_36ea, 0x41a2_4406_726d_ed05),
-            ],
-        ),
-        (
-            [-2147483648i32, -2, 0].map(after!(write_i32)),
-            [
-                (0xb838_05f1_cb43_8fc8, 0xccae_49b2_71ed_d0ff),
-                (0x0964_dc60_72d9_36ea, 0x41a2_4406_726d_ed05),
-                (0x79d5_4dd1_bf71_3748, 0x94c6_6b00_e254_04d3),
-            ],
-        ),
-        (
-            [0u64, 9223372036854775807, 18446744073709551614].map(after!(write_u64)),
-            [
-                (0x6ce1_13b1_15a5_6871, 0x8562_a8ca_30d1_d8c7),
-                (0x2413_15ee_a83e_4f34, 0x0910_5364_f867_692b),
-                (0x09bf_526b_79e5_231d, 0xebec_947d_1050_6dd7),
-            ],
-        ),
-        (
-            [-9223372036854775808i64, -2, 0].map(after!(write_i64)),
-            [
-                (0x6e52_ad93_7294_91f0, 0xb733_43d4_5531_edb1),
-                (0x09bf_526b_79e5_231d, 0xebec_947d_1050_6dd7),
-                (0x6ce1_13b1_15a5_6871, 0x8562_a8ca_30d1_d8c7),
-            ],
-        ),
-    ] {
-        assert_eq!(rt; answers, expected);
+fn numbers_after_one_write(rt: HostRuntime) {
+    for (number, murmur, xxh64) in &NUMBERS {
+        let mut murmur3 = MurmurHash3X64128::with_seed(7);
+        let mut xxhash = XxHash64::with_seed(7);
+        assert_eq!(rt;
+            (
+                after_write(&mut murmur3, *number),
+                after_write(&mut xxhash, *number)
+            ),
+            (*murmur, *xxh64),
+            "after {number:?}"
+        );
     }
 }
 
