@@ -3,3 +3,4 @@ pub mod Table
 pub mod Form
 pub mod Faults
 pub mod Laws
+pub mod Examples

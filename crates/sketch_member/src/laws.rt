@@ -1,7 +1,8 @@
 //! What follows for users of tables and their bytes.
 
-ghost use Rattle.std.specs.Prelude.{◌≡◌, ◌↔◌, ℕ, List, None, IfOk, MatchResult};
+ghost use Rattle.std.specs.Prelude.{◌≡◌, ◌↔◌, ◌⊎◌, ℕ, List, None, length, IfOk, MatchResult};
 ghost use Rattle.datasketches.specs.ErrorValue.{memory_error};
+ghost use Rattle.sketch_member.specs.Faults.{AllPass, FirstFault, steps};
 ghost use Rattle.sketch_member.specs.Form.{IsForm, form1};
 ghost use Rattle.sketch_member.specs.Table.{IsMember, IsTable, Table};
 ghost use Rattle.sketch_member.specs.Laws.{FormLaw, InsertLaw};
@@ -40,9 +41,12 @@ pub fn read_back(alloc: Global, table: &MemberTable) -> Result<MemberTable, Erro
 ///
 /// # Errors
 ///
-/// As those of [`MemberTable::from_bytes`], and where memory runs out.
+/// As those of [`MemberTable::from_bytes`]; memory may run out in the writing too.
 pub fn read_again(alloc: Global, bytes: &[u8]) -> Result<MemberTable, Error>
-    ensures same { IfOk result (λ again. IsTable again × IsForm again bytes.now) }
+    ensures same { MatchResult result
+        (λ again. IsTable again × IsForm again bytes.now)
+        (λ error. FirstFault (length bytes.now) (steps bytes.now) error
+        ⊎ (AllPass (length bytes.now) (steps bytes.now) × (error ≡ memory_error))) }
     ensures version1 { (table : Table) → IsTable table → bytes.now ≡ form1 table →
         IfOk result (λ again. (again.count ≡ None)
         × ((fed : List ℕ) → IsMember again fed ↔ IsMember table fed)) }

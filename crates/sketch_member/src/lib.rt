@@ -5,6 +5,7 @@
 #![tactic(auto)]
 
 mod bits;
+pub mod examples;
 pub mod laws;
 mod limits;
 mod table;
