@@ -22,6 +22,8 @@ word_answers = record {
   rest_of_the_fox = refl;
   waiting_of_the_fox = refl;
   total_of_the_fox = refl;
+  murmur_state_held = refl;
+  xxh64_state_held = refl;
 }
 
 pub murmur_answers : MurmurAnswers

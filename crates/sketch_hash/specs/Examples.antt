@@ -3,6 +3,9 @@
 -- running these two.
 use Rattle.std.specs.Prelude.{◌≡◌, ℕ, zero, suc, ◌-◌, ◌/◌, ◌^◌, ◌<◌, negsuc, List, [], ◌∷◌, codes, replicate}
 use Rattle.sketch_base.specs.Bytes.{AreBytes, eight}
+use Rattle.sketch_hash.specs.declared.hash.murmurhash.state.MurmurState.{MurmurState}
+use Rattle.sketch_hash.specs.declared.hash.xxhash.state.XxHash64State.{XxHash64State}
+use Rattle.sketch_hash.specs.Held.{murmur_held, xxh64_held}
 use Rattle.sketch_hash.specs.Words.{IsWord, plus, minus, times, xor, xor_shift, rotate}
 use Rattle.sketch_hash.specs.Pieces.{pieces, rest}
 use Rattle.sketch_hash.specs.Murmur.{murmur, murmur_start, murmur_after, MurmurStands}
@@ -24,7 +27,23 @@ test_bytes_from g (suc n) = g / 2 ^ 56 ∷ test_bytes_from (times g 0x9E3779B185
 abbrev pub test_bytes : ℕ → List ℕ
 test_bytes n = test_bytes_from 0x9E3779B1 n
 
--- what small words give, how the sentence is cut, and what waits once it was written
+-- states behind one piece and one byte
+abbrev pub murmur_state : MurmurState
+murmur_state = record { h1 = 1; h2 = 2; total = 17; waiting = 3 ∷ replicate 15 4 }
+
+abbrev pub xxh64_state : XxHash64State
+xxh64_state = record {
+  seed = 1;
+  v1 = 2;
+  v2 = 3;
+  v3 = 4;
+  v4 = 5;
+  total = 33;
+  waiting = 6 ∷ replicate 31 7;
+}
+
+-- what small words give, how the sentence is cut, what waits once it was written, and what states
+-- hold
 pub record WordAnswers : Type 0 where
   pub sum_past_the_end : plus (2 ^ 64 - 1) 2 ≡ 1
   pub difference_below_zero : minus 1 2 ≡ 2 ^ 64 - 1
@@ -37,6 +56,14 @@ pub record WordAnswers : Type 0 where
   pub rest_of_the_fox : rest 16 fox ≡ codes "he lazy dog"
   pub waiting_of_the_fox : (murmur_after (murmur_start 0) fox).waiting ≡ codes "he lazy dog"
   pub total_of_the_fox : (murmur_after (murmur_start 0) fox).total ≡ 43
+  pub murmur_state_held : murmur_held murmur_state ≡
+      record { folded = (1, 2); total = 17; waiting = 3 ∷ [] }
+  pub xxh64_state_held : xxh64_held xxh64_state ≡
+      record {
+        folded = record { seed = 1; v1 = 2; v2 = 3; v3 = 4; v4 = 5 };
+        total = 33;
+        waiting = 6 ∷ [];
+      }
 
 -- what the definition of Murmur answers: with no block, with whole blocks, with tails up to the
 -- longest, and where the length takes more than one byte

@@ -1,9 +1,13 @@
 -- Worked values of the definitions: a table of 64 bits with one index a value, under seed 0, after
 -- the insert of no bytes.
-use Rattle.std.specs.Prelude.{◌≡◌, ◌-◌, ◌^◌, ℕ, List, [], ◌∷◌, ◌++◌, replicate, Option, None, Some}
+use Rattle.std.specs.Prelude.{◌≡◌, ◌-◌, ◌^◌, ℕ, List, [], ◌∷◌, ◌++◌, codes, replicate, Option, None, Some}
+use Rattle.datasketches.specs.declared.error.ErrorKind.TheVariants.{InvalidArgument, InvalidData}
+use Rattle.datasketches.specs.ErrorValue.{error_of}
+use Rattle.sketch_member.specs.Faults.{Fails, HeaderEnds, Step}
 use Rattle.sketch_member.specs.Form.{IsForm, form1, form2}
+use Rattle.sketch_member.specs.Laws.{counted}
 use Rattle.sketch_member.specs.Limits.{IsHashes, IsLog2Bits}
-use Rattle.sketch_member.specs.Table.{Table, IsSet, one_more}
+use Rattle.sketch_member.specs.Table.{Table, IsSet, index, one_more}
 
 abbrev pub one_value : Option ℕ → Table
 one_value count = record {
@@ -24,9 +28,19 @@ bytes2 = 3 ∷ 2 ∷ 200 ∷ 6 ∷ 1 ∷ 1 ∷ replicate 10 0 ++ 2 ∷ 1 ∷ rep
 abbrev pub bytes_unknown : List ℕ
 bytes_unknown = 3 ∷ 2 ∷ 200 ∷ 6 ∷ 1 ∷ replicate 22 0 ++ 2 ∷ replicate 4 0
 
+-- the same with no count under the seed 258
+abbrev pub bytes_seeded : List ℕ
+bytes_seeded = 3 ∷ 2 ∷ 200 ∷ 6 ∷ 1 ∷ replicate 3 0 ++ 2 ∷ 1 ∷ replicate 17 0 ++ 2 ∷ replicate 4 0
+
+-- a step that no byte passes
+abbrev pub never : Step
+never = record { needs = 1; Holds = ⊥; message = codes "never" }
+
 pub record Examples : Type 0 where
   pub set : IsSet (one_value None).bits 25
   pub not_set : IsSet (one_value None).bits 24 → ⊥
+  pub index_of_no_bytes : index 0 6 [] 0 ≡ 25
+  pub index_under_the_next_seed : index (2 ^ 64 - 1) 6 [] 1 ≡ 25
   pub least : IsLog2Bits 6
   pub below : IsLog2Bits 5 → ⊥
   pub greatest : IsLog2Bits 20
@@ -38,8 +52,14 @@ pub record Examples : Type 0 where
   pub counts : one_more (Some 257) ≡ Some 258
   pub stays : one_more (Some (2 ^ 64 - 1)) ≡ Some (2 ^ 64 - 1)
   pub unknown : one_more None ≡ None
+  pub two_counted : counted 2 ≡ Some 2
+  pub most_counted : counted (2 ^ 64) ≡ Some (2 ^ 64 - 1)
   pub version1 : form1 (one_value (Some 258)) ≡ bytes1
   pub version2 : form2 (one_value (Some 258)) ≡ bytes2
   pub no_count : form2 (one_value None) ≡ bytes_unknown
+  pub seeded : form2 (record (one_value None) { seed = 258 }) ≡ bytes_seeded
   pub read_in_1 : IsForm (one_value None) bytes1
   pub read_in_2 : IsForm (one_value (Some 258)) bytes2
+  pub fails : Fails 1 never (error_of InvalidData (codes "never"))
+  pub fails_otherwise : Fails 1 never (error_of InvalidArgument (codes "never")) → ⊥
+  pub ends_otherwise : HeaderEnds (error_of InvalidArgument []) → ⊥

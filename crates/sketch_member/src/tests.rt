@@ -94,6 +94,17 @@ fn a_table_is_written_and_read(rt: HostRuntime) -> Result<(), Fail> {
     Ok(())
 }
 
+// The greatest sizes: each call finds the memory that it asks for.
+#[test]
+fn the_largest_table_is_written_and_read(rt: HostRuntime) -> Result<(), Fail> {
+    let value = raw_bytes::from_str("");
+    let mut table = MemberTable::new(rt.alloc(), 0, 20, 16)?;
+    table.insert(&value);
+    assert_eq!(rt; table.to_bytes(rt.alloc())?.len(), 131_096);
+    assert!(rt; read_back(rt.alloc(), &table)?.contains(&value));
+    Ok(())
+}
+
 #[test]
 fn a_table_of_version_1_has_no_count(rt: HostRuntime) -> Result<(), Fail> {
     let value = raw_bytes::from_str("");
