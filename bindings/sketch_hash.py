@@ -16,7 +16,7 @@ class _Pair(Structure):
 
 
 def _bytes_of(data):
-    """The bytes of a bytes-like object; an array of wider elements has more of them than elements."""
+    """All bytes of a bytes-like object, whatever the width of its elements."""
     return data if isinstance(data, bytes) else memoryview(data).tobytes()
 
 
