@@ -15,6 +15,11 @@ class _Pair(Structure):
     _fields_ = [("h1", c_uint64), ("h2", c_uint64)]
 
 
+def _bytes_of(data):
+    """All bytes of a bytes-like object, whatever the width of its elements."""
+    return data if isinstance(data, bytes) else memoryview(data).tobytes()
+
+
 def load(path):
     """The class xxh64 and the function murmur3_128 of the shared library."""
     library = ctypes.CDLL(path)
@@ -36,12 +41,14 @@ def load(path):
             self.update(data)
 
         def update(self, data):
-            update(self._state, bytes(data), len(data))
+            data = _bytes_of(data)
+            update(self._state, data, len(data))
 
         def hexdigest(self):
             return f"{digest(self._state):016x}"
 
     def murmur3_128(data, seed=0):
+        data = _bytes_of(data)
         pair = murmur(data, len(data), seed)
         return f"{pair.h1:016x}{pair.h2:016x}"
 
@@ -55,5 +62,6 @@ if __name__ == "__main__":
     hasher.update(fox[:7])
     hasher.update(fox[7:])
     assert hasher.hexdigest() == xxh64(fox).hexdigest() == "0b242d361fda71bc"
-    assert murmur3_128(fox) == "e34bbc7bbc071b6c7a433ca9c49a9347"
+    assert murmur3_128(fox) == murmur3_128(bytearray(fox)) == "e34bbc7bbc071b6c7a433ca9c49a9347"
+    assert xxh64(memoryview(fox[:42]).cast("H")).hexdigest() == xxh64(fox[:42]).hexdigest()
     print("xxh64 and murmur3_128 of a sentence")

@@ -119,7 +119,7 @@ int main(void) {
         compare(name, "reference Murmur", ours_murmur_keys, reference_keys, KEYS * keys[i], keys[i], keys[i]);
     }
     for (size_t i = 0; i < sizeof writes / sizeof *writes; i++) {
-        snprintf(name, sizeof name, "writes of %zu bytes", writes[i]);
+        snprintf(name, sizeof name, "writes of %zu byte%s", writes[i], writes[i] == 1 ? "" : "s");
         compare(name, "xxHash streaming", ours_xxh64_stream, xxhash_stream, STREAM, writes[i], writes[i]);
     }
     for (size_t i = 0; i < sizeof wholes / sizeof *wholes; i++) {

@@ -6,12 +6,17 @@ pub mod Examples
 pub use Rattle.sketch_base.specs.Bytes
 pub use Rattle.sketch_base.specs.Checks
 pub use Rattle.sketch_base.specs.ErrorValue
+pub use Rattle.sketch_base.specs.Items
 pub use Rattle.sketch_base.specs.Reading
 pub use Rattle.sketch_base.specs.Refusals
 pub use Rattle.sketch_base.specs.WriterValue
 pub use Rattle.sketch_base.specs.Writing
+pub use Rattle.sketch_hash.specs.Held
 pub use Rattle.sketch_hash.specs.Murmur
+pub use Rattle.sketch_hash.specs.MurmurWriteLemmas
 pub use Rattle.sketch_hash.specs.Pieces
+pub use Rattle.sketch_hash.specs.SeedHash
+pub use Rattle.sketch_hash.specs.Values
 pub use Rattle.sketch_hash.specs.Words
 pub use Rattle.sketch_hash.specs.Xxh64
 pub use Rattle.sketch_hash.specs.Xxh64WriteLemmas

@@ -1,11 +1,10 @@
 -- What the definitions of bytes and numbers give: the first byte apart, bounds, there and back, and the
--- library's `to_le_bytes` and `from_le_bytes`.
-use Rattle.std.proofs.Common.{◌≡◌, ℕ, zero, suc, ◌+◌, ◌-◌, ◌*◌, ◌/◌, ◌%◌, ◌^◌, ◌<◌, List, [], ◌∷◌, ◌++◌, length, take, get_or, refl, sym, ap, ◌∙◌, arith, add-one, add-zero, add_assoc}
+-- library's `to_le_bytes`.
+use Rattle.std.proofs.Common.{◌≡◌, ℕ, zero, suc, ◌+◌, ◌*◌, ◌/◌, ◌%◌, ◌^◌, ◌<◌, List, [], ◌∷◌, length, refl, sym, ap, ◌∙◌, arith, add-one}
 use Rattle.std.proofs.Math.Nat.{pow-suc, div-div-eq-div-mul, one-le-pow}
 use Rattle.std.proofs.Math.Arith.{mod-mul}
-use Rattle.std.proofs.lemmas.List.{take_more, length-take-le, take_all}
 use Rattle.std.proofs.lemmas.List.Elements.{All-head, All-tail}
-use Rattle.std.specs.Int.{byte_at, byte_worth, bytes_low_first, sum_through, from_le_bytes, to_le_bytes, Width, byte_len}
+use Rattle.std.specs.Int.{byte_at, bytes_low_first, to_le_bytes, Width, byte_len}
 use Rattle.sketch_base.specs.Bytes.{AreBytes, weighted_from, le, low_bytes}
 
 -- each byte is worth 256 times as much one place on
@@ -74,42 +73,3 @@ bytes_low_first-is i (suc count) n =
 
 pub to_le_bytes-is : (w : Width) (n : ℕ) → to_le_bytes w n ≡ low_bytes (byte_len w) n
 to_le_bytes-is w n = bytes_low_first-is 0 (byte_len w) n ∙ ap (low_bytes (byte_len w)) (omega arith)
-
--- the last byte counts by its place
-weighted_from-push : (bytes : List ℕ) (i b : ℕ) →
-    weighted_from i (bytes ++ b ∷ []) ≡ weighted_from i bytes + b * 256 ^ (i + length bytes)
-weighted_from-push [] i b = zero-side (b * 256 ^ i) ∙ ap (λ n. 0 + b * 256 ^ n) (sym (add-zero i))
-  where
-    zero-side : (v : ℕ) → v + 0 ≡ 0 + v
-    zero-side v = omega arith
-weighted_from-push (a ∷ bytes) i b =
-    let others = weighted_from-push bytes (i + 1) b in
-    let place : i + 1 + length bytes ≡ i + suc (length bytes) = omega arith in
-    rw (others, place)
-    (sym (add_assoc (a * 256 ^ i) (weighted_from (i + 1) bytes) (b * 256 ^ (i + suc (length bytes)))))
-
--- the library's number of the first k + 1 bytes
-sum_through-is : (bytes : List ℕ) (k : ℕ) → k < length bytes →
-    sum_through (λ i. byte_worth i (get_or bytes i 0)) k ≡ le (take (k + 1) bytes)
-sum_through-is [] k h = absurd (omega arith)
-sum_through-is (b ∷ bytes) zero h = omega arith
-sum_through-is (b ∷ bytes) (suc k) h =
-    let within : k + 1 < length (b ∷ bytes) = omega arith in
-    let before : k < length (b ∷ bytes) = omega arith in
-    let last = get_or bytes k 0 in
-    let front = length-take-le (k + 1) (b ∷ bytes) (omega arith) in
-    let place : 256 ^ suc k ≡ 256 ^ (0 + length (take (k + 1) (b ∷ bytes))) =
-    ap (λ n. 256 ^ n) (omega arith) in
-    let reads : get_or (b ∷ bytes) (k + 1) 0 ≡ last = ap (λ n. get_or (b ∷ bytes) n 0) (add-one k) in
-    ap (λ v. v + last * 256 ^ suc k) (sum_through-is (b ∷ bytes) k before)
-    ∙ ap (λ p. le (take (k + 1) (b ∷ bytes)) + last * p) place
-    ∙ sym (weighted_from-push (take (k + 1) (b ∷ bytes)) 0 last)
-    ∙ ap (λ x. le (take (k + 1) (b ∷ bytes) ++ x ∷ [])) (sym reads)
-    ∙ ap le (sym (take_more (b ∷ bytes) (k + 1) 0 within))
-    ∙ ap (λ n. le (take n (b ∷ bytes))) (omega arith)
-
-pub from_le_bytes-is : (w : Width) (bytes : List ℕ) → length bytes ≡ byte_len w → 0 < byte_len w →
-    from_le_bytes w bytes ≡ le bytes
-from_le_bytes-is w bytes h p =
-    sum_through-is bytes (byte_len w - 1) (omega arith)
-    ∙ ap le (ap (λ n. take n bytes) (omega arith) ∙ take_all (length bytes) bytes (omega arith))

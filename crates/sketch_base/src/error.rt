@@ -1,7 +1,7 @@
 //! Errors of the sketches: a kind, a message, and the contexts that callers add on the way up.
 
-ghost use Rattle.std.specs.Prelude.{◌≡◌, ◌⊎◌, ◌++◌, ℕ, codes, List, IfOk, IfErr, IfSome, map, MatchResult, Some, string_bytes};
-ghost use Rattle.std.specs.Fmt.{decimal, DisplaysOnOk};
+ghost use Rattle.std.specs.Prelude.{◌≡◌, ℕ, List, IfOk, IfErr, map, MatchResult, Some, string_bytes};
+ghost use Rattle.std.specs.Fmt.{DisplaysOnOk};
 ghost use Rattle.sketch_base.specs.ErrorValue.{contexts_text, error_kind_name, message_text};
 
 use std::alloc::{AllocError, Global};

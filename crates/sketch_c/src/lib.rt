@@ -1,4 +1,4 @@
-//! The hashers for C: a static library, whose header stands in `bindings/`.
+//! The hashers for C: a static library, whose header is `bindings/sketch_hash.h`.
 //!
 //! A state stands in the caller's memory. Every content of a state is safe, nothing allocates and
 //! nothing fails, so no call asks for more than its types say.

@@ -1,5 +1,4 @@
-//! The exports, called as functions. What C, C++, Rust and Python see is tested in
-//! `bindings/`.
+//! The exports, called as functions. What C, C++, Rust and Python see is tested from `bindings/`.
 
 use super::{murmur_of_two, sketch_murmur3_128, sketch_xxh64, xxh64_of_two};
 use sketch_hash::hash::{MurmurHash3X64128, MurmurState, XxHash64, XxHash64State};

@@ -1,6 +1,6 @@
 //! The hash of an input, written as a line.
 
-ghost use Rattle.std.specs.Prelude.{◌≡◌, ◌≢◌, ℕ, ◌+◌, ◌*◌, ◌^◌, ◌≤◌, List, ◌++◌, length, true, false, OnOk, OnErr, Err, Some, IfSome};
+ghost use Rattle.std.specs.Prelude.{◌≡◌, ◌≢◌, ◌+◌, ◌*◌, ◌^◌, ◌≤◌, ◌++◌, length, true, false, OnOk, OnErr, Err, Some, IfSome};
 ghost use Rattle.std.specs.Io.KnownBytes.{Appends, IsAtEnd};
 ghost use Rattle.sketchsum.specs.Digest.{hex_word, newline};
 ghost use Rattle.sketchsum.specs.Reading.{HasRead};

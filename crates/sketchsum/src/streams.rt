@@ -20,6 +20,7 @@ pub struct BoundedReader<'a, R> {
 }
 
 impl<'a, R: Read> BoundedReader<'a, R> {
+    /// The reader with so many turns, of which none was taken.
     pub fn new(reader: &'a mut R, turns: u64) -> BoundedReader<'a, R>
         ensures same_reference { result.reader.ghost_name ≡ reader.entry.ghost_name }
         ensures reader { result.reader.now ≡ reader.old }
@@ -79,6 +80,7 @@ pub struct CheckedWriter<'a, W> {
 }
 
 impl<'a, W: Write> CheckedWriter<'a, W> {
+    /// The writer, to which nothing was written yet.
     pub fn new(writer: &'a mut W) -> CheckedWriter<'a, W>
         ensures same_reference { result.writer.ghost_name ≡ writer.entry.ghost_name }
         ensures writer { result.writer.now ≡ writer.old }

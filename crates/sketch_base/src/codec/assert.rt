@@ -6,7 +6,6 @@ ghost use Rattle.sketch_base.specs.Refusals.{
   insufficient_data_of_text,
   invalid_preamble_longs_text,
   preamble_longs_out_of_range_text,
-  Prints,
   Refuses,
   unsupported_serial_version_text,
 };

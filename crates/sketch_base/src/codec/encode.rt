@@ -1,6 +1,6 @@
 //! Writing numbers into bytes.
 
-ghost use Rattle.std.specs.Prelude.{◌≡◌, [], ◌∷◌, IfOk, Some, reverse};
+ghost use Rattle.std.specs.Prelude.{◌≡◌, [], IfOk, Some, reverse};
 ghost use Rattle.sketch_base.specs.Bytes.{low_bytes, modulo};
 ghost use Rattle.sketch_base.specs.Items.{InType, spell};
 ghost use Rattle.sketch_base.specs.Writing.{Writes, WritesItems, stopped_text};

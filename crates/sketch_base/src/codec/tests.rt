@@ -68,7 +68,7 @@ fn is_same_stopped(a: &Stopped, b: &Stopped) -> bool
     a == b
 }
 
-// The first items of a writer's row, which is written into room for five bytes.
+// Items of one, four and eight bytes, their kinds and their bytes.
 const ROW: [Item; 5] = [
     Item::U8(1),
     Item::U32Be(2),

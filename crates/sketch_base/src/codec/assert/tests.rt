@@ -92,7 +92,7 @@ fn accepts_what_is_expected(rt: HostRuntime) {
 }
 
 #[test]
-fn tells_what_a_read_was_is_refusal_with(rt: HostRuntime) -> Result<(), Fail> {
+fn tells_why_a_read_was_refused(rt: HostRuntime) -> Result<(), Fail> {
     let refused = SketchSlice::new(&[]).read_u8().err().ok_or("read")?;
     let text = refused.to_string(rt.alloc())?;
     let error = insufficient_data(rt.alloc(), "preamble", refused);
