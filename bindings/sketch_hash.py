@@ -1,7 +1,4 @@
-"""The library from Python: objects like those of hashlib, over the shared library.
-
-python3 sketch_hash.py LIBRARY compares them with known answers.
-"""
+"""Objects like those of hashlib: python3 sketch_hash.py LIBRARY compares them with known answers."""
 import ctypes
 import sys
 from ctypes import POINTER, Structure, c_char_p, c_size_t, c_ubyte, c_uint64
@@ -13,11 +10,6 @@ class _State(Structure):
 
 class _Pair(Structure):
     _fields_ = [("h1", c_uint64), ("h2", c_uint64)]
-
-
-def _bytes_of(data):
-    """All bytes of a bytes-like object, whatever the width of its elements."""
-    return data if isinstance(data, bytes) else memoryview(data).tobytes()
 
 
 def load(path):
@@ -41,14 +33,14 @@ def load(path):
             self.update(data)
 
         def update(self, data):
-            data = _bytes_of(data)
+            data = memoryview(data).tobytes()
             update(self._state, data, len(data))
 
         def hexdigest(self):
             return f"{digest(self._state):016x}"
 
     def murmur3_128(data, seed=0):
-        data = _bytes_of(data)
+        data = memoryview(data).tobytes()
         pair = murmur(data, len(data), seed)
         return f"{pair.h1:016x}{pair.h2:016x}"
 
@@ -58,8 +50,7 @@ def load(path):
 if __name__ == "__main__":
     xxh64, murmur3_128 = load(sys.argv[1])
     fox = b"The quick brown fox jumps over the lazy dog"
-    hasher = xxh64()
-    hasher.update(fox[:7])
+    hasher = xxh64(fox[:7])
     hasher.update(fox[7:])
     assert hasher.hexdigest() == xxh64(fox).hexdigest() == "0b242d361fda71bc"
     assert murmur3_128(fox) == murmur3_128(bytearray(fox)) == "e34bbc7bbc071b6c7a433ca9c49a9347"
