@@ -15,9 +15,6 @@ ghost use Rattle.sketch_hash.specs.Xxh64.{xxh64};
 use sketch_hash::hash::{Hasher, MurmurHash3X64128, XxHash64};
 use sketch_hash::laws::{murmur_step_laws, piece_laws, xxh64_step_laws};
 
-#[cfg(test)]
-mod tests;
-
 /// The Murmur pairs of two streams, each under its own seed.
 ///
 /// Under one seed, two streams of one length that differ in one aligned block of sixteen bytes only

@@ -9,6 +9,3 @@ mod item;
 pub use self::decode::{Short, SketchSlice};
 pub use self::encode::{SketchBytes, Stopped};
 pub use self::item::{Item, Kind};
-
-#[cfg(test)]
-mod tests;

@@ -5,8 +5,6 @@
 #![tactic(auto)]
 
 mod murmur;
-#[cfg(test)]
-mod tests;
 mod xxh64;
 
 pub use self::murmur::{

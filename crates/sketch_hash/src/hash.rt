@@ -6,8 +6,6 @@ mod murmurhash;
 mod put;
 mod seed;
 mod tail;
-#[cfg(test)]
-mod tests;
 pub mod value;
 mod words;
 mod xxhash;

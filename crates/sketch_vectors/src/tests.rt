@@ -1,7 +1,13 @@
 mod both;
+mod codec;
 mod cuts;
 mod equalities;
+mod error;
 mod fed;
+mod hash;
+mod laws;
 mod member;
 mod samples;
+mod table;
+mod value;
 mod vectors;

@@ -116,6 +116,3 @@ fn printed_range(alloc: Global, start: Bound<u8>, end: Bound<u8>) -> Result<Stri
         (Unbounded, Unbounded) => Ok(String::new(alloc)),
     }
 }
-
-#[cfg(test)]
-pub(crate) mod tests;

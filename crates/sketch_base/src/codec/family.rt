@@ -118,6 +118,3 @@ impl Family {
         }
     }
 }
-
-#[cfg(test)]
-mod tests;

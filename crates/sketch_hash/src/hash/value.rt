@@ -8,8 +8,6 @@
 pub mod natural_extend;
 pub mod raw_bytes;
 pub mod sign_extend;
-#[cfg(test)]
-mod tests;
 
 ghost use Rattle.std.specs.Prelude.{◌≡◌, ℕ, List, [], ◌++◌, IsTrue};
 ghost use Rattle.std.specs.List.{flat_map};

@@ -1,7 +1,7 @@
-use crate::MemberTable;
-use crate::laws::{read_again, read_back};
 use datasketches::error::Error;
 use datasketches::hash::value::raw_bytes;
+use sketch_member::MemberTable;
+use sketch_member::laws::{read_again, read_back};
 use std::alloc::Global;
 use std::process::Abort;
 use std::test::Fail;

@@ -1,9 +1,11 @@
 ghost use Rattle.std.specs.Prelude.{◌≡◌, ◌↔◌, IfOk, IsTrue, length, map};
 ghost use Rattle.sketch_base.specs.Items.{item_kind};
 
+mod assert;
+mod family;
 mod without_memory;
 
-use super::*;
+use datasketches::codec::{Item, Kind, Short, SketchBytes, SketchSlice, Stopped};
 use std::alloc::{AllocError, Global};
 use std::io;
 use std::test::Fail;
@@ -385,9 +387,12 @@ fn reads_one_number_behind_another(rt: HostRuntime) {
 fn refused_reads_take_no_memory(rt: HostRuntime) {
     let mut reader = SketchSlice::new(&[1, 0, 7]);
     let read = reader.read_u16_le().ok();
-    let refused = reader.read_u32_be().is_err();
+    let refused = reader.read_u32_be().err().map(|error| error.kind());
     let rest = reader.remaining().len();
-    assert_eq!(rt; (read, refused, rest), (Some(1), true, 0));
+    assert_eq!(rt;
+        (read, refused, rest),
+        (Some(1), Some(io::ErrorKind::UnexpectedEof), 0)
+    );
     assert!(rt; reader.read_exact(&mut []).is_ok());
     assert!(rt; reader.read_u8().is_err());
 }
@@ -396,14 +401,12 @@ fn refused_reads_take_no_memory(rt: HostRuntime) {
 fn numbers_cut_short_are_refused(rt: HostRuntime) {
     for (item, _) in &EDGES {
         for count in 0..item.kind().width() {
+            let mut places = [Item::U8(0)];
             let mut reader = SketchSlice::new(&[1, 2, 3, 4, 5, 6, 7, 8][..count]);
-            let refused = reader
-                .read_item(item.kind())
-                .err()
-                .map(|error| error.kind());
+            let answer = reader.read_items(&[item.kind()], &mut places);
             assert_eq!(rt;
-                (refused, reader.remaining().len()),
-                (Some(io::ErrorKind::UnexpectedEof), 0),
+                (answer, reader.remaining().len()),
+                (Err(Short { read: 0 }), 0),
                 "{count} bytes for {item:?}"
             );
         }

@@ -4,7 +4,7 @@ use Rattle.sketch_base.specs.Items.{spell_all, widths}
 use Rattle.sketch_base.specs.WriterValue.{WriterValue}
 use Rattle.sketch_base.proofs.ItemLemmas.{widths-take-le}
 use Rattle.sketch_base.proofs.ItemLawLemmas.{length-spell_all, read_back, leave_rest}
-use Rattle.sketch_base.proofs.codec.tests.there_and_back.Goals as goal
+use Rattle.sketch_vectors.proofs.tests.codec.there_and_back.Goals as goal
 
 -- what holds ok_of_any holds of an Ok
 ok_of_any : {X E : Type 0} (r : Result X E) (P : Type 0) → P → IfOk r (λ _. P)

@@ -2,9 +2,9 @@
 
 ghost use Rattle.std.specs.Prelude.{◌≡◌, ◌↔◌, IsTrue, MatchResult};
 
-use super::natural_extend::NaturalExtendStrategy;
-use super::sign_extend::{self, SignExtendStrategy};
-use super::{Value, calculate_hash, raw_bytes, value_law};
+use datasketches::hash::value::natural_extend::NaturalExtendStrategy;
+use datasketches::hash::value::sign_extend::{self, SignExtendStrategy};
+use datasketches::hash::value::{Value, calculate_hash, raw_bytes, value_law};
 use std::alloc::AllocError;
 use std::cmp::Ordering;
 

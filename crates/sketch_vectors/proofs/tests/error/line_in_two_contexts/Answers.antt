@@ -3,7 +3,7 @@ use Rattle.std.specs.Result.{result_ok}
 use Rattle.std.specs.Fmt.{decimal, digits}
 use Rattle.sketch_base.specs.declared.error.ErrorKind.TheVariants.{InvalidData}
 use Rattle.sketch_base.specs.ErrorValue.{ErrorValue, error_of, add_context, line}
-use Rattle.sketch_base.proofs.error.tests.line_in_two_contexts.Goals as goal
+use Rattle.sketch_vectors.proofs.tests.error.line_in_two_contexts.Goals as goal
 
 forty_two : decimal 42 ≡ codes "42"
 unfolding digits

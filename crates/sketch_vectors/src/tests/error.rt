@@ -1,7 +1,9 @@
 ghost use Rattle.std.specs.Prelude.{◌≡◌, ◌↔◌, codes, IfErr, IfSome, IsTrue, string_bytes};
 ghost use Rattle.sketch_base.specs.ErrorValue.{memory_error};
 
-use super::*;
+use datasketches::error::{Error, ErrorKind};
+use std::alloc::{AllocError, Global};
+use std::fmt;
 use std::process::Abort;
 use std::test::Fail;
 
@@ -432,7 +434,7 @@ fn contexts_without_memory(rt: HostRuntime) {
 }
 
 // Asserts that an error tells of the data by this message, or of memory by none.
-pub(crate) fn assert_told(rt: &impl Abort, error: Error, message: &str) {
+pub(super) fn assert_told(rt: &impl Abort, error: Error, message: &str) {
     let told = (error.kind(), error.message());
     let is_of_data = told == (ErrorKind::InvalidData, message);
     let is_of_memory = told == (ErrorKind::OutOfMemory, "");

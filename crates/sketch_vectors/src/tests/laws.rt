@@ -1,4 +1,4 @@
-use super::{murmur_both, xx_both};
+use datasketches::laws::{murmur_both, xx_both};
 use sketch_hash::examples::TEST_BUFFER;
 
 const OTHER_SEED: u64 = 2_654_435_761;

@@ -1,12 +1,18 @@
-use super::*;
-use crate::codec::SketchSlice;
-use crate::codec::family::Family;
-use crate::error::tests::assert_told;
+use crate::tests::error::assert_told;
+use datasketches::codec::SketchSlice;
+use datasketches::codec::assert::{
+    ensure_preamble_longs_in, ensure_preamble_longs_in_range, ensure_serial_version_is,
+    insufficient_data,
+};
+use datasketches::codec::family::Family;
+use datasketches::error::{Error, ErrorKind};
+use std::alloc::{AllocError, Global};
+use std::ops::Bound::{self, Excluded, Included, Unbounded};
 use std::process::Abort;
 use std::test::Fail;
 
 // Asserts that a refusal has this line; that of a number that is accepted is empty.
-pub(crate) fn assert_line(rt: &impl Abort, alloc: Global, answer: Result<(), Error>, line: &str) {
+pub(super) fn assert_line(rt: &impl Abort, alloc: Global, answer: Result<(), Error>, line: &str) {
     let printed = match answer {
         Ok(()) => Ok(String::new(alloc)),
         Err(error) => error.to_string(alloc),

@@ -1,7 +1,7 @@
 //! Writers where memory runs out. Each test holds whichever request for memory is refused.
 
 use super::{ROW, ROW_BYTES};
-use crate::codec::{Item, Kind, SketchBytes, SketchSlice, Stopped};
+use datasketches::codec::{Item, Kind, SketchBytes, SketchSlice, Stopped};
 
 // What each of the three writes below adds.
 const PIECES: [&[u8]; 3] = [&[1, 0], &[2, 3, 4], &[0, 0, 0, 0, 0, 0, 0, 5]];

@@ -1,7 +1,7 @@
 ghost use Rattle.std.specs.Prelude.{◌≡◌, ℕ, List, [], ◌∷◌, codes, map};
 
-use super::*;
-use crate::codec::assert::tests::assert_line;
+use super::assert::assert_line;
+use datasketches::codec::family::Family;
 
 // A caller's proof knows the fields of each family.
 fn families() -> [Family; 10]

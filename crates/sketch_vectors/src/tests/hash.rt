@@ -1,10 +1,10 @@
 ghost use Rattle.std.specs.Prelude.{◌≡◌, ◌++◌};
 
-use super::{
+use datasketches::error::{Error, ErrorKind};
+use datasketches::hash::{
     DEFAULT_UPDATE_SEED, Hasher, MurmurHash3X64128, XxHash64, check_seed_hash, compute_seed_hash,
 };
-use crate::examples::TEST_BUFFER;
-use sketch_base::error::{Error, ErrorKind};
+use sketch_hash::examples::TEST_BUFFER;
 use std::alloc::{AllocError, Global};
 
 const FOX: &str = "The quick brown fox jumps over the lazy dog";

@@ -1,9 +1,9 @@
 //! Tables where memory runs out. Each test holds whichever request for memory is refused.
 
 use super::{ONE_VALUE_1, ONE_VALUE_2, UNKNOWN_COUNT};
-use crate::MemberTable;
 use datasketches::error::{Error, ErrorKind};
 use datasketches::hash::value::raw_bytes;
+use sketch_member::MemberTable;
 use std::alloc::Global;
 
 // Whether the error tells of want of memory.
