@@ -5,5 +5,4 @@ pub mod own;
 pub mod seen;
 pub mod sketch;
 pub mod streams;
-#[cfg(test)]
 mod tests;

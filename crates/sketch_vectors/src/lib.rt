@@ -8,8 +8,11 @@
 //! other rows of `tests/fed.rt` follow from what a value feeds.
 #![tactic(auto)]
 
-pub mod callers;
-pub mod examples;
-pub mod first_bytes;
+#[cfg(test)]
+mod callers;
+#[cfg(test)]
+mod examples;
+#[cfg(test)]
+mod first_bytes;
 #[cfg(test)]
 mod tests;

@@ -11,3 +11,21 @@ mod samples;
 mod table;
 mod value;
 mod vectors;
+
+use std::fmt::Debug;
+use std::process::Abort;
+
+// Asserts that two values are equal. As one function it is proved once, and not at each place.
+pub(crate) fn assert_same<T: PartialEq + Debug + Drop>(rt: &impl Abort, left: T, right: T) {
+    assert_eq!(rt; left, right);
+}
+
+// Asserts it of one case among several.
+pub(crate) fn assert_same_for<T: PartialEq + Debug + Drop>(
+    rt: &impl Abort,
+    left: T,
+    right: T,
+    case: impl Debug + Drop,
+) {
+    assert_eq!(rt; left, right, "for {case:?}");
+}

@@ -3,6 +3,14 @@ mod fakes;
 mod program;
 mod run;
 
+use std::fmt::Debug;
+use std::process::Abort;
+
 const FOX: &[u8] = b"The quick brown fox jumps over the lazy dog";
 
 const FOX_LINE: &str = "e34bbc7bbc071b6c7a433ca9c49a9347\n";
+
+// Asserts that two values are equal. As one function it is proved once, and not at each place.
+fn assert_same<T: PartialEq + Debug + Drop>(rt: &impl Abort, left: T, right: T) {
+    assert_eq!(rt; left, right);
+}

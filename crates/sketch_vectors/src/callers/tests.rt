@@ -5,6 +5,7 @@ use super::own::{BigEndian, Point};
 use super::sketch::{read_sketch, write_sketch};
 use super::streams::{checkpoint, murmur_of_pieces, xxh64_from, xxh64_of_pieces};
 use crate::first_bytes::FirstBytes;
+use crate::tests::assert_same;
 use datasketches::codec::{Item, Kind};
 use datasketches::error::{Error, ErrorKind};
 use datasketches::hash::Hash;
@@ -35,7 +36,7 @@ fn read(alloc: Global, bytes: &[u8], seed: u64, kind: Kind) -> Result<Item, Erro
 #[test]
 fn reading_a_sketch_takes_no_memory(rt: HostRuntime) {
     let item = read(rt.alloc(), &SKETCH, 9001, Kind::U64Le);
-    assert_eq!(rt; item.ok(), Some(Item::U64Le(258)));
+    assert_same(&rt, item.ok(), Some(Item::U64Le(258)));
 }
 
 // Whether the bytes are refused with this message.
@@ -99,14 +100,15 @@ fn read_or_refusal(
 
 #[test]
 fn a_seed_with_no_hash_is_refused(rt: HostRuntime) {
-    assert_eq!(rt;
+    assert_same(
+        &rt,
         read_or_refusal(
             rt.alloc(),
             &SKETCH,
             50541,
-            "seed 50541 produces a seed hash of zero"
+            "seed 50541 produces a seed hash of zero",
         ),
-        Err((ErrorKind::InvalidArgument, true))
+        Err((ErrorKind::InvalidArgument, true)),
     );
 }
 
@@ -117,34 +119,36 @@ fn a_stream_in_pieces_has_one_hash(rt: HostRuntime) {
         raw_bytes::from_slice(b""),
         raw_bytes::from_slice(b"jumps over the lazy dog"),
     ];
-    assert_eq!(rt;
+    assert_same(
+        &rt,
         murmur_of_pieces(0, &pieces),
-        (0xe34b_bc7b_bc07_1b6c, 0x7a43_3ca9_c49a_9347)
+        (0xe34b_bc7b_bc07_1b6c, 0x7a43_3ca9_c49a_9347),
     );
-    assert_eq!(rt; xxh64_of_pieces(0, &pieces), 0x0b24_2d36_1fda_71bc);
+    assert_same(&rt, xxh64_of_pieces(0, &pieces), 0x0b24_2d36_1fda_71bc);
 }
 
 #[test]
 fn a_stream_goes_on_from_a_checkpoint(rt: HostRuntime) {
     let state = checkpoint(0, b"The quick brown fox jumps over the");
-    assert_eq!(rt; xxh64_from(&state, b" lazy dog"), 0x0b24_2d36_1fda_71bc);
+    assert_same(&rt, xxh64_from(&state, b" lazy dog"), 0x0b24_2d36_1fda_71bc);
 }
 
 #[test]
 fn a_sketch_that_was_written_is_read(rt: HostRuntime) {
     let sketch = write_sketch(rt.alloc(), 9001, &[Item::U64Le(258)]).ok();
-    assert_eq!(rt; sketch.as_deref(), Some(SKETCH.as_slice()));
+    assert_same(&rt, sketch.as_deref(), Some(SKETCH.as_slice()));
 }
 
 #[test]
 fn own_types_feed_their_bytes(rt: HostRuntime) {
     let mut point = FirstBytes::new();
     Point { x: 1, y: -1 }.hash(&mut point);
-    assert_eq!(rt;
+    assert_same(
+        &rt,
         point.bytes(),
-        [1, 0, 0, 0, 0xff, 0xff, 0xff, 0xff].as_slice()
+        [1, 0, 0, 0, 0xff, 0xff, 0xff, 0xff].as_slice(),
     );
     let mut key = FirstBytes::new();
     BigEndian::new(258).hash(&mut key);
-    assert_eq!(rt; key.bytes(), [0, 0, 0, 0, 0, 0, 1, 2].as_slice());
+    assert_same(&rt, key.bytes(), [0, 0, 0, 0, 0, 0, 1, 2].as_slice());
 }

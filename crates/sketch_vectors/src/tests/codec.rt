@@ -5,6 +5,7 @@ mod assert;
 mod family;
 mod without_memory;
 
+use crate::tests::{assert_same, assert_same_for};
 use datasketches::codec::{Item, Kind, Short, SketchBytes, SketchSlice, Stopped};
 use std::alloc::{AllocError, Global};
 use std::io;
@@ -87,9 +88,10 @@ const ROW_BYTES: [u8; 15] = [1, 0, 0, 0, 2, 3, 0, 0, 0, 0, 0, 0, 0, 4, 5];
 fn reads_items_back(rt: HostRuntime) {
     let mut places = [Item::U8(0); 5];
     let rest = there_and_back(rt.alloc(), &ROW, &KINDS, &[0xaa, 0xbb], &mut places).ok();
-    assert_eq!(rt;
+    assert_same(
+        &rt,
         (places, rest.as_deref()),
-        (ROW, Some([0xaa, 0xbb].as_slice()))
+        (ROW, Some([0xaa, 0xbb].as_slice())),
     );
 }
 
@@ -97,9 +99,10 @@ fn reads_items_back(rt: HostRuntime) {
 fn writes_items_into_memory_that_grows(rt: HostRuntime) -> Result<(), Fail> {
     let mut writer = SketchBytes::with_capacity(rt.alloc(), 0)?;
     let answers = [writer.write_items(&[]), writer.write_items(&ROW)];
-    assert_eq!(rt;
+    assert_same(
+        &rt,
         (answers, writer.into_bytes().as_slice()),
-        ([Ok(()); 2], ROW_BYTES.as_slice())
+        ([Ok(()); 2], ROW_BYTES.as_slice()),
     );
     Ok(())
 }
@@ -109,17 +112,18 @@ fn lists_that_do_not_fit_take_no_memory(rt: HostRuntime) {
     let mut places = [Item::U8(0); 3];
     let mut reader = SketchSlice::new(&[9, 1]);
     let short = reader.read_items(&[Kind::U8, Kind::U16Le, Kind::U8], &mut places);
-    assert_eq!(rt;
+    assert_same(
+        &rt,
         (short, places, reader.remaining().is_empty()),
         (
             Err(Short { read: 1 }),
             [Item::U8(9), Item::U8(0), Item::U8(0)],
-            true
-        )
+            true,
+        ),
     );
     let mut reader = SketchSlice::new(&[1]);
     let nothing = reader.read_items(&[], &mut []);
-    assert_eq!(rt; (nothing, reader.remaining()), (Ok(()), [1].as_slice()));
+    assert_same(&rt, (nothing, reader.remaining()), (Ok(()), [1].as_slice()));
 }
 
 // Items that differ in their form or in their number alone.
@@ -136,10 +140,10 @@ const APART: [Item; 6] = [
 fn tells_items_and_kinds_apart(rt: HostRuntime) {
     for (i, a) in APART.iter().enumerate() {
         for (j, b) in APART.iter().enumerate() {
-            assert_eq!(rt; (is_same_item(a, b), *a != *b), (i == j, i != j));
+            assert_same(&rt, (is_same_item(a, b), *a != *b), (i == j, i != j));
             let (k, l) = (a.kind(), b.kind());
             let same = i == j || i + j == 1;
-            assert_eq!(rt; (is_same_kind(&k, &l), k != l), (same, !same));
+            assert_same(&rt, (is_same_kind(&k, &l), k != l), (same, !same));
         }
     }
 }
@@ -148,14 +152,16 @@ fn tells_items_and_kinds_apart(rt: HostRuntime) {
 fn tells_counts_apart(rt: HostRuntime) {
     for (a, b) in [(0, 0), (0, 1), (7, 7), (usize::MAX, 0)] {
         let (short, other) = (Short { read: a }, Short { read: b });
-        assert_eq!(rt;
+        assert_same(
+            &rt,
             (is_same_short(&short, &other), short != other),
-            (a == b, a != b)
+            (a == b, a != b),
         );
         let (stopped, other) = (Stopped { accepted: a }, Stopped { accepted: b });
-        assert_eq!(rt;
+        assert_same(
+            &rt,
             (is_same_stopped(&stopped, &other), stopped != other),
-            (a == b, a != b)
+            (a == b, a != b),
         );
     }
 }
@@ -164,12 +170,13 @@ fn tells_counts_apart(rt: HostRuntime) {
 fn prints_how_far_a_list_came(rt: HostRuntime) -> Result<(), Fail> {
     let short = Short { read: 3 }.to_string(rt.alloc())?;
     let stopped = Stopped { accepted: 0 }.to_string(rt.alloc())?;
-    assert_eq!(rt;
+    assert_same(
+        &rt,
         (short.as_str(), stopped.as_str()),
         (
             "insufficient data after 3 items",
-            "out of memory after 0 items"
-        )
+            "out of memory after 0 items",
+        ),
     );
     Ok(())
 }
@@ -295,7 +302,7 @@ fn first_item(kind: Kind, bytes: &[u8]) -> Option<Item> {
 fn spells_every_form_at_its_edges(rt: HostRuntime) {
     for (item, bytes) in &EDGES {
         let written = bytes_of(rt.alloc(), *item);
-        assert_eq!(rt; written.as_deref(), Some(*bytes), "writing {item:?}");
+        assert_same_for(&rt, written.as_deref(), Some(*bytes), item);
     }
 }
 
@@ -303,9 +310,10 @@ fn spells_every_form_at_its_edges(rt: HostRuntime) {
 fn reads_of_every_form_take_no_memory(rt: HostRuntime) {
     for (item, bytes) in &EDGES {
         let kind = item.kind();
-        assert_eq!(rt;
+        assert_same(
+            &rt,
             (kind.width(), first_item(kind, bytes)),
-            (bytes.len(), Some(*item))
+            (bytes.len(), Some(*item)),
         );
     }
 }
@@ -317,9 +325,10 @@ fn writes_within_room_cannot_fail(rt: HostRuntime) -> Result<(), Fail> {
     writer.write_u16_be(0x0102).unwrap();
     writer.write_i8(-1).unwrap();
     let huge = SketchBytes::with_capacity(rt.alloc(), usize::MAX).is_err();
-    assert_eq!(rt;
+    assert_same(
+        &rt,
         (writer.into_bytes().as_slice(), huge),
-        ([2, 1, 1, 2, 0xff].as_slice(), true)
+        ([2, 1, 1, 2, 0xff].as_slice(), true),
     );
     Ok(())
 }
@@ -349,7 +358,7 @@ fn writes_every_kind_of_number(rt: HostRuntime) -> Result<(), Fail> {
         writer.write_i64_be(-2),
     ];
     assert!(rt; answers == [Ok(()); 12]);
-    assert_eq!(rt; writer.into_bytes().as_slice(), NUMBERS.as_slice());
+    assert_same(&rt, writer.into_bytes().as_slice(), NUMBERS.as_slice());
     Ok(())
 }
 
@@ -362,9 +371,10 @@ const TWO_NUMBERS: [u8; 12] = [
 fn writes_one_number_behind_another(rt: HostRuntime) -> Result<(), Fail> {
     let mut writer = SketchBytes::with_capacity(rt.alloc(), 0)?;
     let answers = [writer.write_i64_be(-2), writer.write_i32_le(-2_147_483_648)];
-    assert_eq!(rt;
+    assert_same(
+        &rt,
         (answers, writer.into_bytes().as_slice()),
-        ([Ok(()); 2], TWO_NUMBERS.as_slice())
+        ([Ok(()); 2], TWO_NUMBERS.as_slice()),
     );
     Ok(())
 }
@@ -372,14 +382,16 @@ fn writes_one_number_behind_another(rt: HostRuntime) -> Result<(), Fail> {
 #[test]
 fn reads_one_number_behind_another(rt: HostRuntime) {
     let mut reader = SketchSlice::new(&TWO_NUMBERS);
-    assert_eq!(rt;
+    assert_same(
+        &rt,
         (reader.read_i64_be().ok(), reader.read_i32_le().ok()),
-        (Some(-2), Some(-2_147_483_648))
+        (Some(-2), Some(-2_147_483_648)),
     );
     let mut reader = SketchSlice::new(&[0xff, 0xfe, 0xfe, 0xff]);
-    assert_eq!(rt;
+    assert_same(
+        &rt,
         (reader.read_i16_be().ok(), reader.read_i16_le().ok()),
-        (Some(-2), Some(-2))
+        (Some(-2), Some(-2)),
     );
 }
 
@@ -389,9 +401,10 @@ fn refused_reads_take_no_memory(rt: HostRuntime) {
     let read = reader.read_u16_le().ok();
     let refused = reader.read_u32_be().err().map(|error| error.kind());
     let rest = reader.remaining().len();
-    assert_eq!(rt;
+    assert_same(
+        &rt,
         (read, refused, rest),
-        (Some(1), Some(io::ErrorKind::UnexpectedEof), 0)
+        (Some(1), Some(io::ErrorKind::UnexpectedEof), 0),
     );
     assert!(rt; reader.read_exact(&mut []).is_ok());
     assert!(rt; reader.read_u8().is_err());
@@ -404,10 +417,11 @@ fn numbers_cut_short_are_refused(rt: HostRuntime) {
             let mut places = [Item::U8(0)];
             let mut reader = SketchSlice::new(&[1, 2, 3, 4, 5, 6, 7, 8][..count]);
             let answer = reader.read_items(&[item.kind()], &mut places);
-            assert_eq!(rt;
+            assert_same_for(
+                &rt,
                 (answer, reader.remaining().len()),
                 (Err(Short { read: 0 }), 0),
-                "{count} bytes for {item:?}"
+                (count, item),
             );
         }
     }
@@ -418,9 +432,10 @@ fn leaves_the_buffer_of_a_refused_read(rt: HostRuntime) {
     let mut buf = [0xaa, 0xbb, 0xcc, 0xdd];
     let mut reader = SketchSlice::new(&[1, 2, 3]);
     let refused = reader.read_exact(&mut buf).is_err();
-    assert_eq!(rt;
+    assert_same(
+        &rt,
         (refused, buf, reader.remaining().is_empty()),
-        (true, [0xaa, 0xbb, 0xcc, 0xdd], true)
+        (true, [0xaa, 0xbb, 0xcc, 0xdd], true),
     );
 }
 
@@ -434,7 +449,7 @@ fn advances_no_further_than_the_end(rt: HostRuntime) {
         let mut reader = SketchSlice::new(&[1, 2, 3]);
         reader.advance(first);
         reader.advance(then);
-        assert_eq!(rt; reader.remaining(), rest, "after {first} and {then}");
+        assert_same_for(&rt, reader.remaining(), rest, (first, then));
     }
 }
 
@@ -442,7 +457,7 @@ fn advances_no_further_than_the_end(rt: HostRuntime) {
 fn stays_at_the_end(rt: HostRuntime) {
     let mut reader = SketchSlice::new(&[1, 2, 3]);
     reader.advance(1);
-    assert_eq!(rt; reader.remaining(), [2, 3].as_slice());
+    assert_same(&rt, reader.remaining(), [2, 3].as_slice());
     for n in [u64::MAX - 1, u64::MAX, 0] {
         reader.advance(n);
         assert!(rt; reader.remaining().is_empty(), "after {n}");
@@ -459,6 +474,6 @@ fn writes_a_hundred_thousand_numbers(rt: HostRuntime) -> Result<(), Fail> {
     }
     let bytes = writer.into_bytes();
     let is_last = bytes.ends_with(&[0x9f, 0x86, 1, 0, 0, 0, 0, 0]);
-    assert_eq!(rt; (bytes.len(), is_last), (800_000, true));
+    assert_same(&rt, (bytes.len(), is_last), (800_000, true));
     Ok(())
 }

@@ -1,6 +1,7 @@
 //! However a stream is cut into writes, the answer is that of one write.
 
 use super::both::Both;
+use crate::tests::assert_same_for;
 use datasketches::hash::{MurmurHash3X64128, XxHash64};
 
 // Both hashers, given nothing.
@@ -35,11 +36,7 @@ fn two_writes_answer_as_one(rt: HostRuntime) {
         let bytes = &all[..len];
         for cut in 0..=len {
             let (front, back) = bytes.split_at(cut);
-            assert_eq!(rt;
-                answers(&[front, back]),
-                answers(&[bytes]),
-                "{cut} of {len}"
-            );
+            assert_same_for(&rt, answers(&[front, back]), answers(&[bytes]), (cut, len));
         }
     }
 }
@@ -51,10 +48,11 @@ fn three_writes_answer_as_one(rt: HostRuntime) {
         let (front, back) = all.split_at(second);
         for first in 0..=front.len() {
             let (start, middle) = front.split_at(first);
-            assert_eq!(rt;
+            assert_same_for(
+                &rt,
                 answers(&[start, middle, back]),
                 answers(&[&all]),
-                "{first}, {second}"
+                (first, second),
             );
         }
     }
@@ -68,11 +66,7 @@ fn each_byte_can_be_asked_after(rt: HostRuntime) {
         both.write(&[]);
         both.write(&all[at..at + 1]);
         let so_far = answers(&[&all[..at + 1]]);
-        assert_eq!(rt;
-            [both.answers(), both.answers()],
-            [so_far; 2],
-            "after byte {at}"
-        );
+        assert_same_for(&rt, [both.answers(), both.answers()], [so_far; 2], at);
     }
 }
 
@@ -97,10 +91,11 @@ fn states_answer_as_hashers(rt: HostRuntime) {
         let (front, back) = all.split_at(second);
         for first in 0..=front.len() {
             let (start, middle) = front.split_at(first);
-            assert_eq!(rt;
+            assert_same_for(
+                &rt,
                 state_answers(&[start, middle, back]),
                 answers(&[&all]),
-                "{first}, {second}"
+                (first, second),
             );
         }
     }

@@ -1,12 +1,14 @@
 //! Equalities of hashes: those that the original documents, and the like of other forms.
 
+use crate::tests::{assert_same, assert_same_for};
 use datasketches::hash::value::{calculate_hash, natural_extend, raw_bytes, sign_extend};
 use std::alloc::{AllocError, Global};
 use std::cmp::Ordering;
 
 #[test]
 fn numbers_extended_by_their_highest_bit(rt: HostRuntime) {
-    assert_eq!(rt;
+    assert_same(
+        &rt,
         [
             calculate_hash(sign_extend::from_i8(-1)),
             calculate_hash(sign_extend::from_u8(255)),
@@ -15,13 +17,15 @@ fn numbers_extended_by_their_highest_bit(rt: HostRuntime) {
             calculate_hash(sign_extend::from_i32(-1)),
             calculate_hash(sign_extend::from_u32(4294967295)),
         ],
-        [calculate_hash(-1i64); 6]
+        [calculate_hash(-1i64); 6],
     );
-    assert_eq!(rt;
+    assert_same(
+        &rt,
         calculate_hash(sign_extend::from_u8(1)),
-        calculate_hash(1i64)
+        calculate_hash(1i64),
     );
-    assert_eq!(rt;
+    assert_same(
+        &rt,
         [
             calculate_hash(sign_extend::from_i8(42)),
             calculate_hash(sign_extend::from_u8(42)),
@@ -30,29 +34,32 @@ fn numbers_extended_by_their_highest_bit(rt: HostRuntime) {
             calculate_hash(sign_extend::from_i32(42)),
             calculate_hash(sign_extend::from_u32(42)),
         ],
-        [calculate_hash(42i64); 6]
+        [calculate_hash(42i64); 6],
     );
 }
 
 #[test]
 fn numbers_extended_by_their_value(rt: HostRuntime) {
-    assert_eq!(rt;
+    assert_same(
+        &rt,
         [
             calculate_hash(natural_extend::from_u8(255)),
             calculate_hash(natural_extend::from_u16(65535)),
             calculate_hash(natural_extend::from_u32(4294967295)),
         ],
-        [255u64, 65535, 4294967295].map(calculate_hash)
+        [255u64, 65535, 4294967295].map(calculate_hash),
     );
-    assert_eq!(rt;
+    assert_same(
+        &rt,
         [
             calculate_hash(natural_extend::from_i8(-1)),
             calculate_hash(natural_extend::from_i16(-1)),
             calculate_hash(natural_extend::from_i32(-1)),
         ],
-        [calculate_hash(-1i64); 3]
+        [calculate_hash(-1i64); 3],
     );
-    assert_eq!(rt;
+    assert_same(
+        &rt,
         [
             calculate_hash(42i64),
             calculate_hash(natural_extend::from_i8(42)),
@@ -62,13 +69,14 @@ fn numbers_extended_by_their_value(rt: HostRuntime) {
             calculate_hash(natural_extend::from_i32(42)),
             calculate_hash(natural_extend::from_u32(42)),
         ],
-        [calculate_hash(42u64); 7]
+        [calculate_hash(42u64); 7],
     );
 }
 
 #[test]
 fn numbers_of_64_bits_meet_the_short_ones(rt: HostRuntime) {
-    assert_eq!(rt;
+    assert_same(
+        &rt,
         [
             calculate_hash(natural_extend::from_i64(-1)),
             calculate_hash(natural_extend::from_u8(255)),
@@ -78,7 +86,7 @@ fn numbers_of_64_bits_meet_the_short_ones(rt: HostRuntime) {
             calculate_hash(natural_extend::from_u64(18446744073709551615)),
             calculate_hash(natural_extend::from_u64(255)),
             calculate_hash(sign_extend::from_i64(-1)),
-        ]
+        ],
     );
 }
 
@@ -96,7 +104,7 @@ fn of_text(alloc: Global, text: &str) -> Result<[u64; 4], AllocError> {
 fn bytes_and_texts_agree(rt: HostRuntime) -> Result<(), AllocError> {
     for text in ["abc", ""] {
         let [vec, slice, string, str] = of_text(rt.alloc(), text)?;
-        assert_eq!(rt; [vec, slice, string], [str; 3], "{text}");
+        assert_same_for(&rt, [vec, slice, string], [str; 3], text);
     }
     Ok(())
 }
@@ -125,11 +133,11 @@ fn wrapped_numbers_behave_as_numbers(rt: HostRuntime) {
     let minus_one = sign_extend::from_i8(-1);
     assert!(rt; sign_extend::from_u8(3) < sign_extend::from_u8(4));
     assert!(rt; sign_extend::from_u8(3) == sign_extend::from_u8(3));
-    assert_eq!(rt; minus_one.cmp(&sign_extend::from_i8(1)), Ordering::Less);
-    assert_eq!(rt; minus_one.clone().ok(), Some(minus_one));
+    assert_same(&rt, minus_one.cmp(&sign_extend::from_i8(1)), Ordering::Less);
+    assert_same(&rt, minus_one.clone().ok(), Some(minus_one));
     let mut nine = sign_extend::from_u16(9);
     *nine = 10;
-    assert_eq!(rt; nine.into_inner(), 10);
+    assert_same(&rt, nine.into_inner(), 10);
 }
 
 // The printed texts of the wrapped -1.
@@ -146,14 +154,9 @@ fn texts_of_minus_one(alloc: Global) -> Result<[String; 4], AllocError> {
 #[test]
 fn wrapped_numbers_print_as_numbers(rt: HostRuntime) -> Result<(), AllocError> {
     let [text, wide, debug, wide_debug] = texts_of_minus_one(rt.alloc())?;
-    assert_eq!(rt;
-        [
-            text.as_str(),
-            wide.as_str(),
-            debug.as_str(),
-            wide_debug.as_str()
-        ],
-        ["-1", "  -1", "-1", "  -1"]
-    );
+    assert_same(&rt, text.as_str(), "-1");
+    assert_same(&rt, wide.as_str(), "  -1");
+    assert_same(&rt, debug.as_str(), "-1");
+    assert_same(&rt, wide_debug.as_str(), "  -1");
     Ok(())
 }

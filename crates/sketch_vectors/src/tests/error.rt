@@ -1,6 +1,7 @@
 ghost use Rattle.std.specs.Prelude.{◌≡◌, ◌↔◌, codes, IfErr, IfSome, IsTrue, string_bytes};
 ghost use Rattle.sketch_base.specs.ErrorValue.{memory_error};
 
+use crate::tests::assert_same;
 use datasketches::error::{Error, ErrorKind};
 use std::alloc::{AllocError, Global};
 use std::fmt;
@@ -187,7 +188,7 @@ const ROWS: [Row; 15] = [
 
 // Asserts that a text was made, and that it is this one.
 fn assert_text(rt: &impl Abort, made: Result<String, AllocError>, text: &str) {
-    assert_eq!(rt; made.ok().as_deref(), Some(text));
+    assert_same(rt, made.ok().as_deref(), Some(text));
 }
 
 #[test]
@@ -284,9 +285,10 @@ fn prints_fields_in_the_alternate_form(rt: HostRuntime) -> Result<(), Fail> {
 #[test]
 fn keeps_kind_and_message(rt: HostRuntime) -> Result<(), Fail> {
     let bad = error(rt.alloc(), ErrorKind::InvalidArgument, "bad input")?;
-    assert_eq!(rt;
+    assert_same(
+        &rt,
         (bad.kind(), bad.message()),
-        (ErrorKind::InvalidArgument, "bad input")
+        (ErrorKind::InvalidArgument, "bad input"),
     );
     Ok(())
 }
@@ -300,7 +302,7 @@ fn tells_kinds_apart(rt: HostRuntime) {
     ];
     for (i, a) in kinds.iter().enumerate() {
         for (j, b) in kinds.iter().enumerate() {
-            assert_eq!(rt; (is_same_kind(*a, *b), *a != *b), (i == j, i != j));
+            assert_same(&rt, (is_same_kind(*a, *b), *a != *b), (i == j, i != j));
         }
     }
 }
@@ -361,9 +363,10 @@ fn a_refusal_of_memory_becomes_an_error(rt: HostRuntime) -> Result<(), Fail> {
     let alloc = rt.alloc();
     assert_text(&rt, copy_of_text(alloc, "x").map_err(|_| AllocError), "x");
     let error = Error::from(AllocError);
-    assert_eq!(rt;
+    assert_same(
+        &rt,
         (error.kind(), error.message()),
-        (ErrorKind::OutOfMemory, "")
+        (ErrorKind::OutOfMemory, ""),
     );
     assert_text(&rt, error.to_string(alloc), "OutOfMemory");
     assert_text(&rt, format!(in alloc; "{error:?}"), "OutOfMemory\n");
@@ -399,9 +402,10 @@ fn answers_a_message_that_does_not_print(rt: HostRuntime) {
         Error::insufficient_data(alloc, Unprintable),
         Error::insufficient_data_of(alloc, "header", Unprintable),
     ] {
-        assert_eq!(rt;
+        assert_same(
+            &rt,
             (error.kind(), error.message()),
-            (ErrorKind::OutOfMemory, "")
+            (ErrorKind::OutOfMemory, ""),
         );
     }
 }
@@ -429,7 +433,7 @@ fn contexts_without_memory(rt: HostRuntime) {
         (false, false) => "InvalidData => parsing failed",
     };
     if let Ok(text) = error.to_string(alloc) {
-        assert_eq!(rt; text.as_str(), line);
+        assert_same(&rt, text.as_str(), line);
     }
 }
 

@@ -1,6 +1,7 @@
 //! The bytes that values feed.
 
 use crate::first_bytes::FirstBytes;
+use crate::tests::{assert_same, assert_same_for};
 use datasketches::hash::value::{feed_all, natural_extend, raw_bytes, sign_extend};
 use datasketches::hash::{Hash, Hasher, MurmurHash3X64128};
 use std::alloc::AllocError;
@@ -16,7 +17,7 @@ fn fed<T: Hash + Drop>(value: T) -> FirstBytes {
 // Each hasher was fed the bytes beside it.
 fn assert_fed(rt: &impl Abort, cases: &[(FirstBytes, &[u8])]) {
     for (row, (fed, expected)) in cases.iter().enumerate() {
-        assert_eq!(rt; fed.bytes(), *expected, "row {row}");
+        assert_same_for(rt, fed.bytes(), *expected, row);
     }
 }
 
@@ -235,7 +236,8 @@ fn a_clone_feeds_what_its_original_feeds(rt: HostRuntime) -> Result<(), AllocErr
     let original = raw_bytes::from_vec(Vec::from_slice(rt.alloc(), &[1, 2, 3])?);
     let cloned = original.clone()?;
     let expected = [1, 2, 3].as_slice();
-    assert_eq!(rt; [fed(cloned).bytes(), fed(original).bytes()], [expected; 2]);
+    assert_same(&rt, fed(cloned).bytes(), expected);
+    assert_same(&rt, fed(original).bytes(), expected);
     Ok(())
 }
 
@@ -248,7 +250,7 @@ fn values_of_a_list_in_order(rt: HostRuntime) {
     ];
     let mut hasher = FirstBytes::new();
     feed_all(&texts, &mut hasher);
-    assert_eq!(rt; hasher.bytes(), b"abc".as_slice());
+    assert_same(&rt, hasher.bytes(), b"abc".as_slice());
 
     let pieces = [
         raw_bytes::from_slice(b"T"),
@@ -258,9 +260,10 @@ fn values_of_a_list_in_order(rt: HostRuntime) {
     ];
     let mut murmur = MurmurHash3X64128::with_seed(0);
     feed_all(&pieces, &mut murmur);
-    assert_eq!(rt;
+    assert_same(
+        &rt,
         murmur.finish128(),
-        (0xe34b_bc7b_bc07_1b6c, 0x7a43_3ca9_c49a_9347)
+        (0xe34b_bc7b_bc07_1b6c, 0x7a43_3ca9_c49a_9347),
     );
 }
 
@@ -269,6 +272,6 @@ fn only_the_first_bytes_are_kept(rt: HostRuntime) {
     let mut hasher = FirstBytes::new();
     hasher.write(&[1; 60]);
     hasher.write(&[2; 60]);
-    assert_eq!(rt; hasher.finish(), 64);
-    assert_eq!(rt; hasher.bytes().get(59..62), Some([1, 2, 2].as_slice()));
+    assert_same(&rt, hasher.finish(), 64);
+    assert_same(&rt, hasher.bytes().get(59..62), Some([1, 2, 2].as_slice()));
 }

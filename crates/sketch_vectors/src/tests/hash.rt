@@ -1,5 +1,6 @@
 ghost use Rattle.std.specs.Prelude.{◌≡◌, ◌++◌};
 
+use crate::tests::{assert_same, assert_same_for};
 use datasketches::error::{Error, ErrorKind};
 use datasketches::hash::{
     DEFAULT_UPDATE_SEED, Hasher, MurmurHash3X64128, XxHash64, check_seed_hash, compute_seed_hash,
@@ -65,32 +66,38 @@ fn two_writes_leave_what_one_leaves(rt: HostRuntime) {
     let mut xxhash = XxHash64::with_seed(0);
     write_both(&mut murmur3, front.as_bytes(), back.as_bytes());
     write_both(&mut xxhash, front.as_bytes(), back.as_bytes());
-    assert_eq!(rt;
+    assert_same(
+        &rt,
         (murmur3.finish128(), xxhash.finish64()),
-        (murmur(0, &[FOX]), xxh64(0, FOX.as_bytes()))
+        (murmur(0, &[FOX]), xxh64(0, FOX.as_bytes())),
     );
 }
 
 #[test]
 fn murmur_answers_however_the_fox_is_cut(rt: HostRuntime) {
     let expected = (0xe34b_bc7b_bc07_1b6c, 0x7a43_3ca9_c49a_9347);
-    assert_eq!(rt; murmur(0, &[FOX]), expected);
-    assert_eq!(rt;
+    assert_same(&rt, murmur(0, &[FOX]), expected);
+    assert_same(
+        &rt,
         murmur(
             0,
-            &["T", "he quick brown ", "fox jumps over t", "he lazy dog"]
+            &["T", "he quick brown ", "fox jumps over t", "he lazy dog"],
         ),
-        expected
+        expected,
     );
 }
 
 #[test]
 fn murmur_answers_with_half_a_tail_and_with_none(rt: HostRuntime) {
     let half = murmur(0, &["The quick brown fox jumps over the lazy1"]);
-    assert_eq!(rt; half, (0xe330_1a82_7e5c_dfe3, 0xbdbf_05f8_da0f_0392));
+    assert_same(&rt, half, (0xe330_1a82_7e5c_dfe3, 0xbdbf_05f8_da0f_0392));
     let none = (0xdf6a_f91b_b29b_dacf, 0x91a3_41c5_8df1_f3a6);
-    assert_eq!(rt; murmur(0, &["The quick brown fox jumps over t"]), none);
-    assert_eq!(rt; murmur(0, &["The quick brown fox jumps over t", ""]), none);
+    assert_same(&rt, murmur(0, &["The quick brown fox jumps over t"]), none);
+    assert_same(
+        &rt,
+        murmur(0, &["The quick brown fox jumps over t", ""]),
+        none,
+    );
 }
 
 #[test]
@@ -98,25 +105,25 @@ fn murmur_takes_seeds_above_32_bits(rt: HostRuntime) {
     for (seed, bytes, expected) in MURMUR_SEEDED {
         let mut hasher = MurmurHash3X64128::with_seed(seed);
         hasher.write(bytes);
-        assert_eq!(rt; hasher.finish128(), expected, "seed {seed}");
-        assert_eq!(rt; hasher.finish(), expected.0, "seed {seed}");
+        assert_same_for(&rt, hasher.finish128(), expected, seed);
+        assert_same_for(&rt, hasher.finish(), expected.0, seed);
     }
 }
 
 #[test]
 fn xxh64_answers_in_both_forms(rt: HostRuntime) {
-    assert_eq!(rt; xxh64(0, &[]), 0xef46_db37_51d8_e999);
-    assert_eq!(rt; xxh64(0x9E37_79B1, &[]), 0xac75_fda2_929b_17ef);
-    assert_eq!(rt; xxh64(0, &TEST_BUFFER), 0x4bfe_019c_d91d_9ea4);
+    assert_same(&rt, xxh64(0, &[]), 0xef46_db37_51d8_e999);
+    assert_same(&rt, xxh64(0x9E37_79B1, &[]), 0xac75_fda2_929b_17ef);
+    assert_same(&rt, xxh64(0, &TEST_BUFFER), 0x4bfe_019c_d91d_9ea4);
 }
 
 #[test]
 fn xxh64_goes_on_behind_a_stripe(rt: HostRuntime) {
     let mut hasher = XxHash64::with_seed(0);
     hasher.write(&TEST_BUFFER[..32]);
-    assert_eq!(rt; hasher.finish64(), 0x18b2_1649_2bb4_4b70);
+    assert_same(&rt, hasher.finish64(), 0x18b2_1649_2bb4_4b70);
     hasher.write(&TEST_BUFFER[32..33]);
-    assert_eq!(rt; hasher.finish64(), 0x55c8_dc3e_578f_5b59);
+    assert_same(&rt, hasher.finish64(), 0x55c8_dc3e_578f_5b59);
 }
 
 // 65600 zeros: more than 16 bits count.
@@ -128,22 +135,24 @@ fn a_long_stream_is_counted_whole(rt: HostRuntime) {
         murmur3.write(&[0; 100]);
         xxhash.write(&[0; 100]);
     }
-    assert_eq!(rt;
+    assert_same(
+        &rt,
         murmur3.finish128(),
-        (0xfb33_4e8c_0e4f_2665, 0x23e9_84ba_da16_1792)
+        (0xfb33_4e8c_0e4f_2665, 0x23e9_84ba_da16_1792),
     );
-    assert_eq!(rt; xxhash.finish64(), 0x68b0_5675_f6fc_42e4);
+    assert_same(&rt, xxhash.finish64(), 0x68b0_5675_f6fc_42e4);
 }
 
 #[test]
 fn one_number_is_hashed_as_its_eight_bytes(rt: HostRuntime) {
     let streamed = xxh64(0, &[0x7b, 0, 0, 0, 0, 0, 0, 0]);
-    assert_eq!(rt; XxHash64::hash_u64(123, 0), streamed);
+    assert_same(&rt, XxHash64::hash_u64(123, 0), streamed);
     for (input, seed, expected) in HASH_U64 {
-        assert_eq!(rt;
+        assert_same_for(
+            &rt,
             XxHash64::hash_u64(input, seed),
             expected,
-            "{input} under {seed}"
+            (input, seed),
         );
     }
 }
@@ -176,13 +185,15 @@ fn numbers_are_written_lowest_byte_first(rt: HostRuntime) {
     ];
     let mut murmur = MurmurHash3X64128::with_seed(7);
     murmur.write(&bytes);
-    assert_eq!(rt;
+    assert_same(
+        &rt,
         written_numbers(&mut MurmurHash3X64128::with_seed(7)),
-        murmur.finish()
+        murmur.finish(),
     );
-    assert_eq!(rt;
+    assert_same(
+        &rt,
         written_numbers(&mut XxHash64::with_seed(7)),
-        xxh64(7, &bytes)
+        xxh64(7, &bytes),
     );
 }
 
@@ -192,29 +203,31 @@ fn a_number_is_written_as_its_bytes(rt: HostRuntime) {
     let mut xxhash = XxHash64::with_seed(7);
     murmur3.write_i16(-2);
     xxhash.write_i16(-2);
-    assert_eq!(rt;
+    assert_same(
+        &rt,
         (murmur3.finish128(), xxhash.finish64()),
-        both(&[0xfe, 0xff])
+        both(&[0xfe, 0xff]),
     );
     let mut murmur3 = MurmurHash3X64128::with_seed(7);
     let mut xxhash = XxHash64::with_seed(7);
     murmur3.write_u32(0x0102_0304);
     xxhash.write_u32(0x0102_0304);
-    assert_eq!(rt;
+    assert_same(
+        &rt,
         (murmur3.finish128(), xxhash.finish64()),
-        both(&[4, 3, 2, 1])
+        both(&[4, 3, 2, 1]),
     );
 }
 
 #[test]
 fn defaults_have_their_seeds(rt: HostRuntime) {
-    assert_eq!(rt; DEFAULT_UPDATE_SEED, 9001);
+    assert_same(&rt, DEFAULT_UPDATE_SEED, 9001);
     let mut murmur3 = MurmurHash3X64128::default();
     murmur3.write(FOX.as_bytes());
-    assert_eq!(rt; murmur3.finish128(), murmur(9001, &[FOX]));
+    assert_same(&rt, murmur3.finish128(), murmur(9001, &[FOX]));
     let mut xxhash = XxHash64::default();
     xxhash.write(FOX.as_bytes());
-    assert_eq!(rt; xxhash.finish64(), xxh64(0, FOX.as_bytes()));
+    assert_same(&rt, xxhash.finish64(), xxh64(0, FOX.as_bytes()));
 }
 
 fn debug_texts(alloc: Global) -> Result<(String, String), AllocError> {
@@ -229,10 +242,8 @@ fn debug_texts(alloc: Global) -> Result<(String, String), AllocError> {
 #[test]
 fn debug_texts_are_the_name_alone(rt: HostRuntime) -> Result<(), AllocError> {
     let (murmur, xxhash) = debug_texts(rt.alloc())?;
-    assert_eq!(rt;
-        [murmur.as_str(), xxhash.as_str()],
-        ["MurmurHash3X64128 { .. }", "XxHash64 { .. }"]
-    );
+    assert_same(&rt, murmur.as_str(), "MurmurHash3X64128 { .. }");
+    assert_same(&rt, xxhash.as_str(), "XxHash64 { .. }");
     Ok(())
 }
 
@@ -240,7 +251,7 @@ fn debug_texts_are_the_name_alone(rt: HostRuntime) -> Result<(), AllocError> {
 fn seed_hashes_take_no_memory(rt: HostRuntime) {
     let alloc = rt.alloc();
     let kind = ErrorKind::InvalidArgument;
-    assert_eq!(rt; compute_seed_hash(alloc, 9001, kind).ok(), Some(37836));
+    assert_same(&rt, compute_seed_hash(alloc, 9001, kind).ok(), Some(37836));
     assert!(rt; check_seed_hash(alloc, 37836, 37836, "theta", kind).is_ok());
 }
 
@@ -253,14 +264,16 @@ fn line_of(alloc: Global, refusal: Option<Error>) -> Option<String> {
 fn seed_hashes_and_their_refusals(rt: HostRuntime) {
     let alloc = rt.alloc();
     let zero = compute_seed_hash(alloc, 50541, ErrorKind::InvalidArgument).err();
-    assert_eq!(rt;
+    assert_same(
+        &rt,
         line_of(alloc, zero).as_deref(),
-        Some("InvalidArgument => seed 50541 produces a seed hash of zero; choose a different seed")
+        Some("InvalidArgument => seed 50541 produces a seed hash of zero; choose a different seed"),
     );
     let other = check_seed_hash(alloc, 37836, 1, "theta", ErrorKind::InvalidData).err();
-    assert_eq!(rt;
+    assert_same(
+        &rt,
         line_of(alloc, other).as_deref(),
-        Some("InvalidData => incompatible seed hash of theta: expected 37836, got 1")
+        Some("InvalidData => incompatible seed hash of theta: expected 37836, got 1"),
     );
 }
 

@@ -1,3 +1,4 @@
+use crate::tests::assert_same;
 use datasketches::laws::{murmur_both, xx_both};
 use sketch_hash::examples::TEST_BUFFER;
 
@@ -8,24 +9,24 @@ fn murmur_tells_apart_two_sentences_that_differ_in_their_cut_off_block(rt: HostR
     let dog = "The quick brown fox jumps over the lazy dog";
     let eog = "The quick brown fox jumps over the lazy eog";
     let pairs = murmur_both(0, dog.as_bytes(), 0, eog.as_bytes());
-    assert_eq!(rt; pairs.0, (0xe34b_bc7b_bc07_1b6c, 0x7a43_3ca9_c49a_9347));
-    assert_eq!(rt; pairs.1, (0x3621_0810_2c62_d1c9, 0x3285_cd10_0292_b305));
+    assert_same(&rt, pairs.0, (0xe34b_bc7b_bc07_1b6c, 0x7a43_3ca9_c49a_9347));
+    assert_same(&rt, pairs.1, (0x3621_0810_2c62_d1c9, 0x3285_cd10_0292_b305));
 }
 
 #[test]
 fn murmur_pairs_of_two_seeds_take_no_memory(rt: HostRuntime) {
     let (first, second) = murmur_both(0, &[], 1, &[]);
-    assert_eq!(rt; first, (0, 0));
+    assert_same(&rt, first, (0, 0));
     assert!(rt; second != first);
 }
 
 #[test]
 fn xxh64_of_two_seeds_takes_no_memory(rt: HostRuntime) {
     let of_nothing = (0xef46_db37_51d8_e999, 0xac75_fda2_929b_17ef);
-    assert_eq!(rt; xx_both(0, &[], OTHER_SEED, &[]), of_nothing);
+    assert_same(&rt, xx_both(0, &[], OTHER_SEED, &[]), of_nothing);
     let stripe = &TEST_BUFFER[0..32];
     let of_stripe = (0x18b2_1649_2bb4_4b70, 0xb3f3_3bdf_93ad_e409);
-    assert_eq!(rt; xx_both(0, stripe, OTHER_SEED, stripe), of_stripe);
+    assert_same(&rt, xx_both(0, stripe, OTHER_SEED, stripe), of_stripe);
 }
 
 #[test]
@@ -34,7 +35,7 @@ fn xxh64_tells_apart_every_last_byte_behind_a_stripe(rt: HostRuntime) {
         let mut last = TEST_BUFFER;
         last[32] ^= change;
         let (first, second) = xx_both(0, &TEST_BUFFER[..33], 0, &last[..33]);
-        assert_eq!(rt; first, 0x55c8_dc3e_578f_5b59);
+        assert_same(&rt, first, 0x55c8_dc3e_578f_5b59);
         assert!(rt; second != first, "with the last byte changed by {change}");
     }
 }

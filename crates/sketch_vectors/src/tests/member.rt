@@ -1,6 +1,7 @@
 //! Tables of members, by the public calls alone.
 
 use crate::callers::seen::see_saved_key;
+use crate::tests::assert_same;
 use datasketches::error::ErrorKind;
 use datasketches::hash::value::raw_bytes;
 use sketch_member::MemberTable;
@@ -16,7 +17,7 @@ const ONE_VALUE_1: [u8; 24] = [
 fn an_unknown_count_stays_unknown(rt: HostRuntime) -> Result<(), Fail> {
     let mut table = MemberTable::from_bytes(rt.alloc(), &ONE_VALUE_1)?;
     table.insert(&raw_bytes::from_str(""));
-    assert_eq!(rt; table.count(), None);
+    assert_same(&rt, table.count(), None);
     Ok(())
 }
 
@@ -25,7 +26,7 @@ fn a_table_of_version_1_is_written_and_read(rt: HostRuntime) -> Result<(), Fail>
     let table = MemberTable::from_bytes(rt.alloc(), &ONE_VALUE_1)?;
     let again = MemberTable::from_bytes(rt.alloc(), &table.to_bytes(rt.alloc())?)?;
     assert!(rt; again.contains(&raw_bytes::from_str("")));
-    assert_eq!(rt; again.count(), None);
+    assert_same(&rt, again.count(), None);
     Ok(())
 }
 
@@ -37,9 +38,10 @@ fn keys_are_seen_once_saved(rt: HostRuntime) -> Result<(), Fail> {
     assert!(rt; !was_seen);
     let (was_seen, saved) = see_saved_key(rt.alloc(), &saved, b"a")?;
     assert!(rt; was_seen);
-    assert_eq!(rt;
+    assert_same(
+        &rt,
         MemberTable::from_bytes(rt.alloc(), &saved)?.count(),
-        Some(3)
+        Some(3),
     );
     Ok(())
 }
@@ -53,12 +55,12 @@ fn saved_keys_without_memory(rt: HostRuntime) {
             saved
         }
         Err(error) => {
-            assert_eq!(rt; error.kind(), ErrorKind::OutOfMemory);
+            assert_same(&rt, error.kind(), ErrorKind::OutOfMemory);
             return;
         }
     };
     match see_saved_key(rt.alloc(), &saved, b"a") {
         Ok((was_seen, _)) => assert!(rt; was_seen),
-        Err(error) => assert_eq!(rt; error.kind(), ErrorKind::OutOfMemory),
+        Err(error) => assert_same(&rt, error.kind(), ErrorKind::OutOfMemory),
     }
 }

@@ -3,6 +3,7 @@
 //! The hashes of single values are those of its Murmur hasher under the seed 9001.
 
 use super::both::Both;
+use crate::tests::{assert_same, assert_same_for};
 use datasketches::error::ErrorKind;
 use datasketches::hash::value::{calculate_hash, natural_extend, raw_bytes, sign_extend};
 use datasketches::hash::{Hasher, MurmurHash3X64128, XxHash64, compute_seed_hash};
@@ -312,7 +313,7 @@ fn hashes_of_streams(rt: HostRuntime) {
     for (seed, input, murmur, xxh64) in &HASHES {
         let mut both = Both::with_seeds(*seed, *seed);
         both.write(input);
-        assert_eq!(rt; both.answers(), (*murmur, *xxh64), "{input:?} under {seed}");
+        assert_same_for(&rt, both.answers(), (*murmur, *xxh64), (input, seed));
     }
 }
 
@@ -326,11 +327,7 @@ fn hashes_of_streams_in_pieces(rt: HostRuntime) {
             start = *cut;
         }
         both.write(input.get(start..).unwrap_or(&[]));
-        assert_eq!(rt;
-            both.answers(),
-            (*murmur, *xxh64),
-            "{input:?} cut at {cuts:?}"
-        );
+        assert_same_for(&rt, both.answers(), (*murmur, *xxh64), (input, cuts));
     }
 }
 
@@ -455,20 +452,22 @@ fn numbers_after_one_write(rt: HostRuntime) {
     for (number, murmur, xxh64) in &NUMBERS {
         let mut murmur3 = MurmurHash3X64128::with_seed(7);
         let mut xxhash = XxHash64::with_seed(7);
-        assert_eq!(rt;
+        assert_same_for(
+            &rt,
             (
                 after_write(&mut murmur3, *number),
-                after_write(&mut xxhash, *number)
+                after_write(&mut xxhash, *number),
             ),
             (*murmur, *xxh64),
-            "after {number:?}"
+            number,
         );
     }
 }
 
 #[test]
 fn hashes_of_numbers_extended_by_their_value(rt: HostRuntime) {
-    assert_eq!(rt;
+    assert_same(
+        &rt,
         [
             [0, 128, 100]
                 .map(natural_extend::from_u8)
@@ -520,13 +519,14 @@ fn hashes_of_numbers_extended_by_their_value(rt: HostRuntime) {
                 0x4089_0191_dcc2_d7cb,
                 0x9080_33af_cdd0_bc1a,
             ],
-        ]
+        ],
     );
 }
 
 #[test]
 fn hashes_of_numbers_extended_by_their_highest_bit(rt: HostRuntime) {
-    assert_eq!(rt;
+    assert_same(
+        &rt,
         [
             [0, 128, 42].map(sign_extend::from_u8).map(calculate_hash),
             [-128, 0, 42].map(sign_extend::from_i8).map(calculate_hash),
@@ -574,7 +574,7 @@ fn hashes_of_numbers_extended_by_their_highest_bit(rt: HostRuntime) {
                 0x4089_0191_dcc2_d7cb,
                 0x7243_37e5_58b2_5d89,
             ],
-        ]
+        ],
     );
 }
 
@@ -598,7 +598,7 @@ fn hashes_of_plain_numbers(rt: HostRuntime) {
             [0xf32f_57fa_54c2_1975, 0x9080_33af_cdd0_bc1a],
         ),
     ] {
-        assert_eq!(rt; answers, expected);
+        assert_same(&rt, answers, expected);
     }
 }
 
@@ -624,13 +624,14 @@ const TEXTS: [(&str, u64); 4] = [
 #[test]
 fn hashes_of_bytes_and_texts(rt: HostRuntime) {
     for (bytes, expected) in &SLICES {
-        assert_eq!(rt; calculate_hash(raw_bytes::from_slice(bytes)), *expected);
+        assert_same(&rt, calculate_hash(raw_bytes::from_slice(bytes)), *expected);
     }
     for (text, expected) in &TEXTS {
-        assert_eq!(rt;
+        assert_same_for(
+            &rt,
             calculate_hash(raw_bytes::from_str(text)),
             *expected,
-            "{text}"
+            text,
         );
     }
 }
@@ -655,6 +656,6 @@ const SEED_HASHES: [(u64, u16); 12] = [
 fn seed_hashes_of_seeds(rt: HostRuntime) {
     for (seed, expected) in &SEED_HASHES {
         let computed = compute_seed_hash(rt.alloc(), *seed, ErrorKind::InvalidArgument);
-        assert_eq!(rt; computed.ok(), Some(*expected), "seed {seed}");
+        assert_same_for(&rt, computed.ok(), Some(*expected), seed);
     }
 }

@@ -1,3 +1,4 @@
+use crate::tests::{assert_same, assert_same_for};
 use datasketches::error::Error;
 use datasketches::hash::value::raw_bytes;
 use sketch_member::MemberTable;
@@ -65,10 +66,11 @@ fn inserted_values_set_their_bits(rt: HostRuntime) -> Result<(), Fail> {
         }
         assert!(rt; !table.contains(&raw_bytes::from_str("zz")), "under {seed}");
         let bytes = table.to_bytes(rt.alloc())?;
-        assert_eq!(rt;
+        assert_same_for(
+            &rt,
             bytes.as_slice().split_at(bytes.len().min(24)).1,
             *bits,
-            "under {seed}"
+            seed,
         );
     }
     Ok(())
@@ -79,18 +81,19 @@ fn a_table_is_written_and_read(rt: HostRuntime) -> Result<(), Fail> {
     let value = raw_bytes::from_str("");
     let mut table = MemberTable::new(rt.alloc(), 0, 6, 1)?;
     assert!(rt; !table.contains(&value));
-    assert_eq!(rt; table.count(), Some(0));
+    assert_same(&rt, table.count(), Some(0));
     table.insert(&value);
-    assert_eq!(rt; table.count(), Some(1));
-    assert_eq!(rt;
+    assert_same(&rt, table.count(), Some(1));
+    assert_same(
+        &rt,
         table.to_bytes(rt.alloc())?.as_slice(),
-        ONE_VALUE_2.as_slice()
+        ONE_VALUE_2.as_slice(),
     );
     let read = MemberTable::from_bytes(rt.alloc(), &ONE_VALUE_2)?;
     assert!(rt; read.contains(&value));
     assert!(rt; !read.contains(&raw_bytes::from_str("zz")));
-    assert_eq!(rt; read.count(), Some(1));
-    assert_eq!(rt; read_back(rt.alloc(), &read)?.count(), Some(1));
+    assert_same(&rt, read.count(), Some(1));
+    assert_same(&rt, read_back(rt.alloc(), &read)?.count(), Some(1));
     Ok(())
 }
 
@@ -100,7 +103,7 @@ fn the_largest_table_is_written_and_read(rt: HostRuntime) -> Result<(), Fail> {
     let value = raw_bytes::from_str("");
     let mut table = MemberTable::new(rt.alloc(), 0, 20, 16)?;
     table.insert(&value);
-    assert_eq!(rt; table.to_bytes(rt.alloc())?.len(), 131_096);
+    assert_same(&rt, table.to_bytes(rt.alloc())?.len(), 131_096);
     assert!(rt; read_back(rt.alloc(), &table)?.contains(&value));
     Ok(())
 }
@@ -110,16 +113,17 @@ fn a_table_of_version_1_has_no_count(rt: HostRuntime) -> Result<(), Fail> {
     let value = raw_bytes::from_str("");
     let mut table = MemberTable::from_bytes(rt.alloc(), &ONE_VALUE_1)?;
     assert!(rt; table.contains(&value));
-    assert_eq!(rt; table.count(), None);
-    assert_eq!(rt;
+    assert_same(&rt, table.count(), None);
+    assert_same(
+        &rt,
         table.to_bytes(rt.alloc())?.as_slice(),
-        UNKNOWN_COUNT.as_slice()
+        UNKNOWN_COUNT.as_slice(),
     );
     table.insert(&raw_bytes::from_str("a"));
-    assert_eq!(rt; table.count(), None);
+    assert_same(&rt, table.count(), None);
     let again = read_again(rt.alloc(), &ONE_VALUE_1)?;
     assert!(rt; again.contains(&value));
-    assert_eq!(rt; again.count(), None);
+    assert_same(&rt, again.count(), None);
     Ok(())
 }
 
@@ -128,9 +132,9 @@ fn a_count_stays_at_the_greatest(rt: HostRuntime) -> Result<(), Fail> {
     let mut bytes = ONE_VALUE_2;
     bytes[16..24].copy_from_slice(&[0xff; 8]);
     let mut table = MemberTable::from_bytes(rt.alloc(), &bytes)?;
-    assert_eq!(rt; table.count(), Some(u64::MAX));
+    assert_same(&rt, table.count(), Some(u64::MAX));
     table.insert(&raw_bytes::from_str("a"));
-    assert_eq!(rt; table.count(), Some(u64::MAX));
+    assert_same(&rt, table.count(), Some(u64::MAX));
     Ok(())
 }
 
@@ -140,7 +144,7 @@ fn assert_refused(rt: &impl Abort, alloc: Global, answer: Result<MemberTable, Er
         Ok(_) => Ok(String::new(alloc)),
         Err(error) => error.to_string(alloc),
     };
-    assert_eq!(rt; printed.ok().as_deref(), Some(line));
+    assert_same(rt, printed.ok().as_deref(), Some(line));
 }
 
 #[test]
@@ -307,7 +311,7 @@ fn assert_beginnings_refused(
                     .message()
                     .starts_with("insufficient data (member table): ")
             });
-            assert_eq!(rt; is_told, Some(true), "of {count} bytes");
+            assert_same_for(rt, is_told, Some(true), count);
         } else {
             let line = format!(in alloc;
                 "InvalidData => insufficient data (member bits): expected 8, got {}",

@@ -2,6 +2,7 @@
 
 ghost use Rattle.std.specs.Prelude.{◌≡◌, ◌↔◌, IsTrue, MatchResult};
 
+use crate::tests::assert_same;
 use datasketches::hash::value::natural_extend::NaturalExtendStrategy;
 use datasketches::hash::value::sign_extend::{self, SignExtendStrategy};
 use datasketches::hash::value::{Value, calculate_hash, raw_bytes, value_law};
@@ -38,9 +39,9 @@ fn clone_of<T: Clone, S>(value: &Value<T, S>) -> Result<Value<T, S>, AllocError>
 fn wrapped_numbers_compare_as_numbers(rt: HostRuntime) {
     let (three, four) = (sign_extend::from_u8(3), sign_extend::from_u8(4));
     assert!(rt; is_equal(&three, &three) && !is_equal(&three, &four) && three != four);
-    assert_eq!(rt; compare(&three, &four), Ordering::Less);
-    assert_eq!(rt; partial_compare(&four, &three), Some(Ordering::Greater));
-    assert_eq!(rt; clone_of(&three).ok(), Some(three));
+    assert_same(&rt, compare(&three, &four), Ordering::Less);
+    assert_same(&rt, partial_compare(&four, &three), Some(Ordering::Greater));
+    assert_same(&rt, clone_of(&three).ok(), Some(three));
 }
 
 #[test]
@@ -52,7 +53,7 @@ fn the_law_holds_of_each_strategy(_rt: HostRuntime) {
 #[test]
 fn hashes_of_values_take_no_memory(rt: HostRuntime) {
     let one = calculate_hash(sign_extend::from_u8(1));
-    assert_eq!(rt; one, calculate_hash(1i64));
+    assert_same(&rt, one, calculate_hash(1i64));
 }
 
 #[test]
@@ -62,8 +63,8 @@ fn clones_without_memory(rt: HostRuntime) {
     };
     let value = raw_bytes::from_vec(bytes);
     if let Ok(clone) = clone_of(&value) {
-        assert_eq!(rt; clone.into_inner().as_slice(), [1, 2, 3].as_slice());
+        assert_same(&rt, clone.into_inner().as_slice(), [1, 2, 3].as_slice());
     }
     let hash = calculate_hash(value);
-    assert_eq!(rt; hash, calculate_hash(raw_bytes::from_slice(&[1, 2, 3])));
+    assert_same(&rt, hash, calculate_hash(raw_bytes::from_slice(&[1, 2, 3])));
 }

@@ -1,5 +1,6 @@
 //! The vectors of the original's own tests, and one of xxHash: 33 bytes under the second seed.
 
+use crate::tests::assert_same_for;
 use datasketches::hash::{Hasher, MurmurHash3X64128, XxHash64};
 use sketch_hash::examples::TEST_BUFFER;
 
@@ -50,7 +51,7 @@ fn murmur_vectors(rt: HostRuntime) {
     for (input, expected) in &MURMUR {
         let mut hasher = MurmurHash3X64128::with_seed(0);
         hasher.write(input);
-        assert_eq!(rt; hasher.finish128(), *expected, "{} bytes", input.len());
+        assert_same_for(&rt, hasher.finish128(), *expected, input.len());
     }
 }
 
@@ -59,6 +60,6 @@ fn xxh64_vectors(rt: HostRuntime) {
     for (seed, count, expected) in &XXH64 {
         let mut hasher = XxHash64::with_seed(*seed);
         hasher.write(&TEST_BUFFER[..(*count).min(100)]);
-        assert_eq!(rt; hasher.finish64(), *expected, "{count} bytes under {seed}");
+        assert_same_for(&rt, hasher.finish64(), *expected, (count, seed));
     }
 }

@@ -1,3 +1,4 @@
+use super::assert_same;
 use crate::arguments::{Algorithm, parse};
 use crate::ending::{Outcome, RunFault, ending};
 use std::alloc::{AllocError, Global};
@@ -22,7 +23,7 @@ fn words_that_ask_for_a_hash(rt: HostRuntime) -> Result<(), AllocError> {
         (&["xx", "0"], (Algorithm::Xx, 0)),
     ];
     for (words, asked) in cases {
-        assert_eq!(rt; parse_texts(rt.alloc(), words)?, Some(asked));
+        assert_same(&rt, parse_texts(rt.alloc(), words)?, Some(asked));
     }
     Ok(())
 }
@@ -40,7 +41,7 @@ fn words_that_ask_for_nothing(rt: HostRuntime) -> Result<(), AllocError> {
         &[],
     ];
     for words in cases {
-        assert_eq!(rt; parse_texts(rt.alloc(), words)?, None);
+        assert_same(&rt, parse_texts(rt.alloc(), words)?, None);
     }
     Ok(())
 }
@@ -56,6 +57,6 @@ fn each_outcome_has_its_status_and_line(rt: HostRuntime) {
         (Outcome::Usage, (2, "usage: sketchsum murmur|xx SEED")),
     ];
     for (end, told) in cases {
-        assert_eq!(rt; ending(end), told);
+        assert_same(&rt, ending(end), told);
     }
 }

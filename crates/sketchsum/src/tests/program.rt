@@ -1,5 +1,5 @@
 use super::fakes::{Arguments, Full, NarrowWriter, Screen, SlowReader};
-use super::{FOX, FOX_LINE};
+use super::{FOX, FOX_LINE, assert_same};
 use crate::program::program;
 use std::io::ErrorKind;
 use std::process::{ExitCode, Termination};
@@ -24,10 +24,10 @@ fn words_become_a_line_and_a_status(rt: HostRuntime) {
         let mut input = SlowReader::new(FOX, 7, None);
         let screen = Screen::new(rt.alloc());
         let end = program(&Arguments(words), rt.alloc(), &mut input, &mut output);
-        assert_eq!(rt; end.report(&screen), ExitCode::from(status));
-        assert_eq!(rt; output.as_slice(), line.as_bytes());
-        assert_eq!(rt; screen.text().as_slice(), told.as_bytes());
-        assert_eq!(rt; input.reads == 0, status == 2);
+        assert_same(&rt, end.report(&screen), ExitCode::from(status));
+        assert_same(&rt, output.as_slice(), line.as_bytes());
+        assert_same(&rt, screen.text().as_slice(), told.as_bytes());
+        assert_same(&rt, input.reads == 0, status == 2);
     }
 }
 
@@ -43,7 +43,7 @@ fn faults_become_a_line_and_a_status(rt: HostRuntime) {
         let screen = Screen::new(rt.alloc());
         let words = Arguments(&[b"sketchsum", b"murmur", b"0"]);
         let end = program(&words, rt.alloc(), &mut input, &mut output);
-        assert_eq!(rt; end.report(&screen), ExitCode::from(1));
-        assert_eq!(rt; screen.text().as_slice(), told.as_bytes());
+        assert_same(&rt, end.report(&screen), ExitCode::from(1));
+        assert_same(&rt, screen.text().as_slice(), told.as_bytes());
     }
 }

@@ -1,5 +1,5 @@
 use super::fakes::{Full, NarrowWriter, SlowReader};
-use super::{FOX, FOX_LINE};
+use super::{FOX, FOX_LINE, assert_same};
 use crate::arguments::Algorithm;
 use crate::ending::RunFault;
 use crate::run::{run, run_bounded};
@@ -22,8 +22,8 @@ fn an_input_becomes_its_line(rt: HostRuntime) {
     for (algorithm, seed, input, line) in cases {
         let mut written = Vec::new(rt.alloc());
         let mut reader = input;
-        assert_eq!(rt; run(algorithm, seed, &mut reader, &mut written), Ok(()));
-        assert_eq!(rt; written.as_slice(), line.as_bytes());
+        assert_same(&rt, run(algorithm, seed, &mut reader, &mut written), Ok(()));
+        assert_same(&rt, written.as_slice(), line.as_bytes());
         assert!(rt; reader.is_empty());
     }
 }
@@ -32,17 +32,29 @@ fn an_input_becomes_its_line(rt: HostRuntime) {
 fn five_million_bytes_become_their_line(rt: HostRuntime) {
     let mut reader = io::repeat(b'a').take(5_000_000);
     let mut written = Vec::new(rt.alloc());
-    assert_eq!(rt; run(Algorithm::Xx, 7, &mut reader, &mut written), Ok(()));
-    assert_eq!(rt; written.as_slice(), "62f1d069a970795b\n".as_bytes());
+    assert_same(
+        &rt,
+        run(Algorithm::Xx, 7, &mut reader, &mut written),
+        Ok(()),
+    );
+    assert_same(&rt, written.as_slice(), "62f1d069a970795b\n".as_bytes());
 }
 
 #[test]
 fn slow_readers_and_writers_change_nothing(rt: HostRuntime) {
     let mut reader = SlowReader::new(FOX, 7, None);
     let mut writer = NarrowWriter::new(rt.alloc(), 33, Full::Fails, true);
-    assert_eq!(rt; run(Algorithm::Murmur, 0, &mut reader, &mut writer), Ok(()));
-    assert_eq!(rt; writer.taken.as_slice(), FOX_LINE.as_bytes());
-    assert_eq!(rt; (writer.flushed, reader.reads, reader.room), (33, 8, 4096));
+    assert_same(
+        &rt,
+        run(Algorithm::Murmur, 0, &mut reader, &mut writer),
+        Ok(()),
+    );
+    assert_same(&rt, writer.taken.as_slice(), FOX_LINE.as_bytes());
+    assert_same(
+        &rt,
+        (writer.flushed, reader.reads, reader.room),
+        (33, 8, 4096),
+    );
 }
 
 #[test]
@@ -51,7 +63,7 @@ fn a_read_that_fails_in_mid_stream_writes_nothing(rt: HostRuntime) {
         let mut reader = SlowReader::new(b"The q", 3, Some(kind));
         let mut written = Vec::new(rt.alloc());
         let fault = run(Algorithm::Murmur, 0, &mut reader, &mut written);
-        assert_eq!(rt; fault, Err(RunFault::Read));
+        assert_same(&rt, fault, Err(RunFault::Read));
         assert!(rt; written.is_empty());
     }
 }
@@ -76,9 +88,9 @@ fn the_last_turn_has_to_find_the_end(rt: HostRuntime) {
             Some(_) => Ok(()),
             None => Err(RunFault::TooLong),
         };
-        assert_eq!(rt; result, expected);
-        assert_eq!(rt; reader.reads, turns);
-        assert_eq!(rt; written.as_slice(), line.unwrap_or("").as_bytes());
+        assert_same(&rt, result, expected);
+        assert_same(&rt, reader.reads, turns);
+        assert_same(&rt, written.as_slice(), line.unwrap_or("").as_bytes());
     }
 }
 
@@ -94,6 +106,6 @@ fn writers_that_fail_are_told(rt: HostRuntime) {
         let mut reader = FOX;
         let mut writer = NarrowWriter::new(rt.alloc(), room, when_full, can_flush);
         let fault = run(algorithm, 0, &mut reader, &mut writer);
-        assert_eq!(rt; fault, Err(RunFault::Write));
+        assert_same(&rt, fault, Err(RunFault::Write));
     }
 }

@@ -2,6 +2,7 @@
 
 use super::{SKETCH, read};
 use crate::callers::sketch::write_sketch;
+use crate::tests::assert_same;
 use datasketches::codec::{Item, Kind};
 use datasketches::error::{Error, ErrorKind};
 use std::alloc::{AllocError, Global};
@@ -57,15 +58,14 @@ fn message_at(alloc: Global, place: usize, sketch: &[u8]) -> Result<String, Allo
     let [longs, version, family, low, high, ..] = sketch else {
         return Ok(String::new(alloc));
     };
-    match place {
-        0 => format!(in alloc; "invalid preamble longs: expected one of [1], got {longs}"),
-        1 => format!(in alloc; "unsupported serial version: expected 3, got {version}"),
-        2 => format!(in alloc; "invalid family: expected 7 (HLL), got {family}"),
-        _ => {
-            let hash = u16::from_le_bytes([*low, *high]);
-            format!(in alloc; "incompatible seed hash of hll: expected 37836, got {hash}")
-        }
-    }
+    let hash = u16::from_le_bytes([*low, *high]);
+    let (wanted, got) = match place {
+        0 => ("invalid preamble longs: expected one of [1]", *longs as u16),
+        1 => ("unsupported serial version: expected 3", *version as u16),
+        2 => ("invalid family: expected 7 (HLL)", *family as u16),
+        _ => ("incompatible seed hash of hll: expected 37836", hash),
+    };
+    format!(in alloc; "{wanted}, got {got}")
 }
 
 // Whether a sketch that was changed at this place is refused with the message of the place, or is
@@ -115,8 +115,8 @@ fn sketches_without_memory(rt: HostRuntime) {
     let alloc = rt.alloc();
     let item = Item::U64Le(258);
     match write_sketch(alloc, SEED, &[item]) {
-        Ok(sketch) => assert_eq!(rt; sketch.as_slice(), SKETCH.as_slice()),
-        Err(error) => assert_eq!(rt; error.kind(), ErrorKind::OutOfMemory),
+        Ok(sketch) => assert_same(&rt, sketch.as_slice(), SKETCH.as_slice()),
+        Err(error) => assert_same(&rt, error.kind(), ErrorKind::OutOfMemory),
     }
     let mut other = SKETCH;
     other[4] = 0;

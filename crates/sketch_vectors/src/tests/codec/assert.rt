@@ -1,3 +1,4 @@
+use crate::tests::assert_same;
 use crate::tests::error::assert_told;
 use datasketches::codec::SketchSlice;
 use datasketches::codec::assert::{
@@ -17,7 +18,7 @@ pub(super) fn assert_line(rt: &impl Abort, alloc: Global, answer: Result<(), Err
         Ok(()) => Ok(String::new(alloc)),
         Err(error) => error.to_string(alloc),
     };
-    assert_eq!(rt; printed.ok().as_deref(), Some(line));
+    assert_same(rt, printed.ok().as_deref(), Some(line));
 }
 
 // The two ends of a range, how it prints, and the first and the last number that it accepts: where
@@ -105,9 +106,10 @@ fn tells_why_a_read_was_refused(rt: HostRuntime) -> Result<(), Fail> {
     let reason = error
         .message()
         .strip_prefix("insufficient data (preamble): ");
-    assert_eq!(rt;
+    assert_same(
+        &rt,
         (error.kind(), text.is_empty(), reason),
-        (ErrorKind::InvalidData, false, Some(text.as_str()))
+        (ErrorKind::InvalidData, false, Some(text.as_str())),
     );
     Ok(())
 }
@@ -126,7 +128,7 @@ fn accepting_checks_take_no_memory(rt: HostRuntime) {
         is_accepted(ensure_preamble_longs_in_range(alloc, Unbounded, Unbounded, 255)),
         is_accepted(Family::HLL.validate_id(alloc, 7)),
     ];
-    assert_eq!(rt; accepted, [true; 4]);
+    assert_same(&rt, accepted, [true; 4]);
 }
 
 // Asserts that a check refuses its number with this message, or tells of memory.

@@ -1,6 +1,7 @@
 ghost use Rattle.std.specs.Prelude.{◌≡◌, ℕ, List, [], ◌∷◌, codes, map};
 
 use super::assert::assert_line;
+use crate::tests::assert_same;
 use datasketches::codec::family::Family;
 
 // A caller's proof knows the fields of each family.
@@ -43,14 +44,15 @@ const FIELDS: [(u8, &'static str, u8, u8); 10] = [
 #[test]
 fn has_the_families_of_the_format(rt: HostRuntime) {
     for (family, fields) in families().iter().zip(&FIELDS) {
-        assert_eq!(rt;
+        assert_same(
+            &rt,
             (
                 family.id,
                 family.name,
                 family.min_pre_longs,
-                family.max_pre_longs
+                family.max_pre_longs,
             ),
-            *fields
+            *fields,
         );
     }
 }

@@ -1,6 +1,7 @@
 //! Writers where memory runs out. Each test holds whichever request for memory is refused.
 
 use super::{ROW, ROW_BYTES};
+use crate::tests::assert_same;
 use datasketches::codec::{Item, Kind, SketchBytes, SketchSlice, Stopped};
 
 // What each of the three writes below adds.
@@ -28,7 +29,7 @@ fn writes_are_whole_or_nothing_without_memory(rt: HostRuntime) {
             rest = rest.and_then(|rest| rest.strip_prefix(piece));
         }
     }
-    assert_eq!(rt; rest, Some([].as_slice()));
+    assert_same(&rt, rest, Some([].as_slice()));
 }
 
 #[test]
@@ -36,10 +37,11 @@ fn writes_within_room_without_memory(rt: HostRuntime) {
     let Ok(mut writer) = SketchBytes::with_capacity(rt.alloc(), 13) else {
         return;
     };
-    assert_eq!(rt; write_pieces(&mut writer), [true; 3]);
-    assert_eq!(rt;
+    assert_same(&rt, write_pieces(&mut writer), [true; 3]);
+    assert_same(
+        &rt,
         writer.into_bytes().as_slice(),
-        [1, 0, 2, 3, 4, 0, 0, 0, 0, 0, 0, 0, 5].as_slice()
+        [1, 0, 2, 3, 4, 0, 0, 0, 0, 0, 0, 0, 5].as_slice(),
     );
 }
 
@@ -56,15 +58,20 @@ fn lists_tell_what_was_written_without_memory(rt: HostRuntime) {
         };
         assert!(rt; accepted >= fitting);
         let bytes = writer.into_bytes();
-        assert_eq!(rt;
+        assert_same(
+            &rt,
             bytes.as_slice(),
-            &ROW_BYTES[..[0, 1, 5, 13, 14, 15][accepted]]
+            &ROW_BYTES[..[0, 1, 5, 13, 14, 15][accepted]],
         );
         if accepted >= 2 {
             let mut places = [Item::U8(0); 2];
             let mut reader = SketchSlice::new(&bytes);
             let answer = reader.read_items(&[Kind::U8, Kind::U32Be], &mut places);
-            assert_eq!(rt; (answer, places), (Ok(()), [Item::U8(1), Item::U32Be(2)]));
+            assert_same(
+                &rt,
+                (answer, places),
+                (Ok(()), [Item::U8(1), Item::U32Be(2)]),
+            );
         }
     }
 }

@@ -1,6 +1,7 @@
 //! Tables where memory runs out. Each test holds whichever request for memory is refused.
 
 use super::{ONE_VALUE_1, ONE_VALUE_2, UNKNOWN_COUNT};
+use crate::tests::assert_same;
 use datasketches::error::{Error, ErrorKind};
 use datasketches::hash::value::raw_bytes;
 use sketch_member::MemberTable;
@@ -36,7 +37,7 @@ fn a_table_without_memory(rt: HostRuntime) {
             table.insert(&value);
             assert!(rt; is_written(rt.alloc(), &table, &ONE_VALUE_2));
             assert!(rt; table.contains(&value));
-            assert_eq!(rt; table.count(), Some(1));
+            assert_same(&rt, table.count(), Some(1));
         }
         Err(error) => assert!(rt; is_want_of_memory(&error)),
     }
@@ -52,7 +53,7 @@ fn bytes_are_read_without_memory(rt: HostRuntime) {
             Ok(table) => {
                 assert!(rt; is_written(rt.alloc(), &table, again));
                 assert!(rt; table.contains(&raw_bytes::from_str("")));
-                assert_eq!(rt; table.count(), count);
+                assert_same(&rt, table.count(), count);
             }
             Err(error) => assert!(rt; is_want_of_memory(&error)),
         }
