@@ -1,8 +1,8 @@
 //! Users of the library, each proved from its public contracts alone.
 
-pub mod keys;
-pub mod own;
-pub mod seen;
-pub mod sketch;
-pub mod streams;
+pub(crate) mod keys;
+pub(crate) mod own;
+pub(crate) mod seen;
+pub(crate) mod sketch;
+pub(crate) mod streams;
 mod tests;

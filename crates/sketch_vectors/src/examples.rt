@@ -6,7 +6,7 @@ use sketch_hash::examples::value_answers;
 
 /// What a sketch is holds of bytes, and not of those beside them. It does nothing: its contract is
 /// computed from the definitions.
-pub fn relations()
+pub(crate) fn relations()
     ensures { Relations }
 {
     value_answers();

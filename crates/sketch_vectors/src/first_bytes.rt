@@ -9,7 +9,7 @@ use std::marker::Model;
 
 /// Keeps the first 64 bytes that it is given, and drops the rest. It answers how many it keeps.
 #[derive(Drop)]
-pub struct FirstBytes {
+pub(crate) struct FirstBytes {
     bytes: [u8; 64],
     count: usize,
 }
@@ -24,7 +24,7 @@ impl Model for FirstBytes {
 
 impl FirstBytes {
     /// A hasher that was given nothing.
-    pub fn new() -> Self
+    pub(crate) fn new() -> Self
         ensures { result ≡ [] }
     {
         FirstBytes {
@@ -43,7 +43,7 @@ impl FirstBytes {
     }
 
     /// The bytes that it keeps.
-    pub fn bytes(&self) -> &[u8]
+    pub(crate) fn bytes(&self) -> &[u8]
         ensures { result.now ≡ self.now }
     {
         &self.bytes[..self.count]

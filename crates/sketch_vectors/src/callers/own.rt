@@ -9,7 +9,7 @@ use datasketches::hash::{Hash, Hasher};
 
 /// A point of a grid, which feeds its two numbers one after the other.
 #[derive(Clone, Copy, Debug, PartialEq, Eq)]
-pub struct Point {
+pub(crate) struct Point {
     /// The number of the column.
     pub x: i32,
     /// The number of the row.
@@ -26,10 +26,10 @@ impl Hash for Point {
 }
 
 /// A key of 64 bits that is fed with its highest byte first.
-pub type BigEndian = Value<u64, BigEndianStrategy>;
+pub(crate) type BigEndian = Value<u64, BigEndianStrategy>;
 
 /// The strategy of [`BigEndian`].
-pub struct BigEndianStrategy;
+pub(crate) struct BigEndianStrategy;
 
 impl HashStrategy<u64> for BigEndianStrategy {
     ghost fed = { λ key. reverse (low_bytes 8 key) };

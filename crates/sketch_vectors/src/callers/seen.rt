@@ -11,7 +11,7 @@ use std::alloc::Global;
 
 /// The table of the keys seen so far, from the bytes that were saved; a new one, of 1024 bits with
 /// seven indexes a key, where there are none.
-pub fn load_keys(alloc: Global, saved: &[u8]) -> Result<MemberTable, Error>
+pub(crate) fn load_keys(alloc: Global, saved: &[u8]) -> Result<MemberTable, Error>
     ensures { IfOk result (λ seen.
         ((saved.now ≡ []) × (seen ≡ empty_table 0 10 7)) ⊎ IsForm seen saved.now) }
 {
@@ -23,7 +23,7 @@ pub fn load_keys(alloc: Global, saved: &[u8]) -> Result<MemberTable, Error>
 
 /// Whether the table tells that a key was seen: it does of each that was, and may of another. It is
 /// seen from then on.
-pub fn see_key(seen: &mut MemberTable, key: &[u8]) -> bool
+pub(crate) fn see_key(seen: &mut MemberTable, key: &[u8]) -> bool
     ensures told { IsTrue result ↔ IsMember seen.old key.now }
     ensures seen { Inserts key.now seen.old seen.new }
 {
@@ -34,7 +34,11 @@ pub fn see_key(seen: &mut MemberTable, key: &[u8]) -> bool
 }
 
 /// Loads the keys seen, sees one more, and answers whether it was seen, with the bytes to be saved.
-pub fn see_saved_key(alloc: Global, saved: &[u8], key: &[u8]) -> Result<(bool, Vec<u8>), Error>
+pub(crate) fn see_saved_key(
+    alloc: Global,
+    saved: &[u8],
+    key: &[u8],
+) -> Result<(bool, Vec<u8>), Error>
     ensures { IfOk result (λ answer. (before after : Table)
         × (((saved.now ≡ []) × (before ≡ empty_table 0 10 7)) ⊎ IsForm before saved.now)
         × (IsTrue answer.0 ↔ IsMember before key.now)

@@ -15,7 +15,7 @@ use std::alloc::{AllocError, Global};
 
 /// Checks the preamble of a serialized HLL sketch that was made with the seed: preamble longs,
 /// serial version, family and seed hash.
-pub fn check_preamble(alloc: Global, bytes: &[u8], seed: u64) -> Result<(), Error>
+pub(crate) fn check_preamble(alloc: Global, bytes: &[u8], seed: u64) -> Result<(), Error>
     ensures { MatchResult result
         (λ _. HasPreamble seed bytes.now) (λ _. HasPreamble seed bytes.now → ⊥) }
 {
@@ -34,7 +34,7 @@ pub fn check_preamble(alloc: Global, bytes: &[u8], seed: u64) -> Result<(), Erro
 }
 
 /// Reads the items of such a sketch, one of each kind, into as many places.
-pub fn read_sketch(
+pub(crate) fn read_sketch(
     alloc: Global,
     bytes: &[u8],
     seed: u64,
@@ -57,7 +57,7 @@ pub fn read_sketch(
 }
 
 /// Writes such a sketch: the preamble, and the items behind it.
-pub fn write_sketch(alloc: Global, seed: u64, items: &[Item]) -> Result<Vec<u8>, Error>
+pub(crate) fn write_sketch(alloc: Global, seed: u64, items: &[Item]) -> Result<Vec<u8>, Error>
     ensures { IfOk result (λ bytes.
         HasPreamble seed bytes.items × (drop 5 bytes.items ≡ spell_all items.now)) }
 {

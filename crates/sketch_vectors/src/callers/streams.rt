@@ -11,7 +11,7 @@ use datasketches::hash::value::raw_bytes::RawBytes;
 use datasketches::hash::{Hasher, MurmurHash3X64128, XxHash64, XxHash64State};
 
 /// The Murmur pair of a stream that comes in pieces.
-pub fn murmur_of_pieces(seed: u64, pieces: &[RawBytes<&[u8]>]) -> (u64, u64)
+pub(crate) fn murmur_of_pieces(seed: u64, pieces: &[RawBytes<&[u8]>]) -> (u64, u64)
     ensures { result ≡ murmur seed (flat_map (λ piece. piece.now) pieces.now) }
 {
     let mut hasher = MurmurHash3X64128::with_seed(seed);
@@ -20,7 +20,7 @@ pub fn murmur_of_pieces(seed: u64, pieces: &[RawBytes<&[u8]>]) -> (u64, u64)
 }
 
 /// The XXH64 hash of a stream that comes in pieces.
-pub fn xxh64_of_pieces(seed: u64, pieces: &[RawBytes<&[u8]>]) -> u64
+pub(crate) fn xxh64_of_pieces(seed: u64, pieces: &[RawBytes<&[u8]>]) -> u64
     ensures { result ≡ xxh64 seed (flat_map (λ piece. piece.now) pieces.now) }
 {
     let mut hasher = XxHash64::with_seed(seed);
@@ -29,7 +29,7 @@ pub fn xxh64_of_pieces(seed: u64, pieces: &[RawBytes<&[u8]>]) -> u64
 }
 
 /// A checkpoint of a stream: what the hasher of its first bytes holds.
-pub fn checkpoint(seed: u64, front: &[u8]) -> XxHash64State
+pub(crate) fn checkpoint(seed: u64, front: &[u8]) -> XxHash64State
     ensures { Xxh64Holds result seed front.now }
 {
     let mut hasher = XxHash64::with_seed(seed);
@@ -38,7 +38,7 @@ pub fn checkpoint(seed: u64, front: &[u8]) -> XxHash64State
 }
 
 /// The XXH64 hash of a stream that goes on from a checkpoint.
-pub fn xxh64_from(state: &XxHash64State, back: &[u8]) -> u64
+pub(crate) fn xxh64_from(state: &XxHash64State, back: &[u8]) -> u64
     ensures { (seed : ℕ) (front : List ℕ) → Xxh64Holds state.now seed front →
         result ≡ xxh64 seed (front ++ back.now) }
 {

@@ -4,14 +4,14 @@ use datasketches::hash::{Hasher, MurmurHash3X64128, XxHash64};
 
 /// Both hashers, which are given the same bytes.
 #[derive(Drop)]
-pub struct Both {
+pub(crate) struct Both {
     murmur3: MurmurHash3X64128,
     xxhash: XxHash64,
 }
 
 impl Both {
     /// Both with their seeds, given nothing.
-    pub fn with_seeds(murmur: u64, xxh64: u64) -> Self {
+    pub(crate) fn with_seeds(murmur: u64, xxh64: u64) -> Self {
         Both {
             murmur3: MurmurHash3X64128::with_seed(murmur),
             xxhash: XxHash64::with_seed(xxh64),
@@ -19,13 +19,13 @@ impl Both {
     }
 
     /// Adds the bytes to what both hash.
-    pub fn write(&mut self, bytes: &[u8]) {
+    pub(crate) fn write(&mut self, bytes: &[u8]) {
         self.murmur3.write(bytes);
         self.xxhash.write(bytes);
     }
 
     /// The Murmur pair and the XXH64 hash.
-    pub fn answers(&self) -> ((u64, u64), u64) {
+    pub(crate) fn answers(&self) -> ((u64, u64), u64) {
         (self.murmur3.finish128(), self.xxhash.finish64())
     }
 }
