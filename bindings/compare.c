@@ -6,6 +6,18 @@
 #include <string.h>
 #include <xxhash.h>
 
+/* The types that the library was built for: with another width in the header this does not compile. */
+#define HAS_TYPE(name, ...) _Static_assert(_Generic(&name, __VA_ARGS__: 1, default: 0), #name)
+
+HAS_TYPE(sketch_xxh64, uint64_t (*)(const void *, size_t, uint64_t));
+HAS_TYPE(sketch_xxh64_reset, void (*)(sketch_xxh64_state_t *, uint64_t));
+HAS_TYPE(sketch_xxh64_update, void (*)(sketch_xxh64_state_t *, const void *, size_t));
+HAS_TYPE(sketch_xxh64_digest, uint64_t (*)(const sketch_xxh64_state_t *));
+HAS_TYPE(sketch_murmur3_128, sketch_murmur3_128_hash_t (*)(const void *, size_t, uint64_t));
+HAS_TYPE(sketch_murmur3_128_reset, void (*)(sketch_murmur3_128_state_t *, uint64_t));
+HAS_TYPE(sketch_murmur3_128_update, void (*)(sketch_murmur3_128_state_t *, const void *, size_t));
+HAS_TYPE(sketch_murmur3_128_digest, sketch_murmur3_128_hash_t (*)(const sketch_murmur3_128_state_t *));
+
 static long checks, faults;
 
 static void same(const char *what, uint64_t answer, uint64_t expected) {
@@ -31,6 +43,9 @@ static void in_pieces(const unsigned char *bytes, size_t length, uint64_t seed, 
         same("murmur on the way, h1", pieces.h1, whole.h1);
         same("murmur on the way, h2", pieces.h2, whole.h2);
     }
+    same("seed of the xxh64 state", x.seed, seed);
+    same("total of the xxh64 state", x.total, length);
+    same("total of the murmur state", m.total, length);
 }
 
 int main(void) {
@@ -38,6 +53,9 @@ int main(void) {
     sketch_murmur3_128_hash_t pair = sketch_murmur3_128(fox, strlen(fox), 0);
     same("murmur of the fox, h1", pair.h1, 0xe34bbc7bbc071b6cULL);
     same("murmur of the fox, h2", pair.h2, 0x7a433ca9c49a9347ULL);
+    pair = sketch_murmur3_128("\xa1\xd8\x2b", 3, 0xcdde8d516301bbfcULL);
+    same("murmur under a long seed, h1", pair.h1, 0x72d4dcbfd199ad6fULL);
+    same("murmur under a long seed, h2", pair.h2, 0x5170f4d9e50bb254ULL);
     same("xxh64 of nothing", sketch_xxh64(NULL, 0, 0), 0xef46db3751d8e999ULL);
     static const uint64_t seeds[] = {0, 9001, UINT64_MAX};
     for (size_t length = 0; length <= 200; length++)

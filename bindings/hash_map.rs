@@ -18,16 +18,22 @@ extern "C" {
     fn sketch_xxh64_digest(state: &State) -> u64;
 }
 
-/// XXH64 with the seed 0. The calls are safe: the declarations fit the header, a slice is readable
+/// XXH64, by default with the seed 0. The calls are safe: the declarations fit the header, a slice is readable
 /// for its length, and `&mut` lets nothing else touch the state.
 #[derive(Clone)]
 struct Xxh64(State);
 
+impl Xxh64 {
+    fn with_seed(seed: u64) -> Self {
+        let mut state = State { words: [0; 6], waiting: [0; 32] };
+        unsafe { sketch_xxh64_reset(&mut state, seed) };
+        Xxh64(state)
+    }
+}
+
 impl Default for Xxh64 {
     fn default() -> Self {
-        let mut state = State { words: [0; 6], waiting: [0; 32] };
-        unsafe { sketch_xxh64_reset(&mut state, 0) };
-        Xxh64(state)
+        Xxh64::with_seed(0)
     }
 }
 
@@ -47,6 +53,12 @@ fn main() {
     fox.chunks(5).for_each(|piece| hasher.write(piece));
     let whole = unsafe { sketch_xxh64(fox.as_ptr(), fox.len(), 0) };
     assert_eq!((hasher.finish(), whole), (0x0b24_2d36_1fda_71bc, 0x0b24_2d36_1fda_71bc));
+
+    let (seed, bytes) = (0xcdde_8d51_6301_bbfc, [0xa1, 0xd8, 0x2b]);
+    let mut hasher = Xxh64::with_seed(seed);
+    hasher.write(&bytes);
+    let whole = unsafe { sketch_xxh64(bytes.as_ptr(), bytes.len(), seed) };
+    assert_eq!((hasher.finish(), whole), (0x9378_00ca_51e4_a6d8, 0x9378_00ca_51e4_a6d8));
 
     let mut counts: HashMap<String, u64, BuildHasherDefault<Xxh64>> = HashMap::default();
     for n in 0..10_000 {

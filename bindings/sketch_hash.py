@@ -54,5 +54,11 @@ if __name__ == "__main__":
     hasher.update(fox[7:])
     assert hasher.hexdigest() == xxh64(fox).hexdigest() == "0b242d361fda71bc"
     assert murmur3_128(fox) == murmur3_128(bytearray(fox)) == "e34bbc7bbc071b6c7a433ca9c49a9347"
-    assert xxh64(memoryview(fox[:42]).cast("H")).hexdigest() == xxh64(fox[:42]).hexdigest()
+    wide = memoryview(fox[:42]).cast("H")
+    assert xxh64(wide).hexdigest() == xxh64(fox[:42]).hexdigest()
+    assert murmur3_128(wide) == murmur3_128(fox[:42])
+    assert xxh64(b"\0").hexdigest() == "e934a84adb052768"
+    long_seed, data = 0x49F1C7E23916E1DF, bytes.fromhex("f97f521e22e096631b82573e817527378be01ac5898a96")
+    assert xxh64(data, long_seed).hexdigest() == "09f6f6172c89c3f4"
+    assert murmur3_128(data, long_seed) == "fff02d48b75af9f300fc87d5911ee1d1"
     print("xxh64 and murmur3_128 of a sentence")
