@@ -1,5 +1,6 @@
-//! Tests that cross crates: that the hashes and the values answer what the library that is ported
-//! answers, and callers that are proved from the public contracts alone.
+//! The tests of the libraries, by their public calls: texts, rows and want of memory, and that the
+//! hashes and the values answer what the library that is ported answers. Beside them callers, which
+//! are proved from the public contracts alone.
 //!
 //! The vectors in `tests/vectors.rt` are those of the original's own tests, and one made by running
 //! xxHash 0.8.1. The samples in `tests/samples.rt`, and those of single numbers in `tests/fed.rt`,
