@@ -6,7 +6,7 @@ use Rattle.std.proofs.lemmas.List.Elements.{Contains-append_left, Contains-push,
 use Rattle.std.proofs.lemmas.Nat.Bits.{bit_at-lt, same_from_bits_below}
 use Rattle.std.proofs.lemmas.Bool.{cases_eq}
 use Rattle.sketch_member.proofs.LawLemmas.{same_table}
-use Rattle.sketch_member.specs.Laws.{InsertLaw, StandsFor, counted}
+use Rattle.sketch_member.specs.Laws.{InsertLaw, StandsFor, count_after}
 use Rattle.sketch_member.specs.Table.{Table, IsTable, IsSet, IsIndex, IsMember, Inserts, index, one_more}
 
 none : (table : Table) → ((i : ℕ) → IsSet table.bits i → ⊥) → StandsFor table []
@@ -79,7 +79,7 @@ same_bits bits others count bytes other_bytes same =
 
 -- one insert more is counted
 one_counted : (before after : Table) (fed : List ℕ) (n : ℕ) →
-    Inserts fed before after → before.count ≡ counted n → after.count ≡ counted (n + 1)
+    Inserts fed before after → before.count ≡ count_after n → after.count ≡ count_after (n + 1)
 one_counted before after fed n inserts count =
     inserts.count ∙ ap one_more count ∙ ap (λ k. Some k) (least n)
   where

@@ -5,7 +5,7 @@ use Rattle.datasketches.specs.declared.error.ErrorKind.TheVariants.{InvalidArgum
 use Rattle.datasketches.specs.ErrorValue.{error_of}
 use Rattle.sketch_member.specs.Faults.{Fails, HeaderEnds, Step}
 use Rattle.sketch_member.specs.Form.{IsForm, form1, form2}
-use Rattle.sketch_member.specs.Laws.{counted}
+use Rattle.sketch_member.specs.Laws.{count_after}
 use Rattle.sketch_member.specs.Limits.{IsHashes, IsLog2Bits}
 use Rattle.sketch_member.specs.Table.{Table, IsSet, index, one_more}
 
@@ -36,7 +36,7 @@ bytes_seeded = 3 ∷ 2 ∷ 200 ∷ 6 ∷ 1 ∷ replicate 3 0 ++ 2 ∷ 1 ∷ repl
 abbrev pub never : Step
 never = record { needs = 1; Holds = ⊥; message = codes "never" }
 
-pub record Examples : Type 0 where
+pub record WorkedValues : Type 0 where
   pub set : IsSet (one_value None).bits 25
   pub not_set : IsSet (one_value None).bits 24 → ⊥
   pub index_of_no_bytes : index 0 6 [] 0 ≡ 25
@@ -52,8 +52,8 @@ pub record Examples : Type 0 where
   pub counts : one_more (Some 257) ≡ Some 258
   pub stays : one_more (Some (2 ^ 64 - 1)) ≡ Some (2 ^ 64 - 1)
   pub unknown : one_more None ≡ None
-  pub two_counted : counted 2 ≡ Some 2
-  pub most_counted : counted (2 ^ 64) ≡ Some (2 ^ 64 - 1)
+  pub two_counted : count_after 2 ≡ Some 2
+  pub most_counted : count_after (2 ^ 64) ≡ Some (2 ^ 64 - 1)
   pub version1 : form1 (one_value (Some 258)) ≡ bytes1
   pub version2 : form2 (one_value (Some 258)) ≡ bytes2
   pub no_count : form2 (one_value None) ≡ bytes_unknown

@@ -22,8 +22,8 @@ StandsFor table values =
 
 -- the count after so many inserts into a table of none: their number, or the greatest word where
 -- that is less
-abbrev pub counted : ℕ → Option ℕ
-counted n = Some (min n (2 ^ 64 - 1))
+abbrev pub count_after : ℕ → Option ℕ
+count_after n = Some (min n (2 ^ 64 - 1))
 
 -- A table with no bit set stands for no values, and each insert adds one. A table misses none of
 -- its values. Its inserts are counted. Of one seed and sizes, tables that stand for the same values
@@ -34,7 +34,7 @@ pub record InsertLaw : Type 0 where
   pub one_more : (before after : Table) (fed : List ℕ) (values : List (List ℕ)) →
       Inserts fed before after → StandsFor before values → StandsFor after (values ++ fed ∷ [])
   pub one_counted : (before after : Table) (fed : List ℕ) (n : ℕ) →
-      Inserts fed before after → before.count ≡ counted n → after.count ≡ counted (n + 1)
+      Inserts fed before after → before.count ≡ count_after n → after.count ≡ count_after (n + 1)
   pub found : (table : Table) (fed : List ℕ) (values : List (List ℕ)) →
       StandsFor table values → Contains values fed → IsMember table fed
   pub once : (table other : Table) (values others : List (List ℕ)) →

@@ -1,6 +1,6 @@
 //! XXH64's four lanes, and how stripes of 32 bytes turn them.
 
-ghost use Rattle.std.specs.Prelude.{◌≡◌, ℕ, List};
+ghost use Rattle.std.specs.Prelude.{◌≡◌, ℕ};
 ghost use Rattle.sketch_hash.specs.Xxh64.{Lanes, round, stripe_step};
 ghost use Rattle.sketch_hash.specs.Lanes.{each_lane, lanes_of, stripe_words};
 

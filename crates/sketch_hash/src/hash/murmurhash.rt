@@ -4,7 +4,7 @@ ghost use Rattle.std.specs.Prelude.{◌≡◌, ℕ, ◌+◌, ◌-◌, ◌*◌, �
 ghost use Rattle.std.specs.List.{fold};
 ghost use Rattle.sketch_base.specs.Bytes.{le, low_bytes};
 ghost use Rattle.sketch_hash.specs.Pieces.{State};
-ghost use Rattle.sketch_hash.specs.Murmur.{mix1, mix2, fmix, step, with_tail, ending, block_words, murmur, murmur_start, murmur_after, murmur_answer, MurmurStands};
+ghost use Rattle.sketch_hash.specs.Murmur.{mix1, mix2, fmix, step, ending, block_words, murmur, murmur_after, murmur_answer, MurmurStands};
 ghost use Rattle.sketch_hash.specs.MurmurWriteLemmas.{murmur_after-append, murmur_after-empty};
 
 mod state;

@@ -1,6 +1,6 @@
 //! Numbers of fewer than 16 bytes.
 
-ghost use Rattle.std.specs.Prelude.{◌≡◌, ℕ, ◌+◌, ◌-◌, ◌*◌, ◌/◌, ◌^◌, ◌<◌, ◌≤◌, length, take};
+ghost use Rattle.std.specs.Prelude.{◌≡◌, ◌+◌, ◌-◌, ◌*◌, ◌/◌, ◌^◌, ◌<◌, ◌≤◌, length, take};
 ghost use Rattle.sketch_base.specs.Bytes.{le, low_bytes};
 
 use super::words::{read_u16_le, read_u32_le, read_u64_le, read_u128_le};

@@ -1,8 +1,8 @@
 //! Arithmetic of 64-bit words, and words read from bytes.
 
-ghost use Rattle.std.specs.Prelude.{◌≡◌, ℕ, ◌+◌, ◌/◌, ◌^◌, ◌<◌, length};
+ghost use Rattle.std.specs.Prelude.{◌≡◌, ◌/◌, ◌^◌, ◌<◌, length};
 ghost use Rattle.sketch_base.specs.Bytes.{le};
-ghost use Rattle.sketch_hash.specs.Words.{plus, times, xor, xor_shift, rotate};
+ghost use Rattle.sketch_hash.specs.Words.{xor, xor_shift, rotate};
 
 #[inline(always)]
 pub(crate) fn read_u64_le(bytes: &[u8]) -> u64

@@ -1,6 +1,6 @@
 //! The reading of a table in bytes, place by place.
 
-ghost use Rattle.std.specs.Prelude.{◌≡◌, ◌⊎◌, ◌↔◌, ℕ, ◌+◌, ◌-◌, ◌*◌, ◌<◌, ◌≤◌, length, take, drop, slice_index, MatchResult, IsTrue};
+ghost use Rattle.std.specs.Prelude.{◌≡◌, ◌⊎◌, ◌↔◌, ◌+◌, ◌-◌, ◌*◌, ◌<◌, ◌≤◌, length, take, drop, slice_index, MatchResult, IsTrue};
 ghost use Rattle.datasketches.specs.Bytes.{le};
 ghost use Rattle.datasketches.specs.ErrorValue.{memory_error};
 ghost use Rattle.datasketches.specs.Refusals.{Refuses};
@@ -202,7 +202,7 @@ fn header_byte(alloc: Global, bytes: &[u8], place: u64) -> Result<u8, Error>
 {
     let mut reader = SketchSlice::new(bytes);
     reader.advance(place);
-    told(alloc, reader.read_u8())
+    or_header_ends(alloc, reader.read_u8())
 }
 
 // The number of the eight bytes from a place of the header on.
@@ -214,11 +214,11 @@ fn header_long(alloc: Global, bytes: &[u8], place: u64) -> Result<u64, Error>
 {
     let mut reader = SketchSlice::new(bytes);
     reader.advance(place);
-    told(alloc, reader.read_u64_le())
+    or_header_ends(alloc, reader.read_u64_le())
 }
 
 // What was read, or the error that tells that the header ends too early.
-fn told<T>(alloc: Global, read: io::Result<T>) -> Result<T, Error>
+fn or_header_ends<T>(alloc: Global, read: io::Result<T>) -> Result<T, Error>
     ensures { MatchResult read (λ x. result ≡ Ok x)
         (λ _. MatchResult result (λ _. ⊥) (λ error. HeaderEnds error)) }
 {

@@ -3,7 +3,7 @@
 //!
 //! So the unsigned 255 of eight bits feeds what -1 feeds.
 
-ghost use Rattle.std.specs.Prelude.{◌≡◌, pos};
+ghost use Rattle.std.specs.Prelude.{◌≡◌};
 ghost use Rattle.std.proofs.Common.{rules};
 ghost use Rattle.sketch_base.specs.Bytes.{twos_complement};
 ghost use Rattle.sketch_hash.specs.Values.{integer_bytes};
