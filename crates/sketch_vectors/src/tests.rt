@@ -6,7 +6,6 @@ mod error;
 mod fed;
 mod hash;
 mod laws;
-mod member;
 mod samples;
 mod table;
 mod value;

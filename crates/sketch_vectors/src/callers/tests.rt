@@ -2,6 +2,7 @@ mod damage;
 
 use super::keys::{is_new_key, is_same_key, is_same_word, pair_of};
 use super::own::{BigEndian, Point};
+use super::seen::see_saved_key;
 use super::sketch::{read_sketch, write_sketch};
 use super::streams::{checkpoint, murmur_of_pieces, xxh64_from, xxh64_of_pieces};
 use crate::first_bytes::FirstBytes;
@@ -10,7 +11,9 @@ use datasketches::codec::{Item, Kind};
 use datasketches::error::{Error, ErrorKind};
 use datasketches::hash::Hash;
 use datasketches::hash::value::raw_bytes;
+use sketch_member::MemberTable;
 use std::alloc::Global;
+use std::test::Fail;
 
 // An HLL sketch of the seed 9001, whose seed hash is 0x93cc, with the one item 258.
 const SKETCH: [u8; 13] = [1, 3, 7, 0xcc, 0x93, 2, 1, 0, 0, 0, 0, 0, 0];
@@ -151,4 +154,39 @@ fn own_types_feed_their_bytes(rt: HostRuntime) {
     let mut key = FirstBytes::new();
     BigEndian::new(258).hash(&mut key);
     assert_same(&rt, key.bytes(), [0, 0, 0, 0, 0, 0, 1, 2].as_slice());
+}
+
+#[test]
+fn keys_are_seen_once_saved(rt: HostRuntime) -> Result<(), Fail> {
+    let (was_seen, saved) = see_saved_key(rt.alloc(), &[], b"a")?;
+    assert!(rt; !was_seen);
+    let (was_seen, saved) = see_saved_key(rt.alloc(), &saved, b"b")?;
+    assert!(rt; !was_seen);
+    let (was_seen, saved) = see_saved_key(rt.alloc(), &saved, b"a")?;
+    assert!(rt; was_seen);
+    assert_same(
+        &rt,
+        MemberTable::from_bytes(rt.alloc(), &saved)?.count(),
+        Some(3),
+    );
+    Ok(())
+}
+
+// Holds whichever request for memory is refused.
+#[test]
+fn saved_keys_without_memory(rt: HostRuntime) {
+    let saved = match see_saved_key(rt.alloc(), &[], b"a") {
+        Ok((was_seen, saved)) => {
+            assert!(rt; !was_seen);
+            saved
+        }
+        Err(error) => {
+            assert_same(&rt, error.kind(), ErrorKind::OutOfMemory);
+            return;
+        }
+    };
+    match see_saved_key(rt.alloc(), &saved, b"a") {
+        Ok((was_seen, _)) => assert!(rt; was_seen),
+        Err(error) => assert_same(&rt, error.kind(), ErrorKind::OutOfMemory),
+    }
 }

@@ -182,6 +182,14 @@ fn prints_how_far_a_list_came(rt: HostRuntime) -> Result<(), Fail> {
 }
 
 #[test]
+fn shows_an_item_and_its_kind(rt: HostRuntime) -> Result<(), Fail> {
+    let item = Item::U16Le(258);
+    let text = format!(in rt.alloc(); "{item:?} {:?}", item.kind())?;
+    assert_same(&rt, text.as_str(), "U16Le(258) U16Le");
+    Ok(())
+}
+
+#[test]
 fn writes_no_bytes_at_any_room(rt: HostRuntime) -> Result<(), Fail> {
     let mut writer = SketchBytes::with_capacity(rt.alloc(), 0)?;
     write_no_bytes(&mut writer);

@@ -5,6 +5,7 @@ use crate::tests::assert_same;
 use datasketches::error::{Error, ErrorKind};
 use std::alloc::{AllocError, Global};
 use std::fmt;
+use std::hash::{DefaultHasher, Hash, Hasher};
 use std::process::Abort;
 use std::test::Fail;
 
@@ -293,6 +294,12 @@ fn keeps_kind_and_message(rt: HostRuntime) -> Result<(), Fail> {
     Ok(())
 }
 
+fn hash_of(kind: ErrorKind) -> u64 {
+    let mut hasher = DefaultHasher::new();
+    kind.hash(&mut hasher);
+    hasher.finish()
+}
+
 #[test]
 fn tells_kinds_apart(rt: HostRuntime) {
     let kinds = [
@@ -303,6 +310,7 @@ fn tells_kinds_apart(rt: HostRuntime) {
     for (i, a) in kinds.iter().enumerate() {
         for (j, b) in kinds.iter().enumerate() {
             assert_same(&rt, (is_same_kind(*a, *b), *a != *b), (i == j, i != j));
+            assert_same(&rt, hash_of(*a) == hash_of(*b), i == j);
         }
     }
 }
