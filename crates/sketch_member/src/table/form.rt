@@ -17,6 +17,8 @@ pub const MEMBER: Family = Family {
     max_pre_longs: 3,
 };
 
+const _: () = prove!(MEMBER.id == 200 && MEMBER.min_pre_longs == 2 && MEMBER.max_pre_longs == 3);
+
 // The preamble longs of version 1, and of version 2, which has the count and tells whether it is
 // known.
 pub(super) const LONGS_1: u8 = 2;
@@ -50,7 +52,7 @@ impl MemberTable {
     ///
     /// # Errors
     ///
-    /// Where the bytes find no memory, which is asked for once.
+    /// Where the bytes find no memory.
     pub fn to_bytes(&self, alloc: Global) -> Result<Vec<u8>, AllocError>
         ensures form { IfOk result (λ bytes. bytes.items ≡ form2 self.now) }
         ensures is_table { IsTable self.now }

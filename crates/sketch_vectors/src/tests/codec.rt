@@ -139,6 +139,12 @@ const APART: [Item; 6] = [
 #[test]
 fn tells_items_and_kinds_apart(rt: HostRuntime) {
     for (i, a) in APART.iter().enumerate() {
+        let kind = a.kind();
+        assert_same(
+            &rt,
+            (a.clone().ok(), kind.clone().ok()),
+            (Some(*a), Some(kind)),
+        );
         for (j, b) in APART.iter().enumerate() {
             assert_same(&rt, (is_same_item(a, b), *a != *b), (i == j, i != j));
             let (k, l) = (a.kind(), b.kind());
@@ -163,6 +169,11 @@ fn tells_counts_apart(rt: HostRuntime) {
             (is_same_stopped(&stopped, &other), stopped != other),
             (a == b, a != b),
         );
+        assert_same(
+            &rt,
+            (short.clone().ok(), stopped.clone().ok()),
+            (Some(short), Some(stopped)),
+        );
     }
 }
 
@@ -182,10 +193,17 @@ fn prints_how_far_a_list_came(rt: HostRuntime) -> Result<(), Fail> {
 }
 
 #[test]
-fn shows_an_item_and_its_kind(rt: HostRuntime) -> Result<(), Fail> {
+fn shows_items_kinds_and_counts(rt: HostRuntime) -> Result<(), Fail> {
     let item = Item::U16Le(258);
     let text = format!(in rt.alloc(); "{item:?} {:?}", item.kind())?;
     assert_same(&rt, text.as_str(), "U16Le(258) U16Le");
+    let (short, stopped) = (Short { read: 3 }, Stopped { accepted: 0 });
+    let text = format!(in rt.alloc(); "{short:?} {stopped:?}")?;
+    assert_same(
+        &rt,
+        text.as_str(),
+        "Short { read: 3 } Stopped { accepted: 0 }",
+    );
     Ok(())
 }
 

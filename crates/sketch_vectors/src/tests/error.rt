@@ -308,6 +308,7 @@ fn tells_kinds_apart(rt: HostRuntime) {
         ErrorKind::OutOfMemory,
     ];
     for (i, a) in kinds.iter().enumerate() {
+        assert_same(&rt, a.clone().ok(), Some(*a));
         for (j, b) in kinds.iter().enumerate() {
             assert_same(&rt, (is_same_kind(*a, *b), *a != *b), (i == j, i != j));
             assert_same(&rt, hash_of(*a) == hash_of(*b), i == j);
