@@ -3,8 +3,8 @@ use Rattle.std.proofs.Common.{◌≡◌, ◌^◌, ◌<◌, [], ◌∷◌, refl, 
 use Rattle.std.proofs.lemmas.List.Elements.{All-from_recursion, All-replicate}
 use Rattle.sketch_hash.specs.Words.{xor_below, xor, rotate}
 use Rattle.sketch_hash.specs.Pieces.{absorb, pieces, rest}
-use Rattle.sketch_hash.specs.Murmur.{mix1, mix2, fmix, step1, step2, step, with_tail, ending as murmur_ending, murmur, murmur_after}
-use Rattle.sketch_hash.specs.Xxh64.{round, lane, lanes_start, lanes, merge_lane, merge, steps, eight_step, four_step, byte_step, tail_step, avalanche, ending as xxh64_ending, xxh64, xxh64_after}
+use Rattle.sketch_hash.specs.Murmur.{mix1, mix2, fmix, step1, step2, step, with_tail, ending as murmur_ending, murmur, murmur_after, murmur_answer}
+use Rattle.sketch_hash.specs.Xxh64.{round, lane, lanes_start, lanes, merge_lane, merge, steps, eight_step, four_step, byte_step, tail_step, avalanche, ending as xxh64_ending, xxh64, xxh64_after, xxh64_answer}
 use Rattle.sketch_hash.specs.Examples.{test_bytes_from, WordAnswers, MurmurAnswers, Xxh64Answers, ValueAnswers, Relations}
 use Rattle.sketch_hash.proofs.Undoes.{plus-once}
 
@@ -22,13 +22,14 @@ word_answers = record {
   rest_of_the_fox = refl;
   waiting_of_the_fox = refl;
   total_of_the_fox = refl;
+  total_past_32_bits = refl;
   murmur_state_held = refl;
   xxh64_state_held = refl;
 }
 
 pub murmur_answers : MurmurAnswers
 unfolding xor_below xor rotate pieces rest mix1 mix2 fmix step1 step2 step with_tail murmur_ending murmur
-    test_bytes_from
+    murmur_answer test_bytes_from
 murmur_answers = record {
   no_bytes = refl;
   dog = refl;
@@ -36,11 +37,12 @@ murmur_answers = record {
   three_bytes_seeded = refl;
   three_blocks_and_fifteen = refl;
   eighteen_blocks_and_twelve = refl;
+  total_past_32_bits = refl;
 }
 
 pub xxh64_answers : Xxh64Answers
 unfolding xor_below xor rotate pieces rest round lane lanes_start lanes merge_lane merge steps eight_step
-    four_step byte_step tail_step avalanche xxh64_ending xxh64 test_bytes_from
+    four_step byte_step tail_step avalanche xxh64_ending xxh64 xxh64_answer test_bytes_from
 xxh64_answers = record {
   no_bytes = refl;
   no_bytes_seeded = refl;
@@ -56,6 +58,7 @@ xxh64_answers = record {
   three_stripes_and_word = refl;
   three_stripes_and_word_seeded = refl;
   nine_stripes_and_twelve = refl;
+  total_past_32_bits = refl;
 }
 
 pub value_answers : ValueAnswers

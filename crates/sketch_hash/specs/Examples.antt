@@ -8,8 +8,8 @@ use Rattle.sketch_hash.specs.declared.hash.xxhash.state.XxHash64State.{XxHash64S
 use Rattle.sketch_hash.specs.Held.{murmur_held, xxh64_held}
 use Rattle.sketch_hash.specs.Words.{IsWord, plus, minus, times, xor, xor_shift, rotate}
 use Rattle.sketch_hash.specs.Pieces.{pieces, rest}
-use Rattle.sketch_hash.specs.Murmur.{murmur, murmur_start, murmur_after, MurmurStands}
-use Rattle.sketch_hash.specs.Xxh64.{xxh64, xxh64_start, Xxh64Stands}
+use Rattle.sketch_hash.specs.Murmur.{murmur, murmur_start, murmur_after, murmur_answer, MurmurStands}
+use Rattle.sketch_hash.specs.Xxh64.{xxh64, lanes_start, xxh64_start, xxh64_answer, Xxh64Stands}
 use Rattle.sketch_hash.specs.SeedHash.{seed_hash}
 use Rattle.sketch_hash.specs.Values.{integer_bytes}
 use Rattle.sketch_hash.specs.OneToOne.{OneToOne}
@@ -56,6 +56,9 @@ pub record WordAnswers : Type 0 where
   pub rest_of_the_fox : rest 16 fox ≡ codes "he lazy dog"
   pub waiting_of_the_fox : (murmur_after (murmur_start 0) fox).waiting ≡ codes "he lazy dog"
   pub total_of_the_fox : (murmur_after (murmur_start 0) fox).total ≡ 43
+  pub total_past_32_bits :
+      (murmur_after (record { folded = (0, 0); total = 2 ^ 32 - 1; waiting = [] }) (1 ∷ [])).total
+      ≡ 2 ^ 32
   pub murmur_state_held : murmur_held murmur_state ≡
       record { folded = (1, 2); total = 17; waiting = 3 ∷ [] }
   pub xxh64_state_held : xxh64_held xxh64_state ≡
@@ -66,7 +69,8 @@ pub record WordAnswers : Type 0 where
       }
 
 -- what the definition of Murmur answers: with no block, with whole blocks, with tails up to the
--- longest, and where the length takes more than one byte
+-- longest, where the length takes more than one byte, and of a state whose total takes more than
+-- four
 pub record MurmurAnswers : Type 0 where
   pub no_bytes : murmur 0 [] ≡ (0, 0)
   pub dog : murmur 0 fox ≡ (0xe34bbc7bbc071b6c, 0x7a433ca9c49a9347)
@@ -77,9 +81,13 @@ pub record MurmurAnswers : Type 0 where
   pub three_blocks_and_fifteen : murmur 0 (test_bytes 63) ≡ (0xd31d21c1b6227e0c, 0xc63d5ca47301b888)
   pub eighteen_blocks_and_twelve : murmur 0 (test_bytes 300) ≡
       (0x54d7645ceab4e023, 0x3ec09f5e9fabc30d)
+  pub total_past_32_bits :
+      murmur_answer (record { folded = (0, 0); total = 2 ^ 32; waiting = [] }) ≡
+      (0x62abd11ccf40b33a, 0x59d6a9e0807020b1)
 
 -- what the definition of XXH64 answers: in the short form up to its longest, behind stripes, with
--- every kind of step in the tail, and where the length takes more than one byte
+-- every kind of step in the tail, where the length takes more than one byte, and of a state whose
+-- total takes more than four
 pub record Xxh64Answers : Type 0 where
   pub no_bytes : xxh64 0 [] ≡ 0xef46db3751d8e999
   pub no_bytes_seeded : xxh64 0x9E3779B1 [] ≡ 0xac75fda2929b17ef
@@ -95,6 +103,9 @@ pub record Xxh64Answers : Type 0 where
   pub three_stripes_and_word : xxh64 0 (test_bytes 100) ≡ 0x4bfe019cd91d9ea4
   pub three_stripes_and_word_seeded : xxh64 0x9E3779B1 (test_bytes 100) ≡ 0x4853706dc9625cae
   pub nine_stripes_and_twelve : xxh64 0 (test_bytes 300) ≡ 0x27d0e073ec12824f
+  pub total_past_32_bits :
+      xxh64_answer (record { folded = lanes_start 0; total = 2 ^ 32; waiting = [] })
+      ≡ 0x553f8a53d28f87d6
 
 -- what a seed and an integer give
 pub record ValueAnswers : Type 0 where

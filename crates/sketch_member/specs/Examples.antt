@@ -3,7 +3,7 @@
 use Rattle.std.specs.Prelude.{◌≡◌, ◌-◌, ◌^◌, ℕ, List, [], ◌∷◌, ◌++◌, codes, replicate, Option, None, Some}
 use Rattle.datasketches.specs.declared.error.ErrorKind.TheVariants.{InvalidArgument, InvalidData}
 use Rattle.datasketches.specs.ErrorValue.{error_of}
-use Rattle.sketch_member.specs.Faults.{Fails, HeaderEnds, Step}
+use Rattle.sketch_member.specs.Faults.{Fails, FirstFault, HeaderEnds, Step}
 use Rattle.sketch_member.specs.Form.{IsForm, form1, form2}
 use Rattle.sketch_member.specs.Laws.{count_after}
 use Rattle.sketch_member.specs.Limits.{IsHashes, IsLog2Bits}
@@ -36,6 +36,13 @@ bytes_seeded = 3 ∷ 2 ∷ 200 ∷ 6 ∷ 1 ∷ replicate 3 0 ++ 2 ∷ 1 ∷ repl
 abbrev pub never : Step
 never = record { needs = 1; Holds = ⊥; message = codes "never" }
 
+abbrev pub neither : Step
+neither = record { needs = 1; Holds = ⊥; message = codes "neither" }
+
+-- a step that any byte passes
+abbrev pub always : Step
+always = record { needs = 1; Holds = Unit {0}; message = [] }
+
 pub record WorkedValues : Type 0 where
   pub set : IsSet (one_value None).bits 25
   pub not_set : IsSet (one_value None).bits 24 → ⊥
@@ -63,3 +70,5 @@ pub record WorkedValues : Type 0 where
   pub fails : Fails 1 never (error_of InvalidData (codes "never"))
   pub fails_otherwise : Fails 1 never (error_of InvalidArgument (codes "never")) → ⊥
   pub ends_otherwise : HeaderEnds (error_of InvalidArgument []) → ⊥
+  pub first_fault : FirstFault 1 (always ∷ never ∷ []) (error_of InvalidData (codes "never"))
+  pub later_fault : FirstFault 1 (never ∷ neither ∷ []) (error_of InvalidData (codes "neither")) → ⊥

@@ -1,4 +1,5 @@
-ghost use Rattle.std.specs.Prelude.{◌≡◌, ◌↔◌, IfOk, IsTrue, length, map};
+ghost use Rattle.std.specs.Prelude.{◌≡◌, ◌↔◌, IfOk, IfSome, IsTrue, length, map};
+ghost use Rattle.std.specs.declared.io.ErrorKind.TheVariants.{UnexpectedEof};
 ghost use Rattle.sketch_base.specs.Items.{item_kind};
 
 mod assert;
@@ -35,6 +36,16 @@ fn there_and_back(
         unreachable!();
     }
     Vec::from_slice(alloc, reader.remaining())
+}
+
+// A caller's proof knows why a read is refused.
+fn kind_of_refusal(bytes: &[u8]) -> Option<io::ErrorKind>
+    ensures { IfSome result (λ kind. kind ≡ UnexpectedEof) }
+{
+    match SketchSlice::new(bytes).read_u32_be() {
+        Ok(_) => None,
+        Err(error) => Some(error.kind()),
+    }
 }
 
 // A caller's proof knows that a write of no bytes is never refused.
@@ -425,12 +436,13 @@ fn reads_one_number_behind_another(rt: HostRuntime) {
 fn refused_reads_take_no_memory(rt: HostRuntime) {
     let mut reader = SketchSlice::new(&[1, 0, 7]);
     let read = reader.read_u16_le().ok();
-    let refused = reader.read_u32_be().err().map(|error| error.kind());
+    let refused = kind_of_refusal(reader.remaining());
+    let is_short = reader.read_u32_be().is_err();
     let rest = reader.remaining().len();
     assert_same(
         &rt,
-        (read, refused, rest),
-        (Some(1), Some(io::ErrorKind::UnexpectedEof), 0),
+        (read, refused, is_short, rest),
+        (Some(1), Some(io::ErrorKind::UnexpectedEof), true, 0),
     );
     assert!(rt; reader.read_exact(&mut []).is_ok());
     assert!(rt; reader.read_u8().is_err());

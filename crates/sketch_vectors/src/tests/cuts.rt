@@ -1,8 +1,9 @@
 //! However a stream is cut into writes, the answer is that of one write.
 
 use super::both::Both;
-use crate::tests::assert_same_for;
+use crate::tests::{assert_same, assert_same_for};
 use datasketches::hash::{MurmurHash3X64128, XxHash64};
+use std::alloc::AllocError;
 
 // Both hashers, given nothing.
 fn fresh() -> Both {
@@ -99,4 +100,23 @@ fn states_answer_as_hashers(rt: HostRuntime) {
             );
         }
     }
+}
+
+#[test]
+fn copies_of_states_answer_as_they_do(rt: HostRuntime) -> Result<(), AllocError> {
+    let mut murmur = MurmurHash3X64128::with_seed(42).state();
+    let mut xxh64 = XxHash64::with_seed(42).state();
+    murmur.write(b"abc");
+    xxh64.write(b"abc");
+    assert_same(
+        &rt,
+        MurmurHash3X64128::resume(&murmur.clone()?).finish128(),
+        MurmurHash3X64128::resume(&murmur).finish128(),
+    );
+    assert_same(
+        &rt,
+        XxHash64::resume(&xxh64.clone()?).finish64(),
+        XxHash64::resume(&xxh64).finish64(),
+    );
+    Ok(())
 }

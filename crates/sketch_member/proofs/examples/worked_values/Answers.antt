@@ -1,4 +1,4 @@
-use Rattle.std.proofs.Common.{◌≡◌, ◌≤◌, ◌<◌, ℕ, List, length, arith, ap, refl, lit≤, inl, inr}
+use Rattle.std.proofs.Common.{◌≡◌, ◌≤◌, ◌<◌, ℕ, List, length, arith, ap, refl, lit≤, inl, inr, codes}
 use Rattle.datasketches.specs.declared.error.ErrorKind.TheVariants.{InvalidArgument, InvalidData}
 use Rattle.datasketches.specs.ErrorValue.{ErrorValue, error_of, error_kind_name}
 use Rattle.datasketches.specs.Pieces.{pieces, rest}
@@ -16,6 +16,16 @@ other_kind text message told =
     elim told [
       | inl is ↦ let other : 15 ≡ 11 = ap named is in omega (arith, other)
       | inr is ↦ let other : 15 ≡ 11 = ap named is in omega (arith, other)
+    ]
+
+-- a refusal with one text is none with another
+other_text : Refuses InvalidData (codes "never") (error_of InvalidData (codes "neither")) → ⊥
+unfolding Refuses
+other_text told =
+    let said : ErrorValue → ℕ = λ e. length e.message in
+    elim told [
+      | inl is ↦ let other : 7 ≡ 5 = ap said is in omega (arith, other)
+      | inr is ↦ let other : 7 ≡ 0 = ap said is in omega (arith, other)
     ]
 
 pub returns : goal.returns
@@ -51,4 +61,12 @@ returns c = record {
     | inr wrong ↦ other_kind _ _ wrong.2
   ];
   ends_otherwise = λ h. other_kind _ _ h.1;
+  first_fault = inr ((lit≤ tt, tt), inl (inr (lit≤ tt, (λ h. h), inl refl)));
+  later_fault = λ h. elim h [
+    | inl first ↦ elim first [
+      | inl few ↦ let low : 1 < 1 = few.0 in omega (arith, low)
+      | inr wrong ↦ other_text wrong.2
+    ]
+    | inr later ↦ later.0.1
+  ];
 }
