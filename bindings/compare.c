@@ -67,5 +67,5 @@ int main(void) {
             free(bytes);
         }
     printf("%ld comparisons, %ld faults\n", checks, faults);
-    return faults != 0;
+    return faults != 0 || checks < 290000;
 }

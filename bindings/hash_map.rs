@@ -10,6 +10,8 @@ struct State {
     waiting: [u8; 32],
 }
 
+const _: () = assert!(std::mem::size_of::<State>() == 80);
+
 #[link(name = "sketch_c", kind = "static")]
 extern "C" {
     fn sketch_xxh64(input: *const u8, length: usize, seed: u64) -> u64;

@@ -8,6 +8,9 @@ class _State(Structure):
     _fields_ = [("words", c_uint64 * 6), ("waiting", c_ubyte * 32)]
 
 
+assert ctypes.sizeof(_State) == 80
+
+
 class _Pair(Structure):
     _fields_ = [("h1", c_uint64), ("h2", c_uint64)]
 
