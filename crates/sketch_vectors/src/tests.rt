@@ -1,3 +1,5 @@
+ghost use Rattle.std.specs.Prelude.{IsTrue};
+
 mod both;
 mod codec;
 mod cuts;
@@ -14,8 +16,11 @@ mod vectors;
 use std::fmt::Debug;
 use std::process::Abort;
 
-// Asserts that two values are equal. As one function it is proved once, and not at each place.
-pub(crate) fn assert_same<T: PartialEq + Debug + Drop>(rt: &impl Abort, left: T, right: T) {
+// Asserts that two values are equal. As one function it is proved once, and not at each place; its
+// clause says that it comes back only from equal values.
+pub(crate) fn assert_same<T: PartialEq + Debug + Drop>(rt: &impl Abort, left: T, right: T)
+    ensures { IsTrue (T.eq left right) }
+{
     assert_eq!(rt; left, right);
 }
 
@@ -25,6 +30,8 @@ pub(crate) fn assert_same_for<T: PartialEq + Debug + Drop>(
     left: T,
     right: T,
     case: impl Debug + Drop,
-) {
+)
+    ensures { IsTrue (T.eq left right) }
+{
     assert_eq!(rt; left, right, "for {case:?}");
 }

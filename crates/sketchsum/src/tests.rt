@@ -1,3 +1,5 @@
+ghost use Rattle.std.specs.Prelude.{IsTrue};
+
 mod arguments;
 mod fakes;
 mod program;
@@ -10,7 +12,10 @@ const FOX: &[u8] = b"The quick brown fox jumps over the lazy dog";
 
 const FOX_LINE: &str = "e34bbc7bbc071b6c7a433ca9c49a9347\n";
 
-// Asserts that two values are equal. As one function it is proved once, and not at each place.
-fn assert_same<T: PartialEq + Debug + Drop>(rt: &impl Abort, left: T, right: T) {
+// Asserts that two values are equal. As one function it is proved once, and not at each place; its
+// clause says that it comes back only from equal values.
+fn assert_same<T: PartialEq + Debug + Drop>(rt: &impl Abort, left: T, right: T)
+    ensures { IsTrue (T.eq left right) }
+{
     assert_eq!(rt; left, right);
 }
