@@ -6,7 +6,8 @@
 #include <string.h>
 #include <xxhash.h>
 
-/* The types that the library was built for: with another width in the header this does not compile. */
+/* The types that the library was built for: with another width in the header this does not
+ * compile. */
 #define HAS_TYPE(name, ...) _Static_assert(_Generic(&name, __VA_ARGS__: 1, default: 0), #name)
 
 HAS_TYPE(sketch_xxh64, uint64_t (*)(const void *, size_t, uint64_t));
@@ -16,7 +17,8 @@ HAS_TYPE(sketch_xxh64_digest, uint64_t (*)(const sketch_xxh64_state_t *));
 HAS_TYPE(sketch_murmur3_128, sketch_murmur3_128_hash_t (*)(const void *, size_t, uint64_t));
 HAS_TYPE(sketch_murmur3_128_reset, void (*)(sketch_murmur3_128_state_t *, uint64_t));
 HAS_TYPE(sketch_murmur3_128_update, void (*)(sketch_murmur3_128_state_t *, const void *, size_t));
-HAS_TYPE(sketch_murmur3_128_digest, sketch_murmur3_128_hash_t (*)(const sketch_murmur3_128_state_t *));
+HAS_TYPE(sketch_murmur3_128_digest,
+         sketch_murmur3_128_hash_t (*)(const sketch_murmur3_128_state_t *));
 
 static long checks, faults;
 
@@ -24,7 +26,8 @@ static void same(const char *what, uint64_t answer, uint64_t expected) {
     checks++;
     if (answer == expected) return;
     faults++;
-    fprintf(stderr, "%s: %016llx, and not %016llx\n", what, (unsigned long long)answer, (unsigned long long)expected);
+    fprintf(stderr, "%s: %016llx, and not %016llx\n", what, (unsigned long long)answer,
+            (unsigned long long)expected);
 }
 
 /* One stream in pieces of `step` bytes, with an empty update behind each. */
@@ -39,7 +42,8 @@ static void in_pieces(const unsigned char *bytes, size_t length, uint64_t seed, 
         sketch_xxh64_update(&x, NULL, 0);
         sketch_murmur3_128_update(&m, bytes + at, n);
         same("xxh64 on the way", sketch_xxh64_digest(&x), XXH64(bytes, at + n, seed));
-        sketch_murmur3_128_hash_t whole = sketch_murmur3_128(bytes, at + n, seed), pieces = sketch_murmur3_128_digest(&m);
+        sketch_murmur3_128_hash_t whole = sketch_murmur3_128(bytes, at + n, seed);
+        sketch_murmur3_128_hash_t pieces = sketch_murmur3_128_digest(&m);
         same("murmur on the way, h1", pieces.h1, whole.h1);
         same("murmur on the way, h2", pieces.h2, whole.h2);
     }
@@ -62,7 +66,8 @@ int main(void) {
         for (size_t s = 0; s < 3; s++) {
             unsigned char *bytes = malloc(length ? length : 1);
             for (size_t i = 0; i < length; i++) bytes[i] = (unsigned char)(i * 167 + length);
-            same("xxh64 in one call", sketch_xxh64(bytes, length, seeds[s]), XXH64(bytes, length, seeds[s]));
+            same("xxh64 in one call", sketch_xxh64(bytes, length, seeds[s]),
+                 XXH64(bytes, length, seeds[s]));
             for (size_t step = 1; step <= 70; step += 6) in_pieces(bytes, length, seeds[s], step);
             free(bytes);
         }

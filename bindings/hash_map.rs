@@ -20,8 +20,8 @@ extern "C" {
     fn sketch_xxh64_digest(state: &State) -> u64;
 }
 
-/// XXH64, by default with the seed 0. The calls are safe: the declarations fit the header, a slice is readable
-/// for its length, and `&mut` lets nothing else touch the state.
+/// XXH64, by default with the seed 0. The calls are safe: the declarations fit the header, a slice
+/// is readable for its length, and `&mut` lets nothing else touch the state.
 #[derive(Clone)]
 struct Xxh64(State);
 

@@ -65,9 +65,12 @@ sketch_murmur3_128_hash_t sketch_murmur3_128_digest(const sketch_murmur3_128_sta
 
 /* The layouts that the library was built for. */
 SKETCH_HASH_ASSERT(sizeof(sketch_xxh64_state_t) == 80, "sketch_xxh64_state_t has padding");
-SKETCH_HASH_ASSERT(offsetof(sketch_xxh64_state_t, waiting) == 48, "sketch_xxh64_state_t has padding");
-SKETCH_HASH_ASSERT(sizeof(sketch_murmur3_128_state_t) == 40, "sketch_murmur3_128_state_t has padding");
-SKETCH_HASH_ASSERT(offsetof(sketch_murmur3_128_state_t, waiting) == 24, "sketch_murmur3_128_state_t has padding");
+SKETCH_HASH_ASSERT(offsetof(sketch_xxh64_state_t, waiting) == 48,
+                   "sketch_xxh64_state_t has padding");
+SKETCH_HASH_ASSERT(sizeof(sketch_murmur3_128_state_t) == 40,
+                   "sketch_murmur3_128_state_t has padding");
+SKETCH_HASH_ASSERT(offsetof(sketch_murmur3_128_state_t, waiting) == 24,
+                   "sketch_murmur3_128_state_t has padding");
 
 #undef SKETCH_HASH_ASSERT
 

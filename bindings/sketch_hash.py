@@ -1,4 +1,4 @@
-"""Objects like those of hashlib: python3 sketch_hash.py LIBRARY compares them with known answers."""
+"""Objects like those of hashlib: python3 sketch_hash.py LIBRARY tries them on known answers."""
 import ctypes
 import sys
 from ctypes import POINTER, Structure, c_char_p, c_size_t, c_ubyte, c_uint64
@@ -61,7 +61,8 @@ if __name__ == "__main__":
     assert xxh64(wide).hexdigest() == xxh64(fox[:42]).hexdigest()
     assert murmur3_128(wide) == murmur3_128(fox[:42])
     assert xxh64(b"\0").hexdigest() == "e934a84adb052768"
-    long_seed, data = 0x49F1C7E23916E1DF, bytes.fromhex("f97f521e22e096631b82573e817527378be01ac5898a96")
+    long_seed = 0x49F1C7E23916E1DF
+    data = bytes.fromhex("f97f521e22e096631b82573e817527378be01ac5898a96")
     assert xxh64(data, long_seed).hexdigest() == "09f6f6172c89c3f4"
     assert murmur3_128(data, long_seed) == "fff02d48b75af9f300fc87d5911ee1d1"
     print("xxh64 and murmur3_128 of a sentence")

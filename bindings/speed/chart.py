@@ -38,13 +38,19 @@ for case in cases:
     parts.append(f'<text x="{LEFT - 8}" y="{y + BAR - 3}" text-anchor="end">{escape(case)}</text>')
     for _, peer, _, ratio in (row for row in rows if row[0] == case):
         length = ratio * UNIT
-        parts.append(f'<rect x="{LEFT}" y="{y}" width="{length:.0f}" height="{BAR - 3}" fill="{COLOURS[peer]}"/>')
+        parts.append(
+            f'<rect x="{LEFT}" y="{y}" width="{length:.0f}" height="{BAR - 3}" '
+            f'fill="{COLOURS[peer]}"/>'
+        )
         parts.append(f'<text x="{LEFT + length + 4:.0f}" y="{y + BAR - 4}">{ratio:.2f}</text>')
         y += BAR
     y += 6
 line = LEFT + UNIT
 parts.append(f'<line x1="{line}" y1="24" x2="{line}" y2="{y}" stroke="#444" stroke-dasharray="3"/>')
-parts.append(f'<text x="{line}" y="{y + 14}" text-anchor="middle">as fast as the peer; left of it faster</text>')
+parts.append(
+    f'<text x="{line}" y="{y + 14}" text-anchor="middle">'
+    "as fast as the peer; left of it faster</text>"
+)
 with open(sys.argv[1], "w", encoding="utf-8") as chart:
     chart.write(
         f'<svg xmlns="http://www.w3.org/2000/svg" width="{width}" height="{y + 24}" '

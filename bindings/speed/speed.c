@@ -20,40 +20,46 @@ typedef uint64_t work(size_t total, size_t length);
 
 static uint64_t ours_xxh64_keys(size_t total, size_t length) {
     uint64_t all = 0;
-    for (size_t at = 0; at + length <= total; at += length) all ^= sketch_xxh64(input + at, length, 7);
+    for (size_t at = 0; at + length <= total; at += length)
+        all ^= sketch_xxh64(input + at, length, 7);
     return all;
 }
 
 static uint64_t ours_xxh64_stream(size_t total, size_t length) {
     sketch_xxh64_state_t state;
     sketch_xxh64_reset(&state, 7);
-    for (size_t at = 0; at + length <= total; at += length) sketch_xxh64_update(&state, input + at, length);
+    for (size_t at = 0; at + length <= total; at += length)
+        sketch_xxh64_update(&state, input + at, length);
     return sketch_xxh64_digest(&state);
 }
 
 static uint64_t ours_murmur_keys(size_t total, size_t length) {
     uint64_t all = 0;
-    for (size_t at = 0; at + length <= total; at += length) all ^= sketch_murmur3_128(input + at, length, 7).h1;
+    for (size_t at = 0; at + length <= total; at += length)
+        all ^= sketch_murmur3_128(input + at, length, 7).h1;
     return all;
 }
 
 static uint64_t ours_murmur_stream(size_t total, size_t length) {
     sketch_murmur3_128_state_t state;
     sketch_murmur3_128_reset(&state, 7);
-    for (size_t at = 0; at + length <= total; at += length) sketch_murmur3_128_update(&state, input + at, length);
+    for (size_t at = 0; at + length <= total; at += length)
+        sketch_murmur3_128_update(&state, input + at, length);
     return sketch_murmur3_128_digest(&state).h1;
 }
 
 static uint64_t xxhash_keys(size_t total, size_t length) {
     uint64_t all = 0;
-    for (size_t at = 0; at + length <= total; at += length) all ^= XXH64(input + at, length, 7);
+    for (size_t at = 0; at + length <= total; at += length)
+        all ^= XXH64(input + at, length, 7);
     return all;
 }
 
 static uint64_t xxhash_stream(size_t total, size_t length) {
     XXH64_state_t state;
     XXH64_reset(&state, 7);
-    for (size_t at = 0; at + length <= total; at += length) XXH64_update(&state, input + at, length);
+    for (size_t at = 0; at + length <= total; at += length)
+        XXH64_update(&state, input + at, length);
     return XXH64_digest(&state);
 }
 
@@ -92,7 +98,8 @@ static int by_value(const void *a, const void *b) {
 }
 
 /* One line: `per` is how many bytes the printed nanoseconds are of. */
-static void compare(const char *name, const char *peer, work *ours, work *theirs, size_t total, size_t length, size_t per) {
+static void compare(const char *name, const char *peer, work *ours, work *theirs, size_t total,
+                    size_t length, size_t per) {
     double ratios[ROUNDS], times[ROUNDS];
     if (ours(total, length) != theirs(total, length)) {
         fprintf(stderr, "%s, %s: two answers\n", name, peer);
@@ -105,28 +112,33 @@ static void compare(const char *name, const char *peer, work *ours, work *theirs
     }
     qsort(ratios, ROUNDS, sizeof *ratios, by_value);
     qsort(times, ROUNDS, sizeof *times, by_value);
-    printf("%s\t%s\t%.2f\t%.2f\n", name, peer, times[ROUNDS / 2] / repeat * 1e9 / (double)total * (double)per, ratios[ROUNDS / 2]);
+    double nanoseconds = times[ROUNDS / 2] / repeat * 1e9 / (double)total * (double)per;
+    printf("%s\t%s\t%.2f\t%.2f\n", name, peer, nanoseconds, ratios[ROUNDS / 2]);
 }
 
 int main(void) {
-    static const size_t keys[] = {8, 16, 24, 32, 48, 64}, writes[] = {1, 7, 13, 100, 4096}, wholes[] = {1 << 16, 1 << 20};
+    static const size_t keys[] = {8, 16, 24, 32, 48, 64}, writes[] = {1, 7, 13, 100, 4096};
+    static const size_t wholes[] = {1 << 16, 1 << 20};
     char name[64];
     for (size_t i = 0; i < sizeof input; i++) input[i] = (unsigned char)(i * 2654435761u >> 24);
     for (size_t i = 0; i < sizeof keys / sizeof *keys; i++) {
-        snprintf(name, sizeof name, "keys of %zu bytes", keys[i]);
-        compare(name, "xxHash in one call", ours_xxh64_keys, xxhash_keys, KEYS * keys[i], keys[i], keys[i]);
-        compare(name, "xxHash streaming", ours_xxh64_keys, xxhash_stream_keys, KEYS * keys[i], keys[i], keys[i]);
-        compare(name, "reference Murmur", ours_murmur_keys, reference_keys, KEYS * keys[i], keys[i], keys[i]);
+        size_t key = keys[i], all = KEYS * key;
+        snprintf(name, sizeof name, "keys of %zu bytes", key);
+        compare(name, "xxHash in one call", ours_xxh64_keys, xxhash_keys, all, key, key);
+        compare(name, "xxHash streaming", ours_xxh64_keys, xxhash_stream_keys, all, key, key);
+        compare(name, "reference Murmur", ours_murmur_keys, reference_keys, all, key, key);
     }
     for (size_t i = 0; i < sizeof writes / sizeof *writes; i++) {
-        snprintf(name, sizeof name, "writes of %zu byte%s", writes[i], writes[i] == 1 ? "" : "s");
-        compare(name, "xxHash streaming", ours_xxh64_stream, xxhash_stream, STREAM, writes[i], writes[i]);
+        size_t write = writes[i];
+        snprintf(name, sizeof name, "writes of %zu byte%s", write, write == 1 ? "" : "s");
+        compare(name, "xxHash streaming", ours_xxh64_stream, xxhash_stream, STREAM, write, write);
     }
     for (size_t i = 0; i < sizeof wholes / sizeof *wholes; i++) {
-        snprintf(name, sizeof name, "%zu KiB in one write", wholes[i] >> 10);
-        compare(name, "xxHash in one call", ours_xxh64_stream, xxhash_keys, wholes[i], wholes[i], 1024);
-        compare(name, "xxHash streaming", ours_xxh64_stream, xxhash_stream, wholes[i], wholes[i], 1024);
-        compare(name, "reference Murmur", ours_murmur_stream, reference_keys, wholes[i], wholes[i], 1024);
+        size_t whole = wholes[i];
+        snprintf(name, sizeof name, "%zu KiB in one write", whole >> 10);
+        compare(name, "xxHash in one call", ours_xxh64_stream, xxhash_keys, whole, whole, 1024);
+        compare(name, "xxHash streaming", ours_xxh64_stream, xxhash_stream, whole, whole, 1024);
+        compare(name, "reference Murmur", ours_murmur_stream, reference_keys, whole, whole, 1024);
     }
     return 0;
 }

@@ -6,7 +6,8 @@ use super::seen::see_saved_key;
 use super::sketch::{read_sketch, write_sketch};
 use super::streams::{checkpoint, murmur_of_pieces, xxh64_from, xxh64_of_pieces};
 use crate::first_bytes::FirstBytes;
-use crate::tests::assert_same;
+use crate::tests::refusals::assert_line;
+use crate::tests::{FOX_MURMUR, FOX_XXH64, assert_same};
 use datasketches::codec::{Item, Kind};
 use datasketches::error::{Error, ErrorKind};
 use datasketches::hash::Hash;
@@ -42,77 +43,45 @@ fn reading_a_sketch_takes_no_memory(rt: HostRuntime) {
     assert_same(&rt, item.ok(), Some(Item::U64Le(258)));
 }
 
-// Whether the bytes are refused with this message.
-fn is_refused(alloc: Global, bytes: &[u8], message: &str) -> bool {
-    match read(alloc, bytes, 9001, Kind::U64Le) {
-        Ok(_) => false,
-        Err(error) => error.kind() == ErrorKind::InvalidData && error.message() == message,
+// One more place is wrong each time, and its fault is told before those behind it.
+#[test]
+fn other_bytes_are_refused(rt: HostRuntime) {
+    let alloc = rt.alloc();
+    let mut other = SKETCH;
+    for (place, byte, line) in [
+        (
+            3,
+            0xcd,
+            "InvalidData => incompatible seed hash of hll: expected 37836, got 37837",
+        ),
+        (
+            2,
+            3,
+            "InvalidData => invalid family: expected 7 (HLL), got 3",
+        ),
+        (
+            1,
+            2,
+            "InvalidData => unsupported serial version: expected 3, got 2",
+        ),
+        (
+            0,
+            2,
+            "InvalidData => invalid preamble longs: expected one of [1], got 2",
+        ),
+    ] {
+        other[place] = byte;
+        assert_line(&rt, alloc, read(alloc, &other, 9001, Kind::U64Le), line);
     }
 }
 
 #[test]
-fn other_bytes_are_refused(rt: HostRuntime) {
-    let mut other = SKETCH;
-    other[2] = 3;
-    assert!(rt;
-        is_refused(
-            rt.alloc(),
-            &other,
-            "invalid family: expected 7 (HLL), got 3"
-        )
-    );
-    other[1] = 2;
-    assert!(rt;
-        is_refused(
-            rt.alloc(),
-            &other,
-            "unsupported serial version: expected 3, got 2"
-        )
-    );
-    other[0] = 2;
-    assert!(rt;
-        is_refused(
-            rt.alloc(),
-            &other,
-            "invalid preamble longs: expected one of [1], got 2"
-        )
-    );
-    let mut seeded = SKETCH;
-    seeded[3] = 0xcd;
-    assert!(rt;
-        is_refused(
-            rt.alloc(),
-            &seeded,
-            "incompatible seed hash of hll: expected 37836, got 37837"
-        )
-    );
-}
-
-// What is read, or the kind of the refusal and whether its message begins like this.
-fn read_or_refusal(
-    alloc: Global,
-    bytes: &[u8],
-    seed: u64,
-    message: &str,
-) -> Result<Item, (ErrorKind, bool)> {
-    read(alloc, bytes, seed, Kind::U64Le).map_err(|error| (
-        error.kind(),
-        error.message().starts_with(message),
-    ))
-}
-
-#[test]
 fn a_seed_with_no_hash_is_refused(rt: HostRuntime) {
-    assert_same(
-        &rt,
-        read_or_refusal(
-            rt.alloc(),
-            &SKETCH,
-            50541,
-            "seed 50541 produces a seed hash of zero",
-        ),
-        Err((ErrorKind::InvalidArgument, true)),
-    );
+    let alloc = rt.alloc();
+    let answer = read(alloc, &SKETCH, 50541, Kind::U64Le);
+    let line =
+        "InvalidArgument => seed 50541 produces a seed hash of zero; choose a different seed";
+    assert_line(&rt, alloc, answer, line);
 }
 
 #[test]
@@ -122,18 +91,14 @@ fn a_stream_in_pieces_has_one_hash(rt: HostRuntime) {
         raw_bytes::from_slice(b""),
         raw_bytes::from_slice(b"jumps over the lazy dog"),
     ];
-    assert_same(
-        &rt,
-        murmur_of_pieces(0, &pieces),
-        (0xe34b_bc7b_bc07_1b6c, 0x7a43_3ca9_c49a_9347),
-    );
-    assert_same(&rt, xxh64_of_pieces(0, &pieces), 0x0b24_2d36_1fda_71bc);
+    assert_same(&rt, murmur_of_pieces(0, &pieces), FOX_MURMUR);
+    assert_same(&rt, xxh64_of_pieces(0, &pieces), FOX_XXH64);
 }
 
 #[test]
 fn a_stream_goes_on_from_a_checkpoint(rt: HostRuntime) {
     let state = checkpoint(0, b"The quick brown fox jumps over the");
-    assert_same(&rt, xxh64_from(&state, b" lazy dog"), 0x0b24_2d36_1fda_71bc);
+    assert_same(&rt, xxh64_from(&state, b" lazy dog"), FOX_XXH64);
 }
 
 #[test]

@@ -405,18 +405,6 @@ const TWO_NUMBERS: [u8; 12] = [
 ];
 
 #[test]
-fn writes_one_number_behind_another(rt: HostRuntime) -> Result<(), Fail> {
-    let mut writer = SketchBytes::with_capacity(rt.alloc(), 0)?;
-    let answers = [writer.write_i64_be(-2), writer.write_i32_le(-2_147_483_648)];
-    assert_same(
-        &rt,
-        (answers, writer.into_bytes().as_slice()),
-        ([Ok(()); 2], TWO_NUMBERS.as_slice()),
-    );
-    Ok(())
-}
-
-#[test]
 fn reads_one_number_behind_another(rt: HostRuntime) {
     let mut reader = SketchSlice::new(&TWO_NUMBERS);
     assert_same(

@@ -3,7 +3,6 @@
 use crate::tests::{assert_same, assert_same_for};
 use datasketches::hash::value::{calculate_hash, natural_extend, raw_bytes, sign_extend};
 use std::alloc::{AllocError, Global};
-use std::cmp::Ordering;
 
 #[test]
 fn numbers_extended_by_their_highest_bit(rt: HostRuntime) {
@@ -91,7 +90,7 @@ fn numbers_of_64_bits_meet_the_short_ones(rt: HostRuntime) {
 }
 
 // The hashes of one text, by each of the four ways to wrap it.
-fn of_text(alloc: Global, text: &str) -> Result<[u64; 4], AllocError> {
+fn hashes_of_text(alloc: Global, text: &str) -> Result<[u64; 4], AllocError> {
     Ok([
         calculate_hash(raw_bytes::from_vec(Vec::from_slice(alloc, text.as_bytes())?)),
         calculate_hash(raw_bytes::from_slice(text.as_bytes())),
@@ -103,60 +102,8 @@ fn of_text(alloc: Global, text: &str) -> Result<[u64; 4], AllocError> {
 #[test]
 fn bytes_and_texts_agree(rt: HostRuntime) -> Result<(), AllocError> {
     for text in ["abc", ""] {
-        let [vec, slice, string, str] = of_text(rt.alloc(), text)?;
+        let [vec, slice, string, str] = hashes_of_text(rt.alloc(), text)?;
         assert_same_for(&rt, [vec, slice, string], [str; 3], text);
     }
-    Ok(())
-}
-
-#[test]
-fn empty_ones_are_seen_through_the_wrapper(rt: HostRuntime) {
-    assert!(rt; raw_bytes::from_vec(Vec::new(rt.alloc())).is_empty());
-    assert!(rt; raw_bytes::from_slice(&[]).is_empty());
-    assert!(rt; raw_bytes::from_string(String::new(rt.alloc())).is_empty());
-    assert!(rt; raw_bytes::from_str("").is_empty());
-}
-
-#[test]
-fn others_are_not_empty_through_the_wrapper(rt: HostRuntime) -> Result<(), AllocError> {
-    let bytes = Vec::from_slice(rt.alloc(), b"abc")?;
-    let text = String::from_str(rt.alloc(), "abc")?;
-    assert!(rt; !raw_bytes::from_vec(bytes).is_empty());
-    assert!(rt; !raw_bytes::from_slice(b"abc").is_empty());
-    assert!(rt; !raw_bytes::from_string(text).is_empty());
-    assert!(rt; !raw_bytes::from_str("abc").is_empty());
-    Ok(())
-}
-
-#[test]
-fn wrapped_numbers_behave_as_numbers(rt: HostRuntime) {
-    let minus_one = sign_extend::from_i8(-1);
-    assert!(rt; sign_extend::from_u8(3) < sign_extend::from_u8(4));
-    assert!(rt; sign_extend::from_u8(3) == sign_extend::from_u8(3));
-    assert_same(&rt, minus_one.cmp(&sign_extend::from_i8(1)), Ordering::Less);
-    assert_same(&rt, minus_one.clone().ok(), Some(minus_one));
-    let mut nine = sign_extend::from_u16(9);
-    *nine = 10;
-    assert_same(&rt, nine.into_inner(), 10);
-}
-
-// The printed texts of the wrapped -1.
-fn texts_of_minus_one(alloc: Global) -> Result<[String; 4], AllocError> {
-    let minus_one = sign_extend::from_i8(-1);
-    Ok([
-        format!(in alloc; "{minus_one}")?,
-        format!(in alloc; "{minus_one:4}")?,
-        format!(in alloc; "{minus_one:?}")?,
-        format!(in alloc; "{minus_one:4?}")?,
-    ])
-}
-
-#[test]
-fn wrapped_numbers_print_as_numbers(rt: HostRuntime) -> Result<(), AllocError> {
-    let [text, wide, debug, wide_debug] = texts_of_minus_one(rt.alloc())?;
-    assert_same(&rt, text.as_str(), "-1");
-    assert_same(&rt, wide.as_str(), "  -1");
-    assert_same(&rt, debug.as_str(), "-1");
-    assert_same(&rt, wide_debug.as_str(), "  -1");
     Ok(())
 }

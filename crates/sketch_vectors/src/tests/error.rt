@@ -2,6 +2,7 @@ ghost use Rattle.std.specs.Prelude.{◌≡◌, ◌↔◌, codes, IfErr, IfSome, 
 ghost use Rattle.sketch_base.specs.ErrorValue.{memory_error};
 
 use crate::tests::assert_same;
+use crate::tests::refusals::assert_error_or_want;
 use datasketches::error::{Error, ErrorKind};
 use std::alloc::{AllocError, Global};
 use std::fmt;
@@ -331,39 +332,42 @@ fn prints_the_names_of_the_kinds(rt: HostRuntime) {
     }
 }
 
-// Asserts that an error prints this line.
-fn assert_line(rt: &impl Abort, alloc: Global, error: Error, line: &str) {
-    assert_text(rt, error.to_string(alloc), line);
-}
-
 #[test]
 fn prints_what_the_constructors_make(rt: HostRuntime) -> Result<(), Fail> {
     let alloc = rt.alloc();
     let error = Error::invalid_argument(String::from_str(alloc, "bad x")?);
-    assert_line(&rt, alloc, error, "InvalidArgument => bad x");
+    assert_text(&rt, error.to_string(alloc), "InvalidArgument => bad x");
     let error = Error::deserial(String::new(alloc));
-    assert_line(&rt, alloc, error, "InvalidData");
+    assert_text(&rt, error.to_string(alloc), "InvalidData");
     let error = Error::deserial(String::from_str(alloc, "bad x")?);
-    assert_line(&rt, alloc, error, "InvalidData => bad x");
+    assert_text(&rt, error.to_string(alloc), "InvalidData => bad x");
     let error = Error::insufficient_data(alloc, "x");
-    assert_line(&rt, alloc, error, "InvalidData => insufficient data: x");
+    assert_text(
+        &rt,
+        error.to_string(alloc),
+        "InvalidData => insufficient data: x",
+    );
     let error = Error::insufficient_data_of(alloc, "header", 5u8);
     let line = "InvalidData => insufficient data (header): 5";
-    assert_line(&rt, alloc, error, line);
+    assert_text(&rt, error.to_string(alloc), line);
     let error = Error::insufficient_data_of(alloc, "", "");
-    assert_line(&rt, alloc, error, "InvalidData => insufficient data (): ");
+    assert_text(
+        &rt,
+        error.to_string(alloc),
+        "InvalidData => insufficient data (): ",
+    );
     let error = Error::invalid_family(alloc, 0, 255, "");
     let line = "InvalidData => invalid family: expected 0 (), got 255";
-    assert_line(&rt, alloc, error, line);
+    assert_text(&rt, error.to_string(alloc), line);
     let error = Error::invalid_preamble_longs(alloc, &[1, 2], 3);
     let line = "InvalidData => invalid preamble longs: expected one of [1, 2], got 3";
-    assert_line(&rt, alloc, error, line);
+    assert_text(&rt, error.to_string(alloc), line);
     let error = Error::invalid_preamble_longs(alloc, &[0, 10, 100, 255], 9);
     let line = "InvalidData => invalid preamble longs: expected one of [0, 10, 100, 255], got 9";
-    assert_line(&rt, alloc, error, line);
+    assert_text(&rt, error.to_string(alloc), line);
     let error = Error::invalid_preamble_ints(alloc, 2, 9);
     let line = "InvalidData => invalid preamble ints: expected 2, got 9";
-    assert_line(&rt, alloc, error, line);
+    assert_text(&rt, error.to_string(alloc), line);
     Ok(())
 }
 
@@ -446,26 +450,24 @@ fn contexts_without_memory(rt: HostRuntime) {
     }
 }
 
-// Asserts that an error tells of the data by this message, or of memory by none.
-pub(super) fn assert_told(rt: &impl Abort, error: Error, message: &str) {
-    let told = (error.kind(), error.message());
-    let is_of_data = told == (ErrorKind::InvalidData, message);
-    let is_of_memory = told == (ErrorKind::OutOfMemory, "");
-    assert!(rt; is_of_data || is_of_memory, "not {message}");
-}
-
 #[test]
 fn constructors_without_memory(rt: HostRuntime) {
     let alloc = rt.alloc();
+    let kind = ErrorKind::InvalidData;
     let error = Error::insufficient_data(alloc, "x");
-    assert_told(&rt, error, "insufficient data: x");
+    assert_error_or_want(&rt, &error, kind, "insufficient data: x");
     let error = Error::insufficient_data_of(alloc, "header", 5u8);
-    assert_told(&rt, error, "insufficient data (header): 5");
+    assert_error_or_want(&rt, &error, kind, "insufficient data (header): 5");
     let error = Error::invalid_family(alloc, 7, 8, "HLL");
-    assert_told(&rt, error, "invalid family: expected 7 (HLL), got 8");
+    assert_error_or_want(&rt, &error, kind, "invalid family: expected 7 (HLL), got 8");
     let error = Error::invalid_preamble_longs(alloc, &[1, 2], 3);
     let message = "invalid preamble longs: expected one of [1, 2], got 3";
-    assert_told(&rt, error, message);
+    assert_error_or_want(&rt, &error, kind, message);
     let error = Error::invalid_preamble_ints(alloc, 2, 9);
-    assert_told(&rt, error, "invalid preamble ints: expected 2, got 9");
+    assert_error_or_want(
+        &rt,
+        &error,
+        kind,
+        "invalid preamble ints: expected 2, got 9",
+    );
 }

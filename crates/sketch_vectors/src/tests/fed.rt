@@ -1,7 +1,7 @@
 //! The bytes that values feed.
 
 use crate::first_bytes::FirstBytes;
-use crate::tests::{assert_same, assert_same_for};
+use crate::tests::{FOX_MURMUR, assert_same, assert_same_for};
 use datasketches::hash::value::{feed_all, natural_extend, raw_bytes, sign_extend};
 use datasketches::hash::{Hash, Hasher, MurmurHash3X64128};
 use std::alloc::AllocError;
@@ -260,11 +260,7 @@ fn values_of_a_list_in_order(rt: HostRuntime) {
     ];
     let mut murmur = MurmurHash3X64128::with_seed(0);
     feed_all(&pieces, &mut murmur);
-    assert_same(
-        &rt,
-        murmur.finish128(),
-        (0xe34b_bc7b_bc07_1b6c, 0x7a43_3ca9_c49a_9347),
-    );
+    assert_same(&rt, murmur.finish128(), FOX_MURMUR);
 }
 
 #[test]

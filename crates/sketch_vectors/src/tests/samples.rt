@@ -2,7 +2,7 @@
 //!
 //! The hashes of single values are those of its Murmur hasher under the seed 9001.
 
-use super::both::Both;
+use super::both::{Both, answers_of};
 use crate::tests::{assert_same, assert_same_for};
 use datasketches::error::ErrorKind;
 use datasketches::hash::value::{calculate_hash, natural_extend, raw_bytes, sign_extend};
@@ -311,9 +311,12 @@ const CUTS: [Cut; 10] = [
 #[test]
 fn hashes_of_streams(rt: HostRuntime) {
     for (seed, input, murmur, xxh64) in &HASHES {
-        let mut both = Both::with_seeds(*seed, *seed);
-        both.write(input);
-        assert_same_for(&rt, both.answers(), (*murmur, *xxh64), (input, seed));
+        assert_same_for(
+            &rt,
+            answers_of(*seed, input),
+            (*murmur, *xxh64),
+            (input, seed),
+        );
     }
 }
 

@@ -1,5 +1,5 @@
+use crate::tests::refusals::{assert_line, is_insufficient};
 use crate::tests::{assert_same, assert_same_for};
-use datasketches::error::Error;
 use datasketches::hash::value::raw_bytes;
 use sketch_member::MemberTable;
 use sketch_member::laws::{read_again, read_back};
@@ -138,15 +138,6 @@ fn a_count_stays_at_the_greatest(rt: HostRuntime) -> Result<(), Fail> {
     Ok(())
 }
 
-// Asserts that the answer is a refusal with this line.
-fn assert_refused(rt: &impl Abort, alloc: Global, answer: Result<MemberTable, Error>, line: &str) {
-    let printed = match answer {
-        Ok(_) => Ok(String::new(alloc)),
-        Err(error) => error.to_string(alloc),
-    };
-    assert_same(rt, printed.ok().as_deref(), Some(line));
-}
-
 #[test]
 fn sizes_outside_their_limits_are_refused(rt: HostRuntime) {
     let alloc = rt.alloc();
@@ -172,7 +163,7 @@ fn sizes_outside_their_limits_are_refused(rt: HostRuntime) {
             "InvalidArgument => invalid hashes: expected 1 to 16, got 17",
         ),
     ] {
-        assert_refused(
+        assert_line(
             &rt,
             alloc,
             MemberTable::new(alloc, 0, log2_bits, hashes),
@@ -243,12 +234,12 @@ fn changed_bytes_are_refused(rt: HostRuntime) {
     for (place, byte, line) in CHANGES_1 {
         let mut bytes = ONE_VALUE_1;
         bytes[place.min(7)] = byte;
-        assert_refused(&rt, alloc, MemberTable::from_bytes(alloc, &bytes), line);
+        assert_line(&rt, alloc, MemberTable::from_bytes(alloc, &bytes), line);
     }
     for (place, byte, line) in CHANGES_2 {
         let mut bytes = ONE_VALUE_2;
         bytes[place.min(7)] = byte;
-        assert_refused(&rt, alloc, MemberTable::from_bytes(alloc, &bytes), line);
+        assert_line(&rt, alloc, MemberTable::from_bytes(alloc, &bytes), line);
     }
 }
 
@@ -289,11 +280,11 @@ fn the_first_fault_is_told(rt: HostRuntime) {
         (7, 0, "InvalidData => reserved bytes are not zero"),
         (5, 1, "InvalidData => unknown count is not zero"),
     ] {
-        assert_refused(&rt, alloc, MemberTable::from_bytes(alloc, &bytes), line);
+        assert_line(&rt, alloc, MemberTable::from_bytes(alloc, &bytes), line);
         bytes[place.min(7)] = right;
     }
     let trailing = "InvalidData => trailing bytes: 1";
-    assert_refused(&rt, alloc, MemberTable::from_bytes(alloc, &bytes), trailing);
+    assert_line(&rt, alloc, MemberTable::from_bytes(alloc, &bytes), trailing);
 }
 
 // Asserts that each beginning of the bytes of a table with eight bytes of bits is refused.
@@ -306,18 +297,16 @@ fn assert_beginnings_refused(
     for count in 0..bytes.len() {
         let answer = MemberTable::from_bytes(alloc, &bytes[..count]);
         if count < header {
-            let is_told = answer.err().map(|error| {
-                error
-                    .message()
-                    .starts_with("insufficient data (member table): ")
-            });
-            assert_same_for(rt, is_told, Some(true), count);
+            let is_short = answer
+                .err()
+                .is_some_and(|error| is_insufficient(&error, "member table"));
+            assert!(rt; is_short, "of {count} bytes");
         } else {
             let line = format!(in alloc;
                 "InvalidData => insufficient data (member bits): expected 8, got {}",
                 count - header
             )?;
-            assert_refused(rt, alloc, answer, &line);
+            assert_line(rt, alloc, answer, &line);
         }
     }
     Ok(())
@@ -339,7 +328,7 @@ fn trailing_bytes_are_refused(rt: HostRuntime) {
         (26, "InvalidData => trailing bytes: 2"),
     ] {
         let count = count.min(bytes.len());
-        assert_refused(
+        assert_line(
             &rt,
             alloc,
             MemberTable::from_bytes(alloc, &bytes[..count]),

@@ -1,4 +1,5 @@
-//! A wrapped value behaves as the value: each function here is proved for every type and strategy.
+//! A wrapped value behaves as the value. The first four functions are proved for every type and
+//! strategy.
 
 ghost use Rattle.std.specs.Prelude.{◌≡◌, ◌↔◌, IsTrue, MatchResult};
 
@@ -6,7 +7,7 @@ use crate::tests::assert_same;
 use datasketches::hash::value::natural_extend::NaturalExtendStrategy;
 use datasketches::hash::value::sign_extend::{self, SignExtendStrategy};
 use datasketches::hash::value::{Value, calculate_hash, raw_bytes, value_law};
-use std::alloc::AllocError;
+use std::alloc::{AllocError, Global};
 use std::cmp::Ordering;
 
 fn is_equal<T: Eq, S>(x: &Value<T, S>, y: &Value<T, S>) -> bool
@@ -42,6 +43,56 @@ fn wrapped_numbers_compare_as_numbers(rt: HostRuntime) {
     assert_same(&rt, compare(&three, &four), Ordering::Less);
     assert_same(&rt, partial_compare(&four, &three), Some(Ordering::Greater));
     assert_same(&rt, clone_of(&three).ok(), Some(three));
+}
+
+#[test]
+fn wrapped_numbers_behave_as_numbers(rt: HostRuntime) {
+    assert!(rt; sign_extend::from_u8(3) < sign_extend::from_u8(4));
+    let (minus_one, one) = (sign_extend::from_i8(-1), sign_extend::from_i8(1));
+    assert_same(&rt, minus_one.cmp(&one), Ordering::Less);
+    let mut nine = sign_extend::from_u16(9);
+    *nine = 10;
+    assert_same(&rt, nine.into_inner(), 10);
+}
+
+// The printed texts of the wrapped -1.
+fn texts_of_minus_one(alloc: Global) -> Result<[String; 4], AllocError> {
+    let minus_one = sign_extend::from_i8(-1);
+    Ok([
+        format!(in alloc; "{minus_one}")?,
+        format!(in alloc; "{minus_one:4}")?,
+        format!(in alloc; "{minus_one:?}")?,
+        format!(in alloc; "{minus_one:4?}")?,
+    ])
+}
+
+#[test]
+fn wrapped_numbers_print_as_numbers(rt: HostRuntime) -> Result<(), AllocError> {
+    let [text, wide, debug, wide_debug] = texts_of_minus_one(rt.alloc())?;
+    assert_same(&rt, text.as_str(), "-1");
+    assert_same(&rt, wide.as_str(), "  -1");
+    assert_same(&rt, debug.as_str(), "-1");
+    assert_same(&rt, wide_debug.as_str(), "  -1");
+    Ok(())
+}
+
+#[test]
+fn empty_ones_are_seen_through_the_wrapper(rt: HostRuntime) {
+    assert!(rt; raw_bytes::from_vec(Vec::new(rt.alloc())).is_empty());
+    assert!(rt; raw_bytes::from_slice(&[]).is_empty());
+    assert!(rt; raw_bytes::from_string(String::new(rt.alloc())).is_empty());
+    assert!(rt; raw_bytes::from_str("").is_empty());
+}
+
+#[test]
+fn others_are_not_empty_through_the_wrapper(rt: HostRuntime) -> Result<(), AllocError> {
+    let bytes = Vec::from_slice(rt.alloc(), b"abc")?;
+    let text = String::from_str(rt.alloc(), "abc")?;
+    assert!(rt; !raw_bytes::from_vec(bytes).is_empty());
+    assert!(rt; !raw_bytes::from_slice(b"abc").is_empty());
+    assert!(rt; !raw_bytes::from_string(text).is_empty());
+    assert!(rt; !raw_bytes::from_str("abc").is_empty());
+    Ok(())
 }
 
 #[test]

@@ -1,15 +1,12 @@
 //! The vectors of the original's own tests, and one of xxHash: 33 bytes under the second seed.
 
-use crate::tests::assert_same_for;
+use crate::tests::{FOX, FOX_MURMUR, assert_same_for};
 use datasketches::hash::{Hasher, MurmurHash3X64128, XxHash64};
 use sketch_hash::examples::TEST_BUFFER;
 
 // What Murmur answers under seed 0: the input, and the two words.
 const MURMUR: [(&[u8], (u64, u64)); 6] = [
-    (
-        b"The quick brown fox jumps over the lazy dog",
-        (0xe34b_bc7b_bc07_1b6c, 0x7a43_3ca9_c49a_9347),
-    ),
+    (FOX, FOX_MURMUR),
     (
         b"The quick brown fox jumps over the lazy eog",
         (0x3621_0810_2c62_d1c9, 0x3285_cd10_0292_b305),

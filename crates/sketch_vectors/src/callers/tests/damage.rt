@@ -3,6 +3,7 @@
 use super::{SKETCH, read};
 use crate::callers::sketch::write_sketch;
 use crate::tests::assert_same;
+use crate::tests::refusals::{assert_refusal_or_want, is_insufficient};
 use datasketches::codec::{Item, Kind};
 use datasketches::error::{Error, ErrorKind};
 use std::alloc::{AllocError, Global};
@@ -27,27 +28,16 @@ const ITEMS: [Item; 14] = [
     Item::I64Be(-5),
 ];
 
-// Whether bytes that are cut short are refused for it.
-fn is_told_short(answer: Result<Item, Error>) -> bool {
-    match answer {
-        Ok(_) => false,
-        Err(error) => {
-            error.kind() == ErrorKind::InvalidData
-                && error
-                    .message()
-                    .starts_with("insufficient data (hll sketch): ")
-        }
-    }
-}
-
 #[test]
 fn every_beginning_of_a_sketch_is_refused(rt: HostRuntime) -> Result<(), Fail> {
     let alloc = rt.alloc();
     for item in ITEMS {
         let sketch = write_sketch(alloc, SEED, &[item])?;
         for count in 0..sketch.len() {
-            let answer = read(alloc, &sketch[..count], SEED, item.kind());
-            assert!(rt; is_told_short(answer), "{count} bytes of {item:?}");
+            let is_short = read(alloc, &sketch[..count], SEED, item.kind())
+                .err()
+                .is_some_and(|error| is_insufficient(&error, "hll sketch"));
+            assert!(rt; is_short, "{count} bytes of {item:?}");
         }
     }
     Ok(())
@@ -99,17 +89,6 @@ fn a_changed_byte_is_refused_or_read(rt: HostRuntime) -> Result<(), Fail> {
     Ok(())
 }
 
-// Whether bytes are refused with this message, or for want of memory.
-fn is_told_or_want(answer: Result<Item, Error>, message: &str) -> bool {
-    match answer {
-        Ok(_) => false,
-        Err(error) => match error.kind() {
-            ErrorKind::OutOfMemory => error.message().is_empty(),
-            _ => error.message() == message,
-        },
-    }
-}
-
 #[test]
 fn sketches_without_memory(rt: HostRuntime) {
     let alloc = rt.alloc();
@@ -122,8 +101,8 @@ fn sketches_without_memory(rt: HostRuntime) {
     other[4] = 0;
     let answer = read(alloc, &other, SEED, item.kind());
     let message = "incompatible seed hash of hll: expected 37836, got 204";
-    assert!(rt; is_told_or_want(answer, message));
+    assert_refusal_or_want(&rt, answer, ErrorKind::InvalidData, message);
     let answer = read(alloc, &SKETCH, 50541, item.kind());
     let message = "seed 50541 produces a seed hash of zero; choose a different seed";
-    assert!(rt; is_told_or_want(answer, message));
+    assert_refusal_or_want(&rt, answer, ErrorKind::InvalidArgument, message);
 }

@@ -1,25 +1,15 @@
 use crate::tests::assert_same;
-use crate::tests::error::assert_told;
+use crate::tests::refusals::{assert_line, assert_refusal_or_want};
 use datasketches::codec::SketchSlice;
 use datasketches::codec::assert::{
     ensure_preamble_longs_in, ensure_preamble_longs_in_range, ensure_serial_version_is,
     insufficient_data,
 };
 use datasketches::codec::family::Family;
-use datasketches::error::{Error, ErrorKind};
+use datasketches::error::ErrorKind;
 use std::alloc::{AllocError, Global};
 use std::ops::Bound::{self, Excluded, Included, Unbounded};
-use std::process::Abort;
 use std::test::Fail;
-
-// Asserts that a refusal has this line; that of a number that is accepted is empty.
-pub(super) fn assert_line(rt: &impl Abort, alloc: Global, answer: Result<(), Error>, line: &str) {
-    let printed = match answer {
-        Ok(()) => Ok(String::new(alloc)),
-        Err(error) => error.to_string(alloc),
-    };
-    assert_same(rt, printed.ok().as_deref(), Some(line));
-}
 
 // The two ends of a range, how it prints, and the first and the last number that it accepts: where
 // it accepts none, the first is above the last.
@@ -114,44 +104,32 @@ fn tells_why_a_read_was_refused(rt: HostRuntime) -> Result<(), Fail> {
     Ok(())
 }
 
-// Whether a check accepted its number.
-fn is_accepted(answer: Result<(), Error>) -> bool {
-    answer.is_ok()
-}
-
 #[test]
 fn accepting_checks_take_no_memory(rt: HostRuntime) {
     let alloc = rt.alloc();
     let accepted = [
-        is_accepted(ensure_serial_version_is(alloc, 3, 3)),
-        is_accepted(ensure_preamble_longs_in(alloc, &[1, 2], 2)),
-        is_accepted(ensure_preamble_longs_in_range(alloc, Unbounded, Unbounded, 255)),
-        is_accepted(Family::HLL.validate_id(alloc, 7)),
+        ensure_serial_version_is(alloc, 3, 3).is_ok(),
+        ensure_preamble_longs_in(alloc, &[1, 2], 2).is_ok(),
+        ensure_preamble_longs_in_range(alloc, Unbounded, Unbounded, 255).is_ok(),
+        Family::HLL.validate_id(alloc, 7).is_ok(),
     ];
     assert_same(&rt, accepted, [true; 4]);
-}
-
-// Asserts that a check refuses its number with this message, or tells of memory.
-fn assert_refused(rt: &impl Abort, answer: Result<(), Error>, message: &str) {
-    match answer {
-        Ok(()) => assert!(rt; false, "not {message}"),
-        Err(error) => assert_told(rt, error, message),
-    }
 }
 
 #[test]
 fn refusing_checks_without_memory(rt: HostRuntime) {
     let alloc = rt.alloc();
+    let kind = ErrorKind::InvalidData;
     let answer = ensure_serial_version_is(alloc, 3, 2);
     let message = "unsupported serial version: expected 3, got 2";
-    assert_refused(&rt, answer, message);
+    assert_refusal_or_want(&rt, answer, kind, message);
     let answer = ensure_preamble_longs_in(alloc, &[], 1);
     let message = "invalid preamble longs: expected one of [], got 1";
-    assert_refused(&rt, answer, message);
+    assert_refusal_or_want(&rt, answer, kind, message);
     let answer = ensure_preamble_longs_in_range(alloc, Included(5), Included(3), 4);
     let message = "invalid preamble longs: expected [5, 3], got 4";
-    assert_refused(&rt, answer, message);
+    assert_refusal_or_want(&rt, answer, kind, message);
     let answer = Family::HLL.validate_id(alloc, 8);
     let message = "invalid family: expected 7 (HLL), got 8";
-    assert_refused(&rt, answer, message);
+    assert_refusal_or_want(&rt, answer, kind, message);
 }

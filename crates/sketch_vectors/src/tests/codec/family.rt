@@ -1,7 +1,7 @@
 ghost use Rattle.std.specs.Prelude.{◌≡◌, ℕ, List, [], ◌∷◌, codes, map};
 
-use super::assert::assert_line;
 use crate::tests::assert_same;
+use crate::tests::refusals::assert_line;
 use datasketches::codec::family::Family;
 
 // A caller's proof knows the fields of each family.

@@ -2,24 +2,11 @@
 
 use super::{ONE_VALUE_1, ONE_VALUE_2, UNKNOWN_COUNT};
 use crate::tests::assert_same;
-use datasketches::error::{Error, ErrorKind};
+use crate::tests::refusals::{assert_refusal_or_want, is_insufficient, is_want_of_memory};
+use datasketches::error::ErrorKind;
 use datasketches::hash::value::raw_bytes;
 use sketch_member::MemberTable;
 use std::alloc::Global;
-
-// Whether the error tells of want of memory.
-fn is_want_of_memory(error: &Error) -> bool {
-    error.kind() == ErrorKind::OutOfMemory && error.message().is_empty()
-}
-
-// Whether the answer is a refusal of this kind with this message, or tells of want of memory.
-fn is_refusal_or_want(answer: &Result<MemberTable, Error>, kind: ErrorKind, message: &str) -> bool {
-    match answer {
-        Ok(_) => false,
-        Err(error) => (error.kind() == kind && error.message() == message)
-            || is_want_of_memory(error),
-    }
-}
 
 // Whether the table is written as these bytes, or not at all.
 fn is_written(alloc: Global, table: &MemberTable, bytes: &[u8]) -> bool {
@@ -68,7 +55,7 @@ fn sizes_are_refused_without_memory(rt: HostRuntime) {
         (20, 17, "invalid hashes: expected 1 to 16, got 17"),
     ] {
         let answer = MemberTable::new(rt.alloc(), 0, log2_bits, hashes);
-        assert!(rt; is_refusal_or_want(&answer, kind, message));
+        assert_refusal_or_want(&rt, answer, kind, message);
     }
 }
 
@@ -92,24 +79,20 @@ fn bytes_are_refused_without_memory(rt: HostRuntime) {
         let mut bytes = ONE_VALUE_2;
         bytes[place] = byte;
         let answer = MemberTable::from_bytes(rt.alloc(), &bytes);
-        assert!(rt; is_refusal_or_want(&answer, kind, message));
+        assert_refusal_or_want(&rt, answer, kind, message);
     }
     let mut longer = [0; 33];
     longer[..32].copy_from_slice(&ONE_VALUE_2);
     let answer = MemberTable::from_bytes(rt.alloc(), &longer);
-    assert!(rt; is_refusal_or_want(&answer, kind, "trailing bytes: 1"));
+    assert_refusal_or_want(&rt, answer, kind, "trailing bytes: 1");
 }
 
 #[test]
 fn short_bytes_are_refused_without_memory(rt: HostRuntime) {
     let answer = MemberTable::from_bytes(rt.alloc(), &ONE_VALUE_2[..23]);
-    let error = answer.err();
     assert!(rt;
-        error.is_some_and(|error| {
-            is_want_of_memory(&error)
-                || error
-                    .message()
-                    .starts_with("insufficient data (member table): ")
+        answer.err().is_some_and(|error| {
+            is_want_of_memory(&error) || is_insufficient(&error, "member table")
         })
     );
 }
