@@ -1,3 +1,5 @@
+//! Items, and what readers and writers do with bytes.
+
 ghost use Rattle.std.specs.Prelude.{◌≡◌, ◌↔◌, IfOk, IsTrue, length, map};
 ghost use Rattle.sketch_base.specs.Items.{item_kind};
 

@@ -1,3 +1,5 @@
+//! Errors: their kinds, their contexts and their texts.
+
 ghost use Rattle.std.specs.Prelude.{◌≡◌, ◌↔◌, codes, IfErr, IfSome, IsTrue, string_bytes};
 ghost use Rattle.sketch_base.specs.ErrorValue.{memory_error};
 

@@ -1,3 +1,5 @@
+//! The two calls that answer hashes and tell that these differ.
+
 use crate::tests::{FOX, FOX_MURMUR, assert_same};
 use datasketches::laws::{murmur_both, xx_both};
 use sketch_hash::examples::TEST_BUFFER;
