@@ -62,9 +62,9 @@ record IsLifted (half whole y word : ℕ) : Type 0 where
   low : y < half → word ≡ y
   high : half ≤ y → word ≡ 2 ^ 64 - whole + y
 
-lifted : (w y : ℕ) → 0 < w → w ≤ 64 → y < 2 ^ w →
+is_lifted : (w y : ℕ) → 0 < w → w ≤ 64 → y < 2 ^ w →
     IsLifted (2 ^ (w - 1)) (2 ^ w) y (modulo 64 (twos_complement w y))
-lifted w y p m l =
+is_lifted w y p m l =
     let s = halves_of w p m in
     record {
       two_halves = s.two_halves;
@@ -113,10 +113,10 @@ sign_extend : PieceLaws → (w : ℕ) (x : ℤ) (y : ℕ) → 0 < w → w ≤ 64
     (integer_bytes x ≡ integer_bytes (twos_complement w y)) ↔ (modulo w x ≡ modulo w (pos y))
 sign_extend ps w (pos n) y p m h l =
     through (integer_bytes-once ps (pos n) (twos_complement w y))
-    (agree (2 ^ (w - 1)) (2 ^ w) y _ n (lifted w y p m l) (omega (arith, ints))).0
+    (agree (2 ^ (w - 1)) (2 ^ w) y _ n (is_lifted w y p m l) (omega (arith, ints))).0
 sign_extend ps w (negsuc n) y p m h l =
     through (integer_bytes-once ps (negsuc n) (twos_complement w y))
-    (agree (2 ^ (w - 1)) (2 ^ w) y _ n (lifted w y p m l) (omega (arith, ints))).1
+    (agree (2 ^ (w - 1)) (2 ^ w) y _ n (is_lifted w y p m l) (omega (arith, ints))).1
 
 -- at any width below 64 bits
 extend_law_at : PieceLaws → (w : ℕ) → 0 < w → w < 64 →
@@ -126,14 +126,14 @@ extend_law_at ps w p m = record {
   signed_alike = λ x. refl;
   unsigned_alike = λ y l.
       through (integer_bytes-once ps (pos y) (twos_complement w y))
-      (top_bit (2 ^ (w - 1)) (2 ^ w) y _ (lifted w y p (omega arith) l) (pow_below w 64 m));
+      (top_bit (2 ^ (w - 1)) (2 ^ w) y _ (is_lifted w y p (omega arith) l) (pow_below w 64 m));
   across = λ x y h l. sign_extend ps w x y p (omega arith) h l;
 }
 
 -- at 64 bits a number is its own word, whichever way it is read
 sign_word : (y : ℕ) → y < 2 ^ 64 → modulo 64 (pos y) ≡ modulo 64 (twos_complement 64 y)
 sign_word y l =
-    let s = lifted 64 y (omega arith) (omega arith) l in
+    let s = is_lifted 64 y (omega arith) (omega arith) l in
     let word : y % 2 ^ 64 ≡ y = mod-eq_of_lt l in
     elim (cases_lt y (2 ^ 63)) [
       | inl low ↦ word ∙ sym (s.low low)

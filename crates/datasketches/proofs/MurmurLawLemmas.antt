@@ -39,13 +39,13 @@ onward-once ps ms bytes n h =
     ▸ ms.ending_of_pair (n % 2 ^ 64) (length_word n)
 
 -- the pair of words after whole blocks
-reached : ℕ → List ℕ → ℕ × ℕ
-reached seed before = fold step (seed, seed) (blocks before)
+pair_after : ℕ → List ℕ → ℕ × ℕ
+pair_after seed before = fold step (seed, seed) (blocks before)
 
-reached-lands : PieceLaws → MurmurStepLaws →
-    (seed : ℕ) (before : List ℕ) → IsWord seed → AreBytes before → AreWords (reached seed before)
-unfolding reached
-reached-lands ps ms seed before p h =
+pair_after-lands : PieceLaws → MurmurStepLaws →
+    (seed : ℕ) (before : List ℕ) → IsWord seed → AreBytes before → AreWords (pair_after seed before)
+unfolding pair_after
+pair_after-lands ps ms seed before p h =
     (ms.steps_of_pair (blocks before) (ms.blocks_read before h)).lands (seed, seed) (p, p)
 
 blocks-aligned : PieceLaws → MurmurStepLaws →
@@ -59,8 +59,8 @@ blocks-aligned ps ms i before after e =
 -- the hash of bytes behind whole blocks
 murmur-aligned : PieceLaws → MurmurStepLaws →
     (seed i : ℕ) (before after : List ℕ) → length before ≡ 16 * i →
-    murmur seed (before ++ after) ≡ onward after (length before + length after) (reached seed before)
-unfolding murmur onward reached
+    murmur seed (before ++ after) ≡ onward after (length before + length after) (pair_after seed before)
+unfolding murmur onward pair_after
 murmur-aligned ps ms seed i before after e =
     let whole = ps.whole_rest 16 i before (omega arith) e in
     let last : tail (before ++ after) ≡ tail after = ps.rest_behind 16 before after (omega arith) whole in
@@ -72,11 +72,11 @@ murmur-aligned ps ms seed i before after e =
     rw (last, cut, length-append before after) refl
 
 -- the pair of words after one more block
-reached-more : PieceLaws → MurmurStepLaws →
+pair_after-more : PieceLaws → MurmurStepLaws →
     (seed i : ℕ) (before block : List ℕ) → length before ≡ 16 * i → length block ≡ 16 →
-    reached seed (before ++ block) ≡ step (reached seed before) (block_words block)
-unfolding reached
-reached-more ps ms seed i before block e f =
+    pair_after seed (before ++ block) ≡ step (pair_after seed before) (block_words block)
+unfolding pair_after
+pair_after-more ps ms seed i before block e f =
     let one = ap (map block_words) (ps.one_piece 16 block (omega arith) f) in
     ap (fold step (seed, seed))
     (blocks-aligned ps ms i before block e ∙ ap (λ list. blocks before ++ list) one)
@@ -87,14 +87,14 @@ reached-more ps ms seed i before block e f =
 pub murmur_block_law : PieceLaws → MurmurStepLaws → MurmurBlockLaw
 murmur_block_law ps ms seed i before after p h k e =
     alike (λ block. murmur seed (before ++ block ++ after)) same_hash
-    (ms.block_read ▸ ms.step_of_block start (reached-lands ps ms seed before p h)
+    (ms.block_read ▸ ms.step_of_block start (pair_after-lands ps ms seed before p h)
     ▸ onward-once ps ms after n k)
   where
     n : ℕ
     n = length before + 16 + length after
 
     start : ℕ × ℕ
-    start = reached seed before
+    start = pair_after seed before
 
     same_hash : (block : List ℕ) → IsBlock block →
         murmur seed (before ++ block ++ after) ≡ onward after n (step start (block_words block))
@@ -102,8 +102,8 @@ murmur_block_law ps ms seed i before after p h k e =
         let size : length (before ++ block) ≡ length before + 16 =
         length-append before block ∙ ap (λ n. length before + n) b.1 in
         murmur-aligned ps ms seed (i + 1) (before ++ block) after (size ∙ omega arith)
-        ∙ ap (λ n. onward after (n + length after) (reached seed (before ++ block))) size
-        ∙ ap (onward after n) (reached-more ps ms seed i before block e b.1)
+        ∙ ap (λ n. onward after (n + length after) (pair_after seed (before ++ block))) size
+        ∙ ap (onward after n) (pair_after-more ps ms seed i before block e b.1)
 
 pub murmur_seed_law : MurmurStepLaws → MurmurSeedLaw
 murmur_seed_law ms = ms.steps_of_pair
@@ -112,7 +112,7 @@ murmur_seed_law ms = ms.steps_of_pair
 murmur-cut : PieceLaws → MurmurStepLaws →
     (seed i : ℕ) (before last : List ℕ) → length before ≡ 16 * i → length last < 16 →
     murmur seed (before ++ last)
-    ≡ ending (with_tail (reached seed before) last) ((length before + length last) % 2 ^ 64)
+    ≡ ending (with_tail (pair_after seed before) last) ((length before + length last) % 2 ^ 64)
 unfolding onward
 murmur-cut ps ms seed i before last e l =
     murmur-aligned ps ms seed i before last e ∙ rw (ps.short_pieces 16 last l, ps.short_rest 16 last l) refl
@@ -123,8 +123,8 @@ pub cut_block-once : PieceLaws → MurmurStepLaws → (seed i : ℕ) (before a b
     length before ≡ 16 * i → length a ≡ length b → length a < 16 →
     murmur seed (before ++ a) ≡ murmur seed (before ++ b) → a ≡ b
 cut_block-once ps ms seed i before a b p h j k e m l q =
-    let start = reached seed before in
-    let start_is = reached-lands ps ms seed before p h in
+    let start = pair_after seed before in
+    let start_is = pair_after-lands ps ms seed before p h in
     let shorter : length b < 16 = omega arith in
     let n = (length before + length a) % 2 ^ 64 in
     let tail_a = with_tail start a in

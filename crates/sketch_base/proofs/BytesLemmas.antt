@@ -3,7 +3,7 @@
 use Rattle.std.proofs.Common.{◌≡◌, ℕ, zero, suc, ◌+◌, ◌*◌, ◌/◌, ◌%◌, ◌^◌, ◌<◌, List, [], ◌∷◌, length, refl, sym, ap, ◌∙◌, arith, add-one}
 use Rattle.std.proofs.Math.Nat.{pow-suc, div-div-eq-div-mul, one-le-pow}
 use Rattle.std.proofs.Math.Arith.{mod-mul}
-use Rattle.std.proofs.lemmas.List.Elements.{All-head, All-tail}
+use Rattle.std.proofs.lemmas.List.Elements.{All-nil, All-cons, All-head, All-tail}
 use Rattle.std.specs.Int.{byte_at, bytes_low_first, to_le_bytes, Width, byte_len}
 use Rattle.sketch_base.specs.Bytes.{AreBytes, weighted_from, le, low_bytes}
 
@@ -31,6 +31,13 @@ le-lt (b ∷ bytes) h =
   where
     below : (b n p : ℕ) → b < 256 → n < p → b + 256 * n < p * 256
     below b n p h k = omega arith
+
+-- a number's lowest bytes are bytes
+pub low_bytes-are : (count n : ℕ) → AreBytes (low_bytes count n)
+low_bytes-are zero n = All-nil (λ b. b < 256)
+low_bytes-are (suc count) n =
+    let others = low_bytes-are count (n / 256) in
+    All-cons (λ b. b < 256) (n % 256) (low_bytes count (n / 256)) (omega arith) others
 
 -- the number of a number's lowest bytes
 pub le-low_bytes : (count n : ℕ) → le (low_bytes count n) ≡ n % 256 ^ count

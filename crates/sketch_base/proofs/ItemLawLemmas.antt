@@ -1,9 +1,9 @@
 -- Items and their bytes, there and back.
-use Rattle.std.proofs.Common.{◌≡◌, ℕ, zero, suc, ◌+◌, ◌-◌, ◌*◌, ◌%◌, ◌/◌, ◌^◌, ◌<◌, ◌≤◌, List, [], ◌∷◌, ◌++◌, length, take, drop, map, reverse, refl, ap, sym, ◌∙◌, arith, append_assoc, length-append, nat_lt, Bool, true, false}
+use Rattle.std.proofs.Common.{◌≡◌, ℕ, ◌+◌, ◌-◌, ◌*◌, ◌%◌, ◌^◌, ◌<◌, ◌≤◌, List, [], ◌∷◌, ◌++◌, length, take, drop, map, reverse, refl, ap, sym, ◌∙◌, arith, append_assoc, length-append, nat_lt, Bool, true, false}
 use Rattle.std.specs.Prelude.{ℤ, pos, negsuc}
 use lib.Signed.{mag}
 use Rattle.std.proofs.lemmas.List.{reverse-append, reverse-reverse, length-reverse}
-use Rattle.std.proofs.lemmas.List.Elements.{All-nil, All-cons, All-push, All-same, All-head, All-tail}
+use Rattle.std.proofs.lemmas.List.Elements.{All-push, All-same, All-head, All-tail}
 use Rattle.std.proofs.lemmas.Int.{ints}
 use Rattle.std.proofs.lemmas.Bool.Decides.{nat_tests}
 use Rattle.std.proofs.Math.Nat.{mod-eq_of_lt}
@@ -16,7 +16,7 @@ use Rattle.sketch_base.specs.Items.{InType, item_kind, width, widths, spell, spe
 use Rattle.sketch_base.specs.ItemLaws.{Holds, ItemLaw}
 use Rattle.std.proofs.Math.Seq.{take-append_seam, drop-append_seam}
 use Rattle.sketch_base.specs.Bytes.{AreBytes, le, be, low_bytes, twos_complement, modulo}
-use Rattle.sketch_base.proofs.BytesLemmas.{le-low_bytes, le-lt, low_bytes-le, length-low_bytes}
+use Rattle.sketch_base.proofs.BytesLemmas.{low_bytes-are, le-low_bytes, le-lt, low_bytes-le, length-low_bytes}
 
 -- so many bytes take a number below so many powers of 256, and give it back, in either order
 le-back : (count n : ℕ) → n < 256 ^ count → le (low_bytes count n) ≡ n
@@ -24,12 +24,6 @@ le-back count n small = le-low_bytes count n ∙ mod-eq_of_lt small
 
 be-back : (count n : ℕ) → n < 256 ^ count → be (reverse (low_bytes count n)) ≡ n
 be-back count n small = ap le (reverse-reverse (low_bytes count n)) ∙ le-back count n small
-
-AreBytes-low_bytes : (count n : ℕ) → AreBytes (low_bytes count n)
-AreBytes-low_bytes zero n = All-nil (λ b. b < 256)
-AreBytes-low_bytes (suc count) n =
-    All-cons (λ b. b < 256) (n % 256) (low_bytes count (n / 256)) (omega arith) (AreBytes-low_bytes count
-    (n / 256))
 
 AreBytes-reverse : (bytes : List ℕ) → AreBytes bytes → AreBytes (reverse bytes)
 AreBytes-reverse [] h = h
@@ -98,7 +92,7 @@ low-holds : (i : Item) (count n : ℕ) → count ≡ width (item_kind i) →
     unspell (item_kind i) (low_bytes count n) ≡ i →
     Holds (low_bytes count n) i
 low-holds i count n is made = record {
-  are_bytes = AreBytes-low_bytes count n;
+  are_bytes = low_bytes-are count n;
   count = length-low_bytes count n ∙ is;
   item = made;
 }
@@ -106,7 +100,7 @@ low-holds i count n is made = record {
 high-holds : (i : Item) (count n : ℕ) → count ≡ width (item_kind i) →
     unspell (item_kind i) (reverse (low_bytes count n)) ≡ i → Holds (reverse (low_bytes count n)) i
 high-holds i count n is made = record {
-  are_bytes = AreBytes-reverse (low_bytes count n) (AreBytes-low_bytes count n);
+  are_bytes = AreBytes-reverse (low_bytes count n) (low_bytes-are count n);
   count = length-reverse (low_bytes count n) ∙ length-low_bytes count n ∙ is;
   item = made;
 }

@@ -1,10 +1,9 @@
 -- Bytes as words: sixteen bytes and two words stand for each other.
-use Rattle.std.proofs.Common.{◌≡◌, ℕ, zero, suc, ◌/◌, ◌%◌, ◌^◌, ◌<◌, List, ◌++◌, length, take, drop, refl, sym, ap, ◌∙◌, arith, subst, mod-eq_of_lt}
-use Rattle.std.proofs.lemmas.Nat.{mod_below}
+use Rattle.std.proofs.Common.{◌≡◌, ℕ, ◌^◌, ◌<◌, List, ◌++◌, length, take, drop, refl, sym, ap, ◌∙◌, arith, subst, mod-eq_of_lt}
 use Rattle.std.proofs.lemmas.List.{take_all, length-take-le, length-drop, take-append-drop, take_at, drop_at}
-use Rattle.std.proofs.lemmas.List.Elements.{All-nil, All-cons, All-take, All-drop, All-append}
+use Rattle.std.proofs.lemmas.List.Elements.{All-take, All-drop, All-append}
 use Rattle.sketch_base.specs.Bytes.{AreBytes, le, low_bytes, eight}
-use Rattle.sketch_base.proofs.BytesLemmas.{le-lt, le-low_bytes, length-low_bytes, low_bytes-le}
+use Rattle.sketch_base.proofs.BytesLemmas.{le-lt, low_bytes-are, le-low_bytes, length-low_bytes, low_bytes-le}
 use Rattle.sketch_hash.specs.Words.{IsWord}
 use Rattle.sketch_hash.specs.Pieces.{word_at}
 use Rattle.sketch_hash.specs.Murmur.{block_words}
@@ -12,12 +11,6 @@ use Rattle.sketch_hash.specs.OneToOne.{OneToOne}
 use Rattle.sketch_hash.specs.Laws.{AreWords, IsBlock, PieceLaws}
 use Rattle.sketch_hash.proofs.Undoes.{Undoes, one_to_one}
 use Rattle.sketch_hash.proofs.PiecesLemmas.{IsByte, IsPiece, rest-whole, pieces-aligned, rest-aligned, pieces_short, rest_short, pieces_one, rest-are, rest-lt, length-rest_same}
-
-pub low_bytes-are : (count n : ℕ) → AreBytes (low_bytes count n)
-low_bytes-are zero n = All-nil IsByte
-low_bytes-are (suc count) n =
-    let others = low_bytes-are count (n / 256) in
-    All-cons IsByte (n % 256) (low_bytes count (n / 256)) (mod_below n 256 (omega arith)) others
 
 -- eight bytes and their number
 pub word_of_bytes : Undoes (IsPiece 8) IsWord le eight

@@ -41,13 +41,13 @@ turned-once : (a b other c : ℕ) → a + b ≡ 64 → IsWord other → IsWord c
 turned-once a b other c e p q =
     rotate-once a b e ▸ plus-once other p ▸ times-once 5 0xcccccccccccccccd refl ▸ plus-once c q
 
-turned1 : (h2 : ℕ) → IsWord h2 →
+turned1-once : (h2 : ℕ) → IsWord h2 →
     OneToOne IsWord IsWord (λ h. plus (times (plus (rotate h 27) h2) 5) 0x52dce729)
-turned1 h2 p = turned-once 27 37 h2 0x52dce729 refl p (omega arith)
+turned1-once h2 p = turned-once 27 37 h2 0x52dce729 refl p (omega arith)
 
-turned2 : (h1 : ℕ) → IsWord h1 →
+turned2-once : (h1 : ℕ) → IsWord h1 →
     OneToOne IsWord IsWord (λ h. plus (times (plus (rotate h 31) h1) 5) 0x38495ab5)
-turned2 h1 p = turned-once 31 33 h1 0x38495ab5 refl p (omega arith)
+turned2-once h1 p = turned-once 31 33 h1 0x38495ab5 refl p (omega arith)
 
 -- a step, for one block
 pub step-on_state : (k : ℕ × ℕ) → AreWords k → OneToOne AreWords AreWords (λ h. step h k)
@@ -55,8 +55,8 @@ unfolding step step1 step2
 step-on_state k p =
     let first = xor-once (mix1 k.0) (mix1-once.lands k.0 p.0) in
     let second = xor-once (mix2 k.1) (mix2-once.lands k.1 p.1) in
-    on_first (λ h1 h2. step1 h1 h2 k.0) (λ h2 q. first ▸ turned1 h2 q)
-    ▸ on_second (λ h1 h2. step2 h1 h2 k.1) (λ h1 q. second ▸ turned2 h1 q)
+    on_first (λ h1 h2. step1 h1 h2 k.0) (λ h2 q. first ▸ turned1-once h2 q)
+    ▸ on_second (λ h1 h2. step2 h1 h2 k.1) (λ h1 q. second ▸ turned2-once h1 q)
 
 -- a step, from one state
 pub step-on_block : (h : ℕ × ℕ) → AreWords h → OneToOne AreWords AreWords (λ k. step h k)
@@ -64,8 +64,8 @@ unfolding step step1 step2
 step-on_block h p =
     let first = mix1-once ▸ xor_word-once h.0 p.0 in
     let second = mix2-once ▸ xor_word-once h.1 p.1 in
-    on_first (λ k1 k2. step1 h.0 h.1 k1) (λ k2 q. first ▸ turned1 h.1 p.1)
-    ▸ on_second (λ h1 k2. step2 h1 h.1 k2) (λ h1 q. second ▸ turned2 h1 q)
+    on_first (λ k1 k2. step1 h.0 h.1 k1) (λ k2 q. first ▸ turned1-once h.1 p.1)
+    ▸ on_second (λ h1 k2. step2 h1 h.1 k2) (λ h1 q. second ▸ turned2-once h1 q)
 
 -- all steps, for one list of blocks
 pub steps-on_state : (blocks : List (ℕ × ℕ)) → All AreWords blocks →
@@ -94,40 +94,40 @@ zeros : ℕ → List ℕ
 zeros n = replicate n 0
 
 -- a tail, padded with zeros to a block
-padded : List ℕ → List ℕ
+pad : List ℕ → List ℕ
 unfolding zeros
-padded waiting = waiting ++ zeros (16 - length waiting)
+pad waiting = waiting ++ zeros (16 - length waiting)
 
-padded-is : (waiting : List ℕ) → AreBytes waiting → length waiting < 16 → IsBlock (padded waiting)
-unfolding padded zeros
-padded-is waiting h l =
+pad-is : (waiting : List ℕ) → AreBytes waiting → length waiting < 16 → IsBlock (pad waiting)
+unfolding pad zeros
+pad-is waiting h l =
     let n = 16 - length waiting in
     let size : length (zeros n) ≡ n = length-replicate n 0 in (
       All-append IsByte waiting (zeros n) h (All-replicate IsByte n 0 (omega arith)),
       length-append waiting (zeros n) ∙ omega arith,
     )
 
-padded-once : (a b : List ℕ) → length a ≡ length b → padded a ≡ padded b → a ≡ b
-unfolding padded
-padded-once a b e q =
+pad-once : (a b : List ℕ) → length a ≡ length b → pad a ≡ pad b → a ≡ b
+unfolding pad
+pad-once a b e q =
     append_cancel_right a b (zeros (16 - length b)) (ap (λ n. a ++ zeros (16 - n)) (sym e) ∙ q)
 
 -- a tail, for one state
 pub with_tail-on_state : (waiting : List ℕ) → AreBytes waiting → length waiting < 16 →
     OneToOne AreWords AreWords (λ h. with_tail h waiting)
-unfolding with_tail padded zeros
+unfolding with_tail pad zeros
 with_tail-on_state waiting h l =
-    let words = block_words-once.lands (padded waiting) (padded-is waiting h l) in
+    let words = block_words-once.lands (pad waiting) (pad-is waiting h l) in
     on_both (xor-once _ (mix1-once.lands _ words.0)) (xor-once _ (mix2-once.lands _ words.1))
 
 -- two tails of one length that leave one state are one
 pub with_tail-on_bytes : (h : ℕ × ℕ) (a b : List ℕ) → AreWords h → AreBytes a → AreBytes b →
     length a ≡ length b → length a < 16 → with_tail h a ≡ with_tail h b → a ≡ b
-unfolding with_tail padded zeros
+unfolding with_tail pad zeros
 with_tail-on_bytes h a b p q r e l t =
     let entered = on_both mix1-once mix2-once ▸ on_both (xor_word-once h.0 p.0) (xor_word-once h.1 p.1) in
     let read = block_words-once ▸ entered in
-    padded-once a b e (read.once (padded a) (padded b) (padded-is a q l) (padded-is b r (omega arith)) t)
+    pad-once a b e (read.once (pad a) (pad b) (pad-is a q l) (pad-is b r (omega arith)) t)
 
 pub murmur_step_laws : MurmurStepLaws
 murmur_step_laws = record {

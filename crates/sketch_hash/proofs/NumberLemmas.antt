@@ -7,9 +7,9 @@ use Rattle.std.proofs.lemmas.Nat.{pow-add}
 use Rattle.std.proofs.lemmas.List.{length-take, length-take-le, take-append-drop, drop-drop, take-take, length-replicate}
 use Rattle.std.proofs.lemmas.List.Elements.{All-append, All-take, All-drop, All-replicate, All-from_get_or}
 use Rattle.sketch_base.specs.Bytes.{AreBytes, le, low_bytes}
-use Rattle.sketch_base.proofs.BytesLemmas.{le-cons, le-lt, le-low_bytes, length-low_bytes, low_bytes-le}
+use Rattle.sketch_base.proofs.BytesLemmas.{le-cons, le-lt, low_bytes-are, le-low_bytes, length-low_bytes, low_bytes-le}
 use Rattle.sketch_hash.specs.Murmur.{block_words}
-use Rattle.sketch_hash.proofs.BlockLemmas.{low_bytes-are, halves}
+use Rattle.sketch_hash.proofs.BlockLemmas.{halves}
 
 -- eight places are a byte
 pub pow_eight : (n : ℕ) → 2 ^ (8 * n) ≡ 256 ^ n

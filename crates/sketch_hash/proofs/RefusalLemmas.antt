@@ -7,10 +7,10 @@ use Rattle.sketch_base.specs.ErrorValue.{ErrorValue, error_of, memory_error}
 use Rattle.sketch_base.specs.Refusals.{Refuses}
 
 -- an error with a text that was just made refuses with that text, or the text found no memory
-pub refused : {Z E : Type 0} (kind : ErrorKind) (message : List ℕ) (text : Result (String Z) E)
+pub refuses : {Z E : Type 0} (kind : ErrorKind) (message : List ℕ) (text : Result (String Z) E)
     (error : ErrorValue) →
     MatchResult text (λ made. error ≡ error_of kind (string_bytes made)) (λ _. error ≡ memory_error) →
     IfOk text (λ made. string_bytes made ≡ message) → Refuses kind message error
 unfolding Refuses
-refused kind message (Ok made) error e m = inl (e ∙ ap (error_of kind) m)
-refused kind message (Err none) error e m = inr e
+refuses kind message (Ok made) error e m = inl (e ∙ ap (error_of kind) m)
+refuses kind message (Err none) error e m = inr e

@@ -1,3 +1,5 @@
+//! The callers, each run on examples.
+
 mod damage;
 
 use super::keys::{is_new_key, is_same_key, is_same_word, pair_of};

@@ -1,3 +1,5 @@
+//! Items, and what readers and writers do with bytes.
+
 ghost use Rattle.std.specs.Prelude.{◌≡◌, ◌↔◌, IfOk, IfSome, IsTrue, length, map};
 ghost use Rattle.std.specs.declared.io.ErrorKind.TheVariants.{UnexpectedEof};
 ghost use Rattle.sketch_base.specs.Items.{item_kind};

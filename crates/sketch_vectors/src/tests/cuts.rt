@@ -5,13 +5,12 @@ use crate::tests::{assert_same, assert_same_for};
 use datasketches::hash::{MurmurHash3X64128, XxHash64};
 use std::alloc::AllocError;
 
-// Both hashers, given nothing.
-fn fresh() -> Both {
-    Both::with_seeds(42, 0x9E37_79B1)
-}
+const MURMUR_SEED: u64 = 42;
+
+const XXH64_SEED: u64 = 0x9E37_79B1;
 
 // The bytes 0, 1, .. 96.
-fn counting() -> [u8; 97] {
+fn counting_bytes() -> [u8; 97] {
     let mut bytes = [0; 97];
     let mut next = 0u8;
     for byte in bytes.iter_mut() {
@@ -23,7 +22,7 @@ fn counting() -> [u8; 97] {
 
 // What both answer after a write of each piece.
 fn answers(pieces: &[&[u8]]) -> ((u64, u64), u64) {
-    let mut both = fresh();
+    let mut both = Both::with_seeds(MURMUR_SEED, XXH64_SEED);
     for piece in pieces {
         both.write(piece);
     }
@@ -32,7 +31,7 @@ fn answers(pieces: &[&[u8]]) -> ((u64, u64), u64) {
 
 #[test]
 fn two_writes_answer_as_one(rt: HostRuntime) {
-    let all = counting();
+    let all = counting_bytes();
     for len in 0..=97 {
         let bytes = &all[..len];
         for cut in 0..=len {
@@ -44,7 +43,7 @@ fn two_writes_answer_as_one(rt: HostRuntime) {
 
 #[test]
 fn three_writes_answer_as_one(rt: HostRuntime) {
-    let all = counting();
+    let all = counting_bytes();
     for second in 0..=97 {
         let (front, back) = all.split_at(second);
         for first in 0..=front.len() {
@@ -61,8 +60,8 @@ fn three_writes_answer_as_one(rt: HostRuntime) {
 
 #[test]
 fn each_byte_can_be_asked_after(rt: HostRuntime) {
-    let all = counting();
-    let mut both = fresh();
+    let all = counting_bytes();
+    let mut both = Both::with_seeds(MURMUR_SEED, XXH64_SEED);
     for at in 0..97 {
         both.write(&[]);
         both.write(&all[at..at + 1]);
@@ -73,8 +72,8 @@ fn each_byte_can_be_asked_after(rt: HostRuntime) {
 
 // What both states answer that are written to and taken up again, after a write of each piece.
 fn state_answers(pieces: &[&[u8]]) -> ((u64, u64), u64) {
-    let mut murmur = MurmurHash3X64128::with_seed(42).state();
-    let mut xxh64 = XxHash64::with_seed(0x9E37_79B1).state();
+    let mut murmur = MurmurHash3X64128::with_seed(MURMUR_SEED).state();
+    let mut xxh64 = XxHash64::with_seed(XXH64_SEED).state();
     for piece in pieces {
         murmur.write(piece);
         xxh64.write(piece);
@@ -87,7 +86,7 @@ fn state_answers(pieces: &[&[u8]]) -> ((u64, u64), u64) {
 
 #[test]
 fn states_answer_as_hashers(rt: HostRuntime) {
-    let all = counting();
+    let all = counting_bytes();
     for second in 0..=97 {
         let (front, back) = all.split_at(second);
         for first in 0..=front.len() {

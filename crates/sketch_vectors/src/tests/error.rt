@@ -1,3 +1,5 @@
+//! Errors: their kinds, their contexts and their texts.
+
 ghost use Rattle.std.specs.Prelude.{◌≡◌, ◌↔◌, codes, IfErr, IfSome, IsTrue, string_bytes};
 ghost use Rattle.sketch_base.specs.ErrorValue.{memory_error};
 
@@ -52,7 +54,7 @@ impl fmt::Display for Unprintable {
     }
 }
 
-fn error(alloc: Global, kind: ErrorKind, message: &str) -> Result<Error, AllocError> {
+fn error_of(alloc: Global, kind: ErrorKind, message: &str) -> Result<Error, AllocError> {
     Ok(Error::new(kind, String::from_str(alloc, message)?))
 }
 
@@ -63,7 +65,7 @@ fn error_in<V: fmt::Display + Copy + Drop>(
     message: &str,
     contexts: &[(&'static str, V)],
 ) -> Result<Error, Fail> {
-    let mut error = error(alloc, kind, message)?;
+    let mut error = error_of(alloc, kind, message)?;
     for (key, value) in contexts {
         error = error.with_context(alloc, *key, *value)?;
     }
@@ -286,7 +288,7 @@ fn prints_fields_in_the_alternate_form(rt: HostRuntime) -> Result<(), Fail> {
 
 #[test]
 fn keeps_kind_and_message(rt: HostRuntime) -> Result<(), Fail> {
-    let bad = error(rt.alloc(), ErrorKind::InvalidArgument, "bad input")?;
+    let bad = error_of(rt.alloc(), ErrorKind::InvalidArgument, "bad input")?;
     assert_same(
         &rt,
         (bad.kind(), bad.message()),
@@ -397,7 +399,7 @@ fn a_refusal_of_memory_becomes_an_error(rt: HostRuntime) -> Result<(), Fail> {
 #[test]
 fn answers_a_value_that_does_not_print(rt: HostRuntime) -> Result<(), Fail> {
     let alloc = rt.alloc();
-    let error = error(alloc, ErrorKind::InvalidData, "m")?.with_context(alloc, "a", 1u8)?;
+    let error = error_of(alloc, ErrorKind::InvalidData, "m")?.with_context(alloc, "a", 1u8)?;
     let refused = error.with_context(alloc, "b", Unprintable);
     let kept = refused.err().ok_or("printed")?;
     assert_text(

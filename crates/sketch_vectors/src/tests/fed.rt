@@ -7,17 +7,17 @@ use datasketches::hash::{Hash, Hasher, MurmurHash3X64128};
 use std::alloc::AllocError;
 use std::process::Abort;
 
-// What a hasher was fed that was given one value.
-fn fed<T: Hash + Drop>(value: T) -> FirstBytes {
+// Feeds one value to a hasher, and hands this over.
+fn feed<T: Hash + Drop>(value: T) -> FirstBytes {
     let mut hasher = FirstBytes::new();
     value.hash(&mut hasher);
     hasher
 }
 
-// Each hasher was fed the bytes beside it.
+// Asserts that each hasher was fed the bytes beside it.
 fn assert_fed(rt: &impl Abort, cases: &[(FirstBytes, &[u8])]) {
-    for (row, (fed, expected)) in cases.iter().enumerate() {
-        assert_same_for(rt, fed.bytes(), *expected, row);
+    for (row, (hasher, expected)) in cases.iter().enumerate() {
+        assert_same_for(rt, hasher.bytes(), *expected, row);
     }
 }
 
@@ -27,31 +27,31 @@ fn unsigned_numbers_extended_by_their_value(rt: HostRuntime) {
         &rt,
         &[
             (
-                fed(natural_extend::from_u8(127)),
+                feed(natural_extend::from_u8(127)),
                 &[0x7f, 0, 0, 0, 0, 0, 0, 0],
             ),
             (
-                fed(natural_extend::from_u8(128)),
+                feed(natural_extend::from_u8(128)),
                 &[0x80, 0, 0, 0, 0, 0, 0, 0],
             ),
             (
-                fed(natural_extend::from_u8(255)),
+                feed(natural_extend::from_u8(255)),
                 &[0xff, 0, 0, 0, 0, 0, 0, 0],
             ),
             (
-                fed(natural_extend::from_u16(32767)),
+                feed(natural_extend::from_u16(32767)),
                 &[0xff, 0x7f, 0, 0, 0, 0, 0, 0],
             ),
             (
-                fed(natural_extend::from_u16(32768)),
+                feed(natural_extend::from_u16(32768)),
                 &[0, 0x80, 0, 0, 0, 0, 0, 0],
             ),
             (
-                fed(natural_extend::from_u32(2147483648)),
+                feed(natural_extend::from_u32(2147483648)),
                 &[0, 0, 0, 0x80, 0, 0, 0, 0],
             ),
             (
-                fed(natural_extend::from_u32(4294967295)),
+                feed(natural_extend::from_u32(4294967295)),
                 &[0xff, 0xff, 0xff, 0xff, 0, 0, 0, 0],
             ),
         ],
@@ -63,25 +63,28 @@ fn unsigned_numbers_extended_by_their_highest_bit(rt: HostRuntime) {
     assert_fed(
         &rt,
         &[
-            (fed(sign_extend::from_u8(127)), &[0x7f, 0, 0, 0, 0, 0, 0, 0]),
             (
-                fed(sign_extend::from_u8(128)),
+                feed(sign_extend::from_u8(127)),
+                &[0x7f, 0, 0, 0, 0, 0, 0, 0],
+            ),
+            (
+                feed(sign_extend::from_u8(128)),
                 &[0x80, 0xff, 0xff, 0xff, 0xff, 0xff, 0xff, 0xff],
             ),
-            (fed(sign_extend::from_u8(255)), &[0xff; 8]),
+            (feed(sign_extend::from_u8(255)), &[0xff; 8]),
             (
-                fed(sign_extend::from_u16(32767)),
+                feed(sign_extend::from_u16(32767)),
                 &[0xff, 0x7f, 0, 0, 0, 0, 0, 0],
             ),
             (
-                fed(sign_extend::from_u16(32768)),
+                feed(sign_extend::from_u16(32768)),
                 &[0, 0x80, 0xff, 0xff, 0xff, 0xff, 0xff, 0xff],
             ),
             (
-                fed(sign_extend::from_u32(2147483648)),
+                feed(sign_extend::from_u32(2147483648)),
                 &[0, 0, 0, 0x80, 0xff, 0xff, 0xff, 0xff],
             ),
-            (fed(sign_extend::from_u32(4294967295)), &[0xff; 8]),
+            (feed(sign_extend::from_u32(4294967295)), &[0xff; 8]),
         ],
     );
 }
@@ -93,56 +96,59 @@ fn signed_numbers_extended_in_both_ways(rt: HostRuntime) {
         &rt,
         &[
             (
-                fed(natural_extend::from_i8(-128)),
+                feed(natural_extend::from_i8(-128)),
                 &[0x80, 0xff, 0xff, 0xff, 0xff, 0xff, 0xff, 0xff],
             ),
             (
-                fed(sign_extend::from_i8(-128)),
+                feed(sign_extend::from_i8(-128)),
                 &[0x80, 0xff, 0xff, 0xff, 0xff, 0xff, 0xff, 0xff],
             ),
-            (fed(natural_extend::from_i8(-1)), &[0xff; 8]),
-            (fed(sign_extend::from_i8(-1)), &[0xff; 8]),
+            (feed(natural_extend::from_i8(-1)), &[0xff; 8]),
+            (feed(sign_extend::from_i8(-1)), &[0xff; 8]),
             (
-                fed(natural_extend::from_i8(127)),
+                feed(natural_extend::from_i8(127)),
                 &[0x7f, 0, 0, 0, 0, 0, 0, 0],
             ),
-            (fed(sign_extend::from_i8(127)), &[0x7f, 0, 0, 0, 0, 0, 0, 0]),
             (
-                fed(natural_extend::from_i16(-32768)),
+                feed(sign_extend::from_i8(127)),
+                &[0x7f, 0, 0, 0, 0, 0, 0, 0],
+            ),
+            (
+                feed(natural_extend::from_i16(-32768)),
                 &[0, 0x80, 0xff, 0xff, 0xff, 0xff, 0xff, 0xff],
             ),
             (
-                fed(sign_extend::from_i16(-32768)),
+                feed(sign_extend::from_i16(-32768)),
                 &[0, 0x80, 0xff, 0xff, 0xff, 0xff, 0xff, 0xff],
             ),
-            (fed(natural_extend::from_i16(-1)), &[0xff; 8]),
-            (fed(sign_extend::from_i16(-1)), &[0xff; 8]),
+            (feed(natural_extend::from_i16(-1)), &[0xff; 8]),
+            (feed(sign_extend::from_i16(-1)), &[0xff; 8]),
             (
-                fed(natural_extend::from_i16(32767)),
+                feed(natural_extend::from_i16(32767)),
                 &[0xff, 0x7f, 0, 0, 0, 0, 0, 0],
             ),
             (
-                fed(sign_extend::from_i16(32767)),
+                feed(sign_extend::from_i16(32767)),
                 &[0xff, 0x7f, 0, 0, 0, 0, 0, 0],
             ),
             (
-                fed(natural_extend::from_i32(-2147483648)),
+                feed(natural_extend::from_i32(-2147483648)),
                 &[0, 0, 0, 0x80, 0xff, 0xff, 0xff, 0xff],
             ),
             (
-                fed(sign_extend::from_i32(-2147483648)),
+                feed(sign_extend::from_i32(-2147483648)),
                 &[0, 0, 0, 0x80, 0xff, 0xff, 0xff, 0xff],
             ),
             (
-                fed(natural_extend::from_i32(-2)),
+                feed(natural_extend::from_i32(-2)),
                 &[0xfe, 0xff, 0xff, 0xff, 0xff, 0xff, 0xff, 0xff],
             ),
             (
-                fed(sign_extend::from_i32(-2)),
+                feed(sign_extend::from_i32(-2)),
                 &[0xfe, 0xff, 0xff, 0xff, 0xff, 0xff, 0xff, 0xff],
             ),
-            (fed(natural_extend::from_i32(-1)), &[0xff; 8]),
-            (fed(sign_extend::from_i32(-1)), &[0xff; 8]),
+            (feed(natural_extend::from_i32(-1)), &[0xff; 8]),
+            (feed(sign_extend::from_i32(-1)), &[0xff; 8]),
         ],
     );
 }
@@ -154,15 +160,15 @@ fn long_numbers_extended_in_both_ways(rt: HostRuntime) {
     assert_fed(
         &rt,
         &[
-            (fed(natural_extend::from_i64(-1)), &[0xff; 8]),
+            (feed(natural_extend::from_i64(-1)), &[0xff; 8]),
             (
-                fed(natural_extend::from_u64(18446744073709551615)),
+                feed(natural_extend::from_u64(18446744073709551615)),
                 &[0xff; 8],
             ),
-            (fed(natural_extend::from_u64(9223372036854775808)), half),
-            (fed(sign_extend::from_u64(9223372036854775808)), half),
+            (feed(natural_extend::from_u64(9223372036854775808)), half),
+            (feed(sign_extend::from_u64(9223372036854775808)), half),
             (
-                fed(sign_extend::from_i64(-2)),
+                feed(sign_extend::from_i64(-2)),
                 &[0xfe, 0xff, 0xff, 0xff, 0xff, 0xff, 0xff, 0xff],
             ),
         ],
@@ -174,40 +180,40 @@ fn plain_numbers(rt: HostRuntime) {
     assert_fed(
         &rt,
         &[
-            (fed(127u8), &[0x7f]),
-            (fed(128u8), &[0x80]),
-            (fed(255u8), &[0xff]),
-            (fed(-128i8), &[0x80]),
-            (fed(-1i8), &[0xff]),
-            (fed(127i8), &[0x7f]),
-            (fed(258u16), &[0x02, 0x01]),
-            (fed(32767u16), &[0xff, 0x7f]),
-            (fed(32768u16), &[0x00, 0x80]),
-            (fed(-32768i16), &[0x00, 0x80]),
-            (fed(-1i16), &[0xff, 0xff]),
-            (fed(32767i16), &[0xff, 0x7f]),
-            (fed(2147483648u32), &[0x00, 0x00, 0x00, 0x80]),
-            (fed(4294967295u32), &[0xff, 0xff, 0xff, 0xff]),
-            (fed(-2147483648i32), &[0x00, 0x00, 0x00, 0x80]),
-            (fed(-1i32), &[0xff, 0xff, 0xff, 0xff]),
+            (feed(127u8), &[0x7f]),
+            (feed(128u8), &[0x80]),
+            (feed(255u8), &[0xff]),
+            (feed(-128i8), &[0x80]),
+            (feed(-1i8), &[0xff]),
+            (feed(127i8), &[0x7f]),
+            (feed(258u16), &[0x02, 0x01]),
+            (feed(32767u16), &[0xff, 0x7f]),
+            (feed(32768u16), &[0x00, 0x80]),
+            (feed(-32768i16), &[0x00, 0x80]),
+            (feed(-1i16), &[0xff, 0xff]),
+            (feed(32767i16), &[0xff, 0x7f]),
+            (feed(2147483648u32), &[0x00, 0x00, 0x00, 0x80]),
+            (feed(4294967295u32), &[0xff, 0xff, 0xff, 0xff]),
+            (feed(-2147483648i32), &[0x00, 0x00, 0x00, 0x80]),
+            (feed(-1i32), &[0xff, 0xff, 0xff, 0xff]),
             (
-                fed(9223372036854775807u64),
+                feed(9223372036854775807u64),
                 &[0xff, 0xff, 0xff, 0xff, 0xff, 0xff, 0xff, 0x7f],
             ),
             (
-                fed(18446744073709551615u64),
+                feed(18446744073709551615u64),
                 &[0xff, 0xff, 0xff, 0xff, 0xff, 0xff, 0xff, 0xff],
             ),
             (
-                fed(-9223372036854775808i64),
+                feed(-9223372036854775808i64),
                 &[0x00, 0x00, 0x00, 0x00, 0x00, 0x00, 0x00, 0x80],
             ),
             (
-                fed(-1i64),
+                feed(-1i64),
                 &[0xff, 0xff, 0xff, 0xff, 0xff, 0xff, 0xff, 0xff],
             ),
             (
-                fed(9223372036854775807i64),
+                feed(9223372036854775807i64),
                 &[0xff, 0xff, 0xff, 0xff, 0xff, 0xff, 0xff, 0x7f],
             ),
         ],
@@ -221,11 +227,11 @@ fn bytes_and_texts(rt: HostRuntime) -> Result<(), AllocError> {
     assert_fed(
         &rt,
         &[
-            (fed(raw_bytes::from_slice(&[1, 2, 0xff])), &[1, 2, 0xff]),
-            (fed(raw_bytes::from_vec(bytes)), &[1, 2, 0xff]),
-            (fed(raw_bytes::from_str("abc")), b"abc"),
-            (fed(raw_bytes::from_string(text)), b"abc"),
-            (fed(raw_bytes::from_str("")), &[]),
+            (feed(raw_bytes::from_slice(&[1, 2, 0xff])), &[1, 2, 0xff]),
+            (feed(raw_bytes::from_vec(bytes)), &[1, 2, 0xff]),
+            (feed(raw_bytes::from_str("abc")), b"abc"),
+            (feed(raw_bytes::from_string(text)), b"abc"),
+            (feed(raw_bytes::from_str("")), &[]),
         ],
     );
     Ok(())
@@ -236,8 +242,8 @@ fn a_clone_feeds_what_its_original_feeds(rt: HostRuntime) -> Result<(), AllocErr
     let original = raw_bytes::from_vec(Vec::from_slice(rt.alloc(), &[1, 2, 3])?);
     let cloned = original.clone()?;
     let expected = [1, 2, 3].as_slice();
-    assert_same(&rt, fed(cloned).bytes(), expected);
-    assert_same(&rt, fed(original).bytes(), expected);
+    assert_same(&rt, feed(cloned).bytes(), expected);
+    assert_same(&rt, feed(original).bytes(), expected);
     Ok(())
 }
 

@@ -1,3 +1,5 @@
+//! Hashers by their single calls, and seed hashes.
+
 ghost use Rattle.std.specs.Prelude.{◌≡◌, ◌++◌};
 
 use super::both::{Both, answers_of};

@@ -1,8 +1,10 @@
+//! The two calls that answer hashes and tell that these differ.
+
 use crate::tests::{FOX, FOX_MURMUR, assert_same};
 use datasketches::laws::{murmur_both, xx_both};
 use sketch_hash::examples::TEST_BUFFER;
 
-const OTHER_SEED: u64 = 2_654_435_761;
+const OTHER_SEED: u64 = 0x9E37_79B1;
 
 #[test]
 fn murmur_tells_apart_two_sentences_that_differ_in_their_cut_off_block(rt: HostRuntime) {

@@ -1,3 +1,5 @@
+//! The table of members: its bits, its bytes and its refusals.
+
 use crate::tests::refusals::{assert_line, is_insufficient};
 use crate::tests::{assert_same, assert_same_for};
 use datasketches::hash::value::raw_bytes;

@@ -96,7 +96,7 @@ fn others_are_not_empty_through_the_wrapper(rt: HostRuntime) -> Result<(), Alloc
 }
 
 #[test]
-fn the_law_holds_of_each_strategy(_rt: HostRuntime) {
+fn the_law_holds_of_both_extensions(_rt: HostRuntime) {
     value_law::<u8, NaturalExtendStrategy>();
     value_law::<u8, SignExtendStrategy>();
 }

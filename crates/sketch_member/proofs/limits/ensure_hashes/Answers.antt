@@ -1,5 +1,5 @@
 use Rattle.std.proofs.Common.{arith}
-use Rattle.datasketches.proofs.RefusalLemmas.{refused}
+use Rattle.datasketches.proofs.RefusalLemmas.{refuses}
 use Rattle.sketch_member.specs.Limits.{invalid_hashes_text}
 use Rattle.sketch_member.proofs.limits.ensure_hashes.Goals as goal
 
@@ -7,5 +7,5 @@ pub returns : goal.returns
 returns c =
     let text = invalid_hashes_text c.args.n in (
       (λ within. omega arith),
-      refused c.args.kind text _ _ c.from_text.ensures c.format-text.ensures.ok,
+      refuses c.args.kind text _ _ c.from_text.ensures c.format-text.ensures.ok,
     )

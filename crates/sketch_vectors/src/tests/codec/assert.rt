@@ -1,3 +1,5 @@
+//! Checks: which numbers they accept, and how they refuse the others.
+
 use crate::tests::assert_same;
 use crate::tests::refusals::{assert_line, assert_refusal_or_want};
 use datasketches::codec::SketchSlice;

@@ -1,3 +1,5 @@
+//! The families of the format.
+
 ghost use Rattle.std.specs.Prelude.{◌≡◌, ℕ, List, [], ◌∷◌, codes, map};
 
 use crate::tests::assert_same;

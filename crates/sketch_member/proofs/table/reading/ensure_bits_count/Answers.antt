@@ -1,7 +1,7 @@
 use Rattle.std.proofs.Common.{codes, List, ℕ, ◌-◌, inl, inr, subst, ◌∙◌}
 use Rattle.datasketches.specs.declared.error.ErrorKind.TheVariants.{InvalidData}
 use Rattle.datasketches.specs.Refusals.{Refuses, insufficient_data_of_text}
-use Rattle.datasketches.proofs.RefusalLemmas.{refused}
+use Rattle.datasketches.proofs.RefusalLemmas.{refuses}
 use Rattle.sketch_member.specs.Faults.{missing_bits_text, trailing_bytes_text}
 use Rattle.sketch_member.proofs.FaultLemmas.{of_err, memory_refuses}
 use Rattle.sketch_member.proofs.table.reading.ensure_bits_count.Goals as goal
@@ -23,6 +23,6 @@ pub returns-then-need-have : goal.returns-then-need-have
 returns-then-need-have c =
     inr (
       c.if-need-have.true,
-      refused InvalidData (trailing_bytes_text (c.args.have - c.args.need)) _ _ c.from_text.ensures
+      refuses InvalidData (trailing_bytes_text (c.args.have - c.args.need)) _ _ c.from_text.ensures
           c.format-text.ensures.ok,
     )

@@ -1,6 +1,6 @@
 use Rattle.std.proofs.Common.{◌≡◌, codes, inl, inr, sym, ◌∙◌}
 use Rattle.datasketches.specs.declared.error.ErrorKind.TheVariants.{InvalidData}
-use Rattle.datasketches.proofs.RefusalLemmas.{refused}
+use Rattle.datasketches.proofs.RefusalLemmas.{refuses}
 use Rattle.sketch_member.proofs.table.reading.read_count.Goals as goal
 
 pub returns-then-number-ne0 : goal.returns-then-number-ne0
@@ -14,5 +14,5 @@ returns-then-number-ne0 c =
     inr (
       number.0,
       (λ zero. c.if-number-ne0.true (number.1 ∙ zero (sym c.requires.flag ∙ unknown))),
-      refused InvalidData text _ _ c.from_text.ensures c.to_string-text.ensures.ok,
+      refuses InvalidData text _ _ c.from_text.ensures c.to_string-text.ensures.ok,
     )

@@ -1,6 +1,6 @@
 use Rattle.std.proofs.Common.{codes, arith, inr, sym, ◌∙◌, true≢false}
 use Rattle.datasketches.specs.declared.error.ErrorKind.TheVariants.{InvalidData}
-use Rattle.datasketches.proofs.RefusalLemmas.{refused}
+use Rattle.datasketches.proofs.RefusalLemmas.{refuses}
 use Rattle.sketch_member.proofs.table.reading.read_flag.Goals as goal
 
 pub returns-then-not-are_reserved : goal.returns-then-not-are_reserved
@@ -16,5 +16,5 @@ returns-then-not-are_reserved c =
             c.in_ok-third.ensures.1,
           ) at c.are_reserved.ensures.1 in
           absurd (true≢false (sym (told holds) ∙ c.if-not-are_reserved.true))),
-      refused InvalidData text _ _ c.from_text.ensures c.to_string-text.ensures.ok,
+      refuses InvalidData text _ _ c.from_text.ensures c.to_string-text.ensures.ok,
     )
