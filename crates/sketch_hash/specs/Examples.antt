@@ -1,6 +1,6 @@
 -- What the definitions give for small inputs, and what each range and relation holds of. The hashes
 -- are known from elsewhere: from the tests of xxHash and of the library that is ported, and from
--- running these two.
+-- running these two; that of Murmur for a total past 32 bits from its published last steps.
 use Rattle.std.specs.Prelude.{◌≡◌, ℕ, zero, suc, ◌-◌, ◌/◌, ◌^◌, ◌<◌, negsuc, List, [], ◌∷◌, codes, replicate}
 use Rattle.sketch_base.specs.Bytes.{AreBytes, eight}
 use Rattle.sketch_hash.specs.declared.hash.murmurhash.state.MurmurState.{MurmurState}
