@@ -6,6 +6,7 @@ pub mod Examples
 pub use Rattle.sketch_base.specs.Bytes
 pub use Rattle.sketch_base.specs.Checks
 pub use Rattle.sketch_base.specs.ErrorValue
+pub use Rattle.sketch_base.specs.ItemLaws
 pub use Rattle.sketch_base.specs.Items
 pub use Rattle.sketch_base.specs.Reading
 pub use Rattle.sketch_base.specs.Refusals
