@@ -14,6 +14,7 @@ pub use Rattle.sketch_base.specs.WriterValue
 pub use Rattle.sketch_base.specs.Writing
 pub use Rattle.sketch_hash.specs.Held
 pub use Rattle.sketch_hash.specs.Murmur
+pub use Rattle.sketch_hash.specs.Laws as StepLaws
 pub use Rattle.sketch_hash.specs.MurmurWriteLemmas
 pub use Rattle.sketch_hash.specs.Pieces
 pub use Rattle.sketch_hash.specs.SeedHash

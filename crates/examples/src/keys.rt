@@ -1,8 +1,8 @@
 //! A distinct counter that knows integer keys by their Murmur pair.
 
-ghost use Rattle.std.specs.Prelude.{◌≡◌, ◌≢◌, ◌↔◌, IsTrue, pos};
+ghost use Rattle.std.specs.Prelude.{◌≡◌, ◌≢◌, ◌↔◌, [], ◌∷◌, IsTrue, pos};
 ghost use Rattle.std.specs.List.{All};
-ghost use Rattle.datasketches.specs.Bytes.{modulo};
+ghost use Rattle.datasketches.specs.Bytes.{low_bytes, modulo};
 ghost use Rattle.datasketches.specs.Murmur.{murmur};
 ghost use Rattle.datasketches.specs.Values.{integer_bytes};
 
@@ -26,7 +26,15 @@ pub fn pair_of(seed: u64, key: i32) -> (u64, u64)
     pair_of_value(seed, &sign_extend::from_i32(key))
 }
 
-fn is_same_pair(a: (u64, u64), b: (u64, u64)) -> bool
+/// Whether two pairs are one.
+pub fn is_same_pair(a: (u64, u64), b: (u64, u64)) -> bool
+    ensures { IsTrue result ↔ (a ≡ b) }
+{
+    a == b
+}
+
+/// Whether two hashes are one.
+pub fn is_same_hash(a: u64, b: u64) -> bool
     ensures { IsTrue result ↔ (a ≡ b) }
 {
     a == b
@@ -56,4 +64,30 @@ pub fn is_same_word(seed: u64, x: u64, y: i64) -> bool
     let first = pair_of_value(seed, &natural_extend::from_u64(x));
     let second = pair_of_value(seed, &natural_extend::from_i64(y));
     is_same_pair(first, second)
+}
+
+/// The Murmur pairs of plain integers: each feeds its own bytes, the lowest first.
+pub fn pairs_of_plain(
+    seed: u64,
+    unsigned: (u8, u16, u32, u64),
+    signed: (i8, i16, i32, i64),
+) -> [(u64, u64); 8]
+    ensures { result ≡
+        murmur seed (low_bytes 1 unsigned.0) ∷ murmur seed (low_bytes 2 unsigned.1)
+        ∷ murmur seed (low_bytes 4 unsigned.2) ∷ murmur seed (low_bytes 8 unsigned.3)
+        ∷ murmur seed (low_bytes 1 (modulo 8 signed.0))
+        ∷ murmur seed (low_bytes 2 (modulo 16 signed.1))
+        ∷ murmur seed (low_bytes 4 (modulo 32 signed.2))
+        ∷ murmur seed (low_bytes 8 (modulo 64 signed.3)) ∷ [] }
+{
+    [
+        pair_of_value(seed, &unsigned.0),
+        pair_of_value(seed, &unsigned.1),
+        pair_of_value(seed, &unsigned.2),
+        pair_of_value(seed, &unsigned.3),
+        pair_of_value(seed, &signed.0),
+        pair_of_value(seed, &signed.1),
+        pair_of_value(seed, &signed.2),
+        pair_of_value(seed, &signed.3),
+    ]
 }

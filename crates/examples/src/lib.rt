@@ -4,6 +4,7 @@
 pub mod items;
 pub mod keys;
 pub mod known_answers;
+pub mod laws;
 pub mod own;
 pub mod seen;
 pub mod sentence;
