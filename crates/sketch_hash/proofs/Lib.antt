@@ -14,4 +14,4 @@ pub mod LanesLemmas
 pub mod CopyLemmas
 pub mod NumberLemmas
 pub mod HeldLemmas
-pub mod TakeLemmas
+pub mod WriteLemmas

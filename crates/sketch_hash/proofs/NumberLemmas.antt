@@ -1,6 +1,6 @@
 -- Numbers of lists of bytes: joined, cut, and as a block's two words.
 use Rattle.std.proofs.Common.{◌≡◌, ℕ, zero, suc, ◌+◌, ◌-◌, ◌*◌, ◌/◌, ◌%◌, ◌^◌, ◌<◌, ◌≤◌, List, [], ◌∷◌, ◌++◌, length, take, drop, replicate, get_or, Fits, w8, refl, sym, ap, ◌∙◌, arith, subst, length-append, length-drop, zero-add, lt_of_lt_of_le, one-mul, min, inl, inr}
-use Rattle.std.proofs.Math.Nat.{pow-suc, mod-eq_of_lt, div-eq_of_lt, div-div-eq-div-mul, add-mod-mod, add-mul-mod_self_right, add-mul-div_right, one-le-pow, pow-le-pow_right, min-eq_left, min-eq_right}
+use Rattle.std.proofs.Math.Nat.{pow-suc, mod-eq_of_lt, div-eq_of_lt, add-mod-mod, add-mul-mod_self_right, add-mul-div_right, one-le-pow, pow-le-pow_right, min-eq_left, min-eq_right}
 use Rattle.std.proofs.Math.Pow.{pow-lt}
 use Rattle.std.proofs.lemmas.Bool.{cases_lt}
 use Rattle.std.proofs.lemmas.Nat.{pow-add}
@@ -82,23 +82,19 @@ le-ends w bytes b low high =
     let quotient = le-drop (w + w - n) back (All-drop (λ x. x < 256) (n - w) bytes b) within in
     ap (λ v. le (take w bytes) + v * 256 ^ w) (sym quotient ∙ ap le behind) ∙ sym (le-cut w bytes low)
 
--- of eight to fifteen bytes, the number of those behind the first eight, from that of the last eight
-pub le-last : (bytes : List ℕ) → AreBytes bytes → 8 ≤ length bytes → length bytes < 16 →
+-- of more than eight bytes, the number of those behind the first eight, from that of the last eight
+pub le-last : (bytes : List ℕ) → AreBytes bytes → 8 < length bytes → length bytes < 16 →
     ◌≡◌ {A = ℕ × ℕ}
-    (le (take 8 bytes), le (drop (length bytes - 8) bytes) / 2 ^ (8 * (15 - length bytes)) / 256)
+    (le (take 8 bytes), le (drop (length bytes - 8) bytes) / 2 ^ (8 * (16 - length bytes)))
     (le bytes % 2 ^ 64, le bytes / 2 ^ 64)
 le-last bytes b low high =
     let n : ℕ = length bytes in
     let first : ℕ = le (take 8 bytes) in
     let last : ℕ = le (drop (n - 8) bytes) in
-    let more : 8 + 8 - n ≡ suc (15 - n) = omega arith in
-    let quotient : last / 2 ^ (8 * (15 - n)) / 256 ≡ last / 256 ^ (8 + 8 - n) =
-    ap (λ p. last / p / 256) (pow_eight (15 - n)) ∙ div-div-eq-div-mul last (256 ^ (15 - n)) 256
-    ∙ ap (λ p. last / p) (sym (pow-suc 256 (15 - n)) ∙ ap (λ k. 256 ^ k) (sym more)) in
-    let below : first < 2 ^ 64 = le_take-lt 8 bytes b low in
+    let below : first < 2 ^ 64 = le_take-lt 8 bytes b (omega arith) in
     let behind : ℕ = last / 256 ^ (8 + 8 - n) in
-    let all : first + behind * 2 ^ 64 ≡ le bytes = le-ends 8 bytes b low (omega arith) in
-    ap (λ v. (first, v)) quotient
+    let all : first + behind * 2 ^ 64 ≡ le bytes = le-ends 8 bytes b (omega arith) (omega arith) in
+    ap (λ p. (first, last / p)) (pow_eight (16 - n))
     ∙ sym (ap (λ v. (v % 2 ^ 64, v / 2 ^ 64)) (sym all) ∙ parts first behind below)
   where
     parts : (a b : ℕ) → a < 2 ^ 64 →
@@ -108,13 +104,15 @@ le-last bytes b low high =
         let high : (a + b * 2 ^ 64) / 2 ^ 64 ≡ b = omega arith in
         rw (low, high) refl
 
--- of fewer than eight bytes, no byte is behind the first eight
-pub le-few : (bytes : List ℕ) → AreBytes bytes → length bytes < 8 →
-    ◌≡◌ {A = ℕ × ℕ} (le bytes % 2 ^ 64, 0) (le bytes % 2 ^ 64, le bytes / 2 ^ 64)
+-- at most eight bytes are a word
+pub le-word : (bytes : List ℕ) → AreBytes bytes → length bytes ≤ 8 → le bytes < 2 ^ 64
+le-word bytes b h = lt_of_lt_of_le (le-lt bytes b) (pow-le-pow_right {n = 256} (omega arith) h)
+
+pub le-few : (bytes : List ℕ) → AreBytes bytes → length bytes ≤ 8 →
+    ◌≡◌ {A = ℕ × ℕ} (le bytes, 0) (le bytes % 2 ^ 64, le bytes / 2 ^ 64)
 le-few bytes b h =
-    let within : length bytes ≤ 8 = omega arith in
-    let below : le bytes < 2 ^ 64 = lt_of_lt_of_le (le-lt bytes b) (pow-le-pow_right {n = 256} (omega arith) within) in
-    ap (λ v. (le bytes % 2 ^ 64, v)) (sym (div-eq_of_lt below))
+    let below = le-word bytes b h in
+    rw (mod-eq_of_lt below, div-eq_of_lt below) refl
 
 pub bytes_known : (bytes : List ℕ) → ((i : ℕ) → Fits w8 (get_or bytes i 0)) → AreBytes bytes
 bytes_known bytes h = All-from_get_or (λ x. x < 256) bytes 0 (λ i l. (h i).fits)

@@ -1,6 +1,6 @@
 //! Bytes copied into a stripe or a block.
 
-ghost use Rattle.std.specs.Prelude.{◌≡◌, ◌+◌, ◌-◌, ◌<◌, ◌≤◌, ◌++◌, length, take, drop};
+ghost use Rattle.std.specs.Prelude.{◌≡◌, ◌+◌, ◌≤◌, ◌++◌, length, take, drop};
 
 /// Writes bytes at a place.
 #[inline(always)]
@@ -20,10 +20,9 @@ pub(crate) fn copy_small(buffer: &mut [u8], at: usize, bytes: &[u8])
     }
 }
 
-// The same by two copies, of the first K bytes and of the last: a copy of an array is one move.
+// The same by two copies, of the first K bytes and of the last.
 #[inline(always)]
 fn copy_overlapping<const K: usize>(buffer: &mut [u8], at: usize, bytes: &[u8])
-    requires some { 0 < K }
     requires low { K ≤ length bytes.now }
     requires high { length bytes.now ≤ K + K }
     requires within { at + length bytes.now ≤ length buffer.old }
@@ -31,28 +30,18 @@ fn copy_overlapping<const K: usize>(buffer: &mut [u8], at: usize, bytes: &[u8])
         take at buffer.old ++ bytes.now ++ drop (at + length bytes.now) buffer.old }
 {
     let count = bytes.len();
-    let front = array_at::<K>(bytes, 0);
-    let back = array_at::<K>(bytes, count - K);
-    write_array(&mut buffer[at..at + K], front);
-    write_array(&mut buffer[at + count - K..at + count], back);
+    copy_array::<K>(&mut buffer[at..at + K], &bytes[..K]);
+    copy_array::<K>(&mut buffer[at + count - K..at + count], &bytes[count - K..]);
 }
 
+// A copy of an array is one move, where `copy_from_slice` is a loop.
 #[inline(always)]
-fn array_at<const K: usize>(bytes: &[u8], at: usize) -> [u8; K]
-    requires some { 0 < K }
-    requires within { at + K ≤ length bytes.now }
-    ensures { result ≡ take K (drop at bytes.now) }
+fn copy_array<const K: usize>(place: &mut [u8], bytes: &[u8])
+    requires place { length place.old ≡ K }
+    requires bytes { length bytes.now ≡ K }
+    ensures { place.new ≡ bytes.now }
 {
-    let (arrays, _) = bytes[at..at + K].as_chunks::<K>();
-    arrays[0]
-}
-
-#[inline(always)]
-fn write_array<const K: usize>(place: &mut [u8], bytes: [u8; K])
-    requires { length place.old ≡ K }
-    ensures { place.new ≡ bytes.entry }
-{
-    if let Some(array) = place.as_mut_array::<K>() {
-        *array = bytes;
+    if let (Some(place), Some(bytes)) = (place.as_mut_array::<K>(), bytes.as_array::<K>()) {
+        *place = *bytes;
     }
 }

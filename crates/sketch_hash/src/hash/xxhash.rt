@@ -4,16 +4,16 @@ ghost use Rattle.std.specs.Prelude.{◌≡◌, ℕ, ◌+◌, ◌-◌, ◌%◌, �
 ghost use Rattle.std.specs.List.{fold};
 ghost use Rattle.sketch_base.specs.Bytes.{eight};
 ghost use Rattle.sketch_hash.specs.Pieces.{State};
-ghost use Rattle.sketch_hash.specs.Xxh64.{Lanes, round, merge_round, merge, eight_step, four_step, byte_step, tail_step, steps, avalanche, xxh64, xxh64_after, xxh64_answer, Xxh64Stands};
+ghost use Rattle.sketch_hash.specs.Xxh64.{Lanes, lanes_start, round, merge_round, merge, eight_step, four_step, byte_step, tail_step, steps, avalanche, xxh64, xxh64_after, xxh64_answer, Xxh64Stands};
 ghost use Rattle.sketch_hash.specs.ScalarLanes.{lanes_of_scalars};
-ghost use Rattle.sketch_hash.specs.Lanes.{lanes_of};
+ghost use Rattle.sketch_hash.specs.Lanes.{each_lane, lanes_of};
 ghost use Rattle.sketch_hash.specs.Xxh64WriteLemmas.{xxh64_after-append, xxh64_after-empty};
 
 mod lanes;
 mod primes;
 mod state;
 
-use self::lanes::{ScalarLanes, StripeRound, fold_run, fold_stripes, round};
+use self::lanes::{ScalarLanes, StripeRound, consume, fold_stripes, fold_vector_run, round};
 use self::primes::{PRIME1, PRIME2, PRIME3, PRIME4, PRIME5};
 pub use self::state::XxHash64State;
 use super::copy::copy_small;
@@ -86,7 +86,9 @@ impl XxHash64 {
         avalanche(fold_tail(hash.wrapping_add(self.total), &self.buffer[..self.count]))
     }
 
-    /// The 64-bit hash of bytes under a seed, in one call, which reads them where they lie.
+    /// The 64-bit hash of bytes under a seed, in one call.
+    ///
+    /// It reads the bytes where they lie, and is faster than a hasher for keys of any length.
     #[inline(always)]
     pub fn hash(bytes: &[u8], seed: u64) -> u64
         ensures { result ≡ xxh64 seed bytes.now }
@@ -172,35 +174,23 @@ impl XxHash64 {
     {
         self.total = self.total.wrapping_add(bytes.len() as u64);
         let (stripes, last) = bytes.as_chunks::<STRIPE>();
-        self.lanes = fold_run(self.lanes, stripes);
+        self.lanes = fold_vector_run(self.lanes, stripes);
         copy_small(&mut self.buffer, 0, last);
         self.count = last.len();
     }
-}
 
-impl XxHash64 {
-    // Takes the bytes that fill the stripe that is begun, then whole stripes straight from the
-    // slice, and then the bytes behind them, all stripes by words: the lanes leave the vector once.
+    // Takes bytes that go beyond the stripe that is begun. The lanes leave the vector once.
     #[inline(never)]
     fn complete_and_consume(&mut self, bytes: &[u8])
         requires short { length self.old.waiting < 32 }
         requires fills { (32 - length self.old.waiting) % 32 ≤ length bytes.now }
         ensures { self.new ≡ xxh64_after self.old bytes.now }
     {
-        let missing = self.missing_bytes();
-        let (front, behind) = bytes.split_at(missing);
-        let mut words = ScalarLanes::from_vector(self.lanes);
         self.total = self.total.wrapping_add(bytes.len() as u64);
-        if missing > 0 {
-            let count = self.count;
-            copy_small(&mut self.buffer, count, front);
-            words.stripe_round(&self.buffer);
-        }
-        let (stripes, last) = behind.as_chunks::<STRIPE>();
-        fold_stripes(&mut words, stripes);
-        self.lanes = words.into_vector();
-        copy_small(&mut self.buffer, 0, last);
-        self.count = last.len();
+        let count = self.count;
+        let lanes = ScalarLanes::from_vector(self.lanes);
+        self.lanes = consume(lanes, &mut self.buffer, count, bytes).into_vector();
+        self.count = (count + bytes.len()) % STRIPE;
     }
 }
 
@@ -266,10 +256,21 @@ fn hash_long(bytes: &[u8], seed: u64) -> u64
     ensures { result ≡ xxh64 seed bytes.now }
 {
     let (stripes, last) = bytes.as_chunks::<STRIPE>();
-    let mut words = ScalarLanes::start(seed);
-    fold_stripes(&mut words, stripes);
-    let hash = merge(words).wrapping_add(bytes.len() as u64);
+    let hash = merge_stripes(stripes, seed).wrapping_add(bytes.len() as u64);
+    if last.is_empty() {
+        return avalanche(hash);
+    }
     avalanche(fold_rest(hash, last))
+}
+
+// The lanes of stripes as one word.
+#[inline(always)]
+fn merge_stripes(stripes: &[[u8; STRIPE]], seed: u64) -> u64
+    ensures { result ≡ merge (each_lane (lanes_start seed) stripes.now) }
+{
+    let mut lanes = ScalarLanes::start(seed);
+    fold_stripes(&mut lanes, stripes);
+    merge(lanes)
 }
 
 // The four lanes as one word.

@@ -4,8 +4,8 @@ ghost use Rattle.std.specs.Prelude.{◌≡◌, ℕ, ◌+◌, ◌%◌, ◌<◌, L
 ghost use Rattle.sketch_hash.specs.Held.{murmur_held, MurmurHolds};
 ghost use Rattle.sketch_hash.specs.Murmur.{murmur_after, MurmurStands};
 
-use super::tail::read_front_le;
-use super::{BLOCK, MurmurHash3X64128, join_words, words};
+use super::tail::{join_words, read_front_le, split_words};
+use super::{BLOCK, MurmurHash3X64128};
 use crate::hash::copy::copy_small;
 use crate::hash::hasher::Hasher;
 
@@ -71,7 +71,7 @@ impl MurmurHash3X64128 {
             MurmurStands result seed bytes }
     {
         let count = (state.total % BLOCK as u64) as usize;
-        let (low, high) = words(read_front_le(&state.waiting, count));
+        let (low, high) = split_words(read_front_le(&state.waiting, count));
         MurmurHash3X64128 {
             h1: state.h1,
             h2: state.h2,

@@ -1,11 +1,12 @@
 //! XXH64's four lanes, and how stripes of 32 bytes stripe_round them.
 
-ghost use Rattle.std.specs.Prelude.{◌≡◌, ℕ};
-ghost use Rattle.sketch_hash.specs.Xxh64.{Lanes, lanes_start, round, stripe_step};
-ghost use Rattle.sketch_hash.specs.ScalarLanes.{lanes_of_scalars};
+ghost use Rattle.std.specs.Prelude.{◌≡◌, ℕ, ◌+◌, ◌-◌, ◌%◌, ◌^◌, ◌<◌, ◌≤◌, length, take};
+ghost use Rattle.sketch_hash.specs.Xxh64.{Lanes, lanes_start, round, stripe_step, xxh64_after};
+ghost use Rattle.sketch_hash.specs.ScalarLanes.{lanes_of_scalars, state_of_scalars};
 ghost use Rattle.sketch_hash.specs.Lanes.{each_lane, lanes_of, stripe_words};
 
 use super::primes::{PRIME1, PRIME2};
+use crate::hash::copy::copy_small;
 use crate::hash::words::{read_u64_le, rotate};
 use std::simd::prelude::*;
 
@@ -13,7 +14,7 @@ use std::simd::prelude::*;
 const LONG_RUN: usize = 4;
 
 /// Four lanes that a stripe turns.
-pub(crate) trait StripeRound {
+pub(super) trait StripeRound {
     // the lanes, beside a seed
     ghost lanes: { ℕ → Self → Lanes };
 
@@ -33,17 +34,17 @@ impl StripeRound for u64x4 {
 
 /// The lanes as four words. Processors before AVX-512 multiply these faster than a vector.
 #[derive(Clone, Copy)]
-pub(crate) struct ScalarLanes {
-    pub(crate) v1: u64,
-    pub(crate) v2: u64,
-    pub(crate) v3: u64,
-    pub(crate) v4: u64,
+pub(super) struct ScalarLanes {
+    pub(super) v1: u64,
+    pub(super) v2: u64,
+    pub(super) v3: u64,
+    pub(super) v4: u64,
 }
 
 impl ScalarLanes {
     /// Where the lanes start.
     #[inline(always)]
-    pub(crate) fn start(seed: u64) -> Self
+    pub(super) fn start(seed: u64) -> Self
         ensures { lanes_of_scalars seed result ≡ lanes_start seed }
     {
         ScalarLanes {
@@ -55,15 +56,15 @@ impl ScalarLanes {
     }
 
     #[inline(always)]
-    pub(crate) fn from_vector(lanes: u64x4) -> Self
-        ensures { (seed : ℕ) → lanes_of seed lanes ≡ lanes_of_scalars seed result }
+    pub(super) fn from_vector(lanes: u64x4) -> Self
+        ensures { (seed : ℕ) → lanes_of_scalars seed result ≡ lanes_of seed lanes }
     {
         let [v1, v2, v3, v4] = lanes.to_array();
         ScalarLanes { v1, v2, v3, v4 }
     }
 
     #[inline(always)]
-    pub(crate) fn into_vector(self) -> u64x4
+    pub(super) fn into_vector(self) -> u64x4
         ensures { (seed : ℕ) → lanes_of seed result ≡ lanes_of_scalars seed self }
     {
         u64x4::from_array([self.v1, self.v2, self.v3, self.v4])
@@ -82,20 +83,57 @@ impl StripeRound for ScalarLanes {
     }
 }
 
-/// The lanes after a run of stripes.
+/// Takes the lanes through bytes that come after `count` bytes of `buffer`: those that complete
+/// the stripe that is begun, then whole stripes straight from the slice. The last bytes, which fill
+/// no stripe, go to the front of `buffer`.
 #[inline(always)]
-pub(crate) fn fold_run(lanes: u64x4, stripes: &[[u8; 32]]) -> u64x4
+pub(super) fn consume(
+    mut lanes: ScalarLanes,
+    buffer: &mut [u8; 32],
+    count: usize,
+    bytes: &[u8],
+) -> ScalarLanes
+    requires short { count < 32 }
+    requires fills { (32 - count) % 32 ≤ length bytes.now }
+    ensures { (seed total : ℕ) → total < 2 ^ 64 →
+        xxh64_after (state_of_scalars seed lanes total (take count buffer.old)) bytes.now
+        ≡ state_of_scalars seed result ((total + length bytes.now) % 2 ^ 64)
+        (take ((count + length bytes.now) % 32) buffer.new) }
+{
+    let missing = (32 - count) % 32;
+    let (front, behind) = bytes.split_at(missing);
+    if missing > 0 {
+        copy_small(buffer, count, front);
+        lanes.stripe_round(buffer);
+    }
+    let (stripes, last) = behind.as_chunks::<32>();
+    let lanes = fold_run(lanes, stripes);
+    copy_small(buffer, 0, last);
+    lanes
+}
+
+/// The lanes after a run of stripes. Where there is none the vector stays as it is.
+#[inline(always)]
+pub(super) fn fold_vector_run(lanes: u64x4, stripes: &[[u8; 32]]) -> u64x4
     ensures { (seed : ℕ) → lanes_of seed result ≡ each_lane (lanes_of seed lanes) stripes.now }
 {
     if stripes.is_empty() {
         return lanes;
     }
-    let mut words = ScalarLanes::from_vector(lanes);
+    fold_run(ScalarLanes::from_vector(lanes), stripes).into_vector()
+}
+
+// The lanes after a run of stripes.
+#[inline(always)]
+fn fold_run(mut lanes: ScalarLanes, stripes: &[[u8; 32]]) -> ScalarLanes
+    ensures { (seed : ℕ) →
+        lanes_of_scalars seed result ≡ each_lane (lanes_of_scalars seed lanes) stripes.now }
+{
     if stripes.len() >= LONG_RUN {
-        return fold_long(words, stripes).into_vector();
+        return fold_long(lanes, stripes);
     }
-    fold_stripes(&mut words, stripes);
-    words.into_vector()
+    fold_stripes(&mut lanes, stripes);
+    lanes
 }
 
 // In a call of its own LLVM keeps the words apart, and makes no vector of them.
@@ -109,7 +147,7 @@ fn fold_long<L: StripeRound>(mut lanes: L, stripes: &[[u8; 32]]) -> L
 
 /// Takes the lanes on by stripes, however one stripe turns them.
 #[inline(always)]
-pub(crate) fn fold_stripes<L: StripeRound>(lanes: &mut L, stripes: &[[u8; 32]])
+pub(super) fn fold_stripes<L: StripeRound>(lanes: &mut L, stripes: &[[u8; 32]])
     ensures { (seed : ℕ) →
         L.lanes seed lanes.new ≡ each_lane (L.lanes seed lanes.old) stripes.now }
 {
@@ -130,7 +168,7 @@ fn vector_round(lanes: u64x4, stripe: &[u8; 32]) -> u64x4
 
 /// A lane after an input word.
 #[inline(always)]
-pub(crate) fn round(lane: u64, word: u64) -> u64
+pub(super) fn round(lane: u64, word: u64) -> u64
     ensures { result ≡ round lane word }
 {
     rotate::<31>(lane.wrapping_add(word.wrapping_mul(PRIME2))).wrapping_mul(PRIME1)

@@ -4,7 +4,7 @@ ghost use Rattle.std.specs.Prelude.{◌≡◌, ℕ, ◌+◌, ◌%◌, ◌<◌, �
 ghost use Rattle.sketch_hash.specs.Held.{xxh64_held, Xxh64Holds};
 ghost use Rattle.sketch_hash.specs.Xxh64.{xxh64_after, Xxh64Stands};
 
-use super::lanes::{ScalarLanes, StripeRound, fold_stripes};
+use super::lanes::{ScalarLanes, consume};
 use super::{STRIPE, XxHash64};
 use crate::hash::copy::copy_small;
 use std::simd::prelude::*;
@@ -53,8 +53,8 @@ impl XxHash64State {
         copy_small(&mut self.waiting, count, bytes);
     }
 
-    // Takes the bytes that fill the stripe that is begun, then whole stripes straight from the
-    // slice, and then the bytes behind them. In a call of its own it costs short writes nothing.
+    // Takes bytes that fill the stripe that is begun, and more. In a call of its own it costs short
+    // writes nothing.
     #[inline(never)]
     fn consume_stripes(&mut self, bytes: &[u8])
         requires { 32 ≤ self.old.total % 32 + length bytes.now }
@@ -62,25 +62,17 @@ impl XxHash64State {
     {
         let count = (self.total % STRIPE as u64) as usize;
         self.total = self.total.wrapping_add(bytes.len() as u64);
-        let mut words = ScalarLanes {
+        let lanes = ScalarLanes {
             v1: self.v1,
             v2: self.v2,
             v3: self.v3,
             v4: self.v4,
         };
-        let missing = (STRIPE - count) % STRIPE;
-        let (front, behind) = bytes.split_at(missing);
-        if missing > 0 {
-            copy_small(&mut self.waiting, count, front);
-            words.stripe_round(&self.waiting);
-        }
-        let (stripes, last) = behind.as_chunks::<STRIPE>();
-        fold_stripes(&mut words, stripes);
-        self.v1 = words.v1;
-        self.v2 = words.v2;
-        self.v3 = words.v3;
-        self.v4 = words.v4;
-        copy_small(&mut self.waiting, 0, last);
+        let lanes = consume(lanes, &mut self.waiting, count, bytes);
+        self.v1 = lanes.v1;
+        self.v2 = lanes.v2;
+        self.v3 = lanes.v3;
+        self.v4 = lanes.v4;
     }
 }
 

@@ -25,7 +25,7 @@ invariant_of-self c =
     (All-drop (λ x. x < 256) _ behind (All-drop (λ x. x < 256) missing bytes bytes_are)) in
     let short : length last < 16 = search rules in
     let sizes = words-lt (length last) (le last) (le-lt last are) in
-    rw (c.words.ensures, c.read_partial_le.ensures) (short, sizes.0, sizes.1)
+    rw (c.split_words.ensures, c.read_partial_le.ensures) (short, sizes.0, sizes.1)
 
 pub returns : goal.returns
 unfolding murmur_after pieces rest
@@ -63,10 +63,10 @@ returns c =
       ← c.self.view_is,
       c.fold_blocks.ensures,
       c.step-h1.ensures,
-      c.words-k1.ensures,
+      c.split_words-k1.ensures,
       c.read_u128_le.ensures,
       c.join_words.ensures,
-      c.words.ensures,
+      c.split_words.ensures,
       c.read_partial_le.ensures,
       words-number,
       low_bytes-le last are,

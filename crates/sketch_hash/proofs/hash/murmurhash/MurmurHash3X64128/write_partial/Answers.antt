@@ -20,7 +20,7 @@ invariant_of-self c =
     let held = number-lt i.count i.low i.high c.self.invariant.1 c.self.invariant.2 in
     let sizes = words-lt (i.count + length bytes) _ (joined-lt i.count _ bytes are held) in
     rw (
-      c.words-k1.ensures,
+      c.split_words-k1.ensures,
       c.join_words-waiting.ensures,
       c.read_partial_le-number.ensures,
       joined-is i.count _ bytes are held few,
@@ -42,7 +42,7 @@ returns-then-count-lt-BLOCK c =
     let total : i.total < 2 ^ 64 = search rules in
     rw (
       ← c.self.view_is,
-      c.words-k1.ensures,
+      c.split_words-k1.ensures,
       c.join_words-waiting.ensures,
       c.read_partial_le-number.ensures,
       words-number,
@@ -70,7 +70,7 @@ invariant_of-self-else-count-lt-BLOCK c =
     let below : le behind < 256 ^ (i.count + length bytes - 16) =
     subst (λ n. le behind < 256 ^ n) size (le-lt behind behind_are) in
     let sizes = words-lt (i.count + length bytes - 16) (le behind) below in
-    rw (c.words.ensures, c.read_partial_le-number.ensures, number)
+    rw (c.split_words.ensures, c.read_partial_le-number.ensures, number)
     (omega (arith, low, c.requires), sizes.0, sizes.1)
 
 pub returns-else-count-lt-BLOCK : goal.returns-else-count-lt-BLOCK
@@ -111,8 +111,8 @@ returns-else-count-lt-BLOCK c =
     rw (
       ← c.self.view_is,
       c.step.ensures,
-      c.words-k1.ensures,
-      c.words.ensures,
+      c.split_words-k1.ensures,
+      c.split_words.ensures,
       c.join_words-waiting.ensures,
       c.read_partial_le-number.ensures,
       number,

@@ -23,7 +23,7 @@ returns c =
     let start : Lanes = lanes_of i.seed i.lanes in
     let stripes : c.as_chunks.result.0.now ≡ pieces 32 bytes =
     c.as_chunks.ensures.front ∙ chunks-are _ 32 bytes in
-    let run = c.fold_run-self-inside.ensures i.seed ∙ ap (each_lane start) stripes
+    let run = c.fold_vector_run-self-inside.ensures i.seed ∙ ap (each_lane start) stripes
     ∙ sym (fold-each_lane (pieces 32 bytes) start)
     ∙ ap (fold stripe_step start) (sym (map-id (pieces 32 bytes))) in
     let waits : take (length last) c.copy_small.new.buffer ≡ rest 32 bytes =

@@ -1,8 +1,8 @@
-use Rattle.std.proofs.Common.{ap, sym, ◌∙◌}
+use Rattle.std.proofs.Common.{ap, ◌∙◌}
 use Rattle.sketch_hash.specs.Xxh64.{merge}
 use Rattle.sketch_hash.proofs.hash.xxhash.XxHash64.merge.Goals as goal
 
 pub returns : goal.returns
 returns c =
     let i = c.self.inside in
-    rw (← c.self.view_is) (c.merge.ensures i.seed ∙ ap merge (sym (c.from_vector.ensures i.seed)))
+    rw (← c.self.view_is) (c.merge.ensures i.seed ∙ ap merge (c.from_vector.ensures i.seed))

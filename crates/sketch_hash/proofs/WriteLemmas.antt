@@ -17,20 +17,20 @@ folded start bytes =
     ap (fold stripe_step start) (map-id (pieces 32 bytes)) ∙ fold-each_lane (pieces 32 bytes) start
 
 -- where no byte waits
-pub takes-fresh : (s : State Lanes) (bytes : List ℕ) → s.total < 2 ^ 64 → s.waiting ≡ [] →
+pub after-fresh : (s : State Lanes) (bytes : List ℕ) → s.total < 2 ^ 64 → s.waiting ≡ [] →
     xxh64_after s bytes ≡ record {
       folded = each_lane s.folded (pieces 32 bytes);
       total = (s.total + length bytes) % 2 ^ 64;
       waiting = rest 32 bytes;
     }
 unfolding xxh64_after
-takes-fresh s bytes t e =
+after-fresh s bytes t e =
     state_after-fresh 32 (λ stripe. stripe) stripe_step s bytes (omega arith) t e
     ∙ ap (λ v. record { folded = v; total = (s.total + length bytes) % 2 ^ 64; waiting = rest 32 bytes })
     (folded s.folded bytes)
 
 -- where a stripe is begun
-pub takes-begun : (s : State Lanes) (bytes : List ℕ) (missing : ℕ) → s.total < 2 ^ 64 → 0 < missing →
+pub after-begun : (s : State Lanes) (bytes : List ℕ) (missing : ℕ) → s.total < 2 ^ 64 → 0 < missing →
     length s.waiting + missing ≡ 32 → missing ≤ length bytes →
     xxh64_after s bytes ≡ record {
       folded = each_lane (stripe_step s.folded (s.waiting ++ take missing bytes)) (pieces 32 (drop missing bytes));
@@ -38,7 +38,7 @@ pub takes-begun : (s : State Lanes) (bytes : List ℕ) (missing : ℕ) → s.tot
       waiting = rest 32 (drop missing bytes);
     }
 unfolding xxh64_after
-takes-begun s bytes missing t p e h =
+after-begun s bytes missing t p e h =
     let front : List ℕ = take missing bytes in
     let behind : List ℕ = drop missing bytes in
     let full : length (s.waiting ++ front) ≡ 32 =
@@ -49,8 +49,8 @@ takes-begun s bytes missing t p e h =
     (folded (stripe_step s.folded (s.waiting ++ front)) behind)
 
 -- how many bytes wait then
-pub takes-count : (total : ℕ) (bytes : List ℕ) → (32 - total % 32) % 32 ≤ length bytes →
-    (total + length bytes) % 2 ^ 64 % 32 ≡ length (rest 32 (drop ((32 - total % 32) % 32) bytes))
-takes-count total bytes h =
-    rw (length-rest 32 (drop ((32 - total % 32) % 32) bytes), length-drop ((32 - total % 32) % 32) bytes)
+pub left-count : (count : ℕ) (bytes : List ℕ) → count < 32 → (32 - count) % 32 ≤ length bytes →
+    (count + length bytes) % 32 ≡ length (rest 32 (drop ((32 - count) % 32) bytes))
+left-count count bytes low h =
+    rw (length-rest 32 (drop ((32 - count) % 32) bytes), length-drop ((32 - count) % 32) bytes)
     (omega arith)
