@@ -24,7 +24,7 @@ def load(path):
         function.restype, function.argtypes = result, arguments
         return function
 
-    murmur = declare("sketch_murmur3_128", _Pair, c_char_p, c_size_t, c_uint64)
+    murmur = declare("sketch_murmur3_x64_128", _Pair, c_char_p, c_size_t, c_uint64)
     reset = declare("sketch_xxh64_reset", None, POINTER(_State), c_uint64)
     update = declare("sketch_xxh64_update", None, POINTER(_State), c_char_p, c_size_t)
     digest = declare("sketch_xxh64_digest", c_uint64, POINTER(_State))
