@@ -5,8 +5,8 @@
  * outside of what it is given; and every content of a state is safe, even noise.
  *
  * What a caller owes, which no compiler checks:
- *   - A state starts by its _INIT or its _reset. A state of zeros is safe, but its digests are
- *     wrong from the first full 32 bytes (XXH64) or 16 bytes (Murmur, unless the seed is 0) on.
+ *   - A state starts by its _INIT or its _reset. A state of zeros is safe, but XXH64 of it is
+ *     wrong from 32 bytes on.
  *   - A pointer to a state is valid, and nothing else touches the state during a call.
  *   - `input` points to `length` readable bytes that stay as they are during the call and do not
  *     overlap the state. It may be NULL only if `length` is 0. `length` is below 2^63.
