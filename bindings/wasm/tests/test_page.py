@@ -4,23 +4,19 @@ The hashes are compared with libxxhash, by python3-xxhash, and with the shared l
 of a file of 64 MiB with sketchsum too, where the environment's SKETCHSUM names it.
 """
 import ctypes
-import functools
-import http.server
 import os
 import pathlib
 import random
 import subprocess
-import threading
-import time
 
 import pytest
 import xxhash
-from selenium import webdriver
 from selenium.webdriver.common.by import By
 from selenium.webdriver.common.keys import Keys
 from selenium.webdriver.support.ui import WebDriverWait
 
 DIST = pathlib.Path(os.environ["DIST"])
+PATIENCE = float(os.environ.get("PATIENCE", "60"))  # seconds
 FOX = b"The quick brown fox jumps over the lazy dog"
 FOX_HASHES = ("0b242d361fda71bc", "e34bbc7bbc071b6c7a433ca9c49a9347")
 
@@ -38,32 +34,9 @@ def hashes(data, seed=0):
     return xxhash.xxh64_hexdigest(data, seed), f"{pair.h1:016x}{pair.h2:016x}"
 
 
-class Quiet(http.server.SimpleHTTPRequestHandler):
-    def log_message(self, *_):
-        pass
-
-
-@pytest.fixture(scope="session")
-def server():
-    serve = functools.partial(Quiet, directory=DIST / "wasm")
-    with http.server.ThreadingHTTPServer(("127.0.0.1", 0), serve) as it:
-        threading.Thread(target=it.serve_forever, daemon=True).start()
-        yield f"http://127.0.0.1:{it.server_port}/index.html"
-        it.shutdown()
-
-
-@pytest.fixture(scope="session")
-def chromium():
-    options = webdriver.ChromeOptions()
-    for word in ("--headless=new", "--no-sandbox", "--disable-gpu", "--disable-dev-shm-usage"):
-        options.add_argument(word)
-    options.set_capability("goog:loggingPrefs", {"browser": "ALL"})
-    with webdriver.Chrome(options=options) as it:
-        yield it
-
-
 @pytest.fixture(params=["file", "server"])
 def page(request, chromium, server):
+    chromium.get_log("browser")  # which drops what other tests left
     chromium.get((DIST / "wasm/index.html").as_uri() if request.param == "file" else server)
     yield Page(chromium)
     assert [line for line in chromium.get_log("browser") if line["level"] == "SEVERE"] == []
@@ -92,8 +65,8 @@ class Page:
     def hashes(self, name):
         return self.text(name, "td.xxh64"), self.text(name, "td.murmur3")
 
-    def wait(self, condition, seconds=60):
-        WebDriverWait(self.chromium, seconds, 0.02).until(lambda _: condition())
+    def wait(self, condition):
+        WebDriverWait(self.chromium, PATIENCE, 0.02).until(lambda _: condition())
 
     def wait_for(self, name, status):
         self.wait(lambda: status in self.text(name, "td.status"))
