@@ -16,7 +16,7 @@ pub struct Murmur128 {
 
 /// MurmurHash3 x64 128 of `input` under a seed.
 #[unsafe(no_mangle)]
-pub extern "C" fn sketch_murmur3_128(input: &[u8], seed: u64) -> Murmur128
+pub extern "C" fn sketch_murmur3_x64_128(input: &[u8], seed: u64) -> Murmur128
     ensures { (result.h1, result.h2) ≡ murmur seed input.now }
 {
     let (h1, h2) = MurmurHash3X64128::hash(input, seed);
@@ -25,7 +25,7 @@ pub extern "C" fn sketch_murmur3_128(input: &[u8], seed: u64) -> Murmur128
 
 /// Starts a stream: a seed, and no bytes.
 #[unsafe(no_mangle)]
-pub extern "C" fn sketch_murmur3_128_reset(state: &mut MurmurState, seed: u64)
+pub extern "C" fn sketch_murmur3_x64_128_reset(state: &mut MurmurState, seed: u64)
     ensures { MurmurHolds state.new seed [] }
 {
     *state = MurmurHash3X64128::with_seed(seed).state();
@@ -33,7 +33,7 @@ pub extern "C" fn sketch_murmur3_128_reset(state: &mut MurmurState, seed: u64)
 
 /// Adds bytes to the stream.
 #[unsafe(no_mangle)]
-pub extern "C" fn sketch_murmur3_128_update(state: &mut MurmurState, input: &[u8])
+pub extern "C" fn sketch_murmur3_x64_128_update(state: &mut MurmurState, input: &[u8])
     ensures after { murmur_held state.new ≡ murmur_after (murmur_held state.old) input.now }
     ensures holds { (seed : ℕ) (before : List ℕ) → MurmurHolds state.old seed before →
         MurmurHolds state.new seed (before ++ input.now) }
@@ -43,21 +43,11 @@ pub extern "C" fn sketch_murmur3_128_update(state: &mut MurmurState, input: &[u8
 
 /// MurmurHash3 x64 128 of the stream so far, which may go on.
 #[unsafe(no_mangle)]
-pub extern "C" fn sketch_murmur3_128_digest(state: &MurmurState) -> Murmur128
+pub extern "C" fn sketch_murmur3_x64_128_digest(state: &MurmurState) -> Murmur128
     ensures answer { (result.h1, result.h2) ≡ murmur_answer (murmur_held state.now) }
     ensures holds { (seed : ℕ) (bytes : List ℕ) → MurmurHolds state.now seed bytes →
         (result.h1, result.h2) ≡ murmur seed bytes }
 {
     let (h1, h2) = MurmurHash3X64128::resume(state).finish128();
     Murmur128 { h1, h2 }
-}
-
-/// A stream in two pieces, by the calls that a program in C makes.
-pub fn murmur_of_two(state: &mut MurmurState, seed: u64, front: &[u8], back: &[u8]) -> Murmur128
-    ensures { (result.h1, result.h2) ≡ murmur seed (front.now ++ back.now) }
-{
-    sketch_murmur3_128_reset(state, seed);
-    sketch_murmur3_128_update(state, front);
-    sketch_murmur3_128_update(state, back);
-    sketch_murmur3_128_digest(state)
 }

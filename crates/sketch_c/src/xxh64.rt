@@ -1,6 +1,7 @@
-//! XXH64: in one call, or by a state that takes a stream in pieces.
+//! XXH64: in one call, of bytes or of a number, or by a state that takes a stream in pieces.
 
 ghost use Rattle.std.specs.Prelude.{◌≡◌, ℕ, List, [], ◌++◌};
+ghost use Rattle.sketch_base.specs.Bytes.{eight};
 ghost use Rattle.sketch_hash.specs.Held.{xxh64_held, Xxh64Holds};
 ghost use Rattle.sketch_hash.specs.Xxh64.{xxh64, xxh64_after, xxh64_answer};
 
@@ -12,6 +13,14 @@ pub extern "C" fn sketch_xxh64(input: &[u8], seed: u64) -> u64
     ensures { result ≡ xxh64 seed input.now }
 {
     XxHash64::hash(input, seed)
+}
+
+/// XXH64 of the eight little-endian bytes of `value` under a seed.
+#[unsafe(no_mangle)]
+pub extern "C" fn sketch_xxh64_u64(value: u64, seed: u64) -> u64
+    ensures { result ≡ xxh64 seed (eight value) }
+{
+    XxHash64::hash_u64(value, seed)
 }
 
 /// Starts a stream: a seed, and no bytes.
@@ -40,14 +49,4 @@ pub extern "C" fn sketch_xxh64_digest(state: &XxHash64State) -> u64
         result ≡ xxh64 seed bytes }
 {
     XxHash64::resume(state).finish64()
-}
-
-/// A stream in two pieces, by the calls that a program in C makes.
-pub fn xxh64_of_two(state: &mut XxHash64State, seed: u64, front: &[u8], back: &[u8]) -> u64
-    ensures { result ≡ xxh64 seed (front.now ++ back.now) }
-{
-    sketch_xxh64_reset(state, seed);
-    sketch_xxh64_update(state, front);
-    sketch_xxh64_update(state, back);
-    sketch_xxh64_digest(state)
 }

@@ -21,13 +21,13 @@ int main(void) {
     uint64_t all = 0;
     for (int round = 0; round < 20000; round++) {
         sketch_xxh64_state_t *x = malloc(sizeof *x);
-        sketch_murmur3_128_state_t *m = malloc(sizeof *m);
+        sketch_murmur3_x64_128_state_t *m = malloc(sizeof *m);
         fill((unsigned char *)x, sizeof *x);
         fill((unsigned char *)m, sizeof *m);
         fill(input, sizeof input);
         sketch_xxh64_update(x, input, noise() % sizeof input);
-        sketch_murmur3_128_update(m, input, noise() % sizeof input);
-        all ^= sketch_xxh64_digest(x) ^ sketch_murmur3_128_digest(m).h1;
+        sketch_murmur3_x64_128_update(m, input, noise() % sizeof input);
+        all ^= sketch_xxh64_digest(x) ^ sketch_murmur3_x64_128_digest(m).h1;
         free(x);
         free(m);
     }

@@ -1,0 +1,73 @@
+/* Compares the library with libxxhash, libmurmurhash and known answers, over lengths, seeds and
+ * cuts. Each buffer is a block of its own, so that valgrind sees a byte that is read too far. */
+#include "sketch_hash.h"
+#include <murmurhash.h>
+#include <stdlib.h>
+#include <string.h>
+#include <xxhash.h>
+#include "same.h"
+
+static void same_pair(const char *what, sketch_murmur3_x64_128_hash_t answer, uint64_t h1,
+                      uint64_t h2) {
+    same(what, answer.h1, h1);
+    same(what, answer.h2, h2);
+}
+
+/* The peer takes seeds of 32 bits. */
+static void in_one_call(const unsigned char *bytes, size_t length, uint64_t seed) {
+    uint64_t peer[2];
+    same("xxh64 in one call", sketch_xxh64(bytes, length, seed), XXH64(bytes, length, seed));
+    lmmh_x64_128(bytes, (unsigned)length, (uint32_t)seed, peer);
+    same_pair("murmur in one call", sketch_murmur3_x64_128(bytes, length, (uint32_t)seed), peer[0],
+              peer[1]);
+    if (length == 8) {
+        uint64_t value;
+        memcpy(&value, bytes, 8);
+        same("xxh64 of a number", sketch_xxh64_u64(value, seed), XXH64(bytes, 8, seed));
+    }
+}
+
+/* One stream in pieces of `step` bytes, with an empty update after each. */
+static void in_pieces(const unsigned char *bytes, size_t length, uint64_t seed, size_t step) {
+    sketch_xxh64_state_t x;
+    sketch_murmur3_x64_128_state_t m;
+    sketch_xxh64_reset(&x, seed);
+    sketch_murmur3_x64_128_reset(&m, seed);
+    for (size_t at = 0; at < length; at += step) {
+        size_t n = length - at < step ? length - at : step;
+        sketch_xxh64_update(&x, bytes + at, n);
+        sketch_xxh64_update(&x, NULL, 0);
+        sketch_murmur3_x64_128_update(&m, bytes + at, n);
+        sketch_murmur3_x64_128_update(&m, NULL, 0);
+        same("xxh64 on the way", sketch_xxh64_digest(&x), XXH64(bytes, at + n, seed));
+        sketch_murmur3_x64_128_hash_t whole = sketch_murmur3_x64_128(bytes, at + n, seed);
+        same_pair("murmur on the way", sketch_murmur3_x64_128_digest(&m), whole.h1, whole.h2);
+    }
+    same("seed of the xxh64 state", x.seed, seed);
+    same("total of the xxh64 state", x.total, length);
+    same("total of the murmur state", m.total, length);
+}
+
+static void known_answers(void) {
+    static const char fox[] = "The quick brown fox jumps over the lazy dog";
+    same_pair("murmur of the fox", sketch_murmur3_x64_128(fox, strlen(fox), 0),
+              0xe34bbc7bbc071b6cULL, 0x7a433ca9c49a9347ULL);
+    same_pair("murmur under a long seed",
+              sketch_murmur3_x64_128("\xa1\xd8\x2b", 3, 0xcdde8d516301bbfcULL),
+              0x72d4dcbfd199ad6fULL, 0x5170f4d9e50bb254ULL);
+    same("xxh64 of nothing", sketch_xxh64(NULL, 0, 0), 0xef46db3751d8e999ULL);
+}
+
+int main(void) {
+    static const uint64_t seeds[] = {0, 9001, UINT64_MAX};
+    known_answers();
+    for (size_t length = 0; length <= 200; length++)
+        for (size_t s = 0; s < 3; s++) {
+            unsigned char *bytes = malloc(length ? length : 1);
+            for (size_t i = 0; i < length; i++) bytes[i] = (unsigned char)(i * 167 + length);
+            in_one_call(bytes, length, seeds[s]);
+            for (size_t step = 1; step <= 70; step += 6) in_pieces(bytes, length, seeds[s], step);
+            free(bytes);
+        }
+    return conclude(298000);
+}

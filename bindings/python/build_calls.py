@@ -1,0 +1,88 @@
+"""The glue to the library, which cffi writes and the C compiler checks against the header.
+
+The archive and the header are those of dist/, or of the folder that SKETCH_HASH_LIB_DIR names.
+"""
+import os
+
+import cffi
+
+own = os.path.join(os.path.dirname(os.path.abspath(__file__)), "..", "..", "dist")
+folder = os.environ.get("SKETCH_HASH_LIB_DIR", own)
+archive = os.path.join(folder, "libsketch_hash.a")
+if not os.path.isfile(archive):
+    raise FileNotFoundError(
+        f"{archive} is missing: set SKETCH_HASH_LIB_DIR to the folder that has libsketch_hash.a"
+    )
+
+calls = cffi.FFI()
+calls.cdef(
+    """
+    typedef struct { ...; } sketch_xxh64_state_t;
+    typedef struct { uint64_t h1, h2; } sketch_murmur3_x64_128_hash_t;
+    typedef struct { ...; } sketch_murmur3_x64_128_state_t;
+
+    uint32_t sketch_hash_version(void);
+
+    uint64_t xxh64(const void *input, size_t length, uint64_t seed);
+    void sketch_xxh64_reset(sketch_xxh64_state_t *state, uint64_t seed);
+    void xxh64_update(sketch_xxh64_state_t *state, const void *input, size_t length);
+    uint64_t sketch_xxh64_digest(const sketch_xxh64_state_t *state);
+
+    sketch_murmur3_x64_128_hash_t murmur(const void *input, size_t length, uint64_t seed);
+    void sketch_murmur3_x64_128_reset(sketch_murmur3_x64_128_state_t *state, uint64_t seed);
+    void murmur_update(sketch_murmur3_x64_128_state_t *state, const void *input, size_t length);
+    sketch_murmur3_x64_128_hash_t sketch_murmur3_x64_128_digest(
+        const sketch_murmur3_x64_128_state_t *state);
+    """
+)
+calls.set_source(
+    "sketch_hash._calls",
+    """
+    #include <sketch_hash.h>
+
+    /* The glue gives up Python's lock around each call by these two macros. A short call takes less
+     * time than that, so the calls below do it, and from 64 KiB on alone. */
+    #undef Py_BEGIN_ALLOW_THREADS
+    #undef Py_END_ALLOW_THREADS
+    #define Py_BEGIN_ALLOW_THREADS {
+    #define Py_END_ALLOW_THREADS }
+
+    static PyThreadState *give_up(size_t length) {
+        return length < 65536 ? NULL : PyEval_SaveThread();
+    }
+
+    static void take_back(PyThreadState *thread) {
+        if (thread) PyEval_RestoreThread(thread);
+    }
+
+    static uint64_t xxh64(const void *input, size_t length, uint64_t seed) {
+        PyThreadState *thread = give_up(length);
+        uint64_t hash = sketch_xxh64(input, length, seed);
+        take_back(thread);
+        return hash;
+    }
+
+    static void xxh64_update(sketch_xxh64_state_t *state, const void *input, size_t length) {
+        PyThreadState *thread = give_up(length);
+        sketch_xxh64_update(state, input, length);
+        take_back(thread);
+    }
+
+    static sketch_murmur3_x64_128_hash_t murmur(const void *input, size_t length, uint64_t seed) {
+        PyThreadState *thread = give_up(length);
+        sketch_murmur3_x64_128_hash_t hash = sketch_murmur3_x64_128(input, length, seed);
+        take_back(thread);
+        return hash;
+    }
+
+    static void murmur_update(sketch_murmur3_x64_128_state_t *state, const void *input,
+                              size_t length) {
+        PyThreadState *thread = give_up(length);
+        sketch_murmur3_x64_128_update(state, input, length);
+        take_back(thread);
+    }
+    """,
+    include_dirs=[folder, os.path.join(folder, "..", "include")],
+    extra_objects=[archive],
+    depends=[archive, os.path.join(folder, "sketch_hash.h")],
+)

@@ -1,0 +1,156 @@
+"""Prints the hashes of files, or checks them: python3 -m sketch_hash --help"""
+import argparse
+import os
+import sys
+import time
+
+from . import _seed, murmur3_x64_128, xxh64
+
+HASHES = {"xxh64": xxh64, "murmur3_x64_128": murmur3_x64_128}
+PIECE = 1 << 20
+ESCAPES = [("\\", "\\\\"), ("\n", "\\n"), ("\r", "\\r")]
+
+
+def main():
+    words = argparse.ArgumentParser(prog="python3 -m sketch_hash", description=__doc__)
+    words.add_argument("files", nargs="*", metavar="FILE", help="'-', or none, is standard input")
+    words.add_argument("-a", "--algorithm", choices=HASHES, default="xxh64")
+    words.add_argument("-s", "--seed", type=whole_number, default=0)
+    words.add_argument("-c", "--check", action="store_true", help="reads hashes from FILE")
+    words.add_argument("-q", "--quiet", action="store_true", help="with --check, prints no OK")
+    given = words.parse_args()
+    files = given.files or ["-"]
+    if given.check:
+        return check(files, given.seed, given.quiet)
+    faults = 0
+    for name in files:
+        hasher = hash_file(name, HASHES[given.algorithm](seed=given.seed))
+        if hasher:
+            say(line(hasher.hexdigest(), name))
+        faults += hasher is None
+    return faults > 0
+
+
+def whole_number(text):
+    try:
+        return _seed(int(text, 0))
+    except OverflowError as error:
+        raise argparse.ArgumentTypeError(error) from None
+
+
+def hash_file(name, hasher):
+    """Appends a file to the hasher, or tells why that failed and answers None."""
+    try:
+        with open(0 if name == "-" else name, "rb", buffering=0, closefd=name != "-") as file:
+            with Bar(name, os.fstat(file.fileno()).st_size) as bar:
+                piece = memoryview(bytearray(PIECE))
+                while count := file.readinto(piece):
+                    hasher.update(piece[:count])
+                    bar.add(count)
+    except OSError as error:
+        complain(f"{name}: {error.strerror or error}")
+        return None
+    return hasher
+
+
+class Bar:
+    """How far a file is read, on a terminal, from half a second on."""
+
+    def __init__(self, name, size):
+        self.name, self.size, self.done = name, size, 0
+        self.is_drawn = False
+        self.next = time.monotonic() + 0.5 if sys.stderr.isatty() else float("inf")
+
+    def __enter__(self):
+        return self
+
+    def add(self, count):
+        self.done += count
+        if time.monotonic() > self.next:
+            self.next += 0.1
+            self.is_drawn = True
+            part = min(self.done / self.size, 1) if self.size else 0
+            bar = "#" * int(30 * part)
+            text = f"[{bar:<30}] {part:4.0%} {self.done >> 20} MiB  {self.name}"
+            print(f"\r{text}\033[K", end="", file=sys.stderr, flush=True)
+
+    def __exit__(self, *_):
+        if self.is_drawn:
+            print("\r\033[K", end="", file=sys.stderr, flush=True)
+
+
+def line(digits, name):
+    """A hash and a name. As in sha256sum, a line whose name is escaped begins with a backslash."""
+    escaped = name
+    for text, escape in ESCAPES:
+        escaped = escaped.replace(text, escape)
+    return f"{chr(92) if escaped != name else ''}{digits}  {escaped}"
+
+
+def parts(text):
+    """The hash and the name of a line, or None."""
+    is_escaped = text.startswith("\\")
+    digits, gap, name = text[is_escaped:].partition("  ")
+    if not gap or not name or len(digits) not in (16, 32) or set(digits) - set("0123456789abcdef"):
+        return None
+    if is_escaped:
+        back = {escape: text for text, escape in ESCAPES}
+        at, plain = 0, []
+        while at < len(name):
+            taken = 2 if name[at : at + 2] in back else 1
+            plain.append(back.get(name[at : at + 2], name[at]))
+            at += taken
+        name = "".join(plain)
+    return digits, name
+
+
+def check(lists, seed, is_quiet):
+    """Reads lines as this program prints them, and hashes their files anew."""
+    bad, unread, differ, good = 0, 0, 0, 0
+    for name in lists:
+        try:
+            with open(0 if name == "-" else name, "rb", closefd=name != "-") as file:
+                lines = os.fsdecode(file.read()).split("\n")
+        except OSError as error:
+            complain(f"{name}: {error.strerror}")
+            unread += 1
+            continue
+        for text in filter(None, lines):
+            found = parts(text)
+            if not found:
+                bad += 1
+                continue
+            digits, name_of = found
+            kind = xxh64 if len(digits) == 16 else murmur3_x64_128
+            hasher = hash_file(name_of, kind(seed=seed))
+            is_same = hasher is not None and hasher.hexdigest() == digits
+            unread += hasher is None
+            differ += hasher is not None and not is_same
+            good += is_same
+            if not is_same or not is_quiet:
+                why = "OK" if is_same else "FAILED" if hasher else "FAILED to open or read"
+                say(f"{name_of}: {why}")
+    for count, what in (
+        (bad, "improperly formatted line(s)"),
+        (unread, "file(s) could not be read"),
+        (differ, "computed hash(es) did not match"),
+    ):
+        if count:
+            complain(f"{count} {what}")
+    if not good + differ + unread:
+        complain("no line with a hash")
+    return bool(bad or unread or differ or not good)
+
+
+def say(text):
+    sys.stdout.buffer.write(os.fsencode(text) + b"\n")
+    sys.stdout.flush()
+
+
+def complain(text):
+    sys.stderr.buffer.write(b"sketch_hash: " + os.fsencode(text) + b"\n")
+    sys.stderr.flush()
+
+
+if __name__ == "__main__":
+    sys.exit(main())

@@ -1,0 +1,96 @@
+"""The program: python3 -m sketch_hash."""
+import os
+import pty
+import shutil
+import subprocess
+import sys
+
+import pytest
+
+FOX = b"The quick brown fox jumps over the lazy dog"
+XXH64, MURMUR = b"0b242d361fda71bc", b"e34bbc7bbc071b6c7a433ca9c49a9347"
+NAMES = [b"fox", b"a b", b" front", b"new\nline", b"back\\slash", b"\\n", b"\xff\xfe", b"  two"]
+
+
+@pytest.fixture(autouse=True)
+def folder(tmp_path, monkeypatch):
+    monkeypatch.chdir(tmp_path)
+    (tmp_path / "fox").write_bytes(FOX)
+
+
+def run(*words, **how):
+    command = [sys.executable, "-m", "sketch_hash", *words]
+    done = subprocess.run(command, capture_output=True, **how)
+    return done.returncode, done.stdout, done.stderr
+
+
+def test_a_file_and_standard_input():
+    assert run("fox") == (0, XXH64 + b"  fox\n", b"")
+    assert run("-a", "murmur3_x64_128", "fox") == (0, MURMUR + b"  fox\n", b"")
+    assert run(input=FOX) == (0, XXH64 + b"  -\n", b"")
+    assert run("fox", "-", input=b"")[1] == XXH64 + b"  fox\nef46db3751d8e999  -\n"
+
+
+def test_seeds():
+    assert run("--seed", "18446744073709551615", "fox")[1] != run("fox")[1]
+    for seed in ("18446744073709551616", "-1", "many", "1.5"):
+        status, output, complaint = run("--seed", seed, "fox")
+        assert (status, output) == (2, b"") and b"seed" in complaint
+
+
+def test_a_file_that_cannot_be_read():
+    status, output, complaint = run("missing", "fox", ".")
+    assert (status, output) == (1, XXH64 + b"  fox\n")
+    assert complaint == (
+        b"sketch_hash: missing: No such file or directory\nsketch_hash: .: Is a directory\n"
+    )
+
+
+@pytest.mark.parametrize("algorithm", ["xxh64", "murmur3_x64_128"])
+def test_what_is_printed_is_read_back(algorithm):
+    for name in NAMES:
+        with open(name, "wb") as file:
+            file.write(name)
+    status, lines, _ = run("-a", algorithm, "--seed", "7", *NAMES)
+    assert status == 0
+    status, output, complaint = run("--check", "--seed", "7", "-", input=lines)
+    assert (status, complaint) == (0, b"")
+    assert output == b"".join(name + b": OK\n" for name in NAMES)
+    assert run("--check", "--quiet", "--seed", "7", input=lines) == (0, b"", b"")
+    assert run("--check", "--seed", "8", input=lines)[0] == 1
+
+
+def test_check_tells_what_is_wrong():
+    lines = XXH64 + b"  fox\n" + b"0" * 16 + b"  fox\n" + b"0" * 16 + b"  missing\nno hash\n"
+    status, output, complaint = run("-c", input=lines)
+    assert status == 1
+    assert output == b"fox: OK\nfox: FAILED\nmissing: FAILED to open or read\n"
+    for words in (b"1 improperly formatted", b"1 file(s) could not", b"1 computed hash"):
+        assert words in complaint
+    assert run("-c", input=b"")[0] == 1
+    assert run("-c", "missing")[0] == 1
+
+
+@pytest.mark.skipif(not shutil.which("xxhsum"), reason="xxhsum is missing")
+def test_xxhsum_reads_the_lines_and_the_other_way_round():
+    lines = run("fox")[1]
+    assert subprocess.run(["xxhsum", "-c"], input=lines).returncode == 0
+    lines = subprocess.run(["xxhsum", "-H1", "fox"], capture_output=True).stdout
+    assert run("--check", input=lines)[:2] == (0, b"fox: OK\n")
+
+
+def test_a_bar_is_drawn_on_a_terminal_alone():
+    """Of a pipe that stays open for a second."""
+    terminal, standard_error = pty.openpty()
+    command = ["sh", "-c", "cat fox; sleep 1; cat fox"]
+    feeder = subprocess.Popen(command, stdout=subprocess.PIPE)
+    words = [sys.executable, "-m", "sketch_hash"]
+    done = subprocess.run(
+        words, stdin=feeder.stdout, stdout=subprocess.PIPE, stderr=standard_error
+    )
+    feeder.stdout.close()
+    feeder.wait()
+    os.close(standard_error)
+    drawn = os.read(terminal, 10000)
+    os.close(terminal)
+    assert done.returncode == 0 and b"[" in drawn and drawn.endswith(b"\r\033[K")

@@ -1,0 +1,126 @@
+"""Three faults that give a wrong hash without a word: a shared copy, two threads, a cut seed."""
+import copy
+import fractions
+import pickle
+import sys
+import threading
+import time
+
+import pytest
+import sketch_hash
+from sketch_hash import murmur3_x64_128, xxh64
+
+KINDS = [xxh64, murmur3_x64_128]
+ONE_CALL = [getattr(sketch_hash, name) for name in sketch_hash.__all__ if name.endswith("digest")]
+WAYS = [copy.copy, copy.deepcopy, lambda it: it.copy(), lambda it: pickle.loads(pickle.dumps(it))]
+
+
+@pytest.mark.parametrize("kind", KINDS)
+@pytest.mark.parametrize("way", WAYS)
+def test_a_copy_goes_its_own_way(kind, way):
+    first = kind(b"one " * 20, seed=9001)
+    second = way(first)
+    first.update(b"first")
+    second.update(b"second")
+    assert first.digest() == kind(b"one " * 20 + b"first", 9001).digest()
+    assert second.digest() == kind(b"one " * 20 + b"second", 9001).digest()
+    assert second.seed == 9001 and type(second) is kind
+    second.reset()
+    assert second.digest() == kind(seed=9001).digest()
+
+
+def test_a_checkpoint_of_another_length_is_refused():
+    rebuild, (kind, seed, checkpoint) = xxh64().__reduce__()
+    for other in (checkpoint[:-1], checkpoint + b"\0", b""):
+        with pytest.raises(ValueError):
+            rebuild(kind, seed, other)
+
+
+@pytest.mark.parametrize("kind", KINDS)
+def test_threads_that_share_an_object(kind):
+    """Each appends whole periods of 256 bytes, so every order of the updates gives one hash."""
+    piece, rounds, threads = bytes(range(256)) * 4096, 40, 4
+    hasher = kind()
+    start = threading.Barrier(threads)
+
+    def append():
+        start.wait()
+        for _ in range(rounds):
+            hasher.update(piece)
+            hasher.update(piece[:256])
+            hasher.digest()
+
+    workers = [threading.Thread(target=append) for _ in range(threads)]
+    for worker in workers:
+        worker.start()
+    for worker in workers:
+        worker.join()
+    assert hasher.digest() == kind((piece + piece[:256]) * (rounds * threads)).digest()
+
+
+@pytest.fixture
+def ticks():
+    """A list that another thread makes longer whenever Python's lock is given up."""
+    found, is_over, interval = [], threading.Event(), sys.getswitchinterval()
+
+    def tick():
+        while not is_over.is_set():
+            found.append(1)
+            time.sleep(0.001)
+
+    sys.setswitchinterval(1000)
+    worker = threading.Thread(target=tick)
+    worker.start()
+    yield found
+    sys.setswitchinterval(interval)
+    is_over.set()
+    worker.join()
+
+
+def test_short_calls_keep_the_lock_of_python(ticks):
+    data, hasher = bytes(65535), xxh64()
+    time.sleep(0.01)
+    before = len(ticks)
+    for _ in range(1000):
+        hasher.update(data)
+        for call in ONE_CALL:
+            call(data[:100])
+    assert len(ticks) == before > 0
+
+
+def test_long_calls_give_up_the_lock_of_python(ticks):
+    """The other thread may be late on a busy machine, so it is given several calls."""
+    data, hashers = bytes(1 << 24), [kind() for kind in KINDS]
+    for call in (*ONE_CALL, *[it.update for it in hashers]):
+        before = len(ticks)
+        for _ in range(1000):
+            call(data)
+            if len(ticks) > before:
+                break
+        assert len(ticks) > before
+
+
+@pytest.mark.parametrize("seed", [-1, 2**64, 2**64 + 7, 2**70, -(2**64)])
+def test_a_seed_outside_of_64_bits_is_refused(seed):
+    for call in KINDS:
+        with pytest.raises(OverflowError, match="a seed is from 0 to"):
+            call(seed=seed)
+    for call in ONE_CALL:
+        with pytest.raises(OverflowError, match="a seed is from 0 to"):
+            call(b"", seed)
+
+
+@pytest.mark.parametrize("seed", [7.0, "7", None, b"7", fractions.Fraction(7)])
+def test_a_seed_is_a_whole_number(seed):
+    for call in KINDS:
+        with pytest.raises(TypeError):
+            call(seed=seed)
+    for call in ONE_CALL:
+        with pytest.raises(TypeError):
+            call(b"", seed)
+
+
+def test_the_first_and_the_last_seed():
+    assert xxh64(b"a", 0).digest() == xxh64(b"a").digest()
+    assert xxh64(b"a", True).digest() == xxh64(b"a", 1).digest()
+    assert xxh64(b"a", 2**64 - 1).digest() != xxh64(b"a", 0).digest()

@@ -1,0 +1,99 @@
+"""Both hashes beside python3-xxhash, a plain Murmur and known answers."""
+import doctest
+import mmap
+import random
+
+import peers
+import pytest
+import sketch_hash
+import xxhash
+from sketch_hash import murmur3_x64_128, xxh64
+
+FOX = b"The quick brown fox jumps over the lazy dog"
+KINDS = [xxh64, murmur3_x64_128]
+
+
+def peer_xxh64(data, seed):
+    return xxhash.xxh64_intdigest(data, seed)
+
+
+PEERS = {xxh64: peer_xxh64, murmur3_x64_128: peers.murmur3_x64_128}
+
+
+def test_known_answers():
+    assert xxh64(FOX).hexdigest() == "0b242d361fda71bc"
+    assert murmur3_x64_128(FOX).hexdigest() == "e34bbc7bbc071b6c7a433ca9c49a9347"
+    data, seed = bytes.fromhex("f97f521e22e096631b82573e817527378be01ac5898a96"), 0x49F1C7E23916E1DF
+    assert xxh64(data, seed).hexdigest() == "09f6f6172c89c3f4"
+    assert murmur3_x64_128(data, seed).hexdigest() == "fff02d48b75af9f300fc87d5911ee1d1"
+    assert sketch_hash._lib.sketch_hash_version() == 10000
+
+
+def test_the_examples_of_the_module():
+    assert doctest.testmod(sketch_hash) == (0, 2)
+
+
+@pytest.mark.parametrize("kind", KINDS)
+def test_cuts_of_random_data(kind):
+    noise = random.Random(1)
+    for round in range(3000):
+        data = noise.randbytes(noise.randrange(2000 if round % 50 == 0 else 100))
+        seed = noise.getrandbits(64)
+        hasher, at = kind(seed=seed), 0
+        while at < len(data):
+            end = noise.randrange(at, len(data)) + 1
+            hasher.update(data[at:end])
+            at = end
+            if noise.random() < 0.1:
+                assert hasher.intdigest() == PEERS[kind](data[:at], seed)
+        assert hasher.intdigest() == PEERS[kind](data, seed)
+
+
+def test_all_forms_of_an_answer():
+    noise = random.Random(2)
+    for length in range(100):
+        data, seed = noise.randbytes(length), noise.getrandbits(64)
+        ours, theirs = xxh64(data, seed), xxhash.xxh64(data, seed)
+        for form in ("digest", "hexdigest", "intdigest"):
+            answer = getattr(theirs, form)()
+            assert getattr(ours, form)() == answer
+            assert getattr(sketch_hash, f"xxh64_{form}")(data, seed) == answer
+        number = peers.murmur3_x64_128(data, seed)
+        ours = murmur3_x64_128(data=data, seed=seed)
+        assert ours.digest() == number.to_bytes(16, "big")
+        assert sketch_hash.murmur3_x64_128_digest(data, seed=seed) == number.to_bytes(16, "big")
+        assert ours.hexdigest() == f"{number:032x}" == ours.digest().hex()
+        assert sketch_hash.murmur3_x64_128_hexdigest(data, seed) == f"{number:032x}"
+        assert ours.intdigest() == number
+        assert sketch_hash.murmur3_x64_128_intdigest(data, seed) == number
+
+
+def test_attributes():
+    ours, theirs = xxh64(seed=7), xxhash.xxh64(seed=7)
+    for word in ("name", "digest_size", "digestsize", "block_size", "seed"):
+        assert getattr(ours, word) == getattr(theirs, word)
+    murmur = murmur3_x64_128(seed=7)
+    assert (murmur.digest_size, murmur.block_size, murmur.seed) == (16, 16, 7)
+    assert len(murmur.digest()) == murmur.digest_size
+    with pytest.raises(AttributeError):
+        murmur.seed = 8
+
+
+@pytest.mark.parametrize("kind", KINDS)
+def test_reset_keeps_the_seed(kind):
+    hasher = kind(b"other", 1 << 63)
+    hasher.reset()
+    hasher.update(FOX)
+    assert hasher.digest() == kind(FOX, seed=1 << 63).digest()
+
+
+@pytest.mark.parametrize("kind", KINDS)
+def test_lengths_past_32_bits(kind):
+    """The zeros are never written, so they take no memory."""
+    reserved = 0x4000  # Linux's MAP_NORESERVE
+    flags = mmap.MAP_PRIVATE | mmap.MAP_ANONYMOUS | reserved
+    with mmap.mmap(-1, (1 << 32) + 37, flags=flags, prot=mmap.PROT_READ) as zeros:
+        answers = {xxh64: 0x9AE583956774714E, murmur3_x64_128: 0x0B42F570045FBE6CE4DB2F081F3AE5B5}
+        assert kind(zeros, (1 << 64) - 1).intdigest() == answers[kind]
+        one_call = getattr(sketch_hash, f"{kind.__name__}_intdigest")
+        assert one_call(zeros, (1 << 64) - 1) == answers[kind]

@@ -1,0 +1,52 @@
+//! The library's calls, as `sketch_hash.h` declares them. Those that take no pointer but to one
+//! state are safe: a reference to a state is valid, and nothing else touches the state meanwhile.
+
+#[repr(C)]
+#[derive(Clone)]
+pub struct Xxh64State {
+    pub seed: u64,
+    pub v1: u64,
+    pub v2: u64,
+    pub v3: u64,
+    pub v4: u64,
+    pub total: u64,
+    pub waiting: [u8; 32],
+}
+
+#[repr(C)]
+#[derive(Clone)]
+pub struct Murmur3X64_128State {
+    pub h1: u64,
+    pub h2: u64,
+    pub total: u64,
+    pub waiting: [u8; 16],
+}
+
+#[repr(C)]
+pub struct Murmur3X64_128Hash {
+    pub h1: u64,
+    pub h2: u64,
+}
+
+const _: () = assert!(size_of::<Xxh64State>() == 80);
+const _: () = assert!(size_of::<Murmur3X64_128State>() == 40);
+
+unsafe extern "C" {
+    pub safe fn sketch_hash_version() -> u32;
+
+    pub fn sketch_xxh64(input: *const u8, length: usize, seed: u64) -> u64;
+    pub safe fn sketch_xxh64_u64(value: u64, seed: u64) -> u64;
+    pub safe fn sketch_xxh64_reset(state: &mut Xxh64State, seed: u64);
+    pub fn sketch_xxh64_update(state: &mut Xxh64State, input: *const u8, length: usize);
+    pub safe fn sketch_xxh64_digest(state: &Xxh64State) -> u64;
+
+    pub fn sketch_murmur3_x64_128(input: *const u8, length: usize, seed: u64)
+        -> Murmur3X64_128Hash;
+    pub safe fn sketch_murmur3_x64_128_reset(state: &mut Murmur3X64_128State, seed: u64);
+    pub fn sketch_murmur3_x64_128_update(
+        state: &mut Murmur3X64_128State,
+        input: *const u8,
+        length: usize,
+    );
+    pub safe fn sketch_murmur3_x64_128_digest(state: &Murmur3X64_128State) -> Murmur3X64_128Hash;
+}

@@ -1,0 +1,33 @@
+#![no_std]
+#![warn(missing_docs)]
+#![doc = include_str!("../README.md")]
+
+mod calls;
+mod murmur;
+mod xxh64;
+
+pub use murmur::{murmur3_x64_128, BuildMurmur3X64_128, Murmur3X64_128};
+pub use xxh64::{xxh64, xxh64_u64, BuildXxh64, Xxh64};
+
+/// The version of the linked library: major * 10000 + minor * 100 + patch.
+pub fn version() -> u32 {
+    calls::sketch_hash_version()
+}
+
+/// Writes 64-bit words, lowest byte first, and then bytes, as a state stands in C's memory.
+fn join<const N: usize>(words: &[u64], waiting: &[u8]) -> [u8; N] {
+    let mut bytes = [0; N];
+    let (front, back) = bytes.split_at_mut(8 * words.len());
+    for (place, word) in front.chunks_exact_mut(8).zip(words) {
+        place.copy_from_slice(&word.to_le_bytes());
+    }
+    back.copy_from_slice(waiting);
+    bytes
+}
+
+/// The word at a place of eight bytes, lowest byte first.
+fn word(bytes: &[u8], place: usize) -> u64 {
+    let mut word = [0; 8];
+    word.copy_from_slice(&bytes[8 * place..8 * place + 8]);
+    u64::from_le_bytes(word)
+}

@@ -1,0 +1,62 @@
+// The module under Node: answers the cases on standard input, after trying its other calls.
+import assert from 'node:assert/strict';
+import { readFileSync } from 'node:fs';
+import { answer } from './answer.mjs';
+
+const dist = new URL(`file://${process.env.DIST}/wasm/`);
+const { load } = await import(new URL('sketch_hash.mjs', dist));
+const library = await load();
+const { xxh64, murmur3X64_128, Xxh64, Murmur3X64_128 } = library;
+const fox = new TextEncoder().encode('The quick brown fox jumps over the lazy dog');
+const last = 2n ** 64n - 1n;
+
+assert.equal(library.version, 10000);
+assert.equal(xxh64(fox), 0x0b242d361fda71bcn);
+assert.equal(murmur3X64_128(fox, 0n), 0xe34bbc7bbc071b6c7a433ca9c49a9347n);
+assert.equal(xxh64(new ArrayBuffer(0), 0n), 0xef46db3751d8e999n);
+
+// Every view is taken, with its own bytes.
+const all = new Uint8Array(64).map((_, at) => at);
+for (const view of [new DataView(all.buffer, 8, 16), new Uint32Array(all.buffer, 8, 4), Buffer.from(all.buffer, 8, 16)]) {
+    assert.equal(xxh64(view, last), xxh64(all.subarray(8, 24), last));
+}
+const shared = new Uint8Array(new SharedArrayBuffer(16));
+shared.set(all.subarray(8, 24));
+assert.equal(xxh64(shared, last), xxh64(all.subarray(8, 24), last));
+
+// An input that takes many pieces, and objects that take turns.
+const long = new Uint8Array(3_000_001).map((_, at) => at * 167);
+const [x, y, m] = [new Xxh64(last), new Xxh64(5n), new Murmur3X64_128(5n)];
+for (let at = 0; at < long.length; at += 99_991) {
+    const piece = long.subarray(at, at + 99_991);
+    x.update(piece);
+    m.update(piece);
+    y.update(piece);
+}
+assert.equal(x.digest(), xxh64(long, last));
+assert.equal(y.digest(), xxh64(long, 5n));
+assert.equal(m.digest(), murmur3X64_128(long, 5n));
+assert.equal(y.reset(7n).update(fox).digest(), xxh64(fox, 7n));
+assert.equal(y.seed, 7n);
+assert.equal(y.copy().reset().update(fox).digest(), xxh64(fox, 7n));
+assert.throws(() => y.reset(-1n), RangeError);
+assert.equal(y.digest(), xxh64(fox, 7n));
+
+// What is refused.
+for (const seed of [-1n, 2n ** 64n, 2n ** 70n]) {
+    for (const call of [() => xxh64(fox, seed), () => murmur3X64_128(fox, seed), () => new Xxh64(seed)]) {
+        assert.throws(call, RangeError);
+    }
+}
+for (const seed of [0, '0', null, 1.5]) assert.throws(() => new Murmur3X64_128(seed), TypeError);
+for (const input of ['fox', [1, 2], 5, null, undefined]) assert.throws(() => xxh64(input, 0n), TypeError);
+assert.throws(() => new Xxh64().update('fox'), /TextEncoder/);
+
+// Other sources, and an engine that does not take the module.
+const bytes = readFileSync(new URL('sketch_hash.wasm', dist));
+assert.equal((await load(bytes)).xxh64(fox), xxh64(fox));
+assert.equal((await load(String(new URL('sketch_hash.wasm', dist)))).xxh64(fox), xxh64(fox));
+await assert.rejects(load(bytes.subarray(1)), /64-bit memories.*Firefox from 134/);
+await assert.rejects(load(new URL('missing.wasm', dist)));
+
+console.log(JSON.stringify(answer(library, JSON.parse(readFileSync(0, 'utf8')))));

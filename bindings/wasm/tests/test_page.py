@@ -1,0 +1,245 @@
+"""The page in headless Chromium, from file:// and from a server.
+
+The hashes are compared with libxxhash, by python3-xxhash, and with the shared library of dist/; that
+of a file of 64 MiB with sketchsum too, where the environment's SKETCHSUM names it.
+"""
+import ctypes
+import os
+import pathlib
+import random
+import subprocess
+
+import pytest
+import xxhash
+from selenium.webdriver.common.by import By
+from selenium.webdriver.common.keys import Keys
+from selenium.webdriver.support.ui import WebDriverWait
+
+DIST = pathlib.Path(os.environ["DIST"])
+PATIENCE = float(os.environ.get("PATIENCE", "60"))  # seconds
+FOX = b"The quick brown fox jumps over the lazy dog"
+FOX_HASHES = ("0b242d361fda71bc", "e34bbc7bbc071b6c7a433ca9c49a9347")
+
+
+class Pair(ctypes.Structure):
+    _fields_ = [("h1", ctypes.c_uint64), ("h2", ctypes.c_uint64)]
+
+
+murmur = ctypes.CDLL(str(DIST / "libsketch_hash.so.1")).sketch_murmur3_x64_128
+murmur.restype, murmur.argtypes = Pair, (ctypes.c_char_p, ctypes.c_size_t, ctypes.c_uint64)
+
+
+def hashes(data, seed=0):
+    pair = murmur(data, len(data), seed)
+    return xxhash.xxh64_hexdigest(data, seed), f"{pair.h1:016x}{pair.h2:016x}"
+
+
+@pytest.fixture(params=["file", "server"])
+def page(request, chromium, server):
+    chromium.get_log("browser")  # which drops what other tests left
+    chromium.get((DIST / "wasm/index.html").as_uri() if request.param == "file" else server)
+    yield Page(chromium)
+    assert [line for line in chromium.get_log("browser") if line["level"] == "SEVERE"] == []
+
+
+class Page:
+    def __init__(self, chromium):
+        self.chromium = chromium
+
+    def one(self, selector):
+        return self.chromium.find_element(By.CSS_SELECTOR, selector)
+
+    def choose(self, *paths):
+        self.one("input#files").send_keys("\n".join(map(str, paths)))
+
+    def set_seed(self, text):
+        self.one("input#seed").send_keys(Keys.CONTROL, "a")
+        self.one("input#seed").send_keys(text)
+
+    def row(self, name):
+        return self.one(f'tr[data-name="{name}"]')
+
+    def text(self, name, selector):
+        return self.row(name).find_element(By.CSS_SELECTOR, selector).text
+
+    def hashes(self, name):
+        return self.text(name, "td.xxh64"), self.text(name, "td.murmur3")
+
+    def wait(self, condition):
+        WebDriverWait(self.chromium, PATIENCE, 0.02).until(lambda _: condition())
+
+    def wait_for(self, name, status):
+        self.wait(lambda: status in self.text(name, "td.status"))
+
+    def text_hashes(self):
+        return self.one("#text-xxh64").text, self.one("#text-murmur3").text
+
+
+@pytest.fixture
+def files(tmp_path):
+    """Writes files into a folder."""
+
+    def write(**contents):
+        paths = []
+        for name, data in contents.items():
+            paths.append(tmp_path / name)
+            paths[-1].write_bytes(data)
+        return paths
+
+    return write
+
+
+def test_the_fox(page, files):
+    page.choose(*files(fox=FOX))
+    page.wait_for("fox", "done")
+    assert page.hashes("fox") == FOX_HASHES == hashes(FOX)
+    assert page.text("fox", ".size") == "43 bytes"
+    bar = page.row("fox").find_element(By.TAG_NAME, "progress")
+    assert bar.get_property("value") == bar.get_property("max")
+
+
+def test_an_empty_file(page, files):
+    page.choose(*files(empty=b""))
+    page.wait_for("empty", "done")
+    assert page.hashes("empty") == ("ef46db3751d8e999", "0" * 32)
+
+
+def test_64_mebibytes(page, files):
+    data = random.Random(1).randbytes((64 << 20) + 5)
+    (path,) = files(large=data)
+    page.choose(path)
+    page.wait_for("large", "done")
+    assert page.hashes("large") == hashes(data)
+    if "SKETCHSUM" in os.environ:
+        for words, answer in zip((["xx", "0"], ["murmur", "0"]), page.hashes("large")):
+            with open(path, "rb") as file:
+                said = subprocess.check_output([os.environ["SKETCHSUM"], *words], stdin=file)
+            assert said.decode() == f"{answer}\n"
+
+
+def test_ten_files_at_once(page, files):
+    noise = random.Random(2)
+    contents = {f"file{n}": noise.randbytes(noise.randrange(10 << 20)) for n in range(10)}
+    page.choose(*files(**contents))
+    for name, data in contents.items():
+        page.wait_for(name, "done")
+        assert page.hashes(name) == hashes(data)
+
+
+def test_seeds(page, files):
+    page.choose(*files(fox=FOX))
+    page.wait_for("fox", "done")
+    page.set_seed(str(2**64 - 1))
+    page.wait(lambda: page.hashes("fox") == hashes(FOX, 2**64 - 1))
+    for wrong in (str(2**64), "-1", "1.5", "many", Keys.DELETE):
+        page.set_seed(wrong)
+        page.wait(lambda: "0 to 18446744073709551615" in page.one("#seed-fault").text)
+        assert page.hashes("fox") == ("", "") and page.text_hashes() == ("", "")
+    page.set_seed("0x10")
+    page.wait(lambda: page.hashes("fox") == hashes(FOX, 16))
+    assert page.one("#seed-fault").text == ""
+
+
+def test_a_text_as_it_is_typed(page):
+    page.wait(lambda: page.text_hashes() == hashes(b""))
+    page.one("textarea#text").send_keys("Grüße")
+    page.wait(lambda: page.text_hashes() == hashes("Grüße".encode()))
+    page.one("textarea#text").send_keys(Keys.BACKSPACE)
+    page.wait(lambda: page.text_hashes() == hashes("Grüß".encode()))
+    page.set_seed("7")
+    page.wait(lambda: page.text_hashes() == hashes("Grüß".encode(), 7))
+
+
+def test_a_file_that_vanishes(page, tmp_path, files):
+    """One is gone before it is read, under a seed that comes later; the other one goes on."""
+    page.set_seed("many")
+    gone, fox = files(gone=b"gone" * 1000, fox=FOX)
+    page.choose(gone, fox)
+    gone.unlink()
+    page.set_seed("0")
+    page.wait_for("gone", "cannot be read: ")
+    assert page.hashes("gone") == ("", "")
+    page.wait_for("fox", "done")
+    assert page.hashes("fox") == FOX_HASHES
+
+
+def sparse(path, size):
+    with open(path, "wb") as file:
+        file.truncate(size)
+    return path
+
+
+def test_stop_in_the_middle(page, tmp_path, files):
+    page.choose(sparse(tmp_path / "endless", 1 << 36))
+    page.choose(*files(fox=FOX))
+    page.wait_for("fox", "done")
+    bar = page.row("endless").find_element(By.TAG_NAME, "progress")
+    page.wait(lambda: bar.get_property("value") > 0)
+    page.row("endless").find_element(By.CSS_SELECTOR, "button.stop").click()
+    page.wait_for("endless", "stopped")
+    assert page.hashes("endless") == ("", "")
+    page.choose(*files(after=b"after"))
+    page.wait_for("after", "done")
+    assert page.hashes("after") == hashes(b"after")
+
+
+def test_the_page_does_not_stand_still(page, tmp_path):
+    """While a file is hashed, the longest time between two frames or timers."""
+    page.choose(sparse(tmp_path / "endless", 1 << 36))
+    bar = page.row("endless").find_element(By.TAG_NAME, "progress")
+    page.wait(lambda: bar.get_property("value") > 0)
+    longest = page.chromium.execute_async_script(
+        """
+        const answer = arguments[0], begun = performance.now();
+        let last = begun, longest = 0;
+        const timer = setInterval(() => {
+            const now = performance.now();
+            longest = Math.max(longest, now - last);
+            last = now;
+            if (now > begun + 1000) { clearInterval(timer); answer(longest); }
+        }, 5);
+        """
+    )
+    page.row("endless").find_element(By.CSS_SELECTOR, "button.stop").click()
+    page.wait_for("endless", "stopped")
+    assert longest < 500
+
+
+def test_by_keyboard_alone(page, files):
+    """Tab goes from the files to the seed, the text, the contract, and the buttons of a row."""
+    page.choose(*files(fox=FOX))
+    page.wait_for("fox", "done")
+    page.chromium.execute_script("document.activeElement.blur()")
+    reached = []
+    for _ in range(12):
+        page.one("body").send_keys(Keys.TAB)
+        it = page.chromium.switch_to.active_element
+        reached.append(it.get_attribute("id") or it.get_attribute("class") or it.tag_name)
+    places = [reached.index(it) for it in ("files", "seed", "text", "copy", "a", "summary")]
+    assert places == sorted(places)
+
+
+@pytest.mark.parametrize("width", [320, 1200])
+def test_nothing_is_wider_than_the_window(page, files, width):
+    page.chromium.set_window_size(width, 800)
+    page.choose(*files(**{"a_name_that_is_" + "very_" * 20 + "long": FOX}))
+    page.wait(lambda: "done" in page.one("td.status").text)
+    script = "return document.documentElement.scrollWidth - document.documentElement.clientWidth"
+    assert page.chromium.execute_script(script) <= 0
+
+
+def test_nothing_is_loaded_from_elsewhere(page):
+    page.wait(lambda: page.text_hashes() == hashes(b""))
+    script = "return performance.getEntriesByType('resource').map((it) => it.name)"
+    assert [it for it in page.chromium.execute_script(script) if not it.startswith("blob:")] == []
+    with open(DIST / "wasm/index.html", "rb") as file:
+        assert len(file.read()) < 60_000
+
+
+def test_an_engine_without_64_bit_memories(chromium, tmp_path):
+    """A module that no engine takes is told as one that this engine lacks."""
+    text = (DIST / "wasm/index.html").read_text()
+    (tmp_path / "page.html").write_text(text.replace("\nAGFzbQ", "\nBGFzbQ"))
+    chromium.get((tmp_path / "page.html").as_uri())
+    page = Page(chromium)
+    page.wait(lambda: "Firefox from 134" in page.one("#unable").text)

@@ -1,0 +1,90 @@
+// The page's worker: hashes files and texts, and tells how far it is. `load` is that of sketch_hash.mjs.
+//
+// It takes {wasm}, once; {id, file, seed} or {id, text, seed}; and {stop: id}. It answers {ready} or
+// {unable}, and of an id {done} bytes, {xxh64, murmur3}, {fault} or {stopped}.
+
+const READ = 4 << 20; // read at a time
+const AT_ONCE = 4;     // files that are read at the same time
+
+const waiting = [];
+const running = new Map();
+let loaded;
+
+onmessage = async ({ data }) => {
+    if (data.wasm) return begin(data.wasm);
+    if ('stop' in data) return stop(data.stop);
+    if ('text' in data) return postMessage({ id: data.id, ...hashText(data) });
+    waiting.push(data);
+    next();
+};
+
+async function begin(wasm) {
+    try {
+        loaded = await load(wasm);
+        postMessage({ ready: true });
+        next();
+    } catch (error) {
+        postMessage({ unable: error.message });
+    }
+}
+
+function hashText({ text, seed }) {
+    const hashers = begun(seed);
+    hashers.update(new TextEncoder().encode(text));
+    return hashers.answer();
+}
+
+// Both hashers of one input.
+function begun(seed) {
+    const both = [new loaded.Xxh64(seed), new loaded.Murmur3X64_128(seed)];
+    return {
+        update: (bytes) => both.forEach((hasher) => hasher.update(bytes)),
+        answer: () => ({ xxh64: both[0].hexdigest(), murmur3: both[1].hexdigest() }),
+    };
+}
+
+function stop(id) {
+    const at = waiting.findIndex((job) => job.id === id);
+    if (at >= 0) {
+        waiting.splice(at, 1);
+        postMessage({ id, stopped: true });
+    } else if (running.has(id)) {
+        running.get(id).isStopped = true;
+    }
+}
+
+function next() {
+    while (loaded && waiting.length > 0 && running.size < AT_ONCE) {
+        const job = waiting.shift();
+        running.set(job.id, job);
+        hashFile(job).then(
+            (answer) => postMessage({ id: job.id, ...answer }),
+            (error) => postMessage({ id: job.id, fault: error.message || String(error) }),
+        ).finally(() => {
+            running.delete(job.id);
+            next();
+        });
+    }
+}
+
+// The next piece is read while this one is hashed.
+async function hashFile(job) {
+    const hashers = begun(job.seed);
+    const read = (at) => job.file.slice(at, at + READ).arrayBuffer();
+    let told = 0;
+    let reading = read(0);
+    for (let at = 0; at < job.file.size; at += READ) {
+        const piece = await reading;
+        if (job.isStopped) return { stopped: true };
+        if (piece.byteLength !== Math.min(READ, job.file.size - at)) throw new Error('the file has changed');
+        reading = read(at + READ);
+        reading.catch(() => {}); // told where it is awaited
+        hashers.update(piece);
+        if (performance.now() > told + 100) {
+            told = performance.now();
+            postMessage({ id: job.id, done: at + piece.byteLength });
+        }
+    }
+    await reading;
+    return hashers.answer();
+}

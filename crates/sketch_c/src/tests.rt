@@ -1,0 +1,66 @@
+//! The calls together, as a program in C makes them: proved from their contracts alone, and run.
+
+ghost use Rattle.std.specs.Prelude.{◌≡◌, ◌++◌};
+ghost use Rattle.sketch_hash.specs.Murmur.{murmur};
+ghost use Rattle.sketch_hash.specs.Xxh64.{xxh64};
+
+use crate::{
+    Murmur128, sketch_hash_version, sketch_murmur3_x64_128_digest, sketch_murmur3_x64_128_reset,
+    sketch_murmur3_x64_128_update, sketch_xxh64_digest, sketch_xxh64_reset, sketch_xxh64_u64,
+    sketch_xxh64_update,
+};
+use sketch_hash::hash::{MurmurHash3X64128, MurmurState, XxHash64, XxHash64State};
+
+/// XXH64 of a stream in two pieces, whatever the state held before.
+fn xxh64_of_two(state: &mut XxHash64State, seed: u64, front: &[u8], back: &[u8]) -> u64
+    ensures { result ≡ xxh64 seed (front.now ++ back.now) }
+{
+    sketch_xxh64_reset(state, seed);
+    sketch_xxh64_update(state, front);
+    sketch_xxh64_update(state, back);
+    sketch_xxh64_digest(state)
+}
+
+/// MurmurHash3 x64 128 of a stream in two pieces, whatever the state held before.
+fn murmur_of_two(state: &mut MurmurState, seed: u64, front: &[u8], back: &[u8]) -> Murmur128
+    ensures { (result.h1, result.h2) ≡ murmur seed (front.now ++ back.now) }
+{
+    sketch_murmur3_x64_128_reset(state, seed);
+    sketch_murmur3_x64_128_update(state, front);
+    sketch_murmur3_x64_128_update(state, back);
+    sketch_murmur3_x64_128_digest(state)
+}
+
+#[test]
+fn a_sentence_in_two_pieces(rt: HostRuntime) {
+    let mut state = XxHash64::with_seed(7).state();
+    let hash = xxh64_of_two(
+        &mut state,
+        0,
+        b"The quick brown fox ",
+        b"jumps over the lazy dog",
+    );
+    assert_eq!(rt; hash, 0x0b24_2d36_1fda_71bc);
+    let mut state = MurmurHash3X64128::with_seed(7).state();
+    let pair = murmur_of_two(
+        &mut state,
+        0,
+        b"The quick brown fox ",
+        b"jumps over the lazy dog",
+    );
+    assert_eq!(rt; pair.h1, 0xe34b_bc7b_bc07_1b6c);
+    assert_eq!(rt; pair.h2, 0x7a43_3ca9_c49a_9347);
+}
+
+#[test]
+fn a_number_is_its_eight_bytes(rt: HostRuntime) {
+    let mut state = XxHash64::with_seed(7).state();
+    let hash = xxh64_of_two(
+        &mut state,
+        9001,
+        &[0x1f, 0x2e, 0x3d],
+        &[0x4c, 0x5b, 0x6a, 0x79, 0x88],
+    );
+    assert_eq!(rt; sketch_xxh64_u64(0x8879_6a5b_4c3d_2e1f, 9001), hash);
+    assert_eq!(rt; sketch_hash_version(), 10_000);
+}

@@ -1,0 +1,106 @@
+/* sketch_hash 1.0.0: XXH64 and MurmurHash3_x64_128 of bytes, from functions that are proved.
+ *
+ * Proved of the library: for every seed, and however a stream is cut into updates, a digest is the
+ * published hash of all bytes since the last reset; no call allocates, fails, or reads or writes
+ * outside of what it is given; and every content of a state is safe, even noise.
+ *
+ * What a caller owes, which no compiler checks:
+ *   - A state starts by its _INIT or its _reset. A state of zeros is safe, but XXH64 of it is
+ *     wrong from 32 bytes on.
+ *   - A pointer to a state is valid, and nothing else touches the state during a call.
+ *   - `input` points to `length` readable bytes that stay as they are during the call and do not
+ *     overlap the state. It may be NULL only if `length` is 0. `length` is below 2^63.
+ *
+ * A state owns nothing: declare it, copy it by assignment, write it to a file of the same kind of
+ * machine, forget it. Threads may share the library, and each state needs one owner at a time.
+ *
+ * Licence: Apache-2.0.
+ */
+#ifndef SKETCH_HASH_H
+#define SKETCH_HASH_H
+
+#include <stddef.h>
+#include <stdint.h>
+
+#ifdef __cplusplus
+extern "C" {
+#endif
+
+/* 1.0.0: major * 10000 + minor * 100 + patch. The function answers that of the library. */
+#define SKETCH_HASH_VERSION 10000
+uint32_t sketch_hash_version(void);
+
+/* ---- XXH64, after Yann Collet's xxHash specification. As hexadecimal: printf("%016" PRIx64). */
+
+typedef struct sketch_xxh64_state {
+    uint64_t seed, v1, v2, v3, v4;
+    uint64_t total;            /* bytes since the reset, modulo 2^64 */
+    unsigned char waiting[32]; /* the first total % 32 are bytes of the stream */
+} sketch_xxh64_state_t;
+
+/* The same state as after a reset. It names `seed` four times. */
+#define SKETCH_XXH64_INIT(seed)                                                                   \
+    {                                                                                             \
+        (uint64_t)(seed), (uint64_t)(seed) + SKETCH_XXH64_PRIME1 + SKETCH_XXH64_PRIME2,           \
+            (uint64_t)(seed) + SKETCH_XXH64_PRIME2, (uint64_t)(seed),                             \
+            (uint64_t)(seed)-SKETCH_XXH64_PRIME1, 0, { 0 }                                        \
+    }
+
+/* In one call, of bytes, and of the eight bytes of a number as a little-endian machine has them. */
+uint64_t sketch_xxh64(const void *input, size_t length, uint64_t seed);
+uint64_t sketch_xxh64_u64(uint64_t value, uint64_t seed);
+
+void sketch_xxh64_reset(sketch_xxh64_state_t *state, uint64_t seed);
+void sketch_xxh64_update(sketch_xxh64_state_t *state, const void *input, size_t length);
+uint64_t sketch_xxh64_digest(const sketch_xxh64_state_t *state);
+
+/* ---- MurmurHash3_x64_128, after Austin Appleby, with a seed of 64 bits.
+ * A seed below 2^32 gives the hash that the original gives under it.
+ * As hexadecimal: h1, then h2, each of 16 digits with the highest first, "%016" PRIx64 "%016"
+ * PRIx64. Other tools print the 16 bytes as they lie in memory: there each word's bytes are the
+ * other way round. */
+
+typedef struct sketch_murmur3_x64_128_hash {
+    uint64_t h1, h2; /* out[0] and out[1] of the original */
+} sketch_murmur3_x64_128_hash_t;
+
+typedef struct sketch_murmur3_x64_128_state {
+    uint64_t h1, h2;
+    uint64_t total;            /* bytes since the reset, modulo 2^64 */
+    unsigned char waiting[16]; /* the first total % 16 are bytes of the stream */
+} sketch_murmur3_x64_128_state_t;
+
+/* The same state as after a reset. It names `seed` twice. */
+#define SKETCH_MURMUR3_X64_128_INIT(seed)                                                         \
+    {                                                                                             \
+        (uint64_t)(seed), (uint64_t)(seed), 0, { 0 }                                              \
+    }
+
+sketch_murmur3_x64_128_hash_t sketch_murmur3_x64_128(const void *input, size_t length,
+                                                     uint64_t seed);
+
+void sketch_murmur3_x64_128_reset(sketch_murmur3_x64_128_state_t *state, uint64_t seed);
+void sketch_murmur3_x64_128_update(sketch_murmur3_x64_128_state_t *state, const void *input,
+                                   size_t length);
+sketch_murmur3_x64_128_hash_t
+sketch_murmur3_x64_128_digest(const sketch_murmur3_x64_128_state_t *state);
+
+/* ---- For the initializers, and the layouts that the library was built for: with another one an
+ * array below has the size -1, and does not compile. */
+
+#define SKETCH_XXH64_PRIME1 (((uint64_t)0x9E3779B1u << 32) | (uint64_t)0x85EBCA87u)
+#define SKETCH_XXH64_PRIME2 (((uint64_t)0xC2B2AE3Du << 32) | (uint64_t)0x27D4EB4Fu)
+
+typedef char sketch_hash_xxh64_state_has_no_padding
+    [sizeof(sketch_xxh64_state_t) == 80 && offsetof(sketch_xxh64_state_t, waiting) == 48 ? 1 : -1];
+typedef char sketch_hash_murmur3_x64_128_state_has_no_padding
+    [sizeof(sketch_murmur3_x64_128_state_t) == 40 &&
+             offsetof(sketch_murmur3_x64_128_state_t, waiting) == 24
+         ? 1
+         : -1];
+
+#ifdef __cplusplus
+}
+#endif
+
+#endif

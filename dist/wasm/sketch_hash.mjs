@@ -1,0 +1,145 @@
+// sketch_hash 1.0.0: XXH64 and MurmurHash3 x64 128, from functions that are proved, for browsers and
+// Node. Licence: Apache-2.0.
+//
+//     import { load } from './sketch_hash.mjs';
+//     const { xxh64, Xxh64 } = await load();
+//     xxh64(new TextEncoder().encode('fox'), 0n);          // a BigInt
+//     new Xxh64(0n).update(first).update(second).hexdigest();
+//
+// Input is an ArrayBuffer or a view of one; a string is refused. A seed is a BigInt from 0n to
+// 2n ** 64n - 1n, and 0n if left out. sketch_hash.d.mts has the types.
+
+const PAGE = 65536;
+const PIECE = 4 * PAGE; // of the input that is copied into the module's memory at a time
+
+const UNABLE = 'This engine lacks WebAssembly with 64-bit memories. Chrome and Edge have them from 133 on, '
+    + 'Firefox from 134 on, Node from 24 on, and Node 20 under --experimental-wasm-memory64.';
+
+/** Loads the module: from sketch_hash.wasm beside this file, or from another URL or its bytes. */
+export async function load(source = new URL('sketch_hash.wasm', import.meta.url)) {
+    const bytes = source instanceof URL || typeof source === 'string' ? await read(source) : source;
+    if (!globalThis.WebAssembly?.validate(bytes)) throw new Error(UNABLE);
+    const { instance } = await WebAssembly.instantiate(bytes, {});
+    return library(instance.exports);
+}
+
+async function read(place) {
+    const url = new URL(place, import.meta.url);
+    if (url.protocol === 'file:' && globalThis.process?.versions?.node) {
+        return (await import('node:fs/promises')).readFile(url);
+    }
+    const response = await fetch(url);
+    if (!response.ok) throw new Error(`${url}: ${response.status} ${response.statusText}`);
+    return response.arrayBuffer();
+}
+
+/** The bytes of an input, without a copy. */
+function view(input) {
+    if (input instanceof ArrayBuffer) return new Uint8Array(input);
+    if (ArrayBuffer.isView(input)) return new Uint8Array(input.buffer, input.byteOffset, input.byteLength);
+    throw new TypeError('the input is an ArrayBuffer or a view of one; encode a string by TextEncoder');
+}
+
+function checked(seed) {
+    if (typeof seed !== 'bigint') throw new TypeError('a seed is a BigInt, as 0n');
+    if (seed !== BigInt.asUintN(64, seed)) throw new RangeError('a seed is from 0n to 2n ** 64n - 1n');
+    return seed;
+}
+
+function library(calls) {
+    // Behind the module's own data: a hash of 16 bytes, a state of up to 80 bytes, and the input.
+    const hash = (calls.__heap_base.value + 15n) & ~15n;
+    const state = hash + 16n;
+    const input = state + 80n;
+    grow(calls.memory, Number(input) + PIECE);
+    const memory = new Uint8Array(calls.memory.buffer);
+
+    // Runs a call over the input, piece by piece.
+    function pieces(bytes, call) {
+        for (let at = 0; at < bytes.length; at += PIECE) {
+            const piece = bytes.subarray(at, at + PIECE);
+            memory.set(piece, Number(input));
+            call(state, input, BigInt(piece.length));
+        }
+    }
+
+    function pair() {
+        const [h1, h2] = new BigUint64Array(memory.buffer, Number(hash), 2);
+        return h1 << 64n | h2;
+    }
+
+    // A stream, whose state is kept outside of the module's memory between calls.
+    class Stream {
+        #kind; #seed; #kept;
+
+        constructor(kind, seed = 0n) {
+            this.#kind = kind;
+            this.reset(seed);
+        }
+
+        get seed() { return this.#seed; }
+
+        reset(seed = this.#seed) {
+            this.#seed = checked(seed);
+            this.#kind.reset(state, seed);
+            this.#kept = memory.slice(Number(state), Number(state) + this.#kind.size);
+            return this;
+        }
+
+        update(bytes) {
+            const all = view(bytes);
+            memory.set(this.#kept, Number(state));
+            pieces(all, this.#kind.update);
+            this.#kept.set(memory.subarray(Number(state), Number(state) + this.#kind.size));
+            return this;
+        }
+
+        digest() {
+            memory.set(this.#kept, Number(state));
+            return this.#kind.digest(state);
+        }
+
+        hexdigest() { return this.digest().toString(16).padStart(this.#kind.digits, '0'); }
+
+        copy() {
+            const other = new this.constructor(this.#seed);
+            other.#kept.set(this.#kept);
+            return other;
+        }
+    }
+
+    const ofXxh64 = {
+        size: 80,
+        digits: 16,
+        reset: calls.sketch_xxh64_reset,
+        update: calls.sketch_xxh64_update,
+        digest: (state) => BigInt.asUintN(64, calls.sketch_xxh64_digest(state)),
+    };
+    const ofMurmur = {
+        size: 40,
+        digits: 32,
+        reset: calls.sketch_murmur3_x64_128_reset,
+        update: calls.sketch_murmur3_x64_128_update,
+        digest: (state) => { calls.sketch_murmur3_x64_128_digest(hash, state); return pair(); },
+    };
+    class Xxh64 extends Stream { constructor(seed) { super(ofXxh64, seed); } }
+    class Murmur3X64_128 extends Stream { constructor(seed) { super(ofMurmur, seed); } }
+    return {
+        Xxh64,
+        Murmur3X64_128,
+        xxh64: (bytes, seed) => new Xxh64(seed).update(bytes).digest(),
+        murmur3X64_128: (bytes, seed) => new Murmur3X64_128(seed).update(bytes).digest(),
+        version: calls.sketch_hash_version(),
+    };
+}
+
+// Makes the memory at least so long. Engines count its pages by BigInts, and early ones by numbers.
+function grow(memory, length) {
+    const pages = Math.max(Math.ceil((length - memory.buffer.byteLength) / PAGE), 0);
+    try {
+        memory.grow(BigInt(pages));
+    } catch (error) {
+        if (!(error instanceof TypeError)) throw error;
+        memory.grow(pages);
+    }
+}
