@@ -9,7 +9,7 @@ use Rattle.std.proofs.lemmas.List.Elements.{All-take, All-drop}
 use Rattle.sketch_base.specs.Bytes.{AreBytes}
 use Rattle.sketch_hash.specs.Words.{IsWord}
 use Rattle.sketch_hash.specs.Pieces.{pieces}
-use Rattle.sketch_hash.specs.Murmur.{step, block_words, blocks, tail, with_tail, ending, murmur}
+use Rattle.sketch_hash.specs.Murmur.{step, block_words, blocks, tail, with_tail, finalize, murmur}
 use Rattle.sketch_hash.specs.OneToOne.{OneToOne}
 use Rattle.sketch_hash.specs.Laws.{AreWords, IsBlock, PieceLaws, MurmurStepLaws}
 use Rattle.sketch_hash.specs.OneToOneLemmas.{◌▸◌, alike}
@@ -28,7 +28,7 @@ IsByte b = b < 256
 
 -- what is answered from a pair of words on, for the bytes that follow and the whole length
 onward : List ℕ → ℕ → ℕ × ℕ → ℕ × ℕ
-onward bytes n h = ending (with_tail (fold step h (blocks bytes)) (tail bytes)) (n % 2 ^ 64)
+onward bytes n h = finalize (with_tail (fold step h (blocks bytes)) (tail bytes)) (n % 2 ^ 64)
 
 onward-once : PieceLaws → MurmurStepLaws →
     (bytes : List ℕ) (n : ℕ) → AreBytes bytes → OneToOne AreWords AreWords (onward bytes n)
@@ -36,7 +36,7 @@ unfolding onward
 onward-once ps ms bytes n h =
     ms.steps_of_pair (blocks bytes) (ms.blocks_read bytes h)
     ▸ ms.tail_of_pair (tail bytes) (ps.rest_bytes 16 bytes h) (ps.rest_below 16 bytes (omega arith))
-    ▸ ms.ending_of_pair (n % 2 ^ 64) (length_word n)
+    ▸ ms.finalize_of_pair (n % 2 ^ 64) (length_word n)
 
 -- the pair of words after whole blocks
 pair_after : ℕ → List ℕ → ℕ × ℕ
@@ -112,7 +112,7 @@ murmur_seed_law ms = ms.steps_of_pair
 murmur-cut : PieceLaws → MurmurStepLaws →
     (seed i : ℕ) (before last : List ℕ) → length before ≡ 16 * i → length last < 16 →
     murmur seed (before ++ last)
-    ≡ ending (with_tail (pair_after seed before) last) ((length before + length last) % 2 ^ 64)
+    ≡ finalize (with_tail (pair_after seed before) last) ((length before + length last) % 2 ^ 64)
 unfolding onward
 murmur-cut ps ms seed i before last e l =
     murmur-aligned ps ms seed i before last e ∙ rw (ps.short_pieces 16 last l, ps.short_rest 16 last l) refl
@@ -131,10 +131,10 @@ cut_block-once ps ms seed i before a b p h j k e m l q =
     let tail_b = with_tail start b in
     let a_is = (ms.tail_of_pair a j l).lands start start_is in
     let b_is = (ms.tail_of_pair b k shorter).lands start start_is in
-    let one_end : ending tail_a n ≡ ending tail_b n =
+    let one_end : finalize tail_a n ≡ finalize tail_b n =
     sym (murmur-cut ps ms seed i before a e l) ∙ q ∙ murmur-cut ps ms seed i before b e shorter
-    ∙ ap (λ x. ending tail_b ((length before + x) % 2 ^ 64)) (sym m) in
-    let once = (ms.ending_of_pair n (length_word (length before + length a))).once in
+    ∙ ap (λ x. finalize tail_b ((length before + x) % 2 ^ 64)) (sym m) in
+    let once = (ms.finalize_of_pair n (length_word (length before + length a))).once in
     ms.tail_of_bytes start a b start_is j k m l (once tail_a tail_b a_is b_is one_end)
 
 -- ---- one stream, or one seed

@@ -10,7 +10,7 @@ use Rattle.std.proofs.lemmas.List.Elements.{All-take, All-drop, All-get_or}
 use Rattle.sketch_base.specs.Bytes.{AreBytes, eight}
 use Rattle.sketch_hash.specs.Words.{IsWord, plus}
 use Rattle.sketch_hash.specs.Pieces.{rest}
-use Rattle.sketch_hash.specs.Xxh64.{prime5, Lanes, lane, lanes, merge, stripes, tail_step, tail_steps, avalanche, ending, xxh64}
+use Rattle.sketch_hash.specs.Xxh64.{prime5, Lanes, lane, lanes, merge, stripes, tail_step, tail_steps, avalanche, finalize, xxh64}
 use Rattle.sketch_hash.specs.OneToOne.{OneToOne}
 use Rattle.sketch_hash.specs.Laws.{IsStep, widths, PieceLaws, Xxh64StepLaws}
 use Rattle.sketch_hash.specs.OneToOneLemmas.{◌▸◌, alike}
@@ -42,7 +42,7 @@ onward-once ps ss list p = ss.steps_of_word list p ▸ ss.last_mixing
 
 xxh64-is : (seed : ℕ) (bytes : List ℕ) →
     xxh64 seed bytes ≡ onward (tail_steps bytes) (tail_start (lanes seed bytes) (length bytes % 2 ^ 64))
-unfolding xxh64 ending onward tail_start
+unfolding xxh64 finalize onward tail_start
 xxh64-is seed bytes = refl
 
 tail_steps-are : PieceLaws → Xxh64StepLaws →

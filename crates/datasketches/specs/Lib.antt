@@ -6,6 +6,7 @@ pub mod Examples
 pub use Rattle.sketch_base.specs.Bytes
 pub use Rattle.sketch_base.specs.Checks
 pub use Rattle.sketch_base.specs.ErrorValue
+pub use Rattle.sketch_base.specs.ItemLaws
 pub use Rattle.sketch_base.specs.Items
 pub use Rattle.sketch_base.specs.Reading
 pub use Rattle.sketch_base.specs.Refusals
@@ -13,6 +14,7 @@ pub use Rattle.sketch_base.specs.WriterValue
 pub use Rattle.sketch_base.specs.Writing
 pub use Rattle.sketch_hash.specs.Held
 pub use Rattle.sketch_hash.specs.Murmur
+pub use Rattle.sketch_hash.specs.Laws as StepLaws
 pub use Rattle.sketch_hash.specs.MurmurWriteLemmas
 pub use Rattle.sketch_hash.specs.Pieces
 pub use Rattle.sketch_hash.specs.SeedHash

@@ -3,6 +3,8 @@
 
 ghost use Rattle.datasketches.specs.Examples.{Relations};
 
+pub use sketch_hash::examples::value_answers;
+
 /// Each range ends where it says, and each relation holds of a pair of streams, and not of one
 /// beside it. It does nothing: its contract is computed from the definitions.
 pub fn relations()

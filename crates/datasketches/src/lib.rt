@@ -8,3 +8,5 @@ pub use sketch_hash::hash;
 
 pub mod examples;
 pub mod laws;
+#[cfg(test)]
+mod tests;

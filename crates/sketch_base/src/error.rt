@@ -150,10 +150,13 @@ impl Error {
 
     /// The error with a text that was just made, or the one in place of a refusal that found no
     /// memory for its text: of kind `OutOfMemory`, with no message.
+    #[tactic(auto, unfolding(crate::specs::Refusals::Refuses))]
     pub fn from_text(alloc: Global, kind: ErrorKind, text: Result<String, AllocError>) -> Error
-        ensures { MatchResult text
+        ensures error { MatchResult text
             (λ message. result ≡ error_of kind (string_bytes message))
             (λ _. result ≡ memory_error) }
+        ensures refuses { (message : List ℕ) → IfOk text (λ made. string_bytes made ≡ message)
+            → Refuses kind message result }
     {
         match text {
             Ok(message) => Error::new(kind, message),
@@ -248,7 +251,6 @@ impl Error {
     }
 
     // Malformed data is refused, with a text that was just made.
-    #[tactic(auto, unfolding(crate::specs::Refusals::Refuses))]
     pub(crate) fn refusal(alloc: Global, text: Result<String, AllocError>) -> Error
         ensures { (message : List ℕ) → IfOk text (λ made. string_bytes made ≡ message)
             → Refuses ErrorKind.InvalidData message result }

@@ -19,9 +19,7 @@ pub struct Murmur128 {
 pub extern "C" fn sketch_murmur3_x64_128(input: &[u8], seed: u64) -> Murmur128
     ensures { (result.h1, result.h2) ≡ murmur seed input.now }
 {
-    let mut hasher = MurmurHash3X64128::with_seed(seed);
-    hasher.write(input);
-    let (h1, h2) = hasher.finish128();
+    let (h1, h2) = MurmurHash3X64128::hash(input, seed);
     Murmur128 { h1, h2 }
 }
 

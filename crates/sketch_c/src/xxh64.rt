@@ -12,9 +12,7 @@ use sketch_hash::hash::{Hasher, XxHash64, XxHash64State};
 pub extern "C" fn sketch_xxh64(input: &[u8], seed: u64) -> u64
     ensures { result ≡ xxh64 seed input.now }
 {
-    let mut hasher = XxHash64::with_seed(seed);
-    hasher.write(input);
-    hasher.finish64()
+    XxHash64::hash(input, seed)
 }
 
 /// XXH64 of the eight little-endian bytes of `value` under a seed.

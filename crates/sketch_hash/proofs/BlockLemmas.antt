@@ -2,7 +2,7 @@
 use Rattle.std.proofs.Common.{◌≡◌, ℕ, ◌^◌, ◌<◌, List, ◌++◌, length, take, drop, refl, sym, ap, ◌∙◌, arith, subst, mod-eq_of_lt}
 use Rattle.std.proofs.lemmas.List.{take_all, length-take-le, length-drop, take-append-drop, take_at, drop_at}
 use Rattle.std.proofs.lemmas.List.Elements.{All-take, All-drop, All-append}
-use Rattle.sketch_base.specs.Bytes.{AreBytes, le, low_bytes, eight}
+use Rattle.sketch_base.specs.Bytes.{le, low_bytes, eight}
 use Rattle.sketch_base.proofs.BytesLemmas.{le-lt, low_bytes-are, le-low_bytes, length-low_bytes, low_bytes-le}
 use Rattle.sketch_hash.specs.Words.{IsWord}
 use Rattle.sketch_hash.specs.Pieces.{word_at}

@@ -13,7 +13,7 @@ use Rattle.sketch_hash.specs.Held.{murmur_held, xxh64_held, MurmurHolds, Xxh64Ho
 use Rattle.sketch_hash.specs.Pieces.{State, absorb, state_after}
 use Rattle.sketch_hash.specs.Murmur.{murmur_after}
 use Rattle.sketch_hash.specs.Xxh64.{Lanes, xxh64_after}
-use Rattle.sketch_hash.proofs.PutLemmas.{put_taken}
+use Rattle.sketch_hash.proofs.CopyLemmas.{copy_taken}
 use Rattle.sketch_hash.proofs.PiecesLemmas.{length-rest}
 
 -- where as many bytes wait as the total has beyond the full pieces, it is so after a write
@@ -48,7 +48,7 @@ pub held-waits : (w total : ℕ) (buffer bytes : List ℕ) → ((n : ℕ) → n 
     ≡ take (total % w) buffer ++ bytes
 held-waits w total buffer bytes h few within =
     let count = h (total + length bytes) ∙ sym (mod-add-mod total w (length bytes)) ∙ mod-eq_of_lt few in
-    rw count (put_taken buffer bytes (total % w) within)
+    rw count (copy_taken buffer bytes (total % w) within)
 
 -- the first of a number's lowest bytes
 pub take-low_bytes : (count k n : ℕ) → take count (low_bytes (count + k) n) ≡ low_bytes count n

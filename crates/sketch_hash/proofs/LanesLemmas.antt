@@ -20,12 +20,12 @@ each_lane-more v stripes s =
     ∙ sym (fold-append stripe_step v stripes (s ∷ [])) ∙ fold-each_lane (stripes ++ s ∷ []) v
 
 -- a list of four lanes and the words of a stripe, one by one
-pub lanes_of-turn : (seed : ℕ) (v : List ℕ) (stripe : List ℕ) → length v ≡ 4 →
+pub lanes_of-stripe_round : (seed : ℕ) (v : List ℕ) (stripe : List ℕ) → length v ≡ 4 →
     lanes_of seed (zip2 round v (stripe_words stripe)) ≡ stripe_step (lanes_of seed v) stripe
 unfolding stripe_step
-lanes_of-turn seed [] stripe h = absurd (omega arith)
-lanes_of-turn seed (a ∷ []) stripe h = absurd (omega arith)
-lanes_of-turn seed (a ∷ b ∷ []) stripe h = absurd (omega arith)
-lanes_of-turn seed (a ∷ b ∷ c ∷ []) stripe h = absurd (omega arith)
-lanes_of-turn seed (a ∷ b ∷ c ∷ d ∷ []) stripe h = refl
-lanes_of-turn seed (a ∷ b ∷ c ∷ d ∷ e ∷ v) stripe h = absurd (omega arith)
+lanes_of-stripe_round seed [] stripe h = absurd (omega arith)
+lanes_of-stripe_round seed (a ∷ []) stripe h = absurd (omega arith)
+lanes_of-stripe_round seed (a ∷ b ∷ []) stripe h = absurd (omega arith)
+lanes_of-stripe_round seed (a ∷ b ∷ c ∷ []) stripe h = absurd (omega arith)
+lanes_of-stripe_round seed (a ∷ b ∷ c ∷ d ∷ []) stripe h = refl
+lanes_of-stripe_round seed (a ∷ b ∷ c ∷ d ∷ e ∷ v) stripe h = absurd (omega arith)

@@ -11,6 +11,7 @@ pub mod MurmurSteps
 pub mod Xxh64Steps
 pub mod TailSteps
 pub mod LanesLemmas
-pub mod PutLemmas
+pub mod CopyLemmas
 pub mod NumberLemmas
 pub mod HeldLemmas
+pub mod WriteLemmas

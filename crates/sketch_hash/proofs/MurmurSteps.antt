@@ -6,7 +6,7 @@ use Rattle.std.proofs.lemmas.List.Elements.{All-map, All-weaker, All-append, All
 use Rattle.sketch_base.specs.Bytes.{AreBytes}
 use Rattle.sketch_hash.specs.Words.{IsWord, plus, times, rotate}
 use Rattle.sketch_hash.specs.Pieces.{pieces}
-use Rattle.sketch_hash.specs.Murmur.{c1, c2, mix1, mix2, fmix, step1, step2, step, block_words, blocks, with_tail, cross, ending}
+use Rattle.sketch_hash.specs.Murmur.{c1, c2, mix1, mix2, fmix, step1, step2, step, block_words, blocks, with_tail, cross, finalize}
 use Rattle.sketch_hash.specs.OneToOne.{OneToOne}
 use Rattle.sketch_hash.specs.Laws.{AreWords, IsBlock, MurmurStepLaws}
 use Rattle.sketch_hash.specs.OneToOneLemmas.{◌▸◌, on_first, on_second, on_both, along}
@@ -76,9 +76,9 @@ cross-once : OneToOne AreWords AreWords cross
 cross-once = on_first plus plus-once ▸ on_second (λ h1 h2. plus h2 h1) plus-once
 
 -- the end, for one length
-pub ending-once : (n : ℕ) → IsWord n → OneToOne AreWords AreWords (λ h. ending h n)
-unfolding ending
-ending-once n p =
+pub finalize-once : (n : ℕ) → IsWord n → OneToOne AreWords AreWords (λ h. finalize h n)
+unfolding finalize
+finalize-once n p =
     let length_in = xor-once n p in
     on_both length_in length_in ▸ cross-once ▸ on_both fmix-once fmix-once ▸ cross-once
 
@@ -141,5 +141,5 @@ murmur_step_laws = record {
   blocks_read = blocks-are;
   steps_of_pair = steps-on_state;
   tail_of_bytes = with_tail-on_bytes;
-  ending_of_pair = ending-once;
+  finalize_of_pair = finalize-once;
 }

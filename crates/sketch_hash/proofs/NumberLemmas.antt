@@ -82,6 +82,38 @@ le-ends w bytes b low high =
     let quotient = le-drop (w + w - n) back (All-drop (λ x. x < 256) (n - w) bytes b) within in
     ap (λ v. le (take w bytes) + v * 256 ^ w) (sym quotient ∙ ap le behind) ∙ sym (le-cut w bytes low)
 
+-- of more than eight bytes, the number of those behind the first eight, from that of the last eight
+pub le-last : (bytes : List ℕ) → AreBytes bytes → 8 < length bytes → length bytes < 16 →
+    ◌≡◌ {A = ℕ × ℕ}
+    (le (take 8 bytes), le (drop (length bytes - 8) bytes) / 2 ^ (8 * (16 - length bytes)))
+    (le bytes % 2 ^ 64, le bytes / 2 ^ 64)
+le-last bytes b low high =
+    let n : ℕ = length bytes in
+    let first : ℕ = le (take 8 bytes) in
+    let last : ℕ = le (drop (n - 8) bytes) in
+    let below : first < 2 ^ 64 = le_take-lt 8 bytes b (omega arith) in
+    let behind : ℕ = last / 256 ^ (8 + 8 - n) in
+    let all : first + behind * 2 ^ 64 ≡ le bytes = le-ends 8 bytes b (omega arith) (omega arith) in
+    ap (λ p. (first, last / p)) (pow_eight (16 - n))
+    ∙ sym (ap (λ v. (v % 2 ^ 64, v / 2 ^ 64)) (sym all) ∙ parts first behind below)
+  where
+    parts : (a b : ℕ) → a < 2 ^ 64 →
+        ◌≡◌ {A = ℕ × ℕ} ((a + b * 2 ^ 64) % 2 ^ 64, (a + b * 2 ^ 64) / 2 ^ 64) (a, b)
+    parts a b p =
+        let low : (a + b * 2 ^ 64) % 2 ^ 64 ≡ a = omega arith in
+        let high : (a + b * 2 ^ 64) / 2 ^ 64 ≡ b = omega arith in
+        rw (low, high) refl
+
+-- at most eight bytes are a word
+pub le-word : (bytes : List ℕ) → AreBytes bytes → length bytes ≤ 8 → le bytes < 2 ^ 64
+le-word bytes b h = lt_of_lt_of_le (le-lt bytes b) (pow-le-pow_right {n = 256} (omega arith) h)
+
+pub le-few : (bytes : List ℕ) → AreBytes bytes → length bytes ≤ 8 →
+    ◌≡◌ {A = ℕ × ℕ} (le bytes, 0) (le bytes % 2 ^ 64, le bytes / 2 ^ 64)
+le-few bytes b h =
+    let below = le-word bytes b h in
+    rw (mod-eq_of_lt below, div-eq_of_lt below) refl
+
 pub bytes_known : (bytes : List ℕ) → ((i : ℕ) → Fits w8 (get_or bytes i 0)) → AreBytes bytes
 bytes_known bytes h = All-from_get_or (λ x. x < 256) bytes 0 (λ i l. (h i).fits)
 
@@ -120,25 +152,25 @@ le-block : (count n : ℕ) (bytes : List ℕ) → AreBytes bytes → n < 256 ^ c
     (n + le (take 16 bytes) * 2 ^ (8 * count) % 2 ^ 128) % 2 ^ 128
     ≡ le (low_bytes count n ++ take (16 - count) bytes)
 le-block count n bytes b h low high =
-    let room : ℕ = 16 - count in
-    let front : List ℕ = take room bytes in
+    let missing : ℕ = 16 - count in
+    let front : List ℕ = take missing bytes in
     let wide : List ℕ = take 16 bytes in
-    let behind : ℕ = le (drop room wide) in
-    let room_len : length front ≡ room = length-take-le room bytes (omega arith) in
-    let within : room ≤ length wide = room_within room bytes (omega arith) (omega arith) in
-    let cut : le wide ≡ le front + behind * 256 ^ room =
-    le-cut room wide within ∙ ap (λ t. le t + behind * 256 ^ room) (take-take room 16 bytes (omega arith)) in
-    let all : 256 ^ room * 256 ^ count ≡ 2 ^ 128 =
-    sym (pow-add 256 room count) ∙ ap (λ k. 256 ^ k) (whole count low) in
+    let behind : ℕ = le (drop missing wide) in
+    let missing_len : length front ≡ missing = length-take-le missing bytes (omega arith) in
+    let within : missing ≤ length wide = missing_within missing bytes (omega arith) (omega arith) in
+    let cut : le wide ≡ le front + behind * 256 ^ missing =
+    le-cut missing wide within ∙ ap (λ t. le t + behind * 256 ^ missing) (take-take missing 16 bytes (omega arith)) in
+    let all : 256 ^ missing * 256 ^ count ≡ 2 ^ 128 =
+    sym (pow-add 256 missing count) ∙ ap (λ k. 256 ^ k) (whole count low) in
     let block : List ℕ = low_bytes count n ++ front in
-    let front_are : AreBytes front = All-take (λ x. x < 256) room bytes b in
-    let size : length block ≡ 16 = joined-length count n front ∙ omega (arith, room_len) in
+    let front_are : AreBytes front = All-take (λ x. x < 256) missing bytes b in
+    let size : length block ≡ 16 = joined-length count n front ∙ omega (arith, missing_len) in
     let below : le block < 2 ^ 128 =
     subst (λ k. le block < 256 ^ k) size (le-lt block (joined-are count n front front_are)) in
     ap (λ p. (n + le wide * p % 2 ^ 128) % 2 ^ 128) (pow_eight count)
     ∙ add-mod-mod n (le wide * 256 ^ count) (2 ^ 128)
     ∙ ap (λ v. (n + v * 256 ^ count) % 2 ^ 128) cut
-    ∙ ap (λ v. v % 2 ^ 128) (spread n (le front) behind (256 ^ room) (256 ^ count)
+    ∙ ap (λ v. v % 2 ^ 128) (spread n (le front) behind (256 ^ missing) (256 ^ count)
     ∙ ap (λ p. n + le front * 256 ^ count + behind * p) all
     ∙ ap (λ v. v + behind * 2 ^ 128) (sym (le-joined count n front h)))
     ∙ add-mul-mod_self_right (le block) behind (2 ^ 128) ∙ mod-eq_of_lt below
@@ -149,8 +181,8 @@ le-block count n bytes b h low high =
     spread : (n a b p q : ℕ) → n + (a + b * p) * q ≡ n + a * q + b * (p * q)
     spread n a b p q = omega arith
 
-    room_within : (k : ℕ) (bytes : List ℕ) → k ≤ 16 → k ≤ length bytes → k ≤ length (take 16 bytes)
-    room_within k bytes m h = rw (length-take 16 bytes) (omega arith)
+    missing_within : (k : ℕ) (bytes : List ℕ) → k ≤ 16 → k ≤ length bytes → k ≤ length (take 16 bytes)
+    missing_within k bytes m h = rw (length-take 16 bytes) (omega arith)
 
 -- the two words of a block, from its number
 block_words-le : (block : List ℕ) → AreBytes block → length block ≡ 16 →
@@ -189,6 +221,13 @@ padded_words count n low h =
     le-padded (16 - length (low_bytes count n)) (low_bytes count n) ∙ le-low_bytes count n ∙ mod-eq_of_lt h in
     block_words-le (low_bytes count n ++ zeros) (joined-are count n zeros are) whole
     ∙ ap (λ v. (v % 2 ^ 64, v / 2 ^ 64)) number
+
+-- the same of the bytes themselves
+pub tail_words : (bytes : List ℕ) → AreBytes bytes → length bytes < 16 →
+    block_words (bytes ++ replicate (16 - length bytes) 0) ≡ (le bytes % 2 ^ 64, le bytes / 2 ^ 64)
+tail_words bytes b h =
+    ap (λ t. block_words (t ++ replicate (16 - length t) 0)) (sym (low_bytes-le bytes b))
+    ∙ padded_words (length bytes) (le bytes) h (le-lt bytes b)
 
 -- bytes behind those of a number, where all are fewer than 16
 kept-lt : (count n : ℕ) (bytes : List ℕ) → AreBytes bytes → n < 256 ^ count → count + length bytes < 16 →

@@ -1,14 +1,16 @@
 -- XXH64's definition as the code meets it: stripe by stripe, and the tail step by step.
-use Rattle.std.proofs.Common.{◌≡◌, ℕ, ◌<◌, ◌≤◌, List, [], ◌∷◌, length, take, drop, refl, ap, ◌∙◌, arith, map, length-drop, zero-add}
+use Rattle.std.proofs.Common.{◌≡◌, ℕ, ◌%◌, ◌^◌, ◌<◌, ◌≤◌, List, [], ◌∷◌, length, take, drop, refl, sym, ap, ◌∙◌, arith, map, length-drop, zero-add}
 use Rattle.std.specs.List.{fold}
 use Rattle.std.proofs.Math.Nat.{mod-eq_of_lt}
 use Rattle.std.proofs.lemmas.List.{map-id}
+use Rattle.std.proofs.lemmas.Bool.{lt-ltb, le-ltb}
 use Rattle.std.proofs.lemmas.List.Folds.{fold-map}
 use Rattle.sketch_base.specs.Bytes.{le, eight}
 use Rattle.sketch_base.proofs.BytesLemmas.{le-low_bytes}
 use Rattle.sketch_hash.specs.Pieces.{pieces, rest, State, absorb}
-use Rattle.sketch_hash.specs.Xxh64.{Lanes, prime5, lane, lanes_start, lanes, steps_of, steps, tail_step, eight_step, four_step, byte_step, avalanche, ending, xxh64, xxh64_start, xxh64_after, xxh64_answer, Xxh64Stands}
+use Rattle.sketch_hash.specs.Xxh64.{Lanes, prime5, lane, lanes_start, lanes, merge, steps_of, steps, tail_step, eight_step, four_step, byte_step, avalanche, finalize, xxh64, xxh64_start, xxh64_after, xxh64_answer, Xxh64Stands}
 use Rattle.sketch_hash.specs.Words.{IsWord, plus}
+use Rattle.sketch_hash.specs.Lanes.{each_lane}
 use Rattle.sketch_hash.proofs.LanesLemmas.{fold-each_lane}
 use Rattle.sketch_hash.proofs.PiecesLemmas.{pieces_short, rest_short, pieces-first, rest-first}
 
@@ -39,11 +41,19 @@ pub fold_eight : (hash : ℕ) (bytes : List ℕ) → 8 ≤ length bytes →
 unfolding tail_step
 fold_eight hash bytes h = ap (fold tail_step hash) (steps_eight bytes h)
 
--- of four to seven bytes, with a word of four
-pub fold_four : (hash : ℕ) (bytes : List ℕ) → 4 ≤ length bytes → length bytes < 8 →
+-- of sixteen bytes and more, with two
+pub fold_sixteen : (hash : ℕ) (bytes : List ℕ) → 16 ≤ length bytes →
+    fold tail_step hash (steps bytes)
+    ≡ fold tail_step (eight_step (eight_step hash (le (take 8 bytes))) (le (take 8 (drop 8 bytes))))
+    (steps (drop 8 (drop 8 bytes)))
+fold_sixteen hash bytes h =
+    let behind : 8 ≤ length (drop 8 bytes) = rw (length-drop 8 bytes) (omega arith) in
+    fold_eight hash bytes (omega arith) ∙ fold_eight (eight_step hash (le (take 8 bytes))) (drop 8 bytes) behind
+
+pub fold_word : (hash : ℕ) (bytes : List ℕ) → 4 ≤ length bytes → length bytes < 8 →
     fold tail_step hash (steps bytes) ≡ fold byte_step (four_step hash (le (take 4 bytes))) (drop 4 bytes)
 unfolding steps tail_step
-fold_four hash bytes low high =
+fold_word hash bytes low high =
     let short : length (drop 4 bytes) < 4 = rw (length-drop 4 bytes) (omega arith) in
     let no_eight = pieces_short 8 bytes high in
     let all = rest_short 8 bytes high in
@@ -66,6 +76,14 @@ fold_short hash bytes h =
     let singles = steps_of_one bytes in
     rw (no_eight, all, no_four, behind, singles) (fold-map tail_step (λ b. (1, b)) hash bytes)
 
+-- of four to seven bytes, with a word of four
+pub fold_four : (hash : ℕ) (bytes : List ℕ) → 4 ≤ length bytes → length bytes < 8 →
+    fold tail_step hash (steps bytes)
+    ≡ fold tail_step (four_step hash (le (take 4 bytes))) (steps (drop 4 bytes))
+fold_four hash bytes low high =
+    let short : length (drop 4 bytes) < 4 = rw (length-drop 4 bytes) (omega arith) in
+    fold_word hash bytes low high ∙ sym (fold_short (four_step hash (le (take 4 bytes))) (drop 4 bytes) short)
+
 -- ---- the whole
 
 -- the definition of the whole bytes
@@ -82,9 +100,29 @@ pub xxh64_answer-stands : (seed : ℕ) (bytes : List ℕ) (state : State Lanes) 
     Xxh64Stands state seed bytes → xxh64_answer state ≡ xxh64 seed bytes
 xxh64_answer-stands seed bytes state stands = ap xxh64_answer stands ∙ xxh64_answer-after seed bytes
 
+-- fewer bytes than a stripe start from the seed
+pub xxh64-short : (seed : ℕ) (bytes : List ℕ) → length bytes < 32 →
+    xxh64 seed bytes ≡ avalanche (fold tail_step (plus (plus seed prime5) (length bytes)) (steps bytes))
+unfolding xxh64 finalize lanes
+xxh64-short seed bytes h =
+    let count : length bytes % 2 ^ 64 ≡ length bytes = mod-eq_of_lt (omega (arith, h)) in
+    let short = lt-ltb (length bytes) 32 h in
+    let all = rest_short 32 bytes h in
+    rw (count, short, all) refl
+
+-- a stripe and more start from the lanes
+pub xxh64-long : (seed : ℕ) (bytes : List ℕ) → 32 ≤ length bytes → length bytes < 2 ^ 64 →
+    xxh64 seed bytes ≡ avalanche (fold tail_step
+    (plus (merge (each_lane (lanes_start seed) (pieces 32 bytes))) (length bytes)) (steps (rest 32 bytes)))
+unfolding xxh64 finalize lanes lane lanes_start
+xxh64-long seed bytes h w =
+    let count : length bytes % 2 ^ 64 ≡ length bytes = mod-eq_of_lt w in
+    let long = le-ltb (length bytes) 32 h in
+    rw (count, long) refl
+
 -- eight bytes are one step of the tail
 pub xxh64-eight : (seed x : ℕ) → IsWord x →
     xxh64 seed (eight x) ≡ avalanche (eight_step (plus (plus seed prime5) 8) x)
-unfolding xxh64 ending lanes lanes_start pieces rest steps tail_step
+unfolding xxh64 finalize lanes lanes_start pieces rest steps tail_step
 xxh64-eight seed x p = ap (λ word. avalanche (eight_step (plus (plus seed prime5) 8) word))
     (le-low_bytes 8 x ∙ mod-eq_of_lt p)

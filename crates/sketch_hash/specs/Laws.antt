@@ -6,7 +6,7 @@ use Rattle.sketch_base.specs.Bytes.{AreBytes, le, eight}
 use Rattle.sketch_hash.specs.OneToOne.{OneToOne}
 use Rattle.sketch_hash.specs.Words.{IsWord, plus}
 use Rattle.sketch_hash.specs.Pieces.{pieces, rest}
-use Rattle.sketch_hash.specs.Murmur.{mix1, mix2, fmix, block_words, blocks, step, with_tail, ending}
+use Rattle.sketch_hash.specs.Murmur.{mix1, mix2, fmix, block_words, blocks, step, with_tail, finalize}
 use Rattle.sketch_hash.specs.Xxh64.{prime5, steps, tail_step, eight_step, avalanche, xxh64}
 
 -- a pair of words
@@ -62,7 +62,7 @@ pub record MurmurStepLaws : Type 0 where
       OneToOne AreWords AreWords (λ h. fold step h blocks)
   pub tail_of_bytes : (h : ℕ × ℕ) (a b : List ℕ) → AreWords h → AreBytes a → AreBytes b →
       length a ≡ length b → length a < 16 → with_tail h a ≡ with_tail h b → a ≡ b
-  pub ending_of_pair : (n : ℕ) → IsWord n → OneToOne AreWords AreWords (λ h. ending h n)
+  pub finalize_of_pair : (n : ℕ) → IsWord n → OneToOne AreWords AreWords (λ h. finalize h n)
 
 -- XXH64: a step of the tail takes all words to all words whichever number it reads. From each word,
 -- and at each width, it takes all words, as the number that it reads, to all words. So does the

@@ -6,7 +6,7 @@ pub mod MurmurWriteLemmas
 pub mod Xxh64
 pub mod Xxh64WriteLemmas
 pub mod Lanes
-pub mod FourWords
+pub mod ScalarLanes
 pub mod Held
 pub mod Values
 pub mod Lending

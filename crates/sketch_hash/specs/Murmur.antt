@@ -59,15 +59,15 @@ abbrev pub cross : ℕ × ℕ → ℕ × ℕ
 cross h = (plus h.0 h.1, plus h.1 (plus h.0 h.1))
 
 -- the end, for an input of n bytes modulo 2 ^ 64
-unfoldable pub ending : ℕ × ℕ → ℕ → ℕ × ℕ
-ending h n =
+unfoldable pub finalize : ℕ × ℕ → ℕ → ℕ × ℕ
+finalize h n =
     let sums = cross (xor h.0 n, xor h.1 n) in
     cross (fmix sums.0, fmix sums.1)
 
 -- the hash of the bytes under a seed
 unfoldable pub murmur : ℕ → List ℕ → ℕ × ℕ
 murmur seed bytes =
-    ending (with_tail (fold step (seed, seed) (blocks bytes)) (tail bytes)) (length bytes % 2 ^ 64)
+    finalize (with_tail (fold step (seed, seed) (blocks bytes)) (tail bytes)) (length bytes % 2 ^ 64)
 
 -- ---- a hasher that is written to piece by piece
 
@@ -81,7 +81,7 @@ murmur_after state bytes = state_after 16 block_words step state bytes
 
 -- what a hasher in a state answers, both words
 unfoldable pub murmur_answer : State (ℕ × ℕ) → ℕ × ℕ
-murmur_answer state = ending (with_tail state.folded state.waiting) state.total
+murmur_answer state = finalize (with_tail state.folded state.waiting) state.total
 
 -- the state is that of a hasher with the seed to which the bytes were written, in any pieces
 abbrev pub MurmurStands : State (ℕ × ℕ) → ℕ → List ℕ → Type 0

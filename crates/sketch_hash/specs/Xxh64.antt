@@ -67,15 +67,15 @@ lanes seed bytes =
     }
 
 -- one lane enters the hash
-unfoldable pub merge_lane : ℕ → ℕ → ℕ
-merge_lane h v = plus (times (xor h (round 0 v)) prime1) prime4
+unfoldable pub merge_round : ℕ → ℕ → ℕ
+merge_round h v = plus (times (xor h (round 0 v)) prime1) prime4
 
 -- the four lanes become one word
 unfoldable pub merge : Lanes → ℕ
 merge v =
     let first = plus (rotate v.v1 1) (rotate v.v2 7) in
     let sum = plus (plus first (rotate v.v3 12)) (rotate v.v4 18) in
-    merge_lane (merge_lane (merge_lane (merge_lane sum v.v1) v.v2) v.v3) v.v4
+    merge_round (merge_round (merge_round (merge_round sum v.v1) v.v2) v.v3) v.v4
 
 -- ---- the tail
 
@@ -120,14 +120,14 @@ avalanche h =
 
 -- The hash of n bytes, n modulo 2 ^ 64, from their lanes and the bytes behind the stripes. It takes
 -- the lanes where n is at least 32, and the seed alone where it is less.
-unfoldable pub ending : Lanes → ℕ → List ℕ → ℕ
-ending v n waiting =
+unfoldable pub finalize : Lanes → ℕ → List ℕ → ℕ
+finalize v n waiting =
     let h = if nat_lt n 32 then plus v.seed prime5 else merge v in
     avalanche (fold tail_step (plus h n) (steps waiting))
 
 -- the hash of the bytes under a seed
 unfoldable pub xxh64 : ℕ → List ℕ → ℕ
-xxh64 seed bytes = ending (lanes seed bytes) (length bytes % 2 ^ 64) (rest 32 bytes)
+xxh64 seed bytes = finalize (lanes seed bytes) (length bytes % 2 ^ 64) (rest 32 bytes)
 
 -- ---- a hasher that is written to piece by piece
 
@@ -151,7 +151,7 @@ xxh64_after state bytes = state_after 32 (λ stripe. stripe) stripe_step state b
 
 -- what a hasher in a state answers
 unfoldable pub xxh64_answer : State Lanes → ℕ
-xxh64_answer state = ending state.folded state.total state.waiting
+xxh64_answer state = finalize state.folded state.total state.waiting
 
 -- the state is that of a hasher with the seed to which the bytes were written, in any pieces
 abbrev pub Xxh64Stands : State Lanes → ℕ → List ℕ → Type 0

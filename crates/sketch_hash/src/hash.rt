@@ -1,11 +1,9 @@
 //! Hashing for sketches: a trait for hashers with its laws, and the two hashers.
 
+mod copy;
 mod hasher;
-mod lanes;
 mod murmurhash;
-mod put;
 mod seed;
-mod tail;
 pub mod value;
 mod words;
 mod xxhash;

@@ -5,3 +5,5 @@
 pub mod examples;
 pub mod hash;
 pub mod laws;
+#[cfg(test)]
+mod tests;

@@ -9,5 +9,7 @@ pub mod examples;
 pub mod laws;
 mod limits;
 mod table;
+#[cfg(test)]
+mod tests;
 
 pub use self::table::{MEMBER, MemberTable};

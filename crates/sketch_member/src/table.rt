@@ -4,7 +4,7 @@ ghost use Rattle.std.specs.Prelude.{◌≡◌, ◌⊎◌, ℕ, ◌*◌, ◌<◌,
 ghost use Rattle.datasketches.specs.ErrorValue.{memory_error};
 ghost use Rattle.datasketches.specs.Refusals.{Refuses};
 ghost use Rattle.sketch_member.specs.Limits.{IsLog2Bits, IsHashes, invalid_log2_bits_text, invalid_hashes_text};
-ghost use Rattle.sketch_member.specs.Table.{Table, IsTable, byte_count, empty_table, index, one_more, Inserts, IsMember, IsSet};
+ghost use Rattle.sketch_member.specs.Table.{Table, IsTable, byte_count, empty_table, index, one_more, Inserts, IsIndex, IsMember, IsSet};
 
 use crate::bits::{is_set, set};
 use crate::limits::{ensure_hashes, ensure_log2_bits};
@@ -90,15 +90,13 @@ impl MemberTable {
         ensures { Inserts (T.fed value.now) self.old self.new }
     {
         self.count = one_more(self.count);
-        for j in 0..self.hashes {
-            let i = self.index(value, j);
-            set(&mut self.bits, i);
-        }
+        self.set_bits(value);
     }
 
     /// Whether all bits at the value's indexes are set, as they are once it was inserted.
     pub fn contains<T: Hash>(&self, value: &T) -> bool
-        ensures { IsTrue result ↔ IsMember self.now (T.fed value.now) }
+        ensures is_member { IsTrue result ↔ IsMember self.now (T.fed value.now) }
+        ensures is_table { IsTable self.now }
     {
         for j in 0..self.hashes {
             if !is_set(&self.bits, self.index(value, j)) {
@@ -113,6 +111,18 @@ impl MemberTable {
         ensures { result ≡ self.now.count }
     {
         self.count
+    }
+
+    // Sets the bits at the value's indexes, and changes nothing else.
+    fn set_bits<T: Hash>(&mut self, value: &T)
+        ensures rest { self.new ≡ record self.old { bits = self.new.bits } }
+        ensures bits { (i : ℕ) → IsSet self.new.bits i
+            ↔ (IsSet self.old.bits i ⊎ IsIndex self.old (T.fed value.now) i) }
+    {
+        for j in 0..self.hashes {
+            let i = self.index(value, j);
+            set(&mut self.bits, i);
+        }
     }
 
     // The value's index of number `j`.

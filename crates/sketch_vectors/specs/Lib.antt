@@ -1,4 +1,2 @@
 pub mod FirstBytes
 pub mod FirstBytesLemmas
-pub mod Callers
-pub mod Examples

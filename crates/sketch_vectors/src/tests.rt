@@ -1,20 +1,16 @@
 ghost use Rattle.std.specs.Prelude.{IsTrue};
 
 mod both;
-mod codec;
 mod cuts;
 mod equalities;
-mod error;
 mod fed;
-mod hash;
-mod laws;
-pub(crate) mod refusals;
 mod samples;
 mod table;
-mod value;
 mod vectors;
 
-use std::fmt::Debug;
+use datasketches::error::Error;
+use std::fmt::{Debug, Display};
+use std::io::{Eprint, Write};
 use std::process::Abort;
 
 /// The sentence that hashes are shown on, and its hashes under seed 0.
@@ -42,4 +38,20 @@ pub(crate) fn assert_same_for<T: PartialEq + Debug + Drop>(
     ensures { IsTrue (T.eq left right) }
 {
     assert_eq!(rt; left, right, "for {case:?}");
+}
+
+/// Whether a value prints exactly this text, of at most 256 bytes. Asks for no memory.
+pub(crate) fn prints<D: Display + Drop>(value: D, text: &str) -> bool {
+    let mut printed = [0; 256];
+    let mut rest = printed.as_mut_slice();
+    let is_whole = rest.write_fmt(value).is_ok();
+    let count = 256usize.saturating_sub(rest.len());
+    is_whole && printed.get(..count) == Some(text.as_bytes())
+}
+
+/// Asserts that an error displays as memory that ran out, and tells the sweep so. It fails a test
+/// that tells so where no request was refused.
+pub(crate) fn assert_out_of_memory<R: Abort + Eprint>(rt: &R, error: &Error) {
+    let _ = rt.eprintln("out of memory");
+    assert_same(rt, prints(error, "OutOfMemory"), true);
 }

@@ -4,15 +4,16 @@ ghost use Rattle.std.specs.Prelude.{◌≡◌, ℕ, ◌+◌, ◌-◌, ◌*◌, �
 ghost use Rattle.std.specs.List.{fold};
 ghost use Rattle.sketch_base.specs.Bytes.{le, low_bytes};
 ghost use Rattle.sketch_hash.specs.Pieces.{State};
-ghost use Rattle.sketch_hash.specs.Murmur.{mix1, mix2, fmix, step, ending, block_words, murmur, murmur_after, murmur_answer, MurmurStands};
+ghost use Rattle.sketch_hash.specs.Murmur.{mix1, mix2, fmix, step, with_tail, finalize, block_words, murmur, murmur_after, murmur_answer, MurmurStands};
 ghost use Rattle.sketch_hash.specs.MurmurWriteLemmas.{murmur_after-append, murmur_after-empty};
 
 mod state;
+mod tail;
 
 pub use self::state::MurmurState;
+use self::tail::{join_words, read_partial_le, read_partial_words, split_words};
 use super::DEFAULT_UPDATE_SEED;
 use super::hasher::Hasher;
-use super::tail::read_few_le;
 use super::words::{read_u64_le, read_u128_le, rotate, xor_shift};
 use std::fmt;
 use std::marker::Model;
@@ -73,23 +74,36 @@ impl MurmurHash3X64128 {
         ensures stands { (seed : ℕ) (bytes : List ℕ) → MurmurStands self.now seed bytes →
             result ≡ murmur seed bytes }
     {
-        ending(
+        finalize(
             self.h1 ^ mix1(self.low),
             self.h2 ^ mix2(self.high),
             self.total,
         )
     }
 
+    /// The 128-bit hash of bytes under a seed, as its first and its second word, in one call.
+    ///
+    /// It reads the bytes where they lie, and is faster than a hasher for keys of any length.
+    #[inline(always)]
+    pub fn hash(bytes: &[u8], seed: u64) -> (u64, u64)
+        ensures { result ≡ murmur seed bytes.now }
+    {
+        let (blocks, tail) = bytes.as_chunks::<BLOCK>();
+        let (h1, h2) = fold_blocks(seed, seed, blocks);
+        let (h1, h2) = mix_tail(h1, h2, tail);
+        finalize(h1, h2, bytes.len() as u64)
+    }
+
     // Takes fewer bytes than a block has.
     #[inline(always)]
-    fn take_few(&mut self, bytes: &[u8])
+    fn write_partial(&mut self, bytes: &[u8])
         requires { length bytes.now < 16 }
         ensures { self.new ≡ murmur_after self.old bytes.now }
     {
         self.total = self.total.wrapping_add(bytes.len() as u64);
-        let number = read_few_le(bytes);
+        let number = read_partial_le(bytes);
         let waiting = join_words(self.low, self.high);
-        let (k1, k2) = words(waiting.wrapping_add(number << (8 * self.count)));
+        let (k1, k2) = split_words(waiting.wrapping_add(number << (8 * self.count)));
         let count = self.count + bytes.len();
         if count < BLOCK {
             (self.low, self.high) = (k1, k2);
@@ -97,7 +111,7 @@ impl MurmurHash3X64128 {
         } else {
             (self.h1, self.h2) = step(self.h1, self.h2, k1, k2);
             // What fell out of the block.
-            (self.low, self.high) = words(number >> (8 * (BLOCK - self.count)));
+            (self.low, self.high) = split_words(number >> (8 * (BLOCK - self.count)));
             self.count = count - BLOCK;
         }
     }
@@ -105,18 +119,18 @@ impl MurmurHash3X64128 {
     // Takes at least as many bytes as a block has: all blocks but the first straight from the
     // slice.
     #[inline(always)]
-    fn take_many(&mut self, bytes: &[u8])
+    fn write_blocks(&mut self, bytes: &[u8])
         requires { 16 ≤ length bytes.now }
         ensures { self.new ≡ murmur_after self.old bytes.now }
     {
         self.total = self.total.wrapping_add(bytes.len() as u64);
         // Of the first 16 bytes, those behind the block fall out.
         let first = read_u128_le(&bytes[..BLOCK]) << (8 * self.count);
-        let (k1, k2) = words(join_words(self.low, self.high).wrapping_add(first));
+        let (k1, k2) = split_words(join_words(self.low, self.high).wrapping_add(first));
         let (h1, h2) = step(self.h1, self.h2, k1, k2);
         let (blocks, last) = bytes[BLOCK - self.count..].as_chunks::<BLOCK>();
         (self.h1, self.h2) = fold_blocks(h1, h2, blocks);
-        (self.low, self.high) = words(read_few_le(last));
+        (self.low, self.high) = split_words(read_partial_le(last));
         self.count = last.len();
     }
 }
@@ -149,9 +163,9 @@ impl Hasher for MurmurHash3X64128 {
             MurmurStands self.new seed (before ++ bytes.now) }
     {
         if bytes.len() < BLOCK {
-            self.take_few(bytes);
+            self.write_partial(bytes);
         } else {
-            self.take_many(bytes);
+            self.write_blocks(bytes);
         }
     }
 
@@ -216,20 +230,20 @@ fn fold_blocks(mut h1: u64, mut h2: u64, blocks: &[[u8; BLOCK]]) -> (u64, u64)
     (h1, h2)
 }
 
-// The number of a block, from its two words.
+// The pair after the bytes behind the blocks. A word without bytes would change nothing.
 #[inline(always)]
-fn join_words(low: u64, high: u64) -> u128
-    ensures { result ≡ low + high * 2 ^ 64 }
+fn mix_tail(h1: u64, h2: u64, tail: &[u8]) -> (u64, u64)
+    requires { length tail.now < 16 }
+    ensures { result ≡ with_tail (h1, h2) tail.now }
 {
-    u128::from(low) + (u128::from(high) << 64)
-}
-
-// The two words of a block, from its number.
-#[inline(always)]
-fn words(number: u128) -> (u64, u64)
-    ensures { result ≡ (number % 2 ^ 64, number / 2 ^ 64) }
-{
-    ((number % (1 << 64)) as u64, (number >> 64) as u64)
+    if tail.is_empty() {
+        return (h1, h2);
+    }
+    let (k1, k2) = read_partial_words(tail);
+    if tail.len() <= 8 {
+        return (h1 ^ mix1(k1), h2);
+    }
+    (h1 ^ mix1(k1), h2 ^ mix2(k2))
 }
 
 #[inline(always)]
@@ -243,8 +257,8 @@ fn fmix(word: u64) -> u64
 
 // The hash of `total` bytes, from the pair that their blocks and their tail left.
 #[inline(always)]
-fn ending(h1: u64, h2: u64, total: u64) -> (u64, u64)
-    ensures { result ≡ ending (h1, h2) total }
+fn finalize(h1: u64, h2: u64, total: u64) -> (u64, u64)
+    ensures { result ≡ finalize (h1, h2) total }
 {
     let h1 = h1 ^ total;
     let h2 = h2 ^ total;

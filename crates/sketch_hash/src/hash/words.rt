@@ -29,9 +29,8 @@ pub(crate) fn read_u32_le(bytes: &[u8]) -> u32
     requires { length bytes.now ≡ 4 }
     ensures { result ≡ le bytes.now }
 {
-    let mut word = [0u8; 4];
-    word.copy_from_slice(bytes);
-    u32::from_le_bytes(word)
+    let (words, _) = bytes.as_chunks::<4>();
+    u32::from_le_bytes(words[0])
 }
 
 #[inline(always)]

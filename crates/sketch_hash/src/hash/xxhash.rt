@@ -1,33 +1,27 @@
 //! XXH64, after Yann Collet's xxHash specification.
 
-ghost use Rattle.std.specs.Prelude.{◌≡◌, ℕ, ◌+◌, ◌-◌, ◌%◌, ◌<◌, List, [], ◌++◌, nat_lt, length, take};
+ghost use Rattle.std.specs.Prelude.{◌≡◌, ℕ, ◌+◌, ◌-◌, ◌%◌, ◌<◌, ◌≤◌, List, [], ◌++◌, nat_lt, length, take};
 ghost use Rattle.std.specs.List.{fold};
 ghost use Rattle.sketch_base.specs.Bytes.{eight};
 ghost use Rattle.sketch_hash.specs.Pieces.{State};
-ghost use Rattle.sketch_hash.specs.Xxh64.{Lanes, round, merge_lane, merge, eight_step, four_step, byte_step, tail_step, steps, avalanche, xxh64, xxh64_after, xxh64_answer, Xxh64Stands};
-ghost use Rattle.sketch_hash.specs.Lanes.{lanes_of};
+ghost use Rattle.sketch_hash.specs.Xxh64.{Lanes, lanes_start, round, merge_round, merge, eight_step, four_step, byte_step, tail_step, steps, avalanche, xxh64, xxh64_after, xxh64_answer, Xxh64Stands};
+ghost use Rattle.sketch_hash.specs.ScalarLanes.{lanes_of_scalars};
+ghost use Rattle.sketch_hash.specs.Lanes.{each_lane, lanes_of};
 ghost use Rattle.sketch_hash.specs.Xxh64WriteLemmas.{xxh64_after-append, xxh64_after-empty};
 
+mod lanes;
+mod primes;
 mod state;
 
+use self::lanes::{ScalarLanes, StripeRound, consume, fold_stripes, fold_vector_run, round};
+use self::primes::{PRIME1, PRIME2, PRIME3, PRIME4, PRIME5};
 pub use self::state::XxHash64State;
+use super::copy::copy_small;
 use super::hasher::Hasher;
-use super::lanes::{Turn, fold_run, round};
-use super::put::put;
 use super::words::{read_u32_le, read_u64_le, rotate, xor_shift};
 use std::fmt;
 use std::marker::Model;
 use std::simd::prelude::*;
-
-pub(crate) const PRIME1: u64 = 0x9E37_79B1_85EB_CA87;
-
-pub(crate) const PRIME2: u64 = 0xC2B2_AE3D_27D4_EB4F;
-
-const PRIME3: u64 = 0x1656_67B1_9E37_79F9;
-
-const PRIME4: u64 = 0x85EB_CA77_C2B2_AE63;
-
-const PRIME5: u64 = 0x27D4_EB2F_1656_67C5;
 
 // The bytes of a stripe.
 const STRIPE: usize = 32;
@@ -92,6 +86,20 @@ impl XxHash64 {
         avalanche(fold_tail(hash.wrapping_add(self.total), &self.buffer[..self.count]))
     }
 
+    /// The 64-bit hash of bytes under a seed, in one call.
+    ///
+    /// It reads the bytes where they lie, and is faster than a hasher for keys of any length.
+    #[inline(always)]
+    pub fn hash(bytes: &[u8], seed: u64) -> u64
+        ensures { result ≡ xxh64 seed bytes.now }
+    {
+        if bytes.len() < STRIPE {
+            let hash = seed.wrapping_add(PRIME5).wrapping_add(bytes.len() as u64);
+            return avalanche(fold_rest(hash, bytes));
+        }
+        hash_long(bytes, seed)
+    }
+
     /// The 64-bit hash of the eight little-endian bytes of `input`, under a seed.
     #[inline(always)]
     pub fn hash_u64(input: u64, seed: u64) -> u64
@@ -113,21 +121,13 @@ impl XxHash64 {
     fn merge(&self) -> u64
         ensures { result ≡ merge self.now.folded }
     {
-        let [v1, v2, v3, v4] = self.lanes.to_array();
-        let sum = rotate::<1>(v1)
-            .wrapping_add(rotate::<7>(v2))
-            .wrapping_add(rotate::<12>(v3))
-            .wrapping_add(rotate::<18>(v4));
-        let hash = merge_lane(sum, v1);
-        let hash = merge_lane(hash, v2);
-        let hash = merge_lane(hash, v3);
-        merge_lane(hash, v4)
+        merge(ScalarLanes::from_vector(self.lanes))
     }
 
     // How many bytes the stripe that is begun still takes, or 0 where none is.
     #[inline(always)]
-    fn room(&self) -> usize
-        ensures room { result ≡ (32 - length self.now.waiting) % 32 }
+    fn missing_bytes(&self) -> usize
+        ensures missing { result ≡ (32 - length self.now.waiting) % 32 }
         ensures short { length self.now.waiting < 32 }
     {
         (STRIPE - self.count) % STRIPE
@@ -135,19 +135,19 @@ impl XxHash64 {
 
     // Takes bytes that fill no stripe.
     #[inline(always)]
-    fn keep(&mut self, bytes: &[u8])
+    fn buffer_bytes(&mut self, bytes: &[u8])
         requires { length self.old.waiting + length bytes.now < 32 }
         ensures { self.new ≡ xxh64_after self.old bytes.now }
     {
         self.total = self.total.wrapping_add(bytes.len() as u64);
         let count = self.count;
-        put(&mut self.buffer, count, bytes);
+        copy_small(&mut self.buffer, count, bytes);
         self.count = count + bytes.len();
     }
 
     // Takes the bytes that fill the stripe that is begun, and none where no stripe is begun.
     #[inline(always)]
-    fn fill(&mut self, bytes: &[u8])
+    fn complete_stripe(&mut self, bytes: &[u8])
         requires short { length self.old.waiting < 32 }
         requires fills { length bytes.now ≡ (32 - length self.old.waiting) % 32 }
         ensures after { self.new ≡ xxh64_after self.old bytes.now }
@@ -158,25 +158,39 @@ impl XxHash64 {
         }
         self.total = self.total.wrapping_add(bytes.len() as u64);
         let count = self.count;
-        put(&mut self.buffer, count, bytes);
+        copy_small(&mut self.buffer, count, bytes);
         self.count = 0;
         let mut lanes = self.lanes;
-        lanes.turn(&self.buffer);
+        lanes.stripe_round(&self.buffer);
         self.lanes = lanes;
     }
 
     // Takes whole stripes straight from the slice, and then the bytes behind them, where no byte
     // waits.
     #[inline(always)]
-    fn take(&mut self, bytes: &[u8])
+    fn consume_stripes(&mut self, bytes: &[u8])
         requires { self.old.waiting ≡ [] }
         ensures { self.new ≡ xxh64_after self.old bytes.now }
     {
         self.total = self.total.wrapping_add(bytes.len() as u64);
         let (stripes, last) = bytes.as_chunks::<STRIPE>();
-        self.lanes = fold_run(self.lanes, stripes);
-        put(&mut self.buffer, 0, last);
+        self.lanes = fold_vector_run(self.lanes, stripes);
+        copy_small(&mut self.buffer, 0, last);
         self.count = last.len();
+    }
+
+    // Takes bytes that go beyond the stripe that is begun. The lanes leave the vector once.
+    #[inline(never)]
+    fn complete_and_consume(&mut self, bytes: &[u8])
+        requires short { length self.old.waiting < 32 }
+        requires fills { (32 - length self.old.waiting) % 32 ≤ length bytes.now }
+        ensures { self.new ≡ xxh64_after self.old bytes.now }
+    {
+        self.total = self.total.wrapping_add(bytes.len() as u64);
+        let count = self.count;
+        let lanes = ScalarLanes::from_vector(self.lanes);
+        self.lanes = consume(lanes, &mut self.buffer, count, bytes).into_vector();
+        self.count = (count + bytes.len()) % STRIPE;
     }
 }
 
@@ -207,14 +221,18 @@ impl Hasher for XxHash64 {
         ensures stands { (seed : ℕ) (before : List ℕ) → Xxh64Stands self.old seed before →
             Xxh64Stands self.new seed (before ++ bytes.now) }
     {
-        let room = self.room();
-        if bytes.len() < room {
-            self.keep(bytes);
+        let missing = self.missing_bytes();
+        if bytes.len() < missing {
+            self.buffer_bytes(bytes);
             return;
         }
-        let (front, behind) = bytes.split_at(room);
-        self.fill(front);
-        self.take(behind);
+        if missing > 0 && bytes.len() > missing {
+            self.complete_and_consume(bytes);
+            return;
+        }
+        let (front, behind) = bytes.split_at(missing);
+        self.complete_stripe(front);
+        self.consume_stripes(behind);
     }
 
     #[inline(always)]
@@ -231,9 +249,48 @@ impl Hasher for XxHash64 {
     ghost empty_write = { xxh64_after-empty };
 }
 
+// The hash of a stripe of bytes and more. In a call of its own it costs that of short keys nothing.
+#[inline(never)]
+fn hash_long(bytes: &[u8], seed: u64) -> u64
+    requires { 32 ≤ length bytes.now }
+    ensures { result ≡ xxh64 seed bytes.now }
+{
+    let (stripes, last) = bytes.as_chunks::<STRIPE>();
+    let hash = merge_stripes(stripes, seed).wrapping_add(bytes.len() as u64);
+    if last.is_empty() {
+        return avalanche(hash);
+    }
+    avalanche(fold_rest(hash, last))
+}
+
+// The lanes of stripes as one word.
 #[inline(always)]
-fn merge_lane(hash: u64, lane: u64) -> u64
-    ensures { result ≡ merge_lane hash lane }
+fn merge_stripes(stripes: &[[u8; STRIPE]], seed: u64) -> u64
+    ensures { result ≡ merge (each_lane (lanes_start seed) stripes.now) }
+{
+    let mut lanes = ScalarLanes::start(seed);
+    fold_stripes(&mut lanes, stripes);
+    merge(lanes)
+}
+
+// The four lanes as one word.
+#[inline(always)]
+fn merge(words: ScalarLanes) -> u64
+    ensures { (seed : ℕ) → result ≡ merge (lanes_of_scalars seed words) }
+{
+    let sum = rotate::<1>(words.v1)
+        .wrapping_add(rotate::<7>(words.v2))
+        .wrapping_add(rotate::<12>(words.v3))
+        .wrapping_add(rotate::<18>(words.v4));
+    let hash = merge_round(sum, words.v1);
+    let hash = merge_round(hash, words.v2);
+    let hash = merge_round(hash, words.v3);
+    merge_round(hash, words.v4)
+}
+
+#[inline(always)]
+fn merge_round(hash: u64, lane: u64) -> u64
+    ensures { result ≡ merge_round hash lane }
 {
     (hash ^ round(0, lane))
         .wrapping_mul(PRIME1)
@@ -263,6 +320,56 @@ fn fold_bytes(hash: u64, bytes: &[u8]) -> u64
     ensures { result ≡ fold byte_step hash bytes.now }
 {
     bytes.iter().fold(hash, |hash, byte| byte_step(hash, *byte))
+}
+
+// The same without a loop: faster for one key, longer where it is inlined.
+#[inline(always)]
+fn fold_rest(mut hash: u64, tail: &[u8]) -> u64
+    requires { length tail.now < 32 }
+    ensures { result ≡ fold tail_step hash (steps tail.now) }
+{
+    let mut rest = tail;
+    if rest.len() >= 16 {
+        let (first, behind) = rest.split_at(8);
+        let (second, behind) = behind.split_at(8);
+        hash = eight_step(eight_step(hash, read_u64_le(first)), read_u64_le(second));
+        rest = behind;
+    }
+    if rest.len() >= 8 {
+        let (word, behind) = rest.split_at(8);
+        hash = eight_step(hash, read_u64_le(word));
+        rest = behind;
+    }
+    if rest.len() >= 4 {
+        let (word, behind) = rest.split_at(4);
+        hash = four_step(hash, read_u32_le(word));
+        rest = behind;
+    }
+    fold_few(hash, rest)
+}
+
+// The hash after fewer than four single bytes.
+#[inline(always)]
+fn fold_few(hash: u64, bytes: &[u8]) -> u64
+    requires { length bytes.now < 4 }
+    ensures { result ≡ fold byte_step hash bytes.now }
+{
+    if bytes.len() >= 2 {
+        let (two, last) = bytes.split_at(2);
+        return fold_last(byte_step(byte_step(hash, two[0]), two[1]), last);
+    }
+    fold_last(hash, bytes)
+}
+
+#[inline(always)]
+fn fold_last(hash: u64, bytes: &[u8]) -> u64
+    requires { length bytes.now < 2 }
+    ensures { result ≡ fold byte_step hash bytes.now }
+{
+    if bytes.is_empty() {
+        return hash;
+    }
+    byte_step(hash, bytes[0])
 }
 
 #[inline(always)]

@@ -184,8 +184,10 @@ fn ensure_bits_count(alloc: Global, need: usize, have: usize) -> Result<(), Erro
         × Refuses ErrorKind.InvalidData (trailing_bytes_text (have - need)) error)) }
 {
     if have < need {
-        let text = format!(in alloc; "expected {need}, got {have}")?;
-        return Err(Error::insufficient_data_of(alloc, "member bits", text));
+        let text = format!(in alloc;
+            "insufficient data (member bits): expected {need}, got {have}"
+        );
+        return Err(Error::from_text(alloc, ErrorKind::InvalidData, text));
     }
     if need < have {
         let text = format!(in alloc; "trailing bytes: {}", have - need);

@@ -1,8 +1,11 @@
-use Rattle.std.proofs.Common.{◌≡◌, arith}
+use Rattle.std.proofs.Common.{◌≡◌, arith, rules}
 use Rattle.sketch_hash.specs.Murmur.{murmur}
 use Rattle.datasketches.proofs.SliceLemmas.{bytes_known}
 use Rattle.datasketches.proofs.MurmurLawLemmas.{murmur_one_block, murmur_two_seeds}
 use Rattle.datasketches.proofs.laws.murmur_both.Goals as goal
+
+pub returns-clause-values : goal.returns-clause-values
+returns-clause-values c = search rules
 
 pub returns-clause-one_block : goal.returns-clause-one_block
 returns-clause-one_block c = λ same d e.

@@ -1,8 +1,11 @@
-use Rattle.std.proofs.Common.{◌≡◌, arith}
+use Rattle.std.proofs.Common.{◌≡◌, arith, rules}
 use Rattle.sketch_hash.specs.Xxh64.{xxh64}
 use Rattle.datasketches.proofs.SliceLemmas.{bytes_known}
 use Rattle.datasketches.proofs.Xxh64LawLemmas.{xx_tail_law, xx_seed_law}
 use Rattle.datasketches.proofs.laws.xx_both.Goals as goal
+
+pub returns-clause-values : goal.returns-clause-values
+returns-clause-values c = search rules
 
 pub returns-clause-one_tail_step : goal.returns-clause-one_tail_step
 returns-clause-one_tail_step c = λ same d e.

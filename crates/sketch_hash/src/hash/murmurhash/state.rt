@@ -4,10 +4,10 @@ ghost use Rattle.std.specs.Prelude.{◌≡◌, ℕ, ◌+◌, ◌%◌, ◌<◌, L
 ghost use Rattle.sketch_hash.specs.Held.{murmur_held, MurmurHolds};
 ghost use Rattle.sketch_hash.specs.Murmur.{murmur_after, MurmurStands};
 
-use super::{BLOCK, MurmurHash3X64128, join_words, words};
+use super::tail::{join_words, read_front_le, split_words};
+use super::{BLOCK, MurmurHash3X64128};
+use crate::hash::copy::copy_small;
 use crate::hash::hasher::Hasher;
-use crate::hash::put::put;
-use crate::hash::tail::read_front_le;
 
 /// What a [`MurmurHash3X64128`] holds: a checkpoint of a stream, to be copied, kept and taken up
 /// again.
@@ -34,25 +34,25 @@ impl MurmurState {
             MurmurHolds self.new seed (before ++ bytes.now) }
     {
         if bytes.len() < BLOCK - (self.total % BLOCK as u64) as usize {
-            self.keep(bytes);
+            self.buffer_bytes(bytes);
         } else {
-            self.take(bytes);
+            self.consume_blocks(bytes);
         }
     }
 
     // Takes bytes that fill no block, in place.
     #[inline(always)]
-    fn keep(&mut self, bytes: &[u8])
+    fn buffer_bytes(&mut self, bytes: &[u8])
         requires { self.old.total % 16 + length bytes.now < 16 }
         ensures { murmur_held self.new ≡ murmur_after (murmur_held self.old) bytes.now }
     {
         let count = (self.total % BLOCK as u64) as usize;
         self.total = self.total.wrapping_add(bytes.len() as u64);
-        put(&mut self.waiting, count, bytes);
+        copy_small(&mut self.waiting, count, bytes);
     }
 
     #[inline(always)]
-    fn take(&mut self, bytes: &[u8])
+    fn consume_blocks(&mut self, bytes: &[u8])
         ensures { murmur_held self.new ≡ murmur_after (murmur_held self.old) bytes.now }
     {
         let mut hasher = MurmurHash3X64128::resume(self);
@@ -71,7 +71,7 @@ impl MurmurHash3X64128 {
             MurmurStands result seed bytes }
     {
         let count = (state.total % BLOCK as u64) as usize;
-        let (low, high) = words(read_front_le(&state.waiting, count));
+        let (low, high) = split_words(read_front_le(&state.waiting, count));
         MurmurHash3X64128 {
             h1: state.h1,
             h2: state.h2,

@@ -1,12 +1,12 @@
 //! What an XXH64 hasher holds, as a plain value.
 
-ghost use Rattle.std.specs.Prelude.{◌≡◌, ℕ, ◌+◌, ◌%◌, ◌<◌, List, ◌++◌, length};
+ghost use Rattle.std.specs.Prelude.{◌≡◌, ℕ, ◌+◌, ◌%◌, ◌<◌, ◌≤◌, List, ◌++◌, length};
 ghost use Rattle.sketch_hash.specs.Held.{xxh64_held, Xxh64Holds};
 ghost use Rattle.sketch_hash.specs.Xxh64.{xxh64_after, Xxh64Stands};
 
+use super::lanes::{ScalarLanes, consume};
 use super::{STRIPE, XxHash64};
-use crate::hash::hasher::Hasher;
-use crate::hash::put::put;
+use crate::hash::copy::copy_small;
 use std::simd::prelude::*;
 
 /// What an [`XxHash64`] holds: a checkpoint of a stream, to be copied, kept and taken up again.
@@ -36,30 +36,43 @@ impl XxHash64State {
             Xxh64Holds self.new seed (before ++ bytes.now) }
     {
         if bytes.len() < STRIPE - (self.total % STRIPE as u64) as usize {
-            self.keep(bytes);
+            self.buffer_bytes(bytes);
         } else {
-            self.take(bytes);
+            self.consume_stripes(bytes);
         }
     }
 
     // Takes bytes that fill no stripe, in place.
     #[inline(always)]
-    fn keep(&mut self, bytes: &[u8])
+    fn buffer_bytes(&mut self, bytes: &[u8])
         requires { self.old.total % 32 + length bytes.now < 32 }
         ensures { xxh64_held self.new ≡ xxh64_after (xxh64_held self.old) bytes.now }
     {
         let count = (self.total % STRIPE as u64) as usize;
         self.total = self.total.wrapping_add(bytes.len() as u64);
-        put(&mut self.waiting, count, bytes);
+        copy_small(&mut self.waiting, count, bytes);
     }
 
-    #[inline(always)]
-    fn take(&mut self, bytes: &[u8])
+    // Takes bytes that fill the stripe that is begun, and more. In a call of its own it costs short
+    // writes nothing.
+    #[inline(never)]
+    fn consume_stripes(&mut self, bytes: &[u8])
+        requires { 32 ≤ self.old.total % 32 + length bytes.now }
         ensures { xxh64_held self.new ≡ xxh64_after (xxh64_held self.old) bytes.now }
     {
-        let mut hasher = XxHash64::resume(self);
-        hasher.write(bytes);
-        *self = hasher.state();
+        let count = (self.total % STRIPE as u64) as usize;
+        self.total = self.total.wrapping_add(bytes.len() as u64);
+        let lanes = ScalarLanes {
+            v1: self.v1,
+            v2: self.v2,
+            v3: self.v3,
+            v4: self.v4,
+        };
+        let lanes = consume(lanes, &mut self.waiting, count, bytes);
+        self.v1 = lanes.v1;
+        self.v2 = lanes.v2;
+        self.v3 = lanes.v3;
+        self.v4 = lanes.v4;
     }
 }
 

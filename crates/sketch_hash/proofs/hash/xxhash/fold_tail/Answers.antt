@@ -1,5 +1,5 @@
 use Rattle.std.proofs.Common.{◌∙◌, sym}
-use Rattle.sketch_hash.proofs.Xxh64Lemmas.{fold_eight, fold_four, fold_short}
+use Rattle.sketch_hash.proofs.Xxh64Lemmas.{fold_eight, fold_word, fold_short}
 use Rattle.sketch_hash.proofs.hash.xxhash.fold_tail.Goals as goal
 
 pub loop-rest-preserved : goal.loop-rest-preserved
@@ -16,7 +16,7 @@ returns-then-rest-ge4 c =
       c.split_at-then-rest-ge4.ensures.front,
       c.split_at-then-rest-ge4.ensures.back,
     )
-    (sym (fold_four c.loop-rest.hash c.loop-rest.rest.now c.if-rest-ge4.true c.loop-rest-test.false)
+    (sym (fold_word c.loop-rest.hash c.loop-rest.rest.now c.if-rest-ge4.true c.loop-rest-test.false)
     ∙ c.loop-rest.invariant)
 
 pub returns : goal.returns

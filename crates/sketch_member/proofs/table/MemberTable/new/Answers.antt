@@ -13,9 +13,9 @@ invariant_of-result c =
     let count : length c.in_ok-bits.bits.items ≡ byte_count n =
     ap length items ∙ length-replicate (byte_count n) 0 in
     record {
-      seed = c.ranges.seed.fits;
+      seed = omega arith;
       log2_bits = log2_bits;
-      hashes = c.in_ok-ensure_hashes.ensures;
+      hashes = (omega arith, omega arith);
       count = omega arith;
       bits = ap (λ k. k * 8) count ∙ whole_bytes n (omega arith);
       bytes = λ k. rw (items, zeros-get (byte_count n) k) (omega arith);

@@ -5,9 +5,9 @@ use Rattle.sketch_hash.proofs.WordsLemmas.{xor-is}
 use Rattle.sketch_hash.proofs.MurmurLemmas.{murmur_answer-stands}
 use Rattle.sketch_hash.proofs.NumberLemmas.{padded_words, number-lt, number-words}
 use Rattle.sketch_hash.proofs.hash.murmurhash.MurmurHash3X64128.finish128.Goals as goal
-use Rattle.sketch_hash.proofs.hash.murmurhash.MurmurHash3X64128.finish128.Goals.{After-ending}
+use Rattle.sketch_hash.proofs.hash.murmurhash.MurmurHash3X64128.finish128.Goals.{After-finalize}
 
-finished : (c : After-ending) → c.ending.result ≡ murmur_answer c.args.self.now
+finished : (c : After-finalize) → c.finalize.result ≡ murmur_answer c.args.self.now
 unfolding murmur_answer with_tail
 finished c =
     let i = c.self.inside in
@@ -21,7 +21,7 @@ finished c =
     let parts = number-words i.low i.high low in
     rw (
       ← c.self.view_is,
-      c.ending.ensures,
+      c.finalize.ensures,
       ← first,
       ← second,
       c.mix1.ensures,

@@ -6,10 +6,10 @@ pub invariant_of-result : goal.invariant_of-result
 invariant_of-result c =
     let low : c.args.state.now.total % 16 < 16 = omega arith in
     let sizes = words-lt (c.args.state.now.total % 16) c.read_front_le.result c.read_front_le.ensures.below in
-    rw c.words-low.ensures (low, sizes.0, sizes.1)
+    rw c.split_words-low.ensures (low, sizes.0, sizes.1)
 
 pub returns-clause-held : goal.returns-clause-held
-returns-clause-held c = rw (c.words-low.ensures, words-number, c.read_front_le.ensures.bytes) refl
+returns-clause-held c = rw (c.split_words-low.ensures, words-number, c.read_front_le.ensures.bytes) refl
 
 pub returns-clause-stands : goal.returns-clause-stands
 returns-clause-stands c seed bytes holds = returns-clause-held c ∙ holds

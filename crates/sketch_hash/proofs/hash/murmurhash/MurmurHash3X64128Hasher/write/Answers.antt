@@ -4,9 +4,9 @@ use Rattle.sketch_hash.proofs.hash.murmurhash.MurmurHash3X64128Hasher.write.Goal
 pub returns-then-bytes-lt-BLOCK-clause-stands : goal.returns-then-bytes-lt-BLOCK-clause-stands
 returns-then-bytes-lt-BLOCK-clause-stands c =
     λ seed before stands. murmur_stands-after seed before c.args.bytes.now c.args.self.now
-    c.take_few.new.self stands c.take_few.ensures
+    c.write_partial.new.self stands c.write_partial.ensures
 
 pub returns-else-bytes-lt-BLOCK-clause-stands : goal.returns-else-bytes-lt-BLOCK-clause-stands
 returns-else-bytes-lt-BLOCK-clause-stands c =
     λ seed before stands. murmur_stands-after seed before c.args.bytes.now c.args.self.now
-    c.take_many.new.self stands c.take_many.ensures
+    c.write_blocks.new.self stands c.write_blocks.ensures

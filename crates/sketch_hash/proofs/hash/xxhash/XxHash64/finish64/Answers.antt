@@ -2,7 +2,7 @@ use Rattle.std.proofs.Common.{◌≡◌, ◌∙◌, sym, refl, cond}
 use Rattle.std.specs.Prelude.{nat_lt}
 use Rattle.std.proofs.lemmas.Bool.{cond-true, cond-false}
 use Rattle.sketch_hash.specs.Words.{plus}
-use Rattle.sketch_hash.specs.Xxh64.{prime5, merge, xxh64_answer, ending}
+use Rattle.sketch_hash.specs.Xxh64.{prime5, merge, xxh64_answer, finalize}
 use Rattle.sketch_hash.proofs.Xxh64Lemmas.{xxh64_answer-stands}
 use Rattle.sketch_hash.proofs.hash.xxhash.XxHash64.finish64.Goals as goal
 use Rattle.sketch_hash.proofs.hash.xxhash.XxHash64.finish64.Goals.{then-is_short, else-is_short}
@@ -23,7 +23,7 @@ formed c =
     ]
 
 finished : (c : goal.After-avalanche) → c.avalanche.result ≡ xxh64_answer c.args.self.now
-unfolding xxh64_answer ending
+unfolding xxh64_answer finalize
 finished c =
     let form = formed c in
     rw (c.avalanche.ensures, c.fold_tail.ensures, form, ← c.self.view_is) refl

@@ -1,0 +1,38 @@
+//! Items written, and read back as a list.
+
+ghost use Rattle.std.specs.Prelude.{◌≡◌, IfOk, length, map};
+ghost use Rattle.datasketches.specs.Items.{item_kind};
+
+use datasketches::codec::{Item, Kind, Short, SketchBytes, SketchSlice, Stopped};
+use std::alloc::{AllocError, Global};
+
+/// Writes items, reads them back into the places, and answers what remains: the rest that was put
+/// after them.
+///
+/// # Errors
+///
+/// Where memory runs out.
+pub fn there_and_back(
+    alloc: Global,
+    items: &[Item],
+    kinds: &[Kind],
+    rest: &[u8],
+    places: &mut [Item],
+) -> Result<Vec<u8>, AllocError>
+    requires kinds { kinds.now ≡ map item_kind items.now }
+    requires places { length places.old ≡ length items.now }
+    ensures items { IfOk result (λ _. places.new ≡ items.now) }
+    ensures rest { IfOk result (λ remaining. remaining.items ≡ rest.now) }
+{
+    let mut writer = SketchBytes::with_capacity(alloc, 0)?;
+    if let Err(Stopped { .. }) = writer.write_items(items) {
+        return Err(AllocError);
+    }
+    let mut bytes = writer.into_bytes();
+    bytes.extend_from_slice(rest)?;
+    let mut reader = SketchSlice::new(&bytes);
+    if let Err(Short { .. }) = reader.read_items(kinds, places) {
+        unreachable!();
+    }
+    Vec::from_slice(alloc, reader.remaining())
+}

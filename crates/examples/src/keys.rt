@@ -1,0 +1,93 @@
+//! A distinct counter that knows integer keys by their Murmur pair.
+
+ghost use Rattle.std.specs.Prelude.{◌≡◌, ◌≢◌, ◌↔◌, [], ◌∷◌, IsTrue, pos};
+ghost use Rattle.std.specs.List.{All};
+ghost use Rattle.datasketches.specs.Bytes.{low_bytes, modulo};
+ghost use Rattle.datasketches.specs.Murmur.{murmur};
+ghost use Rattle.datasketches.specs.Values.{integer_bytes};
+
+use datasketches::hash::value::{natural_extend, sign_extend};
+use datasketches::hash::{Hash, MurmurHash3X64128};
+use datasketches::laws;
+
+/// The Murmur pair of any value.
+pub fn pair_of_value<T: Hash>(seed: u64, value: &T) -> (u64, u64)
+    ensures { result ≡ murmur seed (T.fed value.now) }
+{
+    let mut hasher = MurmurHash3X64128::with_seed(seed);
+    value.hash(&mut hasher);
+    hasher.finish128()
+}
+
+/// The Murmur pair by which a distinct counter knows an integer key.
+pub fn pair_of(seed: u64, key: i32) -> (u64, u64)
+    ensures { result ≡ murmur seed (integer_bytes key) }
+{
+    pair_of_value(seed, &sign_extend::from_i32(key))
+}
+
+/// Whether two pairs are one.
+pub fn is_same_pair(a: (u64, u64), b: (u64, u64)) -> bool
+    ensures { IsTrue result ↔ (a ≡ b) }
+{
+    a == b
+}
+
+/// Whether two hashes are one.
+pub fn is_same_hash(a: u64, b: u64) -> bool
+    ensures { IsTrue result ↔ (a ≡ b) }
+{
+    a == b
+}
+
+/// Whether two keys are one, by their pairs alone: no two keys share a pair.
+pub fn is_same_key(seed: u64, x: i32, y: i32) -> bool
+    ensures { IsTrue result ↔ (x ≡ y) }
+{
+    laws::integer_law();
+    is_same_pair(pair_of(seed, x), pair_of(seed, y))
+}
+
+/// Whether a key is none of the earlier ones.
+pub fn is_new_key(seed: u64, earlier: &[i32], key: i32) -> bool
+    ensures { IsTrue result ↔ All (λ other. other ≢ key) earlier.now }
+{
+    earlier.iter().all(|other| !is_same_key(seed, *other, key))
+}
+
+/// Whether two keys of 64 bits, one without a sign and one with, are one, by their pairs alone:
+/// they are exactly if they agree modulo 2^64.
+pub fn is_same_word(seed: u64, x: u64, y: i64) -> bool
+    ensures { IsTrue result ↔ (modulo 64 (pos x) ≡ modulo 64 y) }
+{
+    laws::strategy_law();
+    let first = pair_of_value(seed, &natural_extend::from_u64(x));
+    let second = pair_of_value(seed, &natural_extend::from_i64(y));
+    is_same_pair(first, second)
+}
+
+/// The Murmur pairs of plain integers: each feeds its own bytes, the lowest first.
+pub fn pairs_of_plain(
+    seed: u64,
+    unsigned: (u8, u16, u32, u64),
+    signed: (i8, i16, i32, i64),
+) -> [(u64, u64); 8]
+    ensures { result ≡
+        murmur seed (low_bytes 1 unsigned.0) ∷ murmur seed (low_bytes 2 unsigned.1)
+        ∷ murmur seed (low_bytes 4 unsigned.2) ∷ murmur seed (low_bytes 8 unsigned.3)
+        ∷ murmur seed (low_bytes 1 (modulo 8 signed.0))
+        ∷ murmur seed (low_bytes 2 (modulo 16 signed.1))
+        ∷ murmur seed (low_bytes 4 (modulo 32 signed.2))
+        ∷ murmur seed (low_bytes 8 (modulo 64 signed.3)) ∷ [] }
+{
+    [
+        pair_of_value(seed, &unsigned.0),
+        pair_of_value(seed, &unsigned.1),
+        pair_of_value(seed, &unsigned.2),
+        pair_of_value(seed, &unsigned.3),
+        pair_of_value(seed, &signed.0),
+        pair_of_value(seed, &signed.1),
+        pair_of_value(seed, &signed.2),
+        pair_of_value(seed, &signed.3),
+    ]
+}

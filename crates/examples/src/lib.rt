@@ -1,0 +1,14 @@
+//! Callers of the library, each proved from its public contracts alone, to be copied and changed.
+#![tactic(auto)]
+
+pub mod items;
+pub mod keys;
+pub mod known_answers;
+pub mod laws;
+pub mod own;
+pub mod seen;
+pub mod sentence;
+pub mod sketch;
+pub mod streams;
+#[cfg(test)]
+mod tests;

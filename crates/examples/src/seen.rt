@@ -1,0 +1,74 @@
+//! Keys that were seen, in a table of members that is saved and loaded.
+
+ghost use Rattle.std.specs.Prelude.{ℕ, ◌≡◌, ◌⊎◌, ◌↔◌, [], IfOk, IsTrue};
+ghost use Rattle.sketch_member.specs.Form.{IsForm, form2};
+ghost use Rattle.sketch_member.specs.Laws.{count_after};
+ghost use Rattle.sketch_member.specs.Table.{Table, Inserts, IsMember, IsSet, empty_table};
+
+use datasketches::error::Error;
+use datasketches::hash::value::raw_bytes;
+use sketch_member::MemberTable;
+use sketch_member::laws::insert_law;
+use std::alloc::Global;
+
+/// The table of the keys seen so far, from the bytes that were saved; a new one, of 1024 bits with
+/// seven indexes a key, where there are none.
+pub fn load_keys(alloc: Global, saved: &[u8]) -> Result<MemberTable, Error>
+    ensures { IfOk result (λ seen.
+        ((saved.now ≡ []) × (seen ≡ empty_table 0 10 7)) ⊎ IsForm seen saved.now) }
+{
+    if saved.is_empty() {
+        return MemberTable::new(alloc, 0, 10, 7);
+    }
+    MemberTable::from_bytes(alloc, saved)
+}
+
+/// Whether the table tells that a key was seen: it does of each that was, and may of another. It is
+/// seen from then on.
+pub fn see_key(seen: &mut MemberTable, key: &[u8]) -> bool
+    ensures told { IsTrue result ↔ IsMember seen.old key.now }
+    ensures seen { Inserts key.now seen.old seen.new }
+{
+    let value = raw_bytes::from_slice(key);
+    let is_seen = seen.contains(&value);
+    seen.insert(&value);
+    is_seen
+}
+
+/// Loads the keys seen, sees one more, and answers whether it was seen, with the bytes to be saved.
+pub fn see_saved_key(alloc: Global, saved: &[u8], key: &[u8]) -> Result<(bool, Vec<u8>), Error>
+    ensures { IfOk result (λ answer. (before after : Table)
+        × (((saved.now ≡ []) × (before ≡ empty_table 0 10 7)) ⊎ IsForm before saved.now)
+        × (IsTrue answer.0 ↔ IsMember before key.now)
+        × Inserts key.now before after
+        × (answer.1.items ≡ form2 after)) }
+{
+    let mut seen = load_keys(alloc, saved)?;
+    let is_seen = see_key(&mut seen, key);
+    Ok((is_seen, seen.to_bytes(alloc)?))
+}
+
+/// Whether two empty tables contain two keys that are inserted in either order, into the second
+/// table one of them twice. They do, and the same bits are set in both.
+pub fn insert_in_both_orders(
+    one: &mut MemberTable,
+    other: &mut MemberTable,
+    a: &[u8],
+    b: &[u8],
+) -> (bool, bool)
+    requires same { one.old ≡ other.old }
+    requires empty { (i : ℕ) → IsSet one.old.bits i → ⊥ }
+    ensures found { IsTrue result.0 × IsTrue result.1 }
+    ensures bits { one.new.bits ≡ other.new.bits }
+    ensures counts { one.old.count ≡ count_after 0 →
+        (one.new.count ≡ count_after 2) × (other.new.count ≡ count_after 3) }
+{
+    insert_law();
+    let (first, second) = (raw_bytes::from_slice(a), raw_bytes::from_slice(b));
+    one.insert(&first);
+    one.insert(&second);
+    other.insert(&second);
+    other.insert(&first);
+    other.insert(&second);
+    (one.contains(&first), other.contains(&second))
+}

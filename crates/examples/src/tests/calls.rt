@@ -1,0 +1,176 @@
+//! Each caller, run.
+
+use super::{FOX_MURMUR, FOX_XXH64, assert_out_of_memory, assert_refused, assert_same};
+use crate::items::there_and_back;
+use crate::keys::{is_new_key, is_same_key, is_same_word, pair_of};
+use crate::own::{BigEndian, Point};
+use crate::seen::see_saved_key;
+use crate::sentence::hash_of_the_sentence;
+use crate::sketch::{read_sketch, write_sketch};
+use crate::streams::{checkpoint, murmur_of_pieces, xxh64_from, xxh64_of_pieces};
+use datasketches::codec::{Item, Kind};
+use datasketches::error::Error;
+use datasketches::hash::value::{calculate_hash, raw_bytes};
+use sketch_member::MemberTable;
+use std::alloc::Global;
+use std::test::Fail;
+
+// An HLL sketch of the seed 9001, whose seed hash is 0x93cc, with the one item 258.
+pub(super) const SKETCH: [u8; 13] = [1, 3, 7, 0xcc, 0x93, 2, 1, 0, 0, 0, 0, 0, 0];
+
+#[test]
+fn keys_are_told_apart(rt: HostRuntime) {
+    assert!(rt; is_same_key(9001, -1, -1));
+    assert!(rt; !is_same_key(9001, -1, 1));
+    assert!(rt; is_new_key(9001, &[1, 2, 3], 4));
+    assert!(rt; !is_new_key(9001, &[1, 2, 3], 2));
+    assert!(rt; pair_of(0, 1) != pair_of(1, 1));
+    assert!(rt; is_same_word(9001, u64::MAX, -1));
+    assert!(rt; !is_same_word(9001, 1, -1));
+}
+
+// The one item of a sketch.
+pub(super) fn read(alloc: Global, bytes: &[u8], seed: u64, kind: Kind) -> Result<Item, Error> {
+    let mut places = [Item::U8(0)];
+    read_sketch(alloc, bytes, seed, &[kind], &mut places)?;
+    Ok(places[0])
+}
+
+#[test]
+fn reading_a_sketch_takes_no_memory(rt: HostRuntime) {
+    let item = read(rt.alloc(), &SKETCH, 9001, Kind::U64Le);
+    assert_same(&rt, item.ok(), Some(Item::U64Le(258)));
+}
+
+// One more place is wrong each time, and its fault is told before those behind it.
+#[test]
+fn other_bytes_are_refused(rt: HostRuntime) {
+    let alloc = rt.alloc();
+    let mut other = SKETCH;
+    for (place, byte, line) in [
+        (
+            3,
+            0xcd,
+            "InvalidData => incompatible seed hash of hll: expected 37836, got 37837",
+        ),
+        (
+            2,
+            3,
+            "InvalidData => invalid family: expected 7 (HLL), got 3",
+        ),
+        (
+            1,
+            2,
+            "InvalidData => unsupported serial version: expected 3, got 2",
+        ),
+        (
+            0,
+            2,
+            "InvalidData => invalid preamble longs: expected one of [1], got 2",
+        ),
+    ] {
+        other[place] = byte;
+        assert_refused(&rt, read(alloc, &other, 9001, Kind::U64Le), line);
+    }
+}
+
+#[test]
+fn a_seed_with_no_hash_is_refused(rt: HostRuntime) {
+    let alloc = rt.alloc();
+    let answer = read(alloc, &SKETCH, 50541, Kind::U64Le);
+    let line =
+        "InvalidArgument => seed 50541 produces a seed hash of zero; choose a different seed";
+    assert_refused(&rt, answer, line);
+}
+
+#[test]
+fn a_stream_in_pieces_has_one_hash(rt: HostRuntime) {
+    let pieces = [
+        raw_bytes::from_slice(b"The quick brown fox "),
+        raw_bytes::from_slice(b""),
+        raw_bytes::from_slice(b"jumps over the lazy dog"),
+    ];
+    assert_same(&rt, murmur_of_pieces(0, &pieces), FOX_MURMUR);
+    assert_same(&rt, xxh64_of_pieces(0, &pieces), FOX_XXH64);
+}
+
+#[test]
+fn a_stream_goes_on_from_a_checkpoint(rt: HostRuntime) {
+    let state = checkpoint(0, b"The quick brown fox jumps over the");
+    assert_same(&rt, xxh64_from(&state, b" lazy dog"), FOX_XXH64);
+}
+
+#[test]
+fn a_sketch_that_was_written_is_read(rt: HostRuntime) {
+    let sketch = write_sketch(rt.alloc(), 9001, &[Item::U64Le(258)]).ok();
+    assert_same(&rt, sketch.as_deref(), Some(SKETCH.as_slice()));
+}
+
+// The hash of a value is that of the bytes that it feeds.
+#[test]
+fn own_types_feed_their_bytes(rt: HostRuntime) {
+    let point: [u8; 8] = [1, 0, 0, 0, 0xff, 0xff, 0xff, 0xff];
+    assert_same(
+        &rt,
+        calculate_hash(Point { x: 1, y: -1 }),
+        calculate_hash(raw_bytes::from_slice(&point)),
+    );
+    let key: [u8; 8] = [0, 0, 0, 0, 0, 0, 1, 2];
+    assert_same(
+        &rt,
+        calculate_hash(BigEndian::new(258)),
+        calculate_hash(raw_bytes::from_slice(&key)),
+    );
+}
+
+#[test]
+fn items_are_read_back(rt: HostRuntime) {
+    let items = [Item::U8(1), Item::U32Be(2)];
+    let mut places = [Item::U8(0); 2];
+    let kinds = [Kind::U8, Kind::U32Be];
+    let rest = there_and_back(rt.alloc(), &items, &kinds, &[7, 8], &mut places);
+    assert_same(
+        &rt,
+        (rest.ok().as_deref(), places),
+        (Some([7, 8].as_slice()), items),
+    );
+}
+
+#[test]
+fn the_sentence_has_its_hash(rt: HostRuntime) {
+    let whole = raw_bytes::from_str("The quick brown fox jumps over the lazy dog");
+    let (first, _) = hash_of_the_sentence();
+    assert_same(&rt, first, calculate_hash(whole));
+}
+
+#[test]
+fn keys_are_seen_once_saved(rt: HostRuntime) -> Result<(), Fail> {
+    let (was_seen, saved) = see_saved_key(rt.alloc(), &[], b"a")?;
+    assert!(rt; !was_seen);
+    let (was_seen, saved) = see_saved_key(rt.alloc(), &saved, b"b")?;
+    assert!(rt; !was_seen);
+    let (was_seen, saved) = see_saved_key(rt.alloc(), &saved, b"a")?;
+    assert!(rt; was_seen);
+    assert_same(
+        &rt,
+        MemberTable::from_bytes(rt.alloc(), &saved)?.count(),
+        Some(3),
+    );
+    Ok(())
+}
+
+// Holds whichever request for memory is refused.
+#[test]
+fn saved_keys_without_memory(rt: HostRuntime) {
+    let saved = match see_saved_key(rt.alloc(), &[], b"a") {
+        Ok((was_seen, saved)) => {
+            assert!(rt; !was_seen);
+            saved
+        }
+        Err(error) => return assert_out_of_memory(&rt, &error),
+    };
+    match see_saved_key(rt.alloc(), &saved, b"a") {
+        Ok((was_seen, _)) => assert!(rt; was_seen),
+        Err(error) => assert_out_of_memory(&rt, &error),
+    }
+}

@@ -1,0 +1,64 @@
+-- Bytes that are put at a place by two copies, which may overlap.
+use Rattle.std.proofs.Common.{◌≡◌, ℕ, ◌+◌, ◌-◌, ◌≤◌, List, ◌++◌, length, take, drop, refl, sym, ap, ◌∙◌, arith, append_assoc, append-nil, length-append, length-drop}
+use Rattle.std.proofs.Math.Seq.{take-append-add, take-append_seam}
+use Rattle.std.proofs.lemmas.List.{take_all, drop_all, length-take-le, take-append-drop, take-append-le}
+use Rattle.std.proofs.lemmas.Slice.{put_mid-paste, drop-put_mid}
+use borrow.Rule.Slice.PartMut.{put_mid, post_of}
+
+pub copy_overlapping-is : (buffer bytes front back : List ℕ) (at k : ℕ) →
+    k ≤ length bytes → length bytes ≤ k + k → at + length bytes ≤ length buffer →
+    front ≡ take k bytes → back ≡ drop (length bytes - k) bytes →
+    put_mid (at + length bytes - k) (at + length bytes - (at + length bytes - k))
+    (put_mid at (at + k - at) buffer front) back
+    ≡ take at buffer ++ bytes ++ drop (at + length bytes) buffer
+copy_overlapping-is buffer bytes front back at k low high within f b =
+    let n : ℕ = length bytes in
+    let m : ℕ = at + n - k in
+    let one : List ℕ = put_mid at (at + k - at) buffer front in
+    let front_len : length front ≡ k = ap length f ∙ length-take-le k bytes low in
+    let back_long : length (drop (n - k) bytes) ≡ n - (n - k) = length-drop (n - k) bytes in
+    let back_len : length back ≡ k = ap length b ∙ back_long ∙ omega arith in
+    let at_len : length (take at buffer) ≡ at = length-take-le at buffer (omega arith) in
+    let seam : m ≡ length (take at buffer) + (n - k) = omega (arith, at_len) in
+    let short : n - k ≤ length front = omega (arith, front_len) in
+    let shorter : n - k ≤ length (take k bytes) = rw (length-take-le k bytes low) (omega arith) in
+    let early : take m one ≡ take at buffer ++ take (n - k) bytes =
+    ap (λ i. take i one) seam
+    ∙ take-append-add (take at buffer) (front ++ post_of at (at + k - at) buffer) (n - k)
+    ∙ ap (λ t. take at buffer ++ t) (take-append-le (n - k) front (post_of at (at + k - at) buffer) short
+    ∙ ap (take (n - k)) f ∙ sym (take-append-le (n - k) (take k bytes) (drop k bytes) shorter)
+    ∙ ap (take (n - k)) (take-append-drop k bytes)) in
+    let width : length front ≡ at + k - at = omega (arith, front_len) in
+    let late : drop (at + n) one ≡ drop (at + n) buffer =
+    drop-put_mid at (at + k - at) buffer front (at + n) (omega arith) (omega arith) width in
+    let last : k ≡ at + n - m = omega arith in
+    let all : m + k ≡ at + n = omega arith in
+    let pasted : put_mid m (at + n - m) one back ≡ take m one ++ take k back ++ drop (m + k) one =
+    put_mid-paste m (at + n - m) one back back k refl last (sym back_len) in
+    let whole : take k back ≡ drop (n - k) bytes = take_all k back (omega (arith, back_len)) ∙ b in
+    pasted
+    ∙ ap (λ t. t ++ take k back ++ drop (m + k) one) early
+    ∙ ap (λ t. (take at buffer ++ take (n - k) bytes) ++ t ++ drop (m + k) one) whole
+    ∙ ap (λ i. (take at buffer ++ take (n - k) bytes) ++ drop (n - k) bytes ++ drop i one) all
+    ∙ ap (λ t. (take at buffer ++ take (n - k) bytes) ++ drop (n - k) bytes ++ t) late
+    ∙ ap (λ t. t ++ drop (at + n) buffer)
+    (append_assoc (take at buffer) (take (n - k) bytes) (drop (n - k) bytes)
+    ∙ ap (λ t. take at buffer ++ t) (take-append-drop (n - k) bytes))
+
+-- the bytes in front of which others were put
+pub copy_taken : (buffer bytes : List ℕ) (at : ℕ) → at + length bytes ≤ length buffer →
+    take (at + length bytes) (take at buffer ++ bytes ++ drop (at + length bytes) buffer)
+    ≡ take at buffer ++ bytes
+copy_taken buffer bytes at h =
+    let at_len : length (take at buffer) ≡ at = length-take-le at buffer (omega arith) in
+    let seam : at + length bytes ≡ length (take at buffer ++ bytes) =
+    omega (arith, length-append (take at buffer) bytes, at_len) in
+    ap (λ i. take i (take at buffer ++ bytes ++ drop (at + length bytes) buffer)) seam
+    ∙ take-append_seam (take at buffer ++ bytes) (drop (at + length bytes) buffer)
+
+-- bytes up to the end
+pub copy_full : (buffer bytes : List ℕ) (at : ℕ) → length buffer ≤ at + length bytes →
+    take at buffer ++ bytes ++ drop (at + length bytes) buffer ≡ take at buffer ++ bytes
+copy_full buffer bytes at h =
+    ap (λ t. take at buffer ++ bytes ++ t) (drop_all (at + length bytes) buffer h)
+    ∙ append-nil (take at buffer ++ bytes)

@@ -1,0 +1,21 @@
+use Rattle.std.proofs.Common.{rules, ℕ, ◌+◌, ◌%◌, ◌<◌, ◌≤◌, ◌^◌, ◌++◌, List, length, take, sym, length-append, arith}
+use Rattle.std.proofs.lemmas.List.{length-take-le}
+use Rattle.sketch_hash.specs.Held.{xxh64_held}
+use Rattle.sketch_hash.specs.Xxh64.{xxh64_after, stripe_step}
+use Rattle.sketch_hash.proofs.StateLemmas.{state_after-waits}
+use Rattle.sketch_hash.proofs.HeldLemmas.{held-waits}
+use Rattle.sketch_hash.proofs.hash.xxhash.state.XxHash64State.buffer_bytes.Goals as goal
+
+pub returns : goal.returns
+unfolding xxh64_after
+returns c =
+    let s = c.args.self.now in
+    let bytes : List ℕ = c.args.bytes.now in
+    let within : s.total % 32 + length bytes ≤ length s.waiting = search rules in
+    let held : List ℕ = take (s.total % 32) s.waiting in
+    let low : s.total % 32 ≤ length s.waiting = omega (arith, within) in
+    let short : length (held ++ bytes) < 32 =
+    rw (length-append held bytes, length-take-le _ s.waiting low) c.requires in
+    let total : s.total < 2 ^ 64 = search rules in
+    rw (c.copy_small.ensures, held-waits 32 s.total s.waiting bytes (λ n. omega arith) c.requires within)
+    (sym (state_after-waits 32 (λ stripe. stripe) stripe_step (xxh64_held s) bytes total short))

@@ -1,8 +1,0 @@
--- XXH64's four lanes as four words of the code.
-use Rattle.std.specs.Prelude.{ℕ}
-use Rattle.sketch_hash.specs.Xxh64.{Lanes}
-use Rattle.sketch_hash.specs.declared.hash.lanes.FourWords.{FourWords}
-
--- a seed and four words
-abbrev pub lanes_of_words : ℕ → FourWords → Lanes
-lanes_of_words seed v = record { seed = seed; v1 = v.v1; v2 = v.v2; v3 = v.v3; v4 = v.v4 }

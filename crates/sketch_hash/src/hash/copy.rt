@@ -1,0 +1,47 @@
+//! Bytes copied into a stripe or a block.
+
+ghost use Rattle.std.specs.Prelude.{◌≡◌, ◌+◌, ◌≤◌, ◌++◌, length, take, drop};
+
+/// Writes bytes at a place.
+#[inline(always)]
+pub(crate) fn copy_small(buffer: &mut [u8], at: usize, bytes: &[u8])
+    requires within { at + length bytes.now ≤ length buffer.old }
+    requires few { length bytes.now ≤ 32 }
+    ensures { buffer.new ≡
+        take at buffer.old ++ bytes.now ++ drop (at + length bytes.now) buffer.old }
+{
+    match bytes.len() {
+        0 => {}
+        1 => copy_overlapping::<1>(buffer, at, bytes),
+        2..4 => copy_overlapping::<2>(buffer, at, bytes),
+        4..8 => copy_overlapping::<4>(buffer, at, bytes),
+        8..16 => copy_overlapping::<8>(buffer, at, bytes),
+        _ => copy_overlapping::<16>(buffer, at, bytes),
+    }
+}
+
+// The same by two copies, of the first K bytes and of the last.
+#[inline(always)]
+fn copy_overlapping<const K: usize>(buffer: &mut [u8], at: usize, bytes: &[u8])
+    requires low { K ≤ length bytes.now }
+    requires high { length bytes.now ≤ K + K }
+    requires within { at + length bytes.now ≤ length buffer.old }
+    ensures { buffer.new ≡
+        take at buffer.old ++ bytes.now ++ drop (at + length bytes.now) buffer.old }
+{
+    let count = bytes.len();
+    copy_array::<K>(&mut buffer[at..at + K], &bytes[..K]);
+    copy_array::<K>(&mut buffer[at + count - K..at + count], &bytes[count - K..]);
+}
+
+// A copy of an array is one move, where `copy_from_slice` is a loop.
+#[inline(always)]
+fn copy_array<const K: usize>(place: &mut [u8], bytes: &[u8])
+    requires place { length place.old ≡ K }
+    requires bytes { length bytes.now ≡ K }
+    ensures { place.new ≡ bytes.now }
+{
+    if let (Some(place), Some(bytes)) = (place.as_mut_array::<K>(), bytes.as_array::<K>()) {
+        *place = *bytes;
+    }
+}

@@ -1,0 +1,187 @@
+//! XXH64's four lanes, and how stripes of 32 bytes stripe_round them.
+
+ghost use Rattle.std.specs.Prelude.{◌≡◌, ℕ, ◌+◌, ◌-◌, ◌%◌, ◌^◌, ◌<◌, ◌≤◌, length, take};
+ghost use Rattle.sketch_hash.specs.Xxh64.{Lanes, lanes_start, round, stripe_step, xxh64_after};
+ghost use Rattle.sketch_hash.specs.ScalarLanes.{lanes_of_scalars, state_of_scalars};
+ghost use Rattle.sketch_hash.specs.Lanes.{each_lane, lanes_of, stripe_words};
+
+use super::primes::{PRIME1, PRIME2};
+use crate::hash::copy::copy_small;
+use crate::hash::words::{read_u64_le, rotate};
+use std::simd::prelude::*;
+
+// The fewest stripes of a run that is worth a call.
+const LONG_RUN: usize = 4;
+
+/// Four lanes that a stripe turns.
+pub(super) trait StripeRound {
+    // the lanes, beside a seed
+    ghost lanes: { ℕ → Self → Lanes };
+
+    /// Takes each lane on by its word of a stripe.
+    fn stripe_round(&mut self, stripe: &[u8; 32])
+        ensures { (seed : ℕ) → lanes seed self.new ≡ stripe_step (lanes seed self.old) stripe.now };
+}
+
+impl StripeRound for u64x4 {
+    ghost lanes = { lanes_of };
+
+    #[inline(always)]
+    fn stripe_round(&mut self, stripe: &[u8; 32]) {
+        *self = vector_round(*self, stripe);
+    }
+}
+
+/// The lanes as four words. Processors before AVX-512 multiply these faster than a vector.
+#[derive(Clone, Copy)]
+pub(super) struct ScalarLanes {
+    pub(super) v1: u64,
+    pub(super) v2: u64,
+    pub(super) v3: u64,
+    pub(super) v4: u64,
+}
+
+impl ScalarLanes {
+    /// Where the lanes start.
+    #[inline(always)]
+    pub(super) fn start(seed: u64) -> Self
+        ensures { lanes_of_scalars seed result ≡ lanes_start seed }
+    {
+        ScalarLanes {
+            v1: seed.wrapping_add(PRIME1).wrapping_add(PRIME2),
+            v2: seed.wrapping_add(PRIME2),
+            v3: seed,
+            v4: seed.wrapping_sub(PRIME1),
+        }
+    }
+
+    #[inline(always)]
+    pub(super) fn from_vector(lanes: u64x4) -> Self
+        ensures { (seed : ℕ) → lanes_of_scalars seed result ≡ lanes_of seed lanes }
+    {
+        let [v1, v2, v3, v4] = lanes.to_array();
+        ScalarLanes { v1, v2, v3, v4 }
+    }
+
+    #[inline(always)]
+    pub(super) fn into_vector(self) -> u64x4
+        ensures { (seed : ℕ) → lanes_of seed result ≡ lanes_of_scalars seed self }
+    {
+        u64x4::from_array([self.v1, self.v2, self.v3, self.v4])
+    }
+}
+
+impl StripeRound for ScalarLanes {
+    ghost lanes = { lanes_of_scalars };
+
+    #[inline(always)]
+    fn stripe_round(&mut self, stripe: &[u8; 32]) {
+        self.v1 = round(self.v1, read_u64_le(&stripe[0..8]));
+        self.v2 = round(self.v2, read_u64_le(&stripe[8..16]));
+        self.v3 = round(self.v3, read_u64_le(&stripe[16..24]));
+        self.v4 = round(self.v4, read_u64_le(&stripe[24..32]));
+    }
+}
+
+/// Takes the lanes through bytes that come after `count` bytes of `buffer`: those that complete
+/// the stripe that is begun, then whole stripes straight from the slice. The last bytes, which fill
+/// no stripe, go to the front of `buffer`.
+#[inline(always)]
+pub(super) fn consume(
+    mut lanes: ScalarLanes,
+    buffer: &mut [u8; 32],
+    count: usize,
+    bytes: &[u8],
+) -> ScalarLanes
+    requires short { count < 32 }
+    requires fills { (32 - count) % 32 ≤ length bytes.now }
+    ensures { (seed total : ℕ) → total < 2 ^ 64 →
+        xxh64_after (state_of_scalars seed lanes total (take count buffer.old)) bytes.now
+        ≡ state_of_scalars seed result ((total + length bytes.now) % 2 ^ 64)
+        (take ((count + length bytes.now) % 32) buffer.new) }
+{
+    let missing = (32 - count) % 32;
+    let (front, behind) = bytes.split_at(missing);
+    if missing > 0 {
+        copy_small(buffer, count, front);
+        lanes.stripe_round(buffer);
+    }
+    let (stripes, last) = behind.as_chunks::<32>();
+    let lanes = fold_run(lanes, stripes);
+    copy_small(buffer, 0, last);
+    lanes
+}
+
+/// The lanes after a run of stripes. Where there is none the vector stays as it is.
+#[inline(always)]
+pub(super) fn fold_vector_run(lanes: u64x4, stripes: &[[u8; 32]]) -> u64x4
+    ensures { (seed : ℕ) → lanes_of seed result ≡ each_lane (lanes_of seed lanes) stripes.now }
+{
+    if stripes.is_empty() {
+        return lanes;
+    }
+    fold_run(ScalarLanes::from_vector(lanes), stripes).into_vector()
+}
+
+// The lanes after a run of stripes.
+#[inline(always)]
+fn fold_run(mut lanes: ScalarLanes, stripes: &[[u8; 32]]) -> ScalarLanes
+    ensures { (seed : ℕ) →
+        lanes_of_scalars seed result ≡ each_lane (lanes_of_scalars seed lanes) stripes.now }
+{
+    if stripes.len() >= LONG_RUN {
+        return fold_long(lanes, stripes);
+    }
+    fold_stripes(&mut lanes, stripes);
+    lanes
+}
+
+// In a call of its own LLVM keeps the words apart, and makes no vector of them.
+#[inline(never)]
+fn fold_long<L: StripeRound>(mut lanes: L, stripes: &[[u8; 32]]) -> L
+    ensures { (seed : ℕ) → L.lanes seed result ≡ each_lane (L.lanes seed lanes) stripes.now }
+{
+    fold_stripes(&mut lanes, stripes);
+    lanes
+}
+
+/// Takes the lanes on by stripes, however one stripe turns them.
+#[inline(always)]
+pub(super) fn fold_stripes<L: StripeRound>(lanes: &mut L, stripes: &[[u8; 32]])
+    ensures { (seed : ℕ) →
+        L.lanes seed lanes.new ≡ each_lane (L.lanes seed lanes.old) stripes.now }
+{
+    for stripe in stripes {
+        lanes.stripe_round(stripe);
+    }
+}
+
+// All four lanes at once.
+#[inline(always)]
+fn vector_round(lanes: u64x4, stripe: &[u8; 32]) -> u64x4
+    ensures { (seed : ℕ) → lanes_of seed result ≡ stripe_step (lanes_of seed lanes) stripe.now }
+{
+    let sums = lanes + stripe_words(stripe) * u64x4::splat(PRIME2);
+    let turned = (sums << u64x4::splat(31)) | (sums >> u64x4::splat(33));
+    turned * u64x4::splat(PRIME1)
+}
+
+/// A lane after an input word.
+#[inline(always)]
+pub(super) fn round(lane: u64, word: u64) -> u64
+    ensures { result ≡ round lane word }
+{
+    rotate::<31>(lane.wrapping_add(word.wrapping_mul(PRIME2))).wrapping_mul(PRIME1)
+}
+
+#[inline(always)]
+fn stripe_words(stripe: &[u8; 32]) -> u64x4
+    ensures { result ≡ stripe_words stripe.now }
+{
+    u64x4::from_array([
+        read_u64_le(&stripe[0..8]),
+        read_u64_le(&stripe[8..16]),
+        read_u64_le(&stripe[16..24]),
+        read_u64_le(&stripe[24..32]),
+    ])
+}

@@ -1,0 +1,216 @@
+//! Hashers by their single calls.
+
+ghost use Rattle.std.specs.Prelude.{◌≡◌, ◌++◌};
+
+use super::{FOX, FOX_MURMUR, FOX_XXH64, assert_same, assert_same_for};
+use crate::examples::TEST_BUFFER;
+use crate::hash::{DEFAULT_UPDATE_SEED, Hasher, MurmurHash3X64128, XxHash64};
+use std::alloc::{AllocError, Global};
+
+// The Murmur pair after a write of each piece.
+fn murmur_of(seed: u64, pieces: &[&[u8]]) -> (u64, u64) {
+    let mut hasher = MurmurHash3X64128::with_seed(seed);
+    for piece in pieces {
+        hasher.write(piece);
+    }
+    hasher.finish128()
+}
+
+// The XXH64 hash after a write of each piece.
+fn xxh64_of(seed: u64, pieces: &[&[u8]]) -> u64 {
+    let mut hasher = XxHash64::with_seed(seed);
+    for piece in pieces {
+        hasher.write(piece);
+    }
+    hasher.finish64()
+}
+
+#[test]
+fn the_sentence_in_four_writes(rt: HostRuntime) {
+    let pieces: [&[u8]; 4] = [
+        b"T",
+        b"he quick brown ",
+        b"fox jumps over t",
+        b"he lazy dog",
+    ];
+    assert_same(&rt, murmur_of(0, &pieces), FOX_MURMUR);
+    assert_same(&rt, xxh64_of(0, &pieces), FOX_XXH64);
+}
+
+// A tail of eight bytes, and none; and then an empty write.
+#[test]
+fn murmur_of_40_and_of_32_bytes(rt: HostRuntime) {
+    let with_tail: &[u8] = b"The quick brown fox jumps over the lazy1";
+    let of_tail = (0xe330_1a82_7e5c_dfe3, 0xbdbf_05f8_da0f_0392);
+    assert_same(&rt, murmur_of(0, &[with_tail]), of_tail);
+    let blocks: &[u8] = b"The quick brown fox jumps over t";
+    let of_blocks = (0xdf6a_f91b_b29b_dacf, 0x91a3_41c5_8df1_f3a6);
+    assert_same(&rt, murmur_of(0, &[blocks]), of_blocks);
+    assert_same(&rt, murmur_of(0, &[blocks, &[]]), of_blocks);
+}
+
+#[test]
+fn xxh64_of_no_bytes_and_of_a_hundred(rt: HostRuntime) {
+    assert_same(&rt, xxh64_of(0, &[]), 0xef46_db37_51d8_e999);
+    assert_same(&rt, xxh64_of(0x9E37_79B1, &[]), 0xac75_fda2_929b_17ef);
+    assert_same(&rt, xxh64_of(0, &[&TEST_BUFFER]), 0x4bfe_019c_d91d_9ea4);
+}
+
+#[test]
+fn xxh64_is_asked_and_goes_on(rt: HostRuntime) {
+    let mut hasher = XxHash64::with_seed(0);
+    hasher.write(&TEST_BUFFER[..32]);
+    assert_same(&rt, hasher.finish64(), 0x18b2_1649_2bb4_4b70);
+    hasher.write(&TEST_BUFFER[32..33]);
+    assert_same(&rt, hasher.finish64(), 0x55c8_dc3e_578f_5b59);
+}
+
+// Two writes leave what one write of the joined bytes leaves, in every lawful hasher.
+fn write_both<H: Hasher>(hasher: &mut H, front: &[u8], back: &[u8])
+    ensures { hasher.new ≡ H.after hasher.old (front.now ++ back.now) }
+{
+    hasher.write(front);
+    hasher.write(back);
+}
+
+#[test]
+fn two_writes_leave_what_one_leaves(rt: HostRuntime) {
+    let (front, back) = FOX.split_at(20);
+    let mut murmur = MurmurHash3X64128::with_seed(0);
+    let mut xxh64 = XxHash64::with_seed(0);
+    write_both(&mut murmur, front, back);
+    write_both(&mut xxh64, front, back);
+    assert_same(
+        &rt,
+        (murmur.finish128(), xxh64.finish64()),
+        (FOX_MURMUR, FOX_XXH64),
+    );
+}
+
+// 65600 zeros: more than 16 bits count.
+#[test]
+fn a_long_stream_is_counted_whole(rt: HostRuntime) {
+    let mut murmur = MurmurHash3X64128::with_seed(0);
+    let mut xxh64 = XxHash64::with_seed(0);
+    for _ in 0..656 {
+        murmur.write(&[0; 100]);
+        xxh64.write(&[0; 100]);
+    }
+    assert_same(
+        &rt,
+        (murmur.finish128(), xxh64.finish64()),
+        (
+            (0xfb33_4e8c_0e4f_2665, 0x23e9_84ba_da16_1792),
+            0x68b0_5675_f6fc_42e4,
+        ),
+    );
+}
+
+// Answers of DataSketches' Rust: the input, the seed, the answer.
+const HASH_U64: [(u64, u64, u64); 6] = [
+    (0x1_0000_0000, 0, 0xca60_84df_268e_a2a9),
+    (0x1_0000_0000, 0x9E37_79B1, 0xbe51_7b2e_515c_75b5),
+    (0x1_0000_0000, u64::MAX, 0x57bf_9ae3_bcfd_53ef),
+    (0x7fff_ffff_ffff_ffff, 0, 0xff70_cc60_366e_770c),
+    (0x7fff_ffff_ffff_ffff, u64::MAX, 0x4f33_f205_8914_eaa9),
+    (0x8000_0000_0000_0000, u64::MAX, 0xb0bd_b479_fe9b_7026),
+];
+
+#[test]
+fn one_number_is_hashed_as_its_eight_bytes(rt: HostRuntime) {
+    assert_same(
+        &rt,
+        XxHash64::hash_u64(123, 0),
+        xxh64_of(0, &[&[0x7b, 0, 0, 0, 0, 0, 0, 0]]),
+    );
+    for (input, seed, expected) in HASH_U64 {
+        assert_same_for(
+            &rt,
+            XxHash64::hash_u64(input, seed),
+            expected,
+            (input, seed),
+        );
+    }
+}
+
+// The bytes of the numbers that are written below.
+const NUMBERS: [&[u8]; 8] = [
+    &[1],
+    &[0xff],
+    &[2, 1],
+    &[0xfe, 0xff],
+    &[4, 3, 2, 1],
+    &[0xfd, 0xff, 0xff, 0xff],
+    &[8, 7, 6, 5, 4, 3, 2, 1],
+    &[0xfc, 0xff, 0xff, 0xff, 0xff, 0xff, 0xff, 0xff],
+];
+
+// Writes the number at this place of the list.
+fn write_number<H: Hasher>(hasher: &mut H, place: usize) {
+    match place {
+        0 => hasher.write_u8(1),
+        1 => hasher.write_i8(-1),
+        2 => hasher.write_u16(0x0102),
+        3 => hasher.write_i16(-2),
+        4 => hasher.write_u32(0x0102_0304),
+        5 => hasher.write_i32(-3),
+        6 => hasher.write_u64(0x0102_0304_0506_0708),
+        _ => hasher.write_i64(-4),
+    }
+}
+
+#[test]
+fn each_number_is_written_lowest_byte_first(rt: HostRuntime) {
+    for (place, bytes) in NUMBERS.iter().enumerate() {
+        let mut murmur = MurmurHash3X64128::with_seed(7);
+        let mut xxh64 = XxHash64::with_seed(7);
+        write_number(&mut murmur, place);
+        write_number(&mut xxh64, place);
+        assert_same_for(
+            &rt,
+            (murmur.finish128(), xxh64.finish64(), murmur.finish()),
+            (
+                murmur_of(7, &[*bytes]),
+                xxh64_of(7, &[*bytes]),
+                murmur_of(7, &[*bytes]).0,
+            ),
+            place,
+        );
+    }
+}
+
+#[test]
+fn defaults_have_their_seeds(rt: HostRuntime) {
+    assert_same(&rt, DEFAULT_UPDATE_SEED, 9001);
+    let mut murmur = MurmurHash3X64128::default();
+    murmur.write(FOX);
+    let mut xxh64 = XxHash64::default();
+    xxh64.write(FOX);
+    assert_same(
+        &rt,
+        (murmur.finish128(), xxh64.finish64()),
+        (murmur_of(9001, &[FOX]), FOX_XXH64),
+    );
+}
+
+// The debug texts of both hashers, plain and with each field on a line.
+fn debug_texts(alloc: Global) -> Result<[String; 4], AllocError> {
+    let murmur = MurmurHash3X64128::with_seed(1);
+    let xxh64 = XxHash64::with_seed(1);
+    Ok([
+        format!(in alloc; "{murmur:?}")?,
+        format!(in alloc; "{murmur:#?}")?,
+        format!(in alloc; "{xxh64:?}")?,
+        format!(in alloc; "{xxh64:#?}")?,
+    ])
+}
+
+#[test]
+fn debug_texts_begin_with_the_name(rt: HostRuntime) -> Result<(), AllocError> {
+    let [murmur, long_murmur, xxh64, long_xxh64] = debug_texts(rt.alloc())?;
+    assert!(rt;
+        murmur.starts_with("MurmurHash3X64128") && long_murmur.starts_with("MurmurHash3X64128")
+    );
+    assert!(rt; xxh64.starts_with("XxHash64") && long_xxh64.starts_with("XxHash64"));
+    Ok(())
+}

@@ -1,0 +1,139 @@
+//! Seed hashes, and how they are refused.
+
+use super::{assert_same, assert_same_for, prints, tell_refusal};
+use crate::hash::{Hasher, MurmurHash3X64128, check_seed_hash, compute_seed_hash};
+use sketch_base::error::{Error, ErrorKind};
+use std::io::Eprint;
+use std::process::Abort;
+use std::test::Fail;
+
+// The low sixteen bits of the first word of the seed's bytes, under seed 0.
+fn low_bits_of(seed: u64) -> u64 {
+    let mut hasher = MurmurHash3X64128::with_seed(0);
+    hasher.write(&seed.to_le_bytes());
+    hasher.finish() % 0x1_0000
+}
+
+#[test]
+fn seed_hashes_of_a_hundred_thousand_seeds(rt: HostRuntime) -> Result<(), Fail> {
+    let alloc = rt.alloc();
+    for low in 0..100_000u64 {
+        for seed in [low, low.wrapping_neg(), low ^ (1 << 63), low << 32] {
+            let answer = compute_seed_hash(alloc, seed, ErrorKind::InvalidData);
+            match answer {
+                Ok(hash) => assert_same_for(&rt, u64::from(hash), low_bits_of(seed), seed),
+                Err(error) => {
+                    let line = format!(in alloc;
+                        "InvalidData => seed {seed} produces a seed hash of zero; \
+                         choose a different seed"
+                    )?;
+                    assert_same_for(&rt, low_bits_of(seed), 0, seed);
+                    assert_same_for(&rt, prints(&error, &line), true, seed);
+                }
+            }
+        }
+    }
+    Ok(())
+}
+
+const HASHES: [u16; 9] = [0, 1, 2, 255, 256, 37836, 37837, 32768, 65535];
+
+#[test]
+fn each_pair_of_seed_hashes(rt: HostRuntime) -> Result<(), Fail> {
+    let alloc = rt.alloc();
+    for expected in HASHES {
+        for actual in HASHES {
+            for name in ["theta", "", "hll"] {
+                let answer = check_seed_hash(
+                    alloc,
+                    expected,
+                    actual,
+                    name,
+                    ErrorKind::InvalidArgument,
+                );
+                let line = format!(in alloc;
+                    "InvalidArgument => incompatible seed hash of {name}: \
+                     expected {expected}, got {actual}"
+                )?;
+                let is_right = match answer {
+                    Ok(()) => expected == actual,
+                    Err(error) => expected != actual && prints(&error, &line),
+                };
+                assert_same_for(&rt, is_right, true, (expected, actual));
+            }
+        }
+    }
+    Ok(())
+}
+
+#[test]
+fn seed_hashes_and_their_refusals(rt: HostRuntime) {
+    let alloc = rt.alloc();
+    let usual = compute_seed_hash(alloc, 9001, ErrorKind::InvalidArgument);
+    assert_same(&rt, usual.ok(), Some(37836));
+    let zero = compute_seed_hash(alloc, 50541, ErrorKind::InvalidArgument);
+    let line =
+        "InvalidArgument => seed 50541 produces a seed hash of zero; choose a different seed";
+    assert_same(
+        &rt,
+        zero.err().is_some_and(|error| prints(&error, line)),
+        true,
+    );
+    let other = check_seed_hash(alloc, 37836, 1, "theta", ErrorKind::InvalidData);
+    let line = "InvalidData => incompatible seed hash of theta: expected 37836, got 1";
+    assert_same(
+        &rt,
+        other.err().is_some_and(|error| prints(&error, line)),
+        true,
+    );
+}
+
+#[test]
+fn accepted_seeds_take_no_memory(rt: HostRuntime) {
+    let alloc = rt.alloc();
+    let kind = ErrorKind::InvalidArgument;
+    for low in 0..1000u64 {
+        for seed in [low, low.wrapping_neg(), low ^ (1 << 63), low << 32, 9001] {
+            if low_bits_of(seed) != 0 {
+                assert_same_for(
+                    &rt,
+                    compute_seed_hash(alloc, seed, kind).is_ok(),
+                    true,
+                    seed,
+                );
+            }
+        }
+    }
+    for hash in 0..=u16::MAX {
+        assert_same_for(
+            &rt,
+            check_seed_hash(alloc, hash, hash, "theta", kind).is_ok(),
+            true,
+            hash,
+        );
+    }
+}
+
+// Asserts that a refusal displays this line, or that its text found no memory.
+fn assert_line_or_refusal<R: Abort + Eprint>(rt: &R, refusal: Option<Error>, line: &str) {
+    let Some(error) = refusal else {
+        return assert_same_for(rt, true, false, line);
+    };
+    if error.kind() == ErrorKind::OutOfMemory {
+        tell_refusal(rt);
+        return assert_same_for(rt, prints(&error, "OutOfMemory"), true, line);
+    }
+    assert_same_for(rt, prints(&error, line), true, line);
+}
+
+#[test]
+fn seed_refusals_without_memory(rt: HostRuntime) {
+    let alloc = rt.alloc();
+    let zero = compute_seed_hash(alloc, 50541, ErrorKind::InvalidArgument);
+    let line =
+        "InvalidArgument => seed 50541 produces a seed hash of zero; choose a different seed";
+    assert_line_or_refusal(&rt, zero.err(), line);
+    let other = check_seed_hash(alloc, 37836, 1, "theta", ErrorKind::InvalidData);
+    let line = "InvalidData => incompatible seed hash of theta: expected 37836, got 1";
+    assert_line_or_refusal(&rt, other.err(), line);
+}

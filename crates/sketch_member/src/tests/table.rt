@@ -1,0 +1,367 @@
+//! The table of members: its bits, its bytes and its refusals.
+
+use super::{
+    ONE_VALUE_1, ONE_VALUE_2, UNKNOWN_COUNT, assert_out_of_memory, assert_refused, assert_same,
+    assert_same_for,
+};
+use crate::MemberTable;
+use crate::laws::{read_again, read_back};
+use datasketches::error::{Error, ErrorKind};
+use datasketches::hash::value::raw_bytes;
+use std::alloc::Global;
+use std::io::Eprint;
+use std::process::Abort;
+use std::test::Fail;
+
+// A seed, the two sizes, the values inserted, and the bits that are set then, as a model of the
+// format in another language gives them.
+const TABLES: [(u64, u8, u8, &[&[u8]], &[u8]); 5] = [
+    (0, 6, 1, &[], &[0, 0, 0, 0, 0, 0, 0, 0]),
+    (0, 6, 1, &[b""], &[0, 0, 0, 2, 0, 0, 0, 0]),
+    (u64::MAX, 6, 2, &[b""], &[1, 0, 0, 2, 0, 0, 0, 0]),
+    (
+        9001,
+        6,
+        16,
+        &[b"a", b"b"],
+        &[0x53, 0x74, 0x21, 0x41, 0x53, 0x59, 0x51, 0x02],
+    ),
+    (
+        u64::MAX - 2,
+        8,
+        8,
+        &[b"abc", b"", b"abc"],
+        &[
+            0x08, 0x01, 0, 0x01, 0, 0, 0, 0, 0, 0x48, 0x04, 0, 0x20, 0x80, 0x40, 0, 0x01, 0, 0,
+            0x02, 0, 0x10, 0, 0, 0, 0, 0, 0x08, 0, 0, 0x80, 0,
+        ],
+    ),
+];
+
+#[test]
+fn inserted_values_set_their_bits(rt: HostRuntime) -> Result<(), Fail> {
+    for (seed, log2_bits, hashes, values, bits) in &TABLES {
+        let mut table = MemberTable::new(rt.alloc(), *seed, *log2_bits, *hashes)?;
+        for value in *values {
+            table.insert(&raw_bytes::from_slice(value));
+        }
+        for value in *values {
+            assert!(rt;
+                table.contains(&raw_bytes::from_slice(value)),
+                "under {seed}"
+            );
+        }
+        assert!(rt; !table.contains(&raw_bytes::from_str("zz")), "under {seed}");
+        let bytes = table.to_bytes(rt.alloc())?;
+        assert_same_for(
+            &rt,
+            bytes.as_slice().split_at(bytes.len().min(24)).1,
+            *bits,
+            seed,
+        );
+    }
+    Ok(())
+}
+
+// The indexes of the one byte `a` in the widest table, under seed 9001, as xxHash gives them.
+const WIDEST_INDEXES: [usize; 16] = [
+    296528, 80080, 532214, 496526, 235472, 578598, 983275, 771876, 536844, 74350, 909665, 182430,
+    323236, 56747, 761268, 561636,
+];
+
+#[test]
+fn the_widest_table_has_its_bits(rt: HostRuntime) -> Result<(), Fail> {
+    let mut table = MemberTable::new(rt.alloc(), 9001, 20, 16)?;
+    table.insert(&raw_bytes::from_str("a"));
+    let bytes = table.to_bytes(rt.alloc())?;
+    let (_, bits) = bytes.as_slice().split_at(bytes.len().min(24));
+    for (place, byte) in bits.iter().enumerate() {
+        let mut expected = 0;
+        for index in WIDEST_INDEXES {
+            if index / 8 == place {
+                expected |= 1u8 << (index % 8);
+            }
+        }
+        assert_same_for(&rt, *byte, expected, place);
+    }
+    Ok(())
+}
+
+#[test]
+fn a_table_is_written_and_read(rt: HostRuntime) -> Result<(), Fail> {
+    let value = raw_bytes::from_str("");
+    let mut table = MemberTable::new(rt.alloc(), 0, 6, 1)?;
+    assert!(rt; !table.contains(&value));
+    assert_same(&rt, table.count(), Some(0));
+    table.insert(&value);
+    assert_same(&rt, table.count(), Some(1));
+    assert_same(
+        &rt,
+        table.to_bytes(rt.alloc())?.as_slice(),
+        ONE_VALUE_2.as_slice(),
+    );
+    let read = MemberTable::from_bytes(rt.alloc(), &ONE_VALUE_2)?;
+    assert!(rt; read.contains(&value));
+    assert!(rt; !read.contains(&raw_bytes::from_str("zz")));
+    assert_same(&rt, read.count(), Some(1));
+    assert_same(&rt, read_back(rt.alloc(), &read)?.count(), Some(1));
+    Ok(())
+}
+
+// The greatest sizes: each call finds the memory that it asks for.
+#[test]
+fn the_largest_table_is_written_and_read(rt: HostRuntime) -> Result<(), Fail> {
+    let value = raw_bytes::from_str("");
+    let mut table = MemberTable::new(rt.alloc(), 0, 20, 16)?;
+    assert!(rt; !table.contains(&value));
+    table.insert(&value);
+    assert!(rt; table.contains(&value));
+    assert_same(&rt, table.to_bytes(rt.alloc())?.len(), 131_096);
+    assert!(rt; read_back(rt.alloc(), &table)?.contains(&value));
+    Ok(())
+}
+
+#[test]
+fn a_table_of_version_1_has_no_count(rt: HostRuntime) -> Result<(), Fail> {
+    let value = raw_bytes::from_str("");
+    let mut table = MemberTable::from_bytes(rt.alloc(), &ONE_VALUE_1)?;
+    assert!(rt; table.contains(&value));
+    assert_same(&rt, table.count(), None);
+    assert_same(
+        &rt,
+        table.to_bytes(rt.alloc())?.as_slice(),
+        UNKNOWN_COUNT.as_slice(),
+    );
+    table.insert(&raw_bytes::from_str("a"));
+    assert_same(&rt, table.count(), None);
+    let again = read_again(rt.alloc(), &ONE_VALUE_1)?;
+    assert!(rt; again.contains(&value));
+    assert_same(&rt, again.count(), None);
+    Ok(())
+}
+
+#[test]
+fn a_count_stays_at_the_greatest(rt: HostRuntime) -> Result<(), Fail> {
+    let mut bytes = ONE_VALUE_2;
+    bytes[16..24].copy_from_slice(&[0xff; 8]);
+    let mut table = MemberTable::from_bytes(rt.alloc(), &bytes)?;
+    assert_same(&rt, table.count(), Some(u64::MAX));
+    table.insert(&raw_bytes::from_str("a"));
+    assert_same(&rt, table.count(), Some(u64::MAX));
+    Ok(())
+}
+
+#[test]
+fn sizes_outside_their_limits_are_refused(rt: HostRuntime) {
+    let alloc = rt.alloc();
+    for (log2_bits, hashes, line) in [
+        (
+            5,
+            0,
+            "InvalidArgument => invalid log2 bits: expected 6 to 20, got 5",
+        ),
+        (
+            21,
+            16,
+            "InvalidArgument => invalid log2 bits: expected 6 to 20, got 21",
+        ),
+        (
+            6,
+            0,
+            "InvalidArgument => invalid hashes: expected 1 to 16, got 0",
+        ),
+        (
+            20,
+            17,
+            "InvalidArgument => invalid hashes: expected 1 to 16, got 17",
+        ),
+    ] {
+        assert_refused(&rt, MemberTable::new(alloc, 0, log2_bits, hashes), line);
+    }
+}
+
+// A place in the bytes of a table, another byte there, and how that is refused.
+pub(super) type Change = (usize, u8, &'static str);
+
+pub(super) const CHANGES_1: [Change; 9] = [
+    (
+        0,
+        4,
+        "InvalidData => invalid preamble longs: expected one of [2, 3], got 4",
+    ),
+    (
+        0,
+        3,
+        "InvalidData => unsupported serial version: expected 2, got 1",
+    ),
+    (
+        1,
+        2,
+        "InvalidData => unsupported serial version: expected 1, got 2",
+    ),
+    (
+        2,
+        21,
+        "InvalidData => invalid family: expected 200 (MEMBER), got 21",
+    ),
+    (
+        3,
+        5,
+        "InvalidData => invalid log2 bits: expected 6 to 20, got 5",
+    ),
+    (
+        4,
+        17,
+        "InvalidData => invalid hashes: expected 1 to 16, got 17",
+    ),
+    (5, 1, "InvalidData => reserved bytes are not zero"),
+    (6, 1, "InvalidData => reserved bytes are not zero"),
+    (7, 128, "InvalidData => reserved bytes are not zero"),
+];
+
+pub(super) const CHANGES_2: [Change; 6] = [
+    (
+        0,
+        2,
+        "InvalidData => unsupported serial version: expected 1, got 2",
+    ),
+    (5, 2, "InvalidData => reserved bytes are not zero"),
+    (6, 1, "InvalidData => reserved bytes are not zero"),
+    (7, 1, "InvalidData => reserved bytes are not zero"),
+    (5, 0, "InvalidData => unknown count is not zero"),
+    (
+        3,
+        7,
+        "InvalidData => insufficient data (member bits): expected 16, got 8",
+    ),
+];
+
+#[test]
+fn changed_bytes_are_refused(rt: HostRuntime) {
+    let alloc = rt.alloc();
+    for (place, byte, line) in CHANGES_1 {
+        let mut bytes = ONE_VALUE_1;
+        bytes[place.min(7)] = byte;
+        assert_refused(&rt, MemberTable::from_bytes(alloc, &bytes), line);
+    }
+    for (place, byte, line) in CHANGES_2 {
+        let mut bytes = ONE_VALUE_2;
+        bytes[place.min(7)] = byte;
+        assert_refused(&rt, MemberTable::from_bytes(alloc, &bytes), line);
+    }
+}
+
+// Bytes in which each place is wrong are made right place by place, and each time the fault at the
+// next one is told.
+#[test]
+fn the_first_fault_is_told(rt: HostRuntime) {
+    let alloc = rt.alloc();
+    let mut bytes = [0xff; 33];
+    bytes[5] = 0;
+    for (place, right, line) in [
+        (
+            0,
+            3,
+            "InvalidData => invalid preamble longs: expected one of [2, 3], got 255",
+        ),
+        (
+            1,
+            2,
+            "InvalidData => unsupported serial version: expected 2, got 255",
+        ),
+        (
+            2,
+            200,
+            "InvalidData => invalid family: expected 200 (MEMBER), got 255",
+        ),
+        (
+            3,
+            6,
+            "InvalidData => invalid log2 bits: expected 6 to 20, got 255",
+        ),
+        (
+            4,
+            1,
+            "InvalidData => invalid hashes: expected 1 to 16, got 255",
+        ),
+        (6, 0, "InvalidData => reserved bytes are not zero"),
+        (7, 0, "InvalidData => reserved bytes are not zero"),
+        (5, 1, "InvalidData => unknown count is not zero"),
+    ] {
+        assert_refused(&rt, MemberTable::from_bytes(alloc, &bytes), line);
+        bytes[place.min(7)] = right;
+    }
+    let trailing = "InvalidData => trailing bytes: 1";
+    assert_refused(&rt, MemberTable::from_bytes(alloc, &bytes), trailing);
+}
+
+// Asserts that each beginning of the bytes of a table with eight bytes of bits is refused, or that
+// memory ran out.
+pub(super) fn assert_beginnings_refused<R: Abort + Eprint>(
+    rt: &R,
+    alloc: Global,
+    bytes: &[u8],
+    header: usize,
+) {
+    for count in 0..bytes.len() {
+        let (beginning, _) = bytes.split_at(count);
+        let answer = MemberTable::from_bytes(alloc, beginning);
+        if count < header {
+            assert_header_short(rt, answer, count);
+        } else {
+            let have = count - header;
+            assert_refused(rt, answer, MISSING_BITS[have.min(7)]);
+        }
+    }
+}
+
+// How a table of eight bytes of bits is refused of which only 0 to 7 are there.
+const MISSING_BITS: [&'static str; 8] = [
+    "InvalidData => insufficient data (member bits): expected 8, got 0",
+    "InvalidData => insufficient data (member bits): expected 8, got 1",
+    "InvalidData => insufficient data (member bits): expected 8, got 2",
+    "InvalidData => insufficient data (member bits): expected 8, got 3",
+    "InvalidData => insufficient data (member bits): expected 8, got 4",
+    "InvalidData => insufficient data (member bits): expected 8, got 5",
+    "InvalidData => insufficient data (member bits): expected 8, got 6",
+    "InvalidData => insufficient data (member bits): expected 8, got 7",
+];
+
+// Asserts that a header that ends too early is refused, or that memory ran out.
+fn assert_header_short<R: Abort + Eprint>(
+    rt: &R,
+    answer: Result<MemberTable, Error>,
+    count: usize,
+) {
+    let Err(error) = answer else {
+        return assert_same_for(rt, true, false, count);
+    };
+    if error.kind() == ErrorKind::OutOfMemory {
+        return assert_out_of_memory(rt, &error);
+    }
+    let is_short = error.kind() == ErrorKind::InvalidData
+        && error
+            .message()
+            .starts_with("insufficient data (member table): ");
+    assert_same_for(rt, is_short, true, count);
+}
+
+#[test]
+fn bytes_cut_short_are_refused(rt: HostRuntime) {
+    assert_beginnings_refused(&rt, rt.alloc(), &ONE_VALUE_1, 16);
+    assert_beginnings_refused(&rt, rt.alloc(), &ONE_VALUE_2, 24);
+}
+
+#[test]
+fn trailing_bytes_are_refused(rt: HostRuntime) {
+    let alloc = rt.alloc();
+    let mut bytes = [0; 26];
+    bytes[..24].copy_from_slice(&ONE_VALUE_1);
+    for (count, line) in [
+        (25, "InvalidData => trailing bytes: 1"),
+        (26, "InvalidData => trailing bytes: 2"),
+    ] {
+        let count = count.min(bytes.len());
+        assert_refused(&rt, MemberTable::from_bytes(alloc, &bytes[..count]), line);
+    }
+}
