@@ -84,8 +84,8 @@ function show(job, { done, xxh64, murmur3, fault, stopped }) {
 
 function end(job, what) {
     status(job, what);
-    const stop = job.row.querySelector('.stop');
-    if (document.activeElement === stop) job.row.querySelector('.copy').focus();
+    const [stop, copy, name] = ['.stop', '.copy', '.name'].map((it) => job.row.querySelector(it));
+    if (document.activeElement === stop) (copy.disabled ? name : copy).focus();
     stop.disabled = true;
 }
 

@@ -3,8 +3,8 @@
 // It takes {wasm}, once; {id, file, seed} or {id, text, seed}; and {stop: id}. It answers {ready} or
 // {unable}, and of an id {done} bytes, {xxh64, murmur3}, {fault} or {stopped}.
 
-const READ = 4 << 20; // read at a time
-const AT_ONCE = 4;     // files that are read at the same time
+const READ = 1 << 20; // bytes that are read at a time
+const AT_ONCE = 4; // files that are read at the same time
 
 const waiting = [];
 const running = new Map();
@@ -67,24 +67,41 @@ function next() {
     }
 }
 
-// The next piece is read while this one is hashed.
 async function hashFile(job) {
     const hashers = begun(job.seed);
-    const read = (at) => job.file.slice(at, at + READ).arrayBuffer();
-    let told = 0;
-    let reading = read(0);
-    for (let at = 0; at < job.file.size; at += READ) {
-        const piece = await reading;
+    let [done, told] = [0, 0];
+    for await (const piece of pieces(job.file)) {
         if (job.isStopped) return { stopped: true };
-        if (piece.byteLength !== Math.min(READ, job.file.size - at)) throw new Error('the file has changed');
-        reading = read(at + READ);
-        reading.catch(() => {}); // told where it is awaited
         hashers.update(piece);
+        done += piece.length;
         if (performance.now() > told + 100) {
             told = performance.now();
-            postMessage({ id: job.id, done: at + piece.byteLength });
+            postMessage({ id: job.id, done });
         }
     }
-    await reading;
+    if (done !== job.file.size) throw new Error('the file has changed');
     return hashers.answer();
+}
+
+// The bytes of a file, into one buffer again and again where the browser's streams have that.
+async function* pieces(file) {
+    const reader = readerOf(file);
+    try {
+        for (let buffer = new ArrayBuffer(READ); ;) {
+            const { done, value } = await reader.read(new Uint8Array(buffer));
+            if (done) return;
+            yield value;
+            buffer = value.buffer;
+        }
+    } finally {
+        reader.cancel().catch(() => {}); // which fails after a fault of reading
+    }
+}
+
+function readerOf(file) {
+    try {
+        return file.stream().getReader({ mode: 'byob' });
+    } catch {
+        return file.stream().getReader();
+    }
 }
