@@ -9,7 +9,7 @@ pub mod natural_extend;
 pub mod raw_bytes;
 pub mod sign_extend;
 
-ghost use Rattle.std.specs.Prelude.{◌≡◌, ℕ, List, IsTrue};
+ghost use Rattle.std.specs.Prelude.{◌≡◌, ℕ, List, ◌++◌, IsTrue};
 ghost use Rattle.std.specs.List.{flat_map};
 ghost use Rattle.sketch_base.specs.Bytes.{low_bytes, modulo};
 ghost use Rattle.sketch_hash.specs.Murmur.{murmur};
@@ -130,9 +130,11 @@ pub fn value_law<T: Eq, S: HashStrategy<T>>()
     ensures { (x y : T) → IsTrue (T.eq x y) → S.fed x ≡ S.fed y }
 {}
 
-/// Feeds the values in order.
+/// Feeds the values in order: a hasher that was fed some bytes was then fed those of the values too.
 pub fn feed_all<T: Hash, H: Hasher>(values: &[T], state: &mut H)
-    ensures { state.new ≡ H.after state.old (flat_map T.fed values.now) }
+    ensures fed { state.new ≡ H.after state.old (flat_map T.fed values.now) }
+    ensures stands { (start : H) (before : List ℕ) → state.old ≡ H.after start before →
+        state.new ≡ H.after start (before ++ flat_map T.fed values.now) }
 {
     for value in values {
         value.hash(state);
