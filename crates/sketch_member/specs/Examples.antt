@@ -48,6 +48,7 @@ pub record WorkedValues : Type 0 where
   pub not_set : IsSet (one_value None).bits 24 → ⊥
   pub index_of_no_bytes : index 0 6 [] 0 ≡ 25
   pub index_under_the_next_seed : index (2 ^ 64 - 1) 6 [] 1 ≡ 25
+  pub index_in_the_widest : index 9001 20 (97 ∷ []) 15 ≡ 561636
   pub least : IsLog2Bits 6
   pub below : IsLog2Bits 5 → ⊥
   pub greatest : IsLog2Bits 20

@@ -77,3 +77,6 @@ pub fn answer<R: Read, W: Write>(words: &[String], reader: &mut R, writer: &mut 
         Err(fault) => Outcome::Fault(fault),
     }
 }
+
+#[cfg(test)]
+mod tests;

@@ -7,12 +7,58 @@ use std::fmt::Display;
 use std::io::{self, Eprint, ErrorKind, Read, Write};
 use std::rt::Env;
 
-/// Gives at most `most` bytes at a read, and at its end fails with the fault that it has.
+/// Every kind of fault that a reader or a writer may have.
+pub const KINDS: [ErrorKind; 41] = [
+    ErrorKind::NotFound,
+    ErrorKind::PermissionDenied,
+    ErrorKind::ConnectionRefused,
+    ErrorKind::ConnectionReset,
+    ErrorKind::HostUnreachable,
+    ErrorKind::NetworkUnreachable,
+    ErrorKind::ConnectionAborted,
+    ErrorKind::NotConnected,
+    ErrorKind::AddrInUse,
+    ErrorKind::AddrNotAvailable,
+    ErrorKind::NetworkDown,
+    ErrorKind::BrokenPipe,
+    ErrorKind::AlreadyExists,
+    ErrorKind::WouldBlock,
+    ErrorKind::NotADirectory,
+    ErrorKind::IsADirectory,
+    ErrorKind::DirectoryNotEmpty,
+    ErrorKind::ReadOnlyFilesystem,
+    ErrorKind::FilesystemLoop,
+    ErrorKind::StaleNetworkFileHandle,
+    ErrorKind::InvalidInput,
+    ErrorKind::InvalidData,
+    ErrorKind::TimedOut,
+    ErrorKind::WriteZero,
+    ErrorKind::StorageFull,
+    ErrorKind::NotSeekable,
+    ErrorKind::QuotaExceeded,
+    ErrorKind::FileTooLarge,
+    ErrorKind::ResourceBusy,
+    ErrorKind::ExecutableFileBusy,
+    ErrorKind::Deadlock,
+    ErrorKind::CrossesDevices,
+    ErrorKind::TooManyLinks,
+    ErrorKind::InvalidFilename,
+    ErrorKind::ArgumentListTooLong,
+    ErrorKind::Unsupported,
+    ErrorKind::UnexpectedEof,
+    ErrorKind::OutOfMemory,
+    ErrorKind::InProgress,
+    ErrorKind::Other,
+    ErrorKind::Uncategorized,
+];
+
+/// Gives at most `most` bytes at a read. Where it has a fault, it fails once, with so many bytes
+/// left, and then goes on.
 #[derive(Drop)]
 pub struct SlowReader<'a> {
     bytes: &'a [u8],
     most: usize,
-    fault: Option<ErrorKind>,
+    fault: Option<(usize, ErrorKind)>,
     /// The reads that were made.
     pub reads: u64,
     /// The room that the last read was given.
@@ -20,7 +66,7 @@ pub struct SlowReader<'a> {
 }
 
 impl<'a> SlowReader<'a> {
-    pub fn new(bytes: &'a [u8], most: usize, fault: Option<ErrorKind>) -> SlowReader<'a> {
+    pub fn new(bytes: &'a [u8], most: usize, fault: Option<(usize, ErrorKind)>) -> SlowReader<'a> {
         SlowReader {
             bytes,
             most,
@@ -35,10 +81,15 @@ impl Read for SlowReader<'_> {
     fn read(&mut self, buf: &mut [u8]) -> io::Result<usize> {
         self.reads = self.reads.saturating_add(1);
         self.room = buf.len();
-        if let (true, Some(kind)) = (self.bytes.is_empty(), self.fault) {
-            return Err(io::Error::from(kind));
+        let mut count = self.bytes.len().min(self.most).min(buf.len());
+        if let Some((left, kind)) = self.fault {
+            let before = self.bytes.len().saturating_sub(left);
+            if before == 0 {
+                self.fault = None;
+                return Err(io::Error::from(kind));
+            }
+            count = count.min(before);
         }
-        let count = self.bytes.len().min(self.most).min(buf.len());
         let (front, rest) = self.bytes.split_at(count);
         buf[..count].copy_from_slice(front);
         self.bytes = rest;
@@ -46,19 +97,20 @@ impl Read for SlowReader<'_> {
     }
 }
 
-/// What a full writer does.
+/// What a writer does that was given as many bytes as it has room for.
 #[derive(Clone, Copy)]
 pub enum Full {
-    Fails,
+    /// It fails once, and then takes more.
+    Fails(ErrorKind),
     TakesNone,
 }
 
-/// Takes a byte at a time, up to `room` bytes.
+/// Takes a byte at a time.
 #[derive(Drop)]
 pub struct NarrowWriter {
     room: usize,
     when_full: Full,
-    can_flush: bool,
+    flush_fault: Option<ErrorKind>,
     /// The bytes that were taken.
     pub taken: Vec<u8>,
     /// How many bytes the last flush handed on.
@@ -66,11 +118,17 @@ pub struct NarrowWriter {
 }
 
 impl NarrowWriter {
-    pub fn new(alloc: Global, room: usize, when_full: Full, can_flush: bool) -> NarrowWriter {
+    /// A writer with room for so many bytes. Its first flush fails where it has a fault.
+    pub fn new(
+        alloc: Global,
+        room: usize,
+        when_full: Full,
+        flush_fault: Option<ErrorKind>,
+    ) -> NarrowWriter {
         NarrowWriter {
             room,
             when_full,
-            can_flush,
+            flush_fault,
             taken: Vec::new(alloc),
             flushed: 0,
         }
@@ -80,10 +138,13 @@ impl NarrowWriter {
 impl Write for NarrowWriter {
     fn write(&mut self, buf: &[u8]) -> io::Result<usize> {
         if self.taken.len() >= self.room {
-            return match self.when_full {
-                Full::Fails => Err(io::Error::from(ErrorKind::Other)),
-                Full::TakesNone => Ok(0),
-            };
+            match self.when_full {
+                Full::Fails(kind) => {
+                    self.room = usize::MAX;
+                    return Err(io::Error::from(kind));
+                }
+                Full::TakesNone => return Ok(0),
+            }
         }
         let Some(byte) = buf.first() else {
             return Ok(0);
@@ -93,8 +154,9 @@ impl Write for NarrowWriter {
     }
 
     fn flush(&mut self) -> io::Result<()> {
-        if !self.can_flush {
-            return Err(io::Error::from(ErrorKind::Other));
+        if let Some(kind) = self.flush_fault {
+            self.flush_fault = None;
+            return Err(io::Error::from(kind));
         }
         self.flushed = self.taken.len();
         Ok(())

@@ -1,4 +1,4 @@
-use super::fakes::{Full, NarrowWriter, SlowReader};
+use super::fakes::{Full, KINDS, NarrowWriter, SlowReader};
 use super::{FOX, FOX_LINE, assert_same};
 use crate::arguments::Algorithm;
 use crate::ending::RunFault;
@@ -43,7 +43,7 @@ fn five_million_bytes_become_their_line(rt: HostRuntime) {
 #[test]
 fn slow_readers_and_writers_change_nothing(rt: HostRuntime) {
     let mut reader = SlowReader::new(FOX, 7, None);
-    let mut writer = NarrowWriter::new(rt.alloc(), 33, Full::Fails, true);
+    let mut writer = NarrowWriter::new(rt.alloc(), 33, Full::TakesNone, None);
     assert_same(
         &rt,
         run(Algorithm::Murmur, 0, &mut reader, &mut writer),
@@ -57,25 +57,30 @@ fn slow_readers_and_writers_change_nothing(rt: HostRuntime) {
     );
 }
 
+// A reader that fails once and would then go on is not asked again, whatever kind its fault has.
 #[test]
 fn a_read_that_fails_in_mid_stream_writes_nothing(rt: HostRuntime) {
-    for kind in [ErrorKind::Other, ErrorKind::Interrupted] {
-        let mut reader = SlowReader::new(b"The q", 3, Some(kind));
-        let mut written = Vec::new(rt.alloc());
-        let fault = run(Algorithm::Murmur, 0, &mut reader, &mut written);
-        assert_same(&rt, fault, Err(RunFault::Read));
-        assert!(rt; written.is_empty());
+    for kind in KINDS.iter().chain(&[ErrorKind::Interrupted]) {
+        for (algorithm, left, reads) in [(Algorithm::Murmur, 38, 2), (Algorithm::Xx, 0, 10)] {
+            let mut reader = SlowReader::new(FOX, 5, Some((left, *kind)));
+            let mut written = Vec::new(rt.alloc());
+            let fault = run(algorithm, 0, &mut reader, &mut written);
+            assert_same(&rt, fault, Err(RunFault::Read));
+            assert_same(&rt, reader.reads, reads);
+            assert!(rt; written.is_empty());
+        }
     }
 }
 
 #[test]
 fn the_last_turn_has_to_find_the_end(rt: HostRuntime) {
     let long = [0; 4097];
-    let cases: [(Algorithm, &[u8], usize, u64, Option<&str>); 7] = [
+    let cases: [(Algorithm, &[u8], usize, u64, Option<&str>); 8] = [
         (Algorithm::Murmur, FOX, 4096, 2, Some(FOX_LINE)),
         (Algorithm::Xx, b"\0", 1, 2, Some("e934a84adb052768\n")),
         (Algorithm::Xx, b"\0", 1, 1, None),
         (Algorithm::Xx, b"ab", 1, 2, None),
+        (Algorithm::Murmur, b"ab", 1, 2, None),
         (Algorithm::Murmur, b"ab", 1, 0, None),
         (Algorithm::Xx, &long, 5000, 2, None),
         (Algorithm::Xx, &long, 5000, 3, Some("52028d196767ee18\n")),
@@ -96,16 +101,21 @@ fn the_last_turn_has_to_find_the_end(rt: HostRuntime) {
 
 #[test]
 fn writers_that_fail_are_told(rt: HostRuntime) {
-    for (algorithm, room, when_full, can_flush) in [
-        (Algorithm::Xx, 0, Full::Fails, true),
-        (Algorithm::Xx, 10, Full::Fails, true),
-        (Algorithm::Xx, 100, Full::Fails, false),
-        (Algorithm::Xx, 0, Full::TakesNone, true),
-        (Algorithm::Murmur, 10, Full::Fails, true),
-    ] {
-        let mut reader = FOX;
-        let mut writer = NarrowWriter::new(rt.alloc(), room, when_full, can_flush);
-        let fault = run(algorithm, 0, &mut reader, &mut writer);
-        assert_same(&rt, fault, Err(RunFault::Write));
+    for kind in KINDS {
+        for (algorithm, room, flush_fault) in [
+            (Algorithm::Xx, 0, None),
+            (Algorithm::Xx, 10, None),
+            (Algorithm::Murmur, 32, None),
+            (Algorithm::Xx, 100, Some(kind)),
+        ] {
+            let mut reader = FOX;
+            let mut writer = NarrowWriter::new(rt.alloc(), room, Full::Fails(kind), flush_fault);
+            let fault = run(algorithm, 0, &mut reader, &mut writer);
+            assert_same(&rt, fault, Err(RunFault::Write));
+        }
     }
+    let mut writer = NarrowWriter::new(rt.alloc(), 10, Full::TakesNone, None);
+    let mut reader = FOX;
+    let fault = run(Algorithm::Murmur, 0, &mut reader, &mut writer);
+    assert_same(&rt, fault, Err(RunFault::Write));
 }

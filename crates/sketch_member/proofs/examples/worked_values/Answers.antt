@@ -36,6 +36,7 @@ returns c = record {
   not_set = λ is. let none : ◌≡◌ {A = ℕ} 0 1 = is in omega (arith, none);
   index_of_no_bytes = refl;
   index_under_the_next_seed = refl;
+  index_in_the_widest = refl;
   least = (lit≤ tt, lit≤ tt);
   below = λ is. let low : 6 ≤ 5 = is.0 in omega (arith, low);
   greatest = (lit≤ tt, lit≤ tt);

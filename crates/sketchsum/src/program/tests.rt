@@ -1,0 +1,77 @@
+use super::{ProgramEnd, program};
+use crate::ending::{Outcome, RunFault};
+use crate::tests::fakes::{Arguments, Full, KINDS, NarrowWriter, Screen, SlowReader};
+use crate::tests::{FOX, FOX_LINE, assert_same};
+use std::process::{ExitCode, Termination};
+
+const USAGE: &str = "usage: sketchsum murmur|xx SEED\n";
+
+#[test]
+fn words_become_a_line_and_a_status(rt: HostRuntime) {
+    let name: &[u8] = b"sketchsum";
+    let no_text: &[u8] = b"\xff\xfe";
+    let cases: [(&[&[u8]], u8, &str, &str); 12] = [
+        (&[name, b"murmur", b"0"], 0, FOX_LINE, ""),
+        (&[name, b"xx", b"2654435761"], 0, "b31b9019ec176b0c\n", ""),
+        (&[no_text, b"xx", b"0"], 0, "0b242d361fda71bc\n", ""),
+        (&[name, b"xx", b"0", b"0"], 2, "", USAGE),
+        (&[name, b"xx", no_text], 2, "", USAGE),
+        (&[name, b"xx", b"-1"], 2, "", USAGE),
+        (&[name], 2, "", USAGE),
+        (&[], 2, "", USAGE),
+        (&[name, b"xx"], 2, "", USAGE),
+        (&[name, b"xx", b"0", b"0", b"0"], 2, "", USAGE),
+        (&[name, b"xx", b"0", b"", b"", b""], 2, "", USAGE),
+        (
+            &[name, b"murmur", b"0", b"0", b"0", b"0", b"0"],
+            2,
+            "",
+            USAGE,
+        ),
+    ];
+    for (words, status, line, told) in cases {
+        let mut output = Vec::new(rt.alloc());
+        let mut input = SlowReader::new(FOX, 7, None);
+        let screen = Screen::new(rt.alloc());
+        let end = program(&Arguments(words), rt.alloc(), &mut input, &mut output);
+        assert_same(&rt, end.report(&screen), ExitCode::from(status));
+        assert_same(&rt, output.as_slice(), line.as_bytes());
+        assert_same(&rt, screen.text().as_slice(), told.as_bytes());
+        assert_same(&rt, input.reads == 0, status == 2);
+    }
+}
+
+#[test]
+fn faults_become_a_line_and_a_status(rt: HostRuntime) {
+    for kind in KINDS {
+        for (fault, room, told) in [
+            (Some((20, kind)), 100, "read fault\n"),
+            (None, 10, "write fault\n"),
+        ] {
+            let mut input = SlowReader::new(FOX, 7, fault);
+            let mut output = NarrowWriter::new(rt.alloc(), room, Full::Fails(kind), None);
+            let screen = Screen::new(rt.alloc());
+            let words = Arguments(&[b"sketchsum", b"murmur", b"0"]);
+            let end = program(&words, rt.alloc(), &mut input, &mut output);
+            assert_same(&rt, end.report(&screen), ExitCode::from(1));
+            assert_same(&rt, screen.text().as_slice(), told.as_bytes());
+        }
+    }
+}
+
+#[test]
+fn each_outcome_is_reported(rt: HostRuntime) {
+    for (outcome, status, told) in [
+        (Outcome::Done, 0, ""),
+        (Outcome::Fault(RunFault::Read), 1, "read fault\n"),
+        (Outcome::Fault(RunFault::TooLong), 1, "input too long\n"),
+        (Outcome::Fault(RunFault::Write), 1, "write fault\n"),
+        (Outcome::NoMemory, 1, "out of memory\n"),
+        (Outcome::Usage, 2, USAGE),
+    ] {
+        let screen = Screen::new(rt.alloc());
+        let end = ProgramEnd { outcome };
+        assert_same(&rt, end.report(&screen), ExitCode::from(status));
+        assert_same(&rt, screen.text().as_slice(), told.as_bytes());
+    }
+}
