@@ -2,6 +2,7 @@
 import copy
 import fractions
 import pickle
+import struct
 import sys
 import threading
 import time
@@ -27,6 +28,19 @@ def test_a_copy_goes_its_own_way(kind, way):
     assert second.seed == 9001 and type(second) is kind
     second.reset()
     assert second.digest() == kind(seed=9001).digest()
+
+
+def test_a_checkpoint_has_its_words_in_order():
+    """As the state stands in C's memory, so that other languages take it up. The words were computed
+    apart."""
+    data, seed = bytes(range(35)), 0x1122334455667788
+    x, m = xxh64(data, seed), murmur3_x64_128(data[:19], seed)
+    words = struct.pack(
+        "<6Q", seed, 0x9B07F8FFF4DFB707, 0x6A2608F9D4377DCF, 0x71797DB07D15ADAD, 0x40978DAA5C6D7475, 35
+    )
+    assert x.__reduce__()[1][2][:51] == words + data[32:]
+    words = struct.pack("<3Q", 0xCBA402A70E176085, 0xD929CE6211B7B955, 19)
+    assert m.__reduce__()[1][2][:27] == words + data[16:19]
 
 
 def test_a_checkpoint_of_another_length_is_refused():
