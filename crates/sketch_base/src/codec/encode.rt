@@ -78,98 +78,98 @@ impl SketchBytes {
         self.bytes.extend_from_slice(buf)
     }
 
-    /// Writes an unsigned number as one byte. Refused only for want of memory.
+    /// Writes an unsigned number as one byte. Fails only when memory runs out.
     pub fn write_u8(&mut self, n: u8) -> Result<(), AllocError>
         ensures { Writes (low_bytes 1 n) self.old result self.new }
     {
         self.write(&n.to_le_bytes())
     }
 
-    /// Writes a signed number as one byte. Refused only for want of memory.
+    /// Writes a signed number as one byte. Fails only when memory runs out.
     pub fn write_i8(&mut self, n: i8) -> Result<(), AllocError>
         ensures { Writes (low_bytes 1 (modulo 8 n)) self.old result self.new }
     {
         self.write(&n.to_le_bytes())
     }
 
-    /// Writes an unsigned number as 2 bytes, the lowest first. Refused only for want of memory.
+    /// Writes an unsigned number as 2 bytes, the lowest first. Fails only when memory runs out.
     pub fn write_u16_le(&mut self, n: u16) -> Result<(), AllocError>
         ensures { Writes (low_bytes 2 n) self.old result self.new }
     {
         self.write(&n.to_le_bytes())
     }
 
-    /// Writes an unsigned number as 2 bytes, the highest first. Refused only for want of memory.
+    /// Writes an unsigned number as 2 bytes, the highest first. Fails only when memory runs out.
     pub fn write_u16_be(&mut self, n: u16) -> Result<(), AllocError>
         ensures { Writes (reverse (low_bytes 2 n)) self.old result self.new }
     {
         self.write(&n.to_be_bytes())
     }
 
-    /// Writes a signed number as 2 bytes, the lowest first. Refused only for want of memory.
+    /// Writes a signed number as 2 bytes, the lowest first. Fails only when memory runs out.
     pub fn write_i16_le(&mut self, n: i16) -> Result<(), AllocError>
         ensures { Writes (low_bytes 2 (modulo 16 n)) self.old result self.new }
     {
         self.write(&n.to_le_bytes())
     }
 
-    /// Writes a signed number as 2 bytes, the highest first. Refused only for want of memory.
+    /// Writes a signed number as 2 bytes, the highest first. Fails only when memory runs out.
     pub fn write_i16_be(&mut self, n: i16) -> Result<(), AllocError>
         ensures { Writes (reverse (low_bytes 2 (modulo 16 n))) self.old result self.new }
     {
         self.write(&n.to_be_bytes())
     }
 
-    /// Writes an unsigned number as 4 bytes, the lowest first. Refused only for want of memory.
+    /// Writes an unsigned number as 4 bytes, the lowest first. Fails only when memory runs out.
     pub fn write_u32_le(&mut self, n: u32) -> Result<(), AllocError>
         ensures { Writes (low_bytes 4 n) self.old result self.new }
     {
         self.write(&n.to_le_bytes())
     }
 
-    /// Writes an unsigned number as 4 bytes, the highest first. Refused only for want of memory.
+    /// Writes an unsigned number as 4 bytes, the highest first. Fails only when memory runs out.
     pub fn write_u32_be(&mut self, n: u32) -> Result<(), AllocError>
         ensures { Writes (reverse (low_bytes 4 n)) self.old result self.new }
     {
         self.write(&n.to_be_bytes())
     }
 
-    /// Writes a signed number as 4 bytes, the lowest first. Refused only for want of memory.
+    /// Writes a signed number as 4 bytes, the lowest first. Fails only when memory runs out.
     pub fn write_i32_le(&mut self, n: i32) -> Result<(), AllocError>
         ensures { Writes (low_bytes 4 (modulo 32 n)) self.old result self.new }
     {
         self.write(&n.to_le_bytes())
     }
 
-    /// Writes a signed number as 4 bytes, the highest first. Refused only for want of memory.
+    /// Writes a signed number as 4 bytes, the highest first. Fails only when memory runs out.
     pub fn write_i32_be(&mut self, n: i32) -> Result<(), AllocError>
         ensures { Writes (reverse (low_bytes 4 (modulo 32 n))) self.old result self.new }
     {
         self.write(&n.to_be_bytes())
     }
 
-    /// Writes an unsigned number as 8 bytes, the lowest first. Refused only for want of memory.
+    /// Writes an unsigned number as 8 bytes, the lowest first. Fails only when memory runs out.
     pub fn write_u64_le(&mut self, n: u64) -> Result<(), AllocError>
         ensures { Writes (low_bytes 8 n) self.old result self.new }
     {
         self.write(&n.to_le_bytes())
     }
 
-    /// Writes an unsigned number as 8 bytes, the highest first. Refused only for want of memory.
+    /// Writes an unsigned number as 8 bytes, the highest first. Fails only when memory runs out.
     pub fn write_u64_be(&mut self, n: u64) -> Result<(), AllocError>
         ensures { Writes (reverse (low_bytes 8 n)) self.old result self.new }
     {
         self.write(&n.to_be_bytes())
     }
 
-    /// Writes a signed number as 8 bytes, the lowest first. Refused only for want of memory.
+    /// Writes a signed number as 8 bytes, the lowest first. Fails only when memory runs out.
     pub fn write_i64_le(&mut self, n: i64) -> Result<(), AllocError>
         ensures { Writes (low_bytes 8 (modulo 64 n)) self.old result self.new }
     {
         self.write(&n.to_le_bytes())
     }
 
-    /// Writes a signed number as 8 bytes, the highest first. Refused only for want of memory.
+    /// Writes a signed number as 8 bytes, the highest first. Fails only when memory runs out.
     pub fn write_i64_be(&mut self, n: i64) -> Result<(), AllocError>
         ensures { Writes (reverse (low_bytes 8 (modulo 64 n))) self.old result self.new }
     {
