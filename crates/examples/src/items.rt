@@ -1,7 +1,7 @@
 //! Items written, and read back as a list.
 
-ghost use Rattle.std.specs.Prelude.{◌≡◌, IfOk, length, map};
-ghost use Rattle.datasketches.specs.Items.{item_kind};
+ghost use Rattle.std.specs.Prelude.{◌≡◌, ◌+◌, ◌≤◌, ◌++◌, IfOk, length, map};
+ghost use Rattle.datasketches.specs.Items.{item_kind, spell_all};
 
 use datasketches::codec::{Item, Kind, Short, SketchBytes, SketchSlice, Stopped};
 use std::alloc::{AllocError, Global};
@@ -35,4 +35,19 @@ pub fn there_and_back(
         unreachable!();
     }
     Vec::from_slice(alloc, reader.remaining())
+}
+
+/// Writes two lists of items, one after the other. With room for both, neither can fail.
+pub fn write_two_lists(writer: &mut SketchBytes, first: &[Item], second: &[Item])
+    requires { length writer.old.bytes + length (spell_all first.now)
+        + length (spell_all second.now) ≤ writer.old.room }
+    ensures { writer.new.bytes ≡
+        writer.old.bytes ++ spell_all first.now ++ spell_all second.now }
+{
+    if let Err(Stopped { .. }) = writer.write_items(first) {
+        unreachable!();
+    }
+    if let Err(Stopped { .. }) = writer.write_items(second) {
+        unreachable!();
+    }
 }

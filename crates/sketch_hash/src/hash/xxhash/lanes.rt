@@ -1,4 +1,4 @@
-//! XXH64's four lanes, and how stripes of 32 bytes stripe_round them.
+//! XXH64's four lanes, and how a stripe of 32 bytes changes them.
 
 ghost use Rattle.std.specs.Prelude.{◌≡◌, ℕ, ◌+◌, ◌-◌, ◌%◌, ◌^◌, ◌<◌, ◌≤◌, length, take};
 ghost use Rattle.sketch_hash.specs.Xxh64.{Lanes, lanes_start, round, stripe_step, xxh64_after};
