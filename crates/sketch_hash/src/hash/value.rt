@@ -130,7 +130,7 @@ pub fn value_law<T: Eq, S: HashStrategy<T>>()
     ensures { (x y : T) → IsTrue (T.eq x y) → S.fed x ≡ S.fed y }
 {}
 
-/// Feeds the values in order: a hasher that was fed some bytes was then fed those of the values too.
+/// Feeds the values in order, after whatever the hasher was fed before.
 pub fn feed_all<T: Hash, H: Hasher>(values: &[T], state: &mut H)
     ensures fed { state.new ≡ H.after state.old (flat_map T.fed values.now) }
     ensures stands { (start : H) (before : List ℕ) → state.old ≡ H.after start before →
