@@ -31,8 +31,9 @@ pub fn xxh64_u64(value: u64, seed: u64) -> u64 {
 
 /// XXH64 of a stream that comes in pieces.
 ///
-/// As a [`Hasher`] it hashes the bytes that it is fed. A number of 64 bits is fed as its bytes,
-/// lowest first; where it is all that was written, the hash takes one call.
+/// As a [`Hasher`] it hashes the bytes that it is fed, numbers as their bytes with the lowest first.
+/// A state is begun from the 33rd byte on: fewer bytes wait, and take one call, and eight bytes, as
+/// an integer key has, the call for one number.
 ///
 /// ```
 /// let mut hasher = sketch_hash::Xxh64::new(7);
@@ -46,18 +47,20 @@ pub struct Xxh64 {
     written: Written,
 }
 
+// How many bytes wait before a state is begun.
+const FEW: usize = 32;
+
 #[derive(Clone)]
 enum Written {
-    Nothing,
-    Number(u64),
-    Bytes(Xxh64State),
+    Few { bytes: [u8; FEW], count: usize },
+    Many(Xxh64State),
 }
 
 impl Xxh64 {
     /// A stream with a seed, and no bytes.
     #[inline]
     pub const fn new(seed: u64) -> Self {
-        Xxh64 { seed, written: Written::Nothing }
+        Xxh64 { seed, written: Written::Few { bytes: [0; FEW], count: 0 } }
     }
 
     /// Starts again with a seed, and no bytes.
@@ -67,17 +70,24 @@ impl Xxh64 {
     }
 
     /// Appends bytes to the stream. Splitting the input into several calls gives the same hash.
+    #[inline]
     pub fn update(&mut self, input: &[u8]) {
-        feed(self.state(), input);
+        match &mut self.written {
+            Written::Few { bytes, count } if input.len() <= FEW - *count => {
+                bytes[*count..*count + input.len()].copy_from_slice(input);
+                *count += input.len();
+            }
+            _ => feed(self.state(), input),
+        }
     }
 
     /// The hash of all bytes so far. The stream may go on.
     #[inline]
     pub fn digest(&self) -> u64 {
         match &self.written {
-            Written::Nothing => xxh64(&[], self.seed),
-            Written::Number(value) => sketch_xxh64_u64(*value, self.seed),
-            Written::Bytes(state) => sketch_xxh64_digest(state),
+            Written::Few { bytes, count: 8 } => xxh64_u64(word(bytes, 0), self.seed),
+            Written::Few { bytes, count } => xxh64(&bytes[..*count], self.seed),
+            Written::Many(state) => sketch_xxh64_digest(state),
         }
     }
 
@@ -104,23 +114,21 @@ impl Xxh64 {
         let mut waiting = [0; 32];
         waiting.copy_from_slice(&bytes[48..]);
         let state = Xxh64State { seed, v1, v2, v3, v4, total, waiting };
-        Xxh64 { seed, written: Written::Bytes(state) }
+        Xxh64 { seed, written: Written::Many(state) }
     }
 
     /// The state of all that was written.
     fn state(&mut self) -> &mut Xxh64State {
-        if !matches!(self.written, Written::Bytes(_)) {
+        if let Written::Few { bytes, count } = &self.written {
             let mut state =
                 Xxh64State { seed: 0, v1: 0, v2: 0, v3: 0, v4: 0, total: 0, waiting: [0; 32] };
             sketch_xxh64_reset(&mut state, self.seed);
-            if let Written::Number(value) = self.written {
-                feed(&mut state, &value.to_le_bytes());
-            }
-            self.written = Written::Bytes(state);
+            feed(&mut state, &bytes[..*count]);
+            self.written = Written::Many(state);
         }
         match &mut self.written {
-            Written::Bytes(state) => state,
-            _ => unreachable!(),
+            Written::Many(state) => state,
+            Written::Few { .. } => unreachable!(),
         }
     }
 }
@@ -141,40 +149,17 @@ impl Default for Xxh64 {
 impl fmt::Debug for Xxh64 {
     fn fmt(&self, f: &mut fmt::Formatter<'_>) -> fmt::Result {
         let length = match &self.written {
-            Written::Nothing => 0,
-            Written::Number(_) => 8,
-            Written::Bytes(state) => state.total,
+            Written::Few { count, .. } => *count as u64,
+            Written::Many(state) => state.total,
         };
         f.debug_struct("Xxh64").field("seed", &self.seed).field("length", &length).finish()
     }
 }
 
 impl Hasher for Xxh64 {
+    #[inline]
     fn write(&mut self, bytes: &[u8]) {
         self.update(bytes);
-    }
-
-    #[inline]
-    fn write_u64(&mut self, value: u64) {
-        match self.written {
-            Written::Nothing => self.written = Written::Number(value),
-            _ => self.update(&value.to_le_bytes()),
-        }
-    }
-
-    #[inline]
-    fn write_i64(&mut self, value: i64) {
-        self.write_u64(value as u64);
-    }
-
-    #[inline]
-    fn write_usize(&mut self, value: usize) {
-        self.write_u64(value as u64);
-    }
-
-    #[inline]
-    fn write_isize(&mut self, value: isize) {
-        self.write_u64(value as u64);
     }
 
     #[inline]

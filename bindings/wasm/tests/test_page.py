@@ -163,6 +163,34 @@ def test_a_file_that_vanishes(page, tmp_path, files):
     assert page.hashes("fox") == FOX_HASHES
 
 
+def test_files_that_are_dropped(page):
+    page.chromium.execute_script(
+        """
+        const dropped = new DataTransfer();
+        for (const name of ['first', 'second']) dropped.items.add(new File([name], name));
+        for (const type of ['dragover', 'drop']) {
+            const event = new DragEvent(type, { dataTransfer: dropped, bubbles: true, cancelable: true });
+            if (document.body.dispatchEvent(event)) throw new Error(`${type}: the browser would open the file`);
+        }
+        """
+    )
+    for name in ("first", "second"):
+        page.wait_for(name, "done")
+        assert page.hashes(name) == hashes(name.encode())
+
+
+def test_copy(page, files):
+    page.chromium.execute_script(
+        "navigator.clipboard.writeText = (text) => { window.copied = text; return Promise.resolve(); }"
+    )
+    page.choose(*files(fox=FOX))
+    page.wait_for("fox", "done")
+    page.row("fox").find_element(By.CSS_SELECTOR, "button.copy").click()
+    page.wait_for("fox", "copied")
+    expected = "".join(f"{it}  fox\n" for it in FOX_HASHES)
+    assert page.chromium.execute_script("return window.copied") == expected
+
+
 def sparse(path, size):
     with open(path, "wb") as file:
         file.truncate(size)
