@@ -10,13 +10,17 @@ pub(crate) fn copy_small(buffer: &mut [u8], at: usize, bytes: &[u8])
     ensures { buffer.new ≡
         take at buffer.old ++ bytes.now ++ drop (at + length bytes.now) buffer.old }
 {
-    match bytes.len() {
-        0 => {}
-        1 => copy_overlapping::<1>(buffer, at, bytes),
-        2..4 => copy_overlapping::<2>(buffer, at, bytes),
-        4..8 => copy_overlapping::<4>(buffer, at, bytes),
-        8..16 => copy_overlapping::<8>(buffer, at, bytes),
-        _ => copy_overlapping::<16>(buffer, at, bytes),
+    let count = bytes.len();
+    if count >= 16 {
+        copy_overlapping::<16>(buffer, at, bytes);
+    } else if count >= 8 {
+        copy_overlapping::<8>(buffer, at, bytes);
+    } else if count >= 4 {
+        copy_overlapping::<4>(buffer, at, bytes);
+    } else if count >= 2 {
+        copy_overlapping::<2>(buffer, at, bytes);
+    } else if count == 1 {
+        buffer[at] = bytes[0];
     }
 }
 

@@ -107,7 +107,7 @@ pub(super) fn consume(
         lanes.stripe_round(buffer);
     }
     let (stripes, last) = behind.as_chunks::<32>();
-    let lanes = fold_run(lanes, stripes);
+    fold_stripes(&mut lanes, stripes);
     copy_small(buffer, 0, last);
     lanes
 }

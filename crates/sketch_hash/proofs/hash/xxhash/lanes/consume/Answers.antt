@@ -62,9 +62,9 @@ returns c = λ seed total below.
     ] in
     let last : List ℕ = c.as_chunks.result.1.now in
     let lastly : last ≡ rest 32 (drop missing bytes) = c.as_chunks.ensures.back ∙ ap (rest 32) behind in
-    let run : lanes_of_scalars seed c.fold_run-lanes.result
+    let run : lanes_of_scalars seed c.fold_stripes.new.lanes
     ≡ each_lane (lanes_of_scalars seed c.if-missing-gt0.lanes) (pieces 32 (drop missing bytes)) =
-    c.fold_run-lanes.ensures seed
+    c.fold_stripes.ensures seed
     ∙ ap (each_lane (lanes_of_scalars seed c.if-missing-gt0.lanes))
     (c.as_chunks.ensures.front ∙ chunks-are _ 32 _ ∙ ap (pieces 32) behind) in
     let waiting : take ((count + length bytes) % 32) c.copy_small-2.new.buffer
