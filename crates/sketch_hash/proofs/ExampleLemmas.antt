@@ -87,6 +87,6 @@ relations = record {
   murmur_seeds = λ e. let seed : 7 ≡ 8 = ap (λ s. s.folded.0) e in omega (arith, seed);
   murmur_bytes = λ e. let count : 0 ≡ 1 = ap (λ s. s.total) e in omega (arith, count);
   xxh64_stands = refl;
-  xxh64_seeds = λ e. let seed : 7 ≡ 8 = ap (λ s. s.folded.seed) e in omega (arith, seed);
+  xxh64_seeds = λ e. let seed : 7 ≡ 8 = ap (λ s. s.folded.0) e in omega (arith, seed);
   xxh64_bytes = λ e. let count : 0 ≡ 1 = ap (λ s. s.total) e in omega (arith, count);
 }

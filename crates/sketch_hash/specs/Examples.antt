@@ -63,7 +63,7 @@ pub record WordAnswers : Type 0 where
       record { folded = (1, 2); total = 17; waiting = 3 ∷ [] }
   pub xxh64_state_held : xxh64_held xxh64_state ≡
       record {
-        folded = record { seed = 1; v1 = 2; v2 = 3; v3 = 4; v4 = 5 };
+        folded = (1, record { v1 = 2; v2 = 3; v3 = 4; v4 = 5 });
         total = 33;
         waiting = 6 ∷ [];
       }
@@ -104,7 +104,7 @@ pub record Xxh64Answers : Type 0 where
   pub three_stripes_and_word_seeded : xxh64 0x9E3779B1 (test_bytes 100) ≡ 0x4853706dc9625cae
   pub nine_stripes_and_twelve : xxh64 0 (test_bytes 300) ≡ 0x27d0e073ec12824f
   pub total_past_32_bits :
-      xxh64_answer (record { folded = lanes_start 0; total = 2 ^ 32; waiting = [] })
+      xxh64_answer (record { folded = (0, lanes_start 0); total = 2 ^ 32; waiting = [] })
       ≡ 0x553f8a53d28f87d6
 
 -- what a seed and an integer give
