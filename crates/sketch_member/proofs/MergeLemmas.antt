@@ -97,8 +97,11 @@ counted before other after m n merges count count_other =
 -- inserts leave the seed and the sizes
 pub all_alike : (values : List (List ℕ)) (before after : Table) → InsertsAll values before after →
     AreAlike before after
-all_alike [] before after all =
-    record { seed = ap (λ t. t.seed) (sym all); log2_bits = ap (λ t. t.log2_bits) (sym all); hashes = ap (λ t. t.hashes) (sym all) }
+all_alike [] before after all = record {
+  seed = ap (λ t. t.seed) (sym all);
+  log2_bits = ap (λ t. t.log2_bits) (sym all);
+  hashes = ap (λ t. t.hashes) (sym all);
+}
 all_alike (fed ∷ values) before after (next, inserts, rest) =
     let first : AreAlike before next = record {
       seed = sym inserts.seed;

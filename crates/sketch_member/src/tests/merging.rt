@@ -1,5 +1,6 @@
 //! Tables that are merged.
 
+use super::table::TABLES;
 use super::{
     ONE_VALUE_1, ONE_VALUE_2, assert_out_of_memory, assert_refused, assert_same, assert_same_for,
 };
@@ -74,31 +75,10 @@ fn merges_without_memory(rt: HostRuntime) {
     }
 }
 
-// A seed, the two sizes, values of which each is inserted into a table of its own, and the bits that
-// are set once these are merged, as a model of the format in another language gives them.
-const MERGED: [(u64, u8, u8, &[&[u8]], &[u8]); 2] = [
-    (
-        9001,
-        6,
-        16,
-        &[b"a", b"b"],
-        &[0x53, 0x74, 0x21, 0x41, 0x53, 0x59, 0x51, 0x02],
-    ),
-    (
-        u64::MAX - 2,
-        8,
-        8,
-        &[b"abc", b"", b"abc"],
-        &[
-            0x08, 0x01, 0, 0x01, 0, 0, 0, 0, 0, 0x48, 0x04, 0, 0x20, 0x80, 0x40, 0, 0x01, 0, 0,
-            0x02, 0, 0x10, 0, 0, 0, 0, 0, 0x08, 0, 0, 0x80, 0,
-        ],
-    ),
-];
-
+// Each value is inserted into a table of its own.
 #[test]
 fn merged_tables_have_the_bits_of_all(rt: HostRuntime) -> Result<(), Fail> {
-    for (seed, log2_bits, hashes, values, bits) in &MERGED {
+    for (seed, log2_bits, hashes, values, bits) in &TABLES {
         let mut all = MemberTable::new(rt.alloc(), *seed, *log2_bits, *hashes)?;
         for value in *values {
             let mut table = MemberTable::new(rt.alloc(), *seed, *log2_bits, *hashes)?;
