@@ -5,9 +5,10 @@ use Rattle.datasketches.specs.declared.error.ErrorKind.TheVariants.{InvalidArgum
 use Rattle.datasketches.specs.ErrorValue.{error_of}
 use Rattle.sketch_member.specs.Faults.{Fails, FirstFault, HeaderEnds, Step}
 use Rattle.sketch_member.specs.Form.{IsForm, form1, form2}
-use Rattle.sketch_member.specs.Laws.{count_after}
+use Rattle.sketch_member.specs.Laws.{IsMadeOf, count_after}
 use Rattle.sketch_member.specs.Limits.{IsHashes, IsLog2Bits}
-use Rattle.sketch_member.specs.Table.{Table, IsSet, index, one_more}
+use Rattle.sketch_member.specs.Merge.{AreAlike, FirstDifference, Merges, sum_of_counts}
+use Rattle.sketch_member.specs.Table.{Table, IsSet, empty_table, index, one_more}
 
 abbrev pub one_value : Option ℕ → Table
 one_value count = record {
@@ -16,6 +17,17 @@ one_value count = record {
   hashes = 1;
   count = count;
   bits = 0 ∷ 0 ∷ 0 ∷ 2 ∷ 0 ∷ 0 ∷ 0 ∷ 0 ∷ [];
+}
+
+-- the same with bit 24 in its place, and with both
+abbrev pub other_value : Option ℕ → Table
+other_value count = record (one_value count) {
+  bits = 0 ∷ 0 ∷ 0 ∷ 1 ∷ 0 ∷ 0 ∷ 0 ∷ 0 ∷ [];
+}
+
+abbrev pub both_values : Option ℕ → Table
+both_values count = record (one_value count) {
+  bits = 0 ∷ 0 ∷ 0 ∷ 3 ∷ 0 ∷ 0 ∷ 0 ∷ 0 ∷ [];
 }
 
 -- its bytes in version 1, and in version 2 with the count 258 and with none
@@ -73,3 +85,28 @@ pub record WorkedValues : Type 0 where
   pub ends_otherwise : HeaderEnds (error_of InvalidArgument []) → ⊥
   pub first_fault : FirstFault 1 (always ∷ never ∷ []) (error_of InvalidData (codes "never"))
   pub later_fault : FirstFault 1 (never ∷ neither ∷ []) (error_of InvalidData (codes "neither")) → ⊥
+
+pub record MergedValues : Type 0 where
+  pub sum : sum_of_counts (Some 2) (Some 3) ≡ Some 5
+  pub stays : sum_of_counts (Some (2 ^ 64 - 1)) (Some 1) ≡ Some (2 ^ 64 - 1)
+  pub unknown : sum_of_counts None (Some 3) ≡ None
+  pub other_unknown : sum_of_counts (Some 2) None ≡ None
+  pub alike : AreAlike (one_value None) (other_value (Some 3))
+  pub other_seed : AreAlike (one_value None) (record (one_value None) { seed = 1 }) → ⊥
+  pub other_size : AreAlike (one_value None) (record (one_value None) { log2_bits = 7 }) → ⊥
+  pub other_hashes : AreAlike (one_value None) (record (one_value None) { hashes = 2 }) → ⊥
+  pub merged : Merges (other_value (Some 3)) (one_value (Some 2)) (both_values (Some 5))
+  pub replaced : Merges (other_value (Some 3)) (one_value (Some 2)) (other_value (Some 5)) → ⊥
+  pub left_out : Merges (other_value (Some 3)) (one_value (Some 2)) (one_value (Some 5)) → ⊥
+  pub not_added : Merges (other_value (Some 3)) (one_value (Some 2)) (both_values (Some 3)) → ⊥
+  pub of_none : IsMadeOf [] (empty_table 0 6 1)
+  pub of_none_otherwise : IsMadeOf [] (one_value (Some 0)) → ⊥
+  pub difference :
+      FirstDifference (one_value None) (record (one_value None) { seed = 1; hashes = 2 })
+      (error_of InvalidArgument (codes "tables differ: seed"))
+  pub later_difference :
+      FirstDifference (one_value None) (record (one_value None) { seed = 1; hashes = 2 })
+      (error_of InvalidArgument (codes "tables differ: hashes")) → ⊥
+  pub no_difference :
+      FirstDifference (one_value None) (other_value None)
+      (error_of InvalidArgument (codes "tables differ: seed")) → ⊥
