@@ -2,6 +2,6 @@
 //! definitions.
 #![tactic(auto)]
 
-pub mod examples;
 pub mod hash;
+pub mod known_answers;
 pub mod laws;

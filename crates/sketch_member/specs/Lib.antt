@@ -3,4 +3,4 @@ pub mod Table
 pub mod Form
 pub mod Faults
 pub mod Laws
-pub mod Examples
+pub mod KnownAnswers

@@ -1,4 +1,4 @@
 pub mod FirstBytes
 pub mod FirstBytesLemmas
 pub mod Callers
-pub mod Examples
+pub mod KnownAnswers

@@ -12,7 +12,7 @@
 #[cfg(test)]
 mod callers;
 #[cfg(test)]
-mod examples;
+mod known_answers;
 #[cfg(test)]
 mod first_bytes;
 #[cfg(test)]

@@ -2,7 +2,7 @@
 
 use crate::tests::{FOX, FOX_MURMUR, assert_same};
 use datasketches::laws::{murmur_both, xx_both};
-use sketch_hash::examples::TEST_BUFFER;
+use sketch_hash::known_answers::TEST_BUFFER;
 
 const OTHER_SEED: u64 = 0x9E37_79B1;
 

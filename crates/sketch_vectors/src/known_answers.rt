@@ -1,8 +1,8 @@
 //! Bytes that are a sketch for the callers, and bytes that are none.
 
-ghost use Rattle.sketch_vectors.specs.Examples.{Relations};
+ghost use Rattle.sketch_vectors.specs.KnownAnswers.{Relations};
 
-use sketch_hash::examples::value_answers;
+use sketch_hash::known_answers::value_answers;
 
 /// What a sketch is holds of bytes, and not of those beside them. It does nothing: its contract is
 /// computed from the definitions.

@@ -1,6 +1,6 @@
 use Rattle.std.proofs.Common.{◌≡◌, ◌≤◌, arith, sym, lit≤, refl, ◌∙◌}
 use Rattle.sketch_hash.specs.SeedHash.{seed_hash}
-use Rattle.sketch_vectors.proofs.examples.relations.Goals as goal
+use Rattle.sketch_vectors.proofs.known_answers.relations.Goals as goal
 
 pub returns : goal.returns
 returns c =
