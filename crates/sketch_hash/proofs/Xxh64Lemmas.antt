@@ -48,7 +48,8 @@ pub fold_sixteen : (hash : ℕ) (bytes : List ℕ) → 16 ≤ length bytes →
     (steps (drop 8 (drop 8 bytes)))
 fold_sixteen hash bytes h =
     let behind : 8 ≤ length (drop 8 bytes) = rw (length-drop 8 bytes) (omega arith) in
-    fold_eight hash bytes (omega arith) ∙ fold_eight (eight_step hash (le (take 8 bytes))) (drop 8 bytes) behind
+    fold_eight hash bytes (omega arith)
+    ∙ fold_eight (eight_step hash (le (take 8 bytes))) (drop 8 bytes) behind
 
 pub fold_word : (hash : ℕ) (bytes : List ℕ) → 4 ≤ length bytes → length bytes < 8 →
     fold tail_step hash (steps bytes) ≡ fold byte_step (four_step hash (le (take 4 bytes))) (drop 4 bytes)

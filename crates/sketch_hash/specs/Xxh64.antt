@@ -84,8 +84,8 @@ merge v =
 abbrev pub steps_of : ℕ → List ℕ → List (ℕ × ℕ)
 steps_of w bytes = map (λ piece. (w, le piece)) (pieces w bytes)
 
--- Step 5: the bytes behind the stripes, in order, as steps (width, number): words of eight bytes while
--- eight are left, then one of four bytes where four are left, then single bytes.
+-- Step 5: the bytes after the stripes, in order, as pairs (width, number): words of eight bytes
+-- while eight are left, then one of four bytes where four are left, then single bytes.
 unfoldable pub steps : List ℕ → List (ℕ × ℕ)
 steps waiting =
     steps_of 8 waiting ++ steps_of 4 (rest 8 waiting) ++ steps_of 1 (rest 4 (rest 8 waiting))
@@ -120,8 +120,8 @@ avalanche h =
     xor_shift 32 twice
 
 -- Steps 3 to 6: the hash of n bytes, n modulo 2 ^ 64, from their seed, their lanes and the bytes
--- behind the stripes. It takes the lanes where n is at least 32, and else, as in the special case of
--- step 1, the seed alone. Step 4 adds n.
+-- after the stripes. It takes the lanes where n is at least 32, and else the seed alone, as the
+-- special case of step 1 does. Step 4 adds n.
 unfoldable pub finalize : ℕ → Lanes → ℕ → List ℕ → ℕ
 finalize seed v n waiting =
     let h = if nat_lt n 32 then plus seed prime5 else merge v in

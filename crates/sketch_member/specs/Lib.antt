@@ -4,4 +4,4 @@ pub mod Merge
 pub mod Form
 pub mod Faults
 pub mod Laws
-pub mod Examples
+pub mod KnownAnswers

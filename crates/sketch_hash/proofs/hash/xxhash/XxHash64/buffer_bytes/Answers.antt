@@ -11,7 +11,8 @@ unfolding xxh64_after
 returns c =
     let i = c.self.inside in
     let held : List ℕ = take i.count i.buffer in
-    let s : State (ℕ × Lanes) = record { folded = (i.seed, lanes_of i.lanes); total = i.total; waiting = held } in
+    let s : State (ℕ × Lanes) =
+    record { folded = (i.seed, lanes_of i.lanes); total = i.total; waiting = held } in
     let missing : length held + length c.args.bytes.now < 32 = rw (← c.self.view_is) at c.requires in
     let short : length (held ++ c.args.bytes.now) < 32 = rw (length-append held c.args.bytes.now) missing in
     let total : i.total < 2 ^ 64 = search rules in

@@ -20,7 +20,8 @@ returns-clause-after c =
     let i = c.self.inside in
     let bytes : List ℕ = c.args.bytes.now in
     let held : List ℕ = take i.count i.buffer in
-    let s : State (ℕ × Lanes) = record { folded = (i.seed, lanes_of i.lanes); total = i.total; waiting = held } in
+    let s : State (ℕ × Lanes) =
+    record { folded = (i.seed, lanes_of i.lanes); total = i.total; waiting = held } in
     let short : length held < 32 = rw (← c.self.view_is) at c.requires.short in
     let fills : length bytes ≡ (32 - length held) % 32 = rw (← c.self.view_is) at c.requires.fills in
     let some : 0 < length bytes = search rules in

@@ -1,7 +1,7 @@
 -- What each relation and range that a law speaks of holds of, and what it does not hold of.
 use Rattle.std.specs.Prelude.{◌≡◌, ℕ, ◌-◌, ◌^◌, pos, negsuc, List, [], ◌∷◌, ◌++◌, codes, replicate}
 use Rattle.sketch_base.specs.Bytes.{modulo}
-use Rattle.sketch_hash.specs.Examples.{fox}
+use Rattle.sketch_hash.specs.KnownAnswers.{fox}
 use Rattle.datasketches.specs.Streams.{DifferInOneBlock, DifferInOneTailStep}
 use Rattle.datasketches.specs.Laws.{IsShort}
 use Rattle.datasketches.specs.Strategies.{IsSigned, I64, U64, natural_fed, sign_fed}

@@ -5,7 +5,7 @@
 //! that answers otherwise, or that holds of nothing, is refused.
 
 ghost use Rattle.std.specs.Prelude.{◌≡◌};
-ghost use Rattle.sketch_hash.specs.Examples.{MurmurAnswers, Relations, ValueAnswers, WordAnswers, Xxh64Answers, test_bytes};
+ghost use Rattle.sketch_hash.specs.KnownAnswers.{MurmurAnswers, Relations, ValueAnswers, WordAnswers, Xxh64Answers, test_bytes};
 
 /// The first bytes of the buffer that xxHash's own tests use.
 pub const TEST_BUFFER: [u8; 100] = [

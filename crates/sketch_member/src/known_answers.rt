@@ -1,6 +1,6 @@
 //! Worked values of the definitions.
 
-ghost use Rattle.sketch_member.specs.Examples.{MergedValues, WorkedValues};
+ghost use Rattle.sketch_member.specs.KnownAnswers.{MergedValues, WorkedValues};
 
 /// The values of the definitions for one table. It does nothing: its contract is computed from the
 /// definitions.

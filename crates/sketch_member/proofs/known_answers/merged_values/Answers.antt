@@ -3,11 +3,11 @@ use Rattle.std.specs.Prelude.{None}
 use Rattle.datasketches.specs.declared.error.ErrorKind.TheVariants.{InvalidArgument}
 use Rattle.datasketches.specs.ErrorValue.{ErrorValue, error_of}
 use Rattle.datasketches.specs.Refusals.{Refuses}
-use Rattle.sketch_member.specs.Examples.{one_value, other_value, both_values}
+use Rattle.sketch_member.specs.KnownAnswers.{one_value, other_value, both_values}
 use Rattle.sketch_member.specs.Form.{number_of}
 use Rattle.sketch_member.specs.Merge.{tables_differ_text}
 use Rattle.sketch_member.proofs.BitLemmas.{joined_bits}
-use Rattle.sketch_member.proofs.examples.merged_values.Goals as goal
+use Rattle.sketch_member.proofs.known_answers.merged_values.Goals as goal
 
 -- each byte is joined
 bytes : (k : ℕ) → get_or (both_values None).bits k 0

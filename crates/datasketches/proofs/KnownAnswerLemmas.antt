@@ -1,13 +1,13 @@
--- The examples, computed over the definitions.
+-- The known answers, computed over the definitions.
 use Rattle.std.proofs.Common.{◌≡◌, ℕ, ◌+◌, ◌-◌, inl, inr, List, [], ◌∷◌, ◌++◌, take, drop, get_or, refl, sym, ap, ◌∙◌, arith}
 use Rattle.std.proofs.lemmas.Int.{ints}
 use Rattle.std.proofs.lemmas.Bool.{cases_lt}
 use Rattle.std.proofs.lemmas.List.{get_or-take, get_or-drop}
 use Rattle.sketch_hash.specs.Pieces.{pieces, rest}
 use Rattle.sketch_hash.specs.Xxh64.{steps, tail_steps}
-use Rattle.sketch_hash.specs.Examples.{fox}
+use Rattle.sketch_hash.specs.KnownAnswers.{fox}
 use Rattle.datasketches.specs.Streams.{AgreeOutside, DifferInOneBlock, DifferInOneTailStep}
-use Rattle.datasketches.specs.Examples.{eog, zeros, Relations}
+use Rattle.datasketches.specs.KnownAnswers.{eog, zeros, Relations}
 
 -- lists with the same front and the same back
 agree : {X : Type 0} (low high : ℕ) (a b : List X) → take low a ≡ take low b → drop high a ≡ drop high b →

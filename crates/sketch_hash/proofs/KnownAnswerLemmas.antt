@@ -1,11 +1,11 @@
--- The examples, computed over the definitions.
+-- The known answers, computed over the definitions.
 use Rattle.std.proofs.Common.{◌≡◌, ◌^◌, ◌<◌, [], ◌∷◌, refl, ap, arith, lit<}
 use Rattle.std.proofs.lemmas.List.Elements.{All-from_recursion, All-replicate}
 use Rattle.sketch_hash.specs.Words.{xor_below, xor, rotate}
 use Rattle.sketch_hash.specs.Pieces.{absorb, pieces, rest}
 use Rattle.sketch_hash.specs.Murmur.{mix1, mix2, fmix, step1, step2, step, with_tail, finalize as murmur_ending, murmur, murmur_after, murmur_answer}
 use Rattle.sketch_hash.specs.Xxh64.{round, lane, lanes_start, lanes, merge_round, merge, steps, eight_step, four_step, byte_step, tail_step, avalanche, finalize as xxh64_ending, xxh64, xxh64_after, xxh64_answer}
-use Rattle.sketch_hash.specs.Examples.{test_bytes_from, WordAnswers, MurmurAnswers, Xxh64Answers, ValueAnswers, Relations}
+use Rattle.sketch_hash.specs.KnownAnswers.{test_bytes_from, WordAnswers, MurmurAnswers, Xxh64Answers, ValueAnswers, Relations}
 use Rattle.sketch_hash.proofs.Undoes.{plus-once}
 
 pub word_answers : WordAnswers

@@ -6,7 +6,7 @@ use Rattle.datasketches.specs.Refusals.{Refuses}
 use Rattle.datasketches.specs.Words.{xor_below, xor, rotate}
 use Rattle.datasketches.specs.Xxh64.{round, lane, lanes_start, lanes, merge_round, merge, steps, eight_step, four_step, byte_step, tail_step, avalanche, finalize, xxh64}
 use Rattle.sketch_member.specs.Table.{index}
-use Rattle.sketch_member.proofs.examples.worked_values.Goals as goal
+use Rattle.sketch_member.proofs.known_answers.worked_values.Goals as goal
 
 -- a refusal of malformed data is none of an argument
 other_kind : (text message : List ℕ) → Refuses InvalidData text (error_of InvalidArgument message) → ⊥
