@@ -1,11 +1,6 @@
 use Rattle.std.proofs.Common.{◌≡◌, ◌≤◌, arith, sym, lit≤, refl, ◌∙◌}
-<<<<<<<< HEAD:crates/examples/proofs/known_answers/relations/Answers.antt
 use Rattle.datasketches.specs.SeedHash.{seed_hash}
 use Rattle.examples.proofs.known_answers.relations.Goals as goal
-========
-use Rattle.sketch_hash.specs.SeedHash.{seed_hash}
-use Rattle.sketch_vectors.proofs.known_answers.relations.Goals as goal
->>>>>>>> 91ef0b2af3090c7cc29c3c86acb9b797fd9e09e0:crates/sketch_vectors/proofs/known_answers/relations/Answers.antt
 
 pub returns : goal.returns
 returns c =
