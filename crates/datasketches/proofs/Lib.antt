@@ -1,4 +1,4 @@
-pub mod ExampleLemmas
+pub mod KnownAnswerLemmas
 pub mod SliceLemmas
 pub mod AgreeLemmas
 pub mod MurmurLawLemmas

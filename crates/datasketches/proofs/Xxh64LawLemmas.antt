@@ -24,12 +24,12 @@ plus-lt x y = omega arith
 -- ---- a hash in two parts: the word that the tail begins at, and what is made of it
 
 -- where the steps of the tail begin, for the lanes and a length
-tail_start : Lanes → ℕ → ℕ
-tail_start v n = plus (if nat_lt n 32 then plus v.seed prime5 else merge v) n
+tail_start : ℕ → Lanes → ℕ → ℕ
+tail_start seed v n = plus (if nat_lt n 32 then plus seed prime5 else merge v) n
 
-tail_start-lands : (v : Lanes) (n : ℕ) → IsWord (tail_start v n)
+tail_start-lands : (seed : ℕ) (v : Lanes) (n : ℕ) → IsWord (tail_start seed v n)
 unfolding tail_start
-tail_start-lands v n = plus-lt (if nat_lt n 32 then plus v.seed prime5 else merge v) n
+tail_start-lands seed v n = plus-lt (if nat_lt n 32 then plus seed prime5 else merge v) n
 
 -- what is answered from a word on, for the steps that follow
 onward : List (ℕ × ℕ) → ℕ → ℕ
@@ -41,7 +41,7 @@ unfolding onward
 onward-once ps ss list p = ss.steps_of_word list p ▸ ss.last_mixing
 
 xxh64-is : (seed : ℕ) (bytes : List ℕ) →
-    xxh64 seed bytes ≡ onward (tail_steps bytes) (tail_start (lanes seed bytes) (length bytes % 2 ^ 64))
+    xxh64 seed bytes ≡ onward (tail_steps bytes) (tail_start seed (lanes seed bytes) (length bytes % 2 ^ 64))
 unfolding xxh64 finalize onward tail_start
 xxh64-is seed bytes = refl
 
@@ -128,23 +128,23 @@ xx_tail_law ps ss seed a b p h k d e =
     let v = lanes seed a in
     let behind = ps.rest_length 32 a b d.one_length in
     let one_start = sym (lanes-same seed a b d.same_stripes) in
-    d.differ (same_steps ps ss (tail_start v n) d.one_step.0 (tail_steps a) (tail_steps b) (record {
-      from_word = tail_start-lands v n;
+    d.differ (same_steps ps ss (tail_start seed v n) d.one_step.0 (tail_steps a) (tail_steps b) (record {
+      from_word = tail_start-lands seed v n;
       xs_are = tail_steps-are ps ss a h;
       ys_are = tail_steps-are ps ss b k;
       same_widths = ss.tail_widths (rest 32 a) (rest 32 b) behind;
       agree = d.one_step.1;
       one_hash =
           sym (xxh64-is seed a) ∙ e ∙ xxh64-is seed b
-          ∙ ap (λ w. onward (tail_steps b) (tail_start w (length b % 2 ^ 64))) one_start
-          ∙ ap (λ m. onward (tail_steps b) (tail_start v (m % 2 ^ 64))) (sym d.one_length);
+          ∙ ap (λ w. onward (tail_steps b) (tail_start seed w (length b % 2 ^ 64))) one_start
+          ∙ ap (λ m. onward (tail_steps b) (tail_start seed v (m % 2 ^ 64))) (sym d.one_length);
     }))
 
 -- ---- the seed of a short stream
 
 -- a short stream's steps begin at a sum with the seed
 tail_start-short : (seed : ℕ) (bytes : List ℕ) → length bytes < 32 →
-    tail_start (lanes seed bytes) (length bytes % 2 ^ 64) ≡ plus (plus seed prime5) (length bytes)
+    tail_start seed (lanes seed bytes) (length bytes % 2 ^ 64) ≡ plus (plus seed prime5) (length bytes)
 unfolding tail_start lanes
 tail_start-short seed bytes l =
     let size : length bytes % 2 ^ 64 ≡ length bytes = mod-eq_of_lt (omega arith) in
@@ -153,8 +153,8 @@ tail_start-short seed bytes l =
 
 pub xx_seed_law : PieceLaws → Xxh64StepLaws → XxSeedLaw
 xx_seed_law ps ss seed_a seed_b bytes p q h l differ e =
-    let a_is = tail_start-lands (lanes seed_a bytes) (length bytes % 2 ^ 64) in
-    let b_is = tail_start-lands (lanes seed_b bytes) (length bytes % 2 ^ 64) in
+    let a_is = tail_start-lands seed_a (lanes seed_a bytes) (length bytes % 2 ^ 64) in
+    let b_is = tail_start-lands seed_b (lanes seed_b bytes) (length bytes % 2 ^ 64) in
     let one_end = sym (xxh64-is seed_a bytes) ∙ e ∙ xxh64-is seed_b bytes in
     let once = (onward-once ps ss (tail_steps bytes) (tail_steps-are ps ss bytes h)).once in
     let one_start = once _ _ a_is b_is one_end in

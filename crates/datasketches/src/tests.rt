@@ -3,7 +3,7 @@
 ghost use Rattle.std.specs.Prelude.{IsTrue};
 
 use crate::laws::{murmur_both, xx_both};
-use sketch_hash::examples::TEST_BUFFER;
+use sketch_hash::known_answers::TEST_BUFFER;
 use std::fmt::Debug;
 use std::process::Abort;
 

@@ -35,7 +35,7 @@ pub murmur-counts : (state : State (ℕ × ℕ)) (bytes : List ℕ) → length s
 unfolding murmur_after
 murmur-counts state bytes = counts-after 16 _ _ state bytes (omega arith) (λ n. omega arith)
 
-pub xxh64-counts : (state : State Lanes) (bytes : List ℕ) → length state.waiting ≡ state.total % 32 →
+pub xxh64-counts : (state : State (ℕ × Lanes)) (bytes : List ℕ) → length state.waiting ≡ state.total % 32 →
     length (xxh64_after state bytes).waiting ≡ (xxh64_after state bytes).total % 32
 unfolding xxh64_after
 xxh64-counts state bytes = counts-after 32 _ _ state bytes (omega arith) (λ n. omega arith)

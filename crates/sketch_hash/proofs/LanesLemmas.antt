@@ -3,14 +3,21 @@ use Rattle.std.proofs.Common.{◌≡◌, ℕ, List, [], ◌∷◌, ◌++◌, len
 use Rattle.std.specs.List.{fold}
 use Rattle.std.specs.Simd.Lanes.{zip2}
 use Rattle.std.proofs.lemmas.List.Sums.{fold-append}
-use Rattle.sketch_hash.specs.Xxh64.{Lanes, round, stripe_step}
+use Rattle.sketch_hash.specs.Xxh64.{Lanes, round, stripe_step, seeded_step}
 use Rattle.sketch_hash.specs.Lanes.{lanes_of, stripe_words, each_lane}
 
 -- stripe by stripe, each lane is folded over its own words
-pub fold-each_lane : (stripes : List (List ℕ)) (v : Lanes) → fold stripe_step v stripes ≡ each_lane v stripes
+fold-each_lane : (stripes : List (List ℕ)) (v : Lanes) → fold stripe_step v stripes ≡ each_lane v stripes
 unfolding stripe_step
 fold-each_lane [] v = refl
 fold-each_lane (s ∷ stripes) v = fold-each_lane stripes (stripe_step v s)
+
+-- and the seed stays
+pub fold-seeded : (stripes : List (List ℕ)) (seed : ℕ) (v : Lanes) →
+    fold seeded_step (seed, v) stripes ≡ (seed, each_lane v stripes)
+unfolding stripe_step
+fold-seeded [] seed v = refl
+fold-seeded (s ∷ stripes) seed v = fold-seeded stripes seed (stripe_step v s)
 
 -- one stripe more
 pub each_lane-more : (v : Lanes) (stripes : List (List ℕ)) (s : List ℕ) →
@@ -20,12 +27,12 @@ each_lane-more v stripes s =
     ∙ sym (fold-append stripe_step v stripes (s ∷ [])) ∙ fold-each_lane (stripes ++ s ∷ []) v
 
 -- a list of four lanes and the words of a stripe, one by one
-pub lanes_of-stripe_round : (seed : ℕ) (v : List ℕ) (stripe : List ℕ) → length v ≡ 4 →
-    lanes_of seed (zip2 round v (stripe_words stripe)) ≡ stripe_step (lanes_of seed v) stripe
+pub lanes_of-stripe_round : (v : List ℕ) (stripe : List ℕ) → length v ≡ 4 →
+    lanes_of (zip2 round v (stripe_words stripe)) ≡ stripe_step (lanes_of v) stripe
 unfolding stripe_step
-lanes_of-stripe_round seed [] stripe h = absurd (omega arith)
-lanes_of-stripe_round seed (a ∷ []) stripe h = absurd (omega arith)
-lanes_of-stripe_round seed (a ∷ b ∷ []) stripe h = absurd (omega arith)
-lanes_of-stripe_round seed (a ∷ b ∷ c ∷ []) stripe h = absurd (omega arith)
-lanes_of-stripe_round seed (a ∷ b ∷ c ∷ d ∷ []) stripe h = refl
-lanes_of-stripe_round seed (a ∷ b ∷ c ∷ d ∷ e ∷ v) stripe h = absurd (omega arith)
+lanes_of-stripe_round [] stripe h = absurd (omega arith)
+lanes_of-stripe_round (a ∷ []) stripe h = absurd (omega arith)
+lanes_of-stripe_round (a ∷ b ∷ []) stripe h = absurd (omega arith)
+lanes_of-stripe_round (a ∷ b ∷ c ∷ []) stripe h = absurd (omega arith)
+lanes_of-stripe_round (a ∷ b ∷ c ∷ d ∷ []) stripe h = refl
+lanes_of-stripe_round (a ∷ b ∷ c ∷ d ∷ e ∷ v) stripe h = absurd (omega arith)

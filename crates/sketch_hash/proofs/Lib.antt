@@ -1,4 +1,4 @@
-pub mod ExampleLemmas
+pub mod KnownAnswerLemmas
 pub mod WordsLemmas
 pub mod PiecesLemmas
 pub mod StateLemmas

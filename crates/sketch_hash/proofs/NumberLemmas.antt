@@ -159,7 +159,8 @@ le-block count n bytes b h low high =
     let missing_len : length front ≡ missing = length-take-le missing bytes (omega arith) in
     let within : missing ≤ length wide = missing_within missing bytes (omega arith) (omega arith) in
     let cut : le wide ≡ le front + behind * 256 ^ missing =
-    le-cut missing wide within ∙ ap (λ t. le t + behind * 256 ^ missing) (take-take missing 16 bytes (omega arith)) in
+    le-cut missing wide within
+    ∙ ap (λ t. le t + behind * 256 ^ missing) (take-take missing 16 bytes (omega arith)) in
     let all : 256 ^ missing * 256 ^ count ≡ 2 ^ 128 =
     sym (pow-add 256 missing count) ∙ ap (λ k. 256 ^ k) (whole count low) in
     let block : List ℕ = low_bytes count n ++ front in

@@ -11,7 +11,7 @@ use Rattle.sketch_hash.specs.Pieces.{pieces, rest, State, absorb}
 use Rattle.sketch_hash.specs.Xxh64.{Lanes, prime5, lane, lanes_start, lanes, merge, steps_of, steps, tail_step, eight_step, four_step, byte_step, avalanche, finalize, xxh64, xxh64_start, xxh64_after, xxh64_answer, Xxh64Stands}
 use Rattle.sketch_hash.specs.Words.{IsWord, plus}
 use Rattle.sketch_hash.specs.Lanes.{each_lane}
-use Rattle.sketch_hash.proofs.LanesLemmas.{fold-each_lane}
+use Rattle.sketch_hash.proofs.LanesLemmas.{fold-seeded}
 use Rattle.sketch_hash.proofs.PiecesLemmas.{pieces_short, rest_short, pieces-first, rest-first}
 
 -- ---- the tail
@@ -48,7 +48,8 @@ pub fold_sixteen : (hash : ℕ) (bytes : List ℕ) → 16 ≤ length bytes →
     (steps (drop 8 (drop 8 bytes)))
 fold_sixteen hash bytes h =
     let behind : 8 ≤ length (drop 8 bytes) = rw (length-drop 8 bytes) (omega arith) in
-    fold_eight hash bytes (omega arith) ∙ fold_eight (eight_step hash (le (take 8 bytes))) (drop 8 bytes) behind
+    fold_eight hash bytes (omega arith)
+    ∙ fold_eight (eight_step hash (le (take 8 bytes))) (drop 8 bytes) behind
 
 pub fold_word : (hash : ℕ) (bytes : List ℕ) → 4 ≤ length bytes → length bytes < 8 →
     fold tail_step hash (steps bytes) ≡ fold byte_step (four_step hash (le (take 4 bytes))) (drop 4 bytes)
@@ -93,10 +94,10 @@ unfolding xxh64_answer xxh64_after xxh64 absorb pieces rest lanes lane lanes_sta
 xxh64_answer-after seed [] = refl
 xxh64_answer-after seed (b ∷ bytes) =
     let all = map-id (pieces 32 (b ∷ bytes)) in
-    let by_lane = fold-each_lane (pieces 32 (b ∷ bytes)) (lanes_start seed) in
+    let by_lane = fold-seeded (pieces 32 (b ∷ bytes)) seed (lanes_start seed) in
     rw (zero-add, all, by_lane) refl
 
-pub xxh64_answer-stands : (seed : ℕ) (bytes : List ℕ) (state : State Lanes) →
+pub xxh64_answer-stands : (seed : ℕ) (bytes : List ℕ) (state : State (ℕ × Lanes)) →
     Xxh64Stands state seed bytes → xxh64_answer state ≡ xxh64 seed bytes
 xxh64_answer-stands seed bytes state stands = ap xxh64_answer stands ∙ xxh64_answer-after seed bytes
 

@@ -14,9 +14,9 @@ murmur_held s = record {
   waiting = take (s.total % 16) s.waiting;
 }
 
-abbrev pub xxh64_held : XxHash64State → State Lanes
+abbrev pub xxh64_held : XxHash64State → State (ℕ × Lanes)
 xxh64_held s = record {
-  folded = record { seed = s.seed; v1 = s.v1; v2 = s.v2; v3 = s.v3; v4 = s.v4 };
+  folded = (s.seed, record { v1 = s.v1; v2 = s.v2; v3 = s.v3; v4 = s.v4 });
   total = s.total;
   waiting = take (s.total % 32) s.waiting;
 }

@@ -1,17 +1,20 @@
+-- ---- the definitions that contracts cite
 pub mod Words
 pub mod Pieces
-pub mod PiecesWriteLemmas
 pub mod Murmur
-pub mod MurmurWriteLemmas
 pub mod Xxh64
-pub mod Xxh64WriteLemmas
 pub mod Lanes
 pub mod ScalarLanes
 pub mod Held
 pub mod Values
 pub mod Lending
 pub mod SeedHash
-pub mod Examples
 pub mod OneToOne
-pub mod OneToOneLemmas
 pub mod Laws
+pub mod KnownAnswers
+-- ---- Lemmas, by their names: nobody has to believe these, for they are proved here. They stand in
+-- ---- specs/ because the proof of a law in an `impl` may cite nothing else.
+pub mod PiecesWriteLemmas
+pub mod MurmurWriteLemmas
+pub mod Xxh64WriteLemmas
+pub mod OneToOneLemmas

@@ -1,4 +1,4 @@
--- Functions that take each value exactly once, composed: in stripe_round, in a part of a pair, along a
+-- Functions that take each value exactly once, composed: in turn, in a part of a pair, along a
 -- list.
 use Rattle.std.proofs.Common.{◌≡◌, List, [], ◌∷◌, refl, sym, ap, ◌∙◌, Bool, true, false, cond}
 use Rattle.std.specs.List.{All, fold}

@@ -4,11 +4,10 @@ use Rattle.sketch_hash.specs.Pieces.{State}
 use Rattle.sketch_hash.specs.Xxh64.{Lanes}
 use Rattle.sketch_hash.specs.declared.hash.xxhash.lanes.ScalarLanes.{ScalarLanes}
 
--- a seed and four words
-abbrev pub lanes_of_scalars : ℕ → ScalarLanes → Lanes
-lanes_of_scalars seed v = record { seed = seed; v1 = v.v1; v2 = v.v2; v3 = v.v3; v4 = v.v4 }
+abbrev pub lanes_of_scalars : ScalarLanes → Lanes
+lanes_of_scalars v = record { v1 = v.v1; v2 = v.v2; v3 = v.v3; v4 = v.v4 }
 
--- the state of a stream with these lanes
-abbrev pub state_of_scalars : ℕ → ScalarLanes → ℕ → List ℕ → State Lanes
+-- the state of a stream with a seed and these lanes
+abbrev pub state_of_scalars : ℕ → ScalarLanes → ℕ → List ℕ → State (ℕ × Lanes)
 state_of_scalars seed v total waiting =
-    record { folded = lanes_of_scalars seed v; total = total; waiting = waiting }
+    record { folded = (seed, lanes_of_scalars v); total = total; waiting = waiting }

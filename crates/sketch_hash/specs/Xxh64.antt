@@ -1,12 +1,17 @@
--- XXH64 of Yann Collet's xxHash specification, as a function of a seed and a list of bytes.
--- Sums, differences and products are those of words, modulo 2 ^ 64.
+-- XXH64 of Yann Collet's xxHash specification, as a function of a seed and a list of bytes. Each
+-- definition names the step of the specification's "XXH64 Algorithm Description" that it is; an
+-- accumulator of the specification is a lane here. Sums, differences and products are those of
+-- words, modulo 2 ^ 64.
+--
+-- One departure: the length counts modulo 2 ^ 64, and what is counted chooses between the two forms
+-- of step 1, so 2 ^ 64 bytes and few more have the form of short inputs.
 use Rattle.std.specs.Prelude.{◌≡◌, ℕ, ◌%◌, ◌^◌, List, [], ◌++◌, length, map, nat_lt, ◌==◌, if◌then◌else◌}
 use Rattle.std.specs.List.{fold}
 use Rattle.sketch_base.specs.Bytes.{le}
 use Rattle.sketch_hash.specs.Words.{plus, minus, times, xor, rotate, xor_shift}
 use Rattle.sketch_hash.specs.Pieces.{pieces, rest, word_at, State, state_after}
 
--- the five primes
+-- "Overview": the five primes
 abbrev pub prime1 : ℕ
 prime1 = 0x9E3779B185EBCA87
 
@@ -24,53 +29,49 @@ prime5 = 0x27D4EB2F165667C5
 
 -- ---- the lanes
 
--- a lane after an input word
+-- step 2, `round`: a lane after an input word
 unfoldable pub round : ℕ → ℕ → ℕ
 round lane word = times (rotate (plus lane (times word prime2)) 31) prime1
 
--- all full stripes of 32 bytes
+-- step 2: all full stripes of 32 bytes
 abbrev pub stripes : List ℕ → List (List ℕ)
 stripes bytes = pieces 32 bytes
 
--- one lane by itself: from its start, the words at place j of all stripes, in order
+-- step 2, one lane by itself: from its start, the words at place j of all stripes, in order
 unfoldable pub lane : ℕ → ℕ → List ℕ → ℕ
 lane j start bytes = fold round start (map (word_at j) (stripes bytes))
 
--- a seed and its four lanes
 pub record Lanes : Type 0 where
-  pub seed : ℕ
   pub v1 : ℕ
   pub v2 : ℕ
   pub v3 : ℕ
   pub v4 : ℕ
 
--- where the lanes start
+-- step 1: where the lanes start
 unfoldable pub lanes_start : ℕ → Lanes
 lanes_start seed = record {
-  seed = seed;
   v1 = plus (plus seed prime1) prime2;
   v2 = plus seed prime2;
   v3 = seed;
   v4 = minus seed prime1;
 }
 
--- the lanes after all full stripes of an input
+-- step 2: the lanes after all full stripes of an input
 unfoldable pub lanes : ℕ → List ℕ → Lanes
 lanes seed bytes =
     let start = lanes_start seed in
     record {
-      seed = seed;
       v1 = lane 0 start.v1 bytes;
       v2 = lane 1 start.v2 bytes;
       v3 = lane 2 start.v3 bytes;
       v4 = lane 3 start.v4 bytes;
     }
 
--- one lane enters the hash
+-- step 3, `mergeAccumulator`: one lane enters the hash
 unfoldable pub merge_round : ℕ → ℕ → ℕ
 merge_round h v = plus (times (xor h (round 0 v)) prime1) prime4
 
--- the four lanes become one word
+-- step 3: the four lanes become one word
 unfoldable pub merge : Lanes → ℕ
 merge v =
     let first = plus (rotate v.v1 1) (rotate v.v2 7) in
@@ -83,8 +84,8 @@ merge v =
 abbrev pub steps_of : ℕ → List ℕ → List (ℕ × ℕ)
 steps_of w bytes = map (λ piece. (w, le piece)) (pieces w bytes)
 
--- The bytes behind the stripes, in order, as steps (width, number): words of eight bytes while
--- eight are left, then one of four bytes where four are left, then single bytes.
+-- Step 5: the bytes after the stripes, in order, as pairs (width, number): words of eight bytes
+-- while eight are left, then one of four bytes where four are left, then single bytes.
 unfoldable pub steps : List ℕ → List (ℕ × ℕ)
 steps waiting =
     steps_of 8 waiting ++ steps_of 4 (rest 8 waiting) ++ steps_of 1 (rest 4 (rest 8 waiting))
@@ -92,7 +93,7 @@ steps waiting =
 abbrev pub tail_steps : List ℕ → List (ℕ × ℕ)
 tail_steps bytes = steps (rest 32 bytes)
 
--- the hash after a word of eight bytes, a word of four bytes, and a single byte
+-- step 5: the hash after a word of eight bytes, a word of four bytes, and a single byte
 unfoldable pub eight_step : ℕ → ℕ → ℕ
 eight_step h word = plus (times (rotate (xor h (round 0 word)) 27) prime1) prime4
 
@@ -102,7 +103,7 @@ four_step h word = plus (times (rotate (xor h (times word prime1)) 23) prime2) p
 unfoldable pub byte_step : ℕ → ℕ → ℕ
 byte_step h byte = times (rotate (xor h (times byte prime5)) 11) prime1
 
--- the hash after a step (width, number)
+-- step 5: the hash after a piece (width, number)
 unfoldable pub tail_step : ℕ → ℕ × ℕ → ℕ
 tail_step h s =
     if s.0 == 8 then eight_step h s.1
@@ -111,48 +112,52 @@ tail_step h s =
 
 -- ---- the end
 
--- the last mixing of the hash
+-- step 6: the last mixing of the hash
 unfoldable pub avalanche : ℕ → ℕ
 avalanche h =
     let once = times (xor_shift 33 h) prime2 in
     let twice = times (xor_shift 29 once) prime3 in
     xor_shift 32 twice
 
--- The hash of n bytes, n modulo 2 ^ 64, from their lanes and the bytes behind the stripes. It takes
--- the lanes where n is at least 32, and the seed alone where it is less.
-unfoldable pub finalize : Lanes → ℕ → List ℕ → ℕ
-finalize v n waiting =
-    let h = if nat_lt n 32 then plus v.seed prime5 else merge v in
+-- Steps 3 to 6: the hash of n bytes, n modulo 2 ^ 64, from their seed, their lanes and the bytes
+-- after the stripes. It takes the lanes where n is at least 32, and else the seed alone, as the
+-- special case of step 1 does. Step 4 adds n.
+unfoldable pub finalize : ℕ → Lanes → ℕ → List ℕ → ℕ
+finalize seed v n waiting =
+    let h = if nat_lt n 32 then plus seed prime5 else merge v in
     avalanche (fold tail_step (plus h n) (steps waiting))
 
 -- the hash of the bytes under a seed
 unfoldable pub xxh64 : ℕ → List ℕ → ℕ
-xxh64 seed bytes = finalize (lanes seed bytes) (length bytes % 2 ^ 64) (rest 32 bytes)
+xxh64 seed bytes = finalize seed (lanes seed bytes) (length bytes % 2 ^ 64) (rest 32 bytes)
 
 -- ---- a hasher that is written to piece by piece
 
 -- all four lanes after one stripe
 unfoldable pub stripe_step : Lanes → List ℕ → Lanes
 stripe_step v stripe = record {
-  seed = v.seed;
   v1 = round v.v1 (word_at 0 stripe);
   v2 = round v.v2 (word_at 1 stripe);
   v3 = round v.v3 (word_at 2 stripe);
   v4 = round v.v4 (word_at 3 stripe);
 }
 
+-- the seed, which stays, and the lanes after one stripe
+abbrev pub seeded_step : ℕ × Lanes → List ℕ → ℕ × Lanes
+seeded_step s stripe = (s.0, stripe_step s.1 stripe)
+
 -- the state of a hasher with a seed and no bytes
-abbrev pub xxh64_start : ℕ → State Lanes
-xxh64_start seed = record { folded = lanes_start seed; total = 0; waiting = [] }
+abbrev pub xxh64_start : ℕ → State (ℕ × Lanes)
+xxh64_start seed = record { folded = (seed, lanes_start seed); total = 0; waiting = [] }
 
 -- the state that a write of bytes leaves
-unfoldable pub xxh64_after : State Lanes → List ℕ → State Lanes
-xxh64_after state bytes = state_after 32 (λ stripe. stripe) stripe_step state bytes
+unfoldable pub xxh64_after : State (ℕ × Lanes) → List ℕ → State (ℕ × Lanes)
+xxh64_after state bytes = state_after 32 (λ stripe. stripe) seeded_step state bytes
 
 -- what a hasher in a state answers
-unfoldable pub xxh64_answer : State Lanes → ℕ
-xxh64_answer state = finalize state.folded state.total state.waiting
+unfoldable pub xxh64_answer : State (ℕ × Lanes) → ℕ
+xxh64_answer state = finalize state.folded.0 state.folded.1 state.total state.waiting
 
 -- the state is that of a hasher with the seed to which the bytes were written, in any pieces
-abbrev pub Xxh64Stands : State Lanes → ℕ → List ℕ → Type 0
+abbrev pub Xxh64Stands : State (ℕ × Lanes) → ℕ → List ℕ → Type 0
 Xxh64Stands state seed bytes = state ≡ xxh64_after (xxh64_start seed) bytes

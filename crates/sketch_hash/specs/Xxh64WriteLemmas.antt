@@ -3,22 +3,22 @@ use Rattle.std.specs.Prelude.{◌≡◌, ℕ, List, [], ◌++◌, refl}
 use Rattle.std.proofs.Common.{ap, ◌∙◌, arith}
 use Rattle.sketch_hash.specs.Pieces.{State}
 use Rattle.sketch_hash.specs.PiecesWriteLemmas.{state_after-append}
-use Rattle.sketch_hash.specs.Xxh64.{Lanes, stripe_step, xxh64_start, xxh64_after, Xxh64Stands}
+use Rattle.sketch_hash.specs.Xxh64.{Lanes, seeded_step, xxh64_start, xxh64_after, Xxh64Stands}
 
 -- two writes leave what one write of the joined bytes leaves
-pub xxh64_after-append : (state : State Lanes) (xs ys : List ℕ) →
+pub xxh64_after-append : (state : State (ℕ × Lanes)) (xs ys : List ℕ) →
     xxh64_after (xxh64_after state xs) ys ≡ xxh64_after state (xs ++ ys)
 unfolding xxh64_after
 xxh64_after-append state xs ys =
-    state_after-append 32 (λ stripe. stripe) stripe_step (omega arith) state xs ys
+    state_after-append 32 (λ stripe. stripe) seeded_step (omega arith) state xs ys
 
 -- an empty write leaves the state
-pub xxh64_after-empty : (state : State Lanes) → xxh64_after state [] ≡ state
+pub xxh64_after-empty : (state : State (ℕ × Lanes)) → xxh64_after state [] ≡ state
 unfolding xxh64_after
 xxh64_after-empty state = refl
 
 -- a write takes a hasher that stands for bytes to one that stands for them and the written ones
-pub xxh64_stands-after : (seed : ℕ) (before bytes : List ℕ) (state next : State Lanes) →
+pub xxh64_stands-after : (seed : ℕ) (before bytes : List ℕ) (state next : State (ℕ × Lanes)) →
     Xxh64Stands state seed before → next ≡ xxh64_after state bytes →
     Xxh64Stands next seed (before ++ bytes)
 xxh64_stands-after seed before bytes state next stands written =

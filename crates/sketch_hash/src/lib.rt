@@ -2,8 +2,8 @@
 //! definitions.
 #![tactic(auto)]
 
-pub mod examples;
 pub mod hash;
+pub mod known_answers;
 pub mod laws;
 #[cfg(test)]
 mod tests;

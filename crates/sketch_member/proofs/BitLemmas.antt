@@ -1,9 +1,9 @@
 -- Bits packed into bytes.
-use Rattle.std.proofs.Common.{◌≡◌, ◌≢◌, ◌↔◌, ◌⊎◌, ℕ, ◌*◌, ◌/◌, ◌%◌, ◌^◌, ◌<◌, List, length, set, get_or, replicate, sym, ap, subst, ◌∙◌, inl, inr, arith, bit_or, Fits}
+use Rattle.std.proofs.Common.{◌≡◌, ◌≢◌, ◌↔◌, ◌⊎◌, ℕ, ◌*◌, ◌/◌, ◌%◌, ◌^◌, ◌<◌, max, List, length, set, get_or, replicate, refl, sym, ap, subst, ◌∙◌, inl, inr, arith, bit_or, Fits}
 use Rattle.std.specs.Int.{w8, bit_at}
 use Rattle.std.proofs.lemmas.List.{get_or-set_same, get_or-set_other, get_or-replicate, get_or_past, length-replicate}
 use Rattle.std.proofs.lemmas.Nat.{or_of_8}
-use Rattle.std.proofs.lemmas.Nat.Bits.{bit_at_set_same, bit_at_set_other}
+use Rattle.std.proofs.lemmas.Nat.Bits.{bit_at-lt, bit_at_or, bit_at_set_same, bit_at_set_other}
 use Rattle.std.proofs.lemmas.Bool.{cases_eq, cases_lt}
 use Rattle.sketch_member.specs.Table.{IsSet}
 
@@ -68,4 +68,37 @@ zeros-get n k =
     elim (cases_lt k n) [
       | inl within ↦ get_or-replicate n k 0 0 within
       | inr past ↦ get_or_past zeros k 0 (omega (arith, count))
+    ]
+
+-- the greater of two digits is 1 exactly if one of them is
+max_of_digits : (a b : ℕ) → a < 2 → b < 2 → (max a b ≡ 1) ↔ ((a ≡ 1) ⊎ (b ≡ 1))
+max_of_digits a b ha hb = (
+  (λ is. elim (cases_eq a 1) [
+    | inl one ↦ inl one
+    | inr not ↦ inr (omega (arith, is, not, ha, hb))
+  ]),
+  (λ one. elim one [
+    | inl first ↦ omega (arith, first, ha, hb)
+    | inr second ↦ omega (arith, second, ha, hb)
+  ]),
+)
+
+-- where each byte is joined with that of its place, the bits that are set are those of both
+pub joined_bits : (xs ys zs : List ℕ) → length zs ≡ length xs → length xs ≡ length ys →
+    ((k : ℕ) → k < length xs → get_or zs k 0 ≡ bit_or (get_or xs k 0) (get_or ys k 0)) →
+    (i : ℕ) → IsSet zs i ↔ (IsSet xs i ⊎ IsSet ys i)
+joined_bits xs ys zs count counts joined i =
+    let digit = ap (λ b. bit_at b (i % 8)) (byte (i / 8))
+    ∙ bit_at_or (get_or xs (i / 8) 0) (get_or ys (i / 8) 0) (i % 8) in
+    let one = max_of_digits _ _ (bit_at-lt (get_or xs (i / 8) 0) (i % 8))
+    (bit_at-lt (get_or ys (i / 8) 0) (i % 8)) in
+    ((λ is. one.0 (sym digit ∙ is)), (λ is. digit ∙ one.1 is))
+  where
+    byte : (k : ℕ) → get_or zs k 0 ≡ bit_or (get_or xs k 0) (get_or ys k 0)
+    byte k = elim (cases_lt k (length xs)) [
+      | inl within ↦ joined k within
+      | inr past ↦
+          let e = get_or_past xs k 0 past in
+          let f = get_or_past ys k 0 (omega (arith, counts, past)) in
+          get_or_past zs k 0 (omega (arith, count, past)) ∙ sym (rw (e, f) refl)
     ]

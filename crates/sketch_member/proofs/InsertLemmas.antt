@@ -17,7 +17,7 @@ none table empty i =
     nothing k h = omega arith
 
 -- tables of one seed and sizes give a value the same indexes
-same_index : (table other : Table) (fed : List ℕ) (i : ℕ) → table.seed ≡ other.seed →
+pub same_index : (table other : Table) (fed : List ℕ) (i : ℕ) → table.seed ≡ other.seed →
     table.log2_bits ≡ other.log2_bits → table.hashes ≡ other.hashes →
     IsIndex table fed i → IsIndex other fed i
 same_index table other fed i seed log2_bits hashes is =
@@ -77,6 +77,16 @@ same_bits bits others count bytes other_bytes same =
     let here = rw (at, place) at (same (k * 8 + j)) in
     same_digit _ _ (bit_at-lt (get_or bits k 0) j) (bit_at-lt (get_or others k 0) j) here.0 here.1))
 
+-- so are the bits of tables of one size
+pub same_table_bits : (table other : Table) → IsTable table → IsTable other →
+    table.log2_bits ≡ other.log2_bits → ((i : ℕ) → IsSet table.bits i ↔ IsSet other.bits i) →
+    table.bits ≡ other.bits
+same_table_bits table other is is_other log2_bits same =
+    let power : 2 ^ table.log2_bits ≡ 2 ^ other.log2_bits = ap (λ n. 2 ^ n) log2_bits in
+    let count : length table.bits ≡ length other.bits =
+    omega (arith, power, is.bits, is_other.bits) in
+    same_bits table.bits other.bits count is.bytes is_other.bytes same
+
 -- one insert more is counted
 one_counted : (before after : Table) (fed : List ℕ) (n : ℕ) →
     Inserts fed before after → before.count ≡ count_after n → after.count ≡ count_after (n + 1)
@@ -93,10 +103,7 @@ once : (table other : Table) (values others : List (List ℕ)) →
     ((fed : List ℕ) → Contains values fed ↔ Contains others fed) →
     (table.bits ≡ other.bits) × (table.count ≡ other.count → table ≡ other)
 once table other values others is is_other seed log2_bits hashes stands stands_other same =
-    let power : 2 ^ table.log2_bits ≡ 2 ^ other.log2_bits = ap (λ n. 2 ^ n) log2_bits in
-    let length : length table.bits ≡ length other.bits =
-    omega (arith, power, is.bits, is_other.bits) in
-    let bits = same_bits table.bits other.bits length is.bytes is_other.bytes (λ i. (
+    let bits = same_table_bits table other is is_other log2_bits (λ i. (
       (λ set.
           let of = (stands i).0 set in
           (stands_other i).1 (

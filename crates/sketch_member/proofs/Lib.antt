@@ -3,4 +3,5 @@ pub mod FaultLemmas
 pub mod FormLemmas
 pub mod InsertLemmas
 pub mod LawLemmas
+pub mod MergeLemmas
 pub mod SizeLemmas

@@ -1,6 +1,7 @@
 pub mod Limits
 pub mod Table
+pub mod Merge
 pub mod Form
 pub mod Faults
 pub mod Laws
-pub mod Examples
+pub mod KnownAnswers

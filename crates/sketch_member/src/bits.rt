@@ -19,3 +19,14 @@ pub(crate) fn set(bits: &mut [u8], i: usize)
 {
     bits[i >> 3] |= 1 << (i & 7);
 }
+
+// Sets the bits that are set in another list of as many.
+pub(crate) fn set_all(bits: &mut [u8], other: &[u8])
+    requires { length bits.old ≡ length other.now }
+    ensures bits { (i : ℕ) → IsSet bits.new i ↔ (IsSet bits.old i ⊎ IsSet other.now i) }
+    ensures bytes { (k : ℕ) → slice_index bits.new k < 256 }
+{
+    for k in 0..bits.len() {
+        bits[k] |= other[k];
+    }
+}

@@ -1,14 +1,16 @@
 //! What follows for users of tables and their bytes.
 
-ghost use Rattle.std.specs.Prelude.{◌≡◌, ◌↔◌, ◌⊎◌, ℕ, List, None, length, IfOk, MatchResult};
+ghost use Rattle.std.specs.Prelude.{◌≡◌, ◌↔◌, ◌⊎◌, ◌++◌, ℕ, List, None, length, map, IfOk, MatchResult};
 ghost use Rattle.datasketches.specs.ErrorValue.{memory_error};
 ghost use Rattle.sketch_member.specs.Faults.{AllPass, FirstFault, steps};
-ghost use Rattle.sketch_member.specs.Form.{IsForm, form1};
-ghost use Rattle.sketch_member.specs.Table.{IsMember, IsTable, Table};
-ghost use Rattle.sketch_member.specs.Laws.{FormLaw, InsertLaw};
+ghost use Rattle.sketch_member.specs.Form.{IsForm, form1, form2};
+ghost use Rattle.sketch_member.specs.Merge.{AreAlike};
+ghost use Rattle.sketch_member.specs.Table.{IsMember, IsTable, Table, empty_table};
+ghost use Rattle.sketch_member.specs.Laws.{FormLaw, InsertLaw, InsertsAll, IsMadeOf, MergeLaw};
 
 use crate::MemberTable;
 use datasketches::error::Error;
+use datasketches::hash::Hash;
 use std::alloc::Global;
 
 /// The bytes of a table are those of no other, and they are read.
@@ -20,6 +22,12 @@ pub fn form_law()
 /// them.
 pub fn insert_law()
     ensures { InsertLaw }
+{}
+
+/// Merging the tables of two streams of values makes the table of both streams, one after the
+/// other. Several tables may be merged in any order.
+pub fn merge_law()
+    ensures { MergeLaw }
 {}
 
 /// The table that is read from the bytes of a table: it is the same, count and all, so it contains
@@ -54,4 +62,46 @@ pub fn read_again(alloc: Global, bytes: &[u8]) -> Result<MemberTable, Error>
     form_law();
     let table = MemberTable::from_bytes(alloc, bytes)?;
     read_back(alloc, &table)
+}
+
+/// The bytes of the table of two streams of values, made in two ways: of one table for each stream,
+/// which are merged, and of one table that takes both streams, one after the other. They are the
+/// same.
+///
+/// # Errors
+///
+/// As those of [`MemberTable::new`]; memory may run out in the writing too.
+pub fn merge_both<T: Hash>(
+    alloc: Global,
+    seed: u64,
+    log2_bits: u8,
+    hashes: u8,
+    first: &[T],
+    second: &[T],
+) -> Result<(Vec<u8>, Vec<u8>), Error>
+    ensures same { IfOk result (λ both. both.0.items ≡ both.1.items) }
+    ensures whole { IfOk result (λ both. (whole : Table)
+        × AreAlike (empty_table seed log2_bits hashes) whole
+        × IsMadeOf (map T.fed first.now ++ map T.fed second.now) whole
+        × (both.1.items ≡ form2 whole)) }
+{
+    merge_law();
+    let mut merged = MemberTable::new(alloc, seed, log2_bits, hashes)?;
+    insert_all(&mut merged, first);
+    let mut other = MemberTable::new(alloc, seed, log2_bits, hashes)?;
+    insert_all(&mut other, second);
+    merged.merge(alloc, &other)?;
+    let mut whole = MemberTable::new(alloc, seed, log2_bits, hashes)?;
+    insert_all(&mut whole, first);
+    insert_all(&mut whole, second);
+    Ok((merged.to_bytes(alloc)?, whole.to_bytes(alloc)?))
+}
+
+// Inserts values, one after another.
+fn insert_all<T: Hash>(table: &mut MemberTable, values: &[T])
+    ensures { InsertsAll (map T.fed values.now) table.old table.new }
+{
+    for value in values {
+        table.insert(value);
+    }
 }

@@ -5,7 +5,7 @@
 #![tactic(auto)]
 
 mod bits;
-pub mod examples;
+pub mod known_answers;
 pub mod laws;
 mod limits;
 mod table;

@@ -14,6 +14,7 @@ use std::alloc::Global;
 use std::marker::Model;
 
 mod form;
+mod merging;
 mod reading;
 
 pub use self::form::MEMBER;

@@ -1,5 +1,6 @@
 ghost use Rattle.std.specs.Prelude.{IsTrue};
 
+mod merging;
 mod sizes;
 mod table;
 mod without_memory;

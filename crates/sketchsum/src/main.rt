@@ -4,6 +4,7 @@
 mod arguments;
 mod ending;
 mod program;
+mod read_ahead;
 mod run;
 mod streams;
 #[cfg(test)]
@@ -11,7 +12,13 @@ mod tests;
 mod words;
 
 use self::program::{ProgramEnd, program};
+use self::read_ahead::ReadAhead;
 
 fn main(rt: HostRuntime) -> ProgramEnd {
-    program(&rt, rt.alloc(), &mut rt.stdin(), &mut rt.stdout())
+    program(
+        &rt,
+        rt.alloc(),
+        &mut ReadAhead::new(rt.stdin()),
+        &mut rt.stdout(),
+    )
 }

@@ -40,10 +40,10 @@ pub struct XxHash64 {
 }
 
 impl Model for XxHash64 {
-    ghost Value = { State Lanes };
+    ghost Value = { State (ℕ × Lanes) };
 
     ghost view = { λ h. record {
-      folded = lanes_of h.seed h.lanes;
+      folded = (h.seed, lanes_of h.lanes);
       total = h.total;
       waiting = take h.count h.buffer;
     } };
@@ -119,7 +119,7 @@ impl XxHash64 {
     // The four lanes as one word.
     #[inline(always)]
     fn merge(&self) -> u64
-        ensures { result ≡ merge self.now.folded }
+        ensures { result ≡ merge self.now.folded.1 }
     {
         merge(ScalarLanes::from_vector(self.lanes))
     }
@@ -276,7 +276,7 @@ fn merge_stripes(stripes: &[[u8; STRIPE]], seed: u64) -> u64
 // The four lanes as one word.
 #[inline(always)]
 fn merge(words: ScalarLanes) -> u64
-    ensures { (seed : ℕ) → result ≡ merge (lanes_of_scalars seed words) }
+    ensures { result ≡ merge (lanes_of_scalars words) }
 {
     let sum = rotate::<1>(words.v1)
         .wrapping_add(rotate::<7>(words.v2))

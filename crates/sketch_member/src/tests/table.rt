@@ -15,7 +15,7 @@ use std::test::Fail;
 
 // A seed, the two sizes, the values inserted, and the bits that are set then, as a model of the
 // format in another language gives them.
-const TABLES: [(u64, u8, u8, &[&[u8]], &[u8]); 5] = [
+pub(super) const TABLES: [(u64, u8, u8, &[&[u8]], &[u8]); 5] = [
     (0, 6, 1, &[], &[0, 0, 0, 0, 0, 0, 0, 0]),
     (0, 6, 1, &[b""], &[0, 0, 0, 2, 0, 0, 0, 0]),
     (u64::MAX, 6, 2, &[b""], &[1, 0, 0, 2, 0, 0, 0, 0]),

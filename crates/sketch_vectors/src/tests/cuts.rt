@@ -42,6 +42,19 @@ fn two_writes_answer_as_one(rt: HostRuntime) {
 }
 
 #[test]
+fn one_call_answers_as_a_hasher(rt: HostRuntime) {
+    let all = counting_bytes();
+    for len in 0..=97 {
+        let bytes = &all[..len];
+        let in_one_call = (
+            MurmurHash3X64128::hash(bytes, MURMUR_SEED),
+            XxHash64::hash(bytes, XXH64_SEED),
+        );
+        assert_same_for(&rt, in_one_call, answers(&[bytes]), len);
+    }
+}
+
+#[test]
 fn three_writes_answer_as_one(rt: HostRuntime) {
     let all = counting_bytes();
     for second in 0..=97 {

@@ -2,7 +2,7 @@
 
 use crate::tests::{FOX, FOX_MURMUR, assert_same_for};
 use datasketches::hash::{Hasher, MurmurHash3X64128, XxHash64};
-use sketch_hash::examples::TEST_BUFFER;
+use sketch_hash::known_answers::TEST_BUFFER;
 
 // What Murmur answers under seed 0: the input, and the two words.
 const MURMUR: [(&[u8], (u64, u64)); 6] = [

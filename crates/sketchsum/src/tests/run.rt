@@ -1,3 +1,5 @@
+ghost use Rattle.std.specs.Prelude.{◌+◌, ◌*◌, ◌≤◌, length};
+
 use super::fakes::{Full, KINDS, NarrowWriter, SlowReader};
 use super::{FOX, FOX_LINE, assert_same};
 use crate::arguments::Algorithm;
@@ -69,6 +71,23 @@ fn a_read_that_fails_in_mid_stream_writes_nothing(rt: HostRuntime) {
             assert_same(&rt, reader.reads, reads);
             assert!(rt; written.is_empty());
         }
+    }
+}
+
+// A caller's proof knows that a run takes no more bytes than its turns do.
+fn run_over_bytes(turns: u64, input: &mut &[u8], output: &mut Vec<u8>) -> Result<(), RunFault>
+    ensures { length input.old.now ≤ 4096 * turns + length input.new.now }
+{
+    run_bounded(Algorithm::Murmur, 0, turns, input, output)
+}
+
+#[test]
+fn a_run_leaves_what_its_turns_do_not_take(rt: HostRuntime) {
+    for (turns, left) in [(0, 9000), (1, 4904), (2, 808), (3, 0), (4, 0)] {
+        let mut input = [7; 9000].as_slice();
+        let mut written = Vec::new(rt.alloc());
+        let result = run_over_bytes(turns, &mut input, &mut written);
+        assert_same(&rt, (result.is_ok(), input.len()), (turns == 4, left));
     }
 }
 

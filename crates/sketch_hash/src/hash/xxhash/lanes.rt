@@ -1,4 +1,4 @@
-//! XXH64's four lanes, and how a stripe of 32 bytes changes them.
+//! XXH64's four lanes, and how stripes of 32 bytes change them.
 
 ghost use Rattle.std.specs.Prelude.{◌≡◌, ℕ, ◌+◌, ◌-◌, ◌%◌, ◌^◌, ◌<◌, ◌≤◌, length, take};
 ghost use Rattle.sketch_hash.specs.Xxh64.{Lanes, lanes_start, round, stripe_step, xxh64_after};
@@ -13,14 +13,13 @@ use std::simd::prelude::*;
 // The fewest stripes of a run that is worth a call.
 const LONG_RUN: usize = 4;
 
-/// Four lanes that a stripe turns.
+/// Four lanes that take a stripe.
 pub(super) trait StripeRound {
-    // the lanes, beside a seed
-    ghost lanes: { ℕ → Self → Lanes };
+    ghost lanes: { Self → Lanes };
 
     /// Takes each lane on by its word of a stripe.
     fn stripe_round(&mut self, stripe: &[u8; 32])
-        ensures { (seed : ℕ) → lanes seed self.new ≡ stripe_step (lanes seed self.old) stripe.now };
+        ensures { lanes self.new ≡ stripe_step (lanes self.old) stripe.now };
 }
 
 impl StripeRound for u64x4 {
@@ -45,7 +44,7 @@ impl ScalarLanes {
     /// Where the lanes start.
     #[inline(always)]
     pub(super) fn start(seed: u64) -> Self
-        ensures { lanes_of_scalars seed result ≡ lanes_start seed }
+        ensures { lanes_of_scalars result ≡ lanes_start seed }
     {
         ScalarLanes {
             v1: seed.wrapping_add(PRIME1).wrapping_add(PRIME2),
@@ -57,7 +56,7 @@ impl ScalarLanes {
 
     #[inline(always)]
     pub(super) fn from_vector(lanes: u64x4) -> Self
-        ensures { (seed : ℕ) → lanes_of_scalars seed result ≡ lanes_of seed lanes }
+        ensures { lanes_of_scalars result ≡ lanes_of lanes }
     {
         let [v1, v2, v3, v4] = lanes.to_array();
         ScalarLanes { v1, v2, v3, v4 }
@@ -65,7 +64,7 @@ impl ScalarLanes {
 
     #[inline(always)]
     pub(super) fn into_vector(self) -> u64x4
-        ensures { (seed : ℕ) → lanes_of seed result ≡ lanes_of_scalars seed self }
+        ensures { lanes_of result ≡ lanes_of_scalars self }
     {
         u64x4::from_array([self.v1, self.v2, self.v3, self.v4])
     }
@@ -107,7 +106,7 @@ pub(super) fn consume(
         lanes.stripe_round(buffer);
     }
     let (stripes, last) = behind.as_chunks::<32>();
-    let lanes = fold_run(lanes, stripes);
+    fold_stripes(&mut lanes, stripes);
     copy_small(buffer, 0, last);
     lanes
 }
@@ -115,7 +114,7 @@ pub(super) fn consume(
 /// The lanes after a run of stripes. Where there is none the vector stays as it is.
 #[inline(always)]
 pub(super) fn fold_vector_run(lanes: u64x4, stripes: &[[u8; 32]]) -> u64x4
-    ensures { (seed : ℕ) → lanes_of seed result ≡ each_lane (lanes_of seed lanes) stripes.now }
+    ensures { lanes_of result ≡ each_lane (lanes_of lanes) stripes.now }
 {
     if stripes.is_empty() {
         return lanes;
@@ -126,8 +125,7 @@ pub(super) fn fold_vector_run(lanes: u64x4, stripes: &[[u8; 32]]) -> u64x4
 // The lanes after a run of stripes.
 #[inline(always)]
 fn fold_run(mut lanes: ScalarLanes, stripes: &[[u8; 32]]) -> ScalarLanes
-    ensures { (seed : ℕ) →
-        lanes_of_scalars seed result ≡ each_lane (lanes_of_scalars seed lanes) stripes.now }
+    ensures { lanes_of_scalars result ≡ each_lane (lanes_of_scalars lanes) stripes.now }
 {
     if stripes.len() >= LONG_RUN {
         return fold_long(lanes, stripes);
@@ -139,7 +137,7 @@ fn fold_run(mut lanes: ScalarLanes, stripes: &[[u8; 32]]) -> ScalarLanes
 // In a call of its own LLVM keeps the words apart, and makes no vector of them.
 #[inline(never)]
 fn fold_long<L: StripeRound>(mut lanes: L, stripes: &[[u8; 32]]) -> L
-    ensures { (seed : ℕ) → L.lanes seed result ≡ each_lane (L.lanes seed lanes) stripes.now }
+    ensures { L.lanes result ≡ each_lane (L.lanes lanes) stripes.now }
 {
     fold_stripes(&mut lanes, stripes);
     lanes
@@ -148,8 +146,7 @@ fn fold_long<L: StripeRound>(mut lanes: L, stripes: &[[u8; 32]]) -> L
 /// Takes the lanes on by stripes, however one stripe turns them.
 #[inline(always)]
 pub(super) fn fold_stripes<L: StripeRound>(lanes: &mut L, stripes: &[[u8; 32]])
-    ensures { (seed : ℕ) →
-        L.lanes seed lanes.new ≡ each_lane (L.lanes seed lanes.old) stripes.now }
+    ensures { L.lanes lanes.new ≡ each_lane (L.lanes lanes.old) stripes.now }
 {
     for stripe in stripes {
         lanes.stripe_round(stripe);
@@ -159,7 +156,7 @@ pub(super) fn fold_stripes<L: StripeRound>(lanes: &mut L, stripes: &[[u8; 32]])
 // All four lanes at once.
 #[inline(always)]
 fn vector_round(lanes: u64x4, stripe: &[u8; 32]) -> u64x4
-    ensures { (seed : ℕ) → lanes_of seed result ≡ stripe_step (lanes_of seed lanes) stripe.now }
+    ensures { lanes_of result ≡ stripe_step (lanes_of lanes) stripe.now }
 {
     let sums = lanes + stripe_words(stripe) * u64x4::splat(PRIME2);
     let turned = (sums << u64x4::splat(31)) | (sums >> u64x4::splat(33));

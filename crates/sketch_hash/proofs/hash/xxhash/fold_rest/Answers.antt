@@ -48,4 +48,5 @@ returns c =
       ) (sym (fold_four c.if-rest-ge8.hash c.if-rest-ge8.rest.now w.if-rest-ge4.true short))
       | else-rest-ge4 w ↦ rw (w.hash-is, w.rest-is) refl
     ] in
-    c.fold_few.ensures ∙ sym (fold_short c.if-rest-ge4.hash c.if-rest-ge4.rest.now (search rules)) ∙ third ∙ second ∙ first
+    let last = fold_short c.if-rest-ge4.hash c.if-rest-ge4.rest.now (search rules) in
+    c.fold_few.ensures ∙ sym last ∙ third ∙ second ∙ first

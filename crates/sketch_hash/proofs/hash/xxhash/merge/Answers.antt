@@ -4,7 +4,7 @@ use Rattle.sketch_hash.proofs.hash.xxhash.merge.Goals as goal
 
 pub returns : goal.returns
 unfolding merge
-returns c = λ seed.
+returns c =
     rw (
       c.merge_round.ensures,
       c.merge_round-hash-3.ensures,

@@ -5,6 +5,6 @@ use Rattle.sketch_hash.proofs.hash.xxhash.merge_stripes.Goals as goal
 
 pub returns : goal.returns
 returns c =
-    let run = c.fold_stripes.ensures c.args.seed
+    let run = c.fold_stripes.ensures
     ∙ ap (λ v. each_lane v c.args.stripes.now) c.start-lanes.ensures in
-    c.merge.ensures c.args.seed ∙ ap merge run
+    c.merge.ensures ∙ ap merge run

@@ -1,6 +1,6 @@
 use Rattle.std.proofs.Common.{rules, ◌≡◌, ℕ, ◌+◌, ◌-◌, ◌%◌, ◌<◌, ◌≤◌, ◌^◌, ◌++◌, List, [], length, take, sym, ap, ◌∙◌, arith, length-append}
 use Rattle.sketch_hash.specs.Pieces.{State}
-use Rattle.sketch_hash.specs.Xxh64.{Lanes, xxh64_after, stripe_step}
+use Rattle.sketch_hash.specs.Xxh64.{Lanes, xxh64_after, stripe_step, seeded_step}
 use Rattle.sketch_hash.specs.Xxh64WriteLemmas.{xxh64_after-empty}
 use Rattle.sketch_hash.specs.Lanes.{lanes_of}
 use Rattle.std.proofs.lemmas.List.{length-take-le, nil_from_length}
@@ -20,7 +20,8 @@ returns-clause-after c =
     let i = c.self.inside in
     let bytes : List ℕ = c.args.bytes.now in
     let held : List ℕ = take i.count i.buffer in
-    let s : State Lanes = record { folded = lanes_of i.seed i.lanes; total = i.total; waiting = held } in
+    let s : State (ℕ × Lanes) =
+    record { folded = (i.seed, lanes_of i.lanes); total = i.total; waiting = held } in
     let short : length held < 32 = rw (← c.self.view_is) at c.requires.short in
     let fills : length bytes ≡ (32 - length held) % 32 = rw (← c.self.view_is) at c.requires.fills in
     let some : 0 < length bytes = search rules in
@@ -32,7 +33,7 @@ returns-clause-after c =
     omega (arith, length-append held bytes, full, count, long) in
     let stripe = c.copy_small.ensures ∙ copy_full i.buffer bytes i.count whole in
     let total : i.total < 2 ^ 64 = search rules in
-    let stripe_round = c.stripe_round.ensures i.seed ∙ ap (stripe_step (lanes_of i.seed i.lanes)) stripe in
+    let lanes = c.stripe_round.ensures ∙ ap (stripe_step (lanes_of i.lanes)) stripe in
     rw (← c.self.view_is)
-    (ap (λ v. record { folded = v; total = (i.total + length bytes) % 2 ^ 64; waiting = [] }) stripe_round
-    ∙ sym (state_after-fills 32 (λ stripe. stripe) stripe_step s bytes (omega arith) total short full))
+    (ap (λ v. record { folded = (i.seed, v); total = (i.total + length bytes) % 2 ^ 64; waiting = [] }) lanes
+    ∙ sym (state_after-fills 32 (λ stripe. stripe) seeded_step s bytes (omega arith) total short full))

@@ -1,33 +1,32 @@
-use Rattle.std.proofs.Common.{rules, ◌≡◌, ℕ, ◌+◌, ◌%◌, ◌<◌, ◌^◌, List, [], length, take, sym, ap, ◌∙◌, arith}
-use Rattle.std.specs.List.{fold}
-use Rattle.sketch_hash.specs.Pieces.{State, pieces, rest}
-use Rattle.sketch_hash.specs.Xxh64.{Lanes, xxh64_after, stripe_step}
-use Rattle.sketch_hash.specs.Lanes.{each_lane, lanes_of}
+use Rattle.std.proofs.Common.{rules, ◌≡◌, ℕ, ◌+◌, ◌%◌, ◌<◌, ◌^◌, List, [], length, take, sym, ap, ◌∙◌}
 use Rattle.std.proofs.Math.Seq.{take-append_seam}
-use Rattle.std.proofs.lemmas.List.{map-id}
+use Rattle.sketch_hash.specs.Lanes.{each_lane, lanes_of}
+use Rattle.sketch_hash.specs.Pieces.{State, pieces, rest}
+use Rattle.sketch_hash.specs.Xxh64.{Lanes}
 use Rattle.sketch_hash.proofs.PiecesLemmas.{chunks-are}
-use Rattle.sketch_hash.proofs.StateLemmas.{state_after-fresh}
-use Rattle.sketch_hash.proofs.LanesLemmas.{fold-each_lane}
+use Rattle.sketch_hash.proofs.WriteLemmas.{after-fresh}
 use Rattle.sketch_hash.proofs.hash.xxhash.XxHash64.consume_stripes.Goals as goal
 
 pub returns : goal.returns
-unfolding xxh64_after pieces rest
+unfolding pieces rest
 returns c =
     let i = c.self.inside in
     let bytes : List ℕ = c.args.bytes.now in
     let last : List ℕ = c.as_chunks.result.1.now in
     let held : List ℕ = take i.count i.buffer in
-    let s : State Lanes = record { folded = lanes_of i.seed i.lanes; total = i.total; waiting = held } in
+    let s : State (ℕ × Lanes) =
+    record { folded = (i.seed, lanes_of i.lanes); total = i.total; waiting = held } in
     let empty : held ≡ [] = rw (← c.self.view_is) at c.requires in
     let total : i.total < 2 ^ 64 = search rules in
-    let start : Lanes = lanes_of i.seed i.lanes in
     let stripes : c.as_chunks.result.0.now ≡ pieces 32 bytes =
     c.as_chunks.ensures.front ∙ chunks-are _ 32 bytes in
-    let run = c.fold_vector_run-self-inside.ensures i.seed ∙ ap (each_lane start) stripes
-    ∙ sym (fold-each_lane (pieces 32 bytes) start)
-    ∙ ap (fold stripe_step start) (sym (map-id (pieces 32 bytes))) in
+    let run = c.fold_vector_run-self-inside.ensures ∙ ap (each_lane (lanes_of i.lanes)) stripes in
     let waits : take (length last) c.copy_small.new.buffer ≡ rest 32 bytes =
     ap (take (length last)) c.copy_small.ensures ∙ take-append_seam last _ ∙ c.as_chunks.ensures.back in
     rw (← c.self.view_is, waits)
-    (ap (λ v. record { folded = v; total = (i.total + length bytes) % 2 ^ 64; waiting = rest 32 bytes }) run
-    ∙ sym (state_after-fresh 32 (λ stripe. stripe) stripe_step s bytes (omega arith) total empty))
+    (ap (λ v. record {
+      folded = (i.seed, v);
+      total = (i.total + length bytes) % 2 ^ 64;
+      waiting = rest 32 bytes;
+    }) run
+    ∙ sym (after-fresh s bytes total empty))

@@ -9,12 +9,12 @@ use Rattle.sketch_hash.proofs.hash.xxhash.XxHash64.finish64.Goals.{then-is_short
 
 -- the form is chosen by the number of bytes
 formed : (c : goal.After-avalanche) → c.if-is_short.hash ≡
-    cond (nat_lt c.args.self.now.total 32) (plus c.args.self.now.folded.seed prime5)
-    (merge c.args.self.now.folded)
+    cond (nat_lt c.args.self.now.total 32) (plus c.args.self.now.folded.0 prime5)
+    (merge c.args.self.now.folded.1)
 formed c =
     let short = nat_lt c.args.self.now.total 32 in
-    let seeded = plus c.args.self.now.folded.seed prime5 in
-    let lanes_in = merge c.args.self.now.folded in
+    let seeded = plus c.args.self.now.folded.0 prime5 in
+    let lanes_in = merge c.args.self.now.folded.1 in
     elim c.if-is_short.branch [
       | then-is_short w ↦ rw (← c.self.view_is) w.hash-is
           ∙ sym (cond-true short seeded lanes_in (sym c.is_short.ensures ∙ w.if-is_short.true))

@@ -4,5 +4,4 @@ use Rattle.sketch_hash.proofs.hash.xxhash.XxHash64.merge.Goals as goal
 
 pub returns : goal.returns
 returns c =
-    let i = c.self.inside in
-    rw (← c.self.view_is) (c.merge.ensures i.seed ∙ ap merge (c.from_vector.ensures i.seed))
+    rw (← c.self.view_is) (c.merge.ensures ∙ ap merge c.from_vector.ensures)

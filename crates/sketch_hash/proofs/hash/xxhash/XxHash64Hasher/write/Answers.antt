@@ -3,7 +3,8 @@ use Rattle.sketch_hash.specs.Xxh64.{xxh64_after}
 use Rattle.sketch_hash.specs.Xxh64WriteLemmas.{xxh64_after-append, xxh64_stands-after}
 use Rattle.sketch_hash.proofs.hash.xxhash.XxHash64Hasher.write.Goals as goal
 
-written : (c : goal.After-consume_stripes) → c.consume_stripes.new.self ≡ xxh64_after c.args.self.now c.args.bytes.now
+written : (c : goal.After-consume_stripes) →
+    c.consume_stripes.new.self ≡ xxh64_after c.args.self.now c.args.bytes.now
 written c =
     let front = c.split_at.result.0.now in
     let behind = c.split_at.result.1.now in

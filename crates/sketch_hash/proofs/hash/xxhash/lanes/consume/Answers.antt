@@ -18,19 +18,19 @@ returns c = λ seed total below.
     let buffer : List ℕ = c.args.buffer.now in
     let count : ℕ = c.args.count in
     let missing : ℕ = (32 - count) % 32 in
-    let held : State Lanes = state_of_scalars seed c.args.lanes total (take count buffer) in
+    let held : State (ℕ × Lanes) = state_of_scalars seed c.args.lanes total (take count buffer) in
     let long : length buffer ≡ 32 = search rules in
     let low : count < 32 = c.requires.short in
     let waits : length held.waiting ≡ count = length-take-le count buffer (omega (arith, long, low)) in
     let enough : missing ≤ length bytes = c.requires.fills in
     let front : c.split_at.result.0.now ≡ take missing bytes = c.split_at.ensures.front in
     let behind : c.split_at.result.1.now ≡ drop missing bytes = c.split_at.ensures.back in
-    let left : Lanes → State Lanes = λ v. record {
-      folded = each_lane v (pieces 32 (drop missing bytes));
+    let left : Lanes → State (ℕ × Lanes) = λ v. record {
+      folded = (seed, each_lane v (pieces 32 (drop missing bytes)));
       total = (total + length bytes) % 2 ^ 64;
       waiting = rest 32 (drop missing bytes);
     } in
-    let after : xxh64_after held bytes ≡ left (lanes_of_scalars seed c.if-missing-gt0.lanes) =
+    let after : xxh64_after held bytes ≡ left (lanes_of_scalars c.if-missing-gt0.lanes) =
     elim c.if-missing-gt0.branch [
       | then-missing-gt0 w ↦
           let full : length held.waiting + missing ≡ 32 = omega (arith, waits, w.if-missing-gt0.true) in
@@ -41,20 +41,20 @@ returns c = λ seed total below.
           w.copy_small.ensures
           ∙ ap (λ t. take count buffer ++ t ++ drop (count + length t) buffer) front
           ∙ copy_full buffer (take missing bytes) count whole in
-          let turned : lanes_of_scalars seed c.if-missing-gt0.lanes
-          ≡ stripe_step held.folded (held.waiting ++ take missing bytes) =
-          ap (lanes_of_scalars seed) w.lanes-is ∙ w.stripe_round.ensures seed
-          ∙ ap (stripe_step held.folded) stripe in
+          let turned : lanes_of_scalars c.if-missing-gt0.lanes
+          ≡ stripe_step held.folded.1 (held.waiting ++ take missing bytes) =
+          ap lanes_of_scalars w.lanes-is ∙ w.stripe_round.ensures
+          ∙ ap (stripe_step held.folded.1) stripe in
           after-begun held bytes missing below w.if-missing-gt0.true full enough ∙ ap left (sym turned)
       | else-missing-gt0 w ↦
           let none : missing ≡ 0 = omega (arith, w.if-missing-gt0.false) in
           let zero : count ≡ 0 = omega (arith, none, low) in
           let empty : held.waiting ≡ [] = ap (λ n. take n buffer) zero in
-          let same : lanes_of_scalars seed c.if-missing-gt0.lanes ≡ held.folded =
-          ap (lanes_of_scalars seed) w.lanes-is in
+          let same : lanes_of_scalars c.if-missing-gt0.lanes ≡ held.folded.1 =
+          ap lanes_of_scalars w.lanes-is in
           after-fresh held bytes below empty
           ∙ ap (λ n. record {
-            folded = each_lane held.folded (pieces 32 (drop n bytes));
+            folded = (seed, each_lane held.folded.1 (pieces 32 (drop n bytes)));
             total = (total + length bytes) % 2 ^ 64;
             waiting = rest 32 (drop n bytes);
           }) (sym none)
@@ -62,10 +62,10 @@ returns c = λ seed total below.
     ] in
     let last : List ℕ = c.as_chunks.result.1.now in
     let lastly : last ≡ rest 32 (drop missing bytes) = c.as_chunks.ensures.back ∙ ap (rest 32) behind in
-    let run : lanes_of_scalars seed c.fold_run-lanes.result
-    ≡ each_lane (lanes_of_scalars seed c.if-missing-gt0.lanes) (pieces 32 (drop missing bytes)) =
-    c.fold_run-lanes.ensures seed
-    ∙ ap (each_lane (lanes_of_scalars seed c.if-missing-gt0.lanes))
+    let run : lanes_of_scalars c.fold_stripes.new.lanes
+    ≡ each_lane (lanes_of_scalars c.if-missing-gt0.lanes) (pieces 32 (drop missing bytes)) =
+    c.fold_stripes.ensures
+    ∙ ap (each_lane (lanes_of_scalars c.if-missing-gt0.lanes))
     (c.as_chunks.ensures.front ∙ chunks-are _ 32 _ ∙ ap (pieces 32) behind) in
     let waiting : take ((count + length bytes) % 32) c.copy_small-2.new.buffer
     ≡ rest 32 (drop missing bytes) =
@@ -73,7 +73,7 @@ returns c = λ seed total below.
     (left-count count bytes low enough ∙ sym (ap length lastly))
     ∙ ap (take (length last)) c.copy_small-2.ensures ∙ take-append_seam last _ ∙ lastly in
     rw waiting (after ∙ ap (λ v. record {
-      folded = v;
+      folded = (seed, v);
       total = (total + length bytes) % 2 ^ 64;
       waiting = rest 32 (drop missing bytes);
     }) (sym run))

@@ -7,11 +7,10 @@ use Rattle.sketch_hash.proofs.hash.xxhash.lanes.fold_stripes.Goals as goal
 
 pub loop-stripe-preserved : goal.loop-stripe-preserved
 loop-stripe-preserved g c =
-    λ seed.
-    let start = g.L.StripeRound.lanes seed c.args.lanes.now in
+    let start = g.L.StripeRound.lanes c.args.lanes.now in
     let stripes = c.args.stripes.now in
     let i = c.loop-stripe.stripe-index in
     let stripe = get_or stripes i [] in
-    c.stripe_round.ensures seed ∙ ap (λ v. stripe_step v stripe) (c.loop-stripe.invariant seed)
+    c.stripe_round.ensures ∙ ap (λ v. stripe_step v stripe) c.loop-stripe.invariant
     ∙ each_lane-more start (take i stripes) stripe
     ∙ ap (each_lane start) (sym (take_more stripes i [] c.loop-stripe-test.true))

@@ -1,8 +1,8 @@
-use Rattle.std.proofs.Common.{◌≡◌, ℕ, take}
+use Rattle.std.proofs.Common.{◌≡◌, take}
 use Rattle.sketch_hash.specs.Lanes.{each_lane}
 use Rattle.sketch_hash.proofs.hash.xxhash.lanes.fold_stripes.Given as goal
 
 abbrev pub invariant-loop-stripe : goal.invariant-loop-stripe
 invariant-loop-stripe g l =
-    (seed : ℕ) → g.L.StripeRound.lanes seed l.lanes
-    ≡ each_lane (g.L.StripeRound.lanes seed l.initial.lanes) (take l.stripe-index l.stripes)
+    g.L.StripeRound.lanes l.lanes
+    ≡ each_lane (g.L.StripeRound.lanes l.initial.lanes) (take l.stripe-index l.stripes)

@@ -50,9 +50,9 @@ all_lanes (suc n) (v ∷ vs) [] h k = absurd (omega arith)
 all_lanes (suc n) (v ∷ vs) (w ∷ ws) h k = rw (one v w, all_lanes n vs ws (omega arith) (omega arith)) refl
 
 pub returns : goal.returns
-returns c = λ seed.
+returns c =
     let stripe = c.args.stripe.now in
     let four : length c.args.lanes ≡ 4 = c.fits-lanes.0 in
     rw c.stripe_words.ensures
-    (ap (lanes_of seed) (all_lanes 4 c.args.lanes (stripe_words stripe) four refl)
-    ∙ lanes_of-stripe_round seed c.args.lanes stripe four)
+    (ap lanes_of (all_lanes 4 c.args.lanes (stripe_words stripe) four refl)
+    ∙ lanes_of-stripe_round c.args.lanes stripe four)

@@ -4,7 +4,7 @@ use Rattle.sketch_hash.proofs.hash.xxhash.lanes.ScalarLanesStripeRound.stripe_ro
 
 pub returns : goal.returns
 unfolding stripe_step
-returns c = λ seed. rw (
+returns c = rw (
   c.round-self.ensures,
   c.round-self-2.ensures,
   c.round-self-3.ensures,

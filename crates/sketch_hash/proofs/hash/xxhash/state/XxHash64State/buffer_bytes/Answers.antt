@@ -1,7 +1,7 @@
 use Rattle.std.proofs.Common.{rules, ℕ, ◌+◌, ◌%◌, ◌<◌, ◌≤◌, ◌^◌, ◌++◌, List, length, take, sym, length-append, arith}
 use Rattle.std.proofs.lemmas.List.{length-take-le}
 use Rattle.sketch_hash.specs.Held.{xxh64_held}
-use Rattle.sketch_hash.specs.Xxh64.{xxh64_after, stripe_step}
+use Rattle.sketch_hash.specs.Xxh64.{xxh64_after, seeded_step}
 use Rattle.sketch_hash.proofs.StateLemmas.{state_after-waits}
 use Rattle.sketch_hash.proofs.HeldLemmas.{held-waits}
 use Rattle.sketch_hash.proofs.hash.xxhash.state.XxHash64State.buffer_bytes.Goals as goal
@@ -18,4 +18,4 @@ returns c =
     rw (length-append held bytes, length-take-le _ s.waiting low) c.requires in
     let total : s.total < 2 ^ 64 = search rules in
     rw (c.copy_small.ensures, held-waits 32 s.total s.waiting bytes (λ n. omega arith) c.requires within)
-    (sym (state_after-waits 32 (λ stripe. stripe) stripe_step (xxh64_held s) bytes total short))
+    (sym (state_after-waits 32 (λ stripe. stripe) seeded_step (xxh64_held s) bytes total short))

@@ -1,0 +1,52 @@
+/* Times two functions in turn, and prints the median of their times' ratios with its spread. */
+#include <stdint.h>
+#include <stdio.h>
+#include <stdlib.h>
+#include <time.h>
+
+enum { ROUNDS = 101, KEYS = 4096, STREAM = 1 << 16, LARGEST = 1 << 20 };
+
+static unsigned char input[LARGEST];
+static volatile uint64_t sink;
+
+/* Hashes `total` bytes, in keys or in writes of `length` bytes. */
+typedef uint64_t work(size_t total, size_t length);
+
+static inline void fill_input(void) {
+    for (size_t i = 0; i < sizeof input; i++) input[i] = (unsigned char)(i * 2654435761u >> 24);
+}
+
+static inline double seconds(work *f, size_t total, size_t length, int times) {
+    struct timespec from, to;
+    clock_gettime(CLOCK_THREAD_CPUTIME_ID, &from);
+    for (int i = 0; i < times; i++) sink ^= f(total, length);
+    clock_gettime(CLOCK_THREAD_CPUTIME_ID, &to);
+    return (double)(to.tv_sec - from.tv_sec) + 1e-9 * (double)(to.tv_nsec - from.tv_nsec);
+}
+
+static inline int by_value(const void *a, const void *b) {
+    double x = *(const double *)a, y = *(const double *)b;
+    return (x > y) - (x < y);
+}
+
+/* A line: the table, the case, the peer, and of the rounds' ratios the median and the tenth part
+ * from below and from above. The two take turns, and take turns at being first. */
+static inline void compare(const char *table, const char *name, const char *peer, work *ours,
+                           work *theirs, size_t total, size_t length) {
+    double ratios[ROUNDS];
+    if (ours(total, length) != theirs(total, length)) {
+        fprintf(stderr, "%s, %s, %s: two answers\n", table, name, peer);
+        exit(1);
+    }
+    int times = (int)(4e-4 / seconds(ours, total, length, 1)) + 1;
+    for (int round = 0; round < ROUNDS; round++) {
+        double ours_first = round % 2 ? seconds(ours, total, length, times) : 0;
+        double theirs_time = seconds(theirs, total, length, times);
+        double ours_time = round % 2 ? ours_first : seconds(ours, total, length, times);
+        ratios[round] = ours_time / theirs_time;
+    }
+    qsort(ratios, ROUNDS, sizeof *ratios, by_value);
+    printf("%s\t%s\t%s\t%.2f\t%.2f\t%.2f\n", table, name, peer, ratios[ROUNDS / 2],
+           ratios[ROUNDS / 10], ratios[ROUNDS - 1 - ROUNDS / 10]);
+    fflush(stdout);
+}

@@ -1,0 +1,343 @@
+-- The law of merges.
+use Rattle.std.proofs.Common.{◌≡◌, ◌↔◌, ◌⊎◌, ℕ, ◌+◌, ◌-◌, ◌/◌, ◌%◌, ◌^◌, ◌<◌, List, [], ◌∷◌, ◌++◌, length, get_or, map, take, replicate, suc, refl, sym, ap, subst, ◌∙◌, arith, inl, inr}
+use Rattle.std.specs.Prelude.{Option, None, Some, IfSome, min}
+use Rattle.std.specs.Int.{bit_at}
+use Rattle.std.proofs.lemmas.List.{append-nil, append_assoc, length-append, map-append, take_more}
+use Rattle.std.proofs.lemmas.List.Elements.{Contains-append_cases, Contains-append_left, Contains-append_right}
+use Rattle.std.proofs.lemmas.Nat.Bits.{bit_at-zero}
+use Rattle.datasketches.specs.Words.{IsWord}
+use Rattle.sketch_member.proofs.BitLemmas.{zeros-get}
+use Rattle.sketch_member.proofs.InsertLemmas.{insert_law, same_index, same_table_bits}
+use Rattle.sketch_member.proofs.LawLemmas.{same_table}
+use Rattle.sketch_member.specs.Laws.{InsertsAll, IsMadeOf, MergeLaw, StandsFor, count_after}
+use Rattle.sketch_member.specs.Merge.{AreAlike, Merges, sum_of_counts}
+use Rattle.sketch_member.specs.Table.{Table, IsTable, IsSet, IsIndex, IsMember, Inserts, byte_count, empty_table}
+
+-- ---- tables that are alike
+
+turned : (a b : Table) → AreAlike a b → AreAlike b a
+turned a b alike = record {
+  seed = sym alike.seed;
+  log2_bits = sym alike.log2_bits;
+  hashes = sym alike.hashes;
+}
+
+chained : (a b c : Table) → AreAlike a b → AreAlike b c → AreAlike a c
+chained a b c first second = record {
+  seed = first.seed ∙ second.seed;
+  log2_bits = first.log2_bits ∙ second.log2_bits;
+  hashes = first.hashes ∙ second.hashes;
+}
+
+alike_index : (a b : Table) (fed : List ℕ) (i : ℕ) → AreAlike a b → IsIndex a fed i → IsIndex b fed i
+alike_index a b fed i alike is =
+    same_index a b fed i alike.seed alike.log2_bits alike.hashes is
+
+same_by_bits : (a b : Table) → IsTable a → IsTable b → AreAlike a b → a.count ≡ b.count →
+    ((i : ℕ) → IsSet a.bits i ↔ IsSet b.bits i) → a ≡ b
+same_by_bits a b is_a is_b alike count set =
+    same_table a.seed a.log2_bits a.hashes b.seed b.log2_bits b.hashes a.count b.count a.bits b.bits
+    alike.seed alike.log2_bits alike.hashes count
+    (same_table_bits a b is_a is_b alike.log2_bits set)
+
+-- ---- what a merged table stands for
+
+both : (before other after : Table) (values others : List (List ℕ)) →
+    Merges other before after → StandsFor before values → StandsFor other others →
+    StandsFor after (values ++ others)
+both before other after values others merges stands stands_other i =
+    let other_after = chained other before after (turned before other merges.alike) merges.kept in (
+      (λ is. elim ((merges.bits i).0 is) [
+        | inl was ↦
+            let of = (stands i).0 was in (
+              of.0,
+              Contains-append_left values others of.0 of.1,
+              alike_index before after of.0 i merges.kept of.2,
+            )
+        | inr there ↦
+            let of = (stands_other i).0 there in (
+              of.0,
+              Contains-append_right values others of.0 of.1,
+              alike_index other after of.0 i other_after of.2,
+            )
+      ]),
+      (λ of. (merges.bits i).1 (elim (Contains-append_cases values others of.0 of.1) [
+        | inl one ↦
+            let back = alike_index after before of.0 i (turned before after merges.kept) of.2 in
+            inl ((stands i).1 (of.0, one, back))
+        | inr one ↦
+            let back = alike_index after other of.0 i (turned other after other_after) of.2 in
+            inr ((stands_other i).1 (of.0, one, back))
+      ])),
+    )
+
+found : (before other after : Table) (fed : List ℕ) → Merges other before after →
+    IsMember before fed ⊎ IsMember other fed → IsMember after fed
+found before other after fed merges member i is =
+    let kept = turned before after merges.kept in
+    let here = alike_index after before fed i kept is in
+    let there = alike_index before other fed i merges.alike here in
+    (merges.bits i).1 (elim member [
+      | inl one ↦ inl (one i here)
+      | inr one ↦ inr (one i there)
+    ])
+
+counted : (before other after : Table) (m n : ℕ) → Merges other before after →
+    before.count ≡ count_after m → other.count ≡ count_after n → after.count ≡ count_after (m + n)
+counted before other after m n merges count count_other =
+    merges.count ∙ ap (λ c. sum_of_counts c other.count) count
+    ∙ ap (sum_of_counts (count_after m)) count_other ∙ ap (λ k. Some k) (least m n)
+  where
+    least : (m n : ℕ) →
+        min (min m (2 ^ 64 - 1) + min n (2 ^ 64 - 1)) (2 ^ 64 - 1) ≡ min (m + n) (2 ^ 64 - 1)
+    least m n = omega arith
+
+-- ---- streams
+
+-- inserts leave the seed and the sizes
+pub all_alike : (values : List (List ℕ)) (before after : Table) → InsertsAll values before after →
+    AreAlike before after
+all_alike [] before after all = record {
+  seed = ap (λ t. t.seed) (sym all);
+  log2_bits = ap (λ t. t.log2_bits) (sym all);
+  hashes = ap (λ t. t.hashes) (sym all);
+}
+all_alike (fed ∷ values) before after (next, inserts, rest) =
+    let first : AreAlike before next = record {
+      seed = sym inserts.seed;
+      log2_bits = sym inserts.log2_bits;
+      hashes = sym inserts.hashes;
+    } in
+    chained before next after first (all_alike values next after rest)
+
+-- inserts, and then others
+pub inserts_append : (values others : List (List ℕ)) (before next after : Table) →
+    InsertsAll values before next → InsertsAll others next after →
+    InsertsAll (values ++ others) before after
+inserts_append [] others before next after all rest =
+    subst (λ t. InsertsAll others t after) all rest
+inserts_append (fed ∷ values) others before next after (one, inserts, all) rest =
+    (one, inserts, inserts_append values others one next after all rest)
+
+-- the inserts of the first i + 1 values of a list
+pub insert_next : {X : Type 0} (fed : X → List ℕ) (xs : List X) (i : ℕ) (default : X)
+    (before next after : Table) → i < length xs → InsertsAll (map fed (take i xs)) before next →
+    Inserts (fed (get_or xs i default)) next after → InsertsAll (map fed (take (i + 1) xs)) before after
+insert_next fed xs i default before next after within all inserts =
+    rw (take_more xs i default within, map-append fed (take i xs) (get_or xs i default ∷ []))
+    (inserts_append (map fed (take i xs)) (fed (get_or xs i default) ∷ []) before next after all
+    (after, inserts, refl))
+
+-- inserts into an empty table make the table of their values
+pub made_of : (seed log2_bits hashes : ℕ) (values : List (List ℕ)) (table : Table) →
+    InsertsAll values (empty_table seed log2_bits hashes) table → IsMadeOf values table
+made_of seed log2_bits hashes values table all =
+    let alike = all_alike values (empty_table seed log2_bits hashes) table all in
+    of_same seed log2_bits hashes _ _ _ alike.seed alike.log2_bits alike.hashes all
+  where
+    of_same : (s l h s' l' h' : ℕ) → s ≡ s' → l ≡ l' → h ≡ h' →
+        InsertsAll values (empty_table s l h) table → InsertsAll values (empty_table s' l' h') table
+    of_same s l h s' l' h' e f g made = rw (← e, ← f, ← g) made
+
+-- inserts add to the values that a table stands for, and to its count
+all_inserted : (values earlier : List (List ℕ)) (n : ℕ) (before after : Table) →
+    InsertsAll values before after → StandsFor before earlier → before.count ≡ count_after n →
+    StandsFor after (earlier ++ values) × (after.count ≡ count_after (n + length values))
+all_inserted [] earlier n before after all stands count = (
+  subst (λ t. StandsFor t (earlier ++ [])) (sym all)
+      (subst (StandsFor before) (sym (append-nil earlier)) stands),
+  ap (λ t. t.count) all ∙ count ∙ ap count_after (none n),
+)
+  where
+    none : (n : ℕ) → n ≡ n + 0
+    none n = omega arith
+all_inserted (fed ∷ values) earlier n before after (next, inserts, rest) stands count =
+    let stands_next = insert_law.one_more before next fed earlier inserts stands in
+    let count_next = insert_law.one_counted before next fed n inserts count in
+    let done = all_inserted values (earlier ++ fed ∷ []) (n + 1) next after rest stands_next
+    count_next in (
+      subst (StandsFor after) (append_assoc earlier (fed ∷ []) values) done.0,
+      done.1 ∙ ap count_after (one n (length values)),
+    )
+  where
+    one : (n m : ℕ) → n + 1 + m ≡ n + suc m
+    one n m = omega arith
+
+-- an empty table has no bit set
+no_bits : (seed log2_bits hashes i : ℕ) → IsSet (empty_table seed log2_bits hashes).bits i → ⊥
+no_bits seed log2_bits hashes i is =
+    let zero : bit_at (get_or (replicate {A = ℕ} (byte_count log2_bits) 0) (i / 8) 0) (i % 8) ≡ 0 =
+    ap (λ b. bit_at b (i % 8)) (zeros-get (byte_count log2_bits) (i / 8)) ∙ bit_at-zero (i % 8) in
+    apart _ zero is
+  where
+    apart : (n : ℕ) → n ≡ 0 → n ≡ 1 → ⊥
+    apart n e f = omega (arith, e, f)
+
+made : (values : List (List ℕ)) (table : Table) → IsMadeOf values table →
+    StandsFor table values × (table.count ≡ count_after (length values))
+made values table all =
+    let empty = empty_table table.seed table.log2_bits table.hashes in
+    let stands = insert_law.none empty (no_bits table.seed table.log2_bits table.hashes) in
+    let done = all_inserted values [] 0 empty table all stands refl in
+    (done.0, done.1 ∙ ap count_after (none (length values)))
+  where
+    none : (n : ℕ) → 0 + n ≡ n
+    none n = omega arith
+
+streams : (before other after whole : Table) (first second : List (List ℕ)) →
+    IsTable after → IsTable whole → AreAlike before whole → Merges other before after →
+    IsMadeOf first before → IsMadeOf second other → IsMadeOf (first ++ second) whole →
+    after ≡ whole
+streams before other after whole first second is_after is_whole alike merges made_first made_second
+    made_whole =
+    let one = made first before made_first in
+    let two = made second other made_second in
+    let all = made (first ++ second) whole made_whole in
+    let stands = both before other after first second merges one.0 two.0 in
+    let same = chained after before whole (turned before after merges.kept) alike in
+    let count = counted before other after (length first) (length second) merges one.1 two.1
+    ∙ ap count_after (sym (length-append first second)) ∙ sym all.1 in
+    (insert_law.once after whole (first ++ second) (first ++ second) is_after is_whole
+    same.seed same.log2_bits same.hashes stands all.0 (λ fed. ((λ is. is), (λ is. is)))).1 count
+
+-- the table of both streams, one after the other
+pub made_whole : (seed log2_bits hashes : ℕ) (first second : List (List ℕ))
+    (start half whole : Table) → start ≡ empty_table seed log2_bits hashes →
+    InsertsAll first start half → InsertsAll second half whole →
+    AreAlike (empty_table seed log2_bits hashes) whole × IsMadeOf (first ++ second) whole
+made_whole seed log2_bits hashes first second start half whole is_empty all rest =
+    let values = first ++ second in
+    let inserts : InsertsAll values (empty_table seed log2_bits hashes) whole =
+    subst (λ t. InsertsAll values t whole) is_empty
+    (inserts_append first second start half whole all rest) in (
+      all_alike values (empty_table seed log2_bits hashes) whole inserts,
+      made_of seed log2_bits hashes values whole inserts,
+    )
+
+-- made in two ways, by a merge and at once, it is the same
+pub made_both_ways : (seed log2_bits hashes : ℕ) (first second : List (List ℕ))
+    (start one start_other other after start_whole half whole : Table) →
+    start ≡ empty_table seed log2_bits hashes → InsertsAll first start one →
+    start_other ≡ empty_table seed log2_bits hashes → InsertsAll second start_other other →
+    Merges other one after → start_whole ≡ empty_table seed log2_bits hashes →
+    InsertsAll first start_whole half → InsertsAll second half whole →
+    IsTable after → IsTable whole → after ≡ whole
+made_both_ways seed log2_bits hashes first second start one start_other other after start_whole half
+    whole is_empty all_one is_empty_other all_other merges is_empty_whole all_half all_whole
+    is_after is_whole =
+    let empty = empty_table seed log2_bits hashes in
+    let of_one = subst (λ t. InsertsAll first t one) is_empty all_one in
+    let of_other = subst (λ t. InsertsAll second t other) is_empty_other all_other in
+    let of_whole = made_whole seed log2_bits hashes first second start_whole half whole
+    is_empty_whole all_half all_whole in
+    let alike = chained one empty whole (turned empty one (all_alike first empty one of_one))
+    of_whole.0 in
+    streams one other after whole first second is_after is_whole alike merges
+    (made_of seed log2_bits hashes first one of_one)
+    (made_of seed log2_bits hashes second other of_other) of_whole.1
+
+-- ---- the order of merges
+
+sum_turned : (a b : Option ℕ) → sum_of_counts a b ≡ sum_of_counts b a
+sum_turned None None = refl
+sum_turned None (Some n) = refl
+sum_turned (Some m) None = refl
+sum_turned (Some m) (Some n) = ap (λ k. Some k) (least m n)
+  where
+    least : (m n : ℕ) → min (m + n) (2 ^ 64 - 1) ≡ min (n + m) (2 ^ 64 - 1)
+    least m n = omega arith
+
+commutes : (table other after back : Table) → IsTable after → IsTable back →
+    Merges other table after → Merges table other back → after ≡ back
+commutes table other after back is_after is_back merges merges_back =
+    same_by_bits after back is_after is_back
+    (chained after table back (turned table after merges.kept)
+    (chained table other back merges.alike merges_back.kept))
+    (merges.count ∙ sum_turned table.count other.count ∙ sym merges_back.count) (λ i. (
+      (λ is. (merges_back.bits i).1 (swap ((merges.bits i).0 is))),
+      (λ is. (merges.bits i).1 (swap ((merges_back.bits i).0 is))),
+    ))
+  where
+    swap : {A B : Type 0} → A ⊎ B → B ⊎ A
+    swap x = elim x [ inl a ↦ inr a | inr b ↦ inl b ]
+
+sum_joined : (a b c : Option ℕ) →
+    sum_of_counts (sum_of_counts a b) c ≡ sum_of_counts a (sum_of_counts b c)
+sum_joined None b c = refl
+sum_joined (Some m) None c = refl
+sum_joined (Some m) (Some n) None = refl
+sum_joined (Some m) (Some n) (Some k) = ap (λ k. Some k) (least m n k)
+  where
+    least : (m n k : ℕ) →
+        min (min (m + n) (2 ^ 64 - 1) + k) (2 ^ 64 - 1)
+        ≡ min (m + min (n + k) (2 ^ 64 - 1)) (2 ^ 64 - 1)
+    least m n k = omega arith
+
+associates : (a b c a_b b_c left right : Table) → IsTable left → IsTable right →
+    Merges b a a_b → Merges c a_b left → Merges c b b_c → Merges b_c a right → left ≡ right
+associates a b c a_b b_c left right is_left is_right first then second last =
+    same_by_bits left right is_left is_right
+    (chained left a right
+    (turned a left (chained a a_b left first.kept then.kept)) last.kept)
+    (then.count ∙ ap (λ n. sum_of_counts n c.count) first.count
+    ∙ sum_joined a.count b.count c.count
+    ∙ ap (sum_of_counts a.count) (sym second.count) ∙ sym last.count) (λ i. (
+      (λ is. (last.bits i).1 (elim ((then.bits i).0 is) [
+        | inl in_a_b ↦ elim ((first.bits i).0 in_a_b) [
+          | inl in_a ↦ inl in_a
+          | inr in_b ↦ inr ((second.bits i).1 (inl in_b))
+        ]
+        | inr in_c ↦ inr ((second.bits i).1 (inr in_c))
+      ])),
+      (λ is. (then.bits i).1 (elim ((last.bits i).0 is) [
+        | inl in_a ↦ inl ((first.bits i).1 (inl in_a))
+        | inr in_b_c ↦ elim ((second.bits i).0 in_b_c) [
+          | inl in_b ↦ inl ((first.bits i).1 (inr in_b))
+          | inr in_c ↦ inr in_c
+        ]
+      ])),
+    ))
+
+-- ---- merges that change nothing
+
+sum_none : (count : Option ℕ) → IfSome count IsWord → sum_of_counts count (Some 0) ≡ count
+sum_none None word = refl
+sum_none (Some n) word = ap (λ k. Some k) (least n word)
+  where
+    least : (n : ℕ) → n < 2 ^ 64 → min (n + 0) (2 ^ 64 - 1) ≡ n
+    least n h = omega arith
+
+empty : (table after : Table) → IsTable table → IsTable after →
+    Merges (empty_table table.seed table.log2_bits table.hashes) table after → after ≡ table
+empty table after is_table is_after merges =
+    same_by_bits after table is_after is_table (turned table after merges.kept)
+    (merges.count ∙ sum_none table.count is_table.count) (λ i. (
+      (λ is. elim ((merges.bits i).0 is) [
+        | inl was ↦ was
+        | inr none ↦ absurd (no_bits table.seed table.log2_bits table.hashes i none)
+      ]),
+      (λ is. (merges.bits i).1 (inl is)),
+    ))
+
+itself : (table after : Table) → IsTable table → IsTable after → Merges table table after →
+    after ≡ record table { count = after.count }
+itself table after is_table is_after merges =
+    let kept = turned table after merges.kept in
+    same_table after.seed after.log2_bits after.hashes table.seed table.log2_bits table.hashes
+    after.count after.count after.bits table.bits kept.seed kept.log2_bits kept.hashes refl
+    (same_table_bits after table is_after is_table kept.log2_bits (λ i. (
+      (λ is. elim ((merges.bits i).0 is) [ inl was ↦ was | inr was ↦ was ]),
+      (λ is. (merges.bits i).1 (inl is)),
+    )))
+
+pub merge_law : MergeLaw
+merge_law = record {
+  streams = streams;
+  both = both;
+  found = found;
+  counted = counted;
+  commutes = commutes;
+  associates = associates;
+  empty = empty;
+  itself = itself;
+}

@@ -1,0 +1,41 @@
+-- Tables of one seed and sizes, and the table that two of them are together.
+use Rattle.std.specs.Prelude.{◌≡◌, ◌≢◌, ◌↔◌, ◌⊎◌, ℕ, ◌+◌, ◌-◌, ◌^◌, min, List, ◌++◌, codes, Option, None, Some}
+use Rattle.datasketches.specs.declared.error.ErrorKind.TheVariants.{InvalidArgument}
+use Rattle.datasketches.specs.ErrorValue.{ErrorValue}
+use Rattle.datasketches.specs.Refusals.{Refuses}
+use Rattle.sketch_member.specs.Table.{Table, IsSet}
+
+-- the tables have one seed and the same sizes
+pub record AreAlike (table other : Table) : Type 0 where
+  pub seed : table.seed ≡ other.seed
+  pub log2_bits : table.log2_bits ≡ other.log2_bits
+  pub hashes : table.hashes ≡ other.hashes
+
+abbrev pub tables_differ_text : List ℕ → List ℕ
+tables_differ_text part = codes "tables differ: " ++ part
+
+-- the tables are not alike, and the error tells the first of the three in which they differ
+abbrev pub FirstDifference : Table → Table → ErrorValue → Type 0
+FirstDifference table other error =
+    ((table.seed ≢ other.seed)
+    × Refuses InvalidArgument (tables_differ_text (codes "seed")) error)
+    ⊎ (((table.seed ≡ other.seed) × (table.log2_bits ≢ other.log2_bits)
+    × Refuses InvalidArgument (tables_differ_text (codes "log2 bits")) error)
+    ⊎ ((table.seed ≡ other.seed) × (table.log2_bits ≡ other.log2_bits)
+    × (table.hashes ≢ other.hashes)
+    × Refuses InvalidArgument (tables_differ_text (codes "hashes")) error))
+
+-- the count of two tables together: known counts add and stay at the greatest word, and an unknown
+-- one makes the sum unknown
+abbrev pub sum_of_counts : Option ℕ → Option ℕ → Option ℕ
+sum_of_counts None count = None
+sum_of_counts (Some m) None = None
+sum_of_counts (Some m) (Some n) = Some (min (m + n) (2 ^ 64 - 1))
+
+-- a table after another one, which is alike, was merged into it: the counts add, a bit is set
+-- exactly if it was in one of the two, and all else is as it was
+pub record Merges (other before after : Table) : Type 0 where
+  pub alike : AreAlike before other
+  pub kept : AreAlike before after
+  pub count : after.count ≡ sum_of_counts before.count other.count
+  pub bits : (i : ℕ) → IsSet after.bits i ↔ (IsSet before.bits i ⊎ IsSet other.bits i)

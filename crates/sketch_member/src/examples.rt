@@ -1,9 +1,0 @@
-//! Worked values of the definitions.
-
-ghost use Rattle.sketch_member.specs.Examples.{WorkedValues};
-
-/// The values of the definitions for one table. It does nothing: its contract is computed from the
-/// definitions.
-pub fn worked_values()
-    ensures { WorkedValues }
-{}

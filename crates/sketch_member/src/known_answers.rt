@@ -1,0 +1,15 @@
+//! Worked values of the definitions.
+
+ghost use Rattle.sketch_member.specs.KnownAnswers.{MergedValues, WorkedValues};
+
+/// The values of the definitions for one table. It does nothing: its contract is computed from the
+/// definitions.
+pub fn worked_values()
+    ensures { WorkedValues }
+{}
+
+/// The values of the definitions for two tables that are merged. It does nothing: its contract is
+/// computed from the definitions.
+pub fn merged_values()
+    ensures { MergedValues }
+{}

@@ -1,0 +1,208 @@
+//! Tables that are merged.
+
+use super::table::TABLES;
+use super::{
+    ONE_VALUE_1, ONE_VALUE_2, assert_out_of_memory, assert_refused, assert_same, assert_same_for,
+};
+use crate::MemberTable;
+use crate::laws::merge_both;
+use datasketches::error::Error;
+use datasketches::hash::value::raw_bytes;
+use std::alloc::Global;
+use std::io::Eprint;
+use std::process::Abort;
+use std::test::Fail;
+
+// A table of these numbers, or the error of memory that ran out.
+fn table_of(
+    alloc: Global,
+    seed: u64,
+    log2_bits: u8,
+    hashes: u8,
+    numbers: &[u64],
+) -> Result<MemberTable, Error> {
+    let mut table = MemberTable::new(alloc, seed, log2_bits, hashes)?;
+    for n in numbers {
+        table.insert(n);
+    }
+    Ok(table)
+}
+
+const FIRST: [u64; 5] = [0, 1, u64::MAX, 258, 1];
+
+const SECOND: [u64; 4] = [7, 258, 1 << 63, 65_537];
+
+// Asserts that a merge makes the table of both streams; or gives the error of memory that ran out.
+fn try_both(
+    rt: &impl Abort,
+    alloc: Global,
+    seed: u64,
+    log2_bits: u8,
+    hashes: u8,
+) -> Result<(), Error> {
+    let case = (seed, log2_bits, hashes);
+    let (merged, whole) = merge_both(alloc, seed, log2_bits, hashes, &FIRST, &SECOND)?;
+    assert_same_for(rt, merged.as_slice() == whole.as_slice(), true, case);
+    let mut table = table_of(alloc, seed, log2_bits, hashes, &FIRST)?;
+    let alone = table.to_bytes(alloc)?;
+    assert_same_for(rt, alone.as_slice() == whole.as_slice(), false, case);
+    table.merge(alloc, &table_of(alloc, seed, log2_bits, hashes, &SECOND)?)?;
+    for n in FIRST.iter().chain(&SECOND) {
+        assert_same_for(rt, table.contains(n), true, case);
+    }
+    assert_same_for(rt, table.count(), Some(9), case);
+    Ok(())
+}
+
+#[test]
+fn a_merge_makes_the_table_of_both_streams(rt: HostRuntime) -> Result<(), Fail> {
+    for log2_bits in 6..=20 {
+        for hashes in [1, 7, 16] {
+            for seed in [0, 9001, u64::MAX] {
+                try_both(&rt, rt.alloc(), seed, log2_bits, hashes)?;
+            }
+        }
+    }
+    Ok(())
+}
+
+#[test]
+fn merges_without_memory(rt: HostRuntime) {
+    for (seed, log2_bits, hashes) in [(0, 6, 1), (9001, 13, 7), (u64::MAX, 20, 16)] {
+        if let Err(error) = try_both(&rt, rt.alloc(), seed, log2_bits, hashes) {
+            assert_out_of_memory(&rt, &error);
+        }
+    }
+}
+
+// Each value is inserted into a table of its own.
+#[test]
+fn merged_tables_have_the_bits_of_all(rt: HostRuntime) -> Result<(), Fail> {
+    for (seed, log2_bits, hashes, values, bits) in &TABLES {
+        let mut all = MemberTable::new(rt.alloc(), *seed, *log2_bits, *hashes)?;
+        for value in *values {
+            let mut table = MemberTable::new(rt.alloc(), *seed, *log2_bits, *hashes)?;
+            table.insert(&raw_bytes::from_slice(value));
+            all.merge(rt.alloc(), &table)?;
+        }
+        let bytes = all.to_bytes(rt.alloc())?;
+        assert_same_for(
+            &rt,
+            bytes.as_slice().split_at(bytes.len().min(24)).1,
+            *bits,
+            seed,
+        );
+    }
+    Ok(())
+}
+
+// The tables of eight parts, merged from the first on, from the last on, and as a tree.
+#[test]
+fn merges_in_any_order_make_one_table(rt: HostRuntime) -> Result<(), Fail> {
+    let alloc = rt.alloc();
+    let mut forth = table_of(alloc, 3, 12, 5, &[])?;
+    let mut back = table_of(alloc, 3, 12, 5, &[])?;
+    let mut tree = table_of(alloc, 3, 12, 5, &[])?;
+    for part in 0..8u64 {
+        forth.merge(alloc, &table_of(alloc, 3, 12, 5, &[part, part << 32])?)?;
+        let last = 7 - part;
+        back.merge(alloc, &table_of(alloc, 3, 12, 5, &[last, last << 32])?)?;
+    }
+    for part in [6, 2, 0, 4u64] {
+        let mut pair = table_of(alloc, 3, 12, 5, &[part, part << 32])?;
+        let next = part + 1;
+        pair.merge(alloc, &table_of(alloc, 3, 12, 5, &[next, next << 32])?)?;
+        tree.merge(alloc, &pair)?;
+    }
+    let bytes = forth.to_bytes(alloc)?;
+    assert_same(&rt, back.to_bytes(alloc)?.as_slice(), bytes.as_slice());
+    assert_same(&rt, tree.to_bytes(alloc)?.as_slice(), bytes.as_slice());
+    assert_same(&rt, forth.count(), Some(16));
+    Ok(())
+}
+
+#[test]
+fn counts_add_and_stay_at_the_greatest(rt: HostRuntime) -> Result<(), Fail> {
+    for (count, other, sum) in [
+        (0, 0, 0),
+        (2, 3, 5),
+        (u64::MAX - 1, 1, u64::MAX),
+        (u64::MAX, 1, u64::MAX),
+        (1, u64::MAX, u64::MAX),
+        (1 << 63, 1 << 63, u64::MAX),
+    ] {
+        let mut bytes = ONE_VALUE_2;
+        bytes[16..24].copy_from_slice(&count.to_le_bytes());
+        let mut table = MemberTable::from_bytes(rt.alloc(), &bytes)?;
+        bytes[16..24].copy_from_slice(&other.to_le_bytes());
+        table.merge(rt.alloc(), &MemberTable::from_bytes(rt.alloc(), &bytes)?)?;
+        assert_same_for(&rt, table.count(), Some(sum), (count, other));
+    }
+    Ok(())
+}
+
+#[test]
+fn an_unknown_count_makes_the_sum_unknown(rt: HostRuntime) -> Result<(), Fail> {
+    let forms = [ONE_VALUE_1.as_slice(), ONE_VALUE_2.as_slice()];
+    for (one, other, sum) in [(0, 0, None), (0, 1, None), (1, 0, None), (1, 1, Some(2))] {
+        let mut table = MemberTable::from_bytes(rt.alloc(), forms[one.min(1)])?;
+        let other_table = MemberTable::from_bytes(rt.alloc(), forms[other.min(1)])?;
+        table.merge(rt.alloc(), &other_table)?;
+        assert_same_for(&rt, table.count(), sum, (one, other));
+    }
+    Ok(())
+}
+
+// A seed and two sizes, and how a table of them is not merged into one of seed 9001 with 2^8 bits
+// and 3 hashes: the first difference is told.
+const UNLIKE: [(u64, u8, u8, &'static str); 6] = [
+    (0, 8, 3, "InvalidArgument => tables differ: seed"),
+    (
+        9001 + (1 << 63),
+        7,
+        2,
+        "InvalidArgument => tables differ: seed",
+    ),
+    (9002, 8, 4, "InvalidArgument => tables differ: seed"),
+    (9001, 9, 3, "InvalidArgument => tables differ: log2 bits"),
+    (9001, 7, 4, "InvalidArgument => tables differ: log2 bits"),
+    (9001, 8, 2, "InvalidArgument => tables differ: hashes"),
+];
+
+// Asserts that tables that differ are refused and left as they were, or that memory ran out for the
+// text of that; or gives the error of memory that ran out before.
+fn try_unlike<R: Abort + Eprint>(rt: &R, alloc: Global) -> Result<(), Error> {
+    for (seed, log2_bits, hashes, line) in UNLIKE {
+        let mut table = table_of(alloc, 9001, 8, 3, &FIRST)?;
+        let before = table.to_bytes(alloc)?;
+        let other = table_of(alloc, seed, log2_bits, hashes, &SECOND)?;
+        assert_refused(rt, table.merge(alloc, &other), line);
+        let after = table.to_bytes(alloc)?;
+        assert_same_for(rt, after.as_slice() == before.as_slice(), true, line);
+    }
+    Ok(())
+}
+
+#[test]
+fn unlike_tables_are_refused(rt: HostRuntime) -> Result<(), Fail> {
+    Ok(try_unlike(&rt, rt.alloc())?)
+}
+
+#[test]
+fn unlike_tables_without_memory(rt: HostRuntime) {
+    if let Err(error) = try_unlike(&rt, rt.alloc()) {
+        assert_out_of_memory(&rt, &error);
+    }
+}
+
+// Once both tables are there, merges ask for nothing.
+#[test]
+fn merges_make_2_requests(rt: HostRuntime) -> Result<(), Fail> {
+    let mut table = table_of(rt.alloc(), 9001, 20, 16, &FIRST)?;
+    let other = table_of(rt.alloc(), 9001, 20, 16, &SECOND)?;
+    for n in 1..=20u64 {
+        table.merge(rt.alloc(), &other)?;
+        assert_same_for(&rt, table.count(), Some(5 + 4 * n), n);
+    }
+    Ok(())
+}
