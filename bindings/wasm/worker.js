@@ -3,7 +3,8 @@
 // It takes {wasm}, once; {id, file, seed} or {id, text, seed}; and {stop: id}. It answers {ready} or
 // {unable}, and of an id {done} bytes, {xxh64, murmur3}, {fault} or {stopped}.
 
-const READ = 1 << 20; // bytes that are read at a time
+const READ = 4 << 20; // bytes that are read at a time
+const AHEAD = 4; // reads of one file at the same time
 const AT_ONCE = 4; // files that are read at the same time
 
 const waiting = [];
@@ -83,25 +84,16 @@ async function hashFile(job) {
     return hashers.answer();
 }
 
-// The bytes of a file, into one buffer again and again where the browser's streams have that.
+// The bytes of a file, some pieces of which are being read while one is hashed. (Byte streams with a
+// buffer of the reader's own are as fast in Chromium 156, but one in some twenty never ends.)
 async function* pieces(file) {
-    const reader = readerOf(file);
-    try {
-        for (let buffer = new ArrayBuffer(READ); ;) {
-            const { done, value } = await reader.read(new Uint8Array(buffer));
-            if (done) return;
-            yield value;
-            buffer = value.buffer;
+    const ahead = [];
+    for (let at = 0, next = 0; at < file.size; at += READ) {
+        for (; next < file.size && ahead.length < AHEAD; next += READ) {
+            const reading = file.slice(next, next + READ).arrayBuffer();
+            reading.catch(() => {}); // told where it is awaited
+            ahead.push(reading);
         }
-    } finally {
-        reader.cancel().catch(() => {}); // which fails after a fault of reading
-    }
-}
-
-function readerOf(file) {
-    try {
-        return file.stream().getReader({ mode: 'byob' });
-    } catch {
-        return file.stream().getReader();
+        yield new Uint8Array(await ahead.shift());
     }
 }
