@@ -38,6 +38,8 @@ murmur_answers = record {
   three_blocks_and_fifteen = refl;
   eighteen_blocks_and_twelve = refl;
   total_past_32_bits = refl;
+  total_past_63_bits = refl;
+  greatest_seed = refl;
 }
 
 pub xxh64_answers : Xxh64Answers
@@ -59,6 +61,8 @@ xxh64_answers = record {
   three_stripes_and_word_seeded = refl;
   nine_stripes_and_twelve = refl;
   total_past_32_bits = refl;
+  total_past_63_bits = refl;
+  greatest_seed = refl;
 }
 
 pub value_answers : ValueAnswers

@@ -1,7 +1,7 @@
 -- What the definitions give for small inputs, and what each range and relation holds of. The hashes
 -- are known from elsewhere: from the tests of xxHash and of the library that is ported, and from
--- running these two; that of Murmur for a total past 32 bits from its published last steps.
-use Rattle.std.specs.Prelude.{◌≡◌, ℕ, zero, suc, ◌-◌, ◌/◌, ◌^◌, ◌<◌, negsuc, List, [], ◌∷◌, codes, replicate}
+-- running these two; those for totals past 32 bits from the published last steps.
+use Rattle.std.specs.Prelude.{◌≡◌, ℕ, zero, suc, ◌+◌, ◌-◌, ◌/◌, ◌^◌, ◌<◌, negsuc, List, [], ◌∷◌, codes, replicate}
 use Rattle.sketch_base.specs.Bytes.{AreBytes, eight}
 use Rattle.sketch_hash.specs.declared.hash.murmurhash.state.MurmurState.{MurmurState}
 use Rattle.sketch_hash.specs.declared.hash.xxhash.state.XxHash64State.{XxHash64State}
@@ -26,6 +26,10 @@ test_bytes_from g (suc n) = g / 2 ^ 56 ∷ test_bytes_from (times g 0x9E3779B185
 
 abbrev pub test_bytes : ℕ → List ℕ
 test_bytes n = test_bytes_from 0x9E3779B1 n
+
+-- eight bytes of which both hashes are known under the greatest seed
+abbrev pub eight_others : List ℕ
+eight_others = 0xb8 ∷ 0xe4 ∷ 0x2a ∷ 0x56 ∷ 0xf1 ∷ 0xfc ∷ 0x30 ∷ 0x23 ∷ []
 
 -- states after one piece and one byte
 abbrev pub murmur_state : MurmurState
@@ -84,6 +88,10 @@ pub record MurmurAnswers : Type 0 where
   pub total_past_32_bits :
       murmur_answer (record { folded = (0, 0); total = 2 ^ 32; waiting = [] }) ≡
       (0x62abd11ccf40b33a, 0x59d6a9e0807020b1)
+  pub total_past_63_bits :
+      murmur_answer (record { folded = (0, 0); total = 2 ^ 63 + 2 ^ 40 + 3; waiting = [] }) ≡
+      (0x82e5e7f4fbb73750, 0xc8c4db253f3a282e)
+  pub greatest_seed : murmur (2 ^ 64 - 1) eight_others ≡ (0xb585fa32ba79bba9, 0x12904104ac5ac4df)
 
 -- what the definition of XXH64 answers: in the short form up to its longest, after stripes, with
 -- every kind of step in the tail, where the length takes more than one byte, and of a state whose
@@ -106,6 +114,11 @@ pub record Xxh64Answers : Type 0 where
   pub total_past_32_bits :
       xxh64_answer (record { folded = (0, lanes_start 0); total = 2 ^ 32; waiting = [] })
       ≡ 0x553f8a53d28f87d6
+  pub total_past_63_bits :
+      xxh64_answer
+          (record { folded = (0, lanes_start 0); total = 2 ^ 63 + 2 ^ 40 + 3; waiting = [] })
+      ≡ 0xf3176324f5d89fac
+  pub greatest_seed : xxh64 (2 ^ 64 - 1) eight_others ≡ 0xcc033c670917b4af
 
 -- what a seed and an integer give
 pub record ValueAnswers : Type 0 where
