@@ -54,6 +54,7 @@ impl Model for MurmurHash3X64128 {
 impl MurmurHash3X64128 {
     /// A hasher with a seed, and no bytes.
     #[inline(always)]
+    #[tactic(auto, unfolding(crate::specs::Murmur::murmur_after))]
     pub fn with_seed(seed: u64) -> Self
         ensures { MurmurStands result seed [] }
     {
@@ -185,6 +186,7 @@ impl Hasher for MurmurHash3X64128 {
 }
 
 #[inline(always)]
+#[tactic(auto, unfolding(crate::specs::Murmur::mix1))]
 fn mix1(k1: u64) -> u64
     ensures { result ≡ mix1 k1 }
 {
@@ -192,6 +194,7 @@ fn mix1(k1: u64) -> u64
 }
 
 #[inline(always)]
+#[tactic(auto, unfolding(crate::specs::Murmur::mix2))]
 fn mix2(k2: u64) -> u64
     ensures { result ≡ mix2 k2 }
 {
@@ -247,6 +250,7 @@ fn mix_tail(h1: u64, h2: u64, tail: &[u8]) -> (u64, u64)
 }
 
 #[inline(always)]
+#[tactic(auto, unfolding(crate::specs::Murmur::fmix))]
 fn fmix(word: u64) -> u64
     ensures { result ≡ fmix word }
 {

@@ -54,6 +54,7 @@ impl Model for XxHash64 {
 impl XxHash64 {
     /// A hasher with a seed, and no bytes.
     #[inline(always)]
+    #[tactic(auto, unfolding(crate::specs::Xxh64::xxh64_after, crate::specs::Xxh64::lanes_start))]
     pub fn with_seed(seed: u64) -> Self
         ensures { Xxh64Stands result seed [] }
     {
@@ -145,17 +146,13 @@ impl XxHash64 {
         self.count = count + bytes.len();
     }
 
-    // Takes the bytes that fill the stripe that is begun, and none where no stripe is begun.
+    // Takes the bytes that fill the stripe that is begun.
     #[inline(always)]
     fn complete_stripe(&mut self, bytes: &[u8])
         requires short { length self.old.waiting < 32 }
-        requires fills { length bytes.now ≡ (32 - length self.old.waiting) % 32 }
-        ensures after { self.new ≡ xxh64_after self.old bytes.now }
-        ensures empty { self.new.waiting ≡ [] }
+        requires fills { length self.old.waiting + length bytes.now ≡ 32 }
+        ensures { self.new ≡ xxh64_after self.old bytes.now }
     {
-        if bytes.is_empty() {
-            return;
-        }
         self.total = self.total.wrapping_add(bytes.len() as u64);
         let count = self.count;
         copy_small(&mut self.buffer, count, bytes);
@@ -169,7 +166,7 @@ impl XxHash64 {
     // waits.
     #[inline(always)]
     fn consume_stripes(&mut self, bytes: &[u8])
-        requires { self.old.waiting ≡ [] }
+        requires { length self.old.waiting ≡ 0 }
         ensures { self.new ≡ xxh64_after self.old bytes.now }
     {
         self.total = self.total.wrapping_add(bytes.len() as u64);
@@ -222,17 +219,15 @@ impl Hasher for XxHash64 {
             Xxh64Stands self.new seed (before ++ bytes.now) }
     {
         let missing = self.missing_bytes();
-        if bytes.len() < missing {
+        if missing == 0 {
+            self.consume_stripes(bytes);
+        } else if bytes.len() < missing {
             self.buffer_bytes(bytes);
-            return;
-        }
-        if missing > 0 && bytes.len() > missing {
+        } else if bytes.len() == missing {
+            self.complete_stripe(bytes);
+        } else {
             self.complete_and_consume(bytes);
-            return;
         }
-        let (front, behind) = bytes.split_at(missing);
-        self.complete_stripe(front);
-        self.consume_stripes(behind);
     }
 
     #[inline(always)]
@@ -275,6 +270,7 @@ fn merge_stripes(stripes: &[[u8; STRIPE]], seed: u64) -> u64
 
 // The four lanes as one word.
 #[inline(always)]
+#[tactic(auto, unfolding(crate::specs::Xxh64::merge))]
 fn merge(words: ScalarLanes) -> u64
     ensures { result ≡ merge (lanes_of_scalars words) }
 {
@@ -399,6 +395,7 @@ fn byte_step(hash: u64, byte: u8) -> u64
 
 // The last mixing.
 #[inline(always)]
+#[tactic(auto, unfolding(crate::specs::Xxh64::avalanche))]
 fn avalanche(hash: u64) -> u64
     ensures { result ≡ avalanche hash }
 {

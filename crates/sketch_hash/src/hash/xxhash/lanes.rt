@@ -43,6 +43,7 @@ pub(super) struct ScalarLanes {
 impl ScalarLanes {
     /// Where the lanes start.
     #[inline(always)]
+    #[tactic(auto, unfolding(crate::specs::Xxh64::lanes_start))]
     pub(super) fn start(seed: u64) -> Self
         ensures { lanes_of_scalars result ≡ lanes_start seed }
     {
@@ -74,6 +75,7 @@ impl StripeRound for ScalarLanes {
     ghost lanes = { lanes_of_scalars };
 
     #[inline(always)]
+    #[tactic(auto, unfolding(crate::specs::Xxh64::stripe_step))]
     fn stripe_round(&mut self, stripe: &[u8; 32]) {
         self.v1 = round(self.v1, read_u64_le(&stripe[0..8]));
         self.v2 = round(self.v2, read_u64_le(&stripe[8..16]));
@@ -165,6 +167,7 @@ fn vector_round(lanes: u64x4, stripe: &[u8; 32]) -> u64x4
 
 /// A lane after an input word.
 #[inline(always)]
+#[tactic(auto, unfolding(crate::specs::Xxh64::round))]
 pub(super) fn round(lane: u64, word: u64) -> u64
     ensures { result ≡ round lane word }
 {

@@ -1,31 +1,23 @@
-use Rattle.std.proofs.Common.{rules, ◌≡◌, ℕ, ◌+◌, ◌-◌, ◌%◌, ◌<◌, ◌≤◌, ◌^◌, ◌++◌, List, [], length, take, sym, ap, ◌∙◌, arith, length-append}
+use Rattle.std.proofs.Common.{rules, ◌≡◌, ℕ, ◌+◌, ◌%◌, ◌<◌, ◌≤◌, ◌^◌, ◌++◌, List, [], length, take, sym, ap, ◌∙◌, arith, length-append}
 use Rattle.sketch_hash.specs.Pieces.{State}
 use Rattle.sketch_hash.specs.Xxh64.{Lanes, xxh64_after, stripe_step, seeded_step}
-use Rattle.sketch_hash.specs.Xxh64WriteLemmas.{xxh64_after-empty}
 use Rattle.sketch_hash.specs.Lanes.{lanes_of}
-use Rattle.std.proofs.lemmas.List.{length-take-le, nil_from_length}
+use Rattle.std.proofs.lemmas.List.{length-take-le}
 use Rattle.sketch_hash.proofs.StateLemmas.{state_after-fills}
 use Rattle.sketch_hash.proofs.CopyLemmas.{copy_full}
 use Rattle.sketch_hash.proofs.hash.xxhash.XxHash64.complete_stripe.Goals as goal
 
-pub returns-then-is_empty-clause-after : goal.returns-then-is_empty-clause-after
-returns-then-is_empty-clause-after c =
-    let no_bytes : length c.args.bytes.now ≡ 0 = search rules in
-    let none : c.args.bytes.now ≡ [] = nil_from_length c.args.bytes.now no_bytes in
-    rw none (sym (xxh64_after-empty c.args.self.now))
-
-pub returns-clause-after : goal.returns-clause-after
+pub returns : goal.returns
 unfolding xxh64_after
-returns-clause-after c =
+returns c =
     let i = c.self.inside in
     let bytes : List ℕ = c.args.bytes.now in
     let held : List ℕ = take i.count i.buffer in
     let s : State (ℕ × Lanes) =
     record { folded = (i.seed, lanes_of i.lanes); total = i.total; waiting = held } in
     let short : length held < 32 = rw (← c.self.view_is) at c.requires.short in
-    let fills : length bytes ≡ (32 - length held) % 32 = rw (← c.self.view_is) at c.requires.fills in
-    let some : 0 < length bytes = search rules in
-    let full : length (held ++ bytes) ≡ 32 = omega (arith, length-append held bytes, fills, some, short) in
+    let fills : length held + length bytes ≡ 32 = rw (← c.self.view_is) at c.requires.fills in
+    let full : length (held ++ bytes) ≡ 32 = omega (arith, length-append held bytes, fills) in
     let within : i.count ≤ length i.buffer = search rules in
     let count : length held ≡ i.count = length-take-le i.count i.buffer within in
     let long : length i.buffer ≡ 32 = search rules in

@@ -1,5 +1,6 @@
 use Rattle.std.proofs.Common.{rules, ◌≡◌, ℕ, ◌+◌, ◌%◌, ◌<◌, ◌^◌, List, [], length, take, sym, ap, ◌∙◌}
 use Rattle.std.proofs.Math.Seq.{take-append_seam}
+use Rattle.std.proofs.lemmas.List.{nil_from_length}
 use Rattle.sketch_hash.specs.Lanes.{each_lane, lanes_of}
 use Rattle.sketch_hash.specs.Pieces.{State, pieces, rest}
 use Rattle.sketch_hash.specs.Xxh64.{Lanes}
@@ -16,7 +17,8 @@ returns c =
     let held : List ℕ = take i.count i.buffer in
     let s : State (ℕ × Lanes) =
     record { folded = (i.seed, lanes_of i.lanes); total = i.total; waiting = held } in
-    let empty : held ≡ [] = rw (← c.self.view_is) at c.requires in
+    let none : length held ≡ 0 = rw (← c.self.view_is) at c.requires in
+    let empty : held ≡ [] = nil_from_length held none in
     let total : i.total < 2 ^ 64 = search rules in
     let stripes : c.as_chunks.result.0.now ≡ pieces 32 bytes =
     c.as_chunks.ensures.front ∙ chunks-are _ 32 bytes in
