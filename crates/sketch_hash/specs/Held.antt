@@ -1,5 +1,5 @@
--- The states of hashers that plain words and bytes stand for. Of the waiting bytes those count that
--- are behind the last full piece: so many as the total has beyond it.
+-- The states of hashers that plain words and bytes stand for. Of the waiting bytes the first count:
+-- as many as the total has after its last full piece.
 use Rattle.std.specs.Prelude.{ℕ, ◌%◌, List, take}
 use Rattle.sketch_hash.specs.declared.hash.murmurhash.state.MurmurState.{MurmurState}
 use Rattle.sketch_hash.specs.declared.hash.xxhash.state.XxHash64State.{XxHash64State}

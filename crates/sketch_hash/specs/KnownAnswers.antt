@@ -27,7 +27,7 @@ test_bytes_from g (suc n) = g / 2 ^ 56 ∷ test_bytes_from (times g 0x9E3779B185
 abbrev pub test_bytes : ℕ → List ℕ
 test_bytes n = test_bytes_from 0x9E3779B1 n
 
--- states behind one piece and one byte
+-- states after one piece and one byte
 abbrev pub murmur_state : MurmurState
 murmur_state = record { h1 = 1; h2 = 2; total = 17; waiting = 3 ∷ replicate 15 4 }
 
@@ -85,7 +85,7 @@ pub record MurmurAnswers : Type 0 where
       murmur_answer (record { folded = (0, 0); total = 2 ^ 32; waiting = [] }) ≡
       (0x62abd11ccf40b33a, 0x59d6a9e0807020b1)
 
--- what the definition of XXH64 answers: in the short form up to its longest, behind stripes, with
+-- what the definition of XXH64 answers: in the short form up to its longest, after stripes, with
 -- every kind of step in the tail, where the length takes more than one byte, and of a state whose
 -- total takes more than four
 pub record Xxh64Answers : Type 0 where

@@ -13,7 +13,7 @@ first_pieces (suc n) w bytes = take w bytes ∷ first_pieces n w (drop w bytes)
 unfoldable pub pieces : ℕ → List ℕ → List (List ℕ)
 pieces w bytes = first_pieces (length bytes / w) w bytes
 
--- the bytes behind the last full piece: the last (length % w) bytes
+-- the bytes after the last full piece: the last (length % w) bytes
 unfoldable pub rest : ℕ → List ℕ → List ℕ
 rest w bytes = drop (length bytes / w * w) bytes
 

@@ -7,7 +7,7 @@ use Rattle.std.proofs.lemmas.List.Sums.{fold-append}
 use Rattle.std.specs.List.{fold}
 use Rattle.sketch_hash.specs.Pieces.{first_pieces, pieces, rest, State, absorb, state_after}
 
--- pieces in front do not depend on what is joined behind them
+-- pieces in front do not depend on what is joined after them
 first_pieces-append : (n m w : ℕ) (xs ys : List ℕ) → n * w ≤ length xs →
     first_pieces (n + m) w (xs ++ ys)
     ≡ first_pieces n w xs ++ first_pieces m w (drop (n * w) xs ++ ys)

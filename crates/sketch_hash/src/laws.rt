@@ -5,7 +5,7 @@
 
 ghost use Rattle.sketch_hash.specs.Laws.{MurmurStepLaws, PieceLaws, Xxh64StepLaws};
 
-/// Whole pieces of a stream leave what is behind them, and a word stands in eight bytes.
+/// Whole pieces of a stream leave what comes after them, and a word stands in eight bytes.
 pub fn piece_laws()
     ensures { PieceLaws }
 {}

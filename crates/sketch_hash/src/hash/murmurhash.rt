@@ -45,7 +45,7 @@ impl Model for MurmurHash3X64128 {
       waiting = low_bytes h.count (h.low + h.high * 2 ^ 64);
     } };
 
-    // The first eight waiting bytes are in `low`, those behind them in `high`, absent ones as
+    // The first eight waiting bytes are in `low`, those after them in `high`, absent ones as
     // zeros.
     ghost invariant = { λ h. (h.count < 16)
         × (h.low < 256 ^ min h.count 8) × (h.high < 256 ^ (h.count - 8)) };
@@ -83,7 +83,7 @@ impl MurmurHash3X64128 {
 
     /// The 128-bit hash of bytes under a seed, as its first and its second word, in one call.
     ///
-    /// It reads the bytes where they lie, and is faster than a hasher for keys of any length.
+    /// It reads the bytes where they lie, which takes less time than a hasher for short keys.
     #[inline(always)]
     pub fn hash(bytes: &[u8], seed: u64) -> (u64, u64)
         ensures { result ≡ murmur seed bytes.now }
@@ -124,7 +124,7 @@ impl MurmurHash3X64128 {
         ensures { self.new ≡ murmur_after self.old bytes.now }
     {
         self.total = self.total.wrapping_add(bytes.len() as u64);
-        // Of the first 16 bytes, those behind the block fall out.
+        // Of the first 16 bytes, those after the block fall out.
         let first = read_u128_le(&bytes[..BLOCK]) << (8 * self.count);
         let (k1, k2) = split_words(join_words(self.low, self.high).wrapping_add(first));
         let (h1, h2) = step(self.h1, self.h2, k1, k2);
@@ -230,7 +230,7 @@ fn fold_blocks(mut h1: u64, mut h2: u64, blocks: &[[u8; BLOCK]]) -> (u64, u64)
     (h1, h2)
 }
 
-// The pair after the bytes behind the blocks. A word without bytes would change nothing.
+// The pair after the tail. A word of it that has no bytes would change nothing.
 #[inline(always)]
 fn mix_tail(h1: u64, h2: u64, tail: &[u8]) -> (u64, u64)
     requires { length tail.now < 16 }

@@ -88,7 +88,7 @@ impl XxHash64 {
 
     /// The 64-bit hash of bytes under a seed, in one call.
     ///
-    /// It reads the bytes where they lie, and is faster than a hasher for keys of any length.
+    /// It reads the bytes where they lie, which takes less time than a hasher for short keys.
     #[inline(always)]
     pub fn hash(bytes: &[u8], seed: u64) -> u64
         ensures { result ≡ xxh64 seed bytes.now }
@@ -165,7 +165,7 @@ impl XxHash64 {
         self.lanes = lanes;
     }
 
-    // Takes whole stripes straight from the slice, and then the bytes behind them, where no byte
+    // Takes whole stripes straight from the slice, and then the bytes after them, where no byte
     // waits.
     #[inline(always)]
     fn consume_stripes(&mut self, bytes: &[u8])
@@ -297,7 +297,7 @@ fn merge_round(hash: u64, lane: u64) -> u64
         .wrapping_add(PRIME4)
 }
 
-// The hash after the bytes behind the stripes.
+// The hash after the tail.
 #[inline(always)]
 fn fold_tail(mut hash: u64, tail: &[u8]) -> u64
     ensures { result ≡ fold tail_step hash (steps tail.now) }

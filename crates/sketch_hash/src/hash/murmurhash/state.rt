@@ -20,7 +20,7 @@ pub struct MurmurState {
     pub h2: u64,
     /// The number of bytes so far, modulo 2^64.
     pub total: u64,
-    /// The bytes behind the last whole block.
+    /// The bytes after the last whole block.
     pub waiting: [u8; 16],
 }
 

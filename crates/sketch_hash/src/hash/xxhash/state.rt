@@ -22,7 +22,7 @@ pub struct XxHash64State {
     pub v4: u64,
     /// The number of bytes so far, modulo 2^64.
     pub total: u64,
-    /// The bytes behind the last whole stripe.
+    /// The bytes after the last whole stripe.
     pub waiting: [u8; 32],
 }
 
