@@ -85,6 +85,8 @@ def ticks():
     sys.setswitchinterval(1000)
     worker = threading.Thread(target=tick)
     worker.start()
+    while not found:
+        time.sleep(0.001)
     yield found
     sys.setswitchinterval(interval)
     is_over.set()
@@ -93,13 +95,12 @@ def ticks():
 
 def test_short_calls_keep_the_lock_of_python(ticks):
     data, hasher = bytes(65535), xxh64()
-    time.sleep(0.01)
     before = len(ticks)
     for _ in range(1000):
         hasher.update(data)
         for call in ONE_CALL:
             call(data[:100])
-    assert len(ticks) == before > 0
+    assert len(ticks) == before
 
 
 def test_long_calls_give_up_the_lock_of_python(ticks):
