@@ -116,7 +116,7 @@ pub record Xxh64Answers : Type 0 where
       ≡ 0x553f8a53d28f87d6
   pub total_past_63_bits :
       xxh64_answer
-          (record { folded = (0, lanes_start 0); total = 2 ^ 63 + 2 ^ 40 + 3; waiting = [] })
+      (record { folded = (0, lanes_start 0); total = 2 ^ 63 + 2 ^ 40 + 3; waiting = [] })
       ≡ 0xf3176324f5d89fac
   pub greatest_seed : xxh64 (2 ^ 64 - 1) eight_others ≡ 0xcc033c670917b4af
 

@@ -44,9 +44,11 @@ gives before known bytes buf given left count c g l k e =
     let size : length (take count bytes) ≡ count = length-take-le count bytes (omega (arith, c)) in
     let front : take count given ≡ take count bytes =
     ap (take count) g ∙ ap (λ n. take n (take count bytes ++ drop count buf)) (sym size)
-    ∙ take-append_seam (take count bytes) (drop count buf) in
-    (rw (front, l) (consumed before known bytes count k), λ none some.
-      let all : given ≡ buf = g ∙ ap (λ n. take n bytes ++ drop n buf) none in
-      let empty : bytes ≡ [] = nil_from_length bytes (omega (arith, c, none, some, ap length all)) in
-      let nothing : left ≡ [] = l ∙ ap (λ n. drop n bytes) none ∙ empty in
-      rw nothing (at_end known (e empty)))
+    ∙ take-append_seam (take count bytes) (drop count buf) in (
+      rw (front, l) (consumed before known bytes count k),
+      λ none some.
+          let all : given ≡ buf = g ∙ ap (λ n. take n bytes ++ drop n buf) none in
+          let empty : bytes ≡ [] = nil_from_length bytes (omega (arith, c, none, some, ap length all)) in
+          let nothing : left ≡ [] = l ∙ ap (λ n. drop n bytes) none ∙ empty in
+          rw nothing (at_end known (e empty)),
+    )

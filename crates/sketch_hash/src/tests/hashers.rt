@@ -3,8 +3,8 @@
 ghost use Rattle.std.specs.Prelude.{◌≡◌, ◌++◌};
 
 use super::{FOX, FOX_MURMUR, FOX_XXH64, assert_same, assert_same_for};
-use crate::known_answers::TEST_BUFFER;
 use crate::hash::{DEFAULT_UPDATE_SEED, Hasher, MurmurHash3X64128, XxHash64};
+use crate::known_answers::TEST_BUFFER;
 use std::alloc::{AllocError, Global};
 
 // The Murmur pair after a write of each piece.
