@@ -1,7 +1,7 @@
 /* The calls for C beside xxHash, which is inlined or called, and beside Debian's libmurmurhash, a C
  * port of the reference, which is called. */
 #define XXH_INLINE_ALL
-#include "../sketch_hash.h"
+#include "../c/sketch_hash.h"
 #include "measure.h"
 #include <murmurhash.h>
 #include <xxhash.h>
@@ -32,7 +32,7 @@ static unsigned char mixed[KEYS]; /* lengths of 1 to 64 */
 #define OURS_XXH64(bytes, length) sketch_xxh64(bytes, length, 7)
 #define INLINED_XXH64(bytes, length) XXH64(bytes, length, 7)
 #define CALLED_XXH64(bytes, length) called_xxh64(bytes, length, 7)
-#define OURS_MURMUR(bytes, length) sketch_murmur3_128(bytes, length, 7).h1
+#define OURS_MURMUR(bytes, length) sketch_murmur3_x64_128(bytes, length, 7).h1
 KEYS_BY(ours_xxh64, OURS_XXH64)
 KEYS_BY(inlined_xxh64, INLINED_XXH64)
 KEYS_BY(their_xxh64, CALLED_XXH64)
