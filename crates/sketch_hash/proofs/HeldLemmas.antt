@@ -6,9 +6,9 @@ use Rattle.std.proofs.lemmas.List.Elements.{All-take}
 use Rattle.sketch_base.specs.Bytes.{AreBytes, le, low_bytes}
 use Rattle.sketch_base.proofs.BytesLemmas.{low_bytes-le}
 use Rattle.sketch_hash.specs.declared.hash.murmurhash.state.MurmurState.{MurmurState}
-use Rattle.sketch_hash.specs.MurmurWriteLemmas.{murmur_stands-after}
+use Rattle.sketch_hash.specs.MurmurWriteLemmas.{murmur_stands_after}
 use Rattle.sketch_hash.specs.declared.hash.xxhash.state.XxHash64State.{XxHash64State}
-use Rattle.sketch_hash.specs.Xxh64WriteLemmas.{xxh64_stands-after}
+use Rattle.sketch_hash.specs.Xxh64WriteLemmas.{xxh64_stands_after}
 use Rattle.sketch_hash.specs.Held.{murmur_held, xxh64_held, MurmurHolds, Xxh64Holds}
 use Rattle.sketch_hash.specs.Pieces.{State, absorb, state_after}
 use Rattle.sketch_hash.specs.Murmur.{murmur_after}
@@ -70,10 +70,10 @@ pub murmur_holds_after : (state next : MurmurState) (bytes : List ℕ) →
     murmur_held next ≡ murmur_after (murmur_held state) bytes →
     (seed : ℕ) (before : List ℕ) → MurmurHolds state seed before → MurmurHolds next seed (before ++ bytes)
 murmur_holds_after state next bytes written seed before holds =
-    murmur_stands-after seed before bytes (murmur_held state) (murmur_held next) holds written
+    murmur_stands_after (murmur_held state) (murmur_held next) bytes written seed before holds
 
 pub xxh64_holds_after : (state next : XxHash64State) (bytes : List ℕ) →
     xxh64_held next ≡ xxh64_after (xxh64_held state) bytes →
     (seed : ℕ) (before : List ℕ) → Xxh64Holds state seed before → Xxh64Holds next seed (before ++ bytes)
 xxh64_holds_after state next bytes written seed before holds =
-    xxh64_stands-after seed before bytes (xxh64_held state) (xxh64_held next) holds written
+    xxh64_stands_after (xxh64_held state) (xxh64_held next) bytes written seed before holds

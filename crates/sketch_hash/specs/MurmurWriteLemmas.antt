@@ -17,9 +17,9 @@ unfolding murmur_after
 murmur_after-empty state = refl
 
 -- a write takes a hasher that stands for bytes to one that stands for them and the written ones
-pub murmur_stands-after : (seed : ℕ) (before bytes : List ℕ) (state next : State (ℕ × ℕ)) →
-    MurmurStands state seed before → next ≡ murmur_after state bytes →
-    MurmurStands next seed (before ++ bytes)
-murmur_stands-after seed before bytes state next stands written =
+pub murmur_stands_after : (state next : State (ℕ × ℕ)) (bytes : List ℕ) →
+    next ≡ murmur_after state bytes → (seed : ℕ) (before : List ℕ) →
+    MurmurStands state seed before → MurmurStands next seed (before ++ bytes)
+murmur_stands_after state next bytes written seed before stands =
     written ∙ ap (λ s. murmur_after s bytes) stands
     ∙ murmur_after-append (murmur_start seed) before bytes

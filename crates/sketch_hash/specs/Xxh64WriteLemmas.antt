@@ -18,9 +18,9 @@ unfolding xxh64_after
 xxh64_after-empty state = refl
 
 -- a write takes a hasher that stands for bytes to one that stands for them and the written ones
-pub xxh64_stands-after : (seed : ℕ) (before bytes : List ℕ) (state next : State (ℕ × Lanes)) →
-    Xxh64Stands state seed before → next ≡ xxh64_after state bytes →
-    Xxh64Stands next seed (before ++ bytes)
-xxh64_stands-after seed before bytes state next stands written =
+pub xxh64_stands_after : (state next : State (ℕ × Lanes)) (bytes : List ℕ) →
+    next ≡ xxh64_after state bytes → (seed : ℕ) (before : List ℕ) →
+    Xxh64Stands state seed before → Xxh64Stands next seed (before ++ bytes)
+xxh64_stands_after state next bytes written seed before stands =
     written ∙ ap (λ s. xxh64_after s bytes) stands
     ∙ xxh64_after-append (xxh64_start seed) before bytes

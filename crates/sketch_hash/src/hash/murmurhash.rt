@@ -14,7 +14,7 @@ pub use self::state::MurmurState;
 use self::tail::{join_words, read_partial_le, read_partial_words, split_words};
 use super::DEFAULT_UPDATE_SEED;
 use super::hasher::Hasher;
-use super::words::{read_u64_le, read_u128_le, rotate, xor_shift};
+use super::words::{read_u128_le, rotate, xor_shift};
 use std::fmt;
 use std::marker::Model;
 
@@ -95,6 +95,17 @@ impl MurmurHash3X64128 {
         finalize(h1, h2, bytes.len() as u64)
     }
 
+    #[inline(always)]
+    fn absorb(&mut self, bytes: &[u8])
+        ensures { self.new ≡ murmur_after self.old bytes.now }
+    {
+        if bytes.len() < BLOCK {
+            self.write_partial(bytes);
+        } else {
+            self.write_blocks(bytes);
+        }
+    }
+
     // Takes fewer bytes than a block has.
     #[inline(always)]
     fn write_partial(&mut self, bytes: &[u8])
@@ -163,11 +174,7 @@ impl Hasher for MurmurHash3X64128 {
         ensures stands { (seed : ℕ) (before : List ℕ) → MurmurStands self.old seed before →
             MurmurStands self.new seed (before ++ bytes.now) }
     {
-        if bytes.len() < BLOCK {
-            self.write_partial(bytes);
-        } else {
-            self.write_blocks(bytes);
-        }
+        self.absorb(bytes);
     }
 
     #[inline(always)]
@@ -201,6 +208,18 @@ fn mix2(k2: u64) -> u64
     rotate::<33>(k2.wrapping_mul(C2)).wrapping_mul(C1)
 }
 
+// A word of a block. It is copied: where it is read in place, LLVM's loop over blocks takes a tenth
+// longer.
+#[inline(always)]
+fn block_word(bytes: &[u8]) -> u64
+    requires { length bytes.now ≡ 8 }
+    ensures { result ≡ le bytes.now }
+{
+    let mut word = [0; 8];
+    word.copy_from_slice(bytes);
+    u64::from_le_bytes(word)
+}
+
 // The pair after one block of the words `k1` and `k2`.
 #[inline(always)]
 fn step(h1: u64, h2: u64, k1: u64, k2: u64) -> (u64, u64)
@@ -223,12 +242,7 @@ fn fold_blocks(mut h1: u64, mut h2: u64, blocks: &[[u8; BLOCK]]) -> (u64, u64)
     ensures { result ≡ fold step (h1, h2) (map block_words blocks.now) }
 {
     for block in blocks {
-        (h1, h2) = step(
-            h1,
-            h2,
-            read_u64_le(&block[0..8]),
-            read_u64_le(&block[8..16]),
-        );
+        (h1, h2) = step(h1, h2, block_word(&block[..8]), block_word(&block[8..]));
     }
     (h1, h2)
 }

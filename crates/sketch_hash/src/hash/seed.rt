@@ -4,7 +4,6 @@ ghost use Rattle.std.specs.Prelude.{◌≡◌, ◌≢◌, MatchResult};
 ghost use Rattle.sketch_base.specs.Refusals.{Refuses};
 ghost use Rattle.sketch_hash.specs.SeedHash.{seed_hash, zero_seed_hash_text, incompatible_seed_hash_text};
 
-use super::hasher::Hasher;
 use super::murmurhash::MurmurHash3X64128;
 use sketch_base::error::{Error, ErrorKind};
 use std::alloc::Global;
@@ -63,8 +62,6 @@ pub fn check_seed_hash(
 fn seed_hash(seed: u64) -> u16
     ensures { result ≡ seed_hash seed }
 {
-    let mut hasher = MurmurHash3X64128::with_seed(0);
-    hasher.write_u64(seed);
-    let (h1, _) = hasher.finish128();
+    let (h1, _) = MurmurHash3X64128::hash(&seed.to_le_bytes(), 0);
     (h1 % 0x1_0000) as u16
 }

@@ -9,9 +9,10 @@ pub(crate) fn read_u64_le(bytes: &[u8]) -> u64
     requires { length bytes.now ≡ 8 }
     ensures { result ≡ le bytes.now }
 {
-    let mut word = [0u8; 8];
-    word.copy_from_slice(bytes);
-    u64::from_le_bytes(word)
+    match bytes.as_array::<8>() {
+        Some(word) => u64::from_le_bytes(*word),
+        None => 0,
+    }
 }
 
 #[inline(always)]
@@ -19,9 +20,10 @@ pub(crate) fn read_u16_le(bytes: &[u8]) -> u16
     requires { length bytes.now ≡ 2 }
     ensures { result ≡ le bytes.now }
 {
-    let mut word = [0u8; 2];
-    word.copy_from_slice(bytes);
-    u16::from_le_bytes(word)
+    match bytes.as_array::<2>() {
+        Some(word) => u16::from_le_bytes(*word),
+        None => 0,
+    }
 }
 
 #[inline(always)]
@@ -29,8 +31,10 @@ pub(crate) fn read_u32_le(bytes: &[u8]) -> u32
     requires { length bytes.now ≡ 4 }
     ensures { result ≡ le bytes.now }
 {
-    let (words, _) = bytes.as_chunks::<4>();
-    u32::from_le_bytes(words[0])
+    match bytes.as_array::<4>() {
+        Some(word) => u32::from_le_bytes(*word),
+        None => 0,
+    }
 }
 
 #[inline(always)]

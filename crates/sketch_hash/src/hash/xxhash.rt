@@ -13,7 +13,7 @@ mod lanes;
 mod primes;
 mod state;
 
-use self::lanes::{ScalarLanes, StripeRound, consume, fold_stripes, fold_vector_run, round};
+use self::lanes::{ScalarLanes, StripeRound, consume, fold_run, fold_stripes, round};
 use self::primes::{PRIME1, PRIME2, PRIME3, PRIME4, PRIME5};
 pub use self::state::XxHash64State;
 use super::copy::copy_small;
@@ -125,13 +125,29 @@ impl XxHash64 {
         merge(ScalarLanes::from_vector(self.lanes))
     }
 
-    // How many bytes the stripe that is begun still takes, or 0 where none is.
+    #[inline(always)]
+    fn absorb(&mut self, bytes: &[u8])
+        ensures { self.new ≡ xxh64_after self.old bytes.now }
+    {
+        let missing = self.missing_bytes();
+        if bytes.len() < missing {
+            self.buffer_bytes(bytes);
+        } else if missing == STRIPE {
+            self.consume_stripes(bytes);
+        } else if bytes.len() == missing {
+            self.complete_stripe(bytes);
+        } else {
+            self.complete_and_consume(bytes);
+        }
+    }
+
+    // How many bytes fill the next stripe.
     #[inline(always)]
     fn missing_bytes(&self) -> usize
-        ensures missing { result ≡ (32 - length self.now.waiting) % 32 }
+        ensures missing { result ≡ 32 - length self.now.waiting }
         ensures short { length self.now.waiting < 32 }
     {
-        (STRIPE - self.count) % STRIPE
+        STRIPE - self.count
     }
 
     // Takes bytes that fill no stripe.
@@ -171,7 +187,7 @@ impl XxHash64 {
     {
         self.total = self.total.wrapping_add(bytes.len() as u64);
         let (stripes, last) = bytes.as_chunks::<STRIPE>();
-        self.lanes = fold_vector_run(self.lanes, stripes);
+        self.lanes = fold_run(ScalarLanes::from_vector(self.lanes), stripes).into_vector();
         copy_small(&mut self.buffer, 0, last);
         self.count = last.len();
     }
@@ -218,16 +234,7 @@ impl Hasher for XxHash64 {
         ensures stands { (seed : ℕ) (before : List ℕ) → Xxh64Stands self.old seed before →
             Xxh64Stands self.new seed (before ++ bytes.now) }
     {
-        let missing = self.missing_bytes();
-        if missing == 0 {
-            self.consume_stripes(bytes);
-        } else if bytes.len() < missing {
-            self.buffer_bytes(bytes);
-        } else if bytes.len() == missing {
-            self.complete_stripe(bytes);
-        } else {
-            self.complete_and_consume(bytes);
-        }
+        self.absorb(bytes);
     }
 
     #[inline(always)]

@@ -113,20 +113,9 @@ pub(super) fn consume(
     lanes
 }
 
-/// The lanes after a run of stripes. Where there is none the vector stays as it is.
+/// The lanes after a run of stripes.
 #[inline(always)]
-pub(super) fn fold_vector_run(lanes: u64x4, stripes: &[[u8; 32]]) -> u64x4
-    ensures { lanes_of result ≡ each_lane (lanes_of lanes) stripes.now }
-{
-    if stripes.is_empty() {
-        return lanes;
-    }
-    fold_run(ScalarLanes::from_vector(lanes), stripes).into_vector()
-}
-
-// The lanes after a run of stripes.
-#[inline(always)]
-fn fold_run(mut lanes: ScalarLanes, stripes: &[[u8; 32]]) -> ScalarLanes
+pub(super) fn fold_run(mut lanes: ScalarLanes, stripes: &[[u8; 32]]) -> ScalarLanes
     ensures { lanes_of_scalars result ≡ each_lane (lanes_of_scalars lanes) stripes.now }
 {
     if stripes.len() >= LONG_RUN {

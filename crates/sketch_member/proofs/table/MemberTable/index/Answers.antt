@@ -1,6 +1,6 @@
 use Rattle.std.proofs.Common.{[], arith, refl}
 use Rattle.std.proofs.lemmas.Nat.{and_mask, one_shl}
-use Rattle.datasketches.specs.Xxh64WriteLemmas.{xxh64_stands-after}
+use Rattle.datasketches.specs.Xxh64WriteLemmas.{xxh64_stands_after}
 use Rattle.sketch_member.specs.Table.{index}
 use Rattle.sketch_member.proofs.table.MemberTable.index.Goals as goal
 
@@ -8,7 +8,7 @@ pub returns-clause-index : goal.returns-clause-index
 unfolding index
 returns-clause-index g c =
     let fed = g.T.Hash.fed c.args.value.now in
-    let stands = xxh64_stands-after _ [] fed _ _ c.with_seed-hasher.ensures c.hash.ensures in
+    let stands = xxh64_stands_after _ _ fed c.hash.ensures _ [] c.with_seed-hasher.ensures in
     rw (
       one_shl c.self.inside.log2_bits 64 (omega arith),
       and_mask c.finish64.result c.self.inside.log2_bits,

@@ -22,7 +22,9 @@ returns c =
     let total : i.total < 2 ^ 64 = search rules in
     let stripes : c.as_chunks.result.0.now ≡ pieces 32 bytes =
     c.as_chunks.ensures.front ∙ chunks-are _ 32 bytes in
-    let run = c.fold_vector_run-self-inside.ensures ∙ ap (each_lane (lanes_of i.lanes)) stripes in
+    let run = c.into_vector-self-inside.ensures ∙ c.fold_run.ensures
+    ∙ ap (λ v. each_lane v c.as_chunks.result.0.now) c.from_vector.ensures
+    ∙ ap (each_lane (lanes_of i.lanes)) stripes in
     let waits : take (length last) c.copy_small.new.buffer ≡ rest 32 bytes =
     ap (take (length last)) c.copy_small.ensures ∙ take-append_seam last _ ∙ c.as_chunks.ensures.back in
     rw (← c.self.view_is, waits)
