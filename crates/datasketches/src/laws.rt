@@ -64,8 +64,8 @@ pub fn xx_both(seed_a: u64, a: &[u8], seed_b: u64, b: &[u8]) -> (u64, u64)
         result.0 ≢ result.1 }
     ensures two_seeds { a.now ≡ b.now → length a.now < 32 → seed_a ≢ seed_b → result.0 ≢ result.1 }
 {
-    piece_laws();
-    xxh64_step_laws();
+    xx_tail_law();
+    xx_seed_law();
     (xxh64_of(seed_a, a), xxh64_of(seed_b, b))
 }
 

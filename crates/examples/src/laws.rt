@@ -3,16 +3,19 @@
 ghost use Rattle.std.specs.Prelude.{◌≡◌, ◌≢◌, ◌↔◌, ℕ, ◌+◌, ◌*◌, ◌%◌, ◌^◌, ◌<◌, List, ◌++◌, length, pos, IsTrue};
 ghost use Rattle.std.specs.List.{All, fold};
 ghost use Rattle.datasketches.specs.Bytes.{eight, modulo};
-ghost use Rattle.datasketches.specs.Murmur.{murmur, step};
+ghost use Rattle.datasketches.specs.Murmur.{fmix, mix1, mix2, murmur, step};
 ghost use Rattle.datasketches.specs.StepLaws.{AreWords, IsBlock};
-ghost use Rattle.datasketches.specs.Strategies.{IntegerType, ValueOf, natural_fed, natural_number, sign_fed, sign_number};
+ghost use Rattle.datasketches.specs.Strategies.{IntegerType, I8, I16, I32, I64, U8, U16, U32, U64, ValueOf, natural_fed, natural_number, sign_fed, sign_number};
 ghost use Rattle.datasketches.specs.Streams.{AgreeOutside};
 ghost use Rattle.datasketches.specs.Values.{integer_bytes};
-ghost use Rattle.datasketches.specs.Xxh64.{stripes, tail_steps, xxh64};
+ghost use Rattle.datasketches.specs.Words.{IsWord};
+ghost use Rattle.datasketches.specs.Xxh64.{stripes, tail_step, tail_steps, xxh64};
 
 use crate::keys::{is_same_hash, is_same_pair};
+use datasketches::hash::value::{HashStrategy, value_law};
 use datasketches::hash::{Hasher, XxHash64};
 use datasketches::laws;
+use sketch_hash::laws::{murmur_step_laws, xxh64_step_laws};
 
 /// Whether two numbers are one, by `hash_u64` alone.
 pub fn is_same_number(seed: u64, x: u64, y: u64) -> bool
@@ -31,11 +34,15 @@ pub fn every_word_is_a_hash(seed: u64, word: u64)
 
 /// Short integers collide exactly if they are equal, and any two exactly if they agree modulo 2^64,
 /// under both hashes.
-pub fn integers_are_told_apart(seed: u64, x: i32, y: u32, z: i64, w: u64)
-    ensures murmur { (murmur seed (integer_bytes x) ≡ murmur seed (integer_bytes (pos y)))
-        ↔ (x ≡ pos y) }
-    ensures xxh64 { (xxh64 seed (integer_bytes x) ≡ xxh64 seed (integer_bytes (pos y)))
-        ↔ (x ≡ pos y) }
+pub fn integers_are_told_apart(seed: u64, x: i32, y: u32, other: u32, z: i64, w: u64)
+    ensures murmur { ((murmur seed (integer_bytes x) ≡ murmur seed (integer_bytes (pos y)))
+        ↔ (x ≡ pos y))
+        × ((murmur seed (integer_bytes (pos y)) ≡ murmur seed (integer_bytes (pos other)))
+        ↔ (pos y ≡ pos other)) }
+    ensures xxh64 { ((xxh64 seed (integer_bytes x) ≡ xxh64 seed (integer_bytes (pos y)))
+        ↔ (x ≡ pos y))
+        × ((xxh64 seed (integer_bytes (pos y)) ≡ xxh64 seed (integer_bytes (pos other)))
+        ↔ (pos y ≡ pos other)) }
     ensures murmur_modulo { (murmur seed (integer_bytes z) ≡ murmur seed (integer_bytes (pos w)))
         ↔ (modulo 64 z ≡ modulo 64 (pos w)) }
     ensures xxh64_modulo { (xxh64 seed (integer_bytes z) ≡ xxh64 seed (integer_bytes (pos w)))
@@ -60,6 +67,31 @@ pub fn values_are_told_apart(seed: u64)
         ↔ (modulo 64 (sign_number s x) ≡ modulo 64 (sign_number t y)) }
 {
     laws::strategy_law();
+}
+
+/// The two strategies feed the same for a signed value, and for an unsigned one of up to 32 bits
+/// exactly if its top bit is clear. By sign, a signed and an unsigned value of one width feed the
+/// same exactly if they have the same bits.
+pub fn strategies_agree(signed: (i8, i16, i32, i64), unsigned: (u8, u16, u32, u64))
+    ensures signed { (natural_fed I8 signed.0 ≡ sign_fed I8 signed.0)
+        × (natural_fed I16 signed.1 ≡ sign_fed I16 signed.1)
+        × (natural_fed I32 signed.2 ≡ sign_fed I32 signed.2)
+        × (natural_fed I64 signed.3 ≡ sign_fed I64 signed.3) }
+    ensures unsigned { ((natural_fed U8 unsigned.0 ≡ sign_fed U8 unsigned.0) ↔ (unsigned.0 < 2 ^ 7))
+        × ((natural_fed U16 unsigned.1 ≡ sign_fed U16 unsigned.1) ↔ (unsigned.1 < 2 ^ 15))
+        × ((natural_fed U32 unsigned.2 ≡ sign_fed U32 unsigned.2) ↔ (unsigned.2 < 2 ^ 31))
+        × (natural_fed U64 unsigned.3 ≡ sign_fed U64 unsigned.3) }
+    ensures across {
+        ((sign_fed I8 signed.0 ≡ sign_fed U8 unsigned.0)
+        ↔ (modulo 8 signed.0 ≡ modulo 8 (pos unsigned.0)))
+        × ((sign_fed I16 signed.1 ≡ sign_fed U16 unsigned.1)
+        ↔ (modulo 16 signed.1 ≡ modulo 16 (pos unsigned.1)))
+        × ((sign_fed I32 signed.2 ≡ sign_fed U32 unsigned.2)
+        ↔ (modulo 32 signed.2 ≡ modulo 32 (pos unsigned.2)))
+        × ((sign_fed I64 signed.3 ≡ sign_fed U64 unsigned.3)
+        ↔ (modulo 64 signed.3 ≡ modulo 64 (pos unsigned.3))) }
+{
+    laws::extend_law();
 }
 
 /// Whether two streams of one length that agree outside one aligned block are one, by their Murmur
@@ -98,22 +130,15 @@ pub fn blocks_keep_states_apart(a0: u64, a1: u64, b0: u64, b1: u64)
     laws::murmur_seed_law();
 }
 
-// The XXH64 hash of one write.
-fn hash_of(seed: u64, bytes: &[u8]) -> u64
-    ensures { result ≡ xxh64 seed bytes.now }
+/// Whether two seeds are one, by the Murmur pairs of one stream, and by its XXH64 hashes where it
+/// has fewer than 32 bytes.
+pub fn are_same_seeds(bytes: &[u8], seed_a: u64, seed_b: u64) -> (bool, bool)
+    ensures murmur { IsTrue result.0 ↔ (seed_a ≡ seed_b) }
+    ensures xxh64 { length bytes.now < 32 → (IsTrue result.1 ↔ (seed_a ≡ seed_b)) }
 {
-    let mut hasher = XxHash64::with_seed(seed);
-    hasher.write(bytes);
-    hasher.finish64()
-}
-
-/// Whether two seeds are one, by the hashes of one short stream.
-pub fn is_same_seed(bytes: &[u8], seed_a: u64, seed_b: u64) -> bool
-    requires { length bytes.now < 32 }
-    ensures { IsTrue result ↔ (seed_a ≡ seed_b) }
-{
-    laws::xx_seed_law();
-    hash_of(seed_a, bytes) == hash_of(seed_b, bytes)
+    let (first, second) = laws::murmur_both(seed_a, bytes, seed_b, bytes);
+    let (third, fourth) = laws::xx_both(seed_a, bytes, seed_b, bytes);
+    (is_same_pair(first, second), is_same_hash(third, fourth))
 }
 
 /// Whether two streams with the same stripes, whose tails differ in at most one step, have the same
@@ -124,6 +149,37 @@ pub fn is_same_but_for_a_step(seed: u64, a: &[u8], b: &[u8], i: usize) -> bool
     requires one_step { AgreeOutside i (i + 1) (tail_steps a.now) (tail_steps b.now) }
     ensures { tail_steps a.now ≢ tail_steps b.now → ¬ (IsTrue result) }
 {
-    laws::xx_tail_law();
-    is_same_hash(hash_of(seed, a), hash_of(seed, b))
+    let (first, second) = laws::xx_both(seed, a, seed, b);
+    is_same_hash(first, second)
+}
+
+/// What a step of Murmur makes of two words or of two pairs of words tells them apart, and each word
+/// and each pair is made of one.
+pub fn murmur_steps_lose_nothing(x: u64, y: u64, z: u64, w: u64)
+    ensures words { (mix1 x ≡ mix1 y → x ≡ y) × (mix2 x ≡ mix2 y → x ≡ y)
+        × (fmix x ≡ fmix y → x ≡ y) }
+    ensures made { ((n : ℕ) × IsWord n × (mix1 n ≡ x)) × ((n : ℕ) × IsWord n × (mix2 n ≡ x))
+        × ((n : ℕ) × IsWord n × (fmix n ≡ x)) }
+    ensures pairs { let a : ℕ × ℕ = (x, y) in let b : ℕ × ℕ = (z, w) in
+        (block : ℕ × ℕ) → AreWords block → step a block ≡ step b block → a ≡ b }
+    ensures made_pairs { let a : ℕ × ℕ = (x, y) in
+        (block : ℕ × ℕ) → AreWords block → (h : ℕ × ℕ) × AreWords h × (step h block ≡ a) }
+{
+    murmur_step_laws();
+}
+
+/// What a step of XXH64's tail makes of two words tells them apart, and each word is made of one.
+pub fn xxh64_steps_lose_nothing(x: u64, y: u64, read: u64, width: u64)
+    ensures words { let s : ℕ × ℕ = (width, read) in tail_step x s ≡ tail_step y s → x ≡ y }
+    ensures made { let s : ℕ × ℕ = (width, read) in
+        (n : ℕ) × IsWord n × (tail_step n s ≡ x) }
+{
+    xxh64_step_laws();
+}
+
+/// Equal values feed equal bytes, under a strategy of anybody's.
+pub fn equal_values_feed_equal_bytes<T: Eq, S: HashStrategy<T>>(x: &T, y: &T)
+    ensures { IsTrue (T.eq x.now y.now) → S.fed x.now ≡ S.fed y.now }
+{
+    value_law::<T, S>();
 }

@@ -5,6 +5,7 @@ pub mod items;
 pub mod keys;
 pub mod known_answers;
 pub mod laws;
+pub mod merging;
 pub mod own;
 pub mod seen;
 pub mod sentence;

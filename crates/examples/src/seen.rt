@@ -1,6 +1,6 @@
 //! Keys that were seen, in a table of members that is saved and loaded.
 
-ghost use Rattle.std.specs.Prelude.{ℕ, ◌≡◌, ◌⊎◌, ◌↔◌, [], IfOk, IsTrue};
+ghost use Rattle.std.specs.Prelude.{ℕ, ◌≡◌, ◌⊎◌, ◌↔◌, ◌+◌, [], IfOk, IsTrue};
 ghost use Rattle.sketch_member.specs.Form.{IsForm, form2};
 ghost use Rattle.sketch_member.specs.Laws.{count_after};
 ghost use Rattle.sketch_member.specs.Table.{Table, Inserts, IsMember, IsSet, empty_table};
@@ -28,7 +28,10 @@ pub fn load_keys(alloc: Global, saved: &[u8]) -> Result<MemberTable, Error>
 pub fn see_key(seen: &mut MemberTable, key: &[u8]) -> bool
     ensures told { IsTrue result ↔ IsMember seen.old key.now }
     ensures seen { Inserts key.now seen.old seen.new }
+    ensures counted { (n : ℕ) → seen.old.count ≡ count_after n →
+        seen.new.count ≡ count_after (n + 1) }
 {
+    insert_law();
     let value = raw_bytes::from_slice(key);
     let is_seen = seen.contains(&value);
     seen.insert(&value);
@@ -46,6 +49,27 @@ pub fn see_saved_key(alloc: Global, saved: &[u8], key: &[u8]) -> Result<(bool, V
     let mut seen = load_keys(alloc, saved)?;
     let is_seen = see_key(&mut seen, key);
     Ok((is_seen, seen.to_bytes(alloc)?))
+}
+
+/// Inserts two keys into two empty tables, in either order, which makes the same table of both.
+/// Answers whether each contains the first.
+pub fn insert_in_either_order(
+    one: &mut MemberTable,
+    other: &mut MemberTable,
+    a: &[u8],
+    b: &[u8],
+) -> (bool, bool)
+    requires same { one.old ≡ other.old }
+    requires empty { (i : ℕ) → IsSet one.old.bits i → ⊥ }
+    ensures { one.new ≡ other.new }
+{
+    insert_law();
+    let (first, second) = (raw_bytes::from_slice(a), raw_bytes::from_slice(b));
+    one.insert(&first);
+    one.insert(&second);
+    other.insert(&second);
+    other.insert(&first);
+    (one.contains(&first), other.contains(&first))
 }
 
 /// Whether two empty tables contain two keys that are inserted in either order, into the second

@@ -215,14 +215,14 @@ made_whole seed log2_bits hashes first second start half whole is_empty all rest
     )
 
 -- made in two ways, by a merge and at once, it is the same
-pub made_both_ways : (seed log2_bits hashes : ℕ) (first second : List (List ℕ))
+pub made_both_ways : MergeLaw → (seed log2_bits hashes : ℕ) (first second : List (List ℕ))
     (start one start_other other after start_whole half whole : Table) →
     start ≡ empty_table seed log2_bits hashes → InsertsAll first start one →
     start_other ≡ empty_table seed log2_bits hashes → InsertsAll second start_other other →
     Merges other one after → start_whole ≡ empty_table seed log2_bits hashes →
     InsertsAll first start_whole half → InsertsAll second half whole →
     IsTable after → IsTable whole → after ≡ whole
-made_both_ways seed log2_bits hashes first second start one start_other other after start_whole half
+made_both_ways law seed log2_bits hashes first second start one start_other other after start_whole half
     whole is_empty all_one is_empty_other all_other merges is_empty_whole all_half all_whole
     is_after is_whole =
     let empty = empty_table seed log2_bits hashes in
@@ -232,7 +232,7 @@ made_both_ways seed log2_bits hashes first second start one start_other other af
     is_empty_whole all_half all_whole in
     let alike = chained one empty whole (turned empty one (all_alike first empty one of_one))
     of_whole.0 in
-    streams one other after whole first second is_after is_whole alike merges
+    law.streams one other after whole first second is_after is_whole alike merges
     (made_of seed log2_bits hashes first one of_one)
     (made_of seed log2_bits hashes second other of_other) of_whole.1
 

@@ -1,7 +1,6 @@
 use Rattle.std.proofs.Common.{◌≡◌, arith, rules}
 use Rattle.sketch_hash.specs.Xxh64.{xxh64}
 use Rattle.datasketches.proofs.SliceLemmas.{bytes_known}
-use Rattle.datasketches.proofs.Xxh64LawLemmas.{xx_tail_law, xx_seed_law}
 use Rattle.datasketches.proofs.laws.xx_both.Goals as goal
 
 pub returns-clause-values : goal.returns-clause-values
@@ -14,13 +13,11 @@ returns-clause-one_tail_step c = λ same d e.
     let a_are = bytes_known a c.type_inv.a in
     let b_are = bytes_known b c.type_inv.b in
     let one_hash : xxh64 c.args.seed_a a ≡ xxh64 c.args.seed_a b = cc in
-    xx_tail_law c.piece_laws.ensures c.xxh64_step_laws.ensures
-    c.args.seed_a a b (omega arith) a_are b_are d one_hash
+    c.xx_tail_law.ensures c.args.seed_a a b (omega arith) a_are b_are d one_hash
 
 pub returns-clause-two_seeds : goal.returns-clause-two_seeds
 returns-clause-two_seeds c = λ same l differ e.
     let a = c.args.a.now in
     let a_are = bytes_known a c.type_inv.a in
     let one_hash : xxh64 c.args.seed_a a ≡ xxh64 c.args.seed_b a = cc in
-    xx_seed_law c.piece_laws.ensures c.xxh64_step_laws.ensures
-    c.args.seed_a c.args.seed_b a (omega arith) (omega arith) a_are l differ one_hash
+    c.xx_seed_law.ensures c.args.seed_a c.args.seed_b a (omega arith) (omega arith) a_are l differ one_hash

@@ -7,7 +7,7 @@ pub returns-clause-same : goal.returns-clause-same
 returns-clause-same g c =
     let first = map g.T.Hash.fed c.args.first.now in
     let second = map g.T.Hash.fed c.args.second.now in
-    let same = made_both_ways c.args.seed c.args.log2_bits c.args.hashes first second
+    let same = made_both_ways c.merge_law.ensures c.args.seed c.args.log2_bits c.args.hashes first second
     c.in_ok-merged.merged c.insert_all.new.table c.in_ok-other.other c.insert_all-2.new.table
     c.merge.new.self c.in_ok-whole.whole c.insert_all-3.new.table c.insert_all-4.new.table
     c.in_ok-merged.ensures.answer.2 c.insert_all.ensures c.in_ok-other.ensures.answer.2

@@ -1,0 +1,15 @@
+use Rattle.std.proofs.Common.{◌<◌, ◌^◌, rules}
+use Rattle.examples.proofs.laws.xxh64_steps_lose_nothing.Goals as goal
+
+pub returns-clause-words : goal.returns-clause-words
+returns-clause-words c = λ same.
+    let x : c.args.x < 2 ^ 64 = search rules in
+    let y : c.args.y < 2 ^ 64 = search rules in
+    let read : c.args.read < 2 ^ 64 = search rules in
+    (c.xxh64_step_laws.ensures.step_of_word _ read).once _ _ x y same
+
+pub returns-clause-made : goal.returns-clause-made
+returns-clause-made c =
+    let x : c.args.x < 2 ^ 64 = search rules in
+    let read : c.args.read < 2 ^ 64 = search rules in
+    (c.xxh64_step_laws.ensures.step_of_word _ read).reached _ x

@@ -1,0 +1,26 @@
+use Rattle.std.proofs.Common.{◌≡◌, ◌∙◌, ℕ, List, [], ◌∷◌, ap, sym}
+use Rattle.sketch_member.specs.Laws.{InsertLaw}
+use Rattle.sketch_member.specs.Table.{Table, Inserts, IsSet, IsTable, one_more}
+use Rattle.examples.proofs.SeenLemmas.{of_two, same_two}
+use Rattle.examples.proofs.seen.insert_in_either_order.Goals as goal
+
+same_table : InsertLaw → (table one two other_one other_two : Table) (x y : List ℕ) →
+    ((i : ℕ) → IsSet table.bits i → ⊥) → Inserts x table one → Inserts y one two →
+    Inserts y table other_one → Inserts x other_one other_two → IsTable two → IsTable other_two →
+    two ≡ other_two
+same_table law table one two other_one other_two x y empty a b c d is_two is_other =
+    let same = law.once two other_two (x ∷ y ∷ []) (y ∷ x ∷ []) is_two is_other
+    (b.seed ∙ a.seed ∙ sym c.seed ∙ sym d.seed)
+    (b.log2_bits ∙ a.log2_bits ∙ sym c.log2_bits ∙ sym d.log2_bits)
+    (b.hashes ∙ a.hashes ∙ sym c.hashes ∙ sym d.hashes)
+    (of_two law table one two x y empty a b)
+    (of_two law table other_one other_two y x empty c d) (same_two x y) in
+    let counts = ap one_more a.count ∙ ap one_more (sym c.count) in
+    same.1 (b.count ∙ counts ∙ sym d.count)
+
+pub returns : goal.returns
+returns c =
+    let other = rw (← c.requires.same) at c.insert-3.ensures in
+    same_table c.insert_law.ensures _ _ _ _ _ _ _ c.requires.empty c.insert.ensures
+    c.insert-2.ensures other c.insert-4.ensures c.contains.ensures.is_table
+    c.contains-2.ensures.is_table

@@ -1,0 +1,91 @@
+//! Tables of several workers that become one, in whatever order.
+
+ghost use Rattle.std.specs.Prelude.{◌≡◌, ◌⊎◌, ℕ, ◌+◌, List, ◌++◌, IfOk};
+ghost use Rattle.sketch_member.specs.Laws.{StandsFor, count_after};
+ghost use Rattle.sketch_member.specs.Table.{IsMember};
+
+use datasketches::error::Error;
+use sketch_member::MemberTable;
+use sketch_member::laws::merge_law;
+use std::alloc::Global;
+
+/// Merges the table of another worker into one: it stands for the values of both, and counts them.
+pub fn merge_worker(
+    alloc: Global,
+    table: &mut MemberTable,
+    worker: &MemberTable,
+) -> Result<(), Error>
+    ensures values { (values others : List (List ℕ)) →
+        StandsFor table.old values → StandsFor worker.now others →
+        IfOk result (λ _. StandsFor table.new (values ++ others)) }
+    ensures counts { (m n : ℕ) →
+        table.old.count ≡ count_after m → worker.now.count ≡ count_after n →
+        IfOk result (λ _. table.new.count ≡ count_after (m + n)) }
+{
+    merge_law();
+    table.merge(alloc, worker)?;
+    Ok(())
+}
+
+/// Merges two tables into a third one after the other, and into its twin as one. Both end as the
+/// same table, which contains what any of the three did.
+pub fn merge_as_a_tree(
+    alloc: Global,
+    table: &mut MemberTable,
+    twin: &mut MemberTable,
+    second: &mut MemberTable,
+    third: &MemberTable,
+) -> Result<(), Error>
+    requires { twin.old ≡ table.old }
+    ensures same { IfOk result (λ _. twin.new ≡ table.new) }
+    ensures found { IfOk result (λ _. (fed : List ℕ) →
+        IsMember table.old fed ⊎ (IsMember second.old fed ⊎ IsMember third.now fed) →
+        IsMember table.new fed) }
+{
+    merge_law();
+    table.merge(alloc, second)?;
+    table.merge(alloc, third)?;
+    second.merge(alloc, third)?;
+    twin.merge(alloc, second)?;
+    Ok(())
+}
+
+/// Merges each of two tables into the other. Both end as the same table.
+pub fn merge_either_way(
+    alloc: Global,
+    one: &mut MemberTable,
+    twin: &MemberTable,
+    other: &mut MemberTable,
+) -> Result<(), Error>
+    requires { twin.now ≡ one.old }
+    ensures { IfOk result (λ _. one.new ≡ other.new) }
+{
+    merge_law();
+    one.merge(alloc, other)?;
+    other.merge(alloc, twin)
+}
+
+/// Merges an empty table, which changes nothing.
+pub fn merge_nothing(
+    alloc: Global,
+    table: &mut MemberTable,
+    seed: u64,
+    log2_bits: u8,
+    hashes: u8,
+) -> Result<(), Error>
+    ensures { IfOk result (λ _. table.new ≡ table.old) }
+{
+    merge_law();
+    let empty = MemberTable::new(alloc, seed, log2_bits, hashes)?;
+    table.merge(alloc, &empty)?;
+    Ok(())
+}
+
+/// Merges a table that is the same, which changes nothing but the count.
+pub fn merge_twin(alloc: Global, table: &mut MemberTable, twin: &MemberTable) -> Result<(), Error>
+    requires { twin.now ≡ table.old }
+    ensures { IfOk result (λ _. table.new ≡ record table.old { count = table.new.count }) }
+{
+    merge_law();
+    table.merge(alloc, twin)
+}
