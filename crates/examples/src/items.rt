@@ -1,9 +1,11 @@
 //! Items written, and read back as a list.
 
-ghost use Rattle.std.specs.Prelude.{◌≡◌, ◌+◌, ◌≤◌, ◌++◌, IfOk, length, map};
-ghost use Rattle.datasketches.specs.Items.{item_kind, spell_all};
+ghost use Rattle.std.specs.Prelude.{◌≡◌, ◌↔◌, ℕ, List, ◌+◌, ◌<◌, ◌≤◌, ◌++◌, IfOk, IsTrue, length, map, take, drop};
+ghost use Rattle.datasketches.specs.ItemLaws.{Holds};
+ghost use Rattle.datasketches.specs.Items.{item_kind, spell_all, unspell_all, width, widths};
 
 use datasketches::codec::{Item, Kind, Short, SketchBytes, SketchSlice, Stopped};
+use datasketches::laws;
 use std::alloc::{AllocError, Global};
 
 /// Writes items, reads them back into the places, and answers what remains: the rest that was put
@@ -24,6 +26,7 @@ pub fn there_and_back(
     ensures items { IfOk result (λ _. places.new ≡ items.now) }
     ensures rest { IfOk result (λ remaining. remaining.items ≡ rest.now) }
 {
+    laws::items_law();
     let mut writer = SketchBytes::with_capacity(alloc, 0)?;
     if let Err(Stopped { .. }) = writer.write_items(items) {
         return Err(AllocError);
@@ -49,5 +52,99 @@ pub fn write_two_lists(writer: &mut SketchBytes, first: &[Item], second: &[Item]
     }
     if let Err(Stopped { .. }) = writer.write_items(second) {
         unreachable!();
+    }
+}
+
+/// Reads as many items as there are, of bytes that may be cut off: the answer is how many, and they
+/// stand in the first places. The other places are as they were.
+pub fn read_what_is_there(bytes: &[u8], kinds: &[Kind], places: &mut [Item]) -> usize
+    requires { length kinds.now ≡ length places.old }
+    ensures at_most { result ≤ length kinds.now }
+    ensures there { widths (take result kinds.now) ≤ length bytes.now }
+    ensures no_more { result < length kinds.now →
+        length bytes.now < widths (take (result + 1) kinds.now) }
+    ensures places { places.new ≡
+        unspell_all (take result kinds.now) bytes.now ++ drop result places.old }
+{
+    let mut reader = SketchSlice::new(bytes);
+    match reader.read_items(kinds, places) {
+        Ok(()) => kinds.len(),
+        Err(Short { read }) => read,
+    }
+}
+
+/// Whether a list of items that is cut off leaves nothing for the reads after it.
+pub fn nothing_remains_after(bytes: &[u8], kinds: &[Kind], places: &mut [Item]) -> bool
+    requires same { length kinds.now ≡ length places.old }
+    requires cut { length bytes.now < widths kinds.now }
+    ensures { IsTrue result }
+{
+    let mut reader = SketchSlice::new(bytes);
+    let _ = reader.read_items(kinds, places);
+    reader.remaining().is_empty()
+}
+
+/// Writes as many items as there is room for: the answer is how many.
+pub fn write_what_fits(writer: &mut SketchBytes, items: &[Item]) -> usize
+    ensures at_most { result ≤ length items.now }
+    ensures written { writer.new.bytes ≡ writer.old.bytes ++ spell_all (take result items.now) }
+    ensures no_more { result < length items.now →
+        writer.new.room < length (writer.old.bytes ++ spell_all (take (result + 1) items.now)) }
+{
+    match writer.write_items(items) {
+        Ok(()) => items.len(),
+        Err(Stopped { accepted }) => accepted,
+    }
+}
+
+/// Writes bytes if there is room for them; what is written fits the room.
+pub fn write_if_it_fits(writer: &mut SketchBytes, bytes: &[u8]) -> bool
+    ensures fits { length writer.new.bytes ≤ writer.new.room }
+    ensures grows { writer.old.room ≤ writer.new.room }
+    ensures written { IsTrue result → writer.new.bytes ≡ writer.old.bytes ++ bytes.now }
+{
+    writer.write(bytes).is_ok()
+}
+
+/// The number of bytes in which an item stands.
+pub fn count_bytes(item: &Item) -> usize
+    ensures { result ≡ width (item_kind item.now) }
+{
+    item.kind().width()
+}
+
+/// The bytes of an item: as many as its kind has, and no others hold it.
+///
+/// # Errors
+///
+/// Where memory runs out.
+pub fn bytes_of_item(alloc: Global, item: &Item) -> Result<Vec<u8>, AllocError>
+    ensures holds { IfOk result (λ bytes. Holds bytes.items item.now) }
+    ensures only { IfOk result (λ bytes.
+        (others : List ℕ) → Holds others item.now → others ≡ bytes.items) }
+{
+    laws::items_law();
+    let mut writer = SketchBytes::with_capacity(alloc, 8)?;
+    match writer.write_items(&[*item]) {
+        Ok(()) => Ok(writer.into_bytes()),
+        Err(Stopped { .. }) => Err(AllocError),
+    }
+}
+
+/// Whether two lists of items of the same kinds are the same, by their bytes alone.
+///
+/// # Errors
+///
+/// Where memory runs out.
+pub fn are_same_items(alloc: Global, xs: &[Item], ys: &[Item]) -> Result<bool, AllocError>
+    requires { map item_kind xs.now ≡ map item_kind ys.now }
+    ensures { IfOk result (λ same. IsTrue same ↔ (xs.now ≡ ys.now)) }
+{
+    laws::items_law();
+    let mut first = SketchBytes::with_capacity(alloc, 0)?;
+    let mut second = SketchBytes::with_capacity(alloc, 0)?;
+    match (first.write_items(xs), second.write_items(ys)) {
+        (Ok(()), Ok(())) => Ok(first.into_bytes() == second.into_bytes()),
+        _ => Err(AllocError),
     }
 }

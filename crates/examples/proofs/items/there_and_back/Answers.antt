@@ -3,7 +3,6 @@ use Rattle.datasketches.specs.declared.codec.Item.{Item}
 use Rattle.datasketches.specs.Items.{spell_all, widths}
 use Rattle.datasketches.specs.WriterValue.{WriterValue}
 use Rattle.datasketches.proofs.ItemLemmas.{widths-take-le}
-use Rattle.datasketches.proofs.ItemLawLemmas.{length-spell_all, read_back, leave_rest}
 use Rattle.examples.proofs.items.there_and_back.Goals as goal
 
 -- what holds ok_of_any holds of an Ok
@@ -23,7 +22,7 @@ unreachable-requires c =
     (writer : WriterValue). writer.bytes) c.in_ok-writer.ensures) c.in_default.ensures.written
     (c.new-reader.ensures ∙ c.deref.ensures.value ∙ c.in_ok-extend_from_slice.ensures.items
     ∙ ap (λ bytes. bytes ++ c.args.rest.now) c.into_bytes-bytes.ensures) in
-    let fits = length-spell_all c.args.items.now c.in_default.ensures.in_type in
+    let fits = c.items_law.ensures.count c.args.items.now c.in_default.ensures.in_type in
     omega (
       arith,
       short.2,
@@ -44,7 +43,7 @@ returns-clause-items c =
       c.in_default-read_items.ensures.1,
       whole,
       c.requires.kinds,
-    ) (read_back c.args.items.now c.args.rest.now c.in_default.ensures.in_type) in
+    ) (c.items_law.ensures.read_back c.args.items.now c.args.rest.now c.in_default.ensures.in_type) in
     ok_of_any _ _ same
 
 pub returns-clause-rest : goal.returns-clause-rest
@@ -55,5 +54,5 @@ returns-clause-rest c =
     ∙ ap (λ bytes. bytes ++ c.args.rest.now) c.into_bytes-bytes.ensures) in
     let left : c.remaining.result.now ≡ c.args.rest.now =
     rw (c.remaining.ensures, c.in_default-read_items.ensures.2, whole, c.requires.kinds)
-    (leave_rest c.args.items.now c.args.rest.now c.in_default.ensures.in_type) in
+    (c.items_law.ensures.leave_rest c.args.items.now c.args.rest.now c.in_default.ensures.in_type) in
     rw (← left) c.from_slice.ensures.items
