@@ -1,13 +1,18 @@
 -- The known answers, computed over the definitions.
-use Rattle.std.proofs.Common.{◌≡◌, ℕ, ◌+◌, ◌-◌, inl, inr, List, [], ◌∷◌, ◌++◌, take, drop, get_or, refl, sym, ap, ◌∙◌, arith}
+use Rattle.std.proofs.Common.{◌≡◌, ℕ, ◌+◌, ◌-◌, ◌*◌, inl, inr, List, [], ◌∷◌, ◌++◌, length, take, drop, get_or, refl, sym, ap, ◌∙◌, arith}
+use Rattle.std.specs.Prelude.{codes}
 use Rattle.std.proofs.lemmas.Int.{ints}
 use Rattle.std.proofs.lemmas.Bool.{cases_lt}
 use Rattle.std.proofs.lemmas.List.{get_or-take, get_or-drop}
+use Rattle.sketch_base.specs.declared.error.ErrorKind.{ErrorKind}
+use Rattle.sketch_base.specs.declared.error.ErrorKind.TheVariants.{InvalidArgument, InvalidData, OutOfMemory}
+use Rattle.sketch_base.specs.ErrorValue.{ErrorValue}
+use Rattle.sketch_base.specs.Refusals.{Refuses}
 use Rattle.sketch_hash.specs.Pieces.{pieces, rest}
 use Rattle.sketch_hash.specs.Xxh64.{steps, tail_steps}
 use Rattle.sketch_hash.specs.KnownAnswers.{fox}
 use Rattle.datasketches.specs.Streams.{AgreeOutside, DifferInOneBlock, DifferInOneTailStep}
-use Rattle.datasketches.specs.KnownAnswers.{eog, zeros, Relations}
+use Rattle.datasketches.specs.KnownAnswers.{eog, zeros, RefusalAnswers, Relations}
 
 -- lists with the same front and the same back
 agree : {X : Type 0} (low high : ℕ) (a b : List X) → take low a ≡ take low b → drop high a ≡ drop high b →
@@ -128,4 +133,32 @@ relations = record {
   above_64_bits = λ h. omega (arith, ints, h.1);
   across_64_bits = refl;
   not_across_64_bits = λ e. let byte : 255 ≡ 254 = ap (λ t. get_or t 0 0) e in omega (arith, byte);
+}
+
+-- ---- refusals
+
+number : ErrorKind → ℕ
+number InvalidArgument = 0
+number InvalidData = 1
+number OutOfMemory = 2
+
+-- an error is none that a refusal answers: by its kind, by the first code of its message and by how
+-- many codes and contexts it has
+seen : ErrorValue → ℕ
+seen e = number e.kind + 4 * length e.message + 8 * length e.contexts + 16 * get_or e.message 0 0
+
+none_of : (e : ErrorValue) → (seen e ≡ 97 * 16 + 5 → ⊥) → (seen e ≡ 2 → ⊥) →
+    Refuses InvalidData (codes "a") e → ⊥
+unfolding Refuses seen number
+none_of e told none is = elim is [ inl same ↦ told (ap seen same) | inr same ↦ none (ap seen same) ]
+
+pub refusal_answers : RefusalAnswers
+unfolding Refuses seen number
+refusal_answers = record {
+  told = inl refl;
+  no_memory = inr refl;
+  other_text = none_of _ (λ h. omega (arith, h)) (λ h. omega (arith, h));
+  other_kind = none_of _ (λ h. omega (arith, h)) (λ h. omega (arith, h));
+  no_memory_with_text = none_of _ (λ h. omega (arith, h)) (λ h. omega (arith, h));
+  with_context = none_of _ (λ h. omega (arith, h)) (λ h. omega (arith, h));
 }

@@ -1,6 +1,9 @@
 -- What each relation and range that a law speaks of holds of, and what it does not hold of.
 use Rattle.std.specs.Prelude.{◌≡◌, ℕ, ◌-◌, ◌^◌, pos, negsuc, List, [], ◌∷◌, ◌++◌, codes, replicate}
 use Rattle.sketch_base.specs.Bytes.{modulo}
+use Rattle.sketch_base.specs.declared.error.ErrorKind.TheVariants.{InvalidArgument, InvalidData, OutOfMemory}
+use Rattle.sketch_base.specs.ErrorValue.{add_context, error_of, memory_error}
+use Rattle.sketch_base.specs.Refusals.{Refuses}
 use Rattle.sketch_hash.specs.KnownAnswers.{fox}
 use Rattle.datasketches.specs.Streams.{DifferInOneBlock, DifferInOneTailStep}
 use Rattle.datasketches.specs.Laws.{IsShort}
@@ -48,3 +51,14 @@ pub record Relations : Type 0 where
   pub above_64_bits : IsSigned 64 (pos (2 ^ 63)) → ⊥
   pub across_64_bits : natural_fed I64 (negsuc 0) ≡ natural_fed U64 (2 ^ 64 - 1)
   pub not_across_64_bits : sign_fed I64 (negsuc 0) ≡ natural_fed U64 (2 ^ 64 - 2) → ⊥
+
+-- which errors a refusal may answer
+pub record RefusalAnswers : Type 0 where
+  pub told : Refuses InvalidData (codes "a") (error_of InvalidData (codes "a"))
+  pub no_memory : Refuses InvalidData (codes "a") memory_error
+  pub other_text : Refuses InvalidData (codes "a") (error_of InvalidData (codes "b")) → ⊥
+  pub other_kind : Refuses InvalidData (codes "a") (error_of InvalidArgument (codes "a")) → ⊥
+  pub no_memory_with_text : Refuses InvalidData (codes "a") (error_of OutOfMemory (codes "a")) → ⊥
+  pub with_context :
+      Refuses InvalidData (codes "a")
+      (add_context (error_of InvalidData (codes "a")) (codes "k") (codes "v")) → ⊥

@@ -1,12 +1,13 @@
 //! Values that each relation and range of the laws holds of, and values beside them that it does
 //! not hold of.
 
-ghost use Rattle.datasketches.specs.KnownAnswers.{Relations};
+ghost use Rattle.datasketches.specs.KnownAnswers.{RefusalAnswers, Relations};
 
 pub use sketch_hash::known_answers::value_answers;
 
 /// Each range ends where it says, and each relation holds of a pair of streams, and not of one
 /// beside it. It does nothing: its contract is computed from the definitions.
 pub fn relations()
-    ensures { Relations }
+    ensures relations { Relations }
+    ensures refusals { RefusalAnswers }
 {}

@@ -2,11 +2,13 @@
 
 ghost use Rattle.std.specs.Prelude.{◌≡◌, ◌≢◌, ◌↔◌, [], ◌∷◌, IsTrue, pos};
 ghost use Rattle.std.specs.List.{All};
+ghost use Rattle.std.specs.String.{string_bytes};
 ghost use Rattle.datasketches.specs.Bytes.{low_bytes, modulo};
 ghost use Rattle.datasketches.specs.Murmur.{murmur};
 ghost use Rattle.datasketches.specs.Values.{integer_bytes};
 
-use datasketches::hash::value::{natural_extend, sign_extend};
+use datasketches::hash::value::natural_extend::NaturalExtend;
+use datasketches::hash::value::{natural_extend, raw_bytes, sign_extend};
 use datasketches::hash::{Hash, MurmurHash3X64128};
 use datasketches::laws;
 
@@ -64,6 +66,58 @@ pub fn is_same_word(seed: u64, x: u64, y: i64) -> bool
     let first = pair_of_value(seed, &natural_extend::from_u64(x));
     let second = pair_of_value(seed, &natural_extend::from_i64(y));
     is_same_pair(first, second)
+}
+
+/// The Murmur pair of a key of text, which feeds its UTF-8 bytes, owned or not, as its bytes do.
+pub fn pairs_of_text(seed: u64, owned: String, borrowed: &str, bytes: Vec<u8>) -> [(u64, u64); 3]
+    ensures { result ≡ murmur seed (string_bytes owned) ∷ murmur seed borrowed.now
+        ∷ murmur seed bytes.items ∷ [] }
+{
+    [
+        pair_of_value(seed, &raw_bytes::from_string(owned)),
+        pair_of_value(seed, &raw_bytes::from_str(borrowed)),
+        pair_of_value(seed, &raw_bytes::from_vec(bytes)),
+    ]
+}
+
+/// The values that each strategy's functions wrap.
+pub fn wrapped_values(
+    unsigned: (u8, u16, u32, u64),
+    signed: (i8, i16, i32, i64),
+) -> ([u64; 8], [i64; 8])
+    ensures unsigned { result.0 ≡ unsigned.0 ∷ unsigned.1 ∷ unsigned.2 ∷ unsigned.3
+        ∷ unsigned.0 ∷ unsigned.1 ∷ unsigned.2 ∷ unsigned.3 ∷ [] }
+    ensures signed { result.1 ≡ signed.0 ∷ signed.1 ∷ signed.2 ∷ signed.3
+        ∷ signed.0 ∷ signed.1 ∷ signed.2 ∷ signed.3 ∷ [] }
+{
+    let wrapped = [
+        u64::from(natural_extend::from_u8(unsigned.0).into_inner()),
+        u64::from(natural_extend::from_u16(unsigned.1).into_inner()),
+        u64::from(natural_extend::from_u32(unsigned.2).into_inner()),
+        natural_extend::from_u64(unsigned.3).into_inner(),
+        u64::from(sign_extend::from_u8(unsigned.0).into_inner()),
+        u64::from(sign_extend::from_u16(unsigned.1).into_inner()),
+        u64::from(sign_extend::from_u32(unsigned.2).into_inner()),
+        sign_extend::from_u64(unsigned.3).into_inner(),
+    ];
+    let wrapped_signed = [
+        i64::from(natural_extend::from_i8(signed.0).into_inner()),
+        i64::from(natural_extend::from_i16(signed.1).into_inner()),
+        i64::from(natural_extend::from_i32(signed.2).into_inner()),
+        natural_extend::from_i64(signed.3).into_inner(),
+        i64::from(sign_extend::from_i8(signed.0).into_inner()),
+        i64::from(sign_extend::from_i16(signed.1).into_inner()),
+        i64::from(sign_extend::from_i32(signed.2).into_inner()),
+        sign_extend::from_i64(signed.3).into_inner(),
+    ];
+    (wrapped, wrapped_signed)
+}
+
+/// Replaces a wrapped key, through the wrapper.
+pub fn replace_key(key: &mut NaturalExtend<u32>, other: u32)
+    ensures { key.new ≡ other }
+{
+    **key = other;
 }
 
 /// The Murmur pairs of plain integers: each feeds its own bytes, the lowest first.

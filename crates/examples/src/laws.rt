@@ -81,8 +81,7 @@ pub fn strategies_agree(signed: (i8, i16, i32, i64), unsigned: (u8, u16, u32, u6
         × ((natural_fed U16 unsigned.1 ≡ sign_fed U16 unsigned.1) ↔ (unsigned.1 < 2 ^ 15))
         × ((natural_fed U32 unsigned.2 ≡ sign_fed U32 unsigned.2) ↔ (unsigned.2 < 2 ^ 31))
         × (natural_fed U64 unsigned.3 ≡ sign_fed U64 unsigned.3) }
-    ensures across {
-        ((sign_fed I8 signed.0 ≡ sign_fed U8 unsigned.0)
+    ensures across { ((sign_fed I8 signed.0 ≡ sign_fed U8 unsigned.0)
         ↔ (modulo 8 signed.0 ≡ modulo 8 (pos unsigned.0)))
         × ((sign_fed I16 signed.1 ≡ sign_fed U16 unsigned.1)
         ↔ (modulo 16 signed.1 ≡ modulo 16 (pos unsigned.1)))

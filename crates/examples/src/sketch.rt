@@ -1,17 +1,23 @@
 //! A reader and a writer of a serialized sketch.
 
-ghost use Rattle.std.specs.Prelude.{◌≡◌, length, drop, IfOk, MatchResult};
+ghost use Rattle.std.specs.Prelude.{◌≡◌, ◌≢◌, ◌⊎◌, ◌<◌, ◌≤◌, ◌++◌, codes, length, drop, IfErr, IfOk, MatchResult};
+ghost use Rattle.std.specs.Fmt.{decimal};
+ghost use Rattle.std.specs.String.{string_bytes};
+ghost use Rattle.datasketches.specs.ErrorValue.{add_context, error_of};
+ghost use Rattle.datasketches.specs.Refusals.{Refuses, invalid_preamble_ints_text, preamble_longs_out_of_range_text};
 ghost use Rattle.datasketches.specs.Items.{spell_all, unspell_all};
 ghost use Rattle.examples.specs.Sketches.{HasPreamble, IsSketch};
 
 use datasketches::codec::assert::{
-    ensure_preamble_longs_in, ensure_serial_version_is, insufficient_data,
+    ensure_preamble_longs_in, ensure_preamble_longs_in_range, ensure_serial_version_is,
+    insufficient_data,
 };
 use datasketches::codec::family::Family;
 use datasketches::codec::{Item, Kind, Short, SketchBytes, SketchSlice, Stopped};
 use datasketches::error::{Error, ErrorKind};
 use datasketches::hash::{check_seed_hash, compute_seed_hash};
 use std::alloc::{AllocError, Global};
+use std::ops::Bound;
 
 /// Checks the preamble of a serialized HLL sketch that was made with the seed: preamble longs,
 /// serial version, family and seed hash.
@@ -31,6 +37,53 @@ pub fn check_preamble(alloc: Global, bytes: &[u8], seed: u64) -> Result<(), Erro
     let expected = compute_seed_hash(alloc, seed, ErrorKind::InvalidArgument)?;
     check_seed_hash(alloc, expected, actual, "hll", ErrorKind::InvalidData)?;
     Ok(())
+}
+
+/// Accepts two to four preamble longs.
+pub fn check_longs(alloc: Global, longs: u8) -> Result<(), Error>
+    ensures accepted { IfOk result (λ _. (2 ≤ longs) × (longs < 5)) }
+    ensures refused { IfErr result (λ error. Refuses ErrorKind.InvalidData
+        (preamble_longs_out_of_range_text (codes "[" ++ (decimal 2 ++ (codes ", "
+        ++ (decimal 5 ++ codes ")")))) longs) error) }
+    ensures refuses { IfErr result (λ _. (2 ≤ longs) × (longs < 5) → ⊥) }
+{
+    ensure_preamble_longs_in_range(alloc, Bound::Included(2), Bound::Excluded(5), longs)?;
+    Ok(())
+}
+
+/// Accepts ten preamble ints.
+pub fn check_ints(alloc: Global, ints: u8) -> Result<(), Error>
+    ensures { MatchResult result
+        (λ _. ints ≡ 10)
+        (λ error. (ints ≢ 10)
+        × Refuses ErrorKind.InvalidData (invalid_preamble_ints_text 10 ints) error) }
+{
+    if ints == 10 {
+        return Ok(());
+    }
+    Err(Error::invalid_preamble_ints(alloc, 10, ints))
+}
+
+/// The errors for an argument and for data that a caller finds wrong, in words of its own.
+pub fn own_errors(argument: String, malformed: String) -> (Error, Error)
+    ensures { result ≡ (
+      error_of ErrorKind.InvalidArgument (string_bytes argument),
+      error_of ErrorKind.InvalidData (string_bytes malformed),
+    ) }
+{
+    (
+        Error::invalid_argument(argument),
+        Error::deserial(malformed),
+    )
+}
+
+/// The error with the place at which it came up, or as it was where memory runs out.
+pub fn at_place(alloc: Global, error: Error, place: u64) -> Error
+    ensures { (result ≡ add_context error (codes "place") (decimal place)) ⊎ (result ≡ error) }
+{
+    match error.with_context(alloc, "place", place) {
+        Ok(error) | Err(error) => error,
+    }
 }
 
 /// Reads the items of such a sketch, one of each kind, into as many places.
