@@ -1,6 +1,7 @@
 //! Keys that were seen, in a table of members that is saved and loaded.
 
-ghost use Rattle.std.specs.Prelude.{ℕ, ◌≡◌, ◌⊎◌, ◌↔◌, ◌+◌, [], IfOk, IsTrue};
+ghost use Rattle.std.specs.Prelude.{ℕ, ◌≡◌, ◌⊎◌, ◌↔◌, ◌+◌, [], IfOk, IsTrue, length};
+ghost use Rattle.sketch_member.specs.Faults.{AllPass, steps};
 ghost use Rattle.sketch_member.specs.Form.{IsForm, form2};
 ghost use Rattle.sketch_member.specs.Laws.{count_after};
 ghost use Rattle.sketch_member.specs.Table.{Table, Inserts, IsMember, IsSet, empty_table};
@@ -8,8 +9,8 @@ ghost use Rattle.sketch_member.specs.Table.{Table, Inserts, IsMember, IsSet, emp
 use datasketches::error::Error;
 use datasketches::hash::value::raw_bytes;
 use sketch_member::MemberTable;
-use sketch_member::laws::insert_law;
-use std::alloc::Global;
+use sketch_member::laws::{form_law, insert_law};
+use std::alloc::{AllocError, Global};
 
 /// The table of the keys seen so far, from the bytes that were saved; a new one, of 1024 bits with
 /// seven indexes a key, where there are none.
@@ -49,6 +50,27 @@ pub fn see_saved_key(alloc: Global, saved: &[u8], key: &[u8]) -> Result<(bool, V
     let mut seen = load_keys(alloc, saved)?;
     let is_seen = see_key(&mut seen, key);
     Ok((is_seen, seen.to_bytes(alloc)?))
+}
+
+/// Whether two tables are the same, count and all, by the bytes in which they are saved.
+pub fn are_same_tables(
+    alloc: Global,
+    one: &MemberTable,
+    other: &MemberTable,
+) -> Result<bool, AllocError>
+    ensures { IfOk result (λ same. IsTrue same ↔ (one.now ≡ other.now)) }
+{
+    form_law();
+    Ok(one.to_bytes(alloc)? == other.to_bytes(alloc)?)
+}
+
+/// The bytes in which a table is saved. They pass each step of the reading.
+pub fn save_keys(alloc: Global, seen: &MemberTable) -> Result<Vec<u8>, AllocError>
+    ensures { IfOk result (λ bytes. AllPass (length bytes.items) (steps bytes.items)) }
+{
+    form_law();
+    let bytes = seen.to_bytes(alloc)?;
+    Ok(bytes)
 }
 
 /// Inserts two keys into two empty tables, in either order, which makes the same table of both.

@@ -1,10 +1,34 @@
-use super::{ProgramEnd, program};
+ghost use Rattle.std.specs.Prelude.{◌≡◌, ◌≢◌, length};
+
+use super::{ProgramEnd, answer, program};
 use crate::ending::{Outcome, RunFault};
 use crate::tests::fakes::{Arguments, Full, KINDS, NarrowWriter, Screen, SlowReader};
 use crate::tests::{FOX, FOX_LINE, assert_same};
+use std::alloc::AllocError;
 use std::process::{ExitCode, Termination};
 
 const USAGE: &str = "usage: sketchsum murmur|xx SEED\n";
+
+// What a caller's proof knows of the words of a run.
+fn answer_two_words(words: &[String], input: &mut &[u8], output: &mut Vec<u8>) -> Outcome
+    ensures { result ≢ Outcome.Usage → length words.now ≡ 2 }
+{
+    answer(words, input, output)
+}
+
+#[test]
+fn a_run_has_two_words(rt: HostRuntime) -> Result<(), AllocError> {
+    let words = [
+        String::from_str(rt.alloc(), "xx")?,
+        String::from_str(rt.alloc(), "0")?,
+    ];
+    for (count, outcome) in [(0, Outcome::Usage), (1, Outcome::Usage), (2, Outcome::Done)] {
+        let mut output = Vec::new(rt.alloc());
+        let answered = answer_two_words(&words[..count], &mut FOX, &mut output);
+        assert_same(&rt, answered, outcome);
+    }
+    Ok(())
+}
 
 #[test]
 fn words_become_a_line_and_a_status(rt: HostRuntime) {

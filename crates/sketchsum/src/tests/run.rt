@@ -1,4 +1,5 @@
-ghost use Rattle.std.specs.Prelude.{◌+◌, ◌*◌, ◌≤◌, length};
+ghost use Rattle.std.specs.Prelude.{◌≡◌, ◌+◌, ◌*◌, ◌≤◌, [], ◌++◌, length, Err, OnOk};
+ghost use Rattle.sketchsum.specs.Digest.{digest_line};
 
 use super::fakes::{Full, KINDS, NarrowWriter, SlowReader};
 use super::{FOX, FOX_LINE, assert_same};
@@ -74,9 +75,15 @@ fn a_read_that_fails_in_mid_stream_writes_nothing(rt: HostRuntime) {
     }
 }
 
-// A caller's proof knows that a run takes no more bytes than its turns do.
+// What a caller's proof knows of a run over bytes.
 fn run_over_bytes(turns: u64, input: &mut &[u8], output: &mut Vec<u8>) -> Result<(), RunFault>
-    ensures { length input.old.now ≤ 4096 * turns + length input.new.now }
+    ensures bounded { length input.old.now ≤ 4096 * turns + length input.new.now }
+    ensures whole { OnOk result (input.new.now ≡ []) }
+    ensures whole_at_write { result ≡ Err RunFault.Write → input.new.now ≡ [] }
+    ensures too_long { result ≡ Err RunFault.TooLong →
+        turns + length input.new.now ≤ length input.old.now }
+    ensures line { OnOk result (output.new.items
+        ≡ output.old.items ++ digest_line Algorithm.Murmur 0 input.old.now) }
 {
     run_bounded(Algorithm::Murmur, 0, turns, input, output)
 }
