@@ -13,8 +13,10 @@ use datasketches::hash::{Hasher, MurmurHash3X64128, XxHash64};
 use std::fmt::{self, Display};
 use std::io::{Read, Write};
 
-/// The most reads of a run.
+/// The most reads of a run: 16 TiB at most.
 const MAX_TURNS: u64 = 1 << 32;
+
+const _: () = prove!(MAX_TURNS * PIECE_BYTES as u64 == 17_592_186_044_416);
 
 /// Writes the hash of what `reader` gives until its end, as [`run_bounded`] with 2^32 reads.
 pub fn run<R: Read, W: Write>(

@@ -139,6 +139,14 @@ fn tells_items_and_kinds_apart(rt: HostRuntime) {
     }
 }
 
+// A caller's proof knows that a copy of a count is the count.
+fn copies_of(short: &Short, stopped: &Stopped) -> (Option<Short>, Option<Stopped>)
+    ensures short { IfSome result.0 (λ copy. copy ≡ short.now) }
+    ensures stopped { IfSome result.1 (λ copy. copy ≡ stopped.now) }
+{
+    (short.clone().ok(), stopped.clone().ok())
+}
+
 #[test]
 fn tells_counts_apart(rt: HostRuntime) {
     for (a, b) in [(0, 0), (0, 1), (7, 7), (usize::MAX, 0)] {
@@ -156,7 +164,7 @@ fn tells_counts_apart(rt: HostRuntime) {
         );
         assert_same(
             &rt,
-            (short.clone().ok(), stopped.clone().ok()),
+            copies_of(&short, &stopped),
             (Some(short), Some(stopped)),
         );
     }
@@ -177,11 +185,37 @@ fn prints_how_far_a_list_came(rt: HostRuntime) -> Result<(), Fail> {
     Ok(())
 }
 
+// Each form and its kind, as they are shown.
+const SHOWN: [(Item, &'static str); 14] = [
+    (Item::U8(255), "U8(255) U8"),
+    (Item::I8(-1), "I8(-1) I8"),
+    (Item::U16Le(258), "U16Le(258) U16Le"),
+    (Item::U16Be(258), "U16Be(258) U16Be"),
+    (Item::I16Le(-258), "I16Le(-258) I16Le"),
+    (Item::I16Be(-258), "I16Be(-258) I16Be"),
+    (Item::U32Le(1), "U32Le(1) U32Le"),
+    (Item::U32Be(1), "U32Be(1) U32Be"),
+    (Item::I32Le(-1), "I32Le(-1) I32Le"),
+    (Item::I32Be(-1), "I32Be(-1) I32Be"),
+    (Item::U64Le(9), "U64Le(9) U64Le"),
+    (Item::U64Be(9), "U64Be(9) U64Be"),
+    (Item::I64Le(-9), "I64Le(-9) I64Le"),
+    (Item::I64Be(-9), "I64Be(-9) I64Be"),
+];
+
 #[test]
 fn shows_items_kinds_and_counts(rt: HostRuntime) -> Result<(), Fail> {
+    for (item, shown) in SHOWN {
+        let text = format!(in rt.alloc(); "{item:?} {:?}", item.kind())?;
+        assert_same(&rt, text.as_str(), shown);
+    }
+    for n in 0..1000 {
+        let (short, stopped) = (Short { read: n }, Stopped { accepted: n });
+        let text = format!(in rt.alloc(); "{short:?} {stopped:?}")?;
+        let shown = format!(in rt.alloc(); "Short {{ read: {n} }} Stopped {{ accepted: {n} }}")?;
+        assert_same(&rt, text.as_str(), shown.as_str());
+    }
     let item = Item::U16Le(258);
-    let text = format!(in rt.alloc(); "{item:?} {:?}", item.kind())?;
-    assert_same(&rt, text.as_str(), "U16Le(258) U16Le");
     let (short, stopped) = (Short { read: 3 }, Stopped { accepted: 0 });
     let text = format!(in rt.alloc(); "{short:?} {stopped:?}")?;
     assert_same(
@@ -436,6 +470,19 @@ fn every_capacity_is_granted(rt: HostRuntime) -> Result<(), Fail> {
         writer.write(bytes).unwrap();
         assert_same(&rt, writer.into_bytes().len(), capacity);
     }
+    for capacity in [
+        1 << 13,
+        (1 << 16) - 1,
+        1 << 20,
+        (1 << 20) + 1,
+        1 << 24,
+        1 << 27,
+    ] {
+        assert!(rt;
+            SketchBytes::with_capacity(rt.alloc(), capacity).is_ok(),
+            "{capacity}"
+        );
+    }
     Ok(())
 }
 
@@ -538,6 +585,24 @@ fn stays_at_the_end(rt: HostRuntime) {
     }
     assert!(rt; reader.read_exact(&mut []).is_ok());
     assert!(rt; reader.read_u8().is_err());
+}
+
+#[test]
+fn writes_long_slices_at_once(rt: HostRuntime) -> Result<(), Fail> {
+    let mut writer = SketchBytes::with_capacity(rt.alloc(), 0)?;
+    let mut written = 0usize;
+    for count in [1, 2, 4095, 1 << 16, (1 << 20) + 1, 1 << 24] {
+        let bytes = vec![in rt.alloc(); 7; count]?;
+        writer.write(&bytes)?;
+        written = written.wrapping_add(count);
+    }
+    let bytes = writer.into_bytes();
+    assert_same(
+        &rt,
+        (bytes.len(), bytes.iter().all(|byte| *byte == 7)),
+        (written, true),
+    );
+    Ok(())
 }
 
 #[test]

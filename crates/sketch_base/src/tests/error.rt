@@ -190,6 +190,12 @@ const ROWS: [Row; 15] = [
     },
 ];
 
+const KINDS: [ErrorKind; 3] = [
+    ErrorKind::InvalidArgument,
+    ErrorKind::InvalidData,
+    ErrorKind::OutOfMemory,
+];
+
 // Asserts that a text was made, and that it is this one.
 fn assert_text(rt: &impl Abort, made: Result<String, AllocError>, text: &str) {
     assert_same(rt, made.ok().as_deref(), Some(text));
@@ -223,13 +229,13 @@ fn prints_lines_and_debug_texts(rt: HostRuntime) -> Result<(), Fail> {
 }
 
 #[test]
-fn prints_each_of_forty_contexts(rt: HostRuntime) -> Result<(), Fail> {
+fn prints_each_of_two_hundred_contexts(rt: HostRuntime) -> Result<(), Fail> {
     let alloc = rt.alloc();
     let mut error = error_of(alloc, ErrorKind::InvalidData, "m")?;
     let mut pairs = String::from_str(alloc, "n: 0")?;
     let mut lines = String::new(alloc);
     let mut fields = String::new(alloc);
-    for n in 0..40u8 {
+    for n in 0..200u8 {
         error = error.with_context(alloc, "n", n)?;
         if n > 0 {
             pairs = format!(in alloc; "{pairs}, n: {n}")?;
@@ -283,6 +289,35 @@ fn prints_fields_in_the_alternate_form(rt: HostRuntime) -> Result<(), Fail> {
         let error = error_in(alloc, ErrorKind::InvalidData, "m", contexts)?;
         assert_text(&rt, format!(in alloc; "{error:#?}"), text);
     }
+    for kind in KINDS {
+        let error = error_of(alloc, kind, "m")?;
+        let text = format!(in alloc;
+            "Error {{\n    kind: {kind},\n    message: \"m\",\n    context: [],\n}}"
+        )?;
+        assert_text(&rt, format!(in alloc; "{error:#?}"), &text);
+    }
+    Ok(())
+}
+
+// Texts of many lengths under many keys, in errors of each kind.
+#[test]
+fn adds_contexts_of_every_length(rt: HostRuntime) -> Result<(), Fail> {
+    let alloc = rt.alloc();
+    let mut text = String::new(alloc);
+    for length in 0..300 {
+        for kind in KINDS {
+            let mut error = error_of(alloc, kind, "m")?;
+            let mut pairs = String::new(alloc);
+            for key in ["offset", "index", "file", "", "a key with spaces", "kind"] {
+                error = error.with_context(alloc, key, text.as_str())?;
+                let comma = if pairs.is_empty() { "" } else { ", " };
+                pairs = format!(in alloc; "{pairs}{comma}{key}: {text}")?;
+            }
+            let line = format!(in alloc; "{kind}, context: {{ {pairs} }} => m")?;
+            assert_text(&rt, error.to_string(alloc), &line);
+        }
+        text.push(if length % 7 == 0 { 'é' } else { 'x' })?;
+    }
     Ok(())
 }
 
@@ -305,14 +340,9 @@ fn hash_of(kind: ErrorKind) -> u64 {
 
 #[test]
 fn tells_kinds_apart(rt: HostRuntime) {
-    let kinds = [
-        ErrorKind::InvalidArgument,
-        ErrorKind::InvalidData,
-        ErrorKind::OutOfMemory,
-    ];
-    for (i, a) in kinds.iter().enumerate() {
+    for (i, a) in KINDS.iter().enumerate() {
         assert_same(&rt, a.clone().ok(), Some(*a));
-        for (j, b) in kinds.iter().enumerate() {
+        for (j, b) in KINDS.iter().enumerate() {
             assert_same(&rt, (is_same_kind(*a, *b), *a != *b), (i == j, i != j));
             assert_same(&rt, hash_of(*a) == hash_of(*b), i == j);
         }
@@ -368,9 +398,15 @@ fn prints_what_the_constructors_make(rt: HostRuntime) -> Result<(), Fail> {
     let error = Error::invalid_preamble_longs(alloc, &[0, 10, 100, 255], 9);
     let line = "InvalidData => invalid preamble longs: expected one of [0, 10, 100, 255], got 9";
     assert_text(&rt, error.to_string(alloc), line);
-    let error = Error::invalid_preamble_ints(alloc, 2, 9);
-    let line = "InvalidData => invalid preamble ints: expected 2, got 9";
-    assert_text(&rt, error.to_string(alloc), line);
+    for expected in 0..=255 {
+        for actual in 0..=255 {
+            let error = Error::invalid_preamble_ints(alloc, expected, actual);
+            let line = format!(in alloc;
+                "InvalidData => invalid preamble ints: expected {expected}, got {actual}"
+            )?;
+            assert_text(&rt, error.to_string(alloc), &line);
+        }
+    }
     Ok(())
 }
 

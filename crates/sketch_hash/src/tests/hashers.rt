@@ -1,9 +1,11 @@
 //! Hashers by their single calls.
 
-ghost use Rattle.std.specs.Prelude.{◌≡◌, ◌++◌};
+ghost use Rattle.std.specs.Prelude.{◌≡◌, ◌++◌, IfSome};
 
 use super::{FOX, FOX_MURMUR, FOX_XXH64, assert_same, assert_same_for};
-use crate::hash::{DEFAULT_UPDATE_SEED, Hasher, MurmurHash3X64128, XxHash64};
+use crate::hash::{
+    DEFAULT_UPDATE_SEED, Hasher, MurmurHash3X64128, MurmurState, XxHash64, XxHash64State,
+};
 use crate::known_answers::TEST_BUFFER;
 use std::alloc::{AllocError, Global};
 
@@ -213,4 +215,38 @@ fn debug_texts_begin_with_the_name(rt: HostRuntime) -> Result<(), AllocError> {
     );
     assert!(rt; xxh64.starts_with("XxHash64") && long_xxh64.starts_with("XxHash64"));
     Ok(())
+}
+
+// A caller's proof knows that a copy of a state is the state.
+fn copies_of(
+    murmur: &MurmurState,
+    xxh64: &XxHash64State,
+) -> (Option<MurmurState>, Option<XxHash64State>)
+    ensures murmur { IfSome result.0 (λ copy. copy ≡ murmur.now) }
+    ensures xxh64 { IfSome result.1 (λ copy. copy ≡ xxh64.now) }
+{
+    (murmur.clone().ok(), xxh64.clone().ok())
+}
+
+#[test]
+fn copies_of_states_of_any_total_answer_as_they_do(rt: HostRuntime) {
+    for power in 0..64 {
+        let mut murmur = MurmurHash3X64128::with_seed(7).state();
+        let mut xxh64 = XxHash64::with_seed(7).state();
+        let total = 1u64.wrapping_shl(power).wrapping_add(5);
+        (murmur.total, xxh64.total) = (total, total);
+        let (murmur_copy, xxh64_copy) = copies_of(&murmur, &xxh64);
+        let answers = murmur_copy
+            .zip(xxh64_copy)
+            .map(|copies| answers_of(&copies.0, &copies.1));
+        assert_same_for(&rt, answers, Some(answers_of(&murmur, &xxh64)), power);
+    }
+}
+
+// What the hashers of two states answer.
+fn answers_of(murmur: &MurmurState, xxh64: &XxHash64State) -> ((u64, u64), u64) {
+    (
+        MurmurHash3X64128::resume(murmur).finish128(),
+        XxHash64::resume(xxh64).finish64(),
+    )
 }

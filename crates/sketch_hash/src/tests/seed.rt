@@ -36,6 +36,27 @@ fn seed_hashes_of_a_hundred_thousand_seeds(rt: HostRuntime) -> Result<(), Fail> 
     Ok(())
 }
 
+// Every expected hash beside hashes that differ from it in one bit.
+#[test]
+fn every_seed_hash_refuses_its_neighbours(rt: HostRuntime) {
+    for expected in 0..=u16::MAX {
+        for actual in [expected ^ 1, expected ^ 0x8000] {
+            let answer = check_seed_hash(
+                rt.alloc(),
+                expected,
+                actual,
+                "theta",
+                ErrorKind::InvalidData,
+            );
+            let kind = answer.err().map(|error| error.kind());
+            assert!(rt;
+                kind == Some(ErrorKind::InvalidData),
+                "{expected}, {actual}"
+            );
+        }
+    }
+}
+
 const HASHES: [u16; 9] = [0, 1, 2, 255, 256, 37836, 37837, 32768, 65535];
 
 #[test]
@@ -104,13 +125,22 @@ fn accepted_seeds_take_no_memory(rt: HostRuntime) {
             }
         }
     }
+    for seed in 0..600_000 {
+        if low_bits_of(seed) != 0 {
+            assert!(rt; compute_seed_hash(alloc, seed, kind).is_ok(), "{seed}");
+        }
+    }
     for hash in 0..=u16::MAX {
-        assert_same_for(
-            &rt,
-            check_seed_hash(alloc, hash, hash, "theta", kind).is_ok(),
-            true,
-            hash,
-        );
+        for (name, kind) in [
+            ("theta", kind),
+            ("", ErrorKind::InvalidData),
+            ("hll", ErrorKind::OutOfMemory),
+        ] {
+            assert!(rt;
+                check_seed_hash(alloc, hash, hash, name, kind).is_ok(),
+                "{hash}"
+            );
+        }
     }
 }
 

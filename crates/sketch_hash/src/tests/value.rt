@@ -56,7 +56,7 @@ fn wrapped_numbers_behave_as_numbers(rt: HostRuntime) {
 }
 
 // The printed texts of the wrapped -1.
-fn texts_of_minus_one(alloc: Global) -> Result<[String; 5], AllocError> {
+fn texts_of_minus_one(alloc: Global) -> Result<[String; 9], AllocError> {
     let minus_one = sign_extend::from_i8(-1);
     Ok([
         format!(in alloc; "{minus_one}")?,
@@ -64,17 +64,22 @@ fn texts_of_minus_one(alloc: Global) -> Result<[String; 5], AllocError> {
         format!(in alloc; "{minus_one:?}")?,
         format!(in alloc; "{minus_one:4?}")?,
         format!(in alloc; "{minus_one:#?}")?,
+        format!(in alloc; "{minus_one:+}")?,
+        format!(in alloc; "{minus_one:04}")?,
+        format!(in alloc; "{minus_one:.2?}")?,
+        format!(in alloc; "{minus_one:+05?}")?,
     ])
 }
 
 #[test]
 fn wrapped_numbers_print_as_numbers(rt: HostRuntime) -> Result<(), AllocError> {
-    let [text, wide, debug, wide_debug, long_debug] = texts_of_minus_one(rt.alloc())?;
-    assert_same(&rt, text.as_str(), "-1");
-    assert_same(&rt, wide.as_str(), "  -1");
-    assert_same(&rt, debug.as_str(), "-1");
-    assert_same(&rt, wide_debug.as_str(), "  -1");
-    assert_same(&rt, long_debug.as_str(), "-1");
+    let texts = texts_of_minus_one(rt.alloc())?;
+    let shown = [
+        "-1", "  -1", "-1", "  -1", "-1", "-1", "-001", "-1", "-0001",
+    ];
+    for (text, shown) in texts.iter().zip(&shown) {
+        assert_same(&rt, text.as_str(), *shown);
+    }
     Ok(())
 }
 

@@ -4,8 +4,8 @@ use super::{ProgramEnd, answer, program};
 use crate::ending::{Outcome, RunFault};
 use crate::tests::fakes::{Arguments, Full, KINDS, NarrowWriter, Screen, SlowReader};
 use crate::tests::{FOX, FOX_LINE, assert_same};
-use std::alloc::AllocError;
-use std::process::{ExitCode, Termination};
+use std::alloc::{AllocError, Global};
+use std::process::{Abort, ExitCode, Termination};
 
 const USAGE: &str = "usage: sketchsum murmur|xx SEED\n";
 
@@ -63,6 +63,40 @@ fn words_become_a_line_and_a_status(rt: HostRuntime) {
         assert_same(&rt, screen.text().as_slice(), told.as_bytes());
         assert_same(&rt, input.reads == 0, status == 2);
     }
+}
+
+// No number of words but two asks for a hash.
+#[test]
+fn other_words_ask_for_nothing(rt: HostRuntime) {
+    for count in 0..40 {
+        let mut words = [b"0".as_slice(); 43];
+        words[1] = b"xx";
+        let status = if count == 1 { 0 } else { 2 };
+        assert_status(&rt, rt.alloc(), &words[..2 + count], status);
+    }
+    for words in [[b"".as_slice(), b"", b"xx", b"0"], [b"", b"xx", b"", b"0"]] {
+        assert_status(&rt, rt.alloc(), &words, 2);
+    }
+}
+
+// Nor does a seed with a byte before it or after it that is no digit.
+#[test]
+fn other_seeds_ask_for_nothing(rt: HostRuntime) {
+    for byte in 0..=255u8 {
+        let status = if byte.is_ascii_digit() { 0 } else { 2 };
+        let (before, after, alone) = ([byte, b'5'], [b'5', byte], [byte]);
+        assert_status(&rt, rt.alloc(), &[b"", b"xx", &before], status);
+        assert_status(&rt, rt.alloc(), &[b"", b"xx", &after], status);
+        assert_status(&rt, rt.alloc(), &[b"", b"xx", &alone], status);
+    }
+}
+
+// Asserts how the program ends on words, over the sentence.
+fn assert_status(rt: &impl Abort, alloc: Global, words: &[&[u8]], status: u8) {
+    let mut output = Vec::new(alloc);
+    let screen = Screen::new(alloc);
+    let end = program(&Arguments(words), alloc, &mut FOX, &mut output);
+    assert_same(rt, end.report(&screen), ExitCode::from(status));
 }
 
 #[test]

@@ -5,6 +5,7 @@ use super::fakes::{Full, KINDS, NarrowWriter, SlowReader};
 use super::{FOX, FOX_LINE, assert_same};
 use crate::arguments::Algorithm;
 use crate::ending::RunFault;
+use crate::read_ahead::ReadAhead;
 use crate::run::{run, run_bounded};
 use std::io::{self, ErrorKind, Read};
 
@@ -70,6 +71,20 @@ fn a_read_that_fails_in_mid_stream_writes_nothing(rt: HostRuntime) {
             let fault = run(algorithm, 0, &mut reader, &mut written);
             assert_same(&rt, fault, Err(RunFault::Read));
             assert_same(&rt, reader.reads, reads);
+            assert!(rt; written.is_empty());
+        }
+    }
+}
+
+// Nor is it where its bytes are read ahead.
+#[test]
+fn a_read_ahead_that_fails_is_told(rt: HostRuntime) {
+    for kind in KINDS.iter().chain(&[ErrorKind::Interrupted]) {
+        for left in [43, 38, 0] {
+            let mut reader = ReadAhead::new(SlowReader::new(FOX, 5, Some((left, *kind))));
+            let mut written = Vec::new(rt.alloc());
+            let fault = run(Algorithm::Xx, 0, &mut reader, &mut written);
+            assert_same(&rt, fault, Err(RunFault::Read));
             assert!(rt; written.is_empty());
         }
     }

@@ -126,6 +126,25 @@ fn every_start_and_end_displays(rt: HostRuntime) -> Result<(), Fail> {
     Ok(())
 }
 
+#[test]
+fn refuses_beside_every_pair_of_ends(rt: HostRuntime) {
+    for a in 0..=255 {
+        for b in 0..=255 {
+            for (start, end) in [
+                (Included(a), Included(b)),
+                (Included(a), Excluded(b)),
+                (Excluded(a), Included(b)),
+                (Excluded(a), Excluded(b)),
+            ] {
+                let answer = ensure_preamble_longs_in_range(rt.alloc(), start, end, a);
+                let kind = answer.err().map(|error| error.kind());
+                let wanted = (!is_between(start, end, a)).then_some(ErrorKind::InvalidData);
+                assert!(rt; kind == wanted);
+            }
+        }
+    }
+}
+
 // Forty numbers, no two of which are one.
 const LONGS: [u8; 40] = [
     1, 2, 3, 4, 5, 6, 7, 8, 9, 10, 0, 255, 254, 100, 99, 98, 97, 96, 95, 94, 20, 21, 22, 23, 24,
@@ -148,10 +167,23 @@ fn accepts_the_members_of_every_list(rt: HostRuntime) -> Result<(), Fail> {
 }
 
 #[test]
+fn accepts_a_single_number_alone(rt: HostRuntime) -> Result<(), Fail> {
+    let alloc = rt.alloc();
+    for expected in 0..=255u8 {
+        let list = format!(in alloc; "one of [{expected}]")?;
+        for x in 0..=255 {
+            let answer = ensure_preamble_longs_in(alloc, &[expected], x);
+            assert_checked(&rt, alloc, answer, x == expected, &list, x)?;
+        }
+    }
+    Ok(())
+}
+
+#[test]
 fn accepts_the_expected_version_alone(rt: HostRuntime) -> Result<(), Fail> {
     let alloc = rt.alloc();
     for expected in 0..=255 {
-        for actual in [0, 1, 2, 3, 127, 128, 255, expected] {
+        for actual in 0..=255 {
             let answer = ensure_serial_version_is(alloc, expected, actual);
             if expected == actual {
                 assert_accepted(&rt, answer, actual);
@@ -194,6 +226,21 @@ fn accepting_checks_take_no_memory(rt: HostRuntime) {
             ensure_preamble_longs_in_range(alloc, Included(x), Unbounded, x).is_ok(),
         ];
         assert_same_for(&rt, accepted, [true; 5], x);
+        assert_accepted(&rt, ensure_preamble_longs_in(alloc, &[x], x), x);
+        for end in x.saturating_add(1)..255 {
+            for (start, last) in [
+                (Included(x), Excluded(end)),
+                (Unbounded, Excluded(end)),
+                (Excluded(x.saturating_sub(1)), Included(end)),
+            ] {
+                let answer = ensure_preamble_longs_in_range(alloc, start, last, x);
+                assert_same_for(&rt, answer.is_ok() || x == 0, true, (x, end));
+            }
+            for start in [Included(x), Excluded(x)] {
+                let answer = ensure_preamble_longs_in_range(alloc, start, Unbounded, end);
+                assert_accepted(&rt, answer, (x, end));
+            }
+        }
     }
     for count in 1..=LONGS.len() {
         let (expected, _) = LONGS.split_at(count);
