@@ -5,11 +5,16 @@
 #![tactic(auto)]
 
 mod bits;
+mod fault;
+mod header;
 pub mod known_answers;
 pub mod laws;
 mod limits;
+mod reading;
 mod table;
 #[cfg(test)]
 mod tests;
 
+pub use self::fault::Fault;
+pub use self::header::Difference;
 pub use self::table::{MEMBER, MemberTable};

@@ -1,6 +1,6 @@
 //! A table in bytes, and what sets the versions of its form apart.
 
-ghost use Rattle.std.specs.Prelude.{◌≡◌, ◌-◌, ◌*◌, ◌≤◌, ◌↔◌, IfOk, IsTrue};
+ghost use Rattle.std.specs.Prelude.{◌≡◌, ◌-◌, ◌≤◌, ◌↔◌, IfOk, IsTrue};
 ghost use Rattle.sketch_member.specs.Form.{form2};
 ghost use Rattle.sketch_member.specs.Table.{IsTable};
 
@@ -21,12 +21,12 @@ const _: () = prove!(MEMBER.id == 200 && MEMBER.min_pre_longs == 2 && MEMBER.max
 
 // The preamble longs of version 1, and of version 2, which has the count and tells whether it is
 // known.
-pub(super) const LONGS_1: u8 = 2;
+pub(crate) const LONGS_1: u8 = 2;
 
-pub(super) const LONGS_2: u8 = 3;
+pub(crate) const LONGS_2: u8 = 3;
 
 // The serial version under so many preamble longs.
-pub(super) fn serial_version(longs: u8) -> u8
+pub(crate) fn serial_version(longs: u8) -> u8
     requires { 1 ≤ longs }
     ensures { result ≡ longs - 1 }
 {
@@ -34,17 +34,10 @@ pub(super) fn serial_version(longs: u8) -> u8
 }
 
 // Whether a header of so many preamble longs has a count.
-pub(super) fn has_count(longs: u8) -> bool
+pub(crate) fn has_count(longs: u8) -> bool
     ensures { IsTrue result ↔ (longs ≡ 3) }
 {
     longs == LONGS_2
-}
-
-// How many bytes a header of so many preamble longs has.
-pub(super) fn header_bytes(longs: u8) -> usize
-    ensures { result ≡ 8 * longs }
-{
-    8 * usize::from(longs)
 }
 
 impl MemberTable {
@@ -57,17 +50,17 @@ impl MemberTable {
         ensures form { IfOk result (λ bytes. bytes.items ≡ form2 self.now) }
         ensures is_table { IsTable self.now }
     {
-        let count = self.bits.len() + header_bytes(LONGS_2);
+        let count = self.bits.len() + 24;
         let mut writer = SketchBytes::with_capacity(alloc, count)?;
         writer.write_u8(LONGS_2)?;
         writer.write_u8(serial_version(LONGS_2))?;
         writer.write_u8(MEMBER.id)?;
-        writer.write_u8(self.log2_bits)?;
-        writer.write_u8(self.hashes)?;
-        writer.write_u8(u8::from(self.count.is_some()))?;
+        writer.write_u8(self.header.log2_bits)?;
+        writer.write_u8(self.header.hashes)?;
+        writer.write_u8(u8::from(self.header.count.is_some()))?;
         writer.write(&[0; 2])?;
-        writer.write_u64_le(self.seed)?;
-        writer.write_u64_le(self.count.unwrap_or(0))?;
+        writer.write_u64_le(self.header.seed)?;
+        writer.write_u64_le(self.header.count.unwrap_or(0))?;
         writer.write(&self.bits)?;
         Ok(writer.into_bytes())
     }
