@@ -2,7 +2,7 @@
 use Rattle.std.proofs.Common.{◌≡◌, ℕ, ◌-◌, List, [], ◌∷◌, ◌++◌, length, arith, Result, Ok, Err, IsErrAnd, MatchResult, inl, inr, refl, subst, sym}
 use Rattle.std.specs.Prelude.{Contains}
 use Rattle.sketch_member.specs.declared.fault.Fault.{Fault}
-use Rattle.sketch_member.specs.Faults.{Step, AllPass, Fails, IsFirstFault, flag_step, header_steps, number_steps, size_steps}
+use Rattle.sketch_member.specs.Faults.{Step, AllPass, Fails, IsFirstFault, flag_step, header_steps, kind_steps, number_steps, size_steps}
 use Rattle.sketch_member.specs.Limits.{IsHashes, IsLog2Bits}
 
 -- what holds of its error holds of an Err
@@ -78,3 +78,10 @@ flag_fault bytes longs log2_bits hashes rest fault version is_log2 is_hashes who
         ),
       ),
     ))
+
+pub header_pass : (bytes : List ℕ) → AllPass (length bytes) (kind_steps bytes) →
+    AllPass (length bytes) (size_steps bytes) → AllPass (length bytes) (number_steps bytes) →
+    AllPass (length bytes) (header_steps bytes)
+header_pass bytes kind size numbers =
+    all_pass-append (length bytes) (kind_steps bytes) (size_steps bytes ++ number_steps bytes) kind
+    (all_pass-append (length bytes) (size_steps bytes) (number_steps bytes) size numbers)

@@ -4,7 +4,7 @@ use Rattle.std.specs.Prelude.{Option, None, Some, IfSome}
 use Rattle.datasketches.specs.Bytes.{le, eight}
 use Rattle.datasketches.specs.Words.{IsWord}
 use Rattle.datasketches.proofs.BytesLemmas.{le-low_bytes}
-use Rattle.sketch_member.proofs.FaultLemmas.{all_pass-append}
+use Rattle.sketch_member.proofs.FaultLemmas.{all_pass-append, header_pass}
 use Rattle.sketch_member.specs.Faults.{AllPass, IsFlag, bits_steps, count_number, header, header_steps, steps}
 use Rattle.sketch_member.specs.Form.{IsForm, flag_of, form1, form2, number_of}
 use Rattle.sketch_member.specs.Laws.{FormLaw}
@@ -38,48 +38,22 @@ unknown_zero (Some n) e = absurd (different e)
 pub header_passes : (table : Table) (bytes : List ℕ) → IsLog2Bits table.log2_bits →
     IsHashes table.hashes → IfSome table.count IsWord → IsForm table bytes →
     AllPass (length bytes) (header_steps bytes)
-header_passes table bytes log2_bits hashes count form = elim form [
-  | inl first ↦ subst (λ b. AllPass (length b) (header_steps b)) (sym first.1) (
-    (omega arith, (0, omega arith, refl)),
-    (
-      (omega arith, refl),
-      (
-        (omega arith, refl),
-        (
-          (omega arith, log2_bits),
-          (
-            (omega arith, hashes),
-            ((omega arith, (inl refl, refl, refl)), ((omega arith, tt), ((omega arith, (λ _. refl)), tt))),
-          ),
-        ),
-      ),
-    ),
-  )
-  | inr second ↦
-      let back = word_back (number_of table.count) (number_word table.count count) in
-      subst (λ b. AllPass (length b) (header_steps b)) (sym second) (
-        (omega arith, (1, omega arith, refl)),
-        (
-          (omega arith, refl),
-          (
-            (omega arith, refl),
-            (
-              (omega arith, log2_bits),
-              (
-                (omega arith, hashes),
-                (
-                  (omega arith, (flag_is table.count, refl, refl)),
-                  (
-                    (omega arith, tt),
-                    ((omega arith, (λ zero. back ∙ unknown_zero table.count zero)), tt),
-                  ),
-                ),
-              ),
-            ),
-          ),
-        ),
-      )
-]
+header_passes table bytes log2_bits hashes count form =
+    let P : List ℕ → Type 0 = λ b. AllPass (length b) (header_steps b) in
+    elim form [
+      | inl first ↦ subst P (sym first.1) (header_pass (form1 table)
+          ((omega arith, (0, omega arith, refl)), ((omega arith, refl), ((omega arith, refl), tt)))
+          ((omega arith, log2_bits), ((omega arith, hashes), tt))
+          ((omega arith, (inl refl, refl, refl)), ((omega arith, tt), ((omega arith, (λ _. refl)), tt))))
+      | inr second ↦
+          let back = word_back (number_of table.count) (number_word table.count count) in
+          let zero : flag_of table.count ≡ 0 → le (eight (number_of table.count)) ≡ 0 =
+          λ zero. back ∙ unknown_zero table.count zero in
+          subst P (sym second) (header_pass (form2 table)
+          ((omega arith, (1, omega arith, refl)), ((omega arith, refl), ((omega arith, refl), tt)))
+          ((omega arith, log2_bits), ((omega arith, hashes), tt))
+          ((omega arith, (flag_is table.count, refl, refl)), ((omega arith, tt), ((omega arith, zero), tt))))
+    ]
 
 bits_pass : (table : Table) (bytes : List ℕ) → IsTable table → IsForm table bytes →
     AllPass (length bytes) (bits_steps bytes (header bytes) (byte_count (get_or bytes 3 0)))

@@ -153,3 +153,20 @@ bits_steps bytes header need =
 abbrev pub steps : List ℕ → List Step
 steps bytes = header_steps bytes
     ++ bits_steps bytes (header bytes) (byte_count (slice_index bytes 3))
+
+-- ---- the steps of other calls
+
+-- that the bytes are a table, and of version 2
+abbrev pub view_steps : List ℕ → List Step
+view_steps bytes = steps bytes ++ record {
+  needs = 1;
+  Holds = slice_index bytes 0 ≡ 3;
+  fault = Version1;
+} ∷ []
+
+-- that the sizes of a new table lie in their limits, and the bytes are as many as it has
+abbrev pub init_steps : ℕ → ℕ → List ℕ → List Step
+init_steps log2_bits hashes bytes =
+    record { needs = 0; Holds = IsLog2Bits log2_bits; fault = Log2Bits log2_bits }
+    ∷ record { needs = 0; Holds = IsHashes hashes; fault = Hashes hashes }
+    ∷ bits_steps bytes 24 (byte_count log2_bits)

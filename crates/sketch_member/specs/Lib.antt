@@ -4,5 +4,6 @@ pub mod Header
 pub mod Merge
 pub mod Form
 pub mod Faults
+pub mod InPlace
 pub mod Laws
 pub mod KnownAnswers

@@ -4,6 +4,7 @@ ghost use Rattle.std.specs.Prelude.{Some};
 ghost use Rattle.datasketches.specs.Refusals.{Refuses};
 ghost use Rattle.sketch_member.specs.Faults.{fault_text};
 
+use crate::header::Difference;
 use crate::table::MEMBER;
 use datasketches::error::{Error, ErrorKind};
 use std::alloc::Global;
@@ -44,6 +45,17 @@ pub enum Fault {
     TrailingBytes(usize),
     /// The bytes are a table of version 1, which has no place for a count.
     Version1,
+}
+
+/// Why one table in bytes cannot be merged into another.
+#[derive(Clone, Copy, Debug, PartialEq, Eq)]
+pub enum MergeFault {
+    /// The bytes that are merged into are no table of version 2.
+    Into(Fault),
+    /// The bytes that are merged are no table of version 2.
+    From(Fault),
+    /// The tables differ in this part of their headers.
+    Unlike(Difference),
 }
 
 impl fmt::Display for Fault {

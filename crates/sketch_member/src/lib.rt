@@ -7,6 +7,7 @@
 mod bits;
 mod fault;
 mod header;
+pub mod in_place;
 pub mod known_answers;
 pub mod laws;
 mod limits;
@@ -14,7 +15,9 @@ mod reading;
 mod table;
 #[cfg(test)]
 mod tests;
+mod view;
 
-pub use self::fault::Fault;
+pub use self::fault::{Fault, MergeFault};
 pub use self::header::Difference;
 pub use self::table::{MEMBER, MemberTable};
+pub use self::view::TableView;

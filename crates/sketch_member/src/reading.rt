@@ -141,7 +141,7 @@ fn read_count(reader: &mut SketchSlice, longs: u8, flag: u8) -> Result<Option<u6
 }
 
 // Accepts exactly as many bytes of bits as are needed.
-fn ensure_bits_count(need: usize, have: usize) -> Result<(), Fault>
+pub(crate) fn ensure_bits_count(need: usize, have: usize) -> Result<(), Fault>
     ensures { MatchResult result (λ _. have ≡ need)
         (λ fault. ((have < need) × (fault ≡ Fault.MissingBits need have))
         ⊎ ((need < have) × (fault ≡ Fault.TrailingBytes (have - need)))) }

@@ -21,7 +21,7 @@ mod form;
 mod merging;
 
 pub use self::form::MEMBER;
-pub(crate) use self::form::{LONGS_1, LONGS_2, has_count, serial_version};
+pub(crate) use self::form::{HEADER_BYTES, LONGS_1, LONGS_2, has_count, serial_version};
 
 /// A table of members, of 2^`log2_bits` bits.
 ///
