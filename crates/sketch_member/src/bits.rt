@@ -1,6 +1,6 @@
 //! Bits packed into bytes.
 
-ghost use Rattle.std.specs.Prelude.{◌≡◌, ℕ, ◌*◌, ◌<◌, ◌↔◌, ◌⊎◌, length, slice_index, IsTrue};
+ghost use Rattle.std.specs.Prelude.{◌≡◌, ℕ, ◌*◌, ◌<◌, ◌↔◌, ◌⊎◌, length, replicate, slice_index, IsTrue};
 ghost use Rattle.sketch_member.specs.Table.{IsSet};
 
 // Whether bit `i` is set.
@@ -28,5 +28,17 @@ pub(crate) fn set_all(bits: &mut [u8], other: &[u8])
 {
     for k in 0..bits.len() {
         bits[k] |= other[k];
+    }
+}
+
+// Clears all bits. A byte that is clear is not written, so a page of a mapped file that was never
+// written takes no room on the disk; and the compiler makes no call of the C library of the loop.
+pub(crate) fn clear(bits: &mut [u8])
+    ensures { bits.new ≡ replicate (length bits.old) 0 }
+{
+    for place in 0..bits.len() {
+        if bits[place] != 0 {
+            bits[place] = 0;
+        }
     }
 }

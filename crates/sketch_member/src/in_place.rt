@@ -11,6 +11,7 @@ ghost use Rattle.sketch_member.specs.Limits.{IsHashes, IsLog2Bits};
 ghost use Rattle.sketch_member.specs.Merge.{Merges};
 ghost use Rattle.sketch_member.specs.Table.{Inserts, IsTable, Table, byte_count, empty_table};
 
+use crate::bits::clear;
 use crate::fault::{Fault, MergeFault};
 use crate::header::Header;
 use crate::limits::{byte_count, ensure_log2_bits};
@@ -52,7 +53,7 @@ pub fn init(bytes: &mut [u8], seed: u64, log2_bits: u8, hashes: u8) -> Result<()
     ensure_bits_count(byte_count(log2_bits), length - HEADER_BYTES)?;
     let (head, bits) = bytes.split_at_mut(HEADER_BYTES);
     head.copy_from_slice(&header.to_bytes());
-    bits.fill(0);
+    clear(bits);
     Ok(())
 }
 
