@@ -1,5 +1,5 @@
 -- Steps of a reading, and the answers that come of them.
-use Rattle.std.proofs.Common.{◌≡◌, ℕ, ◌-◌, List, [], ◌∷◌, ◌++◌, length, arith, Result, Ok, Err, IsErrAnd, MatchResult, inl, inr, refl, subst, sym}
+use Rattle.std.proofs.Common.{◌≡◌, ◌<◌, ◌≤◌, ℕ, ◌-◌, List, [], ◌∷◌, ◌++◌, length, arith, Result, Ok, Err, IsErrAnd, MatchResult, inl, inr, refl, subst, sym}
 use Rattle.std.specs.Prelude.{Contains}
 use Rattle.sketch_member.specs.declared.fault.Fault.{Fault}
 use Rattle.sketch_member.specs.Faults.{Step, AllPass, Fails, IsFirstFault, flag_step, header_steps, kind_steps, number_steps, size_steps}
@@ -85,3 +85,18 @@ pub header_pass : (bytes : List ℕ) → AllPass (length bytes) (kind_steps byte
 header_pass bytes kind size numbers =
     all_pass-append (length bytes) (kind_steps bytes) (size_steps bytes ++ number_steps bytes) kind
     (all_pass-append (length bytes) (size_steps bytes) (number_steps bytes) size numbers)
+
+-- where all pass, none fails
+pub no_fault : (count : ℕ) (steps : List Step) (fault : Fault) → AllPass count steps →
+    IsFirstFault count steps fault → ⊥
+no_fault count [] fault pass first = first
+no_fault count (step ∷ steps) fault pass first = elim first [
+  | inl here ↦ elim here [
+    | inl few ↦ less _ _ few.0 pass.0.0
+    | inr wrong ↦ wrong.1 pass.0.1
+  ]
+  | inr later ↦ no_fault count steps fault pass.1 later.1
+]
+  where
+    less : (m n : ℕ) → m < n → n ≤ m → ⊥
+    less m n l h = omega arith

@@ -66,8 +66,9 @@ header_bytes longs log2_bits hashes flag rest =
 
 -- they are the form of a table
 pub header_form : (longs seed log2_bits hashes flag : ℕ) (count : Option ℕ) (bytes rest : List ℕ) →
-    bytes ≡ header_bytes longs log2_bits hashes flag rest → Contains (2 ∷ 3 ∷ []) longs → IsFlag longs flag → 8 ≤ length rest →
-    seed ≡ le (take 8 rest) → 8 * longs - 16 ≤ length (drop 8 rest) → flag_of count ≡ flag →
+    bytes ≡ header_bytes longs log2_bits hashes flag rest → Contains (2 ∷ 3 ∷ []) longs →
+    IsFlag longs flag → 8 ≤ length rest → seed ≡ le (take 8 rest) →
+    8 * longs - 16 ≤ length (drop 8 rest) → flag_of count ≡ flag →
     number_of count ≡ le (take (8 * longs - 16) (drop 8 rest)) → AreBytes bytes →
     let table : Table = record {
       seed = seed;

@@ -156,13 +156,17 @@ steps bytes = header_steps bytes
 
 -- ---- the steps of other calls
 
--- that the bytes are a table, and of version 2
-abbrev pub view_steps : List ℕ → List Step
-view_steps bytes = steps bytes ++ record {
+-- that a table is of version 2
+abbrev pub version_step : List ℕ → Step
+version_step bytes = record {
   needs = 1;
   Holds = slice_index bytes 0 ≡ 3;
   fault = Version1;
-} ∷ []
+}
+
+-- that the bytes are a table, and of version 2
+abbrev pub view_steps : List ℕ → List Step
+view_steps bytes = steps bytes ++ version_step bytes ∷ []
 
 -- that the sizes of a new table lie in their limits, and the bytes are as many as it has
 abbrev pub init_steps : ℕ → ℕ → List ℕ → List Step

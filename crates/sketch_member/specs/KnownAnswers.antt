@@ -3,9 +3,11 @@
 use Rattle.std.specs.Prelude.{◌≡◌, ◌-◌, ◌^◌, ℕ, List, [], ◌∷◌, ◌++◌, codes, replicate, Option, None, Some}
 use Rattle.datasketches.specs.declared.error.ErrorKind.TheVariants.{InvalidArgument, InvalidData}
 use Rattle.datasketches.specs.ErrorValue.{error_of}
-use Rattle.sketch_member.specs.declared.fault.Fault.TheVariants.{HeaderEnds, Reserved, UnknownCount}
-use Rattle.sketch_member.specs.Faults.{Fails, FirstFault, IsFirstFault, Step}
+use Rattle.sketch_member.specs.declared.fault.Fault.TheVariants.{HeaderEnds, Log2Bits, Hashes, Reserved, UnknownCount, Version1}
+use Rattle.sketch_member.specs.declared.fault.MergeFault.TheVariants.{From}
+use Rattle.sketch_member.specs.Faults.{Fails, FirstFault, IsFirstFault, Step, init_steps, view_steps}
 use Rattle.sketch_member.specs.Form.{IsForm, form1, form2}
+use Rattle.sketch_member.specs.InPlace.{Becomes, IsMergeFault}
 use Rattle.sketch_member.specs.Laws.{IsMadeOf, count_after}
 use Rattle.sketch_member.specs.Limits.{IsHashes, IsLog2Bits}
 use Rattle.sketch_member.specs.Merge.{AreAlike, FirstDifference, Merges, sum_of_counts}
@@ -91,6 +93,17 @@ pub record WorkedValues : Type 0 where
       (error_of InvalidData (codes "reserved bytes are not zero"))
   pub other_kind : FirstFault 1 (always ∷ never ∷ [])
       (error_of InvalidArgument (codes "reserved bytes are not zero")) → ⊥
+
+pub record InPlaceValues : Type 0 where
+  pub version1 : IsFirstFault 24 (view_steps bytes1) Version1
+  pub version2 : IsFirstFault 32 (view_steps bytes2) Version1 → ⊥
+  pub size : IsFirstFault 0 (init_steps 5 0 []) (Log2Bits 5)
+  pub later_size : IsFirstFault 0 (init_steps 5 0 []) (Hashes 0) → ⊥
+  pub becomes : Becomes (Merges (other_value (Some 3)))
+      (form2 (one_value (Some 2))) (form2 (both_values (Some 5)))
+  pub becomes_otherwise : Becomes (Merges (other_value (Some 3))) bytes1 bytes1 → ⊥
+  pub from : IsMergeFault bytes2 bytes1 (From Version1)
+  pub from_otherwise : IsMergeFault bytes1 bytes1 (From Version1) → ⊥
 
 pub record MergedValues : Type 0 where
   pub sum : sum_of_counts (Some 2) (Some 3) ≡ Some 5

@@ -32,6 +32,6 @@ returns c =
       sizes.0,
       sizes.1,
       counted.4,
-      rw (counted.1) (header_form longs _ _ _ _ _ c.args.reader.now _ whole kind.0 flag.0 seed.0 seed.1 counted.0 counted.2
-          counted.3),
+      rw (counted.1) (header_form longs _ _ _ _ _ c.args.reader.now _ whole kind.0 flag.0 seed.0
+          seed.1 counted.0 counted.2 counted.3),
     )

@@ -6,7 +6,8 @@ returns-in-Some-clause-merges c = (
   refl,
   (
     c.in-Some.part,
-    rw (← c.self.view_is, ← c.other.view_is) (c.in-Some.ensures c.self.inside.bits.items c.other.inside.bits.items),
+    rw (← c.self.view_is, ← c.other.view_is)
+        (c.in-Some.ensures c.self.inside.bits.items c.other.inside.bits.items),
     search rules,
   ),
 )
