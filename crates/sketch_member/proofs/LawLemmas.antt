@@ -1,11 +1,11 @@
 -- The law of tables and their bytes.
-use Rattle.std.proofs.Common.{◌≡◌, ℕ, ◌%◌, ◌^◌, ◌<◌, List, length, get_or, take, drop, refl, sym, ap, subst, ◌∙◌, arith, inl, inr}
+use Rattle.std.proofs.Common.{◌≡◌, ℕ, ◌%◌, ◌^◌, ◌<◌, List, [], ◌∷◌, length, get_or, take, drop, refl, sym, ap, subst, ◌∙◌, arith, inl, inr}
 use Rattle.std.specs.Prelude.{Option, None, Some, IfSome}
 use Rattle.datasketches.specs.Bytes.{le, eight}
 use Rattle.datasketches.specs.Words.{IsWord}
 use Rattle.datasketches.proofs.BytesLemmas.{le-low_bytes}
 use Rattle.sketch_member.proofs.FaultLemmas.{all_pass-append, header_pass}
-use Rattle.sketch_member.specs.Faults.{AllPass, IsFlag, bits_steps, count_number, header, header_steps, steps}
+use Rattle.sketch_member.specs.Faults.{AllPass, IsFlag, bits_steps, count_number, header, header_steps, steps, version_step, view_steps}
 use Rattle.sketch_member.specs.Form.{IsForm, flag_of, form1, form2, number_of}
 use Rattle.sketch_member.specs.Laws.{FormLaw}
 use Rattle.sketch_member.specs.Limits.{IsHashes, IsLog2Bits}
@@ -74,6 +74,13 @@ passes table bytes is form =
     all_pass-append (length bytes) (header_steps bytes)
     (bits_steps bytes (header bytes) (byte_count (get_or bytes 3 0)))
     (header_passes table bytes is.log2_bits is.hashes is.count form) (bits_pass table bytes is form)
+
+viewed : (table : Table) (bytes : List ℕ) → IsTable table → bytes ≡ form2 table →
+    AllPass (length bytes) (view_steps bytes)
+viewed table bytes is form =
+    let count : length bytes ≡ length (form2 table) = ap length form in
+    all_pass-append (length bytes) (steps bytes) (version_step bytes ∷ [])
+    (passes table bytes is (inr form)) ((omega (arith, count), ap (λ b. get_or b 0 0) form), tt)
 
 pub same_table : (s l h s' l' h' : ℕ) (c c' : Option ℕ) (b b' : List ℕ) →
     s ≡ s' → l ≡ l' → h ≡ h' → c ≡ c' → b ≡ b' →
@@ -157,4 +164,4 @@ version1 table read is reads form =
     once read (record table { count = None }) (form1 table) reads kept form (inl (refl, refl))
 
 pub form_law : FormLaw
-form_law = record { passes = passes; once = once; version1 = version1 }
+form_law = record { passes = passes; viewed = viewed; once = once; version1 = version1 }

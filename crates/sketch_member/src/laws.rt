@@ -1,8 +1,9 @@
 //! What follows for users of tables and their bytes.
 
-ghost use Rattle.std.specs.Prelude.{◌≡◌, ◌↔◌, ◌⊎◌, ◌++◌, ℕ, List, None, length, map, IfOk, MatchResult};
+ghost use Rattle.std.specs.Prelude.{◌≡◌, ◌↔◌, ◌⊎◌, ◌++◌, ℕ, List, None, length, map, IfErr, IfOk, MatchResult};
 ghost use Rattle.datasketches.specs.ErrorValue.{memory_error};
-ghost use Rattle.sketch_member.specs.Faults.{AllPass, FirstFault, steps};
+ghost use Rattle.datasketches.specs.Refusals.{Refuses};
+ghost use Rattle.sketch_member.specs.Faults.{AllPass, FirstFault, IsFirstFault, fault_text, init_steps, steps};
 ghost use Rattle.sketch_member.specs.Form.{IsForm, form1, form2};
 ghost use Rattle.sketch_member.specs.Merge.{AreAlike};
 ghost use Rattle.sketch_member.specs.Table.{IsMember, IsTable, Table, empty_table};
@@ -126,6 +127,10 @@ pub fn insert_both<T: Hash>(
         × AreAlike (empty_table seed log2_bits hashes) whole
         × IsMadeOf (map T.fed values.now) whole
         × (made.items ≡ form2 whole)) }
+    ensures refused { IfErr result (λ error. ((fault : Fault)
+        × IsFirstFault (length bytes.old) (init_steps log2_bits hashes bytes.old) fault
+        × Refuses ErrorKind.InvalidArgument (fault_text fault) error)
+        ⊎ (error ≡ memory_error)) }
 {
     if let Err(fault) = insert_all_in_place(bytes, seed, log2_bits, hashes, values) {
         return Err(fault.into_error(alloc, ErrorKind::InvalidArgument));
@@ -143,8 +148,10 @@ fn insert_all_in_place<T: Hash>(
     hashes: u8,
     values: &[T],
 ) -> Result<(), Fault>
-    ensures { IfOk result (λ _. (made : Table) × IsTable made × (bytes.new ≡ form2 made)
-        × InsertsAll (map T.fed values.now) (empty_table seed log2_bits hashes) made) }
+    ensures { MatchResult result
+        (λ _. (made : Table) × IsTable made × (bytes.new ≡ form2 made)
+        × InsertsAll (map T.fed values.now) (empty_table seed log2_bits hashes) made)
+        (λ fault. IsFirstFault (length bytes.old) (init_steps log2_bits hashes bytes.old) fault) }
 {
     in_place::init(bytes, seed, log2_bits, hashes)?;
     for value in values {

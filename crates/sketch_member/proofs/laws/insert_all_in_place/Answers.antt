@@ -1,6 +1,9 @@
 use Rattle.std.proofs.Common.{arith, refl, subst}
 use Rattle.sketch_member.specs.Table.{Inserts, empty_table}
 use Rattle.sketch_member.proofs.BitLemmas.{empty_is_table}
+use Rattle.sketch_member.proofs.FaultLemmas.{no_fault}
+use Rattle.sketch_member.proofs.LawLemmas.{form_law}
+use Rattle.sketch_member.specs.Faults.{view_steps}
 use Rattle.sketch_member.proofs.MergeLemmas.{insert_next_in}
 use Rattle.sketch_member.proofs.laws.insert_all_in_place.Goals as goal
 
@@ -26,3 +29,9 @@ loop-value-preserved g c =
           c.loop-value.bytes c.loop-value-test.true now.1 became.2 now.2 became.4 now.3
           (subst (λ v. Inserts (fed v) became.0 became.1) c.value-item.is became.6),
     )
+
+pub returns-in_err-insert : goal.returns-in_err-insert
+returns-in_err-insert g c =
+    let now = c.loop-value.invariant in
+    absurd (no_fault _ (view_steps c.loop-value.bytes) _
+    (form_law.viewed now.0 c.loop-value.bytes now.1 now.2) c.in_err-insert.ensures.1)
