@@ -5,8 +5,8 @@ use Rattle.sketch_member.specs.Form.{IsForm, form1, form2}
 use Rattle.sketch_member.specs.Merge.{AreAlike, Merges}
 use Rattle.sketch_member.specs.Table.{Table, IsTable, IsSet, IsIndex, IsMember, Inserts, empty_table}
 
--- The bytes of a table pass all steps of the reading, in either version, and in version 2 those of a
--- view. Bytes are those of one
+-- The bytes of a table pass all steps of the reading, in either version, and those of a view in
+-- version 2. Bytes are those of one
 -- table at most. Version 1 keeps all of a table but its count.
 pub record FormLaw : Type 0 where
   pub passes : (table : Table) (bytes : List ℕ) → IsTable table → IsForm table bytes →

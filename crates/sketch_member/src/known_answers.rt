@@ -8,8 +8,8 @@ pub fn worked_values()
     ensures { WorkedValues }
 {}
 
-/// The values of the definitions for tables in bytes that are changed in place. It does nothing: its
-/// contract is computed from the definitions.
+/// The values of the definitions for tables changed in place. It does nothing: its contract is
+/// computed from the definitions.
 pub fn in_place_values()
     ensures { InPlaceValues }
 {}
