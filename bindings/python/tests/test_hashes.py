@@ -26,7 +26,7 @@ def test_known_answers():
     data, seed = bytes.fromhex("f97f521e22e096631b82573e817527378be01ac5898a96"), 0x49F1C7E23916E1DF
     assert xxh64(data, seed).hexdigest() == "09f6f6172c89c3f4"
     assert murmur3_x64_128(data, seed).hexdigest() == "fff02d48b75af9f300fc87d5911ee1d1"
-    assert sketch_hash._lib.sketch_hash_version() == 10000
+    assert sketch_hash._lib.sketch_hash_version() == 10100
 
 
 def test_the_examples_of_the_module():

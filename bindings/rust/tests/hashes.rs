@@ -29,7 +29,7 @@ impl Noise {
 
 #[test]
 fn known_answers() {
-    assert_eq!(sketch_hash::version(), 10_000);
+    assert_eq!(sketch_hash::version(), 10_100);
     assert_eq!(xxh64(FOX, 0), 0x0b24_2d36_1fda_71bc);
     assert_eq!(murmur3_x64_128(FOX, 0), (0xe34b_bc7b_bc07_1b6c, 0x7a43_3ca9_c49a_9347));
     assert_eq!(xxh64(&[0xa1, 0xd8, 0x2b], 0xcdde_8d51_6301_bbfc), 0x9378_00ca_51e4_a6d8);

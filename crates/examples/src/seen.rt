@@ -1,15 +1,16 @@
 //! Keys that were seen, in a table of members that is saved and loaded.
 
-ghost use Rattle.std.specs.Prelude.{ℕ, ◌≡◌, ◌⊎◌, ◌↔◌, ◌+◌, [], IfOk, IsTrue, length};
+ghost use Rattle.std.specs.Prelude.{ℕ, ◌≡◌, ◌⊎◌, ◌↔◌, ◌+◌, [], IfOk, IsTrue, MatchResult, length};
 ghost use Rattle.sketch_member.specs.Faults.{AllPass, steps};
 ghost use Rattle.sketch_member.specs.Form.{IsForm, form2};
+ghost use Rattle.sketch_member.specs.InPlace.{Becomes};
 ghost use Rattle.sketch_member.specs.Laws.{count_after};
 ghost use Rattle.sketch_member.specs.Table.{Table, Inserts, IsMember, IsSet, empty_table};
 
 use datasketches::error::Error;
 use datasketches::hash::value::raw_bytes;
-use sketch_member::MemberTable;
 use sketch_member::laws::{form_law, insert_law};
+use sketch_member::{Fault, MemberTable, TableView, in_place};
 use std::alloc::{AllocError, Global};
 
 /// The table of the keys seen so far, from the bytes that were saved; a new one, of 1024 bits with
@@ -37,6 +38,21 @@ pub fn see_key(seen: &mut MemberTable, key: &[u8]) -> bool
     let is_seen = seen.contains(&value);
     seen.insert(&value);
     is_seen
+}
+
+/// The same in the bytes of a table, where they lie, as in a file that is mapped. It takes no
+/// memory, and leaves bytes that are no table as they are.
+pub fn see_key_in(bytes: &mut [u8], key: &[u8]) -> Result<bool, Fault>
+    ensures { MatchResult result
+        (λ is_seen. Becomes (λ before after. (IsTrue is_seen ↔ IsMember before key.now)
+        × Inserts key.now before after) bytes.old bytes.new)
+        (λ _. bytes.new ≡ bytes.old) }
+{
+    form_law();
+    let value = raw_bytes::from_slice(key);
+    let is_seen = TableView::new(bytes)?.contains(&value);
+    in_place::insert(bytes, &value)?;
+    Ok(is_seen)
 }
 
 /// Loads the keys seen, sees one more, and answers whether it was seen, with the bytes to be saved.

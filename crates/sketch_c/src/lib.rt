@@ -1,15 +1,21 @@
-//! The library `sketch_hash` for C: the hashers, as calls that C and what calls C can make.
+//! The library `sketch_hash` for C: the hashers and the table of members, as calls that C and what
+//! calls C can make.
 //!
-//! A state stands in the caller's memory. Every content of a state is safe, nothing allocates and
-//! nothing fails, so no call asks for more than its types say.
+//! A state and a table stand in the caller's memory. Every content of either is safe and nothing
+//! allocates, so no call asks for more than its types say.
 #![tactic(auto)]
 
+mod member;
 mod murmur;
 #[cfg(test)]
 mod tests;
 mod version;
 mod xxh64;
 
+pub use self::member::{
+    sketch_member_check, sketch_member_contains, sketch_member_count, sketch_member_init,
+    sketch_member_insert, sketch_member_merge, sketch_member_size,
+};
 pub use self::murmur::{
     Murmur128, sketch_murmur3_x64_128, sketch_murmur3_x64_128_digest, sketch_murmur3_x64_128_reset,
     sketch_murmur3_x64_128_update,

@@ -5,7 +5,10 @@ use Rattle.std.proofs.lemmas.List.{get_or-set_same, get_or-set_other, get_or-rep
 use Rattle.std.proofs.lemmas.Nat.{or_of_8}
 use Rattle.std.proofs.lemmas.Nat.Bits.{bit_at-lt, bit_at_or, bit_at_set_same, bit_at_set_other}
 use Rattle.std.proofs.lemmas.Bool.{cases_eq, cases_lt}
-use Rattle.sketch_member.specs.Table.{IsSet}
+use Rattle.datasketches.specs.Words.{IsWord}
+use Rattle.sketch_member.proofs.SizeLemmas.{whole_bytes}
+use Rattle.sketch_member.specs.Limits.{IsHashes, IsLog2Bits}
+use Rattle.sketch_member.specs.Table.{IsSet, IsTable, byte_count, empty_table}
 
 -- the byte of place i with its bit set
 abbrev byte_with : List ℕ → ℕ → ℕ
@@ -69,6 +72,21 @@ zeros-get n k =
       | inl within ↦ get_or-replicate n k 0 0 within
       | inr past ↦ get_or_past zeros k 0 (omega (arith, count))
     ]
+
+-- a table of no bits and no inserts is one
+pub empty_is_table : (seed log2_bits hashes : ℕ) → IsWord seed → IsLog2Bits log2_bits → IsHashes hashes →
+    IsTable (empty_table seed log2_bits hashes)
+empty_is_table seed log2_bits hashes word is_log2 is_hashes =
+    let n = byte_count log2_bits in
+    let count : length (replicate {A = ℕ} n 0) ≡ n = length-replicate n 0 in
+    record {
+      seed = word;
+      log2_bits = is_log2;
+      hashes = is_hashes;
+      count = omega arith;
+      bits = ap (λ k. k * 8) count ∙ whole_bytes log2_bits (omega (arith, is_log2.0));
+      bytes = λ k. rw (zeros-get n k) (omega arith);
+    }
 
 -- the greater of two digits is 1 exactly if one of them is
 max_of_digits : (a b : ℕ) → a < 2 → b < 2 → (max a b ≡ 1) ↔ ((a ≡ 1) ⊎ (b ≡ 1))

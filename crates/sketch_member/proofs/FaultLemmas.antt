@@ -1,11 +1,9 @@
 -- Steps of a reading, and the answers that come of them.
-use Rattle.std.proofs.Common.{◌≡◌, ◌⊎◌, ℕ, ◌-◌, ◌*◌, ◌<◌, ◌≤◌, List, [], ◌∷◌, ◌++◌, length, slice_index, arith, Result, Ok, Err, IsErrAnd, MatchResult, inl, inr, refl, subst, sym}
-use Rattle.datasketches.specs.declared.error.ErrorKind.{ErrorKind}
-use Rattle.datasketches.specs.declared.error.ErrorKind.TheVariants.{InvalidData}
-use Rattle.datasketches.specs.ErrorValue.{ErrorValue, memory_error}
-use Rattle.datasketches.specs.Refusals.{Refuses}
-use Rattle.sketch_member.specs.Table.{byte_count}
-use Rattle.sketch_member.specs.Faults.{Step, Fails, AllPass, FirstFault, steps, kind_steps, size_steps, number_steps, bits_steps, header, missing_bits_text, trailing_bytes_text}
+use Rattle.std.proofs.Common.{◌≡◌, ◌<◌, ◌≤◌, ℕ, ◌-◌, List, [], ◌∷◌, ◌++◌, length, arith, Result, Ok, Err, IsErrAnd, MatchResult, inl, inr, refl, subst, sym}
+use Rattle.std.specs.Prelude.{Contains}
+use Rattle.sketch_member.specs.declared.fault.Fault.{Fault}
+use Rattle.sketch_member.specs.Faults.{Step, AllPass, Fails, IsFirstFault, flag_step, header_steps, kind_steps, number_steps, size_steps}
+use Rattle.sketch_member.specs.Limits.{IsHashes, IsLog2Bits}
 
 -- what holds of its error holds of an Err
 pub of_err : {X E : Type 0} (r : Result X E) (A : X → Type 0) (P : E → Type 0) (e : E) →
@@ -13,119 +11,92 @@ pub of_err : {X E : Type 0} (r : Result X E) (A : X → Type 0) (P : E → Type 
 of_err (Ok x) A P e is holds = absurd is
 of_err (Err x) A P e is holds = subst P (sym is) holds
 
--- a check of a number that was read refuses: so its step fails
-pub check_fails : (count needs : ℕ) (Holds : ℕ → Type 0) (message : ℕ → List ℕ) (x y : ℕ)
-    (error : ErrorValue) → needs ≤ count → x ≡ y →
-    (Holds x → ⊥) × Refuses InvalidData (message x) error →
-    Fails count (record { needs = needs; Holds = Holds y; message = message y }) error
-check_fails count needs Holds message x y error there same refused =
-    let P : ℕ → Type 0 = λ z. (Holds z → ⊥) × Refuses InvalidData (message z) error in
-    let at_y = subst P same refused in
-    inr (there, at_y.0, at_y.1)
-
--- a wrong count of the bits' bytes is the fault of its step
-pub bits_fault : (bytes : List ℕ) (header need : ℕ) (error : ErrorValue) → header ≤ length bytes →
-    ((length bytes - header < need)
-    × Refuses InvalidData (missing_bits_text need (length bytes - header)) error)
-    ⊎ ((need < length bytes - header)
-    × Refuses InvalidData (trailing_bytes_text (length bytes - header - need)) error) →
-    FirstFault (length bytes) (bits_steps bytes header need) error
-bits_fault bytes header need error there told = elim told [
-  | inl few ↦ inl (inr (there, (λ enough. below_not _ _ few.0 enough), few.1))
-  | inr many ↦
-      inr (
-        (there, omega (arith, many.0)),
-        inl (inr (there, (λ enough. below_not _ _ many.0 enough), many.1)),
-      )
-]
-  where
-    below_not : (m n : ℕ) → m < n → n ≤ m → ⊥
-    below_not m n l h = omega arith
-
--- want of memory is a refusal's answer too
-pub memory_refuses : (kind : ErrorKind) (text : List ℕ) → Refuses kind text memory_error
-unfolding Refuses
-memory_refuses kind text = inr refl
-
 -- a fault of the first steps is that of all; so is one of the others where the first pass
-fault-front : (count : ℕ) (front others : List Step) (error : ErrorValue) →
-    FirstFault count front error → FirstFault count (front ++ others) error
-fault-front count [] others error fault = absurd fault
-fault-front count (step ∷ front) others error fault = elim fault [
+pub fault-front : (count : ℕ) (front others : List Step) (fault : Fault) →
+    IsFirstFault count front fault → IsFirstFault count (front ++ others) fault
+fault-front count [] others fault first = absurd first
+fault-front count (step ∷ front) others fault first = elim first [
   | inl here ↦ inl here
-  | inr later ↦ inr (later.0, fault-front count front others error later.1)
+  | inr later ↦ inr (later.0, fault-front count front others fault later.1)
 ]
 
-fault-later : (count : ℕ) (front others : List Step) (error : ErrorValue) →
-    AllPass count front → FirstFault count others error → FirstFault count (front ++ others) error
-fault-later count [] others error pass fault = fault
-fault-later count (step ∷ front) others error pass fault =
-    inr (pass.0, fault-later count front others error pass.1 fault)
+pub fault-later : (count : ℕ) (front others : List Step) (fault : Fault) →
+    AllPass count front → IsFirstFault count others fault → IsFirstFault count (front ++ others) fault
+fault-later count [] others fault pass first = first
+fault-later count (step ∷ front) others fault pass first =
+    inr (pass.0, fault-later count front others fault pass.1 first)
 
-all_pass-append : (count : ℕ) (front others : List Step) →
+pub all_pass-append : (count : ℕ) (front others : List Step) →
     AllPass count front → AllPass count others → AllPass count (front ++ others)
 all_pass-append count [] others pass more = more
 all_pass-append count (step ∷ front) others pass more =
     (pass.0, all_pass-append count front others pass.1 more)
 
--- ---- the parts of the reading, in order
+-- a fault of the sizes is the first of a header whose kind is right
+pub size_fault : (bytes : List ℕ) (longs : ℕ) (rest : List ℕ) (fault : Fault) →
+    Contains (2 ∷ 3 ∷ []) longs → bytes ≡ longs ∷ (longs - 1) ∷ 200 ∷ rest →
+    ((a b c : ℕ) → let bytes = a ∷ b ∷ c ∷ rest in
+    IsFirstFault (length bytes) (size_steps bytes) fault) →
+    IsFirstFault (length bytes) (header_steps bytes) fault
+size_fault bytes longs rest fault version whole told =
+    let whole_bytes = longs ∷ (longs - 1) ∷ 200 ∷ rest in
+    subst (λ b. IsFirstFault (length b) (header_steps b) fault) (sym whole)
+    (inr (
+      (omega arith, version),
+      inr (
+        (omega arith, refl),
+        inr (
+          (omega arith, refl),
+          fault-front (length whole_bytes) (size_steps whole_bytes) (number_steps whole_bytes) fault
+              (told longs (longs - 1) 200),
+        ),
+      ),
+    ))
 
-bits_on : List ℕ → List Step
-bits_on bytes = bits_steps bytes (header bytes) (byte_count (slice_index bytes 3))
+-- so is one of the flag where the sizes are right too
+pub flag_fault : (bytes : List ℕ) (longs log2_bits hashes : ℕ) (rest : List ℕ) (fault : Fault) →
+    Contains (2 ∷ 3 ∷ []) longs → IsLog2Bits log2_bits → IsHashes hashes →
+    bytes ≡ longs ∷ (longs - 1) ∷ 200 ∷ log2_bits ∷ hashes ∷ rest →
+    ((a b c d : ℕ) → let bytes = longs ∷ a ∷ b ∷ c ∷ d ∷ rest in
+    Fails (length bytes) (flag_step bytes) fault) →
+    IsFirstFault (length bytes) (header_steps bytes) fault
+flag_fault bytes longs log2_bits hashes rest fault version is_log2 is_hashes whole told =
+    subst (λ b. IsFirstFault (length b) (header_steps b) fault) (sym whole)
+    (inr (
+      (omega arith, version),
+      inr (
+        (omega arith, refl),
+        inr (
+          (omega arith, refl),
+          inr (
+            (omega arith, is_log2),
+            inr (
+              (omega arith, is_hashes),
+              inl (told (longs - 1) 200 log2_bits hashes),
+            ),
+          ),
+        ),
+      ),
+    ))
 
-size_on : List ℕ → List Step
-size_on bytes = size_steps bytes ++ (number_steps bytes ++ bits_on bytes)
-
-pub kind_fault : (bytes : List ℕ) (error : ErrorValue) →
-    FirstFault (length bytes) (kind_steps bytes) error → FirstFault (length bytes) (steps bytes) error
-unfolding size_on bits_on
-kind_fault bytes error fault =
-    fault-front (length bytes) (kind_steps bytes) (size_on bytes) error fault
-
-pub size_fault : (bytes : List ℕ) (error : ErrorValue) → AllPass (length bytes) (kind_steps bytes) →
-    FirstFault (length bytes) (size_steps bytes) error → FirstFault (length bytes) (steps bytes) error
-unfolding size_on bits_on
-size_fault bytes error kind fault =
-    fault-later (length bytes) (kind_steps bytes) (size_on bytes) error kind
-    (fault-front (length bytes) (size_steps bytes) (number_steps bytes ++ bits_on bytes) error fault)
-
-pub number_fault : (bytes : List ℕ) (error : ErrorValue) → AllPass (length bytes) (kind_steps bytes) →
-    AllPass (length bytes) (size_steps bytes) →
-    FirstFault (length bytes) (number_steps bytes) error →
-    FirstFault (length bytes) (steps bytes) error
-unfolding size_on bits_on
-number_fault bytes error kind size fault =
-    let count = length bytes in
-    fault-later count (kind_steps bytes) (size_on bytes) error kind
-    (fault-later count (size_steps bytes) (number_steps bytes ++ bits_on bytes) error size
-    (fault-front count (number_steps bytes) (bits_on bytes) error fault))
-
-pub all_pass : (bytes : List ℕ) → AllPass (length bytes) (kind_steps bytes) →
+pub header_pass : (bytes : List ℕ) → AllPass (length bytes) (kind_steps bytes) →
     AllPass (length bytes) (size_steps bytes) → AllPass (length bytes) (number_steps bytes) →
-    AllPass (length bytes) (bits_steps bytes (header bytes) (byte_count (slice_index bytes 3))) →
-    AllPass (length bytes) (steps bytes)
-unfolding size_on bits_on
-all_pass bytes kind size numbers bits =
-    let count = length bytes in
-    all_pass-append count (kind_steps bytes) (size_on bytes) kind
-    (all_pass-append count (size_steps bytes) (number_steps bytes ++ bits_on bytes) size
-    (all_pass-append count (number_steps bytes) (bits_on bytes) numbers bits))
+    AllPass (length bytes) (header_steps bytes)
+header_pass bytes kind size numbers =
+    all_pass-append (length bytes) (kind_steps bytes) (size_steps bytes ++ number_steps bytes) kind
+    (all_pass-append (length bytes) (size_steps bytes) (number_steps bytes) size numbers)
 
-pub bits_refused : (bytes : List ℕ) (error : ErrorValue) → AllPass (length bytes) (kind_steps bytes) →
-    AllPass (length bytes) (size_steps bytes) → AllPass (length bytes) (number_steps bytes) →
-    (longs log2_bits : ℕ) → longs ≡ slice_index bytes 0 → log2_bits ≡ slice_index bytes 3 →
-    FirstFault (length bytes) (bits_steps bytes (8 * longs) (byte_count log2_bits)) error
-    ⊎ (AllPass (length bytes) (bits_steps bytes (8 * longs) (byte_count log2_bits))
-    × (error ≡ memory_error)) →
-    FirstFault (length bytes) (steps bytes) error
-    ⊎ (AllPass (length bytes) (steps bytes) × (error ≡ memory_error))
-unfolding size_on bits_on
-bits_refused bytes error kind size numbers longs log2_bits same_longs same_log2 refused =
-    let count = length bytes in
-    elim (rw (same_longs, same_log2) at refused) [
-      | inl fault ↦
-          inl (fault-later count (kind_steps bytes) (size_on bytes) error kind
-          (fault-later count (size_steps bytes) (number_steps bytes ++ bits_on bytes) error size
-          (fault-later count (number_steps bytes) (bits_on bytes) error numbers fault)))
-      | inr memory ↦ inr (all_pass bytes kind size numbers memory.0, memory.1)
-    ]
+-- where all pass, none fails
+pub no_fault : (count : ℕ) (steps : List Step) (fault : Fault) → AllPass count steps →
+    IsFirstFault count steps fault → ⊥
+no_fault count [] fault pass first = first
+no_fault count (step ∷ steps) fault pass first = elim first [
+  | inl here ↦ elim here [
+    | inl few ↦ less _ _ few.0 pass.0.0
+    | inr wrong ↦ wrong.1 pass.0.1
+  ]
+  | inr later ↦ no_fault count steps fault pass.1 later.1
+]
+  where
+    less : (m n : ℕ) → m < n → n ≤ m → ⊥
+    less m n l h = omega arith

@@ -1,18 +1,20 @@
 -- Bytes that pass all steps of the reading are the form of a table.
-use Rattle.std.proofs.Common.{◌≡◌, ◌⊎◌, ℕ, ◌+◌, ◌-◌, ◌*◌, ◌<◌, ◌≤◌, List, [], ◌∷◌, ◌++◌, length, get_or, take, drop, refl, sym, ap, subst, ◌∙◌, inl, inr, arith, length-take-le, length-drop, Fits, w8}
+use Rattle.std.proofs.Common.{◌≡◌, ◌⊎◌, ℕ, ◌+◌, ◌-◌, ◌*◌, ◌<◌, ◌≤◌, List, [], ◌∷◌, ◌++◌, length, get_or, take, drop, refl, sym, ap, ◌∙◌, inl, inr, arith, length-take-le, length-drop, Fits, w8}
 use Rattle.std.specs.Prelude.{Contains, Option, None, Some, IfSome}
-use Rattle.std.proofs.Math.Seq.{drop-cons}
 use Rattle.std.proofs.lemmas.List.{take-append-drop, drop-drop, get_or-drop}
 use Rattle.std.proofs.lemmas.List.Elements.{All-from_get_or, All-take, All-drop, Contains-push_cases}
 use Rattle.datasketches.specs.Bytes.{AreBytes, le, eight}
 use Rattle.datasketches.proofs.BytesLemmas.{le-lt, low_bytes-le}
-use Rattle.sketch_member.specs.Faults.{AllPass, steps, kind_steps, size_steps, number_steps, bits_steps, count_number, header}
+use Rattle.sketch_member.specs.declared.fault.Fault.{Fault}
+use Rattle.sketch_member.specs.declared.fault.Fault.TheVariants.{MissingBits, TrailingBytes}
+use Rattle.sketch_member.specs.Faults.{IsFirstFault, IsFlag, bits_steps, header, header_steps, steps}
 use Rattle.sketch_member.specs.Limits.{IsHashes, IsLog2Bits}
 use Rattle.sketch_member.specs.Table.{Table, IsTable, byte_count}
-use Rattle.sketch_member.proofs.FaultLemmas.{all_pass}
 use Rattle.sketch_member.proofs.SizeLemmas.{whole_bytes}
 use Rattle.datasketches.specs.Words.{IsWord}
-use Rattle.sketch_member.specs.Form.{IsForm, flag_of, number_of}
+use Rattle.sketch_member.specs.Form.{IsForm, flag_of, form1, form2, number_of}
+use Rattle.sketch_member.proofs.FaultLemmas.{fault-later}
+use Rattle.sketch_member.proofs.LawLemmas.{header_passes}
 
 -- one of the two numbers of a list
 either : (m n x : ℕ) → Contains (m ∷ n ∷ []) x → (x ≡ m) ⊎ (x ≡ n)
@@ -57,119 +59,130 @@ eight_split bytes place are there =
     ∙ ap (λ front. front ++ drop 8 (drop place bytes)) (sym (eight_back bytes place are there))
     ∙ ap (λ rest. eight (le (take 8 (drop place bytes))) ++ rest) (drop-drop 8 place bytes)
 
--- bytes that have a header of version 1 at least, by their places
-front_of : (bytes : List ℕ) → AreBytes bytes → 16 ≤ length bytes →
-    bytes ≡ get_or bytes 0 0 ∷ get_or bytes 1 0 ∷ get_or bytes 2 0 ∷ get_or bytes 3 0
-    ∷ get_or bytes 4 0 ∷ get_or bytes 5 0 ∷ get_or bytes 6 0 ∷ get_or bytes 7 0
-    ∷ eight (le (take 8 (drop 8 bytes))) ++ drop 16 bytes
-front_of bytes are there =
-    let e0 = drop-cons bytes 0 0 (omega (arith, there)) in
-    let e1 = drop-cons bytes 1 0 (omega (arith, there)) in
-    let e2 = drop-cons bytes 2 0 (omega (arith, there)) in
-    let e3 = drop-cons bytes 3 0 (omega (arith, there)) in
-    let e4 = drop-cons bytes 4 0 (omega (arith, there)) in
-    let e5 = drop-cons bytes 5 0 (omega (arith, there)) in
-    let e6 = drop-cons bytes 6 0 (omega (arith, there)) in
-    let e7 = drop-cons bytes 7 0 (omega (arith, there)) in
-    let e8 = eight_split bytes 8 are there in
-    cc
+-- the bytes of a header that was read, by its parts
+abbrev header_bytes : (longs log2_bits hashes flag : ℕ) → List ℕ → List ℕ
+header_bytes longs log2_bits hashes flag rest =
+    longs ∷ (longs - 1) ∷ 200 ∷ log2_bits ∷ hashes ∷ flag ∷ 0 ∷ 0 ∷ rest
 
--- under two preamble longs the bytes are a table of version 1, under three one of version 2
-form_of : (bytes : List ℕ) (table : Table) → AreBytes bytes → AllPass (length bytes) (steps bytes) →
-    table.seed ≡ le (take 8 (drop 8 bytes)) → table.log2_bits ≡ get_or bytes 3 0 →
-    table.hashes ≡ get_or bytes 4 0 → flag_of table.count ≡ get_or bytes 5 0 →
-    number_of table.count ≡ count_number bytes → table.bits ≡ drop (header bytes) bytes →
-    IsForm table bytes
-form_of bytes table are pass seed log2_bits hashes flag_is number_is bits =
-    let numbers = pass.1.1.1.1.1 in
-    let there : 16 ≤ length bytes = numbers.1.0.0 in
-    let whole : 8 * get_or bytes 0 0 ≤ length bytes = numbers.1.1.0.0 in
-    let front = front_of bytes are there in
-    let version : get_or bytes 1 0 ≡ get_or bytes 0 0 - 1 = pass.1.0.1 in
-    let family : get_or bytes 2 0 ≡ 200 = pass.1.1.0.1 in
-    let sixth : get_or bytes 6 0 ≡ 0 = numbers.0.1.1 in
-    let seventh : get_or bytes 7 0 ≡ 0 = numbers.0.1.2 in
-    elim (either 2 3 (get_or bytes 0 0) pass.0.1) [
-      | inl two ↦
-          let fifth : get_or bytes 5 0 ≡ 0 = elim numbers.0.1.0 [
-            | inl zero ↦ zero
-            | inr one ↦ absurd (apart _ two one.0)
-          ] in
-          let one : get_or bytes 1 0 ≡ 1 = version ∙ ap (λ n. n - 1) two in
-          let behind : table.bits ≡ drop 16 bytes = bits ∙ ap (λ n. drop (8 * n) bytes) two in
-          inl (none table.count (flag_is ∙ fifth), cc)
-      | inr three ↦
-          let two : get_or bytes 1 0 ≡ 2 = version ∙ ap (λ n. n - 1) three in
-          let behind : table.bits ≡ drop 24 bytes = bits ∙ ap (λ n. drop (8 * n) bytes) three in
-          let long : 24 ≤ length bytes = omega (arith, three, whole) in
-          let counted : number_of table.count ≡ le (take 8 (drop 16 bytes)) =
-          number_is ∙ ap (λ n. le (take (8 * n - 16) (drop 16 bytes))) three in
-          let split = eight_split bytes 16 are long in
-          inr cc
-    ]
-  where
-    apart : (n : ℕ) → n ≡ 2 → n ≡ 3 → ⊥
-    apart n e f = omega (arith, e, f)
-
-    none : (count : Option ℕ) → flag_of count ≡ 0 → count ≡ None
-    none None e = refl
-    none (Some n) e = absurd (different e)
-      where
-        different : ◌≡◌ {A = ℕ} 1 0 → ⊥
-        different h = omega (arith, h)
-
--- the count is a word
-count_word : (bytes : List ℕ) (count : Option ℕ) → AreBytes bytes →
-    AllPass (length bytes) (steps bytes) → number_of count ≡ count_number bytes → IfSome count IsWord
-count_word bytes None are pass is = tt
-count_word bytes (Some n) are pass is =
-    elim (either 2 3 (get_or bytes 0 0) pass.0.1) [
-      | inl two ↦
-          let zero : n ≡ 0 = is ∙ ap (λ n. le (take (8 * n - 16) (drop 16 bytes))) two in
-          omega (arith, zero)
-      | inr three ↦
-          let whole : 8 * get_or bytes 0 0 ≤ length bytes = pass.1.1.1.1.1.1.1.0.0 in
-          let counted : n ≡ le (take 8 (drop 16 bytes)) =
-          is ∙ ap (λ n. le (take (8 * n - 16) (drop 16 bytes))) three in
-          subst IsWord (sym counted) (eight_word bytes 16 are (omega (arith, three, whole)))
-    ]
-
--- what the parts of the reading give is the table that the bytes are
-pub table_read : (bytes : List ℕ) → ((k : ℕ) → Fits w8 (get_or bytes k 0)) →
-    (longs seed log2_bits hashes : ℕ) (count : Option ℕ) (bits : List ℕ) →
-    AllPass (length bytes) (kind_steps bytes) → AllPass (length bytes) (size_steps bytes) →
-    AllPass (length bytes) (number_steps bytes) →
-    AllPass (length bytes) (bits_steps bytes (8 * longs) (byte_count log2_bits)) →
-    longs ≡ get_or bytes 0 0 → seed ≡ le (take 8 (drop 8 bytes)) →
-    log2_bits ≡ get_or bytes 3 0 → hashes ≡ get_or bytes 4 0 →
-    flag_of count ≡ get_or bytes 5 0 → number_of count ≡ count_number bytes →
-    bits ≡ drop (8 * longs) bytes →
+-- they are the form of a table
+pub header_form : (longs seed log2_bits hashes flag : ℕ) (count : Option ℕ) (bytes rest : List ℕ) →
+    bytes ≡ header_bytes longs log2_bits hashes flag rest → Contains (2 ∷ 3 ∷ []) longs →
+    IsFlag longs flag → 8 ≤ length rest → seed ≡ le (take 8 rest) →
+    8 * longs - 16 ≤ length (drop 8 rest) → flag_of count ≡ flag →
+    number_of count ≡ le (take (8 * longs - 16) (drop 8 rest)) → AreBytes bytes →
     let table : Table = record {
       seed = seed;
       log2_bits = log2_bits;
       hashes = hashes;
       count = count;
-      bits = bits;
+      bits = drop (8 * longs - 16) (drop 8 rest);
     } in
-    IsTable table × IsForm table bytes
-table_read bytes fit longs seed log2_bits hashes count bits kind size numbers rest is_longs is_seed
-    is_log2 is_hashes is_flag is_number is_bits =
-    let are = All-from_get_or (λ b. b < 256) bytes 0 (λ i l. (fit i).fits) in
-    let pass = all_pass bytes kind size numbers (rw (is_longs, is_log2) at rest) in
-    let within = subst IsLog2Bits (sym is_log2) size.0.1 in
-    let length_bits : length bits ≡ byte_count log2_bits =
-    ap length is_bits ∙ length-drop (8 * longs) bytes ∙ between _ _ rest.0.1 rest.1.0.1 in (
-      record {
-        seed = rw is_seed (eight_word bytes 8 are numbers.1.0.0);
-        log2_bits = within;
-        hashes = subst IsHashes (sym is_hashes) size.1.0.1;
-        count = count_word bytes count are pass is_number;
-        bits = ap (λ n. n * 8) length_bits ∙ whole_bytes log2_bits (omega (arith, within.0));
-        bytes = λ k. rw (is_bits, get_or-drop (8 * longs) bytes k 0) (fit (8 * longs + k)).fits;
-      },
-      form_of bytes _ are pass is_seed is_log2 is_hashes is_flag is_number
-          (is_bits ∙ ap (λ n. drop (8 * n) bytes) is_longs),
-    )
+    IsForm table bytes
+header_form longs seed log2_bits hashes flag count bytes rest whole version is_flag there is_seed
+    more known number all_are =
+    let are : AreBytes rest =
+    All-drop (λ b. b < 256) 8 (header_bytes longs log2_bits hashes flag rest) (rw whole at all_are) in
+    let front = eight_split rest 0 are there in
+    elim (either 2 3 longs version) [
+      | inl two ↦
+          let zero : flag ≡ 0 = elim is_flag [
+            | inl zero ↦ zero
+            | inr one ↦ absurd (omega (arith, two, one.0))
+          ] in
+          let one : longs - 1 ≡ 1 = ap (λ n. n - 1) two in
+          let behind : drop (8 * longs - 16) (drop 8 rest) ≡ drop 8 rest =
+          ap (λ n. drop (8 * n - 16) (drop 8 rest)) two in
+          inl (none count (known ∙ zero), cc)
+      | inr three ↦
+          let long : 8 + 8 ≤ length rest = omega (arith, length-drop 8 rest, three, more) in
+          let back = eight_split rest 8 are long in
+          let two : longs - 1 ≡ 2 = ap (λ n. n - 1) three in
+          let behind : drop (8 * longs - 16) (drop 8 rest) ≡ drop 16 rest =
+          ap (λ n. drop (8 * n - 16) (drop 8 rest)) three ∙ drop-drop 8 8 rest in
+          let counted : number_of count ≡ le (take 8 (drop 8 rest)) =
+          number ∙ ap (λ n. le (take (8 * n - 16) (drop 8 rest))) three in
+          inr cc
+    ]
   where
-    between : (m n : ℕ) → m ≤ n → n ≤ m → n ≡ m
-    between m n l h = omega arith
+    none : (count : Option ℕ) → flag_of count ≡ 0 → count ≡ None
+    none None zero = refl
+    none (Some n) one = cc
+
+-- where the bits of a table stand in its bytes
+form_bits : (table : Table) (bytes : List ℕ) → IsForm table bytes →
+    (header bytes + length table.bits ≡ length bytes)
+    × (get_or bytes 3 0 ≡ table.log2_bits)
+    × (drop (length bytes - length table.bits) bytes ≡ table.bits)
+form_bits table bytes form = elim form [
+  | inl first ↦
+      let same : length bytes ≡ length (form1 table) = ap length first.1 in
+      let count : length bytes ≡ 16 + length table.bits = omega (arith, same) in
+      let start : length bytes - length table.bits ≡ 16 = omega (arith, count) in (
+        ap (λ b. header b + length table.bits) first.1 ∙ sym count,
+        ap (λ b. get_or b 3 0) first.1,
+        ap (λ n. drop n bytes) start ∙ ap (drop 16) first.1,
+      )
+  | inr second ↦
+      let same : length bytes ≡ length (form2 table) = ap length second in
+      let count : length bytes ≡ 24 + length table.bits = omega (arith, same) in
+      let start : length bytes - length table.bits ≡ 24 = omega (arith, count) in (
+        ap (λ b. header b + length table.bits) second ∙ sym count,
+        ap (λ b. get_or b 3 0) second,
+        ap (λ n. drop n bytes) start ∙ ap (drop 24) second,
+      )
+]
+
+-- with the bytes behind its header for its bits, and as many of them as it needs, a header is a
+-- table, whose form the bytes are
+pub table_read : (table : Table) (bytes bits : List ℕ) → ((k : ℕ) → Fits w8 (get_or bytes k 0)) →
+    IsWord table.seed → IsLog2Bits table.log2_bits → IsHashes table.hashes →
+    IfSome table.count IsWord → (AreBytes bytes → IsForm table bytes) →
+    bits ≡ drop (length bytes - length table.bits) bytes →
+    length bits ≡ byte_count table.log2_bits →
+    IsTable (record table { bits = bits }) × IsForm (record table { bits = bits }) bytes
+table_read table bytes bits fit seed log2_bits hashes count form is_bits need =
+    let is = form (All-from_get_or (λ b. b < 256) bytes 0 (λ i l. (fit i).fits)) in
+    let start = length bytes - length table.bits in
+    let same : bits ≡ table.bits = is_bits ∙ (form_bits table bytes is).2 in (
+      record {
+        seed = seed;
+        log2_bits = log2_bits;
+        hashes = hashes;
+        count = count;
+        bits = ap (λ n. n * 8) need ∙ whole_bytes table.log2_bits (omega (arith, log2_bits.0));
+        bytes = λ k. rw (is_bits, get_or-drop start bytes k 0) (fit (start + k)).fits;
+      },
+      rw same is,
+    )
+
+-- with fewer or more, it is the fault of their step
+pub bits_fault : (table : Table) (bytes : List ℕ) (fault : Fault) →
+    ((k : ℕ) → Fits w8 (get_or bytes k 0)) → IsLog2Bits table.log2_bits → IsHashes table.hashes →
+    IfSome table.count IsWord → (AreBytes bytes → IsForm table bytes) →
+    let need = byte_count table.log2_bits in
+    let have = length (drop (length bytes - length table.bits) bytes) in
+    ((have < need) × (fault ≡ MissingBits need have))
+    ⊎ ((need < have) × (fault ≡ TrailingBytes (have - need))) →
+    IsFirstFault (length bytes) (steps bytes) fault
+bits_fault table bytes fault fit log2_bits hashes count form told =
+    let is = form (All-from_get_or (λ b. b < 256) bytes 0 (λ i l. (fit i).fits)) in
+    let places = form_bits table bytes is in
+    let rest = length bytes - header bytes in
+    let have : length (drop (length bytes - length table.bits) bytes) ≡ rest =
+    ap length places.2 ∙ omega (arith, places.0) in
+    let need : byte_count table.log2_bits ≡ byte_count (get_or bytes 3 0) =
+    ap byte_count (sym places.1) in
+    let there : header bytes ≤ length bytes = omega (arith, places.0) in
+    fault-later (length bytes) (header_steps bytes)
+    (bits_steps bytes (header bytes) (byte_count (get_or bytes 3 0))) fault
+    (header_passes table bytes log2_bits hashes count is) (elim (rw (have, need) at told) [
+      | inl few ↦ inl (inr (there, (λ enough. below_not _ _ few.0 enough), few.1))
+      | inr many ↦
+          inr (
+            (there, omega (arith, many.0)),
+            inl (inr (there, (λ enough. below_not _ _ many.0 enough), many.1)),
+          )
+    ])
+  where
+    below_not : (m n : ℕ) → m < n → n ≤ m → ⊥
+    below_not m n l h = omega arith

@@ -1,13 +1,14 @@
 -- The law of tables and their bytes.
-use Rattle.std.proofs.Common.{◌≡◌, ℕ, ◌%◌, ◌^◌, ◌<◌, List, length, get_or, take, drop, refl, sym, ap, subst, ◌∙◌, arith, inl, inr}
+use Rattle.std.proofs.Common.{◌≡◌, ℕ, ◌%◌, ◌^◌, ◌<◌, List, [], ◌∷◌, length, get_or, take, drop, refl, sym, ap, subst, ◌∙◌, arith, inl, inr}
 use Rattle.std.specs.Prelude.{Option, None, Some, IfSome}
 use Rattle.datasketches.specs.Bytes.{le, eight}
 use Rattle.datasketches.specs.Words.{IsWord}
 use Rattle.datasketches.proofs.BytesLemmas.{le-low_bytes}
-use Rattle.sketch_member.proofs.FaultLemmas.{all_pass}
-use Rattle.sketch_member.specs.Faults.{AllPass, IsFlag, count_number, header, steps}
+use Rattle.sketch_member.proofs.FaultLemmas.{all_pass-append, header_pass}
+use Rattle.sketch_member.specs.Faults.{AllPass, IsFlag, bits_steps, count_number, header, header_steps, steps, version_step, view_steps}
 use Rattle.sketch_member.specs.Form.{IsForm, flag_of, form1, form2, number_of}
 use Rattle.sketch_member.specs.Laws.{FormLaw}
+use Rattle.sketch_member.specs.Limits.{IsHashes, IsLog2Bits}
 use Rattle.sketch_member.specs.Table.{Table, IsTable, byte_count}
 
 -- a word is the number of its eight bytes
@@ -33,37 +34,53 @@ unknown_zero (Some n) e = absurd (different e)
     different : ◌≡◌ {A = ℕ} 1 0 → ⊥
     different h = omega (arith, h)
 
--- the bytes of a table pass
-passes1 : (table : Table) → IsTable table → AllPass (length (form1 table)) (steps (form1 table))
-passes1 table is =
-    let full : byte_count table.log2_bits ≡ length table.bits = omega (arith, is.bits) in
-    all_pass (form1 table)
-    ((omega arith, (0, omega arith, refl)), ((omega arith, refl), ((omega arith, refl), tt)))
-    ((omega arith, is.log2_bits), ((omega arith, is.hashes), tt))
-    ((omega arith, (inl refl, refl, refl)), ((omega arith, tt), ((omega arith, (λ _. refl)), tt)))
-    ((omega arith, omega (arith, full)), ((omega arith, omega (arith, full)), tt))
+-- the bytes of a table pass, first the steps of the header
+pub header_passes : (table : Table) (bytes : List ℕ) → IsLog2Bits table.log2_bits →
+    IsHashes table.hashes → IfSome table.count IsWord → IsForm table bytes →
+    AllPass (length bytes) (header_steps bytes)
+header_passes table bytes log2_bits hashes count form =
+    let P : List ℕ → Type 0 = λ b. AllPass (length b) (header_steps b) in
+    elim form [
+      | inl first ↦ subst P (sym first.1) (header_pass (form1 table)
+          ((omega arith, (0, omega arith, refl)), ((omega arith, refl), ((omega arith, refl), tt)))
+          ((omega arith, log2_bits), ((omega arith, hashes), tt))
+          ((omega arith, (inl refl, refl, refl)), ((omega arith, tt), ((omega arith, (λ _. refl)), tt))))
+      | inr second ↦
+          let back = word_back (number_of table.count) (number_word table.count count) in
+          let zero : flag_of table.count ≡ 0 → le (eight (number_of table.count)) ≡ 0 =
+          λ zero. back ∙ unknown_zero table.count zero in
+          subst P (sym second) (header_pass (form2 table)
+          ((omega arith, (1, omega arith, refl)), ((omega arith, refl), ((omega arith, refl), tt)))
+          ((omega arith, log2_bits), ((omega arith, hashes), tt))
+          ((omega arith, (flag_is table.count, refl, refl)), ((omega arith, tt), ((omega arith, zero), tt))))
+    ]
 
-passes2 : (table : Table) → IsTable table → AllPass (length (form2 table)) (steps (form2 table))
-passes2 table is =
+bits_pass : (table : Table) (bytes : List ℕ) → IsTable table → IsForm table bytes →
+    AllPass (length bytes) (bits_steps bytes (header bytes) (byte_count (get_or bytes 3 0)))
+bits_pass table bytes is form =
     let full : byte_count table.log2_bits ≡ length table.bits = omega (arith, is.bits) in
-    let back = word_back (number_of table.count) (number_word table.count is.count) in
-    all_pass (form2 table)
-    ((omega arith, (1, omega arith, refl)), ((omega arith, refl), ((omega arith, refl), tt)))
-    ((omega arith, is.log2_bits), ((omega arith, is.hashes), tt)) (
-      (omega arith, (flag_is table.count, refl, refl)),
-      (
-        (omega arith, tt),
-        ((omega arith, (λ zero. back ∙ unknown_zero table.count zero)), tt),
-      ),
-    )
-    ((omega arith, omega (arith, full)), ((omega arith, omega (arith, full)), tt))
+    let P : List ℕ → Type 0 =
+    λ b. AllPass (length b) (bits_steps b (header b) (byte_count (get_or b 3 0))) in
+    elim form [
+      | inl first ↦ subst P (sym first.1)
+          ((omega arith, omega (arith, full)), ((omega arith, omega (arith, full)), tt))
+      | inr second ↦ subst P (sym second)
+          ((omega arith, omega (arith, full)), ((omega arith, omega (arith, full)), tt))
+    ]
 
-passes : (table : Table) (bytes : List ℕ) → IsTable table → IsForm table bytes →
+pub passes : (table : Table) (bytes : List ℕ) → IsTable table → IsForm table bytes →
     AllPass (length bytes) (steps bytes)
-passes table bytes is form = elim form [
-  | inl first ↦ subst (λ b. AllPass (length b) (steps b)) (sym first.1) (passes1 table is)
-  | inr second ↦ subst (λ b. AllPass (length b) (steps b)) (sym second) (passes2 table is)
-]
+passes table bytes is form =
+    all_pass-append (length bytes) (header_steps bytes)
+    (bits_steps bytes (header bytes) (byte_count (get_or bytes 3 0)))
+    (header_passes table bytes is.log2_bits is.hashes is.count form) (bits_pass table bytes is form)
+
+viewed : (table : Table) (bytes : List ℕ) → IsTable table → bytes ≡ form2 table →
+    AllPass (length bytes) (view_steps bytes)
+viewed table bytes is form =
+    let count : length bytes ≡ length (form2 table) = ap length form in
+    all_pass-append (length bytes) (steps bytes) (version_step bytes ∷ [])
+    (passes table bytes is (inr form)) ((omega (arith, count), ap (λ b. get_or b 0 0) form), tt)
 
 pub same_table : (s l h s' l' h' : ℕ) (c c' : Option ℕ) (b b' : List ℕ) →
     s ≡ s' → l ≡ l' → h ≡ h' → c ≡ c' → b ≡ b' →
@@ -147,4 +164,4 @@ version1 table read is reads form =
     once read (record table { count = None }) (form1 table) reads kept form (inl (refl, refl))
 
 pub form_law : FormLaw
-form_law = record { passes = passes; once = once; version1 = version1 }
+form_law = record { passes = passes; viewed = viewed; once = once; version1 = version1 }

@@ -8,7 +8,8 @@ use Rattle.std.proofs.lemmas.Nat.Bits.{bit_at-zero}
 use Rattle.datasketches.specs.Words.{IsWord}
 use Rattle.sketch_member.proofs.BitLemmas.{zeros-get}
 use Rattle.sketch_member.proofs.InsertLemmas.{insert_law, same_index, same_table_bits}
-use Rattle.sketch_member.proofs.LawLemmas.{same_table}
+use Rattle.sketch_member.proofs.LawLemmas.{form_law, same_table}
+use Rattle.sketch_member.specs.Form.{form2}
 use Rattle.sketch_member.specs.Laws.{InsertsAll, IsMadeOf, MergeLaw, StandsFor, count_after}
 use Rattle.sketch_member.specs.Merge.{AreAlike, Merges, sum_of_counts}
 use Rattle.sketch_member.specs.Table.{Table, IsTable, IsSet, IsIndex, IsMember, Inserts, byte_count, empty_table}
@@ -128,6 +129,18 @@ insert_next fed xs i default before next after within all inserts =
     (inserts_append (map fed (take i xs)) (fed (get_or xs i default) ∷ []) before next after all
     (after, inserts, refl))
 
+-- so too where the table lies in bytes
+pub insert_next_in : {X : Type 0} (fed : X → List ℕ) (xs : List X) (i : ℕ) (default : X)
+    (start now before after : Table) (bytes : List ℕ) → i < length xs →
+    IsTable now → IsTable before → bytes ≡ form2 now → bytes ≡ form2 before →
+    InsertsAll (map fed (take i xs)) start now → Inserts (fed (get_or xs i default)) before after →
+    InsertsAll (map fed (take (i + 1) xs)) start after
+insert_next_in fed xs i default start now before after bytes within is is_before lies lies_before
+    all inserts =
+    let same = form_law.once before now bytes is_before is (inr lies_before) (inr lies) in
+    insert_next fed xs i default start now after within all
+    (subst (λ t. Inserts (fed (get_or xs i default)) t after) same inserts)
+
 -- inserts into an empty table make the table of their values
 pub made_of : (seed log2_bits hashes : ℕ) (values : List (List ℕ)) (table : Table) →
     InsertsAll values (empty_table seed log2_bits hashes) table → IsMadeOf values table
@@ -235,6 +248,20 @@ made_both_ways law seed log2_bits hashes first second start one start_other othe
     law.streams one other after whole first second is_after is_whole alike merges
     (made_of seed log2_bits hashes first one of_one)
     (made_of seed log2_bits hashes second other of_other) of_whole.1
+
+-- the inserts of the same values into an empty table make one table
+pub made_once : (seed log2_bits hashes : ℕ) (values : List (List ℕ)) (table other : Table) →
+    InsertsAll values (empty_table seed log2_bits hashes) table →
+    InsertsAll values (empty_table seed log2_bits hashes) other →
+    IsTable table → IsTable other → table ≡ other
+made_once seed log2_bits hashes values table other all all_other is is_other =
+    let empty = empty_table seed log2_bits hashes in
+    let one = made values table (made_of seed log2_bits hashes values table all) in
+    let two = made values other (made_of seed log2_bits hashes values other all_other) in
+    let same = chained table empty other (turned empty table (all_alike values empty table all))
+    (all_alike values empty other all_other) in
+    (insert_law.once table other values values is is_other same.seed same.log2_bits same.hashes
+    one.0 two.0 (λ fed. ((λ is. is), (λ is. is)))).1 (one.1 ∙ sym two.1)
 
 -- ---- the order of merges
 

@@ -4,41 +4,59 @@ use Rattle.std.specs.Fmt.{decimal}
 use Rattle.datasketches.specs.Bytes.{le}
 use Rattle.datasketches.specs.declared.error.ErrorKind.TheVariants.{InvalidData}
 use Rattle.datasketches.specs.ErrorValue.{ErrorValue}
-use Rattle.datasketches.specs.Refusals.{Refuses, insufficient_data_of_text, invalid_family_text, invalid_preamble_longs_text, unsupported_serial_version_text}
+use Rattle.datasketches.specs.Refusals.{Refuses, insufficient_data_of_text, invalid_family_text, unsupported_serial_version_text}
+use Rattle.sketch_member.specs.declared.fault.Fault.{Fault}
+use Rattle.sketch_member.specs.declared.fault.Fault.TheVariants.{HeaderEnds, PreambleLongs, SerialVersion, Family, Log2Bits, Hashes, Reserved, UnknownCount, MissingBits, TrailingBytes, Version1}
 use Rattle.sketch_member.specs.Limits.{IsHashes, IsLog2Bits, invalid_hashes_text, invalid_log2_bits_text}
 use Rattle.sketch_member.specs.Table.{byte_count}
 
--- A step: how many bytes it needs, what has to hold, and what is said where it does not.
+-- what is said of a fault
+abbrev pub fault_text : Fault → List ℕ
+fault_text HeaderEnds =
+    insufficient_data_of_text (codes "member table") (codes "unexpected end of file")
+fault_text (PreambleLongs n) =
+    codes "invalid preamble longs: expected one of [2, 3], got " ++ decimal n
+fault_text (SerialVersion expected actual) = unsupported_serial_version_text expected actual
+fault_text (Family n) = invalid_family_text 200 n (codes "MEMBER")
+fault_text (Log2Bits n) = invalid_log2_bits_text n
+fault_text (Hashes n) = invalid_hashes_text n
+fault_text Reserved = codes "reserved bytes are not zero"
+fault_text UnknownCount = codes "unknown count is not zero"
+fault_text (MissingBits need have) = insufficient_data_of_text (codes "member bits")
+    (codes "expected " ++ (decimal need ++ (codes ", got " ++ decimal have)))
+fault_text (TrailingBytes n) = codes "trailing bytes: " ++ decimal n
+fault_text Version1 = codes "unsupported serial version: expected 2, got 1"
+
+-- A step: how many bytes it needs, what has to hold, and the fault where it does not.
 pub record Step : Type 1 where
   pub needs : ℕ
   pub Holds : Type 0
-  pub message : List ℕ
-
--- the error tells that the header ends too early, and why in any words
-abbrev pub HeaderEnds : ErrorValue → Type 0
-HeaderEnds error =
-    (text : List ℕ)
-    × Refuses InvalidData (insufficient_data_of_text (codes "member table") text) error
+  pub fault : Fault
 
 -- with so many bytes the step passes
 abbrev pub Passes : ℕ → Step → Type 0
 Passes count step = (step.needs ≤ count) × step.Holds
 
--- with so many bytes the step fails, with this error: bytes are missing, or else what has to hold
+-- with so many bytes the step fails, by this fault: bytes are missing, or else what has to hold
 -- does not
-abbrev pub Fails : ℕ → Step → ErrorValue → Type 0
-Fails count step error = ((count < step.needs) × HeaderEnds error)
-    ⊎ ((step.needs ≤ count) × (step.Holds → ⊥) × Refuses InvalidData step.message error)
+abbrev pub Fails : ℕ → Step → Fault → Type 0
+Fails count step fault = ((count < step.needs) × (fault ≡ HeaderEnds))
+    ⊎ ((step.needs ≤ count) × (step.Holds → ⊥) × (fault ≡ step.fault))
 
 abbrev pub AllPass : ℕ → List Step → Type 0
 AllPass count [] = Unit {0}
 AllPass count (step ∷ steps) = Passes count step × AllPass count steps
 
--- the first step that fails does so with this error
+-- the first step that fails does so by this fault
+abbrev pub IsFirstFault : ℕ → List Step → Fault → Type 0
+IsFirstFault count [] fault = ⊥
+IsFirstFault count (step ∷ steps) fault =
+    Fails count step fault ⊎ (Passes count step × IsFirstFault count steps fault)
+
+-- the error tells of the first fault
 abbrev pub FirstFault : ℕ → List Step → ErrorValue → Type 0
-FirstFault count [] error = ⊥
-FirstFault count (step ∷ steps) error =
-    Fails count step error ⊎ (Passes count step × FirstFault count steps error)
+FirstFault count steps error =
+    (fault : Fault) × IsFirstFault count steps fault × Refuses InvalidData (fault_text fault) error
 
 -- ---- the steps of the reading, in order
 
@@ -57,17 +75,17 @@ kind_steps bytes =
     record {
       needs = 1;
       Holds = Contains (2 ∷ 3 ∷ []) (slice_index bytes 0);
-      message = invalid_preamble_longs_text (2 ∷ 3 ∷ []) (slice_index bytes 0);
+      fault = PreambleLongs (slice_index bytes 0);
     }
     ∷ record {
       needs = 2;
       Holds = slice_index bytes 1 ≡ slice_index bytes 0 - 1;
-      message = unsupported_serial_version_text (slice_index bytes 0 - 1) (slice_index bytes 1);
+      fault = SerialVersion (slice_index bytes 0 - 1) (slice_index bytes 1);
     }
     ∷ record {
       needs = 3;
       Holds = slice_index bytes 2 ≡ 200;
-      message = invalid_family_text 200 (slice_index bytes 2) (codes "MEMBER");
+      fault = Family (slice_index bytes 2);
     }
     ∷ []
 
@@ -77,12 +95,12 @@ size_steps bytes =
     record {
       needs = 4;
       Holds = IsLog2Bits (slice_index bytes 3);
-      message = invalid_log2_bits_text (slice_index bytes 3);
+      fault = Log2Bits (slice_index bytes 3);
     }
     ∷ record {
       needs = 5;
       Holds = IsHashes (slice_index bytes 4);
-      message = invalid_hashes_text (slice_index bytes 4);
+      fault = Hashes (slice_index bytes 4);
     }
     ∷ []
 
@@ -96,30 +114,26 @@ flag_step bytes = record {
   needs = 8;
   Holds = IsFlag (slice_index bytes 0) (slice_index bytes 5)
       × (slice_index bytes 6 ≡ 0) × (slice_index bytes 7 ≡ 0);
-  message = codes "reserved bytes are not zero";
+  fault = Reserved;
 }
 
 -- that the seed is there
 abbrev pub seed_step : Step
-seed_step = record { needs = 16; Holds = Unit {0}; message = [] }
+seed_step = record { needs = 16; Holds = Unit {0}; fault = HeaderEnds }
 
 -- that the header is there, and a count that is not known is zero
 abbrev pub count_step : List ℕ → Step
 count_step bytes = record {
   needs = header bytes;
   Holds = slice_index bytes 5 ≡ 0 → count_number bytes ≡ 0;
-  message = codes "unknown count is not zero";
+  fault = UnknownCount;
 }
 
 abbrev pub number_steps : List ℕ → List Step
 number_steps bytes = flag_step bytes ∷ seed_step ∷ count_step bytes ∷ []
 
-abbrev pub missing_bits_text : ℕ → ℕ → List ℕ
-missing_bits_text need have = insufficient_data_of_text (codes "member bits")
-    (codes "expected " ++ (decimal need ++ (codes ", got " ++ decimal have)))
-
-abbrev pub trailing_bytes_text : ℕ → List ℕ
-trailing_bytes_text count = codes "trailing bytes: " ++ decimal count
+abbrev pub header_steps : List ℕ → List Step
+header_steps bytes = kind_steps bytes ++ (size_steps bytes ++ number_steps bytes)
 
 -- that as many bytes are left behind a header as the bits need, and no more
 abbrev pub bits_steps : List ℕ → ℕ → ℕ → List Step
@@ -127,15 +141,36 @@ bits_steps bytes header need =
     record {
       needs = header;
       Holds = need ≤ length bytes - header;
-      message = missing_bits_text need (length bytes - header);
+      fault = MissingBits need (length bytes - header);
     }
     ∷ record {
       needs = header;
       Holds = length bytes - header ≤ need;
-      message = trailing_bytes_text (length bytes - header - need);
+      fault = TrailingBytes (length bytes - header - need);
     }
     ∷ []
 
 abbrev pub steps : List ℕ → List Step
-steps bytes = kind_steps bytes ++ (size_steps bytes ++ (number_steps bytes
-    ++ bits_steps bytes (header bytes) (byte_count (slice_index bytes 3))))
+steps bytes = header_steps bytes
+    ++ bits_steps bytes (header bytes) (byte_count (slice_index bytes 3))
+
+-- ---- the steps of other calls
+
+-- that a table is of version 2
+abbrev pub version_step : List ℕ → Step
+version_step bytes = record {
+  needs = 1;
+  Holds = slice_index bytes 0 ≡ 3;
+  fault = Version1;
+}
+
+-- that the bytes are a table, and of version 2
+abbrev pub view_steps : List ℕ → List Step
+view_steps bytes = steps bytes ++ version_step bytes ∷ []
+
+-- that the sizes of a new table lie in their limits, and the bytes are as many as it has
+abbrev pub init_steps : ℕ → ℕ → List ℕ → List Step
+init_steps log2_bits hashes bytes =
+    record { needs = 0; Holds = IsLog2Bits log2_bits; fault = Log2Bits log2_bits }
+    ∷ record { needs = 0; Holds = IsHashes hashes; fault = Hashes hashes }
+    ∷ bits_steps bytes 24 (byte_count log2_bits)

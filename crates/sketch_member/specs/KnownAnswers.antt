@@ -3,8 +3,11 @@
 use Rattle.std.specs.Prelude.{◌≡◌, ◌-◌, ◌^◌, ℕ, List, [], ◌∷◌, ◌++◌, codes, replicate, Option, None, Some}
 use Rattle.datasketches.specs.declared.error.ErrorKind.TheVariants.{InvalidArgument, InvalidData}
 use Rattle.datasketches.specs.ErrorValue.{error_of}
-use Rattle.sketch_member.specs.Faults.{Fails, FirstFault, HeaderEnds, Step}
+use Rattle.sketch_member.specs.declared.fault.Fault.TheVariants.{HeaderEnds, Log2Bits, Hashes, Reserved, UnknownCount, Version1}
+use Rattle.sketch_member.specs.declared.fault.MergeFault.TheVariants.{From}
+use Rattle.sketch_member.specs.Faults.{Fails, FirstFault, IsFirstFault, Step, init_steps, view_steps}
 use Rattle.sketch_member.specs.Form.{IsForm, form1, form2}
+use Rattle.sketch_member.specs.InPlace.{Becomes, IsMergeFault}
 use Rattle.sketch_member.specs.Laws.{IsMadeOf, count_after}
 use Rattle.sketch_member.specs.Limits.{IsHashes, IsLog2Bits}
 use Rattle.sketch_member.specs.Merge.{AreAlike, FirstDifference, Merges, sum_of_counts}
@@ -46,14 +49,14 @@ bytes_seeded = 3 ∷ 2 ∷ 200 ∷ 6 ∷ 1 ∷ replicate 3 0 ++ 2 ∷ 1 ∷ repl
 
 -- a step that no byte passes
 abbrev pub never : Step
-never = record { needs = 1; Holds = ⊥; message = codes "never" }
+never = record { needs = 1; Holds = ⊥; fault = Reserved }
 
 abbrev pub neither : Step
-neither = record { needs = 1; Holds = ⊥; message = codes "neither" }
+neither = record { needs = 1; Holds = ⊥; fault = UnknownCount }
 
 -- a step that any byte passes
 abbrev pub always : Step
-always = record { needs = 1; Holds = Unit {0}; message = [] }
+always = record { needs = 1; Holds = Unit {0}; fault = HeaderEnds }
 
 pub record WorkedValues : Type 0 where
   pub set : IsSet (one_value None).bits 25
@@ -80,11 +83,27 @@ pub record WorkedValues : Type 0 where
   pub seeded : form2 (record (one_value None) { seed = 258 }) ≡ bytes_seeded
   pub read_in_1 : IsForm (one_value None) bytes1
   pub read_in_2 : IsForm (one_value (Some 258)) bytes2
-  pub fails : Fails 1 never (error_of InvalidData (codes "never"))
-  pub fails_otherwise : Fails 1 never (error_of InvalidArgument (codes "never")) → ⊥
-  pub ends_otherwise : HeaderEnds (error_of InvalidArgument []) → ⊥
-  pub first_fault : FirstFault 1 (always ∷ never ∷ []) (error_of InvalidData (codes "never"))
-  pub later_fault : FirstFault 1 (never ∷ neither ∷ []) (error_of InvalidData (codes "neither")) → ⊥
+  pub fails : Fails 1 never Reserved
+  pub fails_otherwise : Fails 1 never HeaderEnds → ⊥
+  pub ends : Fails 0 never HeaderEnds
+  pub ends_otherwise : Fails 0 never Reserved → ⊥
+  pub first : IsFirstFault 1 (always ∷ never ∷ []) Reserved
+  pub later : IsFirstFault 1 (never ∷ neither ∷ []) UnknownCount → ⊥
+  pub first_fault : FirstFault 1 (always ∷ never ∷ [])
+      (error_of InvalidData (codes "reserved bytes are not zero"))
+  pub other_kind : FirstFault 1 (always ∷ never ∷ [])
+      (error_of InvalidArgument (codes "reserved bytes are not zero")) → ⊥
+
+pub record InPlaceValues : Type 0 where
+  pub version1 : IsFirstFault 24 (view_steps bytes1) Version1
+  pub version2 : IsFirstFault 32 (view_steps bytes2) Version1 → ⊥
+  pub size : IsFirstFault 0 (init_steps 5 0 []) (Log2Bits 5)
+  pub later_size : IsFirstFault 0 (init_steps 5 0 []) (Hashes 0) → ⊥
+  pub becomes : Becomes (Merges (other_value (Some 3)))
+      (form2 (one_value (Some 2))) (form2 (both_values (Some 5)))
+  pub becomes_otherwise : Becomes (Merges (other_value (Some 3))) bytes1 bytes1 → ⊥
+  pub from : IsMergeFault bytes2 bytes1 (From Version1)
+  pub from_otherwise : IsMergeFault bytes1 bytes1 (From Version1) → ⊥
 
 pub record MergedValues : Type 0 where
   pub sum : sum_of_counts (Some 2) (Some 3) ≡ Some 5

@@ -1,15 +1,18 @@
 -- The laws of tables, of their bytes and of what is inserted into them.
 use Rattle.std.specs.Prelude.{◌≡◌, ◌↔◌, ◌⊎◌, ℕ, ◌+◌, ◌-◌, ◌^◌, min, List, [], ◌∷◌, ◌++◌, length, Contains, Option, None, Some}
-use Rattle.sketch_member.specs.Faults.{AllPass, steps}
-use Rattle.sketch_member.specs.Form.{IsForm, form1}
+use Rattle.sketch_member.specs.Faults.{AllPass, steps, view_steps}
+use Rattle.sketch_member.specs.Form.{IsForm, form1, form2}
 use Rattle.sketch_member.specs.Merge.{AreAlike, Merges}
 use Rattle.sketch_member.specs.Table.{Table, IsTable, IsSet, IsIndex, IsMember, Inserts, empty_table}
 
--- The bytes of a table pass all steps of the reading, in either version. Bytes are those of one
+-- The bytes of a table pass all steps of the reading, in either version, and those of a view in
+-- version 2. Bytes are those of one
 -- table at most. Version 1 keeps all of a table but its count.
 pub record FormLaw : Type 0 where
   pub passes : (table : Table) (bytes : List ℕ) → IsTable table → IsForm table bytes →
       AllPass (length bytes) (steps bytes)
+  pub viewed : (table : Table) (bytes : List ℕ) → IsTable table → bytes ≡ form2 table →
+      AllPass (length bytes) (view_steps bytes)
   pub once : (table other : Table) (bytes : List ℕ) → IsTable table → IsTable other →
       IsForm table bytes → IsForm other bytes → table ≡ other
   pub version1 : (table read : Table) → IsTable table → IsTable read →

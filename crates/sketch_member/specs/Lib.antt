@@ -1,7 +1,9 @@
 pub mod Limits
 pub mod Table
+pub mod Header
 pub mod Merge
 pub mod Form
 pub mod Faults
+pub mod InPlace
 pub mod Laws
 pub mod KnownAnswers

@@ -3,6 +3,8 @@ use Rattle.std.specs.Prelude.{◌≡◌, ◌≢◌, ◌↔◌, ◌⊎◌, ℕ, �
 use Rattle.datasketches.specs.declared.error.ErrorKind.TheVariants.{InvalidArgument}
 use Rattle.datasketches.specs.ErrorValue.{ErrorValue}
 use Rattle.datasketches.specs.Refusals.{Refuses}
+use Rattle.sketch_member.specs.declared.header.Difference.{Difference}
+use Rattle.sketch_member.specs.declared.header.Difference.TheVariants.{Seed, Log2Bits, Hashes}
 use Rattle.sketch_member.specs.Table.{Table, IsSet}
 
 -- the tables have one seed and the same sizes
@@ -11,19 +13,27 @@ pub record AreAlike (table other : Table) : Type 0 where
   pub log2_bits : table.log2_bits ≡ other.log2_bits
   pub hashes : table.hashes ≡ other.hashes
 
+abbrev pub part_name : Difference → List ℕ
+part_name Seed = codes "seed"
+part_name Log2Bits = codes "log2 bits"
+part_name Hashes = codes "hashes"
+
 abbrev pub tables_differ_text : List ℕ → List ℕ
 tables_differ_text part = codes "tables differ: " ++ part
 
--- the tables are not alike, and the error tells the first of the three in which they differ
-abbrev pub FirstDifference : Table → Table → ErrorValue → Type 0
-FirstDifference table other error =
-    ((table.seed ≢ other.seed)
-    × Refuses InvalidArgument (tables_differ_text (codes "seed")) error)
-    ⊎ (((table.seed ≡ other.seed) × (table.log2_bits ≢ other.log2_bits)
-    × Refuses InvalidArgument (tables_differ_text (codes "log2 bits")) error)
-    ⊎ ((table.seed ≡ other.seed) × (table.log2_bits ≡ other.log2_bits)
+-- the tables are not alike, and this is the first part of the three in which they differ
+abbrev pub IsFirstDifference : Table → Table → Difference → Type 0
+IsFirstDifference table other Seed = table.seed ≢ other.seed
+IsFirstDifference table other Log2Bits =
+    (table.seed ≡ other.seed) × (table.log2_bits ≢ other.log2_bits)
+IsFirstDifference table other Hashes =
+    (table.seed ≡ other.seed) × (table.log2_bits ≡ other.log2_bits)
     × (table.hashes ≢ other.hashes)
-    × Refuses InvalidArgument (tables_differ_text (codes "hashes")) error))
+
+-- the error tells of that part
+abbrev pub FirstDifference : Table → Table → ErrorValue → Type 0
+FirstDifference table other error = (part : Difference) × IsFirstDifference table other part
+    × Refuses InvalidArgument (tables_differ_text (part_name part)) error
 
 -- the count of two tables together: known counts add and stay at the greatest word, and an unknown
 -- one makes the sum unknown

@@ -1,6 +1,6 @@
 //! Bits packed into bytes.
 
-ghost use Rattle.std.specs.Prelude.{◌≡◌, ℕ, ◌*◌, ◌<◌, ◌↔◌, ◌⊎◌, length, slice_index, IsTrue};
+ghost use Rattle.std.specs.Prelude.{◌≡◌, ℕ, ◌*◌, ◌<◌, ◌↔◌, ◌⊎◌, length, replicate, slice_index, IsTrue};
 ghost use Rattle.sketch_member.specs.Table.{IsSet};
 
 // Whether bit `i` is set.
@@ -28,5 +28,17 @@ pub(crate) fn set_all(bits: &mut [u8], other: &[u8])
 {
     for k in 0..bits.len() {
         bits[k] |= other[k];
+    }
+}
+
+// Clears all bits, from both ends: of a loop from one, LLVM makes a call of the C library, which
+// nothing else here needs. The bytes may be of memory that was never written, so they are not read.
+pub(crate) fn clear(bits: &mut [u8])
+    ensures { bits.new ≡ replicate (length bits.old) 0 }
+{
+    let count = bits.len();
+    for place in 0..count - count / 2 {
+        bits[place] = 0;
+        bits[count - 1 - place] = 0;
     }
 }

@@ -1,15 +1,16 @@
 //! What follows for users of tables and their bytes.
 
-ghost use Rattle.std.specs.Prelude.{◌≡◌, ◌↔◌, ◌⊎◌, ◌++◌, ℕ, List, None, length, map, IfOk, MatchResult};
+ghost use Rattle.std.specs.Prelude.{◌≡◌, ◌↔◌, ◌⊎◌, ◌++◌, ℕ, List, None, length, map, IfErr, IfOk, MatchResult};
 ghost use Rattle.datasketches.specs.ErrorValue.{memory_error};
-ghost use Rattle.sketch_member.specs.Faults.{AllPass, FirstFault, steps};
+ghost use Rattle.datasketches.specs.Refusals.{Refuses};
+ghost use Rattle.sketch_member.specs.Faults.{AllPass, FirstFault, IsFirstFault, fault_text, init_steps, steps};
 ghost use Rattle.sketch_member.specs.Form.{IsForm, form1, form2};
 ghost use Rattle.sketch_member.specs.Merge.{AreAlike};
 ghost use Rattle.sketch_member.specs.Table.{IsMember, IsTable, Table, empty_table};
 ghost use Rattle.sketch_member.specs.Laws.{FormLaw, InsertLaw, InsertsAll, IsMadeOf, MergeLaw};
 
-use crate::MemberTable;
-use datasketches::error::Error;
+use crate::{Fault, MemberTable, in_place};
+use datasketches::error::{Error, ErrorKind};
 use datasketches::hash::Hash;
 use std::alloc::Global;
 
@@ -104,4 +105,57 @@ fn insert_all<T: Hash>(table: &mut MemberTable, values: &[T])
     for value in values {
         table.insert(value);
     }
+}
+
+/// The bytes of the table of a stream of values, made in two ways: where `bytes` lie, and of a
+/// [`MemberTable`]. They are the same.
+///
+/// # Errors
+///
+/// As those of [`in_place::init`], all `InvalidArgument`. Memory may run out too: `OutOfMemory`,
+/// with no message.
+pub fn insert_both<T: Hash>(
+    alloc: Global,
+    bytes: &mut [u8],
+    seed: u64,
+    log2_bits: u8,
+    hashes: u8,
+    values: &[T],
+) -> Result<Vec<u8>, Error>
+    ensures same { IfOk result (λ made. bytes.new ≡ made.items) }
+    ensures whole { IfOk result (λ made. (whole : Table)
+        × AreAlike (empty_table seed log2_bits hashes) whole
+        × IsMadeOf (map T.fed values.now) whole
+        × (made.items ≡ form2 whole)) }
+    ensures refused { IfErr result (λ error. ((fault : Fault)
+        × IsFirstFault (length bytes.old) (init_steps log2_bits hashes bytes.old) fault
+        × Refuses ErrorKind.InvalidArgument (fault_text fault) error)
+        ⊎ (error ≡ memory_error)) }
+{
+    if let Err(fault) = insert_all_in_place(bytes, seed, log2_bits, hashes, values) {
+        return Err(fault.into_error(alloc, ErrorKind::InvalidArgument));
+    }
+    let mut table = MemberTable::new(alloc, seed, log2_bits, hashes)?;
+    insert_all(&mut table, values);
+    Ok(table.to_bytes(alloc)?)
+}
+
+// Makes bytes a table, and inserts values, one after another.
+fn insert_all_in_place<T: Hash>(
+    bytes: &mut [u8],
+    seed: u64,
+    log2_bits: u8,
+    hashes: u8,
+    values: &[T],
+) -> Result<(), Fault>
+    ensures { MatchResult result
+        (λ _. (made : Table) × IsTable made × (bytes.new ≡ form2 made)
+        × InsertsAll (map T.fed values.now) (empty_table seed log2_bits hashes) made)
+        (λ fault. IsFirstFault (length bytes.old) (init_steps log2_bits hashes bytes.old) fault) }
+{
+    in_place::init(bytes, seed, log2_bits, hashes)?;
+    for value in values {
+        in_place::insert(bytes, value)?;
+    }
+    Ok(())
 }

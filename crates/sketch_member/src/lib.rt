@@ -5,11 +5,19 @@
 #![tactic(auto)]
 
 mod bits;
+mod fault;
+mod header;
+pub mod in_place;
 pub mod known_answers;
 pub mod laws;
 mod limits;
+mod reading;
 mod table;
 #[cfg(test)]
 mod tests;
+mod view;
 
+pub use self::fault::{Fault, MergeFault};
+pub use self::header::Difference;
 pub use self::table::{MEMBER, MemberTable};
+pub use self::view::TableView;

@@ -1,23 +1,27 @@
 //! The table, what is inserted into it, and what it contains.
 
-ghost use Rattle.std.specs.Prelude.{◌≡◌, ◌⊎◌, ℕ, ◌*◌, ◌<◌, ◌↔◌, length, IfOk, IsTrue, MatchResult};
+ghost use Rattle.std.specs.Prelude.{◌≡◌, ◌⊎◌, ℕ, ◌↔◌, length, IfOk, IsTrue, MatchResult};
 ghost use Rattle.datasketches.specs.ErrorValue.{memory_error};
 ghost use Rattle.datasketches.specs.Refusals.{Refuses};
+ghost use Rattle.sketch_member.specs.Faults.{AllPass, FirstFault, steps};
+ghost use Rattle.sketch_member.specs.Form.{IsForm};
+ghost use Rattle.sketch_member.specs.Header.{table_of};
 ghost use Rattle.sketch_member.specs.Limits.{IsLog2Bits, IsHashes, invalid_log2_bits_text, invalid_hashes_text};
-ghost use Rattle.sketch_member.specs.Table.{Table, IsTable, byte_count, empty_table, index, one_more, Inserts, IsIndex, IsMember, IsSet};
+ghost use Rattle.sketch_member.specs.Table.{Table, IsTable, empty_table, Inserts, IsMember, IsSet};
 
-use crate::bits::{is_set, set};
-use crate::limits::{ensure_hashes, ensure_log2_bits};
+use crate::header::Header;
+use crate::limits::byte_count;
+use crate::reading::read;
 use datasketches::error::{Error, ErrorKind};
-use datasketches::hash::{Hash, XxHash64};
+use datasketches::hash::Hash;
 use std::alloc::Global;
 use std::marker::Model;
 
 mod form;
 mod merging;
-mod reading;
 
 pub use self::form::MEMBER;
+pub(crate) use self::form::{HEADER_BYTES, LONGS_1, LONGS_2, has_count, serial_version};
 
 /// A table of members, of 2^`log2_bits` bits.
 ///
@@ -26,32 +30,16 @@ pub use self::form::MEMBER;
 /// where all of them are set. Inserts are counted.
 #[derive(Drop)]
 pub struct MemberTable {
-    seed: u64,
-    log2_bits: u8,
-    hashes: u8,
-    // None where the table was read from bytes without a count
-    count: Option<u64>,
+    header: Header,
     bits: Vec<u8>,
 }
 
 impl Model for MemberTable {
     ghost Value = { Table };
 
-    ghost view = { λ t. record {
-      seed = t.seed;
-      log2_bits = t.log2_bits;
-      hashes = t.hashes;
-      count = t.count;
-      bits = t.bits.items;
-    } };
+    ghost view = { λ t. table_of t.header t.bits.items };
 
-    ghost invariant = { λ t. IsTable (record {
-      seed = t.seed;
-      log2_bits = t.log2_bits;
-      hashes = t.hashes;
-      count = t.count;
-      bits = t.bits.items;
-    }) };
+    ghost invariant = { λ t. IsTable (table_of t.header t.bits.items) };
 }
 
 impl MemberTable {
@@ -73,15 +61,34 @@ impl MemberTable {
             ⊎ (IsLog2Bits log2_bits × IsHashes hashes × (error ≡ memory_error)))) }
         ensures empty { IfOk result (λ table. (i : ℕ) → IsSet table.bits i → ⊥) }
     {
-        ensure_log2_bits(alloc, ErrorKind::InvalidArgument, log2_bits)?;
-        ensure_hashes(alloc, ErrorKind::InvalidArgument, hashes)?;
+        let header = match Header::new(seed, log2_bits, hashes) {
+            Ok(header) => header,
+            Err(fault) => return Err(fault.into_error(alloc, ErrorKind::InvalidArgument)),
+        };
         let bits = vec![in alloc; 0; byte_count(log2_bits)]?;
+        Ok(MemberTable { header, bits })
+    }
+
+    /// The table that the bytes are, in version 1 or 2. In version 1 its count is unknown.
+    ///
+    /// # Errors
+    ///
+    /// At bytes that are not all of a table: `InvalidData`, for the first fault in the order of
+    /// their places. Where the bits find no memory, as where the text of a refusal does:
+    /// `OutOfMemory`, with no message.
+    pub fn from_bytes(alloc: Global, bytes: &[u8]) -> Result<MemberTable, Error>
+        ensures { MatchResult result
+            (λ table. IsTable table × IsForm table bytes.now)
+            (λ error. FirstFault (length bytes.now) (steps bytes.now) error
+            ⊎ (AllPass (length bytes.now) (steps bytes.now) × (error ≡ memory_error))) }
+    {
+        let (header, bits) = match read(bytes) {
+            Ok(parts) => parts,
+            Err(fault) => return Err(fault.into_error(alloc, ErrorKind::InvalidData)),
+        };
         Ok(MemberTable {
-            seed,
-            log2_bits,
-            hashes,
-            count: Some(0),
-            bits,
+            header,
+            bits: bits.to_vec(alloc)?,
         })
     }
 
@@ -90,8 +97,7 @@ impl MemberTable {
     pub fn insert<T: Hash>(&mut self, value: &T)
         ensures { Inserts (T.fed value.now) self.old self.new }
     {
-        self.count = one_more(self.count);
-        self.set_bits(value);
+        self.header.insert(&mut self.bits, value);
     }
 
     /// Whether all bits at the value's indexes are set, as they are once it was inserted.
@@ -99,58 +105,13 @@ impl MemberTable {
         ensures is_member { IsTrue result ↔ IsMember self.now (T.fed value.now) }
         ensures is_table { IsTable self.now }
     {
-        for j in 0..self.hashes {
-            if !is_set(&self.bits, self.index(value, j)) {
-                return false;
-            }
-        }
-        true
+        self.header.contains(&self.bits, value)
     }
 
     /// How many inserts were counted; None where the table was read from bytes without a count.
     pub fn count(&self) -> Option<u64>
         ensures { result ≡ self.now.count }
     {
-        self.count
+        self.header.count
     }
-
-    // Sets the bits at the value's indexes, and changes nothing else.
-    fn set_bits<T: Hash>(&mut self, value: &T)
-        ensures rest { self.new ≡ record self.old { bits = self.new.bits } }
-        ensures bits { (i : ℕ) → IsSet self.new.bits i
-            ↔ (IsSet self.old.bits i ⊎ IsIndex self.old (T.fed value.now) i) }
-    {
-        for j in 0..self.hashes {
-            let i = self.index(value, j);
-            set(&mut self.bits, i);
-        }
-    }
-
-    // The value's index of number `j`.
-    fn index<T: Hash>(&self, value: &T, j: u8) -> usize
-        ensures index { result ≡ index self.now.seed self.now.log2_bits (T.fed value.now) j }
-        ensures inside { result < length self.now.bits * 8 }
-    {
-        let mut hasher = XxHash64::with_seed(self.seed.wrapping_add(u64::from(j)));
-        value.hash(&mut hasher);
-        (hasher.finish64() & ((1 << self.log2_bits) - 1)) as usize
-    }
-}
-
-// The count after one more insert.
-fn one_more(count: Option<u64>) -> Option<u64>
-    ensures { result ≡ one_more count }
-{
-    match count {
-        Some(n) => Some(n.saturating_add(1)),
-        None => None,
-    }
-}
-
-// How many bytes the bits of a table fill.
-fn byte_count(log2_bits: u8) -> usize
-    requires { IsLog2Bits log2_bits }
-    ensures { result ≡ byte_count log2_bits }
-{
-    (1 << log2_bits) / 8
 }

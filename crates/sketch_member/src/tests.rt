@@ -1,5 +1,6 @@
 ghost use Rattle.std.specs.Prelude.{IsTrue};
 
+mod in_place;
 mod merging;
 mod sizes;
 mod table;

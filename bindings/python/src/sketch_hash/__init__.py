@@ -21,7 +21,7 @@ from ._calls import lib as _lib
 _new = _ffi.new
 _memory_of = _ffi.from_buffer
 
-__version__ = "1.0.0"
+__version__ = "1.1.0"
 __all__ = [
     "algorithms_available",
     "murmur3_x64_128",

@@ -4,14 +4,14 @@ use super::{FOX_MURMUR, FOX_XXH64, assert_out_of_memory, assert_refused, assert_
 use crate::items::there_and_back;
 use crate::keys::{is_new_key, is_same_key, is_same_word, pair_of};
 use crate::own::{BigEndian, Point};
-use crate::seen::see_saved_key;
+use crate::seen::{see_key_in, see_saved_key};
 use crate::sentence::hash_of_the_sentence;
 use crate::sketch::{read_sketch, write_sketch};
 use crate::streams::{checkpoint, murmur_of_pieces, xxh64_from, xxh64_of_pieces};
 use datasketches::codec::{Item, Kind};
 use datasketches::error::Error;
 use datasketches::hash::value::{calculate_hash, raw_bytes};
-use sketch_member::MemberTable;
+use sketch_member::{Fault, MemberTable, in_place};
 use std::alloc::Global;
 use std::test::Fail;
 
@@ -157,6 +157,21 @@ fn keys_are_seen_once_saved(rt: HostRuntime) -> Result<(), Fail> {
         Some(3),
     );
     Ok(())
+}
+
+#[test]
+fn keys_are_seen_in_place_no_memory(rt: HostRuntime) {
+    let mut bytes = [0; 152];
+    assert_same(
+        &rt,
+        see_key_in(&mut bytes, b"a"),
+        Err(Fault::PreambleLongs(0)),
+    );
+    assert_same(&rt, bytes, [0; 152]);
+    assert_same(&rt, in_place::init(&mut bytes, 0, 10, 7), Ok(()));
+    assert_same(&rt, see_key_in(&mut bytes, b"a"), Ok(false));
+    assert_same(&rt, see_key_in(&mut bytes, b"b"), Ok(false));
+    assert_same(&rt, see_key_in(&mut bytes, b"a"), Ok(true));
 }
 
 // Holds whichever request for memory is refused.

@@ -1,10 +1,12 @@
 //! A table in bytes, and what sets the versions of its form apart.
 
-ghost use Rattle.std.specs.Prelude.{◌≡◌, ◌-◌, ◌*◌, ◌≤◌, ◌↔◌, IfOk, IsTrue};
-ghost use Rattle.sketch_member.specs.Form.{form2};
+ghost use Rattle.std.specs.Prelude.{◌≡◌, ◌-◌, ◌≤◌, ◌↔◌, [], IfOk, IsTrue};
+ghost use Rattle.sketch_member.specs.Form.{flag_of, form2, number_of};
+ghost use Rattle.sketch_member.specs.Header.{table_of};
 ghost use Rattle.sketch_member.specs.Table.{IsTable};
 
 use super::MemberTable;
+use crate::header::Header;
 use datasketches::codec::SketchBytes;
 use datasketches::codec::family::Family;
 use std::alloc::{AllocError, Global};
@@ -21,12 +23,12 @@ const _: () = prove!(MEMBER.id == 200 && MEMBER.min_pre_longs == 2 && MEMBER.max
 
 // The preamble longs of version 1, and of version 2, which has the count and tells whether it is
 // known.
-pub(super) const LONGS_1: u8 = 2;
+pub(crate) const LONGS_1: u8 = 2;
 
-pub(super) const LONGS_2: u8 = 3;
+pub(crate) const LONGS_2: u8 = 3;
 
 // The serial version under so many preamble longs.
-pub(super) fn serial_version(longs: u8) -> u8
+pub(crate) fn serial_version(longs: u8) -> u8
     requires { 1 ≤ longs }
     ensures { result ≡ longs - 1 }
 {
@@ -34,17 +36,45 @@ pub(super) fn serial_version(longs: u8) -> u8
 }
 
 // Whether a header of so many preamble longs has a count.
-pub(super) fn has_count(longs: u8) -> bool
+pub(crate) fn has_count(longs: u8) -> bool
     ensures { IsTrue result ↔ (longs ≡ 3) }
 {
     longs == LONGS_2
 }
 
-// How many bytes a header of so many preamble longs has.
-pub(super) fn header_bytes(longs: u8) -> usize
-    ensures { result ≡ 8 * longs }
+// How many bytes the header of version 2 has.
+pub(crate) const HEADER_BYTES: usize = 24;
+
+impl Header {
+    // The header in bytes of version 2.
+    pub(crate) fn to_bytes(self) -> [u8; HEADER_BYTES]
+        ensures { result ≡ form2 (table_of self []) }
+    {
+        let (flag, number) = count_parts(self.count);
+        let mut bytes = [0; HEADER_BYTES];
+        bytes[..6].copy_from_slice(&[
+            LONGS_2,
+            serial_version(LONGS_2),
+            MEMBER.id,
+            self.log2_bits,
+            self.hashes,
+            flag,
+        ]);
+        bytes[8..16].copy_from_slice(&self.seed.to_le_bytes());
+        bytes[16..].copy_from_slice(&number.to_le_bytes());
+        bytes
+    }
+}
+
+// Whether the count is known, and the number that stands for it.
+fn count_parts(count: Option<u64>) -> (u8, u64)
+    ensures flag { result.0 ≡ flag_of count }
+    ensures number { result.1 ≡ number_of count }
 {
-    8 * usize::from(longs)
+    match count {
+        Some(n) => (1, n),
+        None => (0, 0),
+    }
 }
 
 impl MemberTable {
@@ -57,17 +87,8 @@ impl MemberTable {
         ensures form { IfOk result (λ bytes. bytes.items ≡ form2 self.now) }
         ensures is_table { IsTable self.now }
     {
-        let count = self.bits.len() + header_bytes(LONGS_2);
-        let mut writer = SketchBytes::with_capacity(alloc, count)?;
-        writer.write_u8(LONGS_2)?;
-        writer.write_u8(serial_version(LONGS_2))?;
-        writer.write_u8(MEMBER.id)?;
-        writer.write_u8(self.log2_bits)?;
-        writer.write_u8(self.hashes)?;
-        writer.write_u8(u8::from(self.count.is_some()))?;
-        writer.write(&[0; 2])?;
-        writer.write_u64_le(self.seed)?;
-        writer.write_u64_le(self.count.unwrap_or(0))?;
+        let mut writer = SketchBytes::with_capacity(alloc, HEADER_BYTES + self.bits.len())?;
+        writer.write(&self.header.to_bytes())?;
         writer.write(&self.bits)?;
         Ok(writer.into_bytes())
     }

@@ -1,12 +1,10 @@
 //! Two tables that become one.
 
-ghost use Rattle.std.specs.Prelude.{◌≡◌, IsTrue, MatchResult};
-ghost use Rattle.datasketches.specs.Refusals.{Refuses};
-ghost use Rattle.sketch_member.specs.Merge.{AreAlike, FirstDifference, Merges, sum_of_counts, tables_differ_text};
+ghost use Rattle.std.specs.Prelude.{◌≡◌, MatchResult};
+ghost use Rattle.sketch_member.specs.Merge.{FirstDifference, Merges};
 ghost use Rattle.sketch_member.specs.Table.{IsTable};
 
 use super::MemberTable;
-use crate::bits::set_all;
 use datasketches::error::{Error, ErrorKind};
 use std::alloc::Global;
 
@@ -27,43 +25,12 @@ impl MemberTable {
             (λ error. (self.new ≡ self.old) × FirstDifference self.old other.now error) }
         ensures are_tables { IsTable self.old × IsTable other.now × IsTable self.new }
     {
-        ensure_alike(alloc, self, other)?;
-        self.count = sum_of_counts(self.count, other.count);
-        set_all(&mut self.bits, &other.bits);
+        if let Some(part) = self.header.difference(&other.header) {
+            let text = format!(in alloc; "tables differ: {part}");
+            return Err(Error::from_text(alloc, ErrorKind::InvalidArgument, text));
+        }
+        self.header
+            .merge(&mut self.bits, &other.header, &other.bits);
         Ok(())
-    }
-}
-
-// Accepts exactly tables of one seed and the same sizes.
-fn ensure_alike(alloc: Global, table: &MemberTable, other: &MemberTable) -> Result<(), Error>
-    ensures alike { MatchResult result (λ _. AreAlike table.now other.now)
-        (λ error. FirstDifference table.now other.now error) }
-    ensures are_tables { IsTable table.now × IsTable other.now }
-{
-    ensure_same(alloc, "seed", table.seed == other.seed)?;
-    ensure_same(alloc, "log2 bits", table.log2_bits == other.log2_bits)?;
-    ensure_same(alloc, "hashes", table.hashes == other.hashes)
-}
-
-// Accepts a part of two tables exactly if it is the same in both.
-fn ensure_same(alloc: Global, part: &'static str, is_same: bool) -> Result<(), Error>
-    ensures { MatchResult result (λ _. IsTrue is_same)
-        (λ error. (IsTrue is_same → ⊥)
-        × Refuses ErrorKind.InvalidArgument (tables_differ_text part.entry.now) error) }
-{
-    if is_same {
-        return Ok(());
-    }
-    let text = format!(in alloc; "tables differ: {part}");
-    Err(Error::from_text(alloc, ErrorKind::InvalidArgument, text))
-}
-
-// The count of two tables together.
-fn sum_of_counts(count: Option<u64>, other: Option<u64>) -> Option<u64>
-    ensures { result ≡ sum_of_counts count other }
-{
-    match (count, other) {
-        (Some(m), Some(n)) => Some(m.saturating_add(n)),
-        _ => None,
     }
 }

@@ -1,26 +1,15 @@
-use Rattle.std.proofs.Common.{◌≡◌, ℕ, length, get_or, bit_or, zero, suc, arith, ap, refl, inl, inr, codes}
+use Rattle.std.proofs.Common.{◌≡◌, ℕ, length, get_or, arith, ap, refl, inl, inr, codes}
 use Rattle.std.specs.Prelude.{None}
 use Rattle.datasketches.specs.declared.error.ErrorKind.TheVariants.{InvalidArgument}
 use Rattle.datasketches.specs.ErrorValue.{ErrorValue, error_of}
 use Rattle.datasketches.specs.Refusals.{Refuses}
-use Rattle.sketch_member.specs.KnownAnswers.{one_value, other_value, both_values}
+use Rattle.sketch_member.specs.KnownAnswers.{one_value, other_value}
 use Rattle.sketch_member.specs.Form.{number_of}
-use Rattle.sketch_member.specs.Merge.{tables_differ_text}
-use Rattle.sketch_member.proofs.BitLemmas.{joined_bits}
+use Rattle.sketch_member.specs.declared.header.Difference.{Difference}
+use Rattle.sketch_member.specs.declared.header.Difference.TheVariants.{Seed, Log2Bits, Hashes}
+use Rattle.sketch_member.specs.Merge.{IsFirstDifference, part_name, tables_differ_text}
+use Rattle.sketch_member.proofs.KnownAnswerLemmas.{merged_value}
 use Rattle.sketch_member.proofs.known_answers.merged_values.Goals as goal
-
--- each byte is joined
-bytes : (k : ℕ) → get_or (both_values None).bits k 0
-    ≡ bit_or (get_or (one_value None).bits k 0) (get_or (other_value None).bits k 0)
-bytes zero = refl
-bytes (suc zero) = refl
-bytes (suc (suc zero)) = refl
-bytes (suc (suc (suc zero))) = refl
-bytes (suc (suc (suc (suc zero)))) = refl
-bytes (suc (suc (suc (suc (suc zero))))) = refl
-bytes (suc (suc (suc (suc (suc (suc zero)))))) = refl
-bytes (suc (suc (suc (suc (suc (suc (suc zero))))))) = refl
-bytes (suc (suc (suc (suc (suc (suc (suc (suc k)))))))) = refl
 
 -- a refusal for the seed is none for the hashes
 other_text : Refuses InvalidArgument (tables_differ_text (codes "seed"))
@@ -33,6 +22,20 @@ other_text told =
       | inr is ↦ let other : 21 ≡ 0 = ap said is in omega (arith, other)
     ]
 
+-- of the seed and the hashes, the seed is told
+not_hashes : (part : Difference) →
+    IsFirstDifference (one_value None) (record (one_value None) { seed = 1; hashes = 2 }) part →
+    Refuses InvalidArgument (tables_differ_text (part_name part))
+    (error_of InvalidArgument (codes "tables differ: hashes")) → ⊥
+not_hashes Seed is told = other_text told
+not_hashes Log2Bits is told = let e : ◌≡◌ {A = ℕ} 0 1 = is.0 in omega (arith, e)
+not_hashes Hashes is told = let e : ◌≡◌ {A = ℕ} 0 1 = is.0 in omega (arith, e)
+
+no_part : (part : Difference) → IsFirstDifference (one_value None) (other_value None) part → ⊥
+no_part Seed is = is refl
+no_part Log2Bits is = is.1 refl
+no_part Hashes is = is.2 refl
+
 pub returns : goal.returns
 unfolding Refuses
 returns c = record {
@@ -44,13 +47,7 @@ returns c = record {
   other_seed = λ h. let e : ◌≡◌ {A = ℕ} 0 1 = h.seed in omega (arith, e);
   other_size = λ h. let e : ◌≡◌ {A = ℕ} 6 7 = h.log2_bits in omega (arith, e);
   other_hashes = λ h. let e : ◌≡◌ {A = ℕ} 1 2 = h.hashes in omega (arith, e);
-  merged = record {
-    alike = record { seed = refl; log2_bits = refl; hashes = refl };
-    kept = record { seed = refl; log2_bits = refl; hashes = refl };
-    count = refl;
-    bits = joined_bits (one_value None).bits (other_value None).bits (both_values None).bits
-        refl refl (λ k within. bytes k);
-  };
+  merged = merged_value;
   replaced = λ h.
       let e : ◌≡◌ {A = ℕ} 0 1 = (h.bits 25).1 (inl refl) in omega (arith, e);
   left_out = λ h.
@@ -59,19 +56,7 @@ returns c = record {
   of_none = refl;
   of_none_otherwise = λ h.
       let e : ◌≡◌ {A = ℕ} 2 0 = ap (λ t. get_or t.bits 3 0) h in omega (arith, e);
-  difference = inl ((λ e. let f : ◌≡◌ {A = ℕ} 0 1 = e in omega (arith, f)), inl refl);
-  later_difference = λ h. elim h [
-    | inl first ↦ other_text first.1
-    | inr later ↦ elim later [
-      | inl second ↦ let e : ◌≡◌ {A = ℕ} 0 1 = second.0 in omega (arith, e)
-      | inr third ↦ let e : ◌≡◌ {A = ℕ} 0 1 = third.0 in omega (arith, e)
-    ]
-  ];
-  no_difference = λ h. elim h [
-    | inl first ↦ first.0 refl
-    | inr later ↦ elim later [
-      | inl second ↦ second.1 refl
-      | inr third ↦ third.2 refl
-    ]
-  ];
+  difference = (Seed, (λ e. let f : ◌≡◌ {A = ℕ} 0 1 = e in omega (arith, f)), inl refl);
+  later_difference = λ h. not_hashes h.0 h.1 h.2;
+  no_difference = λ h. no_part h.0 h.1;
 }

@@ -1,10 +1,11 @@
-use Rattle.std.proofs.Common.{◌≡◌, ◌≤◌, ◌<◌, ℕ, List, length, arith, ap, refl, lit≤, inl, inr, codes}
+use Rattle.std.proofs.Common.{◌≡◌, ◌≤◌, ◌<◌, ℕ, List, length, arith, ap, refl, lit≤, inl, inr}
 use Rattle.datasketches.specs.declared.error.ErrorKind.TheVariants.{InvalidArgument, InvalidData}
 use Rattle.datasketches.specs.ErrorValue.{ErrorValue, error_of, error_kind_name}
 use Rattle.datasketches.specs.Pieces.{pieces, rest}
 use Rattle.datasketches.specs.Refusals.{Refuses}
 use Rattle.datasketches.specs.Words.{xor_below, xor, rotate}
 use Rattle.datasketches.specs.Xxh64.{round, lane, lanes_start, lanes, merge_round, merge, steps, eight_step, four_step, byte_step, tail_step, avalanche, finalize, xxh64}
+use Rattle.sketch_member.specs.declared.fault.Fault.TheVariants.{HeaderEnds, Reserved, UnknownCount}
 use Rattle.sketch_member.specs.Table.{index}
 use Rattle.sketch_member.proofs.known_answers.worked_values.Goals as goal
 
@@ -16,16 +17,6 @@ other_kind text message told =
     elim told [
       | inl is ↦ let other : 15 ≡ 11 = ap named is in omega (arith, other)
       | inr is ↦ let other : 15 ≡ 11 = ap named is in omega (arith, other)
-    ]
-
--- a refusal with one text is none with another
-other_text : Refuses InvalidData (codes "never") (error_of InvalidData (codes "neither")) → ⊥
-unfolding Refuses
-other_text told =
-    let said : ErrorValue → ℕ = λ e. length e.message in
-    elim told [
-      | inl is ↦ let other : 7 ≡ 5 = ap said is in omega (arith, other)
-      | inr is ↦ let other : 7 ≡ 0 = ap said is in omega (arith, other)
     ]
 
 pub returns : goal.returns
@@ -56,18 +47,24 @@ returns c = record {
   seeded = refl;
   read_in_1 = inl (refl, refl);
   read_in_2 = inr refl;
-  fails = inr (lit≤ tt, (λ h. h), inl refl);
+  fails = inr (lit≤ tt, (λ h. h), refl);
   fails_otherwise = λ h. elim h [
     | inl few ↦ let low : 1 < 1 = few.0 in omega (arith, low)
-    | inr wrong ↦ other_kind _ _ wrong.2
+    | inr wrong ↦ let same : HeaderEnds ≡ Reserved = wrong.2 in cc
   ];
-  ends_otherwise = λ h. other_kind _ _ h.1;
-  first_fault = inr ((lit≤ tt, tt), inl (inr (lit≤ tt, (λ h. h), inl refl)));
-  later_fault = λ h. elim h [
+  ends = inl (lit≤ tt, refl);
+  ends_otherwise = λ h. elim h [
+    | inl few ↦ let same : Reserved ≡ HeaderEnds = few.1 in cc
+    | inr wrong ↦ let low : 1 ≤ 0 = wrong.0 in omega (arith, low)
+  ];
+  first = inr ((lit≤ tt, tt), inl (inr (lit≤ tt, (λ h. h), refl)));
+  later = λ h. elim h [
     | inl first ↦ elim first [
       | inl few ↦ let low : 1 < 1 = few.0 in omega (arith, low)
-      | inr wrong ↦ other_text wrong.2
+      | inr wrong ↦ let same : UnknownCount ≡ Reserved = wrong.2 in cc
     ]
     | inr later ↦ later.0.1
   ];
+  first_fault = (Reserved, inr ((lit≤ tt, tt), inl (inr (lit≤ tt, (λ h. h), refl))), inl refl);
+  other_kind = λ h. other_kind _ _ h.2;
 }

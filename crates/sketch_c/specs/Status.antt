@@ -1,0 +1,48 @@
+-- What the calls on tables answer: 0 where they are done, and else a number below.
+use Rattle.std.specs.Prelude.{◌≡◌, ℕ, ℤ, pos, ◌-ℤ◌, List, length}
+use Rattle.sketch_member.specs.declared.fault.Fault.{Fault}
+use Rattle.sketch_member.specs.declared.fault.Fault.TheVariants.{HeaderEnds, PreambleLongs, SerialVersion, Family, Log2Bits, Hashes, Reserved, UnknownCount, MissingBits, TrailingBytes, Version1}
+use Rattle.sketch_member.specs.declared.fault.MergeFault.{MergeFault}
+use Rattle.sketch_member.specs.declared.fault.MergeFault.TheVariants.{Into, From, Unlike}
+use Rattle.sketch_member.specs.declared.header.Difference.{Difference}
+use Rattle.sketch_member.specs.declared.header.Difference.TheVariants as part
+use Rattle.sketch_member.specs.Faults.{IsFirstFault, view_steps}
+use Rattle.sketch_member.specs.Form.{form2}
+use Rattle.sketch_member.specs.Table.{Table, IsTable}
+
+abbrev minus : ℕ → ℤ
+minus n = pos 0 -ℤ pos n
+
+-- the number of a fault
+abbrev pub status : Fault → ℤ
+status HeaderEnds = minus 1
+status (PreambleLongs n) = minus 2
+status (SerialVersion expected actual) = minus 3
+status (Family n) = minus 4
+status (Log2Bits n) = minus 5
+status (Hashes n) = minus 6
+status Reserved = minus 7
+status UnknownCount = minus 8
+status (MissingBits need have) = minus 9
+status (TrailingBytes n) = minus 10
+status Version1 = minus 11
+
+-- the number of a part in which two tables differ
+abbrev pub difference_status : Difference → ℤ
+difference_status part.Seed = minus 12
+difference_status part.Log2Bits = minus 13
+difference_status part.Hashes = minus 14
+
+abbrev pub merge_status : MergeFault → ℤ
+merge_status (Into fault) = status fault
+merge_status (From fault) = status fault
+merge_status (Unlike part) = difference_status part
+
+-- the bytes are this table, in version 2
+abbrev pub IsTableIn : List ℕ → Table → Type 0
+IsTableIn bytes table = IsTable table × (bytes ≡ form2 table)
+
+-- the bytes are no table of version 2, and the status is that of their first fault
+abbrev pub Refused : List ℕ → ℤ → Type 0
+Refused bytes result = (fault : Fault)
+    × IsFirstFault (length bytes) (view_steps bytes) fault × (result ≡ status fault)

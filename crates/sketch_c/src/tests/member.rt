@@ -1,0 +1,110 @@
+//! The calls on tables: each status, and what a refusal leaves.
+
+use super::assert_same;
+use crate::{
+    sketch_member_check, sketch_member_contains, sketch_member_count, sketch_member_init,
+    sketch_member_insert, sketch_member_merge, sketch_member_size,
+};
+use std::process::Abort;
+
+// A table of 64 bits with one index a key, under seed 0, after the insert of no bytes.
+const ONE_KEY: [u8; 32] = [
+    3, 2, 200, 6, 1, 1, 0, 0, 0, 0, 0, 0, 0, 0, 0, 0, 1, 0, 0, 0, 0, 0, 0, 0, 0, 0, 0, 2, 0, 0, 0,
+    0,
+];
+
+#[test]
+fn a_table_in_bytes(rt: HostRuntime) {
+    let mut bytes = [0xff; 32];
+    let mut count = 7;
+    assert_same(&rt, sketch_member_size(6), 32);
+    assert_same(&rt, sketch_member_init(&mut bytes, 0, 6, 1), 0);
+    assert_same(&rt, sketch_member_contains(&bytes, b""), 0);
+    assert_same(&rt, sketch_member_insert(&mut bytes, b""), 0);
+    assert_same(&rt, bytes, ONE_KEY);
+    assert_same(&rt, sketch_member_check(&bytes), 0);
+    assert_same(&rt, sketch_member_contains(&bytes, b""), 1);
+    assert_same(&rt, sketch_member_contains(&bytes, b"zz"), 0);
+    assert_same(&rt, sketch_member_merge(&mut bytes, &ONE_KEY), 0);
+    assert_same(&rt, sketch_member_count(&bytes, &mut count), 0);
+    assert_same(&rt, count, 2);
+    (bytes[5], bytes[16]) = (0, 0);
+    assert_same(&rt, sketch_member_count(&bytes, &mut count), 1);
+    assert_same(&rt, count, 2);
+}
+
+// Asserts that each call refuses the bytes with this status, and leaves them as they were.
+fn assert_refused(rt: &impl Abort, bytes: &mut [u8; 33], length: usize, status: i32) {
+    let before = *bytes;
+    let mut other = ONE_KEY;
+    let mut count = 7;
+    let refused = &mut bytes[..length.min(33)];
+    assert_same(rt, sketch_member_check(refused), status);
+    assert_same(rt, sketch_member_insert(refused, b"a"), status);
+    assert_same(rt, sketch_member_contains(refused, b"a"), status);
+    assert_same(rt, sketch_member_merge(refused, &ONE_KEY), status);
+    assert_same(rt, sketch_member_merge(&mut other, refused), status);
+    assert_same(rt, sketch_member_count(refused, &mut count), status);
+    assert_same(rt, (*bytes, other, count), (before, ONE_KEY, 7));
+}
+
+#[test]
+fn each_fault_has_its_status(rt: HostRuntime) {
+    for (place, byte, length, status) in [
+        (0, 3, 0, -1),
+        (0, 3, 23, -1),
+        (0, 4, 32, -2),
+        (1, 1, 32, -3),
+        (2, 21, 32, -4),
+        (3, 21, 32, -5),
+        (4, 0, 32, -6),
+        (7, 1, 32, -7),
+        (5, 0, 32, -8),
+        (3, 7, 32, -9),
+        (0, 3, 31, -9),
+        (0, 3, 33, -10),
+    ] {
+        let mut bytes = [0; 33];
+        bytes[..32].copy_from_slice(&ONE_KEY);
+        bytes[place.min(7)] = byte;
+        assert_refused(&rt, &mut bytes, length, status);
+    }
+    let mut version1 = [0; 33];
+    version1[..5].copy_from_slice(&[2, 1, 200, 6, 1]);
+    assert_refused(&rt, &mut version1, 24, -11);
+}
+
+#[test]
+fn each_difference_has_its_status(rt: HostRuntime) {
+    let mut bytes = [0; 40];
+    for (seed, log2_bits, hashes, status) in [(1, 7, 2, -12), (0, 7, 2, -13), (0, 6, 2, -14)] {
+        let size = sketch_member_size(log2_bits).min(40);
+        let made = sketch_member_init(&mut bytes[..size], seed, log2_bits, hashes);
+        assert_same(&rt, made, 0);
+        let before = bytes;
+        let merged = sketch_member_merge(&mut bytes[..size], &ONE_KEY);
+        assert_same(&rt, (merged, bytes), (status, before));
+    }
+}
+
+#[test]
+fn sizes_are_refused(rt: HostRuntime) {
+    let mut bytes = ONE_KEY;
+    for (log2_bits, hashes, status) in [
+        (5, 0, -5),
+        (21, 1, -5),
+        (256 + 6, 1, -5),
+        (u32::MAX, u32::MAX, -5),
+        (6, 0, -6),
+        (6, 17, -6),
+        (6, 256 + 1, -6),
+        (7, 16, -9),
+    ] {
+        let made = sketch_member_init(&mut bytes, 0, log2_bits, hashes);
+        assert_same(&rt, (made, bytes), (status, ONE_KEY));
+    }
+    for log2_bits in [0, 5, 21, 256 + 6, u32::MAX] {
+        assert_same(&rt, sketch_member_size(log2_bits), 0);
+    }
+    assert_same(&rt, sketch_member_size(20), 131_096);
+}

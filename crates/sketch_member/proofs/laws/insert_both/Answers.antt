@@ -1,0 +1,55 @@
+use Rattle.std.proofs.Common.{◌≡◌, ◌⊎◌, arith, inl, inr, length, map, ap, refl, sym, subst, ◌∙◌}
+use Rattle.datasketches.specs.declared.error.ErrorKind.TheVariants.{InvalidArgument}
+use Rattle.datasketches.specs.ErrorValue.{memory_error}
+use Rattle.datasketches.specs.Refusals.{Refuses}
+use Rattle.sketch_member.specs.declared.fault.Fault.{Fault}
+use Rattle.sketch_member.specs.declared.fault.Fault.TheVariants.{Log2Bits, Hashes}
+use Rattle.sketch_member.specs.Faults.{IsFirstFault, fault_text, init_steps}
+use Rattle.sketch_member.proofs.FaultLemmas.{of_err}
+use Rattle.sketch_member.specs.Form.{form2}
+use Rattle.sketch_member.specs.Laws.{InsertsAll}
+use Rattle.sketch_member.proofs.MergeLemmas.{all_alike, made_of, made_once}
+use Rattle.sketch_member.proofs.laws.insert_both.Goals as goal
+
+pub returns-clause-same : goal.returns-clause-same
+returns-clause-same g c =
+    let values = map g.T.Hash.fed c.args.values.now in
+    let lies = c.in_default.ensures in
+    let table = c.insert_all.new.table in
+    let all = subst (λ t. InsertsAll values t table) c.in_ok-table.ensures.answer.2
+    c.insert_all.ensures in
+    let same = made_once c.args.seed c.args.log2_bits c.args.hashes values lies.0 table lies.3 all
+    lies.1 c.to_bytes.ensures.is_table in
+    lies.2 ∙ ap form2 same ∙ sym c.in_ok-to_bytes.ensures.form
+
+pub returns-clause-whole : goal.returns-clause-whole
+returns-clause-whole g c =
+    let values = map g.T.Hash.fed c.args.values.now in
+    let table = c.insert_all.new.table in
+    let all = subst (λ t. InsertsAll values t table) c.in_ok-table.ensures.answer.2
+    c.insert_all.ensures in (
+      table,
+      all_alike values _ table all,
+      made_of c.args.seed c.args.log2_bits c.args.hashes values table all,
+      c.in_ok-to_bytes.ensures.form,
+    )
+
+-- sizes that `new` refuses were refused before
+pub returns-in_err-table-clause-refused : goal.returns-in_err-table-clause-refused
+returns-in_err-table-clause-refused g c =
+    let log2_bits = c.args.log2_bits in
+    let hashes = c.args.hashes in
+    of_err c.from_residual.result _ (λ error. ((fault : Fault)
+    × IsFirstFault (length c.args.bytes.now) (init_steps log2_bits hashes c.args.bytes.now) fault
+    × Refuses InvalidArgument (fault_text fault) error) ⊎ (error ≡ memory_error)) _
+    c.from_residual.ensures.1 (elim c.in_err-table.ensures.answer [
+      | inl size ↦ inl (Log2Bits log2_bits, inl (inr (omega arith, size.0, refl)), size.1)
+      | inr later ↦ elim later [
+        | inl number ↦ inl (
+          Hashes hashes,
+          inr ((omega arith, number.0), inl (inr (omega arith, number.1, refl))),
+          number.2,
+        )
+        | inr memory ↦ inr memory.2
+      ]
+    ])

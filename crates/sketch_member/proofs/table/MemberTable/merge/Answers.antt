@@ -1,0 +1,13 @@
+use Rattle.std.proofs.Common.{refl, rules}
+use Rattle.sketch_member.proofs.table.MemberTable.merge.Goals as goal
+
+pub returns-in-Some-clause-merges : goal.returns-in-Some-clause-merges
+returns-in-Some-clause-merges c = (
+  refl,
+  (
+    c.in-Some.part,
+    rw (← c.self.view_is, ← c.other.view_is)
+        (c.in-Some.ensures c.self.inside.bits.items c.other.inside.bits.items),
+    search rules,
+  ),
+)

@@ -1,0 +1,104 @@
+//! What can be wrong with bytes that are to be a table.
+
+ghost use Rattle.std.specs.Prelude.{Some};
+ghost use Rattle.datasketches.specs.Refusals.{Refuses};
+ghost use Rattle.sketch_member.specs.Faults.{fault_text};
+
+use crate::header::Difference;
+use crate::table::MEMBER;
+use datasketches::error::{Error, ErrorKind};
+use std::alloc::Global;
+use std::fmt;
+
+/// What is wrong with bytes that are to be a table.
+#[derive(Clone, Copy, Debug, PartialEq, Eq)]
+pub enum Fault {
+    /// The header ends too early.
+    HeaderEnds,
+    /// The preamble longs are neither 2 nor 3.
+    PreambleLongs(u8),
+    /// The serial version is not the one that the preamble longs tell of.
+    SerialVersion {
+        /// The version that the preamble longs tell of.
+        expected: u8,
+        /// The version that stands there.
+        actual: u8,
+    },
+    /// The family is another one.
+    Family(u8),
+    /// `log2_bits` is not 6 to 20.
+    Log2Bits(u8),
+    /// `hashes` is not 1 to 16.
+    Hashes(u8),
+    /// The flag of the count is none, or bytes that have to be zero are not.
+    Reserved,
+    /// The flag tells that the count is unknown, and the count is not zero.
+    UnknownCount,
+    /// The bits end too early.
+    MissingBits {
+        /// How many bytes the bits need.
+        need: usize,
+        /// How many bytes follow the header.
+        have: usize,
+    },
+    /// So many bytes follow the bits.
+    TrailingBytes(usize),
+    /// The bytes are a table of version 1, which has no place for a count.
+    Version1,
+}
+
+/// Why one table in bytes cannot be merged into another.
+#[derive(Clone, Copy, Debug, PartialEq, Eq)]
+pub enum MergeFault {
+    /// The bytes that are merged into are no table of version 2.
+    Into(Fault),
+    /// The bytes that are merged are no table of version 2.
+    From(Fault),
+    /// The tables differ in this part of their headers.
+    Unlike(Difference),
+}
+
+impl fmt::Display for Fault {
+    ghost output = { λ fault. Some (fault_text fault) };
+
+    fn fmt<W: fmt::Write>(&self, f: &mut fmt::Formatter<W>) -> fmt::Result {
+        match self {
+            Fault::HeaderEnds => {
+                f.write_str("insufficient data (member table): unexpected end of file")
+            }
+            Fault::PreambleLongs(n) => {
+                write!(f, "invalid preamble longs: expected one of [2, 3], got {n}")
+            }
+            Fault::SerialVersion { expected, actual } => write!(
+                f,
+                "unsupported serial version: expected {expected}, got {actual}"
+            ),
+            Fault::Family(n) => {
+                write!(
+                    f,
+                    "invalid family: expected {} ({}), got {n}",
+                    MEMBER.id, MEMBER.name
+                )
+            }
+            Fault::Log2Bits(n) => write!(f, "invalid log2 bits: expected 6 to 20, got {n}"),
+            Fault::Hashes(n) => write!(f, "invalid hashes: expected 1 to 16, got {n}"),
+            Fault::Reserved => f.write_str("reserved bytes are not zero"),
+            Fault::UnknownCount => f.write_str("unknown count is not zero"),
+            Fault::MissingBits { need, have } => write!(
+                f,
+                "insufficient data (member bits): expected {need}, got {have}"
+            ),
+            Fault::TrailingBytes(n) => write!(f, "trailing bytes: {n}"),
+            Fault::Version1 => f.write_str("unsupported serial version: expected 2, got 1"),
+        }
+    }
+}
+
+impl Fault {
+    // The error that tells of the fault, or that its text found no memory.
+    pub(crate) fn into_error(self, alloc: Global, kind: ErrorKind) -> Error
+        ensures { Refuses kind (fault_text self) result }
+    {
+        Error::from_text(alloc, kind, self.to_string(alloc))
+    }
+}

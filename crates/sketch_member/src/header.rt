@@ -1,0 +1,168 @@
+//! A table's header, and what is done with a header and the bits that belong to it.
+
+ghost use Rattle.std.specs.Prelude.{◌≡◌, ◌⊎◌, ℕ, ◌<◌, ◌^◌, ◌↔◌, List, slice_index, IsTrue, MatchOption, MatchResult, Some};
+ghost use Rattle.sketch_member.specs.Header.{table_of};
+ghost use Rattle.sketch_member.specs.Limits.{IsHashes, IsLog2Bits};
+ghost use Rattle.sketch_member.specs.Merge.{AreAlike, IsFirstDifference, Merges, part_name, sum_of_counts};
+ghost use Rattle.sketch_member.specs.Table.{Inserts, IsIndex, IsMember, IsSet, IsTable, index, one_more};
+
+use crate::bits::{is_set, set, set_all};
+use crate::fault::Fault;
+use crate::limits::{ensure_hashes, ensure_log2_bits};
+use datasketches::hash::{Hash, XxHash64};
+use std::fmt;
+
+/// All of a table but its bits.
+#[derive(Clone, Copy)]
+pub(crate) struct Header {
+    pub(crate) seed: u64,
+    pub(crate) log2_bits: u8,
+    pub(crate) hashes: u8,
+    // None where the table was read from bytes without a count
+    pub(crate) count: Option<u64>,
+}
+
+/// A part of the header in which two tables differ that have to be alike.
+#[derive(Clone, Copy, Debug, PartialEq, Eq)]
+pub enum Difference {
+    /// The seeds differ.
+    Seed,
+    /// The sizes `log2_bits` differ.
+    Log2Bits,
+    /// The numbers `hashes` differ.
+    Hashes,
+}
+
+impl fmt::Display for Difference {
+    ghost output = { λ part. Some (part_name part) };
+
+    fn fmt<W: fmt::Write>(&self, f: &mut fmt::Formatter<W>) -> fmt::Result {
+        f.write_str(match self {
+            Difference::Seed => "seed",
+            Difference::Log2Bits => "log2 bits",
+            Difference::Hashes => "hashes",
+        })
+    }
+}
+
+impl Header {
+    // The header of a table of no inserts.
+    pub(crate) fn new(seed: u64, log2_bits: u8, hashes: u8) -> Result<Header, Fault>
+        ensures { MatchResult result
+            (λ header. IsLog2Bits log2_bits × IsHashes hashes × (header ≡ record {
+              seed = seed;
+              log2_bits = log2_bits;
+              hashes = hashes;
+              count = Some 0;
+            }))
+            (λ fault. ((IsLog2Bits log2_bits → ⊥) × (fault ≡ Fault.Log2Bits log2_bits))
+            ⊎ (IsLog2Bits log2_bits × (IsHashes hashes → ⊥) × (fault ≡ Fault.Hashes hashes))) }
+    {
+        ensure_log2_bits(log2_bits)?;
+        ensure_hashes(hashes)?;
+        Ok(Header {
+            seed,
+            log2_bits,
+            hashes,
+            count: Some(0),
+        })
+    }
+
+    // Inserts a value into the table with these bits.
+    pub(crate) fn insert<T: Hash>(&mut self, bits: &mut [u8], value: &T)
+        requires { IsTable (table_of self.old bits.old) }
+        ensures inserts { Inserts (T.fed value.now) (table_of self.old bits.old)
+            (table_of self.new bits.new) }
+        ensures is_table { IsTable (table_of self.new bits.new) }
+    {
+        self.set_bits(bits, value);
+        self.count = one_more(self.count);
+    }
+
+    // Whether the table with these bits contains a value.
+    pub(crate) fn contains<T: Hash>(&self, bits: &[u8], value: &T) -> bool
+        requires { IsTable (table_of self.now bits.now) }
+        ensures { IsTrue result ↔ IsMember (table_of self.now bits.now) (T.fed value.now) }
+    {
+        for j in 0..self.hashes {
+            if !is_set(bits, self.index(value, j)) {
+                return false;
+            }
+        }
+        true
+    }
+
+    // Merges another table, which is alike, into the one with these bits.
+    pub(crate) fn merge(&mut self, bits: &mut [u8], other: &Header, other_bits: &[u8])
+        requires is_table { IsTable (table_of self.old bits.old) }
+        requires other { IsTable (table_of other.now other_bits.now) }
+        requires alike { AreAlike (table_of self.old bits.old) (table_of other.now other_bits.now) }
+        ensures merges { Merges (table_of other.now other_bits.now) (table_of self.old bits.old)
+            (table_of self.new bits.new) }
+        ensures is_table { IsTable (table_of self.new bits.new) }
+    {
+        set_all(bits, other_bits);
+        self.count = sum_of_counts(self.count, other.count);
+    }
+
+    // The first part in which two headers differ that have to be alike.
+    pub(crate) fn difference(&self, other: &Header) -> Option<Difference>
+        ensures { (bits : List ℕ) (others : List ℕ) →
+            MatchOption result (AreAlike (table_of self.now bits) (table_of other.now others))
+            (λ part. IsFirstDifference (table_of self.now bits) (table_of other.now others) part) }
+    {
+        if self.seed != other.seed {
+            return Some(Difference::Seed);
+        }
+        if self.log2_bits != other.log2_bits {
+            return Some(Difference::Log2Bits);
+        }
+        if self.hashes != other.hashes {
+            return Some(Difference::Hashes);
+        }
+        None
+    }
+
+    // Sets the bits at the value's indexes.
+    fn set_bits<T: Hash>(&self, bits: &mut [u8], value: &T)
+        requires { IsTable (table_of self.now bits.old) }
+        ensures bits { (i : ℕ) → IsSet bits.new i
+            ↔ (IsSet bits.old i ⊎ IsIndex (table_of self.now bits.old) (T.fed value.now) i) }
+        ensures bytes { (k : ℕ) → slice_index bits.new k < 256 }
+    {
+        for j in 0..self.hashes {
+            set(bits, self.index(value, j));
+        }
+    }
+
+    // The value's index of number `j`.
+    fn index<T: Hash>(&self, value: &T, j: u8) -> usize
+        requires { IsLog2Bits self.now.log2_bits }
+        ensures index { result ≡ index self.now.seed self.now.log2_bits (T.fed value.now) j }
+        ensures inside { result < 2 ^ self.now.log2_bits }
+    {
+        let mut hasher = XxHash64::with_seed(self.seed.wrapping_add(u64::from(j)));
+        value.hash(&mut hasher);
+        (hasher.finish64() & ((1 << self.log2_bits) - 1)) as usize
+    }
+}
+
+// The count after one more insert.
+fn one_more(count: Option<u64>) -> Option<u64>
+    ensures { result ≡ one_more count }
+{
+    match count {
+        Some(n) => Some(n.saturating_add(1)),
+        None => None,
+    }
+}
+
+// The count of two tables together.
+fn sum_of_counts(count: Option<u64>, other: Option<u64>) -> Option<u64>
+    ensures { result ≡ sum_of_counts count other }
+{
+    match (count, other) {
+        (Some(m), Some(n)) => Some(m.saturating_add(n)),
+        _ => None,
+    }
+}

@@ -1,0 +1,108 @@
+//! Tables of version 2 that are changed where their bytes lie, as in a file that is mapped.
+//!
+//! Each call checks the header, makes no pass over the bits to do so, and takes no memory. What it
+//! refuses it leaves as it was.
+
+ghost use Rattle.std.specs.Prelude.{◌≡◌, ◌+◌, length, MatchOption, MatchResult};
+ghost use Rattle.sketch_member.specs.Faults.{IsFirstFault, init_steps, view_steps};
+ghost use Rattle.sketch_member.specs.Form.{form2};
+ghost use Rattle.sketch_member.specs.InPlace.{Becomes, IsMergeFault};
+ghost use Rattle.sketch_member.specs.Limits.{IsHashes, IsLog2Bits};
+ghost use Rattle.sketch_member.specs.Merge.{Merges};
+ghost use Rattle.sketch_member.specs.Table.{Inserts, IsTable, Table, byte_count, empty_table};
+
+use crate::bits::clear;
+use crate::fault::{Fault, MergeFault};
+use crate::header::Header;
+use crate::limits::{byte_count, ensure_log2_bits};
+use crate::reading::ensure_bits_count;
+use crate::table::HEADER_BYTES;
+use crate::view::read_version2;
+use datasketches::hash::Hash;
+
+/// How many bytes a table of 2^`log2_bits` bits has: 24 more than its bits fill. None where
+/// `log2_bits` is not 6 to 20.
+pub fn size(log2_bits: u8) -> Option<usize>
+    ensures { MatchOption result (IsLog2Bits log2_bits → ⊥)
+        (λ n. IsLog2Bits log2_bits × (n ≡ 24 + byte_count log2_bits)) }
+{
+    match ensure_log2_bits(log2_bits) {
+        Ok(()) => Some(HEADER_BYTES + byte_count(log2_bits)),
+        Err(_) => None,
+    }
+}
+
+/// Makes the bytes a table with no bit set, of no inserts.
+///
+/// # Errors
+///
+/// Where `log2_bits` is not 6 to 20, then where `hashes` is not 1 to 16, and then where the bytes
+/// are not as many as such a table has.
+pub fn init(bytes: &mut [u8], seed: u64, log2_bits: u8, hashes: u8) -> Result<(), Fault>
+    ensures { MatchResult result
+        (λ _. IsLog2Bits log2_bits × IsHashes hashes
+        × (bytes.new ≡ form2 (empty_table seed log2_bits hashes)))
+        (λ fault. (bytes.new ≡ bytes.old)
+        × IsFirstFault (length bytes.old) (init_steps log2_bits hashes bytes.old) fault) }
+{
+    let header = Header::new(seed, log2_bits, hashes)?;
+    let length = bytes.len();
+    if length < HEADER_BYTES {
+        return Err(Fault::HeaderEnds);
+    }
+    ensure_bits_count(byte_count(log2_bits), length - HEADER_BYTES)?;
+    let (head, bits) = bytes.split_at_mut(HEADER_BYTES);
+    head.copy_from_slice(&header.to_bytes());
+    clear(bits);
+    Ok(())
+}
+
+/// Inserts a value. A known count grows by one and stays at the greatest `u64`; an unknown one
+/// stays unknown.
+///
+/// # Errors
+///
+/// As those of [`TableView::new`](crate::TableView::new).
+pub fn insert<T: Hash>(bytes: &mut [u8], value: &T) -> Result<(), Fault>
+    ensures { MatchResult result
+        (λ _. Becomes (Inserts (T.fed value.now)) bytes.old bytes.new)
+        (λ fault. (bytes.new ≡ bytes.old)
+        × IsFirstFault (length bytes.old) (view_steps bytes.old) fault) }
+{
+    let (mut header, _) = read_version2(bytes)?;
+    let (head, bits) = bytes.split_at_mut(HEADER_BYTES);
+    header.insert(bits, value);
+    head.copy_from_slice(&header.to_bytes());
+    Ok(())
+}
+
+/// Merges the table of the same seed and sizes in `from` into the one in `into`, which then
+/// contains what either did. Known counts add and stay at the greatest `u64`; an unknown one makes
+/// the sum unknown.
+///
+/// # Errors
+///
+/// Where `into` is not a table, then where `from` is not, as those of
+/// [`TableView::new`](crate::TableView::new), and then where the two are not alike.
+pub fn merge(into: &mut [u8], from: &[u8]) -> Result<(), MergeFault>
+    ensures { MatchResult result
+        (λ _. (other : Table) × IsTable other × (from.now ≡ form2 other)
+        × Becomes (Merges other) into.old into.new)
+        (λ fault. (into.new ≡ into.old) × IsMergeFault into.old from.now fault) }
+{
+    let (mut header, _) = match read_version2(into) {
+        Ok(parts) => parts,
+        Err(fault) => return Err(MergeFault::Into(fault)),
+    };
+    let (other, other_bits) = match read_version2(from) {
+        Ok(parts) => parts,
+        Err(fault) => return Err(MergeFault::From(fault)),
+    };
+    if let Some(part) = header.difference(&other) {
+        return Err(MergeFault::Unlike(part));
+    }
+    let (head, bits) = into.split_at_mut(HEADER_BYTES);
+    header.merge(bits, &other, other_bits);
+    head.copy_from_slice(&header.to_bytes());
+    Ok(())
+}

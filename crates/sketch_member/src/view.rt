@@ -1,0 +1,75 @@
+//! A table that is read where its bytes lie.
+
+ghost use Rattle.std.specs.Prelude.{◌≡◌, ◌↔◌, length, IsTrue, MatchResult};
+ghost use Rattle.sketch_member.specs.Faults.{IsFirstFault, view_steps};
+ghost use Rattle.sketch_member.specs.Form.{form2};
+ghost use Rattle.sketch_member.specs.Header.{table_of};
+ghost use Rattle.sketch_member.specs.Table.{IsMember, IsTable, Table};
+
+use crate::fault::Fault;
+use crate::header::Header;
+use crate::reading::read;
+use crate::table::LONGS_1;
+use datasketches::hash::Hash;
+use std::marker::Model;
+
+/// A table in bytes of version 2, which are borrowed and not copied.
+///
+/// The functions of [`in_place`](crate::in_place) change such bytes.
+#[derive(Drop)]
+pub struct TableView<'a> {
+    header: Header,
+    bits: &'a [u8],
+}
+
+impl<'a> Model for TableView<'a> {
+    ghost Value = { Table };
+
+    ghost view = { λ v. table_of v.header v.bits.now };
+
+    ghost invariant = { λ v. IsTable (table_of v.header v.bits.now) };
+}
+
+impl TableView<'_> {
+    /// The table that the bytes are, in version 2. Reads the header alone, and takes no memory.
+    ///
+    /// # Errors
+    ///
+    /// At bytes that are not all of a table: the first fault in the order of their places. At a
+    /// table of version 1: [`Fault::Version1`].
+    pub fn new(bytes: &[u8]) -> Result<TableView<'_>, Fault>
+        ensures { MatchResult result (λ view. IsTable view × (bytes.now ≡ form2 view))
+            (λ fault. IsFirstFault (length bytes.now) (view_steps bytes.now) fault) }
+    {
+        let (header, bits) = read_version2(bytes)?;
+        Ok(TableView { header, bits })
+    }
+
+    /// Whether all bits at the value's indexes are set, as they are once it was inserted.
+    pub fn contains<T: Hash>(&self, value: &T) -> bool
+        ensures { IsTrue result ↔ IsMember self.now (T.fed value.now) }
+    {
+        self.header.contains(self.bits, value)
+    }
+
+    /// How many inserts were counted; None where that is unknown.
+    pub fn count(&self) -> Option<u64>
+        ensures { result ≡ self.now.count }
+    {
+        self.header.count
+    }
+}
+
+// The header and the bits of the table that the bytes are, in version 2.
+pub(crate) fn read_version2(bytes: &[u8]) -> Result<(Header, &[u8]), Fault>
+    ensures { MatchResult result
+        (λ parts. IsTable (table_of parts.0 parts.1.now)
+        × (bytes.now ≡ form2 (table_of parts.0 parts.1.now)))
+        (λ fault. IsFirstFault (length bytes.now) (view_steps bytes.now) fault) }
+{
+    let (header, bits) = read(bytes)?;
+    if bytes.first() == Some(&LONGS_1) {
+        return Err(Fault::Version1);
+    }
+    Ok((header, bits))
+}
