@@ -68,6 +68,13 @@ pub fn see_saved_key(alloc: Global, saved: &[u8], key: &[u8]) -> Result<(bool, V
     Ok((is_seen, seen.to_bytes(alloc)?))
 }
 
+/// How many keys were seen, each as often as it was, where that is known.
+pub fn count_seen(seen: &MemberTable) -> Option<u64>
+    ensures { result ≡ seen.now.count }
+{
+    seen.count()
+}
+
 /// Whether two tables are the same, count and all, by the bytes in which they are saved.
 pub fn are_same_tables(
     alloc: Global,

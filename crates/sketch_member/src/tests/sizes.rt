@@ -2,7 +2,7 @@
 
 use super::{assert_out_of_memory, assert_same_for};
 use crate::MemberTable;
-use datasketches::error::Error;
+use datasketches::error::{Error, ErrorKind};
 use datasketches::hash::value::raw_bytes;
 use std::alloc::Global;
 use std::io::Eprint;
@@ -62,6 +62,90 @@ fn tables_of_every_size_are_written_and_read(rt: HostRuntime) -> Result<(), Fail
         }
     }
     Ok(())
+}
+
+// Asserts that an empty table with a seed and a count, in 32 bytes, is read and written.
+fn try_seed_and_count(rt: &impl Abort, alloc: Global, seed: u64, count: u64) -> Result<(), Error> {
+    let mut bytes = [0; 32];
+    bytes[..6].copy_from_slice(&[3, 2, 200, 6, 1, 1]);
+    bytes[8..16].copy_from_slice(&seed.to_le_bytes());
+    bytes[16..24].copy_from_slice(&count.to_le_bytes());
+    let table = MemberTable::from_bytes(alloc, &bytes)?;
+    assert_same_for(rt, table.count(), Some(count), (seed, count));
+    let again = table.to_bytes(alloc)?;
+    assert_same_for(
+        rt,
+        again.as_slice() == bytes.as_slice(),
+        true,
+        (seed, count),
+    );
+    Ok(())
+}
+
+#[test]
+fn tables_of_many_seeds_and_counts(rt: HostRuntime) -> Result<(), Fail> {
+    for low in 0..20_000u64 {
+        for n in [low, low.wrapping_neg(), low ^ (1 << 63), low << 32] {
+            try_seed_and_count(&rt, rt.alloc(), n, low)?;
+            try_seed_and_count(&rt, rt.alloc(), low, n)?;
+            let table = MemberTable::new(rt.alloc(), n, 6, 1)?;
+            assert_same_for(&rt, table.count(), Some(0), n);
+        }
+    }
+    Ok(())
+}
+
+#[test]
+fn sizes_outside_their_limits_are_told(rt: HostRuntime) {
+    for log2_bits in 0..=255 {
+        for hashes in 0..=255 {
+            let is_log2_bits = (6..=20).contains(&log2_bits);
+            if is_log2_bits && (1..=16).contains(&hashes) {
+                continue;
+            }
+            let answer = MemberTable::new(rt.alloc(), 0, log2_bits, hashes);
+            let kind = answer.err().map(|error| error.kind());
+            assert!(rt;
+                kind == Some(ErrorKind::InvalidArgument),
+                "{log2_bits}, {hashes}"
+            );
+        }
+    }
+}
+
+// Of every size, bytes with some fewer or some more than they should have.
+#[test]
+fn missing_and_trailing_bytes_are_told(rt: HostRuntime) -> Result<(), Fail> {
+    for log2_bits in 6..=20 {
+        let mut bytes = bytes_of(rt.alloc(), log2_bits, 3, true)?;
+        for _ in 0..8 {
+            let shorter = &bytes[..bytes.len().saturating_sub(1)];
+            assert_malformed(&rt, MemberTable::from_bytes(rt.alloc(), shorter));
+            bytes.pop();
+        }
+        let mut bytes = bytes_of(rt.alloc(), log2_bits, 3, true)?;
+        for _ in 0..40 {
+            bytes.push(0)?;
+            assert_malformed(&rt, MemberTable::from_bytes(rt.alloc(), &bytes));
+        }
+    }
+    Ok(())
+}
+
+fn assert_malformed(rt: &impl Abort, answer: Result<MemberTable, Error>) {
+    let kind = answer.err().map(|error| error.kind());
+    assert!(rt; kind == Some(ErrorKind::InvalidData));
+}
+
+// The sweep counts the requests: one for the bits of each table, and one for those of each copy.
+#[test]
+fn tables_that_are_read_make_16_requests(rt: HostRuntime) {
+    for hashes in 1..=16 {
+        let mut bytes = [0; 32];
+        bytes[..6].copy_from_slice(&[3, 2, 200, 6, hashes, 1]);
+        let table = MemberTable::from_bytes(rt.alloc(), &bytes);
+        assert_same_for(&rt, table.is_ok(), true, hashes);
+    }
 }
 
 #[test]
