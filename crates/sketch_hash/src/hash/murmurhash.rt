@@ -238,13 +238,12 @@ fn step(h1: u64, h2: u64, k1: u64, k2: u64) -> (u64, u64)
 
 // The pair after blocks.
 #[inline(always)]
-fn fold_blocks(mut h1: u64, mut h2: u64, blocks: &[[u8; BLOCK]]) -> (u64, u64)
+fn fold_blocks(h1: u64, h2: u64, blocks: &[[u8; BLOCK]]) -> (u64, u64)
     ensures { result ≡ fold step (h1, h2) (map block_words blocks.now) }
 {
-    for block in blocks {
-        (h1, h2) = step(h1, h2, block_word(&block[..8]), block_word(&block[8..]));
-    }
-    (h1, h2)
+    blocks.iter().fold((h1, h2), |(h1, h2), block| {
+        step(h1, h2, block_word(&block[..8]), block_word(&block[8..]))
+    })
 }
 
 // The pair after the tail. A word of it that has no bytes would change nothing.

@@ -1,10 +1,11 @@
 //! XXH64, after Yann Collet's xxHash specification.
 
-ghost use Rattle.std.specs.Prelude.{◌≡◌, ℕ, ◌+◌, ◌-◌, ◌%◌, ◌<◌, ◌≤◌, List, [], ◌++◌, nat_lt, length, take};
+ghost use Rattle.std.specs.Prelude.{◌≡◌, ℕ, ◌+◌, ◌-◌, ◌%◌, ◌<◌, ◌≤◌, List, [], ◌++◌, nat_lt, if◌then◌else◌, length, take};
 ghost use Rattle.std.specs.List.{fold};
 ghost use Rattle.sketch_base.specs.Bytes.{eight};
 ghost use Rattle.sketch_hash.specs.Pieces.{State};
-ghost use Rattle.sketch_hash.specs.Xxh64.{Lanes, lanes_start, round, merge_round, merge, eight_step, four_step, byte_step, tail_step, steps, avalanche, xxh64, xxh64_after, xxh64_answer, Xxh64Stands};
+ghost use Rattle.sketch_hash.specs.Words.{plus};
+ghost use Rattle.sketch_hash.specs.Xxh64.{Lanes, prime5, lanes_start, round, merge_round, merge, eight_step, four_step, byte_step, tail_step, steps, avalanche, xxh64, xxh64_after, xxh64_answer, Xxh64Stands};
 ghost use Rattle.sketch_hash.specs.ScalarLanes.{lanes_of_scalars};
 ghost use Rattle.sketch_hash.specs.Lanes.{each_lane, lanes_of};
 ghost use Rattle.sketch_hash.specs.Xxh64WriteLemmas.{xxh64_after-append, xxh64_after-empty};
@@ -79,12 +80,8 @@ impl XxHash64 {
         ensures stands { (seed : ℕ) (bytes : List ℕ) → Xxh64Stands self.now seed bytes →
             result ≡ xxh64 seed bytes }
     {
-        let hash = if self.is_short() {
-            self.seed.wrapping_add(PRIME5)
-        } else {
-            self.merge()
-        };
-        avalanche(fold_tail(hash.wrapping_add(self.total), &self.buffer[..self.count]))
+        let hash = self.before_tail().wrapping_add(self.total);
+        avalanche(fold_tail(hash, &self.buffer[..self.count]))
     }
 
     /// The 64-bit hash of bytes under a seed, in one call.
@@ -107,6 +104,20 @@ impl XxHash64 {
         ensures { result ≡ xxh64 seed (eight input) }
     {
         avalanche(eight_step(seed.wrapping_add(PRIME5).wrapping_add(8), input))
+    }
+
+    // The hash before the length and the tail enter it: of the seed alone where less than a stripe
+    // was counted, and else of the four lanes.
+    #[inline(always)]
+    fn before_tail(&self) -> u64
+        ensures { result ≡ (if nat_lt self.now.total 32
+            then plus self.now.folded.0 prime5 else merge self.now.folded.1) }
+    {
+        if self.is_short() {
+            self.seed.wrapping_add(PRIME5)
+        } else {
+            self.merge()
+        }
     }
 
     // Whether the hash starts from the seed alone: where less than a stripe was counted.
