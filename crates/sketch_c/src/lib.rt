@@ -1,15 +1,20 @@
 //! The library `sketch_hash` for C: the hashers, as calls that C and what calls C can make.
 //!
-//! A state stands in the caller's memory. Every content of a state is safe, nothing allocates and
-//! nothing fails, so no call asks for more than its types say.
+//! A state stands in the caller's memory. Every content of a state is safe, nothing allocates, and
+//! offsets that lie are answered, so no call asks for more than its types say.
 #![tactic(auto)]
 
+mod each;
 mod murmur;
 #[cfg(test)]
 mod tests;
 mod version;
 mod xxh64;
 
+pub use self::each::{
+    sketch_murmur3_x64_128_each32, sketch_murmur3_x64_128_each64, sketch_xxh64_each_u64,
+    sketch_xxh64_each32, sketch_xxh64_each64,
+};
 pub use self::murmur::{
     Murmur128, sketch_murmur3_x64_128, sketch_murmur3_x64_128_digest, sketch_murmur3_x64_128_reset,
     sketch_murmur3_x64_128_update,
