@@ -1,8 +1,9 @@
 /* sketch_hash 1.0.0: XXH64 and MurmurHash3_x64_128 of bytes, from functions that are proved.
  *
  * Proved of the library: for every seed, and however a stream is cut into updates, a digest is the
- * published hash of all bytes since the last reset; no call allocates, fails, or reads or writes
- * outside of what it is given; and every content of a state is safe, even noise.
+ * published hash of all bytes since the last reset; no call allocates, or reads or writes outside
+ * of what it is given; every content of a state is safe, even noise; and so is every content of a
+ * column's offsets, which alone can be refused.
  *
  * What a caller owes, which no compiler checks:
  *   - A state starts by its _INIT or its _reset. A state of zeros is safe, but XXH64 of it is
@@ -10,6 +11,8 @@
  *   - A pointer to a state is valid, and nothing else touches the state during a call.
  *   - `input` points to `length` readable bytes that stay as they are during the call and do not
  *     overlap the state. It may be NULL only if `length` is 0. `length` is below 2^63.
+ *   - The same holds of each array that is passed with a count, which is below 2^60. `out` overlaps
+ *     nothing else that is passed.
  *
  * A state owns nothing: declare it, copy it by assignment, write it to a file of the same kind of
  * machine, forget it. Threads may share the library, and each state needs one owner at a time.
@@ -84,6 +87,32 @@ void sketch_murmur3_x64_128_update(sketch_murmur3_x64_128_state_t *state, const 
                                    size_t length);
 sketch_murmur3_x64_128_hash_t
 sketch_murmur3_x64_128_digest(const sketch_murmur3_x64_128_state_t *state);
+
+/* ---- Columns of keys: one call hashes all keys of a column, as Apache Arrow lays out strings.
+ *
+ * Key i is the bytes of `input` from offsets[i] up to offsets[i + 1], and its hash goes to out[i], for
+ * each i below `count`. `offsets` has count + 1 offsets, one if there are no keys. `offset_count` says
+ * how many may be read; those beyond are not.
+ *
+ * A call answers 0 when all is done. Otherwise it has written nothing, and answers 1 + the index of
+ * the first offset that is missing, is above `length`, or is below the offset before it. */
+
+size_t sketch_xxh64_each32(const void *input, size_t length, const uint32_t *offsets,
+                           size_t offset_count, uint64_t seed, uint64_t *out, size_t count);
+size_t sketch_xxh64_each64(const void *input, size_t length, const uint64_t *offsets,
+                           size_t offset_count, uint64_t seed, uint64_t *out, size_t count);
+
+size_t sketch_murmur3_x64_128_each32(const void *input, size_t length, const uint32_t *offsets,
+                                     size_t offset_count, uint64_t seed,
+                                     sketch_murmur3_x64_128_hash_t *out, size_t count);
+size_t sketch_murmur3_x64_128_each64(const void *input, size_t length, const uint64_t *offsets,
+                                     size_t offset_count, uint64_t seed,
+                                     sketch_murmur3_x64_128_hash_t *out, size_t count);
+
+/* The column of numbers: out[i] is sketch_xxh64_u64(values[i], seed). With fewer values than `count`
+ * it writes nothing, and answers 1 + value_count. */
+size_t sketch_xxh64_each_u64(const uint64_t *values, size_t value_count, uint64_t seed,
+                             uint64_t *out, size_t count);
 
 /* ---- For the initializers, and the layouts that the library was built for: with another one an
  * array below has the size -1, and does not compile. */
