@@ -52,7 +52,8 @@ pub extern "C" fn sketch_murmur3_x64_128_each32(
     seed: u64,
     out: &mut [[u64; 2]],
 ) -> usize
-    ensures { HashesEach (murmur_words seed) input.now offsets.now out.old out.new (outcome result) }
+    ensures { HashesEach (murmur_words seed) input.now offsets.now out.old out.new
+        (outcome result) }
 {
     status(MurmurHash3X64128::hash_each(input, offsets, seed, out))
 }
@@ -66,7 +67,8 @@ pub extern "C" fn sketch_murmur3_x64_128_each64(
     seed: u64,
     out: &mut [[u64; 2]],
 ) -> usize
-    ensures { HashesEach (murmur_words seed) input.now offsets.now out.old out.new (outcome result) }
+    ensures { HashesEach (murmur_words seed) input.now offsets.now out.old out.new
+        (outcome result) }
 {
     status(MurmurHash3X64128::hash_each(input, offsets, seed, out))
 }

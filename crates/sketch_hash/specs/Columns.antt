@@ -10,8 +10,8 @@ key_at bytes offsets i =
     let start = slice_index offsets i in
     take (slice_index offsets (i + 1) - start) (drop start bytes)
 
--- The offset at place i is there, is at most the number of bytes, and is not below the offset before
--- it. Before the first stands 0.
+-- The offset at place i is there, is at most the number of bytes, and is not below the offset
+-- before it. Before the first stands 0.
 abbrev pub IsBound : List ℕ → List ℕ → ℕ → Type 0
 IsBound bytes offsets i =
     (i < length offsets)

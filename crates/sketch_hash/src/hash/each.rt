@@ -42,8 +42,8 @@ impl XxHash64 {
     ///
     /// # Errors
     ///
-    /// Returns the index of the first offset that is missing, is past the end of `bytes`, or is below
-    /// the offset before it. `out` is then unchanged.
+    /// Returns the index of the first offset that is missing, is past the end of `bytes`, or is
+    /// below the offset before it. `out` is then unchanged.
     #[inline(always)]
     pub fn hash_each<O: Offset>(
         bytes: &[u8],
@@ -51,7 +51,8 @@ impl XxHash64 {
         seed: u64,
         out: &mut [u64],
     ) -> Result<(), usize>
-        ensures { HashesEach (xxh64 seed) bytes.now (map O.place offsets.now) out.old out.new result }
+        ensures { let places = map O.place offsets.now in
+            HashesEach (xxh64 seed) bytes.now places out.old out.new result }
     {
         check_offsets(bytes, offsets, out.len())?;
         for i in 0..out.len() {
@@ -60,12 +61,13 @@ impl XxHash64 {
         Ok(())
     }
 
-    /// The 64-bit hash of each number's eight little-endian bytes under a seed, each at its place of
-    /// `out`, for as many numbers as `out` has places.
+    /// The 64-bit hash of each number's eight little-endian bytes under a seed, each at its place
+    /// of `out`, for as many numbers as `out` has places.
     ///
     /// # Errors
     ///
-    /// Returns how many numbers there are if they are fewer than the places. `out` is then unchanged.
+    /// Returns how many numbers there are if they are fewer than the places. `out` is then
+    /// unchanged.
     #[inline(always)]
     pub fn hash_each_u64(input: &[u64], seed: u64, out: &mut [u64]) -> Result<(), usize>
         ensures { HashesEachNumber (xxh64 seed) input.now out.old out.new result }
@@ -96,7 +98,8 @@ impl MurmurHash3X64128 {
         seed: u64,
         out: &mut [[u64; 2]],
     ) -> Result<(), usize>
-        ensures { HashesEach (murmur_words seed) bytes.now (map O.place offsets.now) out.old out.new result }
+        ensures { let places = map O.place offsets.now in
+            HashesEach (murmur_words seed) bytes.now places out.old out.new result }
     {
         check_offsets(bytes, offsets, out.len())?;
         for i in 0..out.len() {

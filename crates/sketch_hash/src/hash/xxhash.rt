@@ -359,7 +359,8 @@ fn fold_tail(hash: u64, tail: &[u8]) -> u64
 // The hash after the tail's words of eight bytes, and the bytes after these.
 #[inline(always)]
 fn fold_words(mut hash: u64, tail: &[u8]) -> (u64, &[u8])
-    ensures same { fold tail_step result.0 (steps result.1.now) ≡ fold tail_step hash (steps tail.now) }
+    ensures same { fold tail_step result.0 (steps result.1.now)
+        ≡ fold tail_step hash (steps tail.now) }
     ensures short { length result.1.now < 8 }
 {
     let mut rest = tail;
