@@ -4,7 +4,8 @@
  * Proved of the library: for every seed, and however a stream is cut into updates, a digest is the
  * published hash of all bytes since the last reset; a table contains each key that was inserted;
  * no call allocates, or reads or writes outside of what it is given; no call fails but those on
- * tables, which answer a status; and every content of a state or a table is safe, even noise.
+ * tables, which answer a status, and those on columns, at offsets that do not fit; and every content
+ * of a state, a table or an array of offsets is safe, even noise.
  *
  * What a caller owes, which no compiler checks:
  *   - A state starts by its _INIT or its _reset. A state of zeros is safe, but XXH64 of it is
@@ -13,6 +14,8 @@
  *   - `input`, `key` and the bytes of a table point to as many readable bytes as their length says,
  *     which stay as they are during the call and overlap nothing that the call writes. They may be
  *     NULL only if the length is 0. A length is below 2^63.
+ *   - The same holds of each array that is passed with a count, which is below 2^60. `out` overlaps
+ *     nothing else that is passed.
  *   - The bytes of a table that a call changes are writable too.
  *
  * A state or a table owns nothing: declare it, copy it by assignment, write it to a file (a state,
@@ -89,6 +92,32 @@ void sketch_murmur3_x64_128_update(sketch_murmur3_x64_128_state_t *state, const 
                                    size_t length);
 sketch_murmur3_x64_128_hash_t
 sketch_murmur3_x64_128_digest(const sketch_murmur3_x64_128_state_t *state);
+
+/* ---- Columns of keys: one call hashes all keys of a column, as Apache Arrow lays out strings.
+ *
+ * Key i is the bytes of `input` from offsets[i] up to offsets[i + 1], and its hash goes to out[i], for
+ * each i below `count`. `offsets` has count + 1 offsets, one if there are no keys. `offset_count` says
+ * how many may be read; those beyond are not.
+ *
+ * A call answers 0 when all is done. Otherwise it has written nothing, and answers 1 + the index of
+ * the first offset that is missing, is above `length`, or is below the offset before it. */
+
+size_t sketch_xxh64_each32(const void *input, size_t length, const uint32_t *offsets,
+                           size_t offset_count, uint64_t seed, uint64_t *out, size_t count);
+size_t sketch_xxh64_each64(const void *input, size_t length, const uint64_t *offsets,
+                           size_t offset_count, uint64_t seed, uint64_t *out, size_t count);
+
+size_t sketch_murmur3_x64_128_each32(const void *input, size_t length, const uint32_t *offsets,
+                                     size_t offset_count, uint64_t seed,
+                                     sketch_murmur3_x64_128_hash_t *out, size_t count);
+size_t sketch_murmur3_x64_128_each64(const void *input, size_t length, const uint64_t *offsets,
+                                     size_t offset_count, uint64_t seed,
+                                     sketch_murmur3_x64_128_hash_t *out, size_t count);
+
+/* The column of numbers: out[i] is sketch_xxh64_u64(values[i], seed). With fewer values than `count`
+ * it writes nothing, and answers 1 + value_count. */
+size_t sketch_xxh64_each_u64(const uint64_t *values, size_t value_count, uint64_t seed,
+                             uint64_t *out, size_t count);
 
 /* ---- A table of members: it tells of a key whether it was inserted, is never wrong about one that
  * was, and may be wrong about one that was not.

@@ -27,6 +27,12 @@ calls.cdef(
     void sketch_xxh64_reset(sketch_xxh64_state_t *state, uint64_t seed);
     void xxh64_update(sketch_xxh64_state_t *state, const void *input, size_t length);
     uint64_t sketch_xxh64_digest(const sketch_xxh64_state_t *state);
+    size_t xxh64_each32(const void *input, size_t length, const uint32_t *offsets,
+                        size_t offset_count, uint64_t seed, uint64_t *out, size_t count);
+    size_t xxh64_each64(const void *input, size_t length, const uint64_t *offsets,
+                        size_t offset_count, uint64_t seed, uint64_t *out, size_t count);
+    size_t xxh64_each_u64(const uint64_t *values, size_t value_count, uint64_t seed, uint64_t *out,
+                          size_t count);
 
     sketch_murmur3_x64_128_hash_t murmur(const void *input, size_t length, uint64_t seed);
     void sketch_murmur3_x64_128_reset(sketch_murmur3_x64_128_state_t *state, uint64_t seed);
@@ -66,6 +72,32 @@ calls.set_source(
         PyThreadState *thread = give_up(length);
         sketch_xxh64_update(state, input, length);
         take_back(thread);
+    }
+
+    static size_t xxh64_each32(const void *input, size_t length, const uint32_t *offsets,
+                               size_t offset_count, uint64_t seed, uint64_t *out, size_t count) {
+        PyThreadState *thread = give_up(length + 8 * count);
+        size_t fault =
+            sketch_xxh64_each32(input, length, offsets, offset_count, seed, out, count);
+        take_back(thread);
+        return fault;
+    }
+
+    static size_t xxh64_each64(const void *input, size_t length, const uint64_t *offsets,
+                               size_t offset_count, uint64_t seed, uint64_t *out, size_t count) {
+        PyThreadState *thread = give_up(length + 8 * count);
+        size_t fault =
+            sketch_xxh64_each64(input, length, offsets, offset_count, seed, out, count);
+        take_back(thread);
+        return fault;
+    }
+
+    static size_t xxh64_each_u64(const uint64_t *values, size_t value_count, uint64_t seed,
+                                 uint64_t *out, size_t count) {
+        PyThreadState *thread = give_up(8 * count);
+        size_t fault = sketch_xxh64_each_u64(values, value_count, seed, out, count);
+        take_back(thread);
+        return fault;
     }
 
     static sketch_murmur3_x64_128_hash_t murmur(const void *input, size_t length, uint64_t seed) {

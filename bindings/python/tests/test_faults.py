@@ -1,4 +1,5 @@
 """Three faults that give a wrong hash without a word: a shared copy, two threads, a cut seed."""
+import array
 import copy
 import fractions
 import pickle
@@ -9,7 +10,7 @@ import time
 
 import pytest
 import sketch_hash
-from sketch_hash import murmur3_x64_128, xxh64
+from sketch_hash import murmur3_x64_128, xxh64, xxh64_each
 
 KINDS = [xxh64, murmur3_x64_128]
 ONE_CALL = [getattr(sketch_hash, name) for name in sketch_hash.__all__ if name.endswith("digest")]
@@ -106,7 +107,12 @@ def test_short_calls_keep_the_lock_of_python(ticks):
 def test_long_calls_give_up_the_lock_of_python(ticks):
     """The other thread may be late on a busy machine, so it is given several calls."""
     data, hashers = bytes(1 << 24), [kind() for kind in KINDS]
-    for call in (*ONE_CALL, *[it.update for it in hashers]):
+    columns = [
+        lambda data: xxh64_each(memoryview(data).cast("Q")),
+        lambda data: xxh64_each((data, array.array("I", range(100000)))),
+        lambda data: xxh64_each((data, array.array("Q", range(100000)))),
+    ]
+    for call in (*ONE_CALL, *[it.update for it in hashers], *columns):
         before = len(ticks)
         for _ in range(1000):
             call(data)

@@ -1,10 +1,11 @@
 //! The library `sketch_hash` for C: the hashers and the table of members, as calls that C and what
 //! calls C can make.
 //!
-//! A state and a table stand in the caller's memory. Every content of either is safe and nothing
-//! allocates, so no call asks for more than its types say.
+//! A state and a table stand in the caller's memory. Every content of either is safe, nothing
+//! allocates, and offsets that lie are answered, so no call asks for more than its types say.
 #![tactic(auto)]
 
+mod each;
 mod member;
 mod murmur;
 #[cfg(test)]
@@ -12,6 +13,10 @@ mod tests;
 mod version;
 mod xxh64;
 
+pub use self::each::{
+    sketch_murmur3_x64_128_each32, sketch_murmur3_x64_128_each64, sketch_xxh64_each_u64,
+    sketch_xxh64_each32, sketch_xxh64_each64,
+};
 pub use self::member::{
     sketch_member_check, sketch_member_contains, sketch_member_count, sketch_member_init,
     sketch_member_insert, sketch_member_merge, sketch_member_size,

@@ -7,8 +7,10 @@ ghost use Rattle.sketch_hash.specs.Xxh64.{xxh64};
 mod member;
 
 use crate::{
-    Murmur128, sketch_hash_version, sketch_murmur3_x64_128_digest, sketch_murmur3_x64_128_reset,
-    sketch_murmur3_x64_128_update, sketch_xxh64_digest, sketch_xxh64_reset, sketch_xxh64_u64,
+    Murmur128, sketch_hash_version, sketch_murmur3_x64_128, sketch_murmur3_x64_128_digest,
+    sketch_murmur3_x64_128_each32, sketch_murmur3_x64_128_each64, sketch_murmur3_x64_128_reset,
+    sketch_murmur3_x64_128_update, sketch_xxh64, sketch_xxh64_digest, sketch_xxh64_each_u64,
+    sketch_xxh64_each32, sketch_xxh64_each64, sketch_xxh64_reset, sketch_xxh64_u64,
     sketch_xxh64_update,
 };
 use sketch_hash::hash::{MurmurHash3X64128, MurmurState, XxHash64, XxHash64State};
@@ -61,6 +63,33 @@ fn a_sentence_in_two_pieces(rt: HostRuntime) {
     );
     assert_eq!(rt; pair.h1, 0xe34b_bc7b_bc07_1b6c);
     assert_eq!(rt; pair.h2, 0x7a43_3ca9_c49a_9347);
+}
+
+#[test]
+fn a_column_of_two_words(rt: HostRuntime) {
+    let (mut hashes, mut pairs) = ([9; 2], [[9; 2]; 2]);
+    assert_eq!(rt;
+        sketch_xxh64_each32(b"foxes", &[0, 3, 5], 7, &mut hashes),
+        0
+    );
+    assert_eq!(rt; hashes, [sketch_xxh64(b"fox", 7), sketch_xxh64(b"es", 7)]);
+    assert_eq!(rt;
+        sketch_xxh64_each64(b"foxes", &[0, 3, 2], 7, &mut hashes),
+        3
+    );
+    assert_eq!(rt; sketch_xxh64_each_u64(&[1], 7, &mut hashes), 2);
+    assert_eq!(rt; sketch_xxh64_each_u64(&[1, 2], 7, &mut hashes), 0);
+    assert_eq!(rt; hashes, [sketch_xxh64_u64(1, 7), sketch_xxh64_u64(2, 7)]);
+    assert_eq!(rt;
+        sketch_murmur3_x64_128_each32(b"foxes", &[6, 3, 5], 7, &mut pairs),
+        1
+    );
+    assert_eq!(rt;
+        sketch_murmur3_x64_128_each64(b"foxes", &[0, 3, 5], 7, &mut pairs),
+        0
+    );
+    let es = sketch_murmur3_x64_128(b"es", 7);
+    assert_eq!(rt; pairs[1], [es.h1, es.h2]);
 }
 
 #[test]

@@ -1,5 +1,5 @@
 -- The known answers, computed over the definitions.
-use Rattle.std.proofs.Common.{◌≡◌, ◌^◌, ◌<◌, [], ◌∷◌, refl, ap, arith, lit<}
+use Rattle.std.proofs.Common.{◌≡◌, ◌^◌, ◌<◌, ◌≤◌, [], ◌∷◌, refl, ap, arith, lit<}
 use Rattle.std.proofs.lemmas.List.Elements.{All-from_recursion, All-replicate}
 use Rattle.sketch_hash.specs.Words.{xor_below, xor, rotate}
 use Rattle.sketch_hash.specs.Pieces.{absorb, pieces, rest}
@@ -25,6 +25,7 @@ word_answers = record {
   total_past_32_bits = refl;
   murmur_state_held = refl;
   xxh64_state_held = refl;
+  key_of_a_column = refl;
 }
 
 pub murmur_answers : MurmurAnswers
@@ -93,4 +94,8 @@ relations = record {
   xxh64_stands = refl;
   xxh64_seeds = λ e. let seed : 7 ≡ 8 = ap (λ s. s.folded.0) e in omega (arith, seed);
   xxh64_bytes = λ e. let count : 0 ≡ 1 = ap (λ s. s.total) e in omega (arith, count);
+  bound = (omega arith, omega arith, omega arith);
+  no_bound_missing = λ h. let there : 2 < 2 = h.0 in omega (arith, there);
+  no_bound_past_the_end = λ h. let within : 6 ≤ 5 = h.1 in omega (arith, within);
+  no_bound_below_another = λ h. let after : 3 ≤ 2 = h.2 in omega (arith, after);
 }

@@ -10,6 +10,7 @@ use Rattle.sketch_hash.specs.Words.{IsWord, plus, minus, times, xor, xor_shift, 
 use Rattle.sketch_hash.specs.Pieces.{pieces, rest}
 use Rattle.sketch_hash.specs.Murmur.{murmur, murmur_start, murmur_after, murmur_answer, MurmurStands}
 use Rattle.sketch_hash.specs.Xxh64.{xxh64, lanes_start, xxh64_start, xxh64_answer, Xxh64Stands}
+use Rattle.sketch_hash.specs.Columns.{key_at, IsBound}
 use Rattle.sketch_hash.specs.SeedHash.{seed_hash}
 use Rattle.sketch_hash.specs.Values.{integer_bytes}
 use Rattle.sketch_hash.specs.OneToOne.{OneToOne}
@@ -46,8 +47,8 @@ xxh64_state = record {
   waiting = 6 ∷ replicate 31 7;
 }
 
--- what small words give, how the sentence is cut, what waits once it was written, and what states
--- hold
+-- what small words give, how the sentence is cut, what waits once it was written, what states hold,
+-- and a key of a column
 pub record WordAnswers : Type 0 where
   pub sum_past_the_end : plus (2 ^ 64 - 1) 2 ≡ 1
   pub difference_below_zero : minus 1 2 ≡ 2 ^ 64 - 1
@@ -71,6 +72,7 @@ pub record WordAnswers : Type 0 where
         total = 33;
         waiting = 6 ∷ [];
       }
+  pub key_of_a_column : key_at (codes "foxes") (0 ∷ 3 ∷ 5 ∷ []) 1 ≡ codes "es"
 
 -- what the definition of Murmur answers: with no block, with whole blocks, with tails up to the
 -- longest, where the length takes more than one byte, and of a state whose total takes more than
@@ -150,3 +152,7 @@ pub record Relations : Type 0 where
   pub xxh64_stands : Xxh64Stands (xxh64_start 7) 7 []
   pub xxh64_seeds : Xxh64Stands (xxh64_start 7) 8 [] → ⊥
   pub xxh64_bytes : Xxh64Stands (xxh64_start 7) 7 (0 ∷ []) → ⊥
+  pub bound : IsBound (codes "foxes") (0 ∷ 5 ∷ []) 1
+  pub no_bound_missing : IsBound (codes "foxes") (0 ∷ 5 ∷ []) 2 → ⊥
+  pub no_bound_past_the_end : IsBound (codes "foxes") (6 ∷ []) 0 → ⊥
+  pub no_bound_below_another : IsBound (codes "foxes") (3 ∷ 2 ∷ []) 1 → ⊥

@@ -5,6 +5,7 @@ pub mod Murmur
 pub mod Xxh64
 pub mod Lanes
 pub mod ScalarLanes
+pub mod Columns
 pub mod Held
 pub mod Values
 pub mod Lending

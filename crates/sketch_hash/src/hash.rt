@@ -1,6 +1,7 @@
 //! Hashing for sketches: a trait for hashers with its laws, and the two hashers.
 
 mod copy;
+mod each;
 mod hasher;
 mod murmurhash;
 mod seed;
@@ -8,6 +9,7 @@ pub mod value;
 mod words;
 mod xxhash;
 
+pub use self::each::Offset;
 pub use self::hasher::Hasher;
 pub use self::murmurhash::{MurmurHash3X64128, MurmurState};
 pub use self::seed::{check_seed_hash, compute_seed_hash};

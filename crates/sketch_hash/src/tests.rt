@@ -1,5 +1,6 @@
 ghost use Rattle.std.specs.Prelude.{IsTrue};
 
+mod each;
 mod hashers;
 mod seed;
 mod value;

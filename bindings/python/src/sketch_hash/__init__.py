@@ -30,6 +30,7 @@ __all__ = [
     "murmur3_x64_128_intdigest",
     "xxh64",
     "xxh64_digest",
+    "xxh64_each",
     "xxh64_hexdigest",
     "xxh64_intdigest",
 ]
@@ -177,3 +178,43 @@ def murmur3_x64_128_digest(data, seed=0):
 def murmur3_x64_128_hexdigest(data, seed=0):
     """MurmurHash3 x64 128 of data as 32 hexadecimal digits: those of the first word come first."""
     return murmur3_x64_128_intdigest(data, seed).to_bytes(16, "big").hex()
+
+
+def _words(buffer, widths):
+    """The whole numbers of a buffer, as cffi sees them, and their width in bytes."""
+    view = memoryview(buffer)
+    is_whole = view.format.lstrip("@=<") in set("iIlLqQ")
+    if not is_whole or view.ndim != 1 or view.itemsize not in widths:
+        bits = " or ".join(str(8 * width) for width in widths)
+        raise TypeError(f"a column is one row of whole numbers of {bits} bits")
+    words = _memory_of(f"uint{8 * view.itemsize}_t[]", buffer)
+    if int(_ffi.cast("uintptr_t", words)) % view.itemsize:
+        raise ValueError("a column of numbers lies at a multiple of their width")
+    return words, view.itemsize
+
+
+def xxh64_each(keys, seed=0):
+    """XXH64 of each key of a column, as a memoryview of whole numbers.
+
+    The keys are numbers of 64 bits, each hashed as its eight little-endian bytes: any buffer, as an
+    array of numpy. Or they are a pair of bytes and offsets of 32 or 64 bits, one more than keys: a key
+    is the bytes from its offset up to the next. Nothing is copied. Offsets that are past the end of
+    the bytes or below the one before raise a ValueError.
+    """
+    seed = _seed(seed)
+    if not isinstance(keys, tuple):
+        words, _ = _words(keys, (8,))
+        hashes = bytearray(8 * len(words))
+        _lib.xxh64_each_u64(words, len(words), seed, _memory_of("uint64_t[]", hashes), len(words))
+        return memoryview(hashes).cast("Q")
+    data, offsets = keys
+    memory = _memory(data)
+    words, width = _words(offsets, (4, 8))
+    count = max(len(words) - 1, 0)
+    hashes = bytearray(8 * count)
+    call = _lib.xxh64_each32 if width == 4 else _lib.xxh64_each64
+    out = _memory_of("uint64_t[]", hashes)
+    fault = call(memory, len(memory), words, len(words), seed, out, count)
+    if fault:
+        raise ValueError(f"the offset at {fault - 1} is missing, past the end or below the one before")
+    return memoryview(hashes).cast("Q")

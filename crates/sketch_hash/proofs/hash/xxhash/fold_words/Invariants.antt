@@ -1,7 +1,7 @@
 use Rattle.std.proofs.Common.{◌≡◌, length}
 use Rattle.std.specs.List.{fold}
 use Rattle.sketch_hash.specs.Xxh64.{tail_step, steps}
-use Rattle.sketch_hash.proofs.hash.xxhash.fold_tail.Given as goal
+use Rattle.sketch_hash.proofs.hash.xxhash.fold_words.Given as goal
 
 abbrev pub invariant-loop-rest : goal.invariant-loop-rest
 invariant-loop-rest l =

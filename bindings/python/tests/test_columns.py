@@ -1,0 +1,83 @@
+"""Columns of keys beside python3-xxhash, key by key, and offsets that lie."""
+import array
+import itertools
+import random
+
+import numpy
+import pytest
+import xxhash
+from sketch_hash import xxh64_each
+
+KEYS = [random.Random(7).randbytes(length % 101) for length in range(1000)]
+DATA = b"".join(KEYS)
+OFFSETS = [0, *itertools.accumulate(map(len, KEYS))]
+WIDTHS = ["int32", "uint32", "int64", "uint64"]
+
+
+def expected(keys, seed):
+    return [xxhash.xxh64_intdigest(key, seed) for key in keys]
+
+
+@pytest.mark.parametrize("dtype", WIDTHS)
+def test_each_key(dtype):
+    offsets = numpy.array(OFFSETS, dtype)
+    for data in (DATA, bytearray(DATA), numpy.frombuffer(DATA, "uint8")):
+        assert xxh64_each((data, offsets), 9).tolist() == expected(KEYS, 9)
+    some = xxh64_each((DATA, offsets[500:601]))
+    assert some.tolist() == expected(KEYS[500:600], 0)
+
+
+@pytest.mark.parametrize("dtype", ["int64", "uint64"])
+def test_each_number(dtype):
+    numbers = numpy.array([0, 1, 2**40, 2**62, *range(1000)], dtype)
+    hashes = xxh64_each(numbers, 2**64 - 1)
+    assert hashes.tolist() == expected([word.tobytes() for word in numbers], 2**64 - 1)
+    assert numpy.asarray(hashes).dtype == numpy.uint64
+    assert xxh64_each(array.array("Q", [5])).tolist() == expected([b"\5" + bytes(7)], 0)
+
+
+def test_nothing():
+    assert xxh64_each(numpy.zeros(0, "uint64")).tolist() == []
+    assert xxh64_each((b"", array.array("I", [0]))).tolist() == []
+
+
+@pytest.mark.parametrize("dtype", WIDTHS)
+def test_offsets_that_lie(dtype):
+    offsets = numpy.array(OFFSETS, dtype)
+    for place in (0, 1, 500, 1000):
+        for lie in (len(DATA) + 1, -1):
+            wrong = offsets.copy()
+            wrong[place] = numpy.array(lie).astype(dtype)
+            with pytest.raises(ValueError, match=f"the offset at {place} is"):
+                xxh64_each((DATA, wrong))
+    with pytest.raises(ValueError, match="the offset at 2 is"):
+        xxh64_each((DATA, offsets[[0, 9, 8]]))
+    with pytest.raises(ValueError, match="the offset at 0 is"):
+        xxh64_each((DATA, offsets[:0]))
+
+
+REFUSED = [
+    DATA,
+    numpy.zeros(4, "float64"),
+    numpy.zeros(4, "uint32"),
+    numpy.zeros((2, 2), "uint64"),
+    numpy.zeros(4, "uint64")[::2],
+    memoryview(bytes(17))[1:].cast("Q"),
+    numpy.zeros(4, ">u8"),
+    [1, 2],
+    (DATA, DATA),
+    (DATA, numpy.zeros(4, "uint16")),
+    ("text", numpy.zeros(4, "uint32")),
+    5,
+]
+
+
+@pytest.mark.parametrize("keys", REFUSED, ids=range(len(REFUSED)))
+def test_refused(keys):
+    with pytest.raises((TypeError, ValueError, BufferError)):
+        xxh64_each(keys)
+
+
+def test_a_seed_outside_of_64_bits_is_refused():
+    with pytest.raises(OverflowError, match="a seed is from 0 to"):
+        xxh64_each(numpy.zeros(4, "uint64"), 2**64)

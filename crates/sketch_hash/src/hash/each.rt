@@ -1,0 +1,151 @@
+//! Columns of keys: a call hashes all keys of a column.
+
+ghost use Rattle.std.specs.Prelude.{◌≡◌, ℕ, ◌+◌, ◌<◌, ◌≤◌, length, map, slice_index, MatchResult};
+ghost use Rattle.sketch_hash.specs.Columns.{HashesEach, HashesEachNumber, IsBound, AreBounds, IsFirstFault, key_at, murmur_words};
+ghost use Rattle.sketch_hash.specs.Xxh64.{xxh64};
+
+use super::murmurhash::MurmurHash3X64128;
+use super::xxhash::{XxHash64, hash_varied};
+
+/// An offset into the bytes of a column: `u32` or `u64`.
+pub trait Offset: Copy {
+    ghost place: { Self → ℕ };
+
+    /// How many bytes of the column stand before the offset.
+    fn place(self) -> usize
+        ensures { result ≡ place self };
+}
+
+impl Offset for u32 {
+    ghost place = { λ n. n };
+
+    #[inline(always)]
+    fn place(self) -> usize {
+        self as usize
+    }
+}
+
+impl Offset for u64 {
+    ghost place = { λ n. n };
+
+    #[inline(always)]
+    fn place(self) -> usize {
+        self as usize
+    }
+}
+
+impl XxHash64 {
+    /// The 64-bit hash of each key of a column under a seed, each at its place of `out`.
+    ///
+    /// The column has as many keys as `out` has places. The key at a place is the bytes of `bytes`
+    /// from the offset there up to the next offset, as Apache Arrow lays strings out.
+    ///
+    /// # Errors
+    ///
+    /// Returns the index of the first offset that is missing, is past the end of `bytes`, or is
+    /// below the offset before it. `out` is then unchanged.
+    #[inline(always)]
+    pub fn hash_each<O: Offset>(
+        bytes: &[u8],
+        offsets: &[O],
+        seed: u64,
+        out: &mut [u64],
+    ) -> Result<(), usize>
+        ensures { let places = map O.place offsets.now in
+            HashesEach (xxh64 seed) bytes.now places out.old out.new result }
+    {
+        check_offsets(bytes, offsets, out.len())?;
+        for i in 0..out.len() {
+            out[i] = hash_varied(key_at(bytes, offsets, i), seed);
+        }
+        Ok(())
+    }
+
+    /// The 64-bit hash of each number's eight little-endian bytes under a seed, each at its place
+    /// of `out`, for as many numbers as `out` has places.
+    ///
+    /// # Errors
+    ///
+    /// Returns how many numbers there are if they are fewer than the places. `out` is then
+    /// unchanged.
+    #[inline(always)]
+    pub fn hash_each_u64(input: &[u64], seed: u64, out: &mut [u64]) -> Result<(), usize>
+        ensures { HashesEachNumber (xxh64 seed) input.now out.old out.new result }
+    {
+        if input.len() < out.len() {
+            return Err(input.len());
+        }
+        for i in 0..out.len() {
+            out[i] = XxHash64::hash_u64(input[i], seed);
+        }
+        Ok(())
+    }
+}
+
+impl MurmurHash3X64128 {
+    /// The 128-bit hash of each key of a column under a seed, each as its first and its second word
+    /// at its place of `out`.
+    ///
+    /// The column is that of [`XxHash64::hash_each`].
+    ///
+    /// # Errors
+    ///
+    /// As of [`XxHash64::hash_each`].
+    #[inline(always)]
+    pub fn hash_each<O: Offset>(
+        bytes: &[u8],
+        offsets: &[O],
+        seed: u64,
+        out: &mut [[u64; 2]],
+    ) -> Result<(), usize>
+        ensures { let places = map O.place offsets.now in
+            HashesEach (murmur_words seed) bytes.now places out.old out.new result }
+    {
+        check_offsets(bytes, offsets, out.len())?;
+        for i in 0..out.len() {
+            let (h1, h2) = MurmurHash3X64128::hash(key_at(bytes, offsets, i), seed);
+            out[i] = [h1, h2];
+        }
+        Ok(())
+    }
+}
+
+// The index of the first of `keys + 1` offsets that is missing, is past the end of the bytes, or is
+// below the one before it.
+#[inline(always)]
+fn check_offsets<O: Offset>(bytes: &[u8], offsets: &[O], keys: usize) -> Result<(), usize>
+    requires { keys < usize.MAX }
+    ensures { let places = map O.place offsets.now in MatchResult result
+        (λ _. AreBounds bytes.now places keys) (λ i. IsFirstFault bytes.now places keys i) }
+{
+    let mut last = 0;
+    for i in 0..keys + 1 {
+        if i == offsets.len() {
+            return Err(i);
+        }
+        let place = place_at(offsets, i);
+        if place < last || bytes.len() < place {
+            return Err(i);
+        }
+        last = place;
+    }
+    Ok(())
+}
+
+// The bytes of the key at a place of a column.
+#[inline(always)]
+fn key_at<'a, O: Offset>(bytes: &'a [u8], offsets: &[O], i: usize) -> &'a [u8]
+    requires start { IsBound bytes.now (map O.place offsets.now) i }
+    requires end { IsBound bytes.now (map O.place offsets.now) (i + 1) }
+    ensures { result.now ≡ key_at bytes.now (map O.place offsets.now) i }
+{
+    &bytes[place_at(offsets, i)..place_at(offsets, i + 1)]
+}
+
+#[inline(always)]
+fn place_at<O: Offset>(offsets: &[O], i: usize) -> usize
+    requires { i < length offsets.now }
+    ensures { result ≡ slice_index (map O.place offsets.now) i }
+{
+    offsets[i].place()
+}
