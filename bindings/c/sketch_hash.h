@@ -2,8 +2,8 @@
  *
  * Proved of the library: for every seed, and however a stream is cut into updates, a digest is the
  * published hash of all bytes since the last reset; no call allocates, or reads or writes outside
- * of what it is given; every content of a state is safe, even noise; and so is every content of a
- * column's offsets, which alone can be refused.
+ * of what it is given; and every content of a state is safe, even noise, and so is every content of
+ * a column's offsets. Only a call on a column can fail.
  *
  * What a caller owes, which no compiler checks:
  *   - A state starts by its _INIT or its _reset. A state of zeros is safe, but XXH64 of it is
@@ -109,8 +109,8 @@ size_t sketch_murmur3_x64_128_each64(const void *input, size_t length, const uin
                                      size_t offset_count, uint64_t seed,
                                      sketch_murmur3_x64_128_hash_t *out, size_t count);
 
-/* The column of numbers: out[i] is sketch_xxh64_u64(values[i], seed). With fewer values than `count`
- * it writes nothing, and answers 1 + value_count. */
+/* A column of numbers, each hashed as sketch_xxh64_u64 does. With fewer values than `count` it writes
+ * nothing, and answers 1 + value_count. */
 size_t sketch_xxh64_each_u64(const uint64_t *values, size_t value_count, uint64_t seed,
                              uint64_t *out, size_t count);
 
