@@ -114,8 +114,8 @@ size_t sketch_murmur3_x64_128_each64(const void *input, size_t length, const uin
                                      size_t offset_count, uint64_t seed,
                                      sketch_murmur3_x64_128_hash_t *out, size_t count);
 
-/* The column of numbers: out[i] is sketch_xxh64_u64(values[i], seed). With fewer values than `count`
- * it writes nothing, and answers 1 + value_count. */
+/* A column of numbers, each hashed as sketch_xxh64_u64 does. With fewer values than `count` it writes
+ * nothing, and answers 1 + value_count. */
 size_t sketch_xxh64_each_u64(const uint64_t *values, size_t value_count, uint64_t seed,
                              uint64_t *out, size_t count);
 
