@@ -1,18 +1,26 @@
-/* sketch_hash 1.0.0: XXH64 and MurmurHash3_x64_128 of bytes, from functions that are proved.
+/* sketch_hash 1.1.0: XXH64 and MurmurHash3_x64_128 of bytes, and a table of members, from functions
+ * that are proved.
  *
  * Proved of the library: for every seed, and however a stream is cut into updates, a digest is the
- * published hash of all bytes since the last reset; no call allocates, fails, or reads or writes
- * outside of what it is given; and every content of a state is safe, even noise.
+ * published hash of all bytes since the last reset; a table contains each key that was inserted;
+ * no call allocates, or reads or writes outside of what it is given; no call fails but those on
+ * tables, which answer a status, and those on columns, at offsets that do not fit; and every content
+ * of a state, a table or an array of offsets is safe, even noise.
  *
  * What a caller owes, which no compiler checks:
  *   - A state starts by its _INIT or its _reset. A state of zeros is safe, but XXH64 of it is
  *     wrong from 32 bytes on.
- *   - A pointer to a state is valid, and nothing else touches the state during a call.
- *   - `input` points to `length` readable bytes that stay as they are during the call and do not
- *     overlap the state. It may be NULL only if `length` is 0. `length` is below 2^63.
+ *   - A pointer to a state or a count is valid, and nothing else touches it during a call.
+ *   - `input`, `key` and the bytes of a table point to as many readable bytes as their length says,
+ *     which stay as they are during the call and overlap nothing that the call writes. They may be
+ *     NULL only if the length is 0. A length is below 2^63.
+ *   - The same holds of each array that is passed with a count, which is below 2^60. `out` overlaps
+ *     nothing else that is passed.
+ *   - The bytes of a table that a call changes are writable too.
  *
- * A state owns nothing: declare it, copy it by assignment, write it to a file of the same kind of
- * machine, forget it. Threads may share the library, and each state needs one owner at a time.
+ * A state or a table owns nothing: declare it, copy it by assignment, write it to a file (a state,
+ * for the same kind of machine), forget it. Threads may share the library, and each state and each
+ * table that is changed needs one owner at a time.
  *
  * Licence: Apache-2.0.
  */
@@ -26,8 +34,8 @@
 extern "C" {
 #endif
 
-/* 1.0.0: major * 10000 + minor * 100 + patch. The function answers that of the library. */
-#define SKETCH_HASH_VERSION 10000
+/* 1.1.0: major * 10000 + minor * 100 + patch. The function answers that of the library. */
+#define SKETCH_HASH_VERSION 10100
 uint32_t sketch_hash_version(void);
 
 /* ---- XXH64, after Yann Collet's xxHash specification. As hexadecimal: printf("%016" PRIx64). */
@@ -84,6 +92,80 @@ void sketch_murmur3_x64_128_update(sketch_murmur3_x64_128_state_t *state, const 
                                    size_t length);
 sketch_murmur3_x64_128_hash_t
 sketch_murmur3_x64_128_digest(const sketch_murmur3_x64_128_state_t *state);
+
+/* ---- Columns of keys: one call hashes all keys of a column, as Apache Arrow lays out strings.
+ *
+ * Key i is the bytes of `input` from offsets[i] up to offsets[i + 1], and its hash goes to out[i], for
+ * each i below `count`. `offsets` has count + 1 offsets, one if there are no keys. `offset_count` says
+ * how many may be read; those beyond are not.
+ *
+ * A call answers 0 when all is done. Otherwise it has written nothing, and answers 1 + the index of
+ * the first offset that is missing, is above `length`, or is below the offset before it. */
+
+size_t sketch_xxh64_each32(const void *input, size_t length, const uint32_t *offsets,
+                           size_t offset_count, uint64_t seed, uint64_t *out, size_t count);
+size_t sketch_xxh64_each64(const void *input, size_t length, const uint64_t *offsets,
+                           size_t offset_count, uint64_t seed, uint64_t *out, size_t count);
+
+size_t sketch_murmur3_x64_128_each32(const void *input, size_t length, const uint32_t *offsets,
+                                     size_t offset_count, uint64_t seed,
+                                     sketch_murmur3_x64_128_hash_t *out, size_t count);
+size_t sketch_murmur3_x64_128_each64(const void *input, size_t length, const uint64_t *offsets,
+                                     size_t offset_count, uint64_t seed,
+                                     sketch_murmur3_x64_128_hash_t *out, size_t count);
+
+/* A column of numbers, each hashed as sketch_xxh64_u64 does. With fewer values than `count` it writes
+ * nothing, and answers 1 + value_count. */
+size_t sketch_xxh64_each_u64(const uint64_t *values, size_t value_count, uint64_t seed,
+                             uint64_t *out, size_t count);
+
+/* ---- A table of members: it tells of a key whether it was inserted, is never wrong about one that
+ * was, and may be wrong about one that was not.
+ *
+ * A table is its bytes, which any machine reads and writes alike. They lie where the caller wants,
+ * as in a file that is mapped. Each call checks the header, 24 bytes, and makes no pass over the
+ * bits to do so. What a call refuses it leaves as it was. */
+
+/* What a call answers: the number of the first fault, in the order of the bytes. */
+enum sketch_member_status {
+    SKETCH_MEMBER_DONE = 0,
+    SKETCH_MEMBER_HEADER_ENDS = -1,     /* the header is not all there */
+    SKETCH_MEMBER_PREAMBLE_LONGS = -2,  /* byte 0 is neither 2 nor 3 */
+    SKETCH_MEMBER_SERIAL_VERSION = -3,  /* byte 1 is not one less than byte 0 */
+    SKETCH_MEMBER_FAMILY = -4,          /* byte 2 is not 200 */
+    SKETCH_MEMBER_LOG2_BITS = -5,       /* log2_bits is not 6 to 20 */
+    SKETCH_MEMBER_HASHES = -6,          /* hashes is not 1 to 16 */
+    SKETCH_MEMBER_RESERVED = -7,        /* bytes 5 to 7 are not as they have to be */
+    SKETCH_MEMBER_UNKNOWN_COUNT = -8,   /* the count is unknown and not 0 */
+    SKETCH_MEMBER_MISSING_BITS = -9,    /* there are fewer bytes than the bits need */
+    SKETCH_MEMBER_TRAILING_BYTES = -10, /* there are more */
+    SKETCH_MEMBER_VERSION_1 = -11,      /* a table of version 1, which has no place for a count */
+    SKETCH_MEMBER_OTHER_SEED = -12,     /* two tables to be merged have other seeds, */
+    SKETCH_MEMBER_OTHER_LOG2_BITS = -13, /* other sizes, */
+    SKETCH_MEMBER_OTHER_HASHES = -14     /* or other numbers of hashes */
+};
+
+/* How many bytes a table of 2^log2_bits bits has: 24 + 2^log2_bits / 8; 0 outside of 6 to 20. */
+size_t sketch_member_size(unsigned log2_bits);
+
+/* Makes bytes a table without keys. Wanted are log2_bits of 6 to 20, hashes of 1 to 16, and a
+ * length of as many bytes as sketch_member_size answers. */
+int sketch_member_init(void *bytes, size_t length, uint64_t seed, unsigned log2_bits,
+                       unsigned hashes);
+
+int sketch_member_check(const void *bytes, size_t length);
+int sketch_member_insert(void *bytes, size_t length, const void *key, size_t key_length);
+
+/* 1 where the table contains the key, 0 where it does not, or a negative status. */
+int sketch_member_contains(const void *bytes, size_t length, const void *key, size_t key_length);
+
+/* Merges the table at `from`, of the same seed and sizes, into the one at `into`: the result is the
+ * table of the keys of both. A fault of `into` is told before one of `from`. */
+int sketch_member_merge(void *into, size_t length, const void *from, size_t from_length);
+
+/* How many inserts were counted, up to 2^64 - 1. 1 where that is unknown; the count is then as it
+ * was, as it is where the status is negative. */
+int sketch_member_count(const void *bytes, size_t length, uint64_t *count);
 
 /* ---- For the initializers, and the layouts that the library was built for: with another one an
  * array below has the size -1, and does not compile. */
