@@ -152,8 +152,8 @@ pub fn is_same_but_for_a_step(seed: u64, a: &[u8], b: &[u8], i: usize) -> bool
     is_same_hash(first, second)
 }
 
-/// What a step of Murmur makes of two words or of two pairs of words tells them apart, and each word
-/// and each pair is made of one.
+/// What a step of Murmur makes of two words, or of two pairs of words, tells them apart; and each
+/// word and each pair is made of one.
 pub fn murmur_steps_lose_nothing(x: u64, y: u64, z: u64, w: u64)
     ensures words { (mix1 x ≡ mix1 y → x ≡ y) × (mix2 x ≡ mix2 y → x ≡ y)
         × (fmix x ≡ fmix y → x ≡ y) }

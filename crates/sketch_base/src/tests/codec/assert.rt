@@ -228,13 +228,14 @@ fn accepting_checks_take_no_memory(rt: HostRuntime) {
         assert_same_for(&rt, accepted, [true; 5], x);
         assert_accepted(&rt, ensure_preamble_longs_in(alloc, &[x], x), x);
         for end in x.saturating_add(1)..255 {
-            for (start, last) in [
-                (Included(x), Excluded(end)),
-                (Unbounded, Excluded(end)),
-                (Excluded(x.saturating_sub(1)), Included(end)),
-            ] {
-                let answer = ensure_preamble_longs_in_range(alloc, start, last, x);
-                assert_same_for(&rt, answer.is_ok() || x == 0, true, (x, end));
+            for start in [Included(x), Unbounded] {
+                let answer = ensure_preamble_longs_in_range(alloc, start, Excluded(end), x);
+                assert_accepted(&rt, answer, (x, end));
+            }
+            if let Some(below) = x.checked_sub(1) {
+                let start = Excluded(below);
+                let answer = ensure_preamble_longs_in_range(alloc, start, Included(end), x);
+                assert_accepted(&rt, answer, (x, end));
             }
             for start in [Included(x), Excluded(x)] {
                 let answer = ensure_preamble_longs_in_range(alloc, start, Unbounded, end);
