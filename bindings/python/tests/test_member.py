@@ -5,6 +5,7 @@ import pickle
 import random
 import struct
 import threading
+import time
 
 import numpy
 import pytest
@@ -316,12 +317,10 @@ def test_short_calls_keep_the_lock_of_python(ticks):  # noqa: F811
 
 
 def test_long_calls_give_up_the_lock_of_python(ticks):  # noqa: F811
-    """The other thread may be late on a busy machine, so it is given several calls."""
+    """The other thread may be late on a busy machine, so it is given ten seconds."""
     key, table, other = bytes(1 << 24), MemberTable(20, 1), MemberTable(20, 1)
     for call in (lambda: table.insert(key), lambda: key in table, lambda: table.merge(other)):
-        before = len(ticks)
-        for _ in range(100_000):
+        before, end = len(ticks), time.monotonic() + 10
+        while len(ticks) == before and time.monotonic() < end:
             call()
-            if len(ticks) > before:
-                break
         assert len(ticks) > before

@@ -1,6 +1,5 @@
 //! The table of members beside a model over plain Rust, and bytes with damage.
 
-#[allow(dead_code)]
 mod plain;
 
 use sketch_hash::{MemberTable, TableError};
