@@ -39,6 +39,24 @@ calls.cdef(
     void murmur_update(sketch_murmur3_x64_128_state_t *state, const void *input, size_t length);
     sketch_murmur3_x64_128_hash_t sketch_murmur3_x64_128_digest(
         const sketch_murmur3_x64_128_state_t *state);
+
+    enum sketch_member_status {
+        SKETCH_MEMBER_DONE, SKETCH_MEMBER_HEADER_ENDS, SKETCH_MEMBER_PREAMBLE_LONGS,
+        SKETCH_MEMBER_SERIAL_VERSION, SKETCH_MEMBER_FAMILY, SKETCH_MEMBER_LOG2_BITS,
+        SKETCH_MEMBER_HASHES, SKETCH_MEMBER_RESERVED, SKETCH_MEMBER_UNKNOWN_COUNT,
+        SKETCH_MEMBER_MISSING_BITS, SKETCH_MEMBER_TRAILING_BYTES, SKETCH_MEMBER_VERSION_1,
+        SKETCH_MEMBER_OTHER_SEED, SKETCH_MEMBER_OTHER_LOG2_BITS, SKETCH_MEMBER_OTHER_HASHES, ...
+    };
+    #define KEY_IN_TABLE ...
+
+    size_t sketch_member_size(unsigned log2_bits);
+    int sketch_member_init(void *bytes, size_t length, uint64_t seed, unsigned log2_bits,
+                           unsigned hashes);
+    int sketch_member_check(const void *bytes, size_t length);
+    int member_insert(void *bytes, size_t length, const void *key, size_t key_length);
+    int member_contains(const void *bytes, size_t length, const void *key, size_t key_length);
+    int member_merge(void *into, size_t length, const void *from, size_t from_length);
+    int sketch_member_count(const void *bytes, size_t length, uint64_t *count);
     """
 )
 calls.set_source(
@@ -112,6 +130,37 @@ calls.set_source(
         PyThreadState *thread = give_up(length);
         sketch_murmur3_x64_128_update(state, input, length);
         take_back(thread);
+    }
+
+    /* The table at bytes may be a view of memory that the caller has too, and an insert may not read
+     * what it writes. */
+    #define KEY_IN_TABLE 1
+
+    static int member_insert(void *bytes, size_t length, const void *key, size_t key_length) {
+        uintptr_t table = (uintptr_t)bytes, from = (uintptr_t)key;
+        PyThreadState *thread;
+        int status;
+        if (key_length > 0 && from < table + length && table < from + key_length)
+            return KEY_IN_TABLE;
+        thread = give_up(key_length);
+        status = sketch_member_insert(bytes, length, key, key_length);
+        take_back(thread);
+        return status;
+    }
+
+    static int member_contains(const void *bytes, size_t length, const void *key,
+                               size_t key_length) {
+        PyThreadState *thread = give_up(key_length);
+        int status = sketch_member_contains(bytes, length, key, key_length);
+        take_back(thread);
+        return status;
+    }
+
+    static int member_merge(void *into, size_t length, const void *from, size_t from_length) {
+        PyThreadState *thread = give_up(length);
+        int status = sketch_member_merge(into, length, from, from_length);
+        take_back(thread);
+        return status;
     }
     """,
     include_dirs=[folder, os.path.join(folder, "..", "include")],

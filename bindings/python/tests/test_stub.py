@@ -1,5 +1,6 @@
 """The type stubs name what the module has."""
 import ast
+import inspect
 import os
 
 import sketch_hash
@@ -19,3 +20,10 @@ def test_the_stubs_fit_the_module():
     for it in named["_Hash"].body:
         word = it.name if isinstance(it, ast.FunctionDef) else it.target.id
         assert hasattr(sketch_hash.xxh64, word) and hasattr(sketch_hash.murmur3_x64_128, word)
+    stub = {it.name: it for it in named["MemberTable"].body}
+    public = {word for word in vars(sketch_hash.MemberTable) if not word.startswith("_")}
+    assert {*stub} == {*public, "__init__", "__contains__", "__ior__"}
+    for word, it in stub.items():
+        call = inspect.getattr_static(sketch_hash.MemberTable, word)
+        call = getattr(call, "fget", getattr(call, "__func__", call))
+        assert [word.arg for word in it.args.args] == list(inspect.signature(call).parameters)

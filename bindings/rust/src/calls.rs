@@ -1,6 +1,8 @@
 //! The library's calls, as `sketch_hash.h` declares them. Those that take no pointer but to one
 //! state are safe: a reference to a state is valid, and nothing else touches the state meanwhile.
 
+use core::ffi::{c_int, c_uint};
+
 #[repr(C)]
 #[derive(Clone)]
 pub struct Xxh64State {
@@ -49,4 +51,33 @@ unsafe extern "C" {
         length: usize,
     );
     pub safe fn sketch_murmur3_x64_128_digest(state: &Murmur3X64_128State) -> Murmur3X64_128Hash;
+
+    pub safe fn sketch_member_size(log2_bits: c_uint) -> usize;
+    pub fn sketch_member_init(
+        bytes: *mut u8,
+        length: usize,
+        seed: u64,
+        log2_bits: c_uint,
+        hashes: c_uint,
+    ) -> c_int;
+    pub fn sketch_member_check(bytes: *const u8, length: usize) -> c_int;
+    pub fn sketch_member_insert(
+        bytes: *mut u8,
+        length: usize,
+        key: *const u8,
+        key_length: usize,
+    ) -> c_int;
+    pub fn sketch_member_contains(
+        bytes: *const u8,
+        length: usize,
+        key: *const u8,
+        key_length: usize,
+    ) -> c_int;
+    pub fn sketch_member_merge(
+        into: *mut u8,
+        length: usize,
+        from: *const u8,
+        from_length: usize,
+    ) -> c_int;
+    pub fn sketch_member_count(bytes: *const u8, length: usize, count: &mut u64) -> c_int;
 }

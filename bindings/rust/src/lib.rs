@@ -2,10 +2,14 @@
 #![warn(missing_docs)]
 #![doc = include_str!("../README.md")]
 
+extern crate alloc;
+
 mod calls;
+mod member;
 mod murmur;
 mod xxh64;
 
+pub use member::{MemberTable, TableError};
 pub use murmur::{murmur3_x64_128, BuildMurmur3X64_128, Murmur3X64_128};
 pub use xxh64::{xxh64, xxh64_u64, BuildXxh64, Xxh64};
 

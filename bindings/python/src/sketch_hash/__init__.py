@@ -1,6 +1,6 @@
-"""XXH64 and MurmurHash3 x64 128, from functions that are proved.
+"""XXH64, MurmurHash3 x64 128 and a table of members, from functions that are proved.
 
-The classes are used as those of hashlib and of python-xxhash. Input is any bytes-like object whose
+The classes of hashes are used as those of hashlib and of python-xxhash. Input is any bytes-like object whose
 memory is contiguous; a str is refused. A seed is a whole number from 0 to 2**64 - 1. Digests have
 the highest byte first.
 
@@ -23,6 +23,7 @@ _memory_of = _ffi.from_buffer
 
 __version__ = "1.1.0"
 __all__ = [
+    "MemberTable",
     "algorithms_available",
     "murmur3_x64_128",
     "murmur3_x64_128_digest",
@@ -218,3 +219,133 @@ def xxh64_each(keys, seed=0):
     if fault:
         raise ValueError(f"the offset at {fault - 1} is missing, past the end or below the one before")
     return memoryview(hashes).cast("Q")
+
+
+class MemberTable:
+    """A table of members: it tells of a key whether it was inserted, is never wrong about one that
+    was, and may be wrong about one that was not.
+
+    It has 2**log2_bits bits, of which each key sets as many as hashes says. A key is any bytes-like
+    object whose memory is contiguous. Of the calls on one object each waits for the others, so
+    threads may share it.
+    """
+
+    __slots__ = ("_lock", "_table")
+
+    def __init__(self, log2_bits, hashes, seed=0):
+        log2_bits, hashes = _small(log2_bits), _small(hashes)
+        table = _memory_of(bytearray(_lib.sketch_member_size(log2_bits)))
+        _done(_lib.sketch_member_init(table, len(table), _seed(seed), log2_bits, hashes))
+        self._lock = _Lock()
+        self._table = table
+
+    @classmethod
+    def from_bytes(cls, data):
+        """The table of bytes that to_bytes, another language or another machine wrote."""
+        memory = _memory(data)
+        own = bytearray(len(memory))
+        _ffi.memmove(own, memory, len(memory))
+        return cls.view(own)
+
+    @classmethod
+    def view(cls, buffer):
+        """The table in a writable buffer, as a file that is mapped, where it stays.
+
+        Nothing else may change the buffer during a call. Two views of one buffer do not wait for
+        each other.
+        """
+        table = _memory_of(buffer, require_writable=True)
+        _done(_lib.sketch_member_check(table, len(table)))
+        it = cls.__new__(cls)
+        it._lock = _Lock()
+        it._table = table
+        return it
+
+    def insert(self, key):
+        """Inserts a key. A known count grows by one and stays at 2**64 - 1."""
+        memory = _memory(key)
+        with self._lock:
+            _done(_lib.member_insert(self._table, len(self._table), memory, len(memory)))
+
+    def update(self, keys):
+        """Inserts each of some keys."""
+        for key in keys:
+            self.insert(key)
+
+    def __contains__(self, key):
+        memory = _memory(key)
+        with self._lock:
+            status = _lib.member_contains(self._table, len(self._table), memory, len(memory))
+        if status == 1:
+            return True
+        _done(status)
+        return False
+
+    @property
+    def count(self):
+        """How many inserts were counted, also those of one key; None where the table has no count."""
+        count = _new("uint64_t *")
+        with self._lock:
+            status = _lib.sketch_member_count(self._table, len(self._table), count)
+        if status == 1:
+            return None
+        _done(status)
+        return count[0]
+
+    def merge(self, other):
+        """Merges a table of the same seed and sizes into this one, which then contains the keys of
+        both. Known counts add and stay at 2**64 - 1; an unknown one makes the sum unknown."""
+        if not isinstance(other, MemberTable):
+            raise TypeError(f"a table is merged with a table, and not with {type(other).__name__}")
+        # The copy is elsewhere even where both are views of one buffer, and no lock waits for another.
+        data = other.to_bytes()
+        with self._lock:
+            _done(_lib.member_merge(self._table, len(self._table), data, len(data)))
+
+    def __ior__(self, other):
+        if not isinstance(other, MemberTable):
+            return NotImplemented
+        self.merge(other)
+        return self
+
+    def to_bytes(self):
+        """The bytes: 24 of a header, and the bits."""
+        with self._lock:
+            return bytes(_ffi.buffer(self._table))
+
+    def copy(self):
+        """A table with the same keys and memory of its own."""
+        return type(self).from_bytes(self.to_bytes())
+
+    def __reduce__(self):
+        return type(self).from_bytes, (self.to_bytes(),)
+
+
+def _small(number):
+    """A number for the header, or 0, which is refused as all are that a byte cannot hold."""
+    number = _index(number)
+    return number if 0 <= number < 256 else 0
+
+
+_FAULTS = {
+    _lib.SKETCH_MEMBER_HEADER_ENDS: "the header is not all there",
+    _lib.SKETCH_MEMBER_PREAMBLE_LONGS: "byte 0 is neither 2 nor 3",
+    _lib.SKETCH_MEMBER_SERIAL_VERSION: "byte 1 is not one less than byte 0",
+    _lib.SKETCH_MEMBER_FAMILY: "byte 2 is not 200",
+    _lib.SKETCH_MEMBER_LOG2_BITS: "log2_bits is not 6 to 20",
+    _lib.SKETCH_MEMBER_HASHES: "hashes is not 1 to 16",
+    _lib.SKETCH_MEMBER_RESERVED: "bytes 5 to 7 are not as they have to be",
+    _lib.SKETCH_MEMBER_UNKNOWN_COUNT: "the count is unknown and not 0",
+    _lib.SKETCH_MEMBER_MISSING_BITS: "there are fewer bytes than the bits need",
+    _lib.SKETCH_MEMBER_TRAILING_BYTES: "there are more bytes than the bits need",
+    _lib.SKETCH_MEMBER_VERSION_1: "a table of version 1, which has no place for a count",
+    _lib.SKETCH_MEMBER_OTHER_SEED: "the tables have different seeds",
+    _lib.SKETCH_MEMBER_OTHER_LOG2_BITS: "the tables have different sizes",
+    _lib.SKETCH_MEMBER_OTHER_HASHES: "the tables have different numbers of hashes",
+    _lib.KEY_IN_TABLE: "the key lies in the bytes of the table",
+}
+
+
+def _done(status):
+    if status:
+        raise ValueError(_FAULTS[status])

@@ -1,0 +1,326 @@
+"""The table of members beside a model over python3-xxhash, and bytes with damage."""
+import copy
+import mmap
+import pickle
+import random
+import struct
+import threading
+import time
+
+import numpy
+import pytest
+import xxhash
+from sketch_hash import MemberTable
+from test_buffers import DATA, REFUSED, TAKEN
+from test_faults import ticks  # noqa: F401
+
+SEED = 2**64 - 5
+KEYS = [b"", bytes(1000), *[b"key %d" % n for n in range(50)]]
+WAYS = [copy.copy, copy.deepcopy, lambda it: it.copy(), lambda it: pickle.loads(pickle.dumps(it))]
+
+
+def filled(log2_bits=10, hashes=3, keys=KEYS):
+    table = MemberTable(log2_bits, hashes, SEED)
+    table.update(keys)
+    return table
+
+
+def model(log2_bits, hashes, keys, count=None, is_known=1):
+    """The bytes of a table of keys, from docs/formats.md."""
+    bits = bytearray(2**log2_bits // 8)
+    for key in keys:
+        for j in range(hashes):
+            i = xxhash.xxh64_intdigest(key, (SEED + j) % 2**64) % 2**log2_bits
+            bits[i // 8] |= 1 << i % 8
+    count = len(keys) if count is None else count
+    return struct.pack("<8B2Q", 3, 2, 200, log2_bits, hashes, is_known, 0, 0, SEED, count) + bits
+
+
+@pytest.mark.parametrize("log2_bits", range(6, 21))
+def test_tables_of_all_sizes_have_the_bytes_of_the_model(log2_bits):
+    for hashes in range(1, 17):
+        table = MemberTable(log2_bits, hashes, SEED)
+        assert table.to_bytes() == model(log2_bits, hashes, []) and table.count == 0
+        for n, key in enumerate(KEYS):
+            table.insert(key)
+            assert table.count == n + 1
+        assert all(key in table for key in KEYS)
+        assert table.to_bytes() == model(log2_bits, hashes, KEYS)
+        assert MemberTable.from_bytes(table.to_bytes()).to_bytes() == table.to_bytes()
+
+
+def test_what_was_inserted_is_contained():
+    table = filled(17, 7, (b"key %d" % n for n in range(10_000)))
+    assert all(b"key %d" % n in table for n in range(10_000))
+    assert table.count == 10_000
+    assert sum(b"key %d" % n in table for n in range(10_000, 20_000)) < 100
+
+
+def test_every_order_gives_the_same_bits():
+    mixed = KEYS[:]
+    random.Random(1).shuffle(mixed)
+    assert filled(keys=mixed).to_bytes() == filled().to_bytes()
+    twice = filled(keys=KEYS * 2)
+    assert twice.count == 2 * len(KEYS)
+    assert twice.to_bytes()[24:] == filled().to_bytes()[24:]
+
+
+@pytest.mark.parametrize("number", [-1, 0, 5, 21, 255, 256 + 10, 2**32 + 10, -(2**70), 2**70])
+def test_other_sizes_are_refused(number):
+    with pytest.raises(ValueError, match="^log2_bits is not 6 to 20$"):
+        MemberTable(number, 0)
+    with pytest.raises(ValueError, match="^hashes is not 1 to 16$"):
+        MemberTable(10, number + 256 if number == 5 else number)
+
+
+def test_numbers_are_whole_and_seeds_have_64_bits():
+    for words in ((10.0, 3), (10, 3.0), ("10", 3), (10, None), (10, 3, 7.0)):
+        with pytest.raises(TypeError):
+            MemberTable(*words)
+    for seed in (-1, 2**64):
+        with pytest.raises(OverflowError, match="a seed is from 0 to"):
+            MemberTable(10, 3, seed)
+    assert MemberTable(10, 3).to_bytes() == MemberTable(10, 3, seed=0).to_bytes()
+
+
+@pytest.mark.parametrize("name", TAKEN)
+def test_keys_and_bytes_that_are_taken(name):
+    table = MemberTable(10, 3, SEED)
+    table.insert(TAKEN[name])
+    assert TAKEN[name] in table and DATA in table
+    assert table.to_bytes() == model(10, 3, [DATA])
+
+
+@pytest.mark.parametrize("name", REFUSED)
+def test_keys_and_bytes_that_are_refused(name):
+    table = filled()
+    for call in (table.insert, table.__contains__, MemberTable.from_bytes, MemberTable.view):
+        with pytest.raises((TypeError, ValueError, BufferError)):
+            call(REFUSED[name])
+    assert table.to_bytes() == filled().to_bytes()
+
+
+def test_a_str_is_refused_with_the_reason():
+    for call in (filled().insert, filled().update, filled().__contains__, MemberTable.from_bytes):
+        with pytest.raises(TypeError, match="encode"):
+            call("text")
+
+
+def test_bytes_may_come_in_any_buffer():
+    whole = filled().to_bytes()
+    for data in (bytearray(whole), memoryview(b"other" + whole)[5:], numpy.frombuffer(whole, "u8")):
+        table = MemberTable.from_bytes(data)
+        table.insert(b"fox")
+        assert bytes(data) == whole != table.to_bytes()
+
+
+def text_of(place, value):
+    """The text for a wrong byte of the header of a table of 2^10 bits."""
+    if place == 0:
+        return "byte 1 is not one less than byte 0" if value == 2 else "byte 0 is neither 2 nor 3"
+    if place == 1:
+        return "byte 1 is not one less than byte 0"
+    if place == 2:
+        return "byte 2 is not 200"
+    if place == 3 and 6 <= value <= 20:
+        return f"there are {'more' if value < 10 else 'fewer'} bytes than the bits need"
+    if place == 3:
+        return "log2_bits is not 6 to 20"
+    if place == 4:
+        return None if 1 <= value <= 16 else "hashes is not 1 to 16"
+    if place == 5 and value == 0:
+        return "the count is unknown and not 0"
+    return "bytes 5 to 7 are not as they have to be" if place < 8 else None
+
+
+@pytest.mark.parametrize("place", range(24))
+def test_each_damage_of_a_header_has_its_text(place):
+    whole = filled().to_bytes()
+    for value in {*range(256)} - {whole[place]}:
+        data = bytearray(whole)
+        view = MemberTable.view(data)
+        data[place] = value
+        damaged, text = bytes(data), text_of(place, value)
+        if text is None:
+            assert MemberTable.from_bytes(data).to_bytes() == damaged
+            continue
+        for call in (
+            lambda: MemberTable.from_bytes(data),
+            lambda: MemberTable.view(data),
+            lambda: view.insert(b"fox"),
+            lambda: b"fox" in view,
+            lambda: view.count,
+            lambda: view.merge(filled()),
+            lambda: filled().merge(view),
+            lambda: view.copy(),
+        ):
+            with pytest.raises(ValueError) as found:
+                call()
+            assert str(found.value) == text and data == damaged
+
+
+def test_bytes_of_another_length_are_refused():
+    whole = filled().to_bytes()
+    for length in range(len(whole)):
+        with pytest.raises(ValueError, match="header is not all" if length < 24 else "fewer bytes"):
+            MemberTable.from_bytes(whole[:length])
+    with pytest.raises(ValueError, match="more bytes"):
+        MemberTable.from_bytes(whole + b"\0")
+    with pytest.raises(ValueError, match="a table of version 1, which has no place for a count"):
+        MemberTable.from_bytes(bytes([2, 1, 200, 6, 3, 0, 0, 0]) + bytes(8 + 8))
+
+
+def test_merged_tables_contain_the_keys_of_both():
+    one, two = filled(keys=KEYS[:20]), filled(keys=KEYS[20:])
+    one.merge(two)
+    assert one.to_bytes() == filled().to_bytes() and two.to_bytes() == filled(keys=KEYS[20:]).to_bytes()
+    same = one
+    one |= two
+    assert one is same and one.count == len(KEYS) + len(KEYS) - 20
+    one.merge(one)
+    assert one.to_bytes() == model(10, 3, KEYS, 2 * (2 * len(KEYS) - 20))
+
+
+def test_unlike_tables_stay_as_they_were():
+    table = filled()
+    for words, text in (
+        ((11, 4, 1), "the tables have different seeds"),
+        ((11, 4, SEED), "the tables have different sizes"),
+        ((10, 4, SEED), "the tables have different numbers of hashes"),
+    ):
+        with pytest.raises(ValueError, match=f"^{text}$"):
+            table.merge(MemberTable(*words))
+    for other in (table.to_bytes(), None, {b"fox"}):
+        with pytest.raises(TypeError):
+            table.merge(other)
+        with pytest.raises(TypeError):
+            table |= other
+    assert table.to_bytes() == filled().to_bytes()
+
+
+def test_counts_may_be_unknown_and_end_at_the_greatest():
+    great = MemberTable.from_bytes(model(10, 3, [], 2**64 - 2))
+    for _ in range(3):
+        great.insert(b"fox")
+        assert great.count == 2**64 - 1
+    unknown = MemberTable.from_bytes(model(10, 3, [], 0, is_known=0))
+    unknown.insert(b"dog")
+    assert unknown.count is None and b"dog" in unknown
+    great.merge(unknown)
+    assert great.to_bytes() == model(10, 3, [b"fox", b"dog"], 0, is_known=0)
+
+
+def test_a_view_changes_the_buffer():
+    empty = model(10, 3, [])
+    mapped = mmap.mmap(-1, len(empty))
+    mapped.write(empty)
+    for buffer in (bytearray(empty), mapped, numpy.frombuffer(bytearray(empty), "u8")):
+        view = MemberTable.view(buffer)
+        view.update(KEYS)
+        view |= filled(keys=[b"fox"])
+        assert bytes(memoryview(buffer)) == model(10, 3, [*KEYS, b"fox"])
+        assert view.copy().to_bytes() == view.to_bytes()
+    for buffer in (empty, memoryview(empty)):
+        with pytest.raises((TypeError, ValueError, BufferError)):
+            MemberTable.view(buffer)
+
+
+def test_a_view_holds_its_buffer():
+    buffer = bytearray(model(10, 3, []))
+    view = MemberTable.view(buffer)
+    with pytest.raises(BufferError):
+        buffer.append(1)
+    del view
+    buffer.append(1)
+
+
+def test_a_key_that_lies_in_the_table_is_refused():
+    buffer = bytearray(b"before" + model(10, 3, KEYS) + b"after")
+    part = memoryview(buffer)
+    view = MemberTable.view(part[6:-5])
+    before = bytes(buffer)
+    for key in (part, part[6:-5], part[5:7], part[-6:-4], part[30:31]):
+        with pytest.raises(ValueError, match="the key lies in the bytes of the table"):
+            view.insert(key)
+        assert key not in view and buffer == before
+    for key in (part[:6], part[-5:], part[30:30]):
+        view.insert(key)
+    assert view.to_bytes() == model(10, 3, [*KEYS, b"before", b"after", b""])
+
+
+def test_two_views_of_one_buffer_are_merged():
+    buffer = bytearray(model(10, 3, KEYS))
+    MemberTable.view(buffer).merge(MemberTable.view(buffer))
+    assert buffer == model(10, 3, KEYS, 2 * len(KEYS))
+
+
+@pytest.mark.parametrize("way", WAYS)
+def test_a_copy_goes_its_own_way(way):
+    for first in (filled(), MemberTable.view(bytearray(filled().to_bytes()))):
+        second = way(first)
+        first.insert(b"first")
+        second.insert(b"second")
+        assert type(second) is MemberTable
+        assert first.to_bytes() == model(10, 3, [*KEYS, b"first"])
+        assert second.to_bytes() == model(10, 3, [*KEYS, b"second"])
+
+
+def test_threads_that_share_a_table():
+    """The keys are long enough for a call to give up Python's lock, and so are the tables."""
+    keys = [bytes([n]) * 70_000 for n in range(20)]
+    tables = [filled(20, 3, []), filled(20, 3, [])]
+    start = threading.Barrier(4)
+
+    def work(first):
+        start.wait()
+        for key in keys:
+            for table in tables:
+                table.insert(key)
+                assert key in table
+        other = filled(20, 3, [b"%d" % first])
+        for table in tables:
+            table.merge(other)
+
+    workers = [threading.Thread(target=work, args=(n,)) for n in range(4)]
+    for worker in workers:
+        worker.start()
+    for worker in workers:
+        worker.join()
+    expected = model(20, 3, [*keys, b"0", b"1", b"2", b"3"], 4 * len(keys) + 4)
+    assert [table.to_bytes() for table in tables] == [expected] * 2
+
+
+def test_tables_that_are_merged_into_each_other():
+    """No thread waits for ever."""
+    one, two = filled(keys=[b"one"]), filled(keys=[b"two"])
+    pairs = [(one, two), (two, one)] * 2
+    workers = [
+        threading.Thread(target=lambda a, b: [a.merge(b) for _ in range(500)], args=pair, daemon=True)
+        for pair in pairs
+    ]
+    for worker in workers:
+        worker.start()
+    for worker in workers:
+        worker.join(60)
+        assert not worker.is_alive()
+    assert b"two" in one and b"one" in two
+
+
+def test_short_calls_keep_the_lock_of_python(ticks):  # noqa: F811
+    table, key = MemberTable(18, 7), bytes(65535)
+    before = len(ticks)
+    for _ in range(200):
+        table.insert(key)
+        assert key in table
+        table.merge(table)
+    assert len(ticks) == before
+
+
+def test_long_calls_give_up_the_lock_of_python(ticks):  # noqa: F811
+    """The other thread may be late on a busy machine, so it is given ten seconds."""
+    key, table, other = bytes(1 << 24), MemberTable(20, 1), MemberTable(20, 1)
+    for call in (lambda: table.insert(key), lambda: key in table, lambda: table.merge(other)):
+        before, end = len(ticks), time.monotonic() + 10
+        while len(ticks) == before and time.monotonic() < end:
+            call()
+        assert len(ticks) > before

@@ -1,0 +1,192 @@
+//! The table of members beside a model over plain Rust, and bytes with damage.
+
+mod plain;
+
+use sketch_hash::{MemberTable, TableError};
+
+const SEED: u64 = 0x1122_3344_5566_7788;
+
+fn key(n: u64) -> Vec<u8> {
+    format!("key {n}").into_bytes()
+}
+
+fn filled(log2_bits: u32, hashes: u32, keys: impl IntoIterator<Item = u64>) -> MemberTable {
+    let mut table = MemberTable::new(SEED, log2_bits, hashes).unwrap();
+    for n in keys {
+        table.insert(&key(n));
+    }
+    table
+}
+
+/// The bytes of a table of keys, from `docs/formats.md`.
+fn model(log2_bits: u32, hashes: u32, keys: &[Vec<u8>]) -> Vec<u8> {
+    let mut bytes = vec![3, 2, 200, log2_bits as u8, hashes as u8, 1, 0, 0];
+    bytes.extend(SEED.to_le_bytes());
+    bytes.extend((keys.len() as u64).to_le_bytes());
+    bytes.resize(24 + (1 << log2_bits) / 8, 0);
+    for key in keys {
+        for j in 0..u64::from(hashes) {
+            let i = plain::xxh64(key, SEED.wrapping_add(j)) as usize % (1 << log2_bits);
+            bytes[24 + i / 8] |= 1 << (i % 8);
+        }
+    }
+    bytes
+}
+
+#[test]
+fn tables_of_all_sizes_have_the_bytes_of_the_model() {
+    let keys: Vec<_> = (0..50).map(key).chain([vec![], vec![7; 1000]]).collect();
+    for log2_bits in 6..=20 {
+        for hashes in 1..=16 {
+            let mut table = MemberTable::new(SEED, log2_bits, hashes).unwrap();
+            assert_eq!(table.as_bytes(), model(log2_bits, hashes, &[]));
+            for (n, key) in keys.iter().enumerate() {
+                table.insert(key);
+                assert_eq!(table.count(), Some(n as u64 + 1));
+            }
+            assert!(keys.iter().all(|key| table.contains(key)));
+            assert_eq!(table.into_bytes(), model(log2_bits, hashes, &keys));
+        }
+    }
+}
+
+#[test]
+fn other_sizes_are_refused() {
+    for log2_bits in [0, 5, 21, 255, 256 + 10, u32::MAX] {
+        assert_eq!(MemberTable::new(0, log2_bits, 0), Err(TableError::Log2Bits));
+    }
+    for hashes in [0, 17, 255, 256 + 7, u32::MAX] {
+        assert_eq!(MemberTable::new(0, 10, hashes), Err(TableError::Hashes));
+    }
+}
+
+#[test]
+fn what_was_inserted_is_contained() {
+    let table = filled(17, 7, 0..10_000);
+    assert!((0..10_000).all(|n| table.contains(&key(n))));
+    assert_eq!(table.count(), Some(10_000));
+    let wrong = (10_000..20_000).filter(|n| table.contains(&key(*n))).count();
+    assert!(wrong < 100, "{wrong} false answers");
+}
+
+#[test]
+fn every_order_gives_the_same_bits() {
+    let forth = filled(12, 5, 0..100);
+    assert_eq!(filled(12, 5, (0..100).rev()), forth);
+    let twice = filled(12, 5, (0..100).chain(0..100));
+    assert_eq!(twice.count(), Some(200));
+    assert_ne!(twice, forth);
+    assert_eq!(twice.as_bytes()[..16], forth.as_bytes()[..16]);
+    assert_eq!(twice.as_bytes()[24..], forth.as_bytes()[24..]);
+}
+
+#[test]
+fn merged_tables_contain_the_keys_of_both() {
+    let (mut one, two) = (filled(14, 7, 0..500), filled(14, 7, 500..1000));
+    one.merge(&two).unwrap();
+    assert_eq!(one, filled(14, 7, 0..1000));
+    assert_eq!(two, filled(14, 7, 500..1000));
+}
+
+#[test]
+fn unlike_tables_stay_as_they_were() {
+    let mut table = filled(10, 3, 0..20);
+    let before = table.clone();
+    for (seed, log2_bits, hashes, error) in [
+        (SEED + 1, 11, 4, TableError::OtherSeed),
+        (SEED, 11, 4, TableError::OtherLog2Bits),
+        (SEED, 10, 4, TableError::OtherHashes),
+    ] {
+        let mut other = MemberTable::new(seed, log2_bits, hashes).unwrap();
+        other.insert(b"another");
+        assert_eq!(table.merge(&other), Err(error));
+        assert_eq!(table, before);
+    }
+}
+
+#[test]
+fn counts_may_be_unknown_and_end_at_the_greatest() {
+    let with_count = |is_known: u8, count: u64| {
+        let mut bytes = filled(8, 3, 0..5).into_bytes();
+        bytes[5] = is_known;
+        bytes[16..24].copy_from_slice(&count.to_le_bytes());
+        MemberTable::from_bytes(&bytes)
+    };
+    let mut unknown = with_count(0, 0).unwrap();
+    unknown.insert(b"fox");
+    assert!(unknown.contains(b"fox") && unknown.count().is_none());
+    let mut great = with_count(1, u64::MAX - 1).unwrap();
+    for _ in 0..3 {
+        great.insert(b"fox");
+        assert_eq!(great.count(), Some(u64::MAX));
+    }
+    great.merge(&filled(8, 3, 0..5)).unwrap();
+    assert_eq!(great.count(), Some(u64::MAX));
+    great.merge(&unknown).unwrap();
+    assert_eq!(
+        great,
+        with_count(0, 0)
+            .map(|mut it| {
+                it.insert(b"fox");
+                it
+            })
+            .unwrap()
+    );
+    assert_eq!(with_count(0, 1), Err(TableError::UnknownCount));
+}
+
+/// The error that docs/formats.md has for a wrong byte of the header of a table of 2^10 bits.
+fn error_of(place: usize, value: u8) -> Option<TableError> {
+    match place {
+        0 if value == 2 => Some(TableError::SerialVersion),
+        0 => Some(TableError::PreambleLongs),
+        1 => Some(TableError::SerialVersion),
+        2 => Some(TableError::Family),
+        3 if (6..10).contains(&value) => Some(TableError::TrailingBytes),
+        3 if (11..=20).contains(&value) => Some(TableError::MissingBits),
+        3 => Some(TableError::Log2Bits),
+        4 if (1..=16).contains(&value) => None,
+        4 => Some(TableError::Hashes),
+        5 if value == 0 => Some(TableError::UnknownCount),
+        5..8 => Some(TableError::Reserved),
+        _ => None,
+    }
+}
+
+#[test]
+fn each_damage_of_a_header_has_its_error() {
+    let whole = filled(10, 3, 0..20).into_bytes();
+    for place in 0..24 {
+        for value in (0..=255).filter(|value| *value != whole[place]) {
+            let mut bytes = whole.clone();
+            bytes[place] = value;
+            let read = MemberTable::from_bytes(&bytes);
+            assert_eq!(read.as_ref().err(), error_of(place, value).as_ref(), "{place} {value}");
+            assert!(read.is_err() || read.unwrap().as_bytes() == bytes);
+        }
+    }
+}
+
+#[test]
+fn bytes_of_another_length_are_refused() {
+    let mut bytes = filled(10, 3, 0..20).into_bytes();
+    for length in 0..bytes.len() {
+        let error = if length < 24 { TableError::HeaderEnds } else { TableError::MissingBits };
+        assert_eq!(MemberTable::from_bytes(&bytes[..length]), Err(error));
+    }
+    bytes.push(0);
+    assert_eq!(MemberTable::from_bytes(&bytes), Err(TableError::TrailingBytes));
+    let mut first_version = vec![2, 1, 200, 6, 3, 0, 0, 0];
+    first_version.resize(16 + 8, 0);
+    assert_eq!(MemberTable::from_bytes(&first_version), Err(TableError::Version1));
+}
+
+#[test]
+fn what_is_printed() {
+    let text = format!("{:?}", filled(10, 3, 0..20));
+    let expected =
+        "MemberTable { seed: 1234605616436508552, log2_bits: 10, hashes: 3, count: Some(20) }";
+    assert_eq!(text, expected);
+    let error: Box<dyn std::error::Error> = Box::new(MemberTable::new(0, 5, 1).unwrap_err());
+    assert_eq!(error.to_string(), "log2_bits is not 6 to 20");
+}
