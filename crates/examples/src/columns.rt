@@ -1,0 +1,36 @@
+//! Columns of keys, hashed in one call.
+
+ghost use Rattle.std.specs.Prelude.{◌≡◌, ℕ, ◌+◌, ◌-◌, ◌<◌, ◌≤◌, length, take, drop, slice_index, IfErr, IfOk};
+ghost use Rattle.datasketches.specs.Bytes.{eight};
+ghost use Rattle.datasketches.specs.Xxh64.{xxh64};
+
+use datasketches::hash::XxHash64;
+
+/// The XXH64 of each text of a column, under the seed 9001; or the first offset that does not fit,
+/// and nothing is written.
+pub fn hash_texts(texts: &[u8], offsets: &[u64], out: &mut [u64]) -> Result<(), usize>
+    ensures hashed { IfOk result (λ _. (i : ℕ) → i < length out.new →
+        slice_index out.new i ≡ xxh64 9001 (take
+        (slice_index offsets.now (i + 1) - slice_index offsets.now i)
+        (drop (slice_index offsets.now i) texts.now))) }
+    ensures inside { IfOk result (λ _. (i : ℕ) → i ≤ length out.old →
+        slice_index offsets.now i ≤ length texts.now) }
+    ensures unchanged { IfErr result (λ _. out.new ≡ out.old) }
+    ensures before { IfErr result (λ fault. (i : ℕ) → i < fault →
+        slice_index offsets.now i ≤ length texts.now) }
+{
+    XxHash64::hash_each(texts, offsets, 9001, out)?;
+    Ok(())
+}
+
+/// The XXH64 of each number, under the seed 9001; or how many numbers there are, where they are fewer
+/// than the places, and nothing is written.
+pub fn hash_numbers(numbers: &[u64], out: &mut [u64]) -> Result<(), usize>
+    ensures hashed { IfOk result (λ _. (i : ℕ) → i < length out.new →
+        slice_index out.new i ≡ xxh64 9001 (eight (slice_index numbers.now i))) }
+    ensures unchanged { IfErr result (λ fault.
+        (fault ≡ length numbers.now) × (out.new ≡ out.old)) }
+{
+    XxHash64::hash_each_u64(numbers, 9001, out)?;
+    Ok(())
+}
