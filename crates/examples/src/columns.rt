@@ -23,8 +23,8 @@ pub fn hash_texts(texts: &[u8], offsets: &[u64], out: &mut [u64]) -> Result<(), 
     Ok(())
 }
 
-/// The XXH64 of each number, under the seed 9001; or how many numbers there are, where they are fewer
-/// than the places, and nothing is written.
+/// The XXH64 of each number, under the seed 9001; or how many numbers there are, where they are
+/// fewer than the places, and nothing is written.
 pub fn hash_numbers(numbers: &[u64], out: &mut [u64]) -> Result<(), usize>
     ensures hashed { IfOk result (λ _. (i : ℕ) → i < length out.new →
         slice_index out.new i ≡ xxh64 9001 (eight (slice_index numbers.now i))) }
