@@ -40,6 +40,27 @@ fn views_of_every_size_are_those_of_tables(rt: HostRuntime) -> Result<(), Fail> 
 }
 
 #[test]
+fn faults_and_their_copies_show_their_names(rt: HostRuntime) -> Result<(), Fail> {
+    let alloc = rt.alloc();
+    for n in 0..5000usize {
+        let fault = Fault::TrailingBytes(n);
+        assert_same_for(&rt, fault.clone().ok(), Some(fault), n);
+        let text = format!(in alloc; "{fault:?}")?;
+        let shown = format!(in alloc; "TrailingBytes({n})")?;
+        assert_same(&rt, text.as_str(), shown.as_str());
+    }
+    for (part, shown) in [
+        (Difference::Seed, "Unlike(Seed)"),
+        (Difference::Log2Bits, "Unlike(Log2Bits)"),
+        (Difference::Hashes, "Unlike(Hashes)"),
+    ] {
+        let text = format!(in alloc; "{:?}", MergeFault::Unlike(part))?;
+        assert_same(&rt, text.as_str(), shown);
+    }
+    Ok(())
+}
+
+#[test]
 fn sizes_of_views(rt: HostRuntime) {
     for (log2_bits, size) in [
         (0, None),
