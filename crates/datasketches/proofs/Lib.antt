@@ -8,6 +8,5 @@ pub mod ExtendLemmas
 pub mod StrategyLemmas
 -- lemmas of the crates below, for the crates above
 pub use Rattle.sketch_base.proofs.BytesLemmas
-pub use Rattle.sketch_hash.proofs.RefusalLemmas
 pub use Rattle.sketch_base.proofs.ItemLemmas
 pub use Rattle.sketch_base.proofs.ItemLawLemmas

@@ -4,7 +4,6 @@ pub mod PiecesLemmas
 pub mod StateLemmas
 pub mod MurmurLemmas
 pub mod Xxh64Lemmas
-pub mod RefusalLemmas
 pub mod Undoes
 pub mod BlockLemmas
 pub mod MurmurSteps

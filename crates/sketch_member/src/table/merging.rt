@@ -1,10 +1,12 @@
 //! Two tables that become one.
 
 ghost use Rattle.std.specs.Prelude.{◌≡◌, MatchResult};
-ghost use Rattle.sketch_member.specs.Merge.{FirstDifference, Merges};
+ghost use Rattle.datasketches.specs.Refusals.{Refuses};
+ghost use Rattle.sketch_member.specs.Merge.{FirstDifference, Merges, part_name, tables_differ_text};
 ghost use Rattle.sketch_member.specs.Table.{IsTable};
 
 use super::MemberTable;
+use crate::header::Difference;
 use datasketches::error::{Error, ErrorKind};
 use std::alloc::Global;
 
@@ -26,11 +28,17 @@ impl MemberTable {
         ensures are_tables { IsTable self.old × IsTable other.now × IsTable self.new }
     {
         if let Some(part) = self.header.difference(&other.header) {
-            let text = format!(in alloc; "tables differ: {part}");
-            return Err(Error::from_text(alloc, ErrorKind::InvalidArgument, text));
+            return Err(tables_differ(alloc, part));
         }
         self.header
             .merge(&mut self.bits, &other.header, &other.bits);
         Ok(())
     }
+}
+
+fn tables_differ(alloc: Global, part: Difference) -> Error
+    ensures { Refuses ErrorKind.InvalidArgument (tables_differ_text (part_name part)) result }
+{
+    let text = format!(in alloc; "tables differ: {part}");
+    Error::from_text(alloc, ErrorKind::InvalidArgument, text)
 }
