@@ -1,11 +1,24 @@
 //! The calls on tables: each status, and what a refusal leaves.
 
+ghost use Rattle.std.specs.Prelude.{◌≡◌, ◌↔◌, IsTrue};
+ghost use Rattle.sketch_member.specs.Form.{form2};
+ghost use Rattle.sketch_member.specs.Table.{IsTable, Table};
+
 use super::assert_same;
 use crate::{
     sketch_member_check, sketch_member_contains, sketch_member_count, sketch_member_init,
     sketch_member_insert, sketch_member_merge, sketch_member_size,
 };
+use sketch_member::laws::form_law;
 use std::process::Abort;
+
+/// Whether bytes are a table of version 2: `check` is done exactly with these.
+fn is_table(bytes: &[u8]) -> bool
+    ensures { IsTrue result ↔ ((table : Table) × IsTable table × (bytes.now ≡ form2 table)) }
+{
+    form_law();
+    sketch_member_check(bytes) == 0
+}
 
 // A table of 64 bits with one index a key, under seed 0, after the insert of no bytes.
 const ONE_KEY: [u8; 32] = [
@@ -22,7 +35,7 @@ fn a_table_in_bytes(rt: HostRuntime) {
     assert_same(&rt, sketch_member_contains(&bytes, b""), 0);
     assert_same(&rt, sketch_member_insert(&mut bytes, b""), 0);
     assert_same(&rt, bytes, ONE_KEY);
-    assert_same(&rt, sketch_member_check(&bytes), 0);
+    assert_same(&rt, is_table(&bytes), true);
     assert_same(&rt, sketch_member_contains(&bytes, b""), 1);
     assert_same(&rt, sketch_member_contains(&bytes, b"zz"), 0);
     assert_same(&rt, sketch_member_merge(&mut bytes, &ONE_KEY), 0);
