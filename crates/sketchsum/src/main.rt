@@ -2,6 +2,7 @@
 #![tactic(auto)]
 
 mod arguments;
+mod digest;
 mod ending;
 mod program;
 mod read_ahead;

@@ -286,49 +286,6 @@ fn merge_stripes(stripes: &[[u8; STRIPE]], seed: u64) -> u64
     merge(lanes)
 }
 
-/// The hash of one key among others. Where their lengths vary, the processor guesses fewer branches
-/// wrong than in [`XxHash64::hash`]: the last bytes take one, by their number.
-#[inline(always)]
-pub(super) fn hash_varied(bytes: &[u8], seed: u64) -> u64
-    ensures { result ≡ xxh64 seed bytes.now }
-{
-    if bytes.len() < STRIPE {
-        let hash = seed.wrapping_add(PRIME5).wrapping_add(bytes.len() as u64);
-        return avalanche(fold_varied(hash, bytes));
-    }
-    hash_long(bytes, seed)
-}
-
-// The hash after a tail of any number of bytes.
-#[inline(always)]
-fn fold_varied(hash: u64, tail: &[u8]) -> u64
-    ensures { result ≡ fold tail_step hash (steps tail.now) }
-{
-    let (hash, rest) = fold_words(hash, tail);
-    match rest.len() {
-        0 => fold_exact::<0>(hash, rest),
-        1 => fold_exact::<1>(hash, rest),
-        2 => fold_exact::<2>(hash, rest),
-        3 => fold_exact::<3>(hash, rest),
-        4 => fold_exact::<4>(hash, rest),
-        5 => fold_exact::<5>(hash, rest),
-        6 => fold_exact::<6>(hash, rest),
-        _ => fold_exact::<7>(hash, rest),
-    }
-}
-
-#[inline(always)]
-fn fold_exact<const K: usize>(hash: u64, bytes: &[u8]) -> u64
-    requires exact { length bytes.now ≡ K }
-    requires few { K < 8 }
-    ensures { result ≡ fold tail_step hash (steps bytes.now) }
-{
-    match bytes.as_array::<K>() {
-        Some(bytes) => fold_rest(hash, bytes),
-        None => hash,
-    }
-}
-
 // The four lanes as one word.
 #[inline(always)]
 #[tactic(auto, unfolding(crate::specs::Xxh64::merge))]

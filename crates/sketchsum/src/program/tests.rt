@@ -7,6 +7,9 @@ use crate::tests::{FOX, FOX_LINE, assert_same};
 use std::alloc::{AllocError, Global};
 use std::process::{Abort, ExitCode, Termination};
 
+// The XXH64 of the sentence under the seed 7.
+const FOX_LINE_OF_7: &str = "73229526fb86a735\n";
+
 const USAGE: &str = "usage: sketchsum murmur|xx SEED\n";
 
 // What a caller's proof knows of the words of a run.
@@ -88,6 +91,27 @@ fn other_seeds_ask_for_nothing(rt: HostRuntime) {
         assert_status(&rt, rt.alloc(), &[b"", b"xx", &before], status);
         assert_status(&rt, rt.alloc(), &[b"", b"xx", &after], status);
         assert_status(&rt, rt.alloc(), &[b"", b"xx", &alone], status);
+    }
+}
+
+// A seed of any length is read whole: with zeros before its digits it is the same number, up to 20
+// digits.
+#[test]
+fn seeds_of_every_length_are_read(rt: HostRuntime) {
+    let mut seed = [b'0'; 40];
+    seed[39] = b'7';
+    for start in 0..40 {
+        let words: [&[u8]; 3] = [b"", b"xx", &seed[start..]];
+        let mut output = Vec::new(rt.alloc());
+        let screen = Screen::new(rt.alloc());
+        let end = program(&Arguments(&words), rt.alloc(), &mut FOX, &mut output);
+        let (status, line) = if start < 20 {
+            (2, "")
+        } else {
+            (0, FOX_LINE_OF_7)
+        };
+        assert_same(&rt, end.report(&screen), ExitCode::from(status));
+        assert_same(&rt, output.as_slice(), line.as_bytes());
     }
 }
 

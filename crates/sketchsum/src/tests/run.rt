@@ -90,6 +90,22 @@ fn a_read_ahead_that_fails_is_told(rt: HostRuntime) {
     }
 }
 
+// Nor is it where what was read before the fault fills the memory of the read ahead, or nearly so.
+#[test]
+fn a_read_ahead_fails_after_full_reads(rt: HostRuntime) {
+    let bytes = [7; 131_073];
+    for given in [65_535, 65_536, 65_537, 131_071, 131_072, 131_073] {
+        for most in [65_536, 4096, usize::MAX] {
+            let fault = Some((131_073 - given, ErrorKind::Other));
+            let mut reader = ReadAhead::new(SlowReader::new(&bytes, most, fault));
+            let mut written = Vec::new(rt.alloc());
+            let answer = run(Algorithm::Murmur, 0, &mut reader, &mut written);
+            assert_same(&rt, answer, Err(RunFault::Read));
+            assert!(rt; written.is_empty());
+        }
+    }
+}
+
 // What a caller's proof knows of a run over bytes.
 fn run_over_bytes(turns: u64, input: &mut &[u8], output: &mut Vec<u8>) -> Result<(), RunFault>
     ensures bounded { length input.old.now ≤ 4096 * turns + length input.new.now }

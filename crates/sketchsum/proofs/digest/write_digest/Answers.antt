@@ -1,6 +1,6 @@
 use Rattle.std.proofs.Common.{rules}
 use Rattle.sketchsum.proofs.ReadingLemmas.{murmur_runs, xx_runs}
-use Rattle.sketchsum.proofs.run.run_within.Goals as goal
+use Rattle.sketchsum.proofs.digest.write_digest.Goals as goal
 
 pub returns-in_ok-read_into-in-Murmur-clause-runs :
     goal.returns-in_ok-read_into-in-Murmur-clause-runs
