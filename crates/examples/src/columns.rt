@@ -1,6 +1,6 @@
 //! Columns of keys, hashed in one call.
 
-ghost use Rattle.std.specs.Prelude.{◌≡◌, ℕ, ◌+◌, ◌-◌, ◌<◌, ◌≤◌, length, take, drop, slice_index, IfErr, IfOk};
+ghost use Rattle.std.specs.Prelude.{◌≡◌, ℕ, ◌+◌, ◌-◌, ◌<◌, ◌≤◌, ◌∷◌, length, take, drop, slice_index, IfErr, IfOk};
 ghost use Rattle.datasketches.specs.Bytes.{eight};
 ghost use Rattle.datasketches.specs.Xxh64.{xxh64};
 
@@ -18,6 +18,9 @@ pub fn hash_texts(texts: &[u8], offsets: &[u64], out: &mut [u64]) -> Result<(), 
     ensures unchanged { IfErr result (λ _. out.new ≡ out.old) }
     ensures before { IfErr result (λ fault. (i : ℕ) → i < fault →
         slice_index offsets.now i ≤ length texts.now) }
+    ensures refused { IfErr result (λ fault. (fault ≤ length out.old)
+        × (fault < length offsets.now → slice_index offsets.now fault ≤ length texts.now →
+        slice_index offsets.now fault < slice_index (0 ∷ offsets.now) fault)) }
 {
     XxHash64::hash_each(texts, offsets, 9001, out)?;
     Ok(())
@@ -29,7 +32,7 @@ pub fn hash_numbers(numbers: &[u64], out: &mut [u64]) -> Result<(), usize>
     ensures hashed { IfOk result (λ _. (i : ℕ) → i < length out.new →
         slice_index out.new i ≡ xxh64 9001 (eight (slice_index numbers.now i))) }
     ensures unchanged { IfErr result (λ fault.
-        (fault ≡ length numbers.now) × (out.new ≡ out.old)) }
+        (fault ≡ length numbers.now) × (fault < length out.old) × (out.new ≡ out.old)) }
 {
     XxHash64::hash_each_u64(numbers, 9001, out)?;
     Ok(())

@@ -1,6 +1,6 @@
 //! Items written, and read back as a list.
 
-ghost use Rattle.std.specs.Prelude.{◌≡◌, ◌↔◌, ℕ, List, ◌+◌, ◌<◌, ◌≤◌, ◌++◌, IfOk, IsTrue, length, map, take, drop};
+ghost use Rattle.std.specs.Prelude.{◌≡◌, ◌↔◌, ℕ, List, ◌+◌, ◌<◌, ◌≤◌, ◌++◌, IfOk, IsTrue, false, length, map, take, drop};
 ghost use Rattle.datasketches.specs.ItemLaws.{Holds};
 ghost use Rattle.datasketches.specs.Items.{item_kind, spell_all, unspell_all, width, widths};
 
@@ -97,11 +97,14 @@ pub fn write_what_fits(writer: &mut SketchBytes, items: &[Item]) -> usize
     }
 }
 
-/// Writes bytes if there is room for them; what is written fits the room.
+/// Writes bytes, and answers whether they were written: they are, where there is room for them.
+/// What is written fits the room.
 pub fn write_if_it_fits(writer: &mut SketchBytes, bytes: &[u8]) -> bool
     ensures fits { length writer.new.bytes ≤ writer.new.room }
     ensures grows { writer.old.room ≤ writer.new.room }
     ensures written { IsTrue result → writer.new.bytes ≡ writer.old.bytes ++ bytes.now }
+    ensures room { length writer.old.bytes + length bytes.now ≤ writer.old.room → IsTrue result }
+    ensures refused { result ≡ false → writer.new ≡ writer.old }
 {
     writer.write(bytes).is_ok()
 }

@@ -1,7 +1,8 @@
 //! Tables of several workers that become one, in whatever order.
 
-ghost use Rattle.std.specs.Prelude.{◌≡◌, ◌⊎◌, ℕ, ◌+◌, List, ◌++◌, IfOk};
+ghost use Rattle.std.specs.Prelude.{◌≡◌, ◌⊎◌, ℕ, ◌+◌, List, ◌++◌, IfErr, IfOk, IsOk};
 ghost use Rattle.sketch_member.specs.Laws.{StandsFor, count_after};
+ghost use Rattle.sketch_member.specs.Merge.{AreAlike};
 ghost use Rattle.sketch_member.specs.Table.{IsMember};
 
 use datasketches::error::Error;
@@ -21,6 +22,8 @@ pub fn merge_worker(
     ensures counts { (m n : ℕ) →
         table.old.count ≡ count_after m → worker.now.count ≡ count_after n →
         IfOk result (λ _. table.new.count ≡ count_after (m + n)) }
+    ensures refused { IfErr result (λ _. (table.new ≡ table.old)
+        × (AreAlike table.old worker.now → ⊥)) }
 {
     merge_law();
     table.merge(alloc, worker)?;
@@ -84,7 +87,7 @@ pub fn merge_nothing(
 /// Merges a table that is the same, which changes nothing but the count.
 pub fn merge_twin(alloc: Global, table: &mut MemberTable, twin: &MemberTable) -> Result<(), Error>
     requires { twin.now ≡ table.old }
-    ensures { IfOk result (λ _. table.new ≡ record table.old { count = table.new.count }) }
+    ensures { IsOk result × (table.new ≡ record table.old { count = table.new.count }) }
 {
     merge_law();
     table.merge(alloc, twin)

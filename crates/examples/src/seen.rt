@@ -1,13 +1,15 @@
 //! Keys that were seen, in a table of members that is saved and loaded.
 
-ghost use Rattle.std.specs.Prelude.{ℕ, ◌≡◌, ◌⊎◌, ◌↔◌, ◌+◌, [], IfOk, IsTrue, MatchResult, length};
-ghost use Rattle.sketch_member.specs.Faults.{AllPass, steps};
+ghost use Rattle.std.specs.Prelude.{ℕ, ◌≡◌, ◌⊎◌, ◌↔◌, ◌+◌, [], IfErr, IfOk, IsTrue, MatchResult, length};
+ghost use Rattle.datasketches.specs.ErrorValue.{memory_error};
+ghost use Rattle.datasketches.specs.Refusals.{Refuses};
+ghost use Rattle.sketch_member.specs.Faults.{AllPass, IsFirstFault, fault_text, steps};
 ghost use Rattle.sketch_member.specs.Form.{IsForm, form2};
 ghost use Rattle.sketch_member.specs.InPlace.{Becomes};
 ghost use Rattle.sketch_member.specs.Laws.{count_after};
 ghost use Rattle.sketch_member.specs.Table.{Table, Inserts, IsMember, IsSet, empty_table};
 
-use datasketches::error::Error;
+use datasketches::error::{Error, ErrorKind};
 use datasketches::hash::value::raw_bytes;
 use sketch_member::laws::{form_law, insert_law};
 use sketch_member::{Fault, MemberTable, TableView, in_place};
@@ -16,8 +18,11 @@ use std::alloc::{AllocError, Global};
 /// The table of the keys seen so far, from the bytes that were saved; a new one, of 1024 bits with
 /// seven indexes a key, where there are none.
 pub fn load_keys(alloc: Global, saved: &[u8]) -> Result<MemberTable, Error>
-    ensures { IfOk result (λ seen.
+    ensures loaded { IfOk result (λ seen.
         ((saved.now ≡ []) × (seen ≡ empty_table 0 10 7)) ⊎ IsForm seen saved.now) }
+    ensures refused { IfErr result (λ error. (error ≡ memory_error) ⊎ ((fault : Fault)
+        × IsFirstFault (length saved.now) (steps saved.now) fault
+        × Refuses ErrorKind.InvalidData (fault_text fault) error)) }
 {
     if saved.is_empty() {
         return MemberTable::new(alloc, 0, 10, 7);

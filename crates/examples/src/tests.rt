@@ -2,6 +2,7 @@ ghost use Rattle.std.specs.Prelude.{IsTrue};
 
 mod calls;
 mod damage;
+mod merging;
 
 use datasketches::error::{Error, ErrorKind};
 use std::fmt::{Debug, Display};

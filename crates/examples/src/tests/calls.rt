@@ -1,18 +1,22 @@
 //! Each caller, run.
 
-use super::{FOX_MURMUR, FOX_XXH64, assert_out_of_memory, assert_refused, assert_same};
-use crate::items::there_and_back;
+use super::{
+    FOX_MURMUR, FOX_XXH64, assert_out_of_memory, assert_refused, assert_same, assert_same_for,
+};
+use crate::columns::{hash_numbers, hash_texts};
+use crate::items::{are_same_items, there_and_back, write_if_it_fits};
 use crate::keys::{is_new_key, is_same_key, is_same_word, pair_of};
 use crate::own::{BigEndian, Point};
 use crate::seen::{see_key_in, see_saved_key};
 use crate::sentence::hash_of_the_sentence;
 use crate::sketch::{read_sketch, write_sketch};
 use crate::streams::{checkpoint, murmur_of_pieces, xxh64_from, xxh64_of_pieces};
-use datasketches::codec::{Item, Kind};
+use datasketches::codec::{Item, Kind, SketchBytes};
 use datasketches::error::Error;
+use datasketches::hash::XxHash64;
 use datasketches::hash::value::{calculate_hash, raw_bytes};
 use sketch_member::{Fault, MemberTable, in_place};
-use std::alloc::Global;
+use std::alloc::{AllocError, Global};
 use std::test::Fail;
 
 // An HLL sketch of the seed 9001, whose seed hash is 0x93cc, with the one item 258.
@@ -134,6 +138,38 @@ fn items_are_read_back(rt: HostRuntime) {
         (rest.ok().as_deref(), places),
         (Some([7, 8].as_slice()), items),
     );
+}
+
+#[test]
+fn lists_of_items_are_compared_by_their_bytes(rt: HostRuntime) {
+    let items = [Item::U8(1), Item::U32Be(2)];
+    for (other, is_same) in [
+        ([Item::U8(1), Item::U32Be(2)], true),
+        ([Item::U8(1), Item::U32Be(3)], false),
+    ] {
+        let answer = are_same_items(rt.alloc(), &items, &other);
+        assert_same_for(&rt, answer.ok(), Some(is_same), other);
+    }
+}
+
+#[test]
+fn bytes_are_written_if_they_fit(rt: HostRuntime) -> Result<(), AllocError> {
+    let mut writer = SketchBytes::with_capacity(rt.alloc(), 3)?;
+    assert_same(&rt, write_if_it_fits(&mut writer, &[1, 2, 3]), true);
+    assert_same(&rt, writer.into_bytes().as_slice(), &[1, 2, 3]);
+    Ok(())
+}
+
+#[test]
+fn columns_are_hashed(rt: HostRuntime) {
+    let (mut texts, mut numbers) = ([7; 2], [7; 2]);
+    assert_same(&rt, hash_texts(b"foxes", &[0, 6, 5], &mut texts), Err(1));
+    assert_same(&rt, hash_numbers(&[1], &mut numbers), Err(1));
+    assert_same(&rt, (texts, numbers), ([7; 2], [7; 2]));
+    assert_same(&rt, hash_texts(b"foxes", &[0, 3, 5], &mut texts), Ok(()));
+    assert_same(&rt, texts[1], XxHash64::hash(b"es", 9001));
+    assert_same(&rt, hash_numbers(&[1, 2], &mut numbers), Ok(()));
+    assert_same(&rt, numbers[1], XxHash64::hash_u64(2, 9001));
 }
 
 #[test]
