@@ -194,6 +194,17 @@ def _words(buffer, widths):
     return words, view.itemsize
 
 
+def _pair(keys):
+    """The bytes and the offsets of a column, as cffi sees them, and the offsets' width in bytes."""
+    data, offsets = keys
+    return (_memory(data), *_words(offsets, (4, 8)))
+
+
+def _fits(fault):
+    if fault:
+        raise ValueError(f"the offset at {fault - 1} is missing, past the end or below the one before")
+
+
 def xxh64_each(keys, seed=0):
     """XXH64 of each key of a column, as a memoryview of whole numbers.
 
@@ -208,16 +219,12 @@ def xxh64_each(keys, seed=0):
         hashes = bytearray(8 * len(words))
         _lib.xxh64_each_u64(words, len(words), seed, _memory_of("uint64_t[]", hashes), len(words))
         return memoryview(hashes).cast("Q")
-    data, offsets = keys
-    memory = _memory(data)
-    words, width = _words(offsets, (4, 8))
-    count = max(len(words) - 1, 0)
+    memory, offsets, width = _pair(keys)
+    count = max(len(offsets) - 1, 0)
     hashes = bytearray(8 * count)
     call = _lib.xxh64_each32 if width == 4 else _lib.xxh64_each64
     out = _memory_of("uint64_t[]", hashes)
-    fault = call(memory, len(memory), words, len(words), seed, out, count)
-    if fault:
-        raise ValueError(f"the offset at {fault - 1} is missing, past the end or below the one before")
+    _fits(call(memory, len(memory), offsets, len(offsets), seed, out, count))
     return memoryview(hashes).cast("Q")
 
 
@@ -271,6 +278,26 @@ class MemberTable:
         """Inserts each of some keys."""
         for key in keys:
             self.insert(key)
+
+    def insert_each(self, keys):
+        """Inserts each key of a column, as xxh64_each takes it.
+
+        Where an offset does not fit nothing is inserted. Each insert is proved. The loop over them, and
+        the check of the offsets, are this package's and tested.
+        """
+        if isinstance(keys, tuple):
+            memory, offsets, width = _pair(keys)
+            size, places = len(memory), len(offsets)
+        else:
+            memory, width = _words(keys, (8,))
+            offsets, size, places = _ffi.NULL, width * len(memory), len(memory) + 1
+        table = self._table
+        with self._lock:
+            answer = _lib.member_insert_each(
+                table, len(table), memory, size, offsets, width, places
+            )
+        _fits(max(answer, 0))
+        _done(answer)
 
     def __contains__(self, key):
         memory = _memory(key)
