@@ -35,6 +35,12 @@ calls.cdef(
                           size_t count);
 
     sketch_murmur3_x64_128_hash_t murmur(const void *input, size_t length, uint64_t seed);
+    size_t murmur_each32(const void *input, size_t length, const uint32_t *offsets,
+                         size_t offset_count, uint64_t seed, sketch_murmur3_x64_128_hash_t *out,
+                         size_t count);
+    size_t murmur_each64(const void *input, size_t length, const uint64_t *offsets,
+                         size_t offset_count, uint64_t seed, sketch_murmur3_x64_128_hash_t *out,
+                         size_t count);
     void sketch_murmur3_x64_128_reset(sketch_murmur3_x64_128_state_t *state, uint64_t seed);
     void murmur_update(sketch_murmur3_x64_128_state_t *state, const void *input, size_t length);
     sketch_murmur3_x64_128_hash_t sketch_murmur3_x64_128_digest(
@@ -94,23 +100,19 @@ calls.set_source(
         take_back(thread);
     }
 
-    static size_t xxh64_each32(const void *input, size_t length, const uint32_t *offsets,
-                               size_t offset_count, uint64_t seed, uint64_t *out, size_t count) {
-        PyThreadState *thread = give_up(length + 8 * count);
-        size_t fault =
-            sketch_xxh64_each32(input, length, offsets, offset_count, seed, out, count);
-        take_back(thread);
-        return fault;
-    }
+    #define EACH(name, call, offset_t, hash_t)                                                     \\
+        static size_t name(const void *input, size_t length, const offset_t *offsets,              \\
+                           size_t offset_count, uint64_t seed, hash_t *out, size_t count) {        \\
+            PyThreadState *thread = give_up(length + 8 * count);                                   \\
+            size_t fault = call(input, length, offsets, offset_count, seed, out, count);           \\
+            take_back(thread);                                                                     \\
+            return fault;                                                                          \\
+        }
 
-    static size_t xxh64_each64(const void *input, size_t length, const uint64_t *offsets,
-                               size_t offset_count, uint64_t seed, uint64_t *out, size_t count) {
-        PyThreadState *thread = give_up(length + 8 * count);
-        size_t fault =
-            sketch_xxh64_each64(input, length, offsets, offset_count, seed, out, count);
-        take_back(thread);
-        return fault;
-    }
+    EACH(xxh64_each32, sketch_xxh64_each32, uint32_t, uint64_t)
+    EACH(xxh64_each64, sketch_xxh64_each64, uint64_t, uint64_t)
+    EACH(murmur_each32, sketch_murmur3_x64_128_each32, uint32_t, sketch_murmur3_x64_128_hash_t)
+    EACH(murmur_each64, sketch_murmur3_x64_128_each64, uint64_t, sketch_murmur3_x64_128_hash_t)
 
     static size_t xxh64_each_u64(const uint64_t *values, size_t value_count, uint64_t seed,
                                  uint64_t *out, size_t count) {
