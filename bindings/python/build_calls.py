@@ -35,6 +35,12 @@ calls.cdef(
                           size_t count);
 
     sketch_murmur3_x64_128_hash_t murmur(const void *input, size_t length, uint64_t seed);
+    size_t murmur_each32(const void *input, size_t length, const uint32_t *offsets,
+                         size_t offset_count, uint64_t seed, sketch_murmur3_x64_128_hash_t *out,
+                         size_t count);
+    size_t murmur_each64(const void *input, size_t length, const uint64_t *offsets,
+                         size_t offset_count, uint64_t seed, sketch_murmur3_x64_128_hash_t *out,
+                         size_t count);
     void sketch_murmur3_x64_128_reset(sketch_murmur3_x64_128_state_t *state, uint64_t seed);
     void murmur_update(sketch_murmur3_x64_128_state_t *state, const void *input, size_t length);
     sketch_murmur3_x64_128_hash_t sketch_murmur3_x64_128_digest(
@@ -56,6 +62,8 @@ calls.cdef(
     int member_insert(void *bytes, size_t length, const void *key, size_t key_length);
     int member_contains(const void *bytes, size_t length, const void *key, size_t key_length);
     int member_merge(void *into, size_t length, const void *from, size_t from_length);
+    ptrdiff_t member_insert_each(void *bytes, size_t length, const void *data, size_t data_length,
+                                 const void *offsets, size_t width, size_t places);
     int sketch_member_count(const void *bytes, size_t length, uint64_t *count);
     """
 )
@@ -92,23 +100,19 @@ calls.set_source(
         take_back(thread);
     }
 
-    static size_t xxh64_each32(const void *input, size_t length, const uint32_t *offsets,
-                               size_t offset_count, uint64_t seed, uint64_t *out, size_t count) {
-        PyThreadState *thread = give_up(length + 8 * count);
-        size_t fault =
-            sketch_xxh64_each32(input, length, offsets, offset_count, seed, out, count);
-        take_back(thread);
-        return fault;
-    }
+    #define EACH(name, call, offset_t, hash_t)                                                     \\
+        static size_t name(const void *input, size_t length, const offset_t *offsets,              \\
+                           size_t offset_count, uint64_t seed, hash_t *out, size_t count) {        \\
+            PyThreadState *thread = give_up(length + 8 * count);                                   \\
+            size_t fault = call(input, length, offsets, offset_count, seed, out, count);           \\
+            take_back(thread);                                                                     \\
+            return fault;                                                                          \\
+        }
 
-    static size_t xxh64_each64(const void *input, size_t length, const uint64_t *offsets,
-                               size_t offset_count, uint64_t seed, uint64_t *out, size_t count) {
-        PyThreadState *thread = give_up(length + 8 * count);
-        size_t fault =
-            sketch_xxh64_each64(input, length, offsets, offset_count, seed, out, count);
-        take_back(thread);
-        return fault;
-    }
+    EACH(xxh64_each32, sketch_xxh64_each32, uint32_t, uint64_t)
+    EACH(xxh64_each64, sketch_xxh64_each64, uint64_t, uint64_t)
+    EACH(murmur_each32, sketch_murmur3_x64_128_each32, uint32_t, sketch_murmur3_x64_128_hash_t)
+    EACH(murmur_each64, sketch_murmur3_x64_128_each64, uint64_t, sketch_murmur3_x64_128_hash_t)
 
     static size_t xxh64_each_u64(const uint64_t *values, size_t value_count, uint64_t seed,
                                  uint64_t *out, size_t count) {
@@ -134,18 +138,59 @@ calls.set_source(
 
     /* The table at bytes may be a view of memory that the caller has too, and an insert may not read
      * what it writes. */
-    #define KEY_IN_TABLE 1
+    #define KEY_IN_TABLE (-100)
+
+    static int overlap(const void *one, size_t length, const void *two, size_t two_length) {
+        uintptr_t first = (uintptr_t)one, second = (uintptr_t)two;
+        return two_length > 0 && second < first + length && first < second + two_length;
+    }
 
     static int member_insert(void *bytes, size_t length, const void *key, size_t key_length) {
-        uintptr_t table = (uintptr_t)bytes, from = (uintptr_t)key;
         PyThreadState *thread;
         int status;
-        if (key_length > 0 && from < table + length && table < from + key_length)
+        if (overlap(bytes, length, key, key_length))
             return KEY_IN_TABLE;
         thread = give_up(key_length);
         status = sketch_member_insert(bytes, length, key, key_length);
         take_back(thread);
         return status;
+    }
+
+    /* Where one key of a column ends and the next begins. Keys of one width have no offsets. */
+    static size_t place(const void *offsets, size_t width, size_t at) {
+        if (!offsets) return width * at;
+        return width == 4 ? ((const uint32_t *)offsets)[at] : ((const uint64_t *)offsets)[at];
+    }
+
+    /* As the calls of columns answer: 0, or 1 + the index of the first offset that does not fit. */
+    static ptrdiff_t fault_of(const void *offsets, size_t width, size_t places, size_t length) {
+        size_t at, before = 0, next;
+        for (at = 0; at < places; at++, before = next) {
+            next = place(offsets, width, at);
+            if (next < before || next > length) return at + 1;
+        }
+        return places == 0;
+    }
+
+    /* Answers a status, or a fault of the offsets. Each insert is proved, and this loop is not. */
+    static ptrdiff_t member_insert_each(void *bytes, size_t length, const void *data,
+                                        size_t data_length, const void *offsets, size_t width,
+                                        size_t places) {
+        PyThreadState *thread;
+        size_t at, from;
+        ptrdiff_t answer;
+        if (overlap(bytes, length, data, data_length) ||
+            (offsets && overlap(bytes, length, offsets, width * places)))
+            return KEY_IN_TABLE;
+        thread = give_up(data_length + 8 * places);
+        answer = fault_of(offsets, width, places, data_length);
+        for (at = 1; at < places && answer == 0; at++) {
+            from = place(offsets, width, at - 1);
+            answer = sketch_member_insert(bytes, length, (const char *)data + from,
+                                          place(offsets, width, at) - from);
+        }
+        take_back(thread);
+        return answer;
     }
 
     static int member_contains(const void *bytes, size_t length, const void *key,

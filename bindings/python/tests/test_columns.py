@@ -1,17 +1,22 @@
-"""Columns of keys beside python3-xxhash, key by key, and offsets that lie."""
+"""Columns of keys beside python3-xxhash and a Murmur in Python, key by key, and offsets that lie."""
 import array
 import itertools
 import random
 
 import numpy
+import peers
 import pytest
 import xxhash
-from sketch_hash import xxh64_each
+from sketch_hash import murmur3_x64_128_each, xxh64_each
 
 KEYS = [random.Random(7).randbytes(length % 101) for length in range(1000)]
 DATA = b"".join(KEYS)
 OFFSETS = [0, *itertools.accumulate(map(len, KEYS))]
+PAIR = DATA, array.array("Q", OFFSETS)
 WIDTHS = ["int32", "uint32", "int64", "uint64"]
+
+
+EACH = [xxh64_each, murmur3_x64_128_each]
 
 
 def expected(keys, seed):
@@ -27,6 +32,18 @@ def test_each_key(dtype):
     assert some.tolist() == expected(KEYS[500:600], 0)
 
 
+@pytest.mark.parametrize("dtype", WIDTHS)
+def test_each_key_by_murmur(dtype):
+    offsets = numpy.array(OFFSETS, dtype)
+    for seed in (0, 2**64 - 1):
+        hashes = murmur3_x64_128_each((DATA, offsets), seed)
+        pairs = [h1 << 64 | h2 for h1, h2 in zip(hashes[::2], hashes[1::2])]
+        assert pairs == [peers.murmur3_x64_128(key, seed) for key in KEYS]
+        assert numpy.asarray(hashes).reshape(-1, 2)[7].tolist() == hashes[14:16].tolist()
+    some = murmur3_x64_128_each((numpy.frombuffer(DATA, "uint8"), offsets[500:601]), seed=seed)
+    assert some == hashes[1000:1200]
+
+
 @pytest.mark.parametrize("dtype", ["int64", "uint64"])
 def test_each_number(dtype):
     numbers = numpy.array([0, 1, 2**40, 2**62, *range(1000)], dtype)
@@ -38,22 +55,26 @@ def test_each_number(dtype):
 
 def test_nothing():
     assert xxh64_each(numpy.zeros(0, "uint64")).tolist() == []
-    assert xxh64_each((b"", array.array("I", [0]))).tolist() == []
+    for each in EACH:
+        assert each((b"", array.array("I", [0]))).tolist() == []
+    nothing = murmur3_x64_128_each((b"", array.array("I", [0])))
+    assert numpy.asarray(nothing).reshape(-1, 2).shape == (0, 2)
 
 
+@pytest.mark.parametrize("each", EACH)
 @pytest.mark.parametrize("dtype", WIDTHS)
-def test_offsets_that_lie(dtype):
+def test_offsets_that_lie(dtype, each):
     offsets = numpy.array(OFFSETS, dtype)
     for place in (0, 1, 500, 1000):
         for lie in (len(DATA) + 1, -1):
             wrong = offsets.copy()
             wrong[place] = numpy.array(lie).astype(dtype)
             with pytest.raises(ValueError, match=f"the offset at {place} is"):
-                xxh64_each((DATA, wrong))
+                each((DATA, wrong))
     with pytest.raises(ValueError, match="the offset at 2 is"):
-        xxh64_each((DATA, offsets[[0, 9, 8]]))
+        each((DATA, offsets[[0, 9, 8]]))
     with pytest.raises(ValueError, match="the offset at 0 is"):
-        xxh64_each((DATA, offsets[:0]))
+        each((DATA, offsets[:0]))
 
 
 REFUSED = [
@@ -74,10 +95,12 @@ REFUSED = [
 
 @pytest.mark.parametrize("keys", REFUSED, ids=range(len(REFUSED)))
 def test_refused(keys):
-    with pytest.raises((TypeError, ValueError, BufferError)):
-        xxh64_each(keys)
+    for each in EACH:
+        with pytest.raises((TypeError, ValueError, BufferError)):
+            each(keys)
 
 
 def test_a_seed_outside_of_64_bits_is_refused():
-    with pytest.raises(OverflowError, match="a seed is from 0 to"):
-        xxh64_each(numpy.zeros(4, "uint64"), 2**64)
+    for each, keys in ((xxh64_each, numpy.zeros(4, "uint64")), (xxh64_each, PAIR), (EACH[1], PAIR)):
+        with pytest.raises(OverflowError, match="a seed is from 0 to"):
+            each(keys, 2**64)

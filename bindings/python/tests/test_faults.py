@@ -10,7 +10,7 @@ import time
 
 import pytest
 import sketch_hash
-from sketch_hash import murmur3_x64_128, xxh64, xxh64_each
+from sketch_hash import murmur3_x64_128, murmur3_x64_128_each, xxh64, xxh64_each
 
 KINDS = [xxh64, murmur3_x64_128]
 ONE_CALL = [getattr(sketch_hash, name) for name in sketch_hash.__all__ if name.endswith("digest")]
@@ -111,6 +111,8 @@ def test_long_calls_give_up_the_lock_of_python(ticks):
         lambda data: xxh64_each(memoryview(data).cast("Q")),
         lambda data: xxh64_each((data, array.array("I", range(100000)))),
         lambda data: xxh64_each((data, array.array("Q", range(100000)))),
+        lambda data: murmur3_x64_128_each((data, array.array("I", range(100000)))),
+        lambda data: murmur3_x64_128_each((data, array.array("Q", range(100000)))),
     ]
     for call in (*ONE_CALL, *[it.update for it in hashers], *columns):
         before = len(ticks)

@@ -1,5 +1,6 @@
 """The table of members beside a model over python3-xxhash, and bytes with damage."""
 import copy
+import itertools
 import mmap
 import pickle
 import random
@@ -170,6 +171,73 @@ def test_bytes_of_another_length_are_refused():
         MemberTable.from_bytes(bytes([2, 1, 200, 6, 3, 0, 0, 0]) + bytes(8 + 8))
 
 
+OFFSETS = [0, *itertools.accumulate(map(len, KEYS))]
+COLUMN = b"".join(KEYS)
+
+
+@pytest.mark.parametrize("dtype", ["int32", "uint32", "int64", "uint64"])
+def test_columns(dtype):
+    offsets = numpy.array(OFFSETS, dtype)
+    table = MemberTable(10, 3, SEED)
+    table.insert_each((COLUMN, offsets[:21]))
+    assert table.to_bytes() == model(10, 3, KEYS[:20])
+    table.insert_each((bytearray(COLUMN), offsets[20:]))
+    assert table.to_bytes() == model(10, 3, KEYS)
+    for place in (0, 1, 20, len(KEYS)):
+        for lie in (len(COLUMN) + 1, -1):
+            wrong = offsets.copy()
+            wrong[place] = numpy.array(lie).astype(dtype)
+            with pytest.raises(ValueError, match=f"the offset at {place} is"):
+                table.insert_each((b"-" * len(COLUMN), wrong))
+    for wrong, place in (([5, 9, 8, 8], 2), ([], 0)):
+        with pytest.raises(ValueError, match=f"the offset at {place} is"):
+            table.insert_each((b"-" * len(COLUMN), numpy.array(wrong, dtype)))
+    table.insert_each((b"", numpy.zeros(1, dtype)))
+    assert table.to_bytes() == model(10, 3, KEYS)
+
+
+def test_columns_of_numbers():
+    numbers = numpy.array([0, 1, 2**63, *range(500)], "uint64")
+    words = [number.tobytes() for number in numbers]
+    for column in (numbers, numbers.view("int64"), memoryview(numbers)):
+        table = MemberTable(13, 3, SEED)
+        table.insert_each(column)
+        assert table.to_bytes() == model(13, 3, words)
+        table.insert_each(column[:0])
+        table.update(numbers)
+        assert table.to_bytes() == model(13, 3, words, 2 * len(words))
+
+
+def test_columns_that_are_refused():
+    table, offsets = filled(), numpy.array(OFFSETS)
+    for column in (5, KEYS, COLUMN, offsets.astype("u4"), (COLUMN, COLUMN), ("text", offsets)):
+        with pytest.raises((TypeError, ValueError)):
+            table.insert_each(column)
+    assert table.to_bytes() == filled().to_bytes()
+
+
+def test_a_column_that_lies_in_the_table_is_refused():
+    buffer = bytearray(model(10, 3, KEYS) + bytes(48))
+    part, size = memoryview(buffer), len(buffer) - 48
+    view = MemberTable.view(part[:size])
+    before = bytes(buffer)
+    for column in (
+        part[16:24].cast("Q"),
+        part[size - 8 : size + 8].cast("Q"),
+        (part[size - 1 :], numpy.zeros(2, "u4")),
+        (b"fox", part[size - 8 : size + 8].cast("I")),
+        (b"fox", part[size - 8 : size + 8].cast("Q")),
+    ):
+        with pytest.raises(ValueError, match="the key lies in the bytes of the table"):
+            view.insert_each(column)
+        assert buffer == before
+    view.insert_each((part[size:], part[size + 32 :].cast("Q")))
+    assert view.to_bytes() == model(10, 3, [*KEYS, b""])
+    buffer[3] = 5
+    with pytest.raises(ValueError, match="log2_bits is not 6 to 20"):
+        view.insert_each(part[size:].cast("Q"))
+
+
 def test_merged_tables_contain_the_keys_of_both():
     one, two = filled(keys=KEYS[:20]), filled(keys=KEYS[20:])
     one.merge(two)
@@ -319,7 +387,13 @@ def test_short_calls_keep_the_lock_of_python(ticks):  # noqa: F811
 def test_long_calls_give_up_the_lock_of_python(ticks):  # noqa: F811
     """The other thread may be late on a busy machine, so it is given ten seconds."""
     key, table, other = bytes(1 << 24), MemberTable(20, 1), MemberTable(20, 1)
-    for call in (lambda: table.insert(key), lambda: key in table, lambda: table.merge(other)):
+    calls = [
+        lambda: table.insert(key),
+        lambda: table.insert_each(memoryview(key).cast("Q")),
+        lambda: key in table,
+        lambda: table.merge(other),
+    ]
+    for call in calls:
         before, end = len(ticks), time.monotonic() + 10
         while len(ticks) == before and time.monotonic() < end:
             call()

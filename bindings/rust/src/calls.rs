@@ -33,6 +33,10 @@ pub struct Murmur3X64_128Hash {
 const _: () = assert!(size_of::<Xxh64State>() == 80);
 const _: () = assert!(size_of::<Murmur3X64_128State>() == 40);
 
+/// A call that hashes each key of a column: the bytes, the offsets, the seed and the hashes.
+pub type Each<O, H> =
+    unsafe extern "C" fn(*const u8, usize, *const O, usize, u64, *mut H, usize) -> usize;
+
 unsafe extern "C" {
     pub safe fn sketch_hash_version() -> u32;
 
@@ -41,6 +45,32 @@ unsafe extern "C" {
     pub safe fn sketch_xxh64_reset(state: &mut Xxh64State, seed: u64);
     pub fn sketch_xxh64_update(state: &mut Xxh64State, input: *const u8, length: usize);
     pub safe fn sketch_xxh64_digest(state: &Xxh64State) -> u64;
+
+    pub fn sketch_xxh64_each32(
+        input: *const u8,
+        length: usize,
+        offsets: *const u32,
+        offset_count: usize,
+        seed: u64,
+        out: *mut u64,
+        count: usize,
+    ) -> usize;
+    pub fn sketch_xxh64_each64(
+        input: *const u8,
+        length: usize,
+        offsets: *const u64,
+        offset_count: usize,
+        seed: u64,
+        out: *mut u64,
+        count: usize,
+    ) -> usize;
+    pub fn sketch_xxh64_each_u64(
+        values: *const u64,
+        value_count: usize,
+        seed: u64,
+        out: *mut u64,
+        count: usize,
+    ) -> usize;
 
     pub fn sketch_murmur3_x64_128(input: *const u8, length: usize, seed: u64)
         -> Murmur3X64_128Hash;
@@ -51,6 +81,24 @@ unsafe extern "C" {
         length: usize,
     );
     pub safe fn sketch_murmur3_x64_128_digest(state: &Murmur3X64_128State) -> Murmur3X64_128Hash;
+    pub fn sketch_murmur3_x64_128_each32(
+        input: *const u8,
+        length: usize,
+        offsets: *const u32,
+        offset_count: usize,
+        seed: u64,
+        out: *mut [u64; 2],
+        count: usize,
+    ) -> usize;
+    pub fn sketch_murmur3_x64_128_each64(
+        input: *const u8,
+        length: usize,
+        offsets: *const u64,
+        offset_count: usize,
+        seed: u64,
+        out: *mut [u64; 2],
+        count: usize,
+    ) -> usize;
 
     pub safe fn sketch_member_size(log2_bits: c_uint) -> usize;
     pub fn sketch_member_init(

@@ -5,10 +5,12 @@
 extern crate alloc;
 
 mod calls;
+mod columns;
 mod member;
 mod murmur;
 mod xxh64;
 
+pub use columns::{murmur3_x64_128_each, xxh64_each, xxh64_each_u64, ColumnError, Offset};
 pub use member::{MemberTable, TableError};
 pub use murmur::{murmur3_x64_128, BuildMurmur3X64_128, Murmur3X64_128};
 pub use xxh64::{xxh64, xxh64_u64, BuildXxh64, Xxh64};

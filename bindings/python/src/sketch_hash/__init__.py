@@ -27,6 +27,7 @@ __all__ = [
     "algorithms_available",
     "murmur3_x64_128",
     "murmur3_x64_128_digest",
+    "murmur3_x64_128_each",
     "murmur3_x64_128_hexdigest",
     "murmur3_x64_128_intdigest",
     "xxh64",
@@ -194,6 +195,32 @@ def _words(buffer, widths):
     return words, view.itemsize
 
 
+def _pair(keys):
+    """The bytes and the offsets of a column, as cffi sees them, and the offsets' width in bytes."""
+    if not isinstance(keys, tuple):
+        raise TypeError("a column of bytes is a pair of bytes and offsets")
+    data, offsets = keys
+    return (_memory(data), *_words(offsets, (4, 8)))
+
+
+def _fits(fault):
+    if fault:
+        raise ValueError(f"the offset at {fault - 1} is missing, past the end or below the one before")
+
+
+def _each(calls, kind, keys, seed):
+    memory, offsets, width = _pair(keys)
+    count = max(len(offsets) - 1, 0)
+    hashes = bytearray(_ffi.sizeof(kind) * count)
+    out = _memory_of(kind + "[]", hashes)
+    _fits(calls[width](memory, len(memory), offsets, len(offsets), _seed(seed), out, count))
+    return memoryview(hashes).cast("Q")
+
+
+_XXH64_EACH = {4: _lib.xxh64_each32, 8: _lib.xxh64_each64}
+_MURMUR_EACH = {4: _lib.murmur_each32, 8: _lib.murmur_each64}
+
+
 def xxh64_each(keys, seed=0):
     """XXH64 of each key of a column, as a memoryview of whole numbers.
 
@@ -202,23 +229,23 @@ def xxh64_each(keys, seed=0):
     is the bytes from its offset up to the next. Nothing is copied. Offsets that are past the end of
     the bytes or below the one before raise a ValueError.
     """
-    seed = _seed(seed)
-    if not isinstance(keys, tuple):
-        words, _ = _words(keys, (8,))
-        hashes = bytearray(8 * len(words))
-        _lib.xxh64_each_u64(words, len(words), seed, _memory_of("uint64_t[]", hashes), len(words))
-        return memoryview(hashes).cast("Q")
-    data, offsets = keys
-    memory = _memory(data)
-    words, width = _words(offsets, (4, 8))
-    count = max(len(words) - 1, 0)
-    hashes = bytearray(8 * count)
-    call = _lib.xxh64_each32 if width == 4 else _lib.xxh64_each64
+    if isinstance(keys, tuple):
+        return _each(_XXH64_EACH, "uint64_t", keys, seed)
+    words, _ = _words(keys, (8,))
+    hashes = bytearray(8 * len(words))
     out = _memory_of("uint64_t[]", hashes)
-    fault = call(memory, len(memory), words, len(words), seed, out, count)
-    if fault:
-        raise ValueError(f"the offset at {fault - 1} is missing, past the end or below the one before")
+    _lib.xxh64_each_u64(words, len(words), _seed(seed), out, len(words))
     return memoryview(hashes).cast("Q")
+
+
+def murmur3_x64_128_each(keys, seed=0):
+    """MurmurHash3 x64 128 of each key of a column, as a memoryview of whole numbers, two for a key.
+
+    The keys are a pair of bytes and offsets, as xxh64_each takes it. The words of key i are at 2 * i
+    and 2 * i + 1. A view of two dimensions could not be empty, so it has one:
+    numpy.asarray(hashes).reshape(-1, 2) has a row for a key.
+    """
+    return _each(_MURMUR_EACH, "sketch_murmur3_x64_128_hash_t", keys, seed)
 
 
 class MemberTable:
@@ -271,6 +298,26 @@ class MemberTable:
         """Inserts each of some keys."""
         for key in keys:
             self.insert(key)
+
+    def insert_each(self, keys):
+        """Inserts each key of a column, as xxh64_each takes it.
+
+        Where an offset does not fit nothing is inserted. Each insert is proved. The loop over them, and
+        the check of the offsets, are this package's and tested.
+        """
+        if isinstance(keys, tuple):
+            memory, offsets, width = _pair(keys)
+            size, places = len(memory), len(offsets)
+        else:
+            memory, width = _words(keys, (8,))
+            offsets, size, places = _ffi.NULL, width * len(memory), len(memory) + 1
+        table = self._table
+        with self._lock:
+            answer = _lib.member_insert_each(
+                table, len(table), memory, size, offsets, width, places
+            )
+        _fits(max(answer, 0))
+        _done(answer)
 
     def __contains__(self, key):
         memory = _memory(key)
