@@ -6,6 +6,11 @@
 //     xxh64(new TextEncoder().encode('fox'), 0n);          // a BigInt
 //     new Xxh64(0n).update(first).update(second).hexdigest();
 //
+// A column of keys is hashed in one call, as Apache Arrow lays out strings:
+//
+//     const { xxh64Each } = await load();
+//     xxh64Each(new TextEncoder().encode('foxdog'), Uint32Array.of(0, 3, 6)); // a BigUint64Array of two
+//
 // Input is an ArrayBuffer or a view of one; a string is refused. A seed is a BigInt from 0n to
 // 2n ** 64n - 1n, and 0n if left out. sketch_hash.d.mts has the types.
 
@@ -40,6 +45,13 @@ function view(input) {
     throw new TypeError('the input is an ArrayBuffer or a view of one; encode a string by TextEncoder');
 }
 
+/** The width in bytes of whole numbers. */
+function width(numbers) {
+    if (numbers instanceof Uint32Array || numbers instanceof Int32Array) return 4;
+    if (numbers instanceof BigUint64Array || numbers instanceof BigInt64Array) return 8;
+    throw new TypeError('a column of numbers is a typed array of integers, of 64 bits or, for offsets, of 32');
+}
+
 function checked(seed) {
     if (typeof seed !== 'bigint') throw new TypeError('a seed is a BigInt, as 0n');
     if (seed !== BigInt.asUintN(64, seed)) throw new RangeError('a seed is from 0n to 2n ** 64n - 1n');
@@ -51,8 +63,14 @@ function library(calls) {
     const hash = (calls.__heap_base.value + 15n) & ~15n;
     const state = hash + 16n;
     const input = state + 80n;
-    grow(calls.memory, Number(input) + PIECE);
-    const memory = new Uint8Array(calls.memory.buffer);
+    let memory;
+    reach(input + BigInt(PIECE));
+
+    // Makes the module's memory at least so long. One that grows leaves its buffer.
+    function reach(end) {
+        grow(calls.memory, Number(end));
+        memory = new Uint8Array(calls.memory.buffer);
+    }
 
     // Runs a call over the input, piece by piece.
     function pieces(bytes, call) {
@@ -66,6 +84,37 @@ function library(calls) {
     function pair() {
         const [h1, h2] = new BigUint64Array(memory.buffer, Number(hash), 2);
         return h1 << 64n | h2;
+    }
+
+    // Runs a call over arrays that lie one after the other in the module's memory, and answers the words
+    // that it has written behind them.
+    function each(arrays, words, call) {
+        const places = [input];
+        for (const array of arrays) places.push(places.at(-1) + (BigInt(array.byteLength + 15) & ~15n));
+        const out = places.at(-1), end = out + BigInt(8 * words);
+        reach(end);
+        arrays.forEach((array, at) => memory.set(view(array), Number(places[at])));
+        const fault = call(...places);
+        if (fault !== 0n) {
+            throw new RangeError(`the offset at ${fault - 1n} is missing, past the end or below the one before`);
+        }
+        return new BigUint64Array(memory.slice(Number(out), Number(end)).buffer);
+    }
+
+    function byOffsets(each32, each64, wordsOfKey) {
+        return (bytes, offsets, seed = 0n) => {
+            const call = width(offsets) === 4 ? each32 : each64;
+            const count = Math.max(offsets.length - 1, 0), all = view(bytes);
+            return each([all, offsets], wordsOfKey * count, (place, placeOfOffsets, out) => call(place,
+                BigInt(all.length), placeOfOffsets, BigInt(offsets.length), checked(seed), out, BigInt(count)));
+        };
+    }
+
+    function xxh64EachU64(numbers, seed = 0n) {
+        if (width(numbers) !== 8) throw new TypeError('the numbers have 64 bits');
+        const count = BigInt(numbers.length);
+        return each([numbers], numbers.length,
+            (place, out) => calls.sketch_xxh64_each_u64(place, count, checked(seed), out, count));
     }
 
     // A stream, whose state is kept outside of the module's memory between calls.
@@ -129,6 +178,10 @@ function library(calls) {
         Murmur3X64_128,
         xxh64: (bytes, seed) => new Xxh64(seed).update(bytes).digest(),
         murmur3X64_128: (bytes, seed) => new Murmur3X64_128(seed).update(bytes).digest(),
+        xxh64Each: byOffsets(calls.sketch_xxh64_each32, calls.sketch_xxh64_each64, 1),
+        xxh64EachU64,
+        murmur3X64_128Each:
+            byOffsets(calls.sketch_murmur3_x64_128_each32, calls.sketch_murmur3_x64_128_each64, 2),
         version: calls.sketch_hash_version(),
     };
 }

@@ -1,14 +1,23 @@
 // The hashes of a list of cases, each {seed, pieces}, where a seed is decimal and pieces are in
-// hexadecimal: in pieces, from a copy in the middle, and in one call.
-export function answer({ xxh64, murmur3X64_128, Xxh64, Murmur3X64_128 }, cases) {
+// hexadecimal: in pieces, from a copy in the middle, in one call, and of the pieces as a column.
+export function answer(library, cases) {
+    const { xxh64, murmur3X64_128, xxh64Each, murmur3X64_128Each, Xxh64, Murmur3X64_128 } = library;
     return cases.map(({ seed, pieces }) => {
         const parts = pieces.map(bytes);
         const whole = bytes(pieces.join(''));
         const start = BigInt(seed);
+        let end = 0;
+        const offsets = [0, ...parts.map((part) => end += part.length)];
         return [inPieces(new Xxh64(start), parts), inPieces(new Murmur3X64_128(start), parts),
             xxh64(whole, start).toString(16).padStart(16, '0'),
-            murmur3X64_128(whole, start).toString(16).padStart(32, '0')];
+            murmur3X64_128(whole, start).toString(16).padStart(32, '0'),
+            hexadecimal(xxh64Each(whole, Uint32Array.from(offsets), start)),
+            hexadecimal(murmur3X64_128Each(whole, BigUint64Array.from(offsets, BigInt), start))];
     });
+}
+
+function hexadecimal(words) {
+    return Array.from(words, (word) => word.toString(16).padStart(16, '0')).join('');
 }
 
 function bytes(text) {

@@ -6,7 +6,7 @@ import { answer } from './answer.mjs';
 const dist = new URL(`file://${process.env.DIST}/wasm/`);
 const { load } = await import(new URL('sketch_hash.mjs', dist));
 const library = await load();
-const { xxh64, murmur3X64_128, Xxh64, Murmur3X64_128 } = library;
+const { xxh64, murmur3X64_128, xxh64Each, xxh64EachU64, murmur3X64_128Each, Xxh64, Murmur3X64_128 } = library;
 const fox = new TextEncoder().encode('The quick brown fox jumps over the lazy dog');
 const last = 2n ** 64n - 1n;
 
@@ -41,6 +41,36 @@ assert.equal(y.seed, 7n);
 assert.equal(y.copy().reset().update(fox).digest(), xxh64(fox, 7n));
 assert.throws(() => y.reset(-1n), RangeError);
 assert.equal(y.digest(), xxh64(fox, 7n));
+
+// Columns, while a stream is on its way; the last makes the module's memory longer.
+const numbers = BigUint64Array.of(0n, 1n, last);
+const expected = Array.from(numbers, (number) => xxh64(BigUint64Array.of(number), 5n));
+for (const column of [numbers, new BigInt64Array(numbers.buffer)]) assert.deepEqual([...xxh64EachU64(column, 5n)], expected);
+assert.equal(xxh64EachU64(new BigUint64Array(0)).length, 0);
+const keys = [[0, 0], [0, 17], [17, 3_000_001], [3_000_001, 3_000_001]].map(([from, to]) => long.subarray(from, to));
+const places = [0, 0, 17, 3_000_001, 3_000_001];
+const widths = [Uint32Array.from(places), Int32Array.from(places), BigUint64Array.from(places, BigInt), BigInt64Array.from(places, BigInt)];
+x.reset(5n).update(fox.subarray(0, 40));
+for (const offsets of widths) {
+    assert.deepEqual([...xxh64Each(long, offsets, last)], keys.map((key) => xxh64(key, last)));
+    const pairs = murmur3X64_128Each(long.buffer, offsets);
+    assert.equal(pairs.length, 8);
+    keys.forEach((key, at) => assert.equal(pairs[2 * at] << 64n | pairs[2 * at + 1], murmur3X64_128(key)));
+    assert.deepEqual([...xxh64Each(long, offsets.subarray(0, 1))], []);
+    for (const call of [xxh64Each, murmur3X64_128Each]) {
+        assert.throws(() => call(long.subarray(1), offsets), /RangeError: the offset at 3 is/);
+        assert.throws(() => call(long, offsets.toReversed()), /RangeError: the offset at 2 is/);
+        assert.throws(() => call(long, offsets.subarray(0, 0)), /RangeError: the offset at 0 is/);
+        assert.throws(() => call(long, offsets, -1n), RangeError);
+    }
+}
+assert.equal(x.update(fox.subarray(40)).digest(), xxh64(fox, 5n));
+for (const offsets of [[0, 1], new Float64Array(2), new Uint16Array(2), 5, undefined]) {
+    assert.throws(() => xxh64Each(fox, offsets), TypeError);
+    assert.throws(() => xxh64EachU64(offsets), TypeError);
+}
+assert.throws(() => xxh64EachU64(new Uint32Array(2)), TypeError);
+assert.throws(() => murmur3X64_128Each('fox', widths[0]), /TextEncoder/);
 
 // What is refused.
 for (const seed of [-1n, 2n ** 64n, 2n ** 70n]) {

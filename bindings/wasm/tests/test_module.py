@@ -33,9 +33,13 @@ def cases():
 def check(cases, answers):
     assert len(answers) == len(cases) == 20_000
     for it, answer in zip(cases, answers):
-        data, seed = bytes.fromhex("".join(it["pieces"])), int(it["seed"])
-        both = [xxhash.xxh64_hexdigest(data, seed), f"{peers.murmur3_x64_128(data, seed):032x}"]
-        assert answer == both * 2
+        pieces, seed = [*map(bytes.fromhex, it["pieces"])], int(it["seed"])
+        columns = ["".join(column) for column in zip(*(both(piece, seed) for piece in pieces))]
+        assert answer == both(b"".join(pieces), seed) * 2 + columns
+
+
+def both(data, seed):
+    return [xxhash.xxh64_hexdigest(data, seed), f"{peers.murmur3_x64_128(data, seed):032x}"]
 
 
 def node_words():
