@@ -2,9 +2,10 @@
 // Node. Licence: Apache-2.0.
 //
 //     import { load } from './sketch_hash.mjs';
-//     const { xxh64, Xxh64 } = await load();
+//     const { xxh64, Xxh64, xxh64Each } = await load();
 //     xxh64(new TextEncoder().encode('fox'), 0n);          // a BigInt
 //     new Xxh64(0n).update(first).update(second).hexdigest();
+//     xxh64Each(bytes, Uint32Array.of(0, 3, 6));           // a BigUint64Array: the hash of each key
 //
 // A column of keys is hashed in one call, as Apache Arrow lays out strings:
 //
@@ -58,17 +59,27 @@ function checked(seed) {
     return seed;
 }
 
+const NUMBERS = [BigUint64Array, BigInt64Array];
+const OFFSETS = [Uint32Array, Int32Array, ...NUMBERS];
+
+function checkedColumn(column, kinds) {
+    if (kinds.some((kind) => column instanceof kind)) return column;
+    throw new TypeError(`the column is no ${kinds.map(({ name }) => name).join(', ')}`);
+}
+
 function library(calls) {
     // Behind the module's own data: a hash of 16 bytes, a state of up to 80 bytes, and the input.
     const hash = (calls.__heap_base.value + 15n) & ~15n;
     const state = hash + 16n;
     const input = state + 80n;
-    let memory;
-    reach(input + BigInt(PIECE));
+    const begin = Number(input);
+    let memory = new Uint8Array(0);
+    makeRoom(PIECE);
 
-    // Makes the module's memory at least so long. One that grows leaves its buffer.
-    function reach(end) {
-        grow(calls.memory, Number(end));
+    // Makes room for so many bytes of input. Views of the memory end when it grows.
+    function makeRoom(length) {
+        if (memory.length >= begin + length) return;
+        grow(calls.memory, begin + length);
         memory = new Uint8Array(calls.memory.buffer);
     }
 
@@ -76,7 +87,7 @@ function library(calls) {
     function pieces(bytes, call) {
         for (let at = 0; at < bytes.length; at += PIECE) {
             const piece = bytes.subarray(at, at + PIECE);
-            memory.set(piece, Number(input));
+            memory.set(piece, begin);
             call(state, input, BigInt(piece.length));
         }
     }
@@ -86,35 +97,29 @@ function library(calls) {
         return h1 << 64n | h2;
     }
 
-    // Runs a call over arrays that lie one after the other in the module's memory, and answers the words
-    // that it has written behind them.
-    function each(arrays, words, call) {
-        const places = [input];
-        for (const array of arrays) places.push(places.at(-1) + (BigInt(array.byteLength + 15) & ~15n));
-        const out = places.at(-1), end = out + BigInt(8 * words);
-        reach(end);
-        arrays.forEach((array, at) => memory.set(view(array), Number(places[at])));
-        const fault = call(...places);
-        if (fault !== 0n) {
+    // Runs a call over columns. Behind the hashes, from the place of the input on, lie the columns, the
+    // last one first, since the bytes are the first one and the others need places of their width.
+    function each(call, columns, seed, count, size) {
+        makeRoom(columns.reduce((sum, { byteLength }) => sum + byteLength, count * size));
+        let end = begin + count * size;
+        const places = [];
+        for (const column of columns.reverse()) {
+            memory.set(view(column), end);
+            places.unshift(BigInt(end), BigInt(column.length));
+            end += column.byteLength;
+        }
+        const fault = call(...places, checked(seed), input, BigInt(count));
+        if (fault) {
             throw new RangeError(`the offset at ${fault - 1n} is missing, past the end or below the one before`);
         }
-        return new BigUint64Array(memory.slice(Number(out), Number(end)).buffer);
+        return new BigUint64Array(memory.slice(begin, begin + count * size).buffer);
     }
 
-    function byOffsets(each32, each64, wordsOfKey) {
+    function eachKey(call32, call64, size) {
         return (bytes, offsets, seed = 0n) => {
-            const call = width(offsets) === 4 ? each32 : each64;
-            const count = Math.max(offsets.length - 1, 0), all = view(bytes);
-            return each([all, offsets], wordsOfKey * count, (place, placeOfOffsets, out) => call(place,
-                BigInt(all.length), placeOfOffsets, BigInt(offsets.length), checked(seed), out, BigInt(count)));
+            const call = checkedColumn(offsets, OFFSETS).BYTES_PER_ELEMENT === 4 ? call32 : call64;
+            return each(call, [view(bytes), offsets], seed, Math.max(offsets.length - 1, 0), size);
         };
-    }
-
-    function xxh64EachU64(numbers, seed = 0n) {
-        if (width(numbers) !== 8) throw new TypeError('the numbers have 64 bits');
-        const count = BigInt(numbers.length);
-        return each([numbers], numbers.length,
-            (place, out) => calls.sketch_xxh64_each_u64(place, count, checked(seed), out, count));
     }
 
     // A stream, whose state is kept outside of the module's memory between calls.
@@ -178,10 +183,11 @@ function library(calls) {
         Murmur3X64_128,
         xxh64: (bytes, seed) => new Xxh64(seed).update(bytes).digest(),
         murmur3X64_128: (bytes, seed) => new Murmur3X64_128(seed).update(bytes).digest(),
-        xxh64Each: byOffsets(calls.sketch_xxh64_each32, calls.sketch_xxh64_each64, 1),
-        xxh64EachU64,
+        xxh64Each: eachKey(calls.sketch_xxh64_each32, calls.sketch_xxh64_each64, 8),
+        xxh64EachU64: (values, seed = 0n) =>
+            each(calls.sketch_xxh64_each_u64, [checkedColumn(values, NUMBERS)], seed, values.length, 8),
         murmur3X64_128Each:
-            byOffsets(calls.sketch_murmur3_x64_128_each32, calls.sketch_murmur3_x64_128_each64, 2),
+            eachKey(calls.sketch_murmur3_x64_128_each32, calls.sketch_murmur3_x64_128_each64, 16),
         version: calls.sketch_hash_version(),
     };
 }

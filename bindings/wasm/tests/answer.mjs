@@ -1,18 +1,18 @@
 // The hashes of a list of cases, each {seed, pieces}, where a seed is decimal and pieces are in
-// hexadecimal: in pieces, from a copy in the middle, in one call, and of the pieces as a column.
+// hexadecimal: in pieces, from a copy in the middle, in one call, and of each piece by itself.
 export function answer(library, cases) {
-    const { xxh64, murmur3X64_128, xxh64Each, murmur3X64_128Each, Xxh64, Murmur3X64_128 } = library;
+    const { xxh64, murmur3X64_128, Xxh64, Murmur3X64_128, xxh64Each, murmur3X64_128Each } = library;
     return cases.map(({ seed, pieces }) => {
         const parts = pieces.map(bytes);
         const whole = bytes(pieces.join(''));
         const start = BigInt(seed);
-        let end = 0;
-        const offsets = [0, ...parts.map((part) => end += part.length)];
+        const offsets = [0];
+        for (const part of parts) offsets.push(offsets.at(-1) + part.length);
         return [inPieces(new Xxh64(start), parts), inPieces(new Murmur3X64_128(start), parts),
             xxh64(whole, start).toString(16).padStart(16, '0'),
             murmur3X64_128(whole, start).toString(16).padStart(32, '0'),
-            hexadecimal(xxh64Each(whole, Uint32Array.from(offsets), start)),
-            hexadecimal(murmur3X64_128Each(whole, BigUint64Array.from(offsets, BigInt), start))];
+            words(xxh64Each(whole, Uint32Array.from(offsets), start)),
+            words(murmur3X64_128Each(whole, BigUint64Array.from(offsets, BigInt), start))];
     });
 }
 
@@ -22,6 +22,10 @@ function hexadecimal(words) {
 
 function bytes(text) {
     return Uint8Array.from(text.match(/../g) ?? [], (two) => parseInt(two, 16));
+}
+
+function words(hashes) {
+    return Array.from(hashes, (word) => word.toString(16).padStart(16, '0')).join('');
 }
 
 function inPieces(hasher, parts) {

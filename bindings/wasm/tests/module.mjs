@@ -6,7 +6,8 @@ import { answer } from './answer.mjs';
 const dist = new URL(`file://${process.env.DIST}/wasm/`);
 const { load } = await import(new URL('sketch_hash.mjs', dist));
 const library = await load();
-const { xxh64, murmur3X64_128, xxh64Each, xxh64EachU64, murmur3X64_128Each, Xxh64, Murmur3X64_128 } = library;
+const { xxh64, murmur3X64_128, Xxh64, Murmur3X64_128 } = library;
+const { xxh64Each, xxh64EachU64, murmur3X64_128Each } = library;
 const fox = new TextEncoder().encode('The quick brown fox jumps over the lazy dog');
 const last = 2n ** 64n - 1n;
 
@@ -42,35 +43,46 @@ assert.equal(y.copy().reset().update(fox).digest(), xxh64(fox, 7n));
 assert.throws(() => y.reset(-1n), RangeError);
 assert.equal(y.digest(), xxh64(fox, 7n));
 
-// Columns, while a stream is on its way; the last makes the module's memory longer.
-const numbers = BigUint64Array.of(0n, 1n, last);
-const expected = Array.from(numbers, (number) => xxh64(BigUint64Array.of(number), 5n));
-for (const column of [numbers, new BigInt64Array(numbers.buffer)]) assert.deepEqual([...xxh64EachU64(column, 5n)], expected);
-assert.equal(xxh64EachU64(new BigUint64Array(0)).length, 0);
-const keys = [[0, 0], [0, 17], [17, 3_000_001], [3_000_001, 3_000_001]].map(([from, to]) => long.subarray(from, to));
-const places = [0, 0, 17, 3_000_001, 3_000_001];
-const widths = [Uint32Array.from(places), Int32Array.from(places), BigUint64Array.from(places, BigInt), BigInt64Array.from(places, BigInt)];
-x.reset(5n).update(fox.subarray(0, 40));
-for (const offsets of widths) {
-    assert.deepEqual([...xxh64Each(long, offsets, last)], keys.map((key) => xxh64(key, last)));
-    const pairs = murmur3X64_128Each(long.buffer, offsets);
-    assert.equal(pairs.length, 8);
-    keys.forEach((key, at) => assert.equal(pairs[2 * at] << 64n | pairs[2 * at + 1], murmur3X64_128(key)));
-    assert.deepEqual([...xxh64Each(long, offsets.subarray(0, 1))], []);
-    for (const call of [xxh64Each, murmur3X64_128Each]) {
-        assert.throws(() => call(long.subarray(1), offsets), /RangeError: the offset at 3 is/);
-        assert.throws(() => call(long, offsets.toReversed()), /RangeError: the offset at 2 is/);
-        assert.throws(() => call(long, offsets.subarray(0, 0)), /RangeError: the offset at 0 is/);
-        assert.throws(() => call(long, offsets, -1n), RangeError);
+// Columns: of offsets of each kind, of none, and one that the module's memory has to grow for.
+function pairs(keys, seed) {
+    return keys.map((key) => murmur3X64_128(key, seed)).flatMap((hash) => [hash >> 64n, hash & last]);
+}
+const keys = [all.subarray(4, 4), all.subarray(4, 10)];
+const [narrow, wide] = [Uint32Array.of(4, 4, 10), BigUint64Array.of(4n, 4n, 10n)];
+for (const offsets of [narrow, Int32Array.from(narrow), wide, BigInt64Array.from(wide)]) {
+    assert.deepEqual([...xxh64Each(all, offsets, last)], keys.map((key) => xxh64(key, last)));
+    assert.deepEqual([...murmur3X64_128Each(all, offsets)], pairs(keys));
+    for (const each of [xxh64Each, murmur3X64_128Each]) {
+        assert.equal(each(all, offsets.subarray(1, 2)).length, 0);
+        assert.throws(() => each(all.subarray(0, 9), offsets), /the offset at 2 is/);
+        assert.throws(() => each(all, offsets.toReversed()), { name: 'RangeError', message: /the offset at 1 is/ });
+        assert.throws(() => each(all, offsets.subarray(3)), /the offset at 0 is/);
     }
 }
-assert.equal(x.update(fox.subarray(40)).digest(), xxh64(fox, 5n));
-for (const offsets of [[0, 1], new Float64Array(2), new Uint16Array(2), 5, undefined]) {
-    assert.throws(() => xxh64Each(fox, offsets), TypeError);
+assert.throws(() => xxh64Each(all, Int32Array.of(0, -1)), /the offset at 1 is/);
+const ends = Uint32Array.from({ length: 300_001 }, (_, at) => at * 10);
+const before = new Xxh64(5n).update(long.subarray(0, 99));
+const hashes = xxh64Each(long, ends, 5n);
+const words = murmur3X64_128Each(long.buffer, ends, 5n);
+for (const at of [0, 1, 777, 299_999]) {
+    const key = long.subarray(10 * at, 10 * at + 10);
+    assert.equal(hashes[at], xxh64(key, 5n));
+    assert.deepEqual([...words.subarray(2 * at, 2 * at + 2)], pairs([key], 5n));
+}
+assert.equal(before.update(long.subarray(99)).digest(), xxh64(long, 5n));
+for (const kind of [BigUint64Array, BigInt64Array]) {
+    const numbers = kind.from([0n, 1n, last, 1n << 40n]);
+    const expected = Array.from(numbers, (_, at) => xxh64(numbers.subarray(at, at + 1), 9n));
+    assert.deepEqual([...xxh64EachU64(numbers, 9n)], expected);
+    assert.equal(xxh64EachU64(numbers.subarray(4)).length, 0);
+}
+for (const offsets of [[0, 3], new Uint8Array(2), new Float64Array(2), new DataView(all.buffer), null, undefined]) {
+    assert.throws(() => xxh64Each(all, offsets), TypeError);
     assert.throws(() => xxh64EachU64(offsets), TypeError);
 }
-assert.throws(() => xxh64EachU64(new Uint32Array(2)), TypeError);
-assert.throws(() => murmur3X64_128Each('fox', widths[0]), /TextEncoder/);
+assert.throws(() => xxh64EachU64(ends), /BigUint64Array/);
+assert.throws(() => murmur3X64_128Each('fox', ends), /TextEncoder/);
+for (const seed of [-1n, 2n ** 64n]) assert.throws(() => xxh64EachU64(new BigInt64Array(1), seed), RangeError);
 
 // What is refused.
 for (const seed of [-1n, 2n ** 64n, 2n ** 70n]) {

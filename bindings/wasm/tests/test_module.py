@@ -30,16 +30,16 @@ def cases():
     return [case(noise, 2000 if n % 100 == 0 else 100) for n in range(20_000)]
 
 
+def both(data, seed):
+    return [xxhash.xxh64_hexdigest(data, seed), f"{peers.murmur3_x64_128(data, seed):032x}"]
+
+
 def check(cases, answers):
     assert len(answers) == len(cases) == 20_000
     for it, answer in zip(cases, answers):
-        pieces, seed = [*map(bytes.fromhex, it["pieces"])], int(it["seed"])
-        columns = ["".join(column) for column in zip(*(both(piece, seed) for piece in pieces))]
-        assert answer == both(b"".join(pieces), seed) * 2 + columns
-
-
-def both(data, seed):
-    return [xxhash.xxh64_hexdigest(data, seed), f"{peers.murmur3_x64_128(data, seed):032x}"]
+        keys, seed = [bytes.fromhex(piece) for piece in it["pieces"]], int(it["seed"])
+        of_keys = map("".join, zip(*[both(key, seed) for key in keys]))
+        assert answer == [*both(b"".join(keys), seed) * 2, *of_keys]
 
 
 def node_words():
