@@ -7,11 +7,6 @@
 //     new Xxh64(0n).update(first).update(second).hexdigest();
 //     xxh64Each(bytes, Uint32Array.of(0, 3, 6));           // a BigUint64Array: the hash of each key
 //
-// A column of keys is hashed in one call, as Apache Arrow lays out strings:
-//
-//     const { xxh64Each } = await load();
-//     xxh64Each(new TextEncoder().encode('foxdog'), Uint32Array.of(0, 3, 6)); // a BigUint64Array of two
-//
 // Input is an ArrayBuffer or a view of one; a string is refused. A seed is a BigInt from 0n to
 // 2n ** 64n - 1n, and 0n if left out. sketch_hash.d.mts has the types.
 
@@ -44,13 +39,6 @@ function view(input) {
     if (input instanceof ArrayBuffer) return new Uint8Array(input);
     if (ArrayBuffer.isView(input)) return new Uint8Array(input.buffer, input.byteOffset, input.byteLength);
     throw new TypeError('the input is an ArrayBuffer or a view of one; encode a string by TextEncoder');
-}
-
-/** The width in bytes of whole numbers. */
-function width(numbers) {
-    if (numbers instanceof Uint32Array || numbers instanceof Int32Array) return 4;
-    if (numbers instanceof BigUint64Array || numbers instanceof BigInt64Array) return 8;
-    throw new TypeError('a column of numbers is a typed array of integers, of 64 bits or, for offsets, of 32');
 }
 
 function checked(seed) {

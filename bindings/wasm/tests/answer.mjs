@@ -16,10 +16,6 @@ export function answer(library, cases) {
     });
 }
 
-function hexadecimal(words) {
-    return Array.from(words, (word) => word.toString(16).padStart(16, '0')).join('');
-}
-
 function bytes(text) {
     return Uint8Array.from(text.match(/../g) ?? [], (two) => parseInt(two, 16));
 }
