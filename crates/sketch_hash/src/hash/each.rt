@@ -5,7 +5,7 @@ ghost use Rattle.sketch_hash.specs.Columns.{HashesEach, HashesEachNumber, IsBoun
 ghost use Rattle.sketch_hash.specs.Xxh64.{xxh64};
 
 use super::murmurhash::MurmurHash3X64128;
-use super::xxhash::XxHash64;
+use super::xxhash::{XxHash64, hash_one_of_many};
 
 /// An offset into the bytes of a column: `u32` or `u64`.
 pub trait Offset: Copy {
@@ -56,7 +56,7 @@ impl XxHash64 {
     {
         check_offsets(bytes, offsets, out.len())?;
         for i in 0..out.len() {
-            out[i] = XxHash64::hash(key_at(bytes, offsets, i), seed);
+            out[i] = hash_one_of_many(key_at(bytes, offsets, i), seed);
         }
         Ok(())
     }

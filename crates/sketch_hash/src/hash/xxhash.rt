@@ -262,6 +262,21 @@ impl Hasher for XxHash64 {
     ghost empty_write = { xxh64_after-empty };
 }
 
+/// The hash of one key of many: without a call for a long one, and with a loop over the last words,
+/// as processors guess fewer of its branches wrong where lengths vary.
+#[inline(always)]
+pub(super) fn hash_one_of_many(bytes: &[u8], seed: u64) -> u64
+    ensures { result ≡ xxh64 seed bytes.now }
+{
+    if bytes.len() < STRIPE {
+        let hash = seed.wrapping_add(PRIME5).wrapping_add(bytes.len() as u64);
+        return avalanche(fold_tail(hash, bytes));
+    }
+    let (stripes, last) = bytes.as_chunks::<STRIPE>();
+    let hash = merge_stripes(stripes, seed).wrapping_add(bytes.len() as u64);
+    avalanche(fold_tail(hash, last))
+}
+
 // The hash of a stripe of bytes and more. In a call of its own it costs that of short keys nothing.
 #[inline(never)]
 fn hash_long(bytes: &[u8], seed: u64) -> u64
@@ -319,9 +334,9 @@ fn fold_tail(hash: u64, tail: &[u8]) -> u64
     let (hash, rest) = fold_words(hash, tail);
     if rest.len() >= 4 {
         let (word, bytes) = rest.split_at(4);
-        return fold_bytes(four_step(hash, read_u32_le(word)), bytes);
+        return fold_few(four_step(hash, read_u32_le(word)), bytes);
     }
-    fold_bytes(hash, rest)
+    fold_few(hash, rest)
 }
 
 // The hash after the tail's words of eight bytes, and the bytes after these.
@@ -338,13 +353,6 @@ fn fold_words(mut hash: u64, tail: &[u8]) -> (u64, &[u8])
         rest = behind;
     }
     (hash, rest)
-}
-
-#[inline(always)]
-fn fold_bytes(hash: u64, bytes: &[u8]) -> u64
-    ensures { result ≡ fold byte_step hash bytes.now }
-{
-    bytes.iter().fold(hash, |hash, byte| byte_step(hash, *byte))
 }
 
 // The same without a loop: faster for one key, longer where it is inlined.
@@ -379,22 +387,18 @@ fn fold_few(hash: u64, bytes: &[u8]) -> u64
     requires { length bytes.now < 4 }
     ensures { result ≡ fold byte_step hash bytes.now }
 {
-    if bytes.len() >= 2 {
-        let (two, last) = bytes.split_at(2);
-        return fold_last(byte_step(byte_step(hash, two[0]), two[1]), last);
-    }
-    fold_last(hash, bytes)
-}
-
-#[inline(always)]
-fn fold_last(hash: u64, bytes: &[u8]) -> u64
-    requires { length bytes.now < 2 }
-    ensures { result ≡ fold byte_step hash bytes.now }
-{
-    if bytes.is_empty() {
+    let Some((first, rest)) = bytes.split_first() else {
         return hash;
-    }
-    byte_step(hash, bytes[0])
+    };
+    let hash = byte_step(hash, *first);
+    let Some((second, rest)) = rest.split_first() else {
+        return hash;
+    };
+    let hash = byte_step(hash, *second);
+    let Some((third, _)) = rest.split_first() else {
+        return hash;
+    };
+    byte_step(hash, *third)
 }
 
 #[inline(always)]

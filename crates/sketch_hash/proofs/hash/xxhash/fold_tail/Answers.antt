@@ -5,7 +5,7 @@ use Rattle.sketch_hash.proofs.hash.xxhash.fold_tail.Goals as goal
 pub returns-then-rest-ge4 : goal.returns-then-rest-ge4
 returns-then-rest-ge4 c =
     rw (
-      c.fold_bytes.ensures,
+      c.fold_few.ensures,
       c.four_step.ensures,
       c.read_u32_le.ensures,
       c.split_at.ensures.front,
@@ -15,6 +15,6 @@ returns-then-rest-ge4 c =
     c.fold_words-hash.ensures.short) ∙ c.fold_words-hash.ensures.same)
 
 pub returns : goal.returns
-returns c = c.fold_bytes-2.ensures
+returns c = c.fold_few-2.ensures
     ∙ sym (fold_short c.fold_words-hash.result.0 c.fold_words-hash.result.1.now c.if-rest-ge4.false)
     ∙ c.fold_words-hash.ensures.same
