@@ -16,9 +16,12 @@ static uint64_t reference(const void *bytes, size_t length) {
 
 static unsigned char mixed[KEYS]; /* lengths of 1 to 64 */
 
+/* All that is called and can be is inlined, however often it stands here. */
+#define FLAT __attribute__((flatten)) static uint64_t
+
 /* Keys one behind the other: of `length` bytes, or of mixed lengths where that is 0. */
 #define KEYS_BY(NAME, CALL)                                        \
-    static uint64_t NAME(size_t total, size_t length) {            \
+    FLAT NAME(size_t total, size_t length) {                       \
         uint64_t all = 0;                                          \
         if (length == 0)                                           \
             for (size_t at = 0, i = 0; i < KEYS; at += mixed[i++]) \
@@ -47,12 +50,47 @@ static uint64_t ours_stream(size_t total, size_t length) {
     return sketch_xxh64_digest(&state);
 }
 
-static uint64_t their_stream(size_t total, size_t length) {
+FLAT their_stream(size_t total, size_t length) {
     XXH64_state_t state;
     XXH64_reset(&state, 7);
     for (size_t at = 0; at + length <= total; at += length)
         XXH64_update(&state, input + at, length);
     return XXH64_digest(&state);
+}
+
+/* A column of all keys, and the hash of each. */
+static uint64_t offsets[KEYS + 1], numbers[KEYS], hashes[KEYS];
+
+static uint64_t ours_column(size_t total, size_t length) {
+    (void)length;
+    sketch_xxh64_each64(input, total, offsets, KEYS + 1, 7, hashes, KEYS);
+    return hashes[KEYS - 1];
+}
+
+FLAT their_column(size_t total, size_t length) {
+    (void)total, (void)length;
+    for (size_t i = 0; i < KEYS; i++)
+        hashes[i] = XXH64(input + offsets[i], offsets[i + 1] - offsets[i], 7);
+    return hashes[KEYS - 1];
+}
+
+static uint64_t ours_numbers(size_t total, size_t length) {
+    (void)total, (void)length;
+    sketch_xxh64_each_u64(numbers, KEYS, 7, hashes, KEYS);
+    return hashes[KEYS - 1];
+}
+
+FLAT their_numbers(size_t total, size_t length) {
+    (void)total, (void)length;
+    for (size_t i = 0; i < KEYS; i++) hashes[i] = XXH64(&numbers[i], sizeof *numbers, 7);
+    return hashes[KEYS - 1];
+}
+
+/* Keys of `least` to `most` bytes. */
+static void column(const char *name, unsigned least, unsigned most) {
+    for (size_t i = 0; i < KEYS; i++)
+        offsets[i + 1] = offsets[i] + least + i * 2654435761u / 65536 % (most - least + 1);
+    compare("column", name, "XXH64 in a loop, inlined", ours_column, their_column, offsets[KEYS], 0);
 }
 
 static void keys(const char *name, size_t total, size_t length) {
@@ -76,6 +114,16 @@ int main(void) {
         snprintf(name, sizeof name, "writes of %zu byte%s", writes[i], writes[i] == 1 ? "" : "s");
         compare("c", name, "XXH64_update, inlined", ours_stream, their_stream, STREAM, writes[i]);
     }
+    column("keys of 1 to 16 bytes", 1, 16);
+    column("keys of 1 to 64 bytes", 1, 64);
+    column("keys of 32 to 64 bytes", 32, 64);
+    column("keys of 8 bytes", 8, 8);
+    column("keys of 16 bytes", 16, 16);
+    column("keys of 31 bytes", 31, 31);
+    column("keys of 64 bytes", 64, 64);
+    for (size_t i = 0; i < KEYS; i++) numbers[i] = i * 0x9e3779b97f4a7c15;
+    compare("column", "numbers of 64 bits", "XXH64 in a loop, inlined", ours_numbers, their_numbers,
+            0, 0);
     keys("64 KiB at once", 1 << 16, 1 << 16);
     keys("1 MiB at once", LARGEST, LARGEST);
     return 0;
