@@ -3,6 +3,9 @@
 /** What is hashed: its bytes, as they lie in memory. */
 export type Input = ArrayBuffer | ArrayBufferView;
 
+/** Where each key of a column begins, and then where the last one ends: one more than keys. */
+export type Offsets = Uint32Array | Int32Array | BigUint64Array | BigInt64Array;
+
 /** A stream that comes in pieces. Splitting the input into several updates gives the same hash. */
 export interface Stream {
     /** The seed of the last reset, from 0n to 2n ** 64n - 1n. */
@@ -13,7 +16,10 @@ export interface Stream {
     digest(): bigint;
     /** The digest in lower hexadecimal, 16 or 32 digits, the highest first. */
     hexdigest(): string;
-    /** A stream that goes on from here by itself. */
+    /** Where each key of a column begins, and then where the last one ends: one more than keys. */
+export type Offsets = Uint32Array | Int32Array | BigUint64Array | BigInt64Array;
+
+/** A stream that goes on from here by itself. */
     copy(): this;
     /** Drops all bytes, and keeps the seed where none is given. */
     reset(seed?: bigint): this;
@@ -24,6 +30,19 @@ export interface Library {
     xxh64(bytes: Input, seed?: bigint): bigint;
     /** MurmurHash3 x64 128 of the bytes under a seed, 0n if left out. */
     murmur3X64_128(bytes: Input, seed?: bigint): bigint;
+    /**
+     * XXH64 of each key of a column, laid out as Apache Arrow does strings: key i is the bytes from
+     * offsets[i] up to offsets[i + 1]. The column is copied into the module's memory, which stays as
+     * large.
+     *
+     * @throws {RangeError} with the index of the first offset that is missing, past the end or below
+     * the one before; or where there is no memory for the column
+     */
+    xxh64Each(bytes: Input, offsets: Offsets, seed?: bigint): BigUint64Array;
+    /** XXH64 of the eight bytes of each number, the lowest first. */
+    xxh64EachU64(values: BigUint64Array | BigInt64Array, seed?: bigint): BigUint64Array;
+    /** MurmurHash3 x64 128 of each key, as xxh64Each takes them: two words for each, the first one first. */
+    murmur3X64_128Each(bytes: Input, offsets: Offsets, seed?: bigint): BigUint64Array;
     Xxh64: new (seed?: bigint) => Stream;
     Murmur3X64_128: new (seed?: bigint) => Stream;
     /** major * 10000 + minor * 100 + patch */

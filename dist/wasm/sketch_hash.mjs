@@ -2,9 +2,10 @@
 // Node. Licence: Apache-2.0.
 //
 //     import { load } from './sketch_hash.mjs';
-//     const { xxh64, Xxh64 } = await load();
+//     const { xxh64, Xxh64, xxh64Each } = await load();
 //     xxh64(new TextEncoder().encode('fox'), 0n);          // a BigInt
 //     new Xxh64(0n).update(first).update(second).hexdigest();
+//     xxh64Each(bytes, Uint32Array.of(0, 3, 6));           // a BigUint64Array: the hash of each key
 //
 // Input is an ArrayBuffer or a view of one; a string is refused. A seed is a BigInt from 0n to
 // 2n ** 64n - 1n, and 0n if left out. sketch_hash.d.mts has the types.
@@ -46,19 +47,35 @@ function checked(seed) {
     return seed;
 }
 
+const NUMBERS = [BigUint64Array, BigInt64Array];
+const OFFSETS = [Uint32Array, Int32Array, ...NUMBERS];
+
+function checkedColumn(column, kinds) {
+    if (kinds.some((kind) => column instanceof kind)) return column;
+    throw new TypeError(`the column is no ${kinds.map(({ name }) => name).join(', ')}`);
+}
+
 function library(calls) {
     // Behind the module's own data: a hash of 16 bytes, a state of up to 80 bytes, and the input.
     const hash = (calls.__heap_base.value + 15n) & ~15n;
     const state = hash + 16n;
     const input = state + 80n;
-    grow(calls.memory, Number(input) + PIECE);
-    const memory = new Uint8Array(calls.memory.buffer);
+    const begin = Number(input);
+    let memory = new Uint8Array(0);
+    makeRoom(PIECE);
+
+    // Makes room for so many bytes of input. Views of the memory end when it grows.
+    function makeRoom(length) {
+        if (memory.length >= begin + length) return;
+        grow(calls.memory, begin + length);
+        memory = new Uint8Array(calls.memory.buffer);
+    }
 
     // Runs a call over the input, piece by piece.
     function pieces(bytes, call) {
         for (let at = 0; at < bytes.length; at += PIECE) {
             const piece = bytes.subarray(at, at + PIECE);
-            memory.set(piece, Number(input));
+            memory.set(piece, begin);
             call(state, input, BigInt(piece.length));
         }
     }
@@ -66,6 +83,31 @@ function library(calls) {
     function pair() {
         const [h1, h2] = new BigUint64Array(memory.buffer, Number(hash), 2);
         return h1 << 64n | h2;
+    }
+
+    // Runs a call over columns. Behind the hashes, from the place of the input on, lie the columns, the
+    // last one first, since the bytes are the first one and the others need places of their width.
+    function each(call, columns, seed, count, size) {
+        makeRoom(columns.reduce((sum, { byteLength }) => sum + byteLength, count * size));
+        let end = begin + count * size;
+        const places = [];
+        for (const column of columns.reverse()) {
+            memory.set(view(column), end);
+            places.unshift(BigInt(end), BigInt(column.length));
+            end += column.byteLength;
+        }
+        const fault = call(...places, checked(seed), input, BigInt(count));
+        if (fault) {
+            throw new RangeError(`the offset at ${fault - 1n} is missing, past the end or below the one before`);
+        }
+        return new BigUint64Array(memory.slice(begin, begin + count * size).buffer);
+    }
+
+    function eachKey(call32, call64, size) {
+        return (bytes, offsets, seed = 0n) => {
+            const call = checkedColumn(offsets, OFFSETS).BYTES_PER_ELEMENT === 4 ? call32 : call64;
+            return each(call, [view(bytes), offsets], seed, Math.max(offsets.length - 1, 0), size);
+        };
     }
 
     // A stream, whose state is kept outside of the module's memory between calls.
@@ -129,6 +171,11 @@ function library(calls) {
         Murmur3X64_128,
         xxh64: (bytes, seed) => new Xxh64(seed).update(bytes).digest(),
         murmur3X64_128: (bytes, seed) => new Murmur3X64_128(seed).update(bytes).digest(),
+        xxh64Each: eachKey(calls.sketch_xxh64_each32, calls.sketch_xxh64_each64, 8),
+        xxh64EachU64: (values, seed = 0n) =>
+            each(calls.sketch_xxh64_each_u64, [checkedColumn(values, NUMBERS)], seed, values.length, 8),
+        murmur3X64_128Each:
+            eachKey(calls.sketch_murmur3_x64_128_each32, calls.sketch_murmur3_x64_128_each64, 16),
         version: calls.sketch_hash_version(),
     };
 }

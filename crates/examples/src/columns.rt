@@ -15,6 +15,8 @@ pub fn hash_texts(texts: &[u8], offsets: &[u64], out: &mut [u64]) -> Result<(), 
         (drop (slice_index offsets.now i) texts.now))) }
     ensures inside { IfOk result (λ _. (i : ℕ) → i ≤ length out.old →
         slice_index offsets.now i ≤ length texts.now) }
+    ensures rising { IfErr result (λ fault. (i : ℕ) → i < fault →
+        slice_index (0 ∷ offsets.now) i ≤ slice_index offsets.now i) }
     ensures unchanged { IfErr result (λ _. out.new ≡ out.old) }
     ensures before { IfErr result (λ fault. (i : ℕ) → i < fault →
         slice_index offsets.now i ≤ length texts.now) }
@@ -31,6 +33,7 @@ pub fn hash_texts(texts: &[u8], offsets: &[u64], out: &mut [u64]) -> Result<(), 
 pub fn hash_numbers(numbers: &[u64], out: &mut [u64]) -> Result<(), usize>
     ensures hashed { IfOk result (λ _. (i : ℕ) → i < length out.new →
         slice_index out.new i ≡ xxh64 9001 (eight (slice_index numbers.now i))) }
+    ensures enough { IfOk result (λ _. length out.old ≤ length numbers.now) }
     ensures unchanged { IfErr result (λ fault.
         (fault ≡ length numbers.now) × (fault < length out.old) × (out.new ≡ out.old)) }
 {

@@ -146,7 +146,8 @@ pub fn is_same_but_for_a_step(seed: u64, a: &[u8], b: &[u8], i: usize) -> bool
     requires one_length { length a.now ≡ length b.now }
     requires same_stripes { stripes a.now ≡ stripes b.now }
     requires one_step { AgreeOutside i (i + 1) (tail_steps a.now) (tail_steps b.now) }
-    ensures { tail_steps a.now ≢ tail_steps b.now → ¬ (IsTrue result) }
+    ensures differ { tail_steps a.now ≢ tail_steps b.now → ¬ (IsTrue result) }
+    ensures same { a.now ≡ b.now → IsTrue result }
 {
     let (first, second) = laws::xx_both(seed, a, seed, b);
     is_same_hash(first, second)

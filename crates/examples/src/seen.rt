@@ -1,13 +1,13 @@
 //! Keys that were seen, in a table of members that is saved and loaded.
 
-ghost use Rattle.std.specs.Prelude.{ℕ, ◌≡◌, ◌⊎◌, ◌↔◌, ◌+◌, [], IfErr, IfOk, IsTrue, MatchResult, length};
+ghost use Rattle.std.specs.Prelude.{ℕ, List, ◌≡◌, ◌⊎◌, ◌↔◌, ◌+◌, [], IfErr, IfOk, IsTrue, MatchResult, length, Contains};
 ghost use Rattle.datasketches.specs.ErrorValue.{memory_error};
 ghost use Rattle.datasketches.specs.Refusals.{Refuses};
 ghost use Rattle.sketch_member.specs.Faults.{AllPass, IsFirstFault, fault_text, steps};
 ghost use Rattle.sketch_member.specs.Form.{IsForm, form2};
 ghost use Rattle.sketch_member.specs.InPlace.{Becomes};
-ghost use Rattle.sketch_member.specs.Laws.{count_after};
-ghost use Rattle.sketch_member.specs.Table.{Table, Inserts, IsMember, IsSet, empty_table};
+ghost use Rattle.sketch_member.specs.Laws.{StandsFor, count_after};
+ghost use Rattle.sketch_member.specs.Table.{Table, Inserts, IsMember, IsSet, IsTable, empty_table};
 
 use datasketches::error::{Error, ErrorKind};
 use datasketches::hash::value::raw_bytes;
@@ -99,6 +99,23 @@ pub fn save_keys(alloc: Global, seen: &MemberTable) -> Result<Vec<u8>, AllocErro
     form_law();
     let bytes = seen.to_bytes(alloc)?;
     Ok(bytes)
+}
+
+/// The bytes of a table pass each step of the reading, in version 1 too.
+pub fn saved_bytes_pass(saved: &[u8])
+    ensures { (table : Table) → IsTable table → IsForm table saved.now →
+        AllPass (length saved.now) (steps saved.now) }
+{
+    form_law();
+}
+
+/// Whether a table contains a key: it does where the key is one of the values for which it stands.
+pub fn is_found(seen: &MemberTable, key: &[u8]) -> bool
+    ensures { (values : List (List ℕ)) → StandsFor seen.now values → Contains values key.now →
+        IsTrue result }
+{
+    insert_law();
+    seen.contains(&raw_bytes::from_slice(key))
 }
 
 /// Inserts two keys into two empty tables, in either order, which makes the same table of both.

@@ -4,7 +4,8 @@ use Rattle.std.specs.Prelude.{◌≡◌, ◌-◌, ◌^◌, ℕ, List, [], ◌∷
 use Rattle.datasketches.specs.declared.error.ErrorKind.TheVariants.{InvalidArgument, InvalidData}
 use Rattle.datasketches.specs.ErrorValue.{error_of}
 use Rattle.sketch_member.specs.declared.fault.Fault.TheVariants.{HeaderEnds, Log2Bits, Hashes, Reserved, UnknownCount, Version1}
-use Rattle.sketch_member.specs.declared.fault.MergeFault.TheVariants.{From}
+use Rattle.sketch_member.specs.declared.fault.MergeFault.TheVariants.{From, Unlike}
+use Rattle.sketch_member.specs.declared.header.Difference.TheVariants.{Seed}
 use Rattle.sketch_member.specs.Faults.{Fails, FirstFault, IsFirstFault, Step, init_steps, view_steps}
 use Rattle.sketch_member.specs.Form.{IsForm, form1, form2}
 use Rattle.sketch_member.specs.InPlace.{Becomes, IsMergeFault}
@@ -104,6 +105,7 @@ pub record InPlaceValues : Type 0 where
   pub becomes_otherwise : Becomes (Merges (other_value (Some 3))) bytes1 bytes1 → ⊥
   pub from : IsMergeFault bytes2 bytes1 (From Version1)
   pub from_otherwise : IsMergeFault bytes1 bytes1 (From Version1) → ⊥
+  pub unlike_nothing : IsMergeFault bytes2 [] (Unlike Seed) → ⊥
 
 pub record MergedValues : Type 0 where
   pub sum : sum_of_counts (Some 2) (Some 3) ≡ Some 5

@@ -2,6 +2,7 @@
 
 use super::{
     FOX_MURMUR, FOX_XXH64, assert_out_of_memory, assert_refused, assert_same, assert_same_for,
+    prints,
 };
 use crate::columns::{hash_numbers, hash_texts};
 use crate::items::{are_same_items, there_and_back, write_if_it_fits};
@@ -9,7 +10,7 @@ use crate::keys::{is_new_key, is_same_key, is_same_word, pair_of};
 use crate::own::{BigEndian, Point};
 use crate::seen::{see_key_in, see_saved_key};
 use crate::sentence::hash_of_the_sentence;
-use crate::sketch::{read_sketch, write_sketch};
+use crate::sketch::{at_place, read_sketch, write_sketch};
 use crate::streams::{checkpoint, murmur_of_pieces, xxh64_from, xxh64_of_pieces};
 use datasketches::codec::{Item, Kind, SketchBytes};
 use datasketches::error::Error;
@@ -170,6 +171,26 @@ fn columns_are_hashed(rt: HostRuntime) {
     assert_same(&rt, texts[1], XxHash64::hash(b"es", 9001));
     assert_same(&rt, hash_numbers(&[1, 2], &mut numbers), Ok(()));
     assert_same(&rt, numbers[1], XxHash64::hash_u64(2, 9001));
+}
+
+#[test]
+fn errors_tell_their_place(rt: HostRuntime) -> Result<(), AllocError> {
+    for (place, line) in [
+        (0, "InvalidArgument, context: { place: 0 } => late"),
+        (
+            u64::MAX,
+            "InvalidArgument, context: { place: 18446744073709551615 } => late",
+        ),
+        (
+            1_000_001,
+            "InvalidArgument, context: { place: 1000001 } => late",
+        ),
+    ] {
+        let error = Error::invalid_argument(String::from_str(rt.alloc(), "late")?);
+        let error = at_place(rt.alloc(), error, place);
+        assert_same_for(&rt, prints(error, line), true, place);
+    }
+    Ok(())
 }
 
 #[test]

@@ -1,8 +1,10 @@
 //! The calls on tables: each status, and what a refusal leaves.
 
-ghost use Rattle.std.specs.Prelude.{◌≡◌, ◌↔◌, IsTrue};
+ghost use Rattle.std.specs.Prelude.{◌≡◌, ◌↔◌, false, IsTrue};
 ghost use Rattle.sketch_member.specs.Form.{form2};
-ghost use Rattle.sketch_member.specs.Table.{IsTable, Table};
+ghost use Rattle.sketch_member.specs.InPlace.{Becomes};
+ghost use Rattle.sketch_member.specs.Merge.{Merges};
+ghost use Rattle.sketch_member.specs.Table.{Inserts, IsTable, Table};
 
 use super::assert_same;
 use crate::{
@@ -20,6 +22,30 @@ fn is_table(bytes: &[u8]) -> bool
     sketch_member_check(bytes) == 0
 }
 
+/// Whether a key was inserted, and whether a count was read: what is not done changes nothing.
+fn insert_and_count(
+    bytes: &mut [u8],
+    key: &[u8],
+    from: &[u8],
+    count: &mut u64,
+) -> (bool, bool)
+    ensures inserted { IsTrue result.0 → Becomes (Inserts key.now) bytes.old bytes.new }
+    ensures unchanged { result.0 ≡ false → bytes.new ≡ bytes.old }
+    ensures no_count { result.1 ≡ false → count.new ≡ count.old }
+{
+    let is_inserted = sketch_member_insert(bytes, key) == 0;
+    (is_inserted, sketch_member_count(from, count) == 0)
+}
+
+/// Whether a table was merged: if not, nothing is changed.
+fn is_merged(into: &mut [u8], from: &[u8]) -> bool
+    ensures merged { IsTrue result → (other : Table) × IsTable other × (from.now ≡ form2 other)
+        × Becomes (Merges other) into.old into.new }
+    ensures unchanged { result ≡ false → into.new ≡ into.old }
+{
+    sketch_member_merge(into, from) == 0
+}
+
 // A table of 64 bits with one index a key, under seed 0, after the insert of no bytes.
 const ONE_KEY: [u8; 32] = [
     3, 2, 200, 6, 1, 1, 0, 0, 0, 0, 0, 0, 0, 0, 0, 0, 1, 0, 0, 0, 0, 0, 0, 0, 0, 0, 0, 2, 0, 0, 0,
@@ -33,12 +59,13 @@ fn a_table_in_bytes(rt: HostRuntime) {
     assert_same(&rt, sketch_member_size(6), 32);
     assert_same(&rt, sketch_member_init(&mut bytes, 0, 6, 1), 0);
     assert_same(&rt, sketch_member_contains(&bytes, b""), 0);
-    assert_same(&rt, sketch_member_insert(&mut bytes, b""), 0);
+    let done = insert_and_count(&mut bytes, b"", &ONE_KEY, &mut count);
+    assert_same(&rt, (done, count), ((true, true), 1));
     assert_same(&rt, bytes, ONE_KEY);
     assert_same(&rt, is_table(&bytes), true);
     assert_same(&rt, sketch_member_contains(&bytes, b""), 1);
     assert_same(&rt, sketch_member_contains(&bytes, b"zz"), 0);
-    assert_same(&rt, sketch_member_merge(&mut bytes, &ONE_KEY), 0);
+    assert_same(&rt, is_merged(&mut bytes, &ONE_KEY), true);
     assert_same(&rt, sketch_member_count(&bytes, &mut count), 0);
     assert_same(&rt, count, 2);
     (bytes[5], bytes[16]) = (0, 0);

@@ -1,6 +1,9 @@
-ghost use Rattle.std.specs.Prelude.{◌≡◌, ◌≢◌, length};
+ghost use Rattle.std.specs.Prelude.{◌≡◌, ◌≢◌, ℕ, [], false, length, map};
+ghost use Rattle.std.specs.String.{string_bytes};
+ghost use Rattle.sketchsum.specs.Arguments.{AskFor};
 
 use super::{ProgramEnd, answer, program};
+use crate::arguments::Algorithm;
 use crate::ending::{Outcome, RunFault};
 use crate::tests::fakes::{Arguments, Full, KINDS, NarrowWriter, Screen, SlowReader};
 use crate::tests::{FOX, FOX_LINE, assert_same};
@@ -14,9 +17,22 @@ const USAGE: &str = "usage: sketchsum murmur|xx SEED\n";
 
 // What a caller's proof knows of the words of a run.
 fn answer_two_words(words: &[String], input: &mut &[u8], output: &mut Vec<u8>) -> Outcome
-    ensures { result ≢ Outcome.Usage → length words.now ≡ 2 }
+    ensures two { result ≢ Outcome.Usage → length words.now ≡ 2 }
+    ensures usage { result ≡ Outcome.Usage → (algorithm : Algorithm) (seed : ℕ) →
+        AskFor (map string_bytes words.now) algorithm seed → ⊥ }
+    ensures whole { result ≡ Outcome.Done → input.new.now ≡ [] }
+    ensures silent { result ≢ Outcome.Done → result ≢ Outcome.Fault RunFault.Write →
+        output.new ≡ output.old }
 {
     answer(words, input, output)
+}
+
+// Whether words found memory: if not, nothing is read or written.
+fn has_memory(words: &Arguments<'_>, alloc: Global, input: &mut &[u8], output: &mut Vec<u8>) -> bool
+    ensures { result ≡ false → (input.new ≡ input.old) × (output.new ≡ output.old) }
+{
+    let end = program(words, alloc, input, output);
+    end.outcome != Outcome::NoMemory
 }
 
 #[test]
@@ -30,6 +46,8 @@ fn a_run_has_two_words(rt: HostRuntime) -> Result<(), AllocError> {
         let answered = answer_two_words(&words[..count], &mut FOX, &mut output);
         assert_same(&rt, answered, outcome);
     }
+    let mut output = Vec::new(rt.alloc());
+    assert!(rt; has_memory(&Arguments(&[]), rt.alloc(), &mut FOX, &mut output));
     Ok(())
 }
 

@@ -1,12 +1,14 @@
-ghost use Rattle.std.specs.Prelude.{◌≡◌, ◌+◌, ◌*◌, ◌≤◌, [], ◌++◌, length, Err, OnOk};
+ghost use Rattle.std.specs.Prelude.{◌≡◌, ◌+◌, ◌*◌, ◌≤◌, [], ◌++◌, false, length, Err, OnOk};
 ghost use Rattle.sketchsum.specs.Digest.{digest_line};
 
 use super::fakes::{Full, KINDS, NarrowWriter, SlowReader};
 use super::{FOX, FOX_LINE, assert_same};
 use crate::arguments::Algorithm;
+use crate::digest::write_digest;
 use crate::ending::RunFault;
 use crate::read_ahead::ReadAhead;
 use crate::run::{run, run_bounded};
+use crate::streams::{BoundedReader, CheckedWriter};
 use std::io::{self, ErrorKind, Read};
 
 #[test]
@@ -93,16 +95,30 @@ fn a_read_ahead_that_fails_is_told(rt: HostRuntime) {
 // Nor is it where what was read before the fault fills the memory of the read ahead, or nearly so.
 #[test]
 fn a_read_ahead_fails_after_full_reads(rt: HostRuntime) {
-    let bytes = [7; 131_073];
-    for given in [65_535, 65_536, 65_537, 131_071, 131_072, 131_073] {
-        for most in [65_536, 4096, usize::MAX] {
-            let fault = Some((131_073 - given, ErrorKind::Other));
+    let bytes = [7; 131_090];
+    for left in 0..40 {
+        for (behind, most) in [(0, 65_536), (65_536, 4096), (65_536, usize::MAX)] {
+            let fault = Some((left + behind, ErrorKind::Other));
             let mut reader = ReadAhead::new(SlowReader::new(&bytes, most, fault));
             let mut written = Vec::new(rt.alloc());
             let answer = run(Algorithm::Murmur, 0, &mut reader, &mut written);
             assert_same(&rt, answer, Err(RunFault::Read));
             assert!(rt; written.is_empty());
         }
+    }
+}
+
+// Bytes that fill the memory of the read ahead, or nearly so, are hashed as any others.
+#[test]
+fn a_read_ahead_of_any_length_is_hashed(rt: HostRuntime) {
+    let bytes = [7; 131_090];
+    for length in (65_516..65_556).chain(131_052..131_090) {
+        let (mut ahead, mut plain) = (Vec::new(rt.alloc()), Vec::new(rt.alloc()));
+        let mut input = bytes.get(..length).unwrap_or(&[]);
+        let mut reader = ReadAhead::new(input);
+        assert_same(&rt, run(Algorithm::Xx, 0, &mut reader, &mut ahead), Ok(()));
+        assert_same(&rt, run(Algorithm::Xx, 0, &mut input, &mut plain), Ok(()));
+        assert_same(&rt, ahead, plain);
     }
 }
 
@@ -117,6 +133,38 @@ fn run_over_bytes(turns: u64, input: &mut &[u8], output: &mut Vec<u8>) -> Result
         ≡ output.old.items ++ digest_line Algorithm.Murmur 0 input.old.now) }
 {
     run_bounded(Algorithm::Murmur, 0, turns, input, output)
+}
+
+// What a caller's proof knows of a run that fails.
+fn run_or_nothing(input: &mut &[u8], output: &mut Vec<u8>) -> Result<(), RunFault>
+    ensures { result ≡ Err RunFault.TooLong → output.new ≡ output.old }
+{
+    run(Algorithm::Xx, 0, input, output)
+}
+
+// Whether so many turns were enough: if not, none is left.
+fn are_enough(turns: u64, input: &mut &[u8], output: &mut Vec<u8>) -> (bool, u64)
+    ensures { result.0 ≡ false → result.1 ≡ 0 }
+{
+    let mut reader = BoundedReader::new(input, turns);
+    let mut writer = CheckedWriter::new(output);
+    let answer = write_digest(Algorithm::Xx, 0, &mut reader, &mut writer);
+    (answer != Err(RunFault::TooLong), reader.turns_left())
+}
+
+#[test]
+fn a_run_takes_no_turn_in_vain(rt: HostRuntime) {
+    for (turns, answer) in [
+        (0, (false, 0)),
+        (1, (false, 0)),
+        (2, (true, 0)),
+        (3, (true, 1)),
+    ] {
+        let mut written = Vec::new(rt.alloc());
+        assert_same(&rt, are_enough(turns, &mut FOX, &mut written), answer);
+    }
+    let mut written = Vec::new(rt.alloc());
+    assert_same(&rt, run_or_nothing(&mut FOX, &mut written), Ok(()));
 }
 
 #[test]

@@ -87,4 +87,6 @@ returns c = record {
     version1,
   );
   from_otherwise = λ h. not_form2 h.0 h.2;
+  unlike_nothing = λ h.
+      let e : ◌≡◌ {A = ℕ} 0 3 = ap (λ b. get_or b 0 0) h.5 in omega (arith, e);
 }
