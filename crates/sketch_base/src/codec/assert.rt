@@ -90,12 +90,7 @@ pub fn ensure_preamble_longs_in_range(
     }
 }
 
-fn preamble_longs_out_of_range(
-    alloc: Global,
-    start: Bound<u8>,
-    end: Bound<u8>,
-    actual: u8,
-) -> Error
+fn preamble_longs_out_of_range(alloc: Global, start: Bound<u8>, end: Bound<u8>, actual: u8) -> Error
     ensures { Refuses ErrorKind.InvalidData
         (preamble_longs_out_of_range_text (range start end).text actual) result }
 {

@@ -23,12 +23,7 @@ fn is_table(bytes: &[u8]) -> bool
 }
 
 /// Whether a key was inserted, and whether a count was read: what is not done changes nothing.
-fn insert_and_count(
-    bytes: &mut [u8],
-    key: &[u8],
-    from: &[u8],
-    count: &mut u64,
-) -> (bool, bool)
+fn insert_and_count(bytes: &mut [u8], key: &[u8], from: &[u8], count: &mut u64) -> (bool, bool)
     ensures inserted { IsTrue result.0 → Becomes (Inserts key.now) bytes.old bytes.new }
     ensures unchanged { result.0 ≡ false → bytes.new ≡ bytes.old }
     ensures no_count { result.1 ≡ false → count.new ≡ count.old }
