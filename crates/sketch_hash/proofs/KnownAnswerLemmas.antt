@@ -1,11 +1,13 @@
 -- The known answers, computed over the definitions.
-use Rattle.std.proofs.Common.{◌≡◌, ◌^◌, ◌<◌, ◌≤◌, [], ◌∷◌, refl, ap, arith, lit<}
+use Rattle.std.proofs.Common.{◌≡◌, ◌^◌, ◌<◌, ◌≤◌, ℕ, zero, suc, [], ◌∷◌, codes, length, slice_index, slice_index_or, refl, ap, arith, lit<}
 use Rattle.std.proofs.lemmas.List.Elements.{All-from_recursion, All-replicate}
 use Rattle.sketch_hash.specs.Words.{xor_below, xor, rotate}
 use Rattle.sketch_hash.specs.Pieces.{absorb, pieces, rest}
 use Rattle.sketch_hash.specs.Murmur.{mix1, mix2, fmix, step1, step2, step, with_tail, finalize as murmur_ending, murmur, murmur_after, murmur_answer}
 use Rattle.sketch_hash.specs.Xxh64.{round, lane, lanes_start, lanes, merge_round, merge, steps, eight_step, four_step, byte_step, tail_step, avalanche, finalize as xxh64_ending, xxh64, xxh64_after, xxh64_answer}
-use Rattle.sketch_hash.specs.KnownAnswers.{test_bytes_from, WordAnswers, MurmurAnswers, Xxh64Answers, ValueAnswers, Relations}
+use Rattle.sketch_base.specs.Bytes.{eight}
+use Rattle.sketch_hash.specs.Columns.{key_at, IsBound, AreBounds, AreHashes}
+use Rattle.sketch_hash.specs.KnownAnswers.{test_bytes_from, WordAnswers, MurmurAnswers, Xxh64Answers, ValueAnswers, Relations, Columns, Column, Numbers, bounds, foxes}
 use Rattle.sketch_hash.proofs.Undoes.{plus-once}
 
 pub word_answers : WordAnswers
@@ -34,6 +36,7 @@ unfolding xor_below xor rotate pieces rest mix1 mix2 fmix step1 step2 step with_
 murmur_answers = record {
   no_bytes = refl;
   dog = refl;
+  dog_in_a_column = refl;
   two_blocks = refl;
   three_bytes_seeded = refl;
   three_blocks_and_fifteen = refl;
@@ -98,4 +101,48 @@ relations = record {
   no_bound_missing = λ h. let there : 2 < 2 = h.0 in omega (arith, there);
   no_bound_past_the_end = λ h. let within : 6 ≤ 5 = h.1 in omega (arith, within);
   no_bound_below_another = λ h. let after : 3 ≤ 2 = h.2 in omega (arith, after);
+}
+
+are_bounds : AreBounds (codes "foxes") bounds 3
+are_bounds zero _ = (omega arith, omega arith, omega arith)
+are_bounds (suc zero) _ = (omega arith, omega arith, omega arith)
+are_bounds (suc (suc zero)) _ = (omega arith, omega arith, omega arith)
+are_bounds (suc (suc (suc zero))) _ = (omega arith, omega arith, omega arith)
+are_bounds (suc (suc (suc (suc i)))) h = omega (arith, h)
+
+are_keys : AreHashes (λ key. key) (key_at (codes "foxes") bounds) foxes
+are_keys zero d _ = refl
+are_keys (suc zero) d _ = refl
+are_keys (suc (suc zero)) d _ = refl
+are_keys (suc (suc (suc i))) d h = absurd (omega (arith, h))
+
+bound_before_the_fall : (i : ℕ) → i < 2 → IsBound (codes "foxes") (0 ∷ 3 ∷ 2 ∷ 6 ∷ []) i
+bound_before_the_fall zero _ = (omega arith, omega arith, omega arith)
+bound_before_the_fall (suc zero) _ = (omega arith, omega arith, omega arith)
+bound_before_the_fall (suc (suc i)) h = omega (arith, h)
+
+are_numbers : AreHashes (λ key. key) (λ i. eight (slice_index (1 ∷ 256 ∷ 3 ∷ []) i)) (eight 1 ∷ eight 256 ∷ [])
+are_numbers zero d _ = refl
+are_numbers (suc zero) d _ = refl
+are_numbers (suc (suc i)) d h = absurd (omega (arith, h))
+
+pub columns : Columns
+columns = record {
+  keys = (are_bounds, are_keys);
+  no_other_last_key = λ p. let size : 1 ≡ 2 = ap length (p.1 2 [] (lit< tt)) in omega (arith, size);
+  no_fault_of_bounds = λ i p. p.0.1 (are_bounds i p.0.0);
+  falls = ((omega arith, λ h. let after : 3 ≤ 2 = h.2 in omega (arith, after), bound_before_the_fall), refl);
+  no_later_fault = λ p. let after : 3 ≤ 2 = (p.0.2 2 (lit< tt)).2 in omega (arith, after);
+  no_keys_of_a_fall = λ _ p. let after : 3 ≤ 2 = (p.0 2 (omega arith)).2 in omega (arith, after);
+  nothing_written = λ p.
+      let size : 3 ≡ 0 = ap (λ places. length (slice_index_or places 0 [])) p.1 in omega (arith, size);
+  numbers = (omega arith, are_numbers);
+  no_other_number = λ p.
+      let low : 1 ≡ 0 = ap (λ bytes. slice_index bytes 0) (p.1 1 [] (lit< tt)) in omega (arith, low);
+  too_few = (omega arith, refl, refl);
+  no_numbers_of_too_few = λ _ p. let few : 2 ≤ 1 = p.0 in omega (arith, few);
+  no_other_count = λ p. let count : 0 ≡ 1 = p.1 in omega (arith, count);
+  no_fault_of_enough = λ p. let below : 2 < 2 = p.0 in omega (arith, below);
+  no_number_written = λ p.
+      let size : 8 ≡ 0 = ap (λ places. length (slice_index_or places 0 [])) p.2 in omega (arith, size);
 }

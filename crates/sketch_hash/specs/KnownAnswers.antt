@@ -1,7 +1,7 @@
 -- What the definitions give for small inputs, and what each range and relation holds of. The hashes
 -- are known from elsewhere: from the tests of xxHash and of the library that is ported, and from
 -- running these two; those for totals past 32 bits from the published last steps.
-use Rattle.std.specs.Prelude.{◌≡◌, ℕ, zero, suc, ◌+◌, ◌-◌, ◌/◌, ◌^◌, ◌<◌, negsuc, List, [], ◌∷◌, codes, replicate}
+use Rattle.std.specs.Prelude.{◌≡◌, ℕ, zero, suc, ◌+◌, ◌-◌, ◌/◌, ◌^◌, ◌<◌, negsuc, List, [], ◌∷◌, codes, replicate, Result, Ok, Err}
 use Rattle.sketch_base.specs.Bytes.{AreBytes, eight}
 use Rattle.sketch_hash.specs.declared.hash.murmurhash.state.MurmurState.{MurmurState}
 use Rattle.sketch_hash.specs.declared.hash.xxhash.state.XxHash64State.{XxHash64State}
@@ -10,7 +10,7 @@ use Rattle.sketch_hash.specs.Words.{IsWord, plus, minus, times, xor, xor_shift, 
 use Rattle.sketch_hash.specs.Pieces.{pieces, rest}
 use Rattle.sketch_hash.specs.Murmur.{murmur, murmur_start, murmur_after, murmur_answer, MurmurStands}
 use Rattle.sketch_hash.specs.Xxh64.{xxh64, lanes_start, xxh64_start, xxh64_answer, Xxh64Stands}
-use Rattle.sketch_hash.specs.Columns.{key_at, IsBound}
+use Rattle.sketch_hash.specs.Columns.{key_at, IsBound, HashesEach, HashesEachNumber, murmur_words}
 use Rattle.sketch_hash.specs.SeedHash.{seed_hash}
 use Rattle.sketch_hash.specs.Values.{integer_bytes}
 use Rattle.sketch_hash.specs.OneToOne.{OneToOne}
@@ -80,6 +80,7 @@ pub record WordAnswers : Type 0 where
 pub record MurmurAnswers : Type 0 where
   pub no_bytes : murmur 0 [] ≡ (0, 0)
   pub dog : murmur 0 fox ≡ (0xe34bbc7bbc071b6c, 0x7a433ca9c49a9347)
+  pub dog_in_a_column : murmur_words 0 fox ≡ 0xe34bbc7bbc071b6c ∷ 0x7a433ca9c49a9347 ∷ []
   pub two_blocks : murmur 0 (codes "The quick brown fox jumps over t") ≡
       (0xdf6af91bb29bdacf, 0x91a341c58df1f3a6)
   pub three_bytes_seeded : murmur 0xcdde8d516301bbfc (0xa1 ∷ 0xd8 ∷ 0x2b ∷ []) ≡
@@ -156,3 +157,33 @@ pub record Relations : Type 0 where
   pub no_bound_missing : IsBound (codes "foxes") (0 ∷ 5 ∷ []) 2 → ⊥
   pub no_bound_past_the_end : IsBound (codes "foxes") (6 ∷ []) 0 → ⊥
   pub no_bound_below_another : IsBound (codes "foxes") (3 ∷ 2 ∷ []) 1 → ⊥
+
+-- Columns hashed by the hash that is the key itself: three keys of five bytes, and two numbers. Each
+-- place begins with no bytes.
+abbrev pub Column : List ℕ → List (List ℕ) → Result Unit ℕ → Type 0
+Column offsets = HashesEach (λ key. key) (codes "foxes") offsets ([] ∷ [] ∷ [] ∷ [])
+
+abbrev pub Numbers : List ℕ → List (List ℕ) → Result Unit ℕ → Type 0
+Numbers numbers = HashesEachNumber (λ key. key) numbers ([] ∷ [] ∷ [])
+
+abbrev pub bounds : List ℕ
+bounds = 0 ∷ 3 ∷ 3 ∷ 5 ∷ []
+
+abbrev pub foxes : List (List ℕ)
+foxes = codes "fox" ∷ [] ∷ codes "es" ∷ []
+
+pub record Columns : Type 0 where
+  pub keys : Column bounds foxes (Ok tt)
+  pub no_other_last_key : Column bounds (codes "fox" ∷ [] ∷ codes "e" ∷ []) (Ok tt) → ⊥
+  pub no_fault_of_bounds : (i : ℕ) → Column bounds ([] ∷ [] ∷ [] ∷ []) (Err i) → ⊥
+  pub falls : Column (0 ∷ 3 ∷ 2 ∷ 6 ∷ []) ([] ∷ [] ∷ [] ∷ []) (Err 2)
+  pub no_later_fault : Column (0 ∷ 3 ∷ 2 ∷ 6 ∷ []) ([] ∷ [] ∷ [] ∷ []) (Err 3) → ⊥
+  pub no_keys_of_a_fall : (after : List (List ℕ)) → Column (0 ∷ 3 ∷ 2 ∷ 6 ∷ []) after (Ok tt) → ⊥
+  pub nothing_written : Column (0 ∷ 3 ∷ 2 ∷ 6 ∷ []) foxes (Err 2) → ⊥
+  pub numbers : Numbers (1 ∷ 256 ∷ 3 ∷ []) (eight 1 ∷ eight 256 ∷ []) (Ok tt)
+  pub no_other_number : Numbers (1 ∷ 256 ∷ []) (eight 1 ∷ eight 1 ∷ []) (Ok tt) → ⊥
+  pub too_few : Numbers (1 ∷ []) ([] ∷ [] ∷ []) (Err 1)
+  pub no_numbers_of_too_few : (after : List (List ℕ)) → Numbers (1 ∷ []) after (Ok tt) → ⊥
+  pub no_other_count : Numbers (1 ∷ []) ([] ∷ [] ∷ []) (Err 0) → ⊥
+  pub no_fault_of_enough : Numbers (1 ∷ 256 ∷ []) ([] ∷ [] ∷ []) (Err 2) → ⊥
+  pub no_number_written : Numbers (1 ∷ []) (eight 1 ∷ [] ∷ []) (Err 1) → ⊥

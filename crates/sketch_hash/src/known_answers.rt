@@ -5,7 +5,7 @@
 //! that answers otherwise, or that holds of nothing, is refused.
 
 ghost use Rattle.std.specs.Prelude.{◌≡◌};
-ghost use Rattle.sketch_hash.specs.KnownAnswers.{MurmurAnswers, Relations, ValueAnswers, WordAnswers, Xxh64Answers, test_bytes};
+ghost use Rattle.sketch_hash.specs.KnownAnswers.{Columns, MurmurAnswers, Relations, ValueAnswers, WordAnswers, Xxh64Answers, test_bytes};
 
 /// The first bytes of the buffer that xxHash's own tests use.
 pub const TEST_BUFFER: [u8; 100] = [
@@ -47,4 +47,9 @@ pub fn value_answers()
 /// Each range and relation holds of a value at its edge, and not of one beside it.
 pub fn relations()
     ensures { Relations }
+{}
+
+/// Columns are hashed key by key, and refused at the first wrong offset.
+pub fn columns()
+    ensures { Columns }
 {}
