@@ -1,9 +1,11 @@
 //! Tables of several workers that become one, in whatever order.
 
 ghost use Rattle.std.specs.Prelude.{◌≡◌, ◌⊎◌, ℕ, ◌+◌, List, ◌++◌, IfErr, IfOk, IsOk};
+ghost use Rattle.datasketches.specs.ErrorValue.{memory_error};
 ghost use Rattle.sketch_member.specs.Laws.{StandsFor, count_after};
+ghost use Rattle.sketch_member.specs.Limits.{IsHashes, IsLog2Bits};
 ghost use Rattle.sketch_member.specs.Merge.{AreAlike};
-ghost use Rattle.sketch_member.specs.Table.{IsMember};
+ghost use Rattle.sketch_member.specs.Table.{IsMember, empty_table};
 
 use datasketches::error::Error;
 use sketch_member::MemberTable;
@@ -44,6 +46,7 @@ pub fn merge_as_a_tree(
     ensures found { IfOk result (λ _. (fed : List ℕ) →
         IsMember table.old fed ⊎ (IsMember second.old fed ⊎ IsMember third.now fed) →
         IsMember table.new fed) }
+    ensures accepted { AreAlike table.old second.old → AreAlike table.old third.now → IsOk result }
 {
     merge_law();
     table.merge(alloc, second)?;
@@ -61,7 +64,8 @@ pub fn merge_either_way(
     other: &mut MemberTable,
 ) -> Result<(), Error>
     requires { twin.now ≡ one.old }
-    ensures { IfOk result (λ _. one.new ≡ other.new) }
+    ensures same { IfOk result (λ _. one.new ≡ other.new) }
+    ensures accepted { AreAlike one.old other.old → IsOk result }
 {
     merge_law();
     one.merge(alloc, other)?;
@@ -76,7 +80,10 @@ pub fn merge_nothing(
     log2_bits: u8,
     hashes: u8,
 ) -> Result<(), Error>
-    ensures { IfOk result (λ _. table.new ≡ table.old) }
+    ensures same { table.new ≡ table.old }
+    ensures refused { IfErr result (λ error. (error ≡ memory_error)
+        ⊎ ((IsLog2Bits log2_bits × IsHashes hashes → ⊥)
+        ⊎ (AreAlike table.old (empty_table seed log2_bits hashes) → ⊥))) }
 {
     merge_law();
     let empty = MemberTable::new(alloc, seed, log2_bits, hashes)?;

@@ -3,7 +3,7 @@
 ghost use Rattle.std.specs.Prelude.{ℕ, List, ◌≡◌, ◌⊎◌, ◌↔◌, ◌+◌, [], IfErr, IfOk, IsTrue, MatchResult, length, Contains};
 ghost use Rattle.datasketches.specs.ErrorValue.{memory_error};
 ghost use Rattle.datasketches.specs.Refusals.{Refuses};
-ghost use Rattle.sketch_member.specs.Faults.{AllPass, IsFirstFault, fault_text, steps};
+ghost use Rattle.sketch_member.specs.Faults.{AllPass, IsFirstFault, fault_text, steps, view_steps};
 ghost use Rattle.sketch_member.specs.Form.{IsForm, form2};
 ghost use Rattle.sketch_member.specs.InPlace.{Becomes};
 ghost use Rattle.sketch_member.specs.Laws.{StandsFor, count_after};
@@ -51,7 +51,8 @@ pub fn see_key_in(bytes: &mut [u8], key: &[u8]) -> Result<bool, Fault>
     ensures { MatchResult result
         (λ is_seen. Becomes (λ before after. (IsTrue is_seen ↔ IsMember before key.now)
         × Inserts key.now before after) bytes.old bytes.new)
-        (λ _. bytes.new ≡ bytes.old) }
+        (λ fault. (bytes.new ≡ bytes.old)
+        × IsFirstFault (length bytes.old) (view_steps bytes.old) fault) }
 {
     form_law();
     let value = raw_bytes::from_slice(key);

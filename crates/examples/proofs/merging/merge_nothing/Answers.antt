@@ -16,8 +16,8 @@ nothing law seed log2_bits hashes table empty after is_table is_after is merges 
     law.empty table after is_table is_after
     (subst (λ other. Merges other table after) (is ∙ alike) merges)
 
-pub returns : goal.returns
-returns c =
+pub returns-clause-same : goal.returns-clause-same
+returns-clause-same c =
     let merge = c.in_ok-merge.ensures in
     nothing c.merge_law.ensures c.args.seed c.args.log2_bits c.args.hashes _ _ _ merge.are_tables.0
     merge.are_tables.2 c.in_ok-empty.ensures.answer.2 merge.merges

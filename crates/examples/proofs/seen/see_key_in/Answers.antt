@@ -1,5 +1,6 @@
 use Rattle.std.proofs.Common.{inr, subst}
 use Rattle.sketch_member.specs.Table.{Inserts}
+use Rattle.sketch_member.proofs.FaultLemmas.{of_err}
 use Rattle.examples.proofs.seen.see_key_in.Goals as goal
 
 pub returns : goal.returns
@@ -18,3 +19,7 @@ returns c =
       became.5,
       (told, subst (λ t. Inserts c.args.key.now t became.1) same became.6),
     )
+
+pub returns-in_err-insert : goal.returns-in_err-insert
+returns-in_err-insert c =
+    of_err _ _ _ _ c.from_residual-in_err-insert.ensures.1 c.in_err-insert.ensures
