@@ -62,8 +62,8 @@ calls.cdef(
     int member_insert(void *bytes, size_t length, const void *key, size_t key_length);
     int member_contains(const void *bytes, size_t length, const void *key, size_t key_length);
     int member_merge(void *into, size_t length, const void *from, size_t from_length);
-    ptrdiff_t member_insert_each(void *bytes, size_t length, const void *data, size_t data_length,
-                                 const void *offsets, size_t width, size_t places);
+    ptrdiff_t member_each(void *bytes, size_t length, const void *data, size_t data_length,
+                          const void *offsets, size_t width, size_t places, char *found);
     int sketch_member_count(const void *bytes, size_t length, uint64_t *count);
     """
 )
@@ -162,33 +162,41 @@ calls.set_source(
         return width == 4 ? ((const uint32_t *)offsets)[at] : ((const uint64_t *)offsets)[at];
     }
 
-    /* As the calls of columns answer: 0, or 1 + the index of the first offset that does not fit. */
-    static ptrdiff_t fault_of(const void *offsets, size_t width, size_t places, size_t length) {
+    /* Inserts each key of a column, or answers of each whether it is contained where there is a place
+     * for that; without a table it looks at the offsets alone. An offset is checked before each use, so
+     * nothing outside of the bytes is read, whatever other threads do. Answers as the calls of columns do,
+     * or a status. Each insert and each answer is proved, and this loop is not. */
+    static ptrdiff_t each_key(void *bytes, size_t length, const void *data, size_t data_length,
+                              const void *offsets, size_t width, size_t places, char *found) {
         size_t at, before = 0, next;
         for (at = 0; at < places; at++, before = next) {
+            const char *key = (const char *)data + before;
+            int status = 0;
             next = place(offsets, width, at);
-            if (next < before || next > length) return at + 1;
+            if (next < before || next > data_length) return at + 1;
+            if (!bytes || at == 0) continue;
+            if (found)
+                status = sketch_member_contains(bytes, length, key, next - before);
+            else
+                status = sketch_member_insert(bytes, length, key, next - before);
+            if (status < 0) return status;
+            if (found) found[at - 1] = status;
         }
         return places == 0;
     }
 
-    /* Answers a status, or a fault of the offsets. Each insert is proved, and this loop is not. */
-    static ptrdiff_t member_insert_each(void *bytes, size_t length, const void *data,
-                                        size_t data_length, const void *offsets, size_t width,
-                                        size_t places) {
+    static ptrdiff_t member_each(void *bytes, size_t length, const void *data, size_t data_length,
+                                 const void *offsets, size_t width, size_t places, char *found) {
         PyThreadState *thread;
-        size_t at, from;
         ptrdiff_t answer;
-        if (overlap(bytes, length, data, data_length) ||
-            (offsets && overlap(bytes, length, offsets, width * places)))
+        if (!found && (overlap(bytes, length, data, data_length) ||
+                       (offsets && overlap(bytes, length, offsets, width * places))))
             return KEY_IN_TABLE;
         thread = give_up(data_length + 8 * places);
-        answer = fault_of(offsets, width, places, data_length);
-        for (at = 1; at < places && answer == 0; at++) {
-            from = place(offsets, width, at - 1);
-            answer = sketch_member_insert(bytes, length, (const char *)data + from,
-                                          place(offsets, width, at) - from);
-        }
+        answer = each_key(NULL, 0, data, data_length, offsets, width, places, NULL);
+        if (answer == 0) answer = sketch_member_check(bytes, length);
+        if (answer == 0)
+            answer = each_key(bytes, length, data, data_length, offsets, width, places, found);
         take_back(thread);
         return answer;
     }

@@ -189,10 +189,14 @@ def test_columns(dtype):
             wrong[place] = numpy.array(lie).astype(dtype)
             with pytest.raises(ValueError, match=f"the offset at {place} is"):
                 table.insert_each((b"-" * len(COLUMN), wrong))
+            with pytest.raises(ValueError, match=f"the offset at {place} is"):
+                table.contains_each((COLUMN, wrong))
     for wrong, place in (([5, 9, 8, 8], 2), ([], 0)):
-        with pytest.raises(ValueError, match=f"the offset at {place} is"):
-            table.insert_each((b"-" * len(COLUMN), numpy.array(wrong, dtype)))
+        for call in (table.insert_each, table.contains_each):
+            with pytest.raises(ValueError, match=f"the offset at {place} is"):
+                call((b"-" * len(COLUMN), numpy.array(wrong, dtype)))
     table.insert_each((b"", numpy.zeros(1, dtype)))
+    assert table.contains_each((b"", numpy.zeros(1, dtype))).tolist() == []
     assert table.to_bytes() == model(10, 3, KEYS)
 
 
@@ -208,11 +212,46 @@ def test_columns_of_numbers():
         assert table.to_bytes() == model(13, 3, words, 2 * len(words))
 
 
+def test_each_key_of_a_column_is_contained_or_not():
+    table, whole = MemberTable(8, 3, SEED), numpy.array(OFFSETS)
+    table.insert_each((COLUMN, whole[:31]))
+    expected = [key in table for key in KEYS]
+    assert all(expected[:30]) and 0 < expected.count(False)
+    for offsets in (whole, whole.astype("u4")):
+        found = table.contains_each((COLUMN, offsets))
+        assert found.tolist() == expected and numpy.asarray(found).dtype == bool
+    numbers = numpy.arange(1000, dtype="uint64")
+    table = MemberTable(8, 3, SEED)
+    table.insert_each(numbers[::100].copy())
+    assert table.contains_each(numbers).tolist() == [number.tobytes() in table for number in numbers]
+    assert table.contains_each(numbers[:0]).tolist() == []
+
+
+def test_sizes_and_seed_are_told():
+    for log2_bits, hashes, seed in ((6, 1, 0), (10, 3, SEED), (20, 16, 2**64 - 1)):
+        table = MemberTable(log2_bits, hashes, seed)
+        table.insert(b"fox")
+        assert (table.log2_bits, table.hashes, table.seed) == (log2_bits, hashes, seed)
+    buffer = bytearray(table.to_bytes())
+    view = MemberTable.view(buffer)
+    buffer[3] = 21
+    with pytest.raises(ValueError, match="log2_bits is not 6 to 20"):
+        view.log2_bits
+
+
+def test_equal_tables_are_equal():
+    assert filled() == filled() and filled() == MemberTable.view(bytearray(filled().to_bytes()))
+    other = filled()
+    other.insert(KEYS[0])
+    assert filled() != other and filled() != filled().to_bytes()
+
+
 def test_columns_that_are_refused():
     table, offsets = filled(), numpy.array(OFFSETS)
     for column in (5, KEYS, COLUMN, offsets.astype("u4"), (COLUMN, COLUMN), ("text", offsets)):
-        with pytest.raises((TypeError, ValueError)):
-            table.insert_each(column)
+        for call in (table.insert_each, table.contains_each):
+            with pytest.raises((TypeError, ValueError)):
+                call(column)
     assert table.to_bytes() == filled().to_bytes()
 
 
@@ -234,8 +273,10 @@ def test_a_column_that_lies_in_the_table_is_refused():
     view.insert_each((part[size:], part[size + 32 :].cast("Q")))
     assert view.to_bytes() == model(10, 3, [*KEYS, b""])
     buffer[3] = 5
-    with pytest.raises(ValueError, match="log2_bits is not 6 to 20"):
-        view.insert_each(part[size:].cast("Q"))
+    for call in (view.insert_each, view.contains_each):
+        for column in (part[size:].cast("Q"), part[size:size].cast("Q")):
+            with pytest.raises(ValueError, match="log2_bits is not 6 to 20"):
+                call(column)
 
 
 def test_merged_tables_contain_the_keys_of_both():

@@ -41,7 +41,7 @@ pub struct ColumnError {
 
 impl fmt::Display for ColumnError {
     fn fmt(&self, f: &mut fmt::Formatter<'_>) -> fmt::Result {
-        write!(f, "what is at {} of the column is missing or does not fit", self.index)
+        write!(f, "the entry at {} of the column is missing or does not fit", self.index)
     }
 }
 

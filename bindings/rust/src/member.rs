@@ -76,6 +76,21 @@ impl MemberTable {
         status == 1
     }
 
+    /// The seed.
+    pub fn seed(&self) -> u64 {
+        word(&self.bytes, 1)
+    }
+
+    /// The table has 2 to this power bits.
+    pub fn log2_bits(&self) -> u32 {
+        self.bytes[3].into()
+    }
+
+    /// How many bits a key sets at most.
+    pub fn hashes(&self) -> u32 {
+        self.bytes[4].into()
+    }
+
     /// How many inserts were counted, also those of one key; `None` where the table has no count.
     pub fn count(&self) -> Option<u64> {
         let mut count = 0;
@@ -119,9 +134,9 @@ impl MemberTable {
 impl fmt::Debug for MemberTable {
     fn fmt(&self, f: &mut fmt::Formatter<'_>) -> fmt::Result {
         f.debug_struct("MemberTable")
-            .field("seed", &word(&self.bytes, 1))
-            .field("log2_bits", &self.bytes[3])
-            .field("hashes", &self.bytes[4])
+            .field("seed", &self.seed())
+            .field("log2_bits", &self.log2_bits())
+            .field("hashes", &self.hashes())
             .field("count", &self.count())
             .finish()
     }

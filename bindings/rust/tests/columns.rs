@@ -90,6 +90,6 @@ fn each_number_is_hashed() {
     let short = xxh64_each_u64(&numbers[..7], SEED + 1, &mut out);
     assert_eq!(short, Err(ColumnError { index: 7 }));
     assert_eq!(out, before);
-    let text = "what is at 7 of the column is missing or does not fit";
+    let text = "the entry at 7 of the column is missing or does not fit";
     assert_eq!(short.unwrap_err().to_string(), text);
 }

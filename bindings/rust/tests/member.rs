@@ -40,6 +40,10 @@ fn tables_of_all_sizes_have_the_bytes_of_the_model() {
         for hashes in 1..=16 {
             let mut table = MemberTable::new(SEED, log2_bits, hashes).unwrap();
             assert_eq!(table.as_bytes(), model(log2_bits, hashes, &[]));
+            assert_eq!(
+                (table.seed(), table.log2_bits(), table.hashes()),
+                (SEED, log2_bits, hashes)
+            );
             for (n, key) in keys.iter().enumerate() {
                 table.insert(key);
                 assert_eq!(table.count(), Some(n as u64 + 1));

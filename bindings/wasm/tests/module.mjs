@@ -94,11 +94,17 @@ for (const seed of [0, '0', null, 1.5]) assert.throws(() => new Murmur3X64_128(s
 for (const input of ['fox', [1, 2], 5, null, undefined]) assert.throws(() => xxh64(input, 0n), TypeError);
 assert.throws(() => new Xxh64().update('fox'), /TextEncoder/);
 
-// Other sources, and an engine that does not take the module.
+// Other sources, bytes that are no module, and an engine without 64-bit memories.
 const bytes = readFileSync(new URL('sketch_hash.wasm', dist));
 assert.equal((await load(bytes)).xxh64(fox), xxh64(fox));
 assert.equal((await load(String(new URL('sketch_hash.wasm', dist)))).xxh64(fox), xxh64(fox));
-await assert.rejects(load(bytes.subarray(1)), /64-bit memories.*Firefox from 134/);
+for (const part of [bytes.subarray(1), bytes.subarray(0, 1000), new ArrayBuffer(0)]) {
+    await assert.rejects(load(part), /no WebAssembly module, or is cut short/);
+}
+const { validate } = WebAssembly;
+WebAssembly.validate = () => false;
+await assert.rejects(load(bytes), /64-bit memories.*Firefox from 134/);
+WebAssembly.validate = validate;
 await assert.rejects(load(new URL('missing.wasm', dist)));
 
 console.log(JSON.stringify(answer(library, JSON.parse(readFileSync(0, 'utf8')))));

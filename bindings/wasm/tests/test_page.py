@@ -265,9 +265,9 @@ def test_nothing_is_loaded_from_elsewhere(page):
 
 
 def test_an_engine_without_64_bit_memories(chromium, tmp_path):
-    """A module that no engine takes is told as one that this engine lacks."""
+    """A memory that no engine has, in place of the one by which the page asks, is told as lacking."""
     text = (DIST / "wasm/index.html").read_text()
-    (tmp_path / "page.html").write_text(text.replace("\nAGFzbQ", "\nBGFzbQ"))
+    (tmp_path / "page.html").write_text(text.replace("5, 3, 1, 4, 0)", "5, 3, 1, 99, 0)"))
     chromium.get((tmp_path / "page.html").as_uri())
     page = Page(chromium)
     page.wait(lambda: "Firefox from 134" in page.one("#unable").text)

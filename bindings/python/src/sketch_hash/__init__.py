@@ -203,6 +203,16 @@ def _pair(keys):
     return (_memory(data), *_words(offsets, (4, 8)))
 
 
+def _column(keys):
+    """A column for a table: its bytes as cffi sees them, how many they are, the offsets or NULL, their
+    width or that of a number, and how many offsets there are or would be."""
+    if isinstance(keys, tuple):
+        memory, offsets, width = _pair(keys)
+        return memory, len(memory), offsets, width, len(offsets)
+    words, width = _words(keys, (8,))
+    return words, width * len(words), _ffi.NULL, width, len(words) + 1
+
+
 def _fits(fault):
     if fault:
         raise ValueError(f"the offset at {fault - 1} is missing, past the end or below the one before")
@@ -305,19 +315,23 @@ class MemberTable:
         Where an offset does not fit nothing is inserted. Each insert is proved. The loop over them, and
         the check of the offsets, are this package's and tested.
         """
-        if isinstance(keys, tuple):
-            memory, offsets, width = _pair(keys)
-            size, places = len(memory), len(offsets)
-        else:
-            memory, width = _words(keys, (8,))
-            offsets, size, places = _ffi.NULL, width * len(memory), len(memory) + 1
-        table = self._table
+        column = _column(keys)
         with self._lock:
-            answer = _lib.member_insert_each(
-                table, len(table), memory, size, offsets, width, places
+            answer = _lib.member_each(self._table, len(self._table), *column, _ffi.NULL)
+        _fits(max(answer, 0))
+        _done(answer)
+
+    def contains_each(self, keys):
+        """Of each key of a column, as xxh64_each takes it, whether it is contained: a memoryview of bools."""
+        column = _column(keys)
+        found = bytearray(max(column[-1] - 1, 0))
+        with self._lock:
+            answer = _lib.member_each(
+                self._table, len(self._table), *column, _memory_of("char[]", found)
             )
         _fits(max(answer, 0))
         _done(answer)
+        return memoryview(found).cast("?")
 
     def __contains__(self, key):
         memory = _memory(key)
@@ -327,6 +341,26 @@ class MemberTable:
             return True
         _done(status)
         return False
+
+    def _header(self):
+        with self._lock:
+            _done(_lib.sketch_member_check(self._table, len(self._table)))
+            return bytes(_ffi.buffer(self._table, 16))
+
+    @property
+    def seed(self):
+        """The seed."""
+        return int.from_bytes(self._header()[8:], "little")
+
+    @property
+    def log2_bits(self):
+        """The table has 2 to this power bits."""
+        return self._header()[3]
+
+    @property
+    def hashes(self):
+        """How many bits a key sets at most."""
+        return self._header()[4]
 
     @property
     def count(self):
@@ -354,6 +388,12 @@ class MemberTable:
             return NotImplemented
         self.merge(other)
         return self
+
+    def __eq__(self, other):
+        """Whether both are the same table: seed, sizes, bits and count."""
+        if not isinstance(other, MemberTable):
+            return NotImplemented
+        return self.to_bytes() == other.to_bytes()
 
     def to_bytes(self):
         """The bytes: 24 of a header, and the bits."""

@@ -1,0 +1,27 @@
+// What the types of the module promise, compiled by tsc beside sketch_hash.d.mts and never run.
+import { load, type Input, type Library, type Offsets, type Stream } from './sketch_hash.mjs';
+
+const library: Library = await load();
+const input: Input = new Uint8Array(8);
+const offsets: Offsets = Uint32Array.of(0, 3, 6);
+const numbers: bigint[] = [library.xxh64(input), library.murmur3X64_128(new ArrayBuffer(0), 7n)];
+const columns: BigUint64Array[] = [
+    library.xxh64Each(input, offsets, 0n),
+    library.xxh64EachU64(new BigInt64Array(2)),
+    library.murmur3X64_128Each(input, BigUint64Array.of(0n)),
+];
+for (const Kind of [library.Xxh64, library.Murmur3X64_128]) {
+    const stream: Stream = new Kind(1n).update(input).copy().reset();
+    const digest: bigint = stream.reset(stream.seed).digest();
+    const digits: string = stream.hexdigest();
+}
+const version: number = library.version;
+
+// @ts-expect-error: a string has no bytes until it is encoded
+library.xxh64('fox');
+// @ts-expect-error: a seed is a bigint
+library.xxh64(input, 0);
+// @ts-expect-error: offsets are whole numbers of 32 or 64 bits
+library.xxh64Each(input, new Uint16Array(2));
+// @ts-expect-error: the seed of a stream changes by a reset alone
+new library.Xxh64().seed = 1n;
