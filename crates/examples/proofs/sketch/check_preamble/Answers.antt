@@ -1,4 +1,4 @@
-use Rattle.std.proofs.Common.{◌≡◌, ◌<◌, ◌∙◌, ap, sym, length, drop, Result, Ok, Err, IsErr, MatchResult, rules, arith, length-drop}
+use Rattle.std.proofs.Common.{◌≡◌, ◌<◌, ◌≤◌, ◌∙◌, ap, sym, length, drop, Result, Ok, Err, IsErr, MatchResult, rules, arith, length-drop}
 use Rattle.datasketches.specs.SeedHash.{seed_hash}
 use Rattle.examples.specs.Sketches.{number_at}
 use Rattle.examples.proofs.sketch.check_preamble.Goals as goal
@@ -30,3 +30,16 @@ returns-in_err-check_seed_hash c =
     let other : c.in_ok-actual.actual ≡ c.in_ok-expected.expected → ⊥ = search rules in
     of_any _ _ _ c.from_residual-in_err-check_seed_hash.ensures.0
     (λ has. other (actual ∙ has.seed_is ∙ sym expected))
+
+pub returns : goal.returns
+returns c =
+    let there : 2 ≤ length c.read_u8-3.new.self = search rules in
+    let rest : c.read_u8-3.new.self ≡ drop 3 c.args.bytes.now = search rules in
+    record {
+      whole = omega (arith, there, ap length rest, length-drop 3 c.args.bytes.now);
+      preamble_longs = search rules;
+      version = search rules;
+      family = search rules;
+      seed_is = search rules;
+      seed_is_usable = search rules;
+    }
