@@ -121,7 +121,8 @@ bound_before_the_fall zero _ = (omega arith, omega arith, omega arith)
 bound_before_the_fall (suc zero) _ = (omega arith, omega arith, omega arith)
 bound_before_the_fall (suc (suc i)) h = omega (arith, h)
 
-are_numbers : AreHashes (λ key. key) (λ i. eight (slice_index (1 ∷ 256 ∷ 3 ∷ []) i)) (eight 1 ∷ eight 256 ∷ [])
+are_numbers : AreHashes (λ key. key) (λ i. eight (slice_index (1 ∷ 256 ∷ 3 ∷ []) i))
+    (eight 1 ∷ eight 256 ∷ [])
 are_numbers zero d _ = refl
 are_numbers (suc zero) d _ = refl
 are_numbers (suc (suc i)) d h = absurd (omega (arith, h))
@@ -131,7 +132,10 @@ columns = record {
   keys = (are_bounds, are_keys);
   no_other_last_key = λ p. let size : 1 ≡ 2 = ap length (p.1 2 [] (lit< tt)) in omega (arith, size);
   no_fault_of_bounds = λ i p. p.0.1 (are_bounds i p.0.0);
-  falls = ((omega arith, λ h. let after : 3 ≤ 2 = h.2 in omega (arith, after), bound_before_the_fall), refl);
+  falls = (
+    (omega arith, λ h. let after : 3 ≤ 2 = h.2 in omega (arith, after), bound_before_the_fall),
+    refl,
+  );
   no_later_fault = λ p. let after : 3 ≤ 2 = (p.0.2 2 (lit< tt)).2 in omega (arith, after);
   no_keys_of_a_fall = λ _ p. let after : 3 ≤ 2 = (p.0 2 (omega arith)).2 in omega (arith, after);
   nothing_written = λ p.

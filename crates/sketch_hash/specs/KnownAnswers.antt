@@ -158,8 +158,8 @@ pub record Relations : Type 0 where
   pub no_bound_past_the_end : IsBound (codes "foxes") (6 ∷ []) 0 → ⊥
   pub no_bound_below_another : IsBound (codes "foxes") (3 ∷ 2 ∷ []) 1 → ⊥
 
--- Columns hashed by the hash that is the key itself: three keys of five bytes, and two numbers. Each
--- place begins with no bytes.
+-- Columns hashed by the hash that is the key itself: three keys of five bytes, and two numbers.
+-- Each place begins with no bytes.
 abbrev pub Column : List ℕ → List (List ℕ) → Result Unit ℕ → Type 0
 Column offsets = HashesEach (λ key. key) (codes "foxes") offsets ([] ∷ [] ∷ [] ∷ [])
 
@@ -178,7 +178,8 @@ pub record Columns : Type 0 where
   pub no_fault_of_bounds : (i : ℕ) → Column bounds ([] ∷ [] ∷ [] ∷ []) (Err i) → ⊥
   pub falls : Column (0 ∷ 3 ∷ 2 ∷ 6 ∷ []) ([] ∷ [] ∷ [] ∷ []) (Err 2)
   pub no_later_fault : Column (0 ∷ 3 ∷ 2 ∷ 6 ∷ []) ([] ∷ [] ∷ [] ∷ []) (Err 3) → ⊥
-  pub no_keys_of_a_fall : (after : List (List ℕ)) → Column (0 ∷ 3 ∷ 2 ∷ 6 ∷ []) after (Ok tt) → ⊥
+  pub no_keys_of_a_fall : (after : List (List ℕ)) →
+      Column (0 ∷ 3 ∷ 2 ∷ 6 ∷ []) after (Ok tt) → ⊥
   pub nothing_written : Column (0 ∷ 3 ∷ 2 ∷ 6 ∷ []) foxes (Err 2) → ⊥
   pub numbers : Numbers (1 ∷ 256 ∷ 3 ∷ []) (eight 1 ∷ eight 256 ∷ []) (Ok tt)
   pub no_other_number : Numbers (1 ∷ 256 ∷ []) (eight 1 ∷ eight 1 ∷ []) (Ok tt) → ⊥
