@@ -1,4 +1,5 @@
 """Both hashes beside python3-xxhash, a plain Murmur and known answers."""
+import array
 import doctest
 import mmap
 import random
@@ -97,3 +98,16 @@ def test_lengths_past_32_bits(kind):
         assert kind(zeros, (1 << 64) - 1).intdigest() == answers[kind]
         one_call = getattr(sketch_hash, f"{kind.__name__}_intdigest")
         assert one_call(zeros, (1 << 64) - 1) == answers[kind]
+        hasher = kind(seed=(1 << 64) - 1)
+        hasher.update(zeros)
+        assert hasher.intdigest() == answers[kind]
+        each = getattr(sketch_hash, f"{kind.__name__}_each")
+        hashes = each((zeros, array.array("Q", [0, len(zeros)])), (1 << 64) - 1)
+        assert int.from_bytes(b"".join(word.to_bytes(8, "big") for word in hashes), "big") == answers[kind]
+        if kind is xxh64:
+            tables = [sketch_hash.MemberTable(6, 1, (1 << 64) - 1) for _ in range(2)]
+            tables[0].insert(zeros)
+            tables[1].insert_each((zeros, array.array("Q", [0, len(zeros)])))
+            for table in tables:
+                assert int.from_bytes(table.to_bytes()[24:], "little") == 1 << answers[kind] % 64
+                assert zeros in table and b"fox" not in table
