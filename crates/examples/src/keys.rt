@@ -1,6 +1,6 @@
 //! A distinct counter that knows integer keys by their Murmur pair.
 
-ghost use Rattle.std.specs.Prelude.{◌≡◌, ◌≢◌, ◌↔◌, [], ◌∷◌, IsTrue, pos};
+ghost use Rattle.std.specs.Prelude.{◌≡◌, ◌≢◌, ◌↔◌, ◌+◌, ◌<◌, [], ◌∷◌, IsTrue, pos};
 ghost use Rattle.std.specs.List.{All};
 ghost use Rattle.std.specs.String.{string_bytes};
 ghost use Rattle.datasketches.specs.Bytes.{low_bytes, modulo};
@@ -8,7 +8,7 @@ ghost use Rattle.datasketches.specs.Murmur.{murmur};
 ghost use Rattle.datasketches.specs.Values.{integer_bytes};
 
 use datasketches::hash::value::natural_extend::NaturalExtend;
-use datasketches::hash::value::{natural_extend, raw_bytes, sign_extend};
+use datasketches::hash::value::{calculate_hash, natural_extend, raw_bytes, sign_extend};
 use datasketches::hash::{Hash, MurmurHash3X64128};
 use datasketches::laws;
 
@@ -111,6 +111,28 @@ pub fn wrapped_values(
         sign_extend::from_i64(signed.3).into_inner(),
     ];
     (wrapped, wrapped_signed)
+}
+
+/// The hash of a key of text, as the library hashes any value.
+pub fn hash_of_text(key: &str) -> u64
+    ensures { result ≡ (murmur 9001 key.now).0 }
+{
+    calculate_hash(raw_bytes::from_str(key))
+}
+
+/// A wrapped key.
+pub fn inner_key(key: &NaturalExtend<u32>) -> u32
+    ensures { result ≡ key.now }
+{
+    **key
+}
+
+/// Makes a wrapped key the next one, through the wrapper.
+pub fn next_key(key: &mut NaturalExtend<u32>)
+    requires { key.old < 4_294_967_295 }
+    ensures { key.new ≡ key.old + 1 }
+{
+    **key += 1;
 }
 
 /// Replaces a wrapped key, through the wrapper.

@@ -8,6 +8,7 @@ pub mod known_answers;
 pub mod laws;
 pub mod merging;
 pub mod own;
+pub mod refusals;
 pub mod seen;
 pub mod sentence;
 pub mod sketch;

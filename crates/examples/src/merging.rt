@@ -1,15 +1,15 @@
 //! Tables of several workers that become one, in whatever order.
 
-ghost use Rattle.std.specs.Prelude.{◌≡◌, ◌⊎◌, ℕ, ◌+◌, List, ◌++◌, IfErr, IfOk, IsOk};
+ghost use Rattle.std.specs.Prelude.{◌≡◌, ◌≢◌, ◌⊎◌, ℕ, ◌+◌, List, ◌++◌, Err, IfErr, IfOk, IsOk};
 ghost use Rattle.datasketches.specs.ErrorValue.{memory_error};
 ghost use Rattle.sketch_member.specs.Laws.{StandsFor, count_after};
 ghost use Rattle.sketch_member.specs.Limits.{IsHashes, IsLog2Bits};
-ghost use Rattle.sketch_member.specs.Merge.{AreAlike};
+ghost use Rattle.sketch_member.specs.Merge.{AreAlike, FirstDifference};
 ghost use Rattle.sketch_member.specs.Table.{IsMember, empty_table};
 
 use datasketches::error::Error;
-use sketch_member::MemberTable;
-use sketch_member::laws::merge_law;
+use sketch_member::laws::{form_law, merge_law};
+use sketch_member::{Difference, MemberTable, MergeFault, in_place};
 use std::alloc::Global;
 
 /// Merges the table of another worker into one: it stands for the values of both, and counts them.
@@ -24,8 +24,9 @@ pub fn merge_worker(
     ensures counts { (m n : ℕ) →
         table.old.count ≡ count_after m → worker.now.count ≡ count_after n →
         IfOk result (λ _. table.new.count ≡ count_after (m + n)) }
-    ensures refused { IfErr result (λ _. (table.new ≡ table.old)
-        × (AreAlike table.old worker.now → ⊥)) }
+    ensures refused { IfErr result (λ error. (table.new ≡ table.old)
+        × FirstDifference table.old worker.now error) }
+    ensures unlike { IfErr result (λ _. AreAlike table.old worker.now → ⊥) }
 {
     merge_law();
     table.merge(alloc, worker)?;
@@ -98,4 +99,15 @@ pub fn merge_twin(alloc: Global, table: &mut MemberTable, twin: &MemberTable) ->
 {
     merge_law();
     table.merge(alloc, twin)
+}
+
+/// Merges bytes into the same bytes elsewhere, where they lie. They may be no table, and are never
+/// unlike.
+pub fn merge_saved_twin(saved: &mut [u8], twin: &[u8]) -> Result<(), MergeFault>
+    requires { twin.now ≡ saved.old }
+    ensures alike { (part : Difference) → result ≢ Err (MergeFault.Unlike part) }
+    ensures unchanged { IfErr result (λ _. saved.new ≡ saved.old) }
+{
+    form_law();
+    in_place::merge(saved, twin)
 }

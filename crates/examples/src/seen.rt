@@ -1,17 +1,17 @@
 //! Keys that were seen, in a table of members that is saved and loaded.
 
-ghost use Rattle.std.specs.Prelude.{ℕ, List, ◌≡◌, ◌⊎◌, ◌↔◌, ◌+◌, [], IfErr, IfOk, IsTrue, MatchResult, length, Contains};
+ghost use Rattle.std.specs.Prelude.{ℕ, List, ◌≡◌, ◌⊎◌, ◌↔◌, ◌+◌, [], None, IfErr, IfOk, IsTrue, MatchResult, length, Contains};
 ghost use Rattle.datasketches.specs.ErrorValue.{memory_error};
 ghost use Rattle.datasketches.specs.Refusals.{Refuses};
-ghost use Rattle.sketch_member.specs.Faults.{AllPass, IsFirstFault, fault_text, steps, view_steps};
-ghost use Rattle.sketch_member.specs.Form.{IsForm, form2};
+ghost use Rattle.sketch_member.specs.Faults.{AllPass, IsFirstFault, fault_text, init_steps, steps, view_steps};
+ghost use Rattle.sketch_member.specs.Form.{IsForm, form1, form2};
 ghost use Rattle.sketch_member.specs.InPlace.{Becomes};
 ghost use Rattle.sketch_member.specs.Laws.{StandsFor, count_after};
 ghost use Rattle.sketch_member.specs.Table.{Table, Inserts, IsMember, IsSet, IsTable, empty_table};
 
 use datasketches::error::{Error, ErrorKind};
-use datasketches::hash::value::raw_bytes;
-use sketch_member::laws::{form_law, insert_law};
+use datasketches::hash::value::raw_bytes::{self, RawBytes};
+use sketch_member::laws::{form_law, insert_both, insert_law, read_again};
 use sketch_member::{Fault, MemberTable, TableView, in_place};
 use std::alloc::{AllocError, Global};
 
@@ -72,6 +72,29 @@ pub fn see_saved_key(alloc: Global, saved: &[u8], key: &[u8]) -> Result<(bool, V
     let mut seen = load_keys(alloc, saved)?;
     let is_seen = see_key(&mut seen, key);
     Ok((is_seen, seen.to_bytes(alloc)?))
+}
+
+/// How many keys bytes of version 1 know to have been seen: none, as they have no count.
+pub fn count_in_version1(alloc: Global, saved: &[u8]) -> Result<Option<u64>, Error>
+    ensures { (table : Table) → IsTable table → saved.now ≡ form1 table →
+        IfOk result (λ count. count ≡ None) }
+{
+    Ok(read_again(alloc, saved)?.count())
+}
+
+/// Makes a table of keys twice, where the bytes lie and elsewhere, and answers the bytes of the
+/// other.
+pub fn see_keys_twice(
+    alloc: Global,
+    bytes: &mut [u8],
+    keys: &[RawBytes<&[u8]>],
+) -> Result<Vec<u8>, Error>
+    ensures same { IfOk result (λ made. bytes.new ≡ made.items) }
+    ensures refused { IfErr result (λ error. (error ≡ memory_error) ⊎ ((fault : Fault)
+        × IsFirstFault (length bytes.old) (init_steps 10 7 bytes.old) fault
+        × Refuses ErrorKind.InvalidArgument (fault_text fault) error)) }
+{
+    insert_both(alloc, bytes, 0, 10, 7, keys)
 }
 
 /// How many keys were seen, each as often as it was, where that is known.

@@ -28,6 +28,18 @@ pub fn xxh64_of_pieces(seed: u64, pieces: &[RawBytes<&[u8]>]) -> u64
     hasher.finish64()
 }
 
+/// Both hashes of bytes under the usual seeds, as `Hasher` answers them: the first word of Murmur,
+/// and XXH64.
+pub fn usual_hashes(bytes: &[u8]) -> (u64, u64)
+    ensures murmur { result.0 ≡ (murmur 9001 bytes.now).0 }
+    ensures xxh64 { result.1 ≡ xxh64 0 bytes.now }
+{
+    let (mut first, mut second) = (MurmurHash3X64128::default(), XxHash64::default());
+    first.write(bytes);
+    second.write(bytes);
+    (first.finish(), second.finish())
+}
+
 /// A checkpoint of a stream: what the hasher of its first bytes holds.
 pub fn checkpoint(seed: u64, front: &[u8]) -> XxHash64State
     ensures { Xxh64Holds result seed front.now }

@@ -1,7 +1,8 @@
 //! The calls together, as a program in C makes them: proved from their contracts alone, and run.
 
-ghost use Rattle.std.specs.Prelude.{◌≡◌, ◌++◌, ◌<◌, ◌≤◌, ℕ, false, length, slice_index, IsTrue};
+ghost use Rattle.std.specs.Prelude.{◌≡◌, ◌++◌, ◌<◌, ◌≤◌, ℕ, false, [], length, slice_index, slice_index_or, IsTrue};
 ghost use Rattle.sketch_base.specs.Bytes.{eight};
+ghost use Rattle.sketch_hash.specs.Columns.{key_at, murmur_words};
 ghost use Rattle.sketch_hash.specs.Held.{murmur_held, xxh64_held};
 ghost use Rattle.sketch_hash.specs.Murmur.{murmur, murmur_after, murmur_answer};
 ghost use Rattle.sketch_hash.specs.Xxh64.{xxh64, xxh64_after, xxh64_answer};
@@ -24,6 +25,19 @@ fn assert_same<T: PartialEq + Debug + Drop>(rt: &impl Abort, left: T, right: T)
     ensures { IsTrue (T.eq left right) }
 {
     assert_eq!(rt; left, right);
+}
+
+/// Both hashes of bytes in one call each, and of a number.
+fn hashes_of(bytes: &[u8], number: u64, seed: u64) -> (u64, Murmur128, u64)
+    ensures xxh64 { result.0 ≡ xxh64 seed bytes.now }
+    ensures murmur { (result.1.h1, result.1.h2) ≡ murmur seed bytes.now }
+    ensures number { result.2 ≡ xxh64 seed (eight number) }
+{
+    (
+        sketch_xxh64(bytes, seed),
+        sketch_murmur3_x64_128(bytes, seed),
+        sketch_xxh64_u64(number, seed),
+    )
 }
 
 /// XXH64 of a stream in two pieces, whatever the state held before.
@@ -61,6 +75,42 @@ fn murmur_of_more(state: &mut MurmurState, bytes: &[u8]) -> Murmur128
 {
     sketch_murmur3_x64_128_update(state, bytes);
     sketch_murmur3_x64_128_digest(state)
+}
+
+/// Whether each key was hashed by XXH64, with offsets of 32 bits: else no place is changed.
+fn hash_keys32(input: &[u8], offsets: &[u32], out: &mut [u64]) -> bool
+    ensures hashed { IsTrue result → (i : ℕ) → i < length out.new →
+        slice_index out.new i ≡ xxh64 7 (key_at input.now offsets.now i) }
+    ensures refused { result ≡ false → out.new ≡ out.old }
+{
+    sketch_xxh64_each32(input, offsets, 7, out) == 0
+}
+
+/// Whether each key was hashed by XXH64, with offsets of 64 bits: else no place is changed.
+fn hash_keys64(input: &[u8], offsets: &[u64], out: &mut [u64]) -> bool
+    ensures hashed { IsTrue result → (i : ℕ) → i < length out.new →
+        slice_index out.new i ≡ xxh64 7 (key_at input.now offsets.now i) }
+    ensures refused { result ≡ false → out.new ≡ out.old }
+{
+    sketch_xxh64_each64(input, offsets, 7, out) == 0
+}
+
+/// Whether each key was hashed by Murmur, with offsets of 32 bits: else no place is changed.
+fn murmur_keys32(input: &[u8], offsets: &[u32], out: &mut [[u64; 2]]) -> bool
+    ensures hashed { IsTrue result → (i : ℕ) → i < length out.new →
+        slice_index_or out.new i [] ≡ murmur_words 7 (key_at input.now offsets.now i) }
+    ensures refused { result ≡ false → out.new ≡ out.old }
+{
+    sketch_murmur3_x64_128_each32(input, offsets, 7, out) == 0
+}
+
+/// Whether each key was hashed by Murmur, with offsets of 64 bits: else no place is changed.
+fn murmur_keys64(input: &[u8], offsets: &[u64], out: &mut [[u64; 2]]) -> bool
+    ensures hashed { IsTrue result → (i : ℕ) → i < length out.new →
+        slice_index_or out.new i [] ≡ murmur_words 7 (key_at input.now offsets.now i) }
+    ensures refused { result ≡ false → out.new ≡ out.old }
+{
+    sketch_murmur3_x64_128_each64(input, offsets, 7, out) == 0
 }
 
 /// Whether each number was hashed: there are enough of them then, and else no place is changed.
@@ -127,8 +177,14 @@ fn a_column_of_two_words(rt: HostRuntime) {
         sketch_murmur3_x64_128_each64(b"foxes", &[0, 3, 5], 7, &mut pairs),
         0
     );
-    let es = sketch_murmur3_x64_128(b"es", 7);
+    let (hash, es, number) = hashes_of(b"es", 1, 7);
     assert_eq!(rt; pairs[1], [es.h1, es.h2]);
+    assert_eq!(rt; number, sketch_xxh64_u64(1, 7));
+    assert!(rt; hash_keys32(b"foxes", &[0, 3, 5], &mut hashes));
+    assert_eq!(rt; hashes[1], hash);
+    assert!(rt; !hash_keys64(b"foxes", &[0, 3, 6], &mut hashes));
+    assert!(rt; murmur_keys32(b"foxes", &[0, 3, 5], &mut pairs));
+    assert!(rt; !murmur_keys64(b"foxes", &[0], &mut pairs));
 }
 
 #[test]

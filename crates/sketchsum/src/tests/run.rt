@@ -1,15 +1,15 @@
-ghost use Rattle.std.specs.Prelude.{◌≡◌, ◌+◌, ◌*◌, ◌≤◌, [], ◌++◌, false, length, Err, OnOk};
+ghost use Rattle.std.specs.Prelude.{◌≡◌, ◌+◌, ◌*◌, ◌≤◌, [], ◌++◌, codes, false, length, Err, IsTrue, OnOk};
 ghost use Rattle.sketchsum.specs.Digest.{digest_line};
 
 use super::fakes::{Full, KINDS, NarrowWriter, SlowReader};
 use super::{FOX, FOX_LINE, assert_same};
 use crate::arguments::Algorithm;
 use crate::digest::write_digest;
-use crate::ending::RunFault;
+use crate::ending::{Outcome, RunFault, ending};
 use crate::read_ahead::ReadAhead;
 use crate::run::{run, run_bounded};
-use crate::streams::{BoundedReader, CheckedWriter};
-use std::io::{self, ErrorKind, Read};
+use crate::streams::{BoundedReader, CheckedWriter, OutputState};
+use std::io::{self, ErrorKind, Read, Write};
 
 #[test]
 fn an_input_becomes_its_line(rt: HostRuntime) {
@@ -152,6 +152,26 @@ fn are_enough(turns: u64, input: &mut &[u8], output: &mut Vec<u8>) -> (bool, u64
     (answer != Err(RunFault::TooLong), reader.turns_left())
 }
 
+// Writes the line of what a reader has left: a line that is done is flushed.
+fn write_rest<R: Read, W: Write>(
+    reader: &mut BoundedReader<'_, R>,
+    writer: &mut CheckedWriter<'_, W>,
+) -> bool
+    ensures flushed { IsTrue result → writer.new.state ≡ OutputState.Flushed }
+    ensures read { IsTrue result → reader.new.has_failed ≡ false }
+{
+    write_digest(Algorithm::Xx, 0, reader, writer).is_ok()
+}
+
+// A reader of which nothing was read ahead, and the line of the usage.
+fn fresh(input: &[u8]) -> (ReadAhead<&[u8]>, &'static str)
+    ensures reader { result.0.reader.now ≡ input.now }
+    ensures unread { result.0.unread ≡ [] }
+    ensures line { result.1.now ≡ codes "usage: sketchsum murmur|xx SEED" }
+{
+    (ReadAhead::new(input), ending(Outcome::Usage).1)
+}
+
 #[test]
 fn a_run_takes_no_turn_in_vain(rt: HostRuntime) {
     for (turns, answer) in [
@@ -165,6 +185,10 @@ fn a_run_takes_no_turn_in_vain(rt: HostRuntime) {
     }
     let mut written = Vec::new(rt.alloc());
     assert_same(&rt, run_or_nothing(&mut FOX, &mut written), Ok(()));
+    let (mut reader, line) = fresh(FOX);
+    let mut input = BoundedReader::new(&mut reader, 2);
+    assert!(rt; write_rest(&mut input, &mut CheckedWriter::new(&mut written)));
+    assert_same(&rt, line, "usage: sketchsum murmur|xx SEED");
 }
 
 #[test]
@@ -219,8 +243,10 @@ fn writers_that_fail_are_told(rt: HostRuntime) {
             assert_same(&rt, fault, Err(RunFault::Write));
         }
     }
-    let mut writer = NarrowWriter::new(rt.alloc(), 10, Full::TakesNone, None);
-    let mut reader = FOX;
-    let fault = run(Algorithm::Murmur, 0, &mut reader, &mut writer);
-    assert_same(&rt, fault, Err(RunFault::Write));
+    for (room, flush_fault) in [(10, None), (100, Some(ErrorKind::Interrupted))] {
+        let mut writer = NarrowWriter::new(rt.alloc(), room, Full::TakesNone, flush_fault);
+        let mut reader = FOX;
+        let fault = run(Algorithm::Murmur, 0, &mut reader, &mut writer);
+        assert_same(&rt, fault, Err(RunFault::Write));
+    }
 }

@@ -1,0 +1,68 @@
+//! What refusals say, and how a text is made of what is printed.
+
+ghost use Rattle.std.specs.Prelude.{◌≡◌, ◌≢◌, ◌⊎◌, codes, IfErr, IfOk, MatchResult, string_bytes};
+ghost use Rattle.std.specs.Fmt.{decimal};
+ghost use Rattle.datasketches.specs.ErrorValue.{error_of, memory_error};
+ghost use Rattle.datasketches.specs.Reading.{short_text};
+ghost use Rattle.datasketches.specs.Refusals.{Refuses, unsupported_serial_version_text};
+ghost use Rattle.datasketches.specs.SeedHash.{incompatible_seed_hash_text, seed_hash, zero_seed_hash_text};
+ghost use Rattle.datasketches.specs.Writing.{stopped_text};
+
+use datasketches::codec::assert::ensure_serial_version_is;
+use datasketches::codec::{Short, Stopped};
+use datasketches::error::{Error, ErrorKind};
+use datasketches::hash::value::natural_extend::NaturalExtend;
+use datasketches::hash::{check_seed_hash, compute_seed_hash};
+use std::alloc::{AllocError, Global};
+
+/// Accepts serial version 3.
+pub fn check_version(alloc: Global, version: u8) -> Result<(), Error>
+    ensures { MatchResult result
+        (λ _. version ≡ 3)
+        (λ error. (version ≢ 3)
+        × Refuses ErrorKind.InvalidData (unsupported_serial_version_text 3 version) error) }
+{
+    ensure_serial_version_is(alloc, 3, version)
+}
+
+/// Accepts the seed hash of a seed that can be used.
+pub fn check_seed(alloc: Global, seed: u64, actual: u16) -> Result<(), Error>
+    ensures accepted { IfOk result (λ _. (seed_hash seed ≢ 0) × (actual ≡ seed_hash seed)) }
+    ensures refused { IfErr result (λ error.
+        ((seed_hash seed ≡ 0) × Refuses ErrorKind.InvalidArgument (zero_seed_hash_text seed) error)
+        ⊎ ((actual ≢ seed_hash seed) × Refuses ErrorKind.InvalidData
+        (incompatible_seed_hash_text (codes "sketch") (seed_hash seed) actual) error)) }
+{
+    let expected = compute_seed_hash(alloc, seed, ErrorKind::InvalidArgument)?;
+    check_seed_hash(alloc, expected, actual, "sketch", ErrorKind::InvalidData)
+}
+
+/// A refusal of malformed data in words of one's own, where there was memory for them.
+pub fn malformed(alloc: Global, words: Result<String, AllocError>) -> Error
+    ensures { MatchResult words
+        (λ message. result ≡ error_of ErrorKind.InvalidData (string_bytes message))
+        (λ _. result ≡ memory_error) }
+{
+    Error::from_text(alloc, ErrorKind::InvalidData, words)
+}
+
+/// What a list of items that ended too early says.
+pub fn text_of_short(alloc: Global, short: &Short) -> Result<String, AllocError>
+    ensures { IfOk result (λ text. string_bytes text ≡ short_text short.now.read) }
+{
+    short.to_string(alloc)
+}
+
+/// What a list of items that found no memory says.
+pub fn text_of_stopped(alloc: Global, stopped: &Stopped) -> Result<String, AllocError>
+    ensures { IfOk result (λ text. string_bytes text ≡ stopped_text stopped.now.accepted) }
+{
+    stopped.to_string(alloc)
+}
+
+/// A wrapped key in decimal, as the key itself prints.
+pub fn text_of_key(alloc: Global, key: &NaturalExtend<u32>) -> Result<String, AllocError>
+    ensures { IfOk result (λ text. string_bytes text ≡ decimal key.now) }
+{
+    key.to_string(alloc)
+}

@@ -1,0 +1,54 @@
+//! What refusals and wrapped keys say.
+
+use super::{assert_refused, assert_same};
+use crate::keys::{hash_of_text, inner_key, next_key};
+use crate::merging::merge_saved_twin;
+use crate::refusals::{
+    check_seed, check_version, malformed, text_of_key, text_of_short, text_of_stopped,
+};
+use crate::seen::{count_in_version1, see_keys_twice};
+use crate::streams::usual_hashes;
+use datasketches::codec::{Short, Stopped};
+use datasketches::hash::value::{natural_extend, raw_bytes};
+use std::test::Fail;
+
+#[test]
+fn refusals_say_what_is_wrong(rt: HostRuntime) -> Result<(), Fail> {
+    let alloc = rt.alloc();
+    assert_same(&rt, check_version(alloc, 3).is_ok(), true);
+    let line = "InvalidData => unsupported serial version: expected 3, got 2";
+    assert_refused(&rt, check_version(alloc, 2), line);
+    assert_same(&rt, check_seed(alloc, 9001, 37836).is_ok(), true);
+    let line = "InvalidData => incompatible seed hash of sketch: expected 37836, got 0";
+    assert_refused(&rt, check_seed(alloc, 9001, 0), line);
+    let line =
+        "InvalidArgument => seed 50541 produces a seed hash of zero; choose a different seed";
+    assert_refused(&rt, check_seed(alloc, 50541, 0), line);
+    let error = malformed(alloc, format!(in alloc; "no sketch"));
+    assert_same(&rt, error.message(), "no sketch");
+    let text = text_of_short(alloc, &Short { read: 3 })?;
+    assert_same(&rt, text.as_str(), "insufficient data after 3 items");
+    let text = text_of_stopped(alloc, &Stopped { accepted: 3 })?;
+    assert_same(&rt, text.as_str(), "out of memory after 3 items");
+    Ok(())
+}
+
+#[test]
+fn wrapped_keys_are_read_and_changed(rt: HostRuntime) -> Result<(), Fail> {
+    let mut key = natural_extend::from_u32(7);
+    next_key(&mut key);
+    assert_same(&rt, inner_key(&key), 8);
+    assert_same(&rt, text_of_key(rt.alloc(), &key)?.as_str(), "8");
+    assert_same(&rt, usual_hashes(b"fox").0, hash_of_text("fox"));
+    Ok(())
+}
+
+#[test]
+fn bytes_of_a_table_are_made_twice(rt: HostRuntime) -> Result<(), Fail> {
+    let (alloc, mut bytes) = (rt.alloc(), [0; 152]);
+    let made = see_keys_twice(alloc, &mut bytes, &[raw_bytes::from_slice(b"fox")])?;
+    assert_same(&rt, made.as_slice(), bytes.as_slice());
+    assert_same(&rt, merge_saved_twin(&mut bytes, &made).is_ok(), true);
+    assert_same(&rt, count_in_version1(alloc, &bytes)?, Some(2));
+    Ok(())
+}
