@@ -122,14 +122,14 @@ size_t sketch_xxh64_each_u64(const uint64_t *values, size_t value_count, uint64_
 /* ---- A table of members (a Bloom filter): it tells of a key whether it was inserted, is never wrong
  * about one that was, and may be wrong about one that was not.
  *
- * With 2^log2_bits bits for n keys, and 7 hashes, about one other key in 100 is told as inserted where
- * there are 10 bits for each key, and one in 1000 where there are 15.
+ * With 7 hashes, about one other key in 100 is told as inserted where the table has 10 bits for each
+ * key, and one in 1000 where it has 15.
  *
  * A table is its bytes, which any machine reads and writes alike. They lie where the caller wants,
  * as in a file that is mapped. Each call checks the header, 24 bytes, and makes no pass over the
  * bits to do so. What a call refuses it leaves as it was. */
 
-/* What a call answers: the number of the first fault, in the order of the bytes. */
+/* What a call answers: the number of the first fault, in this order. */
 enum sketch_member_status {
     SKETCH_MEMBER_DONE = 0,
     SKETCH_MEMBER_HEADER_ENDS = -1,     /* the header is not all there */
@@ -152,9 +152,9 @@ enum sketch_member_status {
 /* How many bytes a table of 2^log2_bits bits has: 24 + 2^log2_bits / 8; 0 outside of 6 to 20. */
 size_t sketch_member_size(unsigned log2_bits);
 
-/* Makes bytes a table without keys. Refused is, in this order: log2_bits outside of 6 to 20, hashes
- * outside of 1 to 16, and a length other than sketch_member_size answers: HEADER_ENDS below 24, then
- * MISSING_BITS or TRAILING_BYTES. */
+/* Makes bytes a table without keys. It refuses, in this order: log2_bits outside of 6 to 20, hashes
+ * outside of 1 to 16, and a length other than that of sketch_member_size (HEADER_ENDS below 24, else
+ * MISSING_BITS or TRAILING_BYTES). */
 int sketch_member_init(void *bytes, size_t length, uint64_t seed, unsigned log2_bits,
                        unsigned hashes);
 

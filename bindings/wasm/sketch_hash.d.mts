@@ -29,8 +29,8 @@ export interface Library {
     murmur3X64_128(bytes: Input, seed?: bigint): bigint;
     /**
      * XXH64 of each key of a column, laid out as Apache Arrow does strings: key i is the bytes from
-     * offsets[i] up to offsets[i + 1]. The column is copied into the module's memory, which stays as
-     * large.
+     * offsets[i] up to offsets[i + 1]. The column is copied into the module's memory, which does not
+     * shrink afterwards.
      *
      * @throws {RangeError} with the index of the first offset that is missing, past the end or below
      * the one before; or where there is no memory for the column

@@ -89,8 +89,8 @@ function library(calls) {
         return h1 << 64n | h2;
     }
 
-    // Runs a call over columns. Behind the hashes, from the place of the input on, lie the columns, the
-    // last one first, since the bytes are the first one and the others need places of their width.
+    // Runs a call over columns. The hashes lie from the place of the input on, and behind them the
+    // columns from the last to the first: offsets before the bytes, as they lie at multiples of their width.
     function each(call, columns, seed, count, size) {
         makeRoom(columns.reduce((sum, { byteLength }) => sum + byteLength, count * size));
         let end = begin + count * size;

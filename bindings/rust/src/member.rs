@@ -30,7 +30,7 @@ pub struct MemberTable {
 }
 
 impl MemberTable {
-    /// A table without keys, of 2^`log2_bits` bits, of which each key sets `hashes`.
+    /// A table without keys, of 2^`log2_bits` bits, of which each key sets at most `hashes`.
     ///
     /// # Errors
     ///

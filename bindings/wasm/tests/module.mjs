@@ -84,7 +84,7 @@ assert.throws(() => xxh64EachU64(ends), /BigUint64Array/);
 assert.throws(() => murmur3X64_128Each('fox', ends), /TextEncoder/);
 for (const seed of [-1n, 2n ** 64n]) assert.throws(() => xxh64EachU64(new BigInt64Array(1), seed), RangeError);
 
-// Room is made where a column lacks one byte of it, over all sizes of a page.
+// The memory grows where one byte is missing: columns of each size over a whole page.
 const { xxh64Each: once } = await load(readFileSync(new URL('sketch_hash.wasm', dist)));
 for (let size = 300_000; size <= 300_000 + 65_536; size += 1) once(new Uint8Array(long.buffer, 0, size), Uint32Array.of(0, 9));
 

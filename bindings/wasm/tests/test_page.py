@@ -265,7 +265,7 @@ def test_nothing_is_loaded_from_elsewhere(page):
 
 
 def test_an_engine_without_64_bit_memories(chromium, tmp_path):
-    """A memory that no engine has, in place of the one by which the page asks, is told as lacking."""
+    """With a kind of memory that no engine knows in its question, the page says that the engine lacks it."""
     text = (DIST / "wasm/index.html").read_text()
     (tmp_path / "page.html").write_text(text.replace("5, 3, 1, 4, 0)", "5, 3, 1, 99, 0)"))
     chromium.get((tmp_path / "page.html").as_uri())

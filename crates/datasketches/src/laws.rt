@@ -130,9 +130,9 @@ pub fn hash_u64_law()
 
 /// When `NaturalExtendStrategy` and `SignExtendStrategy` feed equal bytes, and when not.
 ///
-/// They feed the same for a signed integer, and for an unsigned one exactly if its top bit is
-/// clear. Under `SignExtendStrategy` a signed and an unsigned integer of w bits feed the same
-/// exactly if they agree modulo 2^w.
+/// They feed the same for every signed integer and every one of 64 bits, and for an unsigned one of
+/// up to 32 bits exactly if its top bit is clear. Under `SignExtendStrategy` a signed and an
+/// unsigned integer of w bits feed the same exactly if they agree modulo 2^w.
 pub fn extend_law()
     ensures { ExtendLaw }
 {

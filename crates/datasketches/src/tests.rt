@@ -13,8 +13,7 @@ const FOX_MURMUR: (u64, u64) = (0xe34b_bc7b_bc07_1b6c, 0x7a43_3ca9_c49a_9347);
 
 const OTHER_SEED: u64 = 0x9E37_79B1;
 
-// Asserts that two values are equal. As one function it is proved once, and not at each place; its
-// clause says that it comes back only from equal values.
+// Asserts that two values are equal.
 fn assert_same<T: PartialEq + Debug + Drop>(rt: &impl Abort, left: T, right: T)
     ensures { IsTrue (T.eq left right) }
 {

@@ -33,8 +33,8 @@ pub fn merge_worker(
     Ok(())
 }
 
-/// Merges two tables into a third one after the other, and into its twin as one. Both end as the
-/// same table, which contains what any of the three did.
+/// Merges `second` and then `third` into `table`; and `third` into `second`, and that into `twin`.
+/// Both end as the same table, which contains what any of the three did.
 pub fn merge_as_a_tree(
     alloc: Global,
     table: &mut MemberTable,
@@ -101,8 +101,8 @@ pub fn merge_twin(alloc: Global, table: &mut MemberTable, twin: &MemberTable) ->
     table.merge(alloc, twin)
 }
 
-/// Merges bytes into the same bytes elsewhere, where they lie. They may be no table, and are never
-/// unlike.
+/// Merges the bytes of a table into equal bytes, in place. It fails only where they are no table of
+/// version 2: they are never unlike.
 pub fn merge_saved_twin(saved: &mut [u8], twin: &[u8]) -> Result<(), MergeFault>
     requires { twin.now ≡ saved.old }
     ensures alike { (part : Difference) → result ≢ Err (MergeFault.Unlike part) }

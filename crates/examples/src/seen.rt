@@ -74,16 +74,16 @@ pub fn see_saved_key(alloc: Global, saved: &[u8], key: &[u8]) -> Result<(bool, V
     Ok((is_seen, seen.to_bytes(alloc)?))
 }
 
-/// How many keys bytes of version 1 know to have been seen: none, as they have no count.
-pub fn count_in_version1(alloc: Global, saved: &[u8]) -> Result<Option<u64>, Error>
+/// How many inserts saved bytes counted: `None` for bytes of version 1, which have no count.
+pub fn count_saved(alloc: Global, saved: &[u8]) -> Result<Option<u64>, Error>
     ensures { (table : Table) → IsTable table → saved.now ≡ form1 table →
         IfOk result (λ count. count ≡ None) }
 {
     Ok(read_again(alloc, saved)?.count())
 }
 
-/// Makes a table of keys twice, where the bytes lie and elsewhere, and answers the bytes of the
-/// other.
+/// Makes a table of keys twice, in `bytes` and in memory of its own, and answers the bytes of the
+/// second.
 pub fn see_keys_twice(
     alloc: Global,
     bytes: &mut [u8],
@@ -165,7 +165,7 @@ pub fn insert_in_either_order(
 
 /// Whether two empty tables contain two keys that are inserted in either order, into the second
 /// table one of them twice. They do, and the same bits are set in both.
-pub fn insert_in_both_orders(
+pub fn insert_one_key_twice(
     one: &mut MemberTable,
     other: &mut MemberTable,
     a: &[u8],

@@ -44,7 +44,7 @@ impl fmt::Display for ErrorKind {
 #[derive(Drop)]
 pub struct Error {
     kind: ErrorKind,
-    // Neither is there in an error that `?` made of a refusal of memory, which brings no allocator.
+    // Both are None in an error that `?` made of a refused request, which brings no allocator.
     message: Option<String>,
     context: Option<Vec<(&'static str, String)>>,
 }

@@ -8,8 +8,7 @@ use std::fmt::{Debug, Display};
 use std::io::Write;
 use std::process::Abort;
 
-/// Asserts that two values are equal. As one function it is proved once, and not at each place; its
-/// clause says that it comes back only from equal values.
+/// Asserts that two values are equal.
 pub(crate) fn assert_same<T: PartialEq + Debug + Drop>(rt: &impl Abort, left: T, right: T)
     ensures { IsTrue (T.eq left right) }
 {

@@ -2,7 +2,7 @@
 //! calls C can make.
 //!
 //! A state and a table stand in the caller's memory. Every content of either is safe, nothing
-//! allocates, and offsets that lie are answered, so no call asks for more than its types say.
+//! allocates, and wrong offsets are reported, so no call requires more than its types say.
 #![tactic(auto)]
 
 mod each;

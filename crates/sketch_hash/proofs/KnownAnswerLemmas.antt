@@ -7,7 +7,7 @@ use Rattle.sketch_hash.specs.Murmur.{mix1, mix2, fmix, step1, step2, step, with_
 use Rattle.sketch_hash.specs.Xxh64.{round, lane, lanes_start, lanes, merge_round, merge, steps, eight_step, four_step, byte_step, tail_step, avalanche, finalize as xxh64_ending, xxh64, xxh64_after, xxh64_answer}
 use Rattle.sketch_base.specs.Bytes.{eight}
 use Rattle.sketch_hash.specs.Columns.{key_at, IsBound, AreBounds, AreHashes}
-use Rattle.sketch_hash.specs.KnownAnswers.{test_bytes_from, WordAnswers, MurmurAnswers, Xxh64Answers, ValueAnswers, Relations, Columns, Column, Numbers, bounds, foxes}
+use Rattle.sketch_hash.specs.KnownAnswers.{test_bytes_from, WordAnswers, MurmurAnswers, Xxh64Answers, ValueAnswers, Relations, Columns, bounds, foxes}
 use Rattle.sketch_hash.proofs.Undoes.{plus-once}
 
 pub word_answers : WordAnswers

@@ -23,8 +23,8 @@ abbrev pub AreBounds : List ℕ → List ℕ → ℕ → Type 0
 AreBounds bytes offsets n = (i : ℕ) → i ≤ n → IsBound bytes offsets i
 
 -- the first place of these at which no bound is
-abbrev pub IsFirstFault : List ℕ → List ℕ → ℕ → ℕ → Type 0
-IsFirstFault bytes offsets n i =
+abbrev pub IsFirstWrongOffset : List ℕ → List ℕ → ℕ → ℕ → Type 0
+IsFirstWrongOffset bytes offsets n i =
     (i ≤ n)
     × (IsBound bytes offsets i → ⊥)
     × ((j : ℕ) → j < i → IsBound bytes offsets j)
@@ -42,7 +42,7 @@ HashesEach hash bytes offsets before after result =
     let n = length before in
     MatchResult result
     (λ _. AreBounds bytes offsets n × AreHashes hash (key_at bytes offsets) after)
-    (λ fault. IsFirstFault bytes offsets n fault × (after ≡ before))
+    (λ fault. IsFirstWrongOffset bytes offsets n fault × (after ≡ before))
 
 -- The same of a column of numbers, whose keys are their eight bytes. With fewer numbers than places
 -- the fault is the first place without one.

@@ -158,8 +158,8 @@ pub record Relations : Type 0 where
   pub no_bound_past_the_end : IsBound (codes "foxes") (6 ∷ []) 0 → ⊥
   pub no_bound_below_another : IsBound (codes "foxes") (3 ∷ 2 ∷ []) 1 → ⊥
 
--- Columns hashed by the hash that is the key itself: three keys of five bytes, and two numbers.
--- Each place begins with no bytes.
+-- Columns under the hash that gives its key back: three keys in a column of five bytes, and two
+-- numbers. Before the call each place holds the empty list.
 abbrev pub Column : List ℕ → List (List ℕ) → Result Unit ℕ → Type 0
 Column offsets = HashesEach (λ key. key) (codes "foxes") offsets ([] ∷ [] ∷ [] ∷ [])
 

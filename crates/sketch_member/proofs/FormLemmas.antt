@@ -4,7 +4,7 @@ use Rattle.std.specs.Prelude.{Contains, Option, None, Some, IfSome}
 use Rattle.std.proofs.lemmas.List.{take-append-drop, drop-drop, get_or-drop}
 use Rattle.std.proofs.lemmas.List.Elements.{All-from_get_or, All-take, All-drop, Contains-push_cases}
 use Rattle.datasketches.specs.Bytes.{AreBytes, le, eight}
-use Rattle.datasketches.proofs.BytesLemmas.{le-lt, low_bytes-le}
+use Rattle.datasketches.proofs.BytesLemmas.{low_bytes-le}
 use Rattle.sketch_member.specs.declared.fault.Fault.{Fault}
 use Rattle.sketch_member.specs.declared.fault.Fault.TheVariants.{MissingBits, TrailingBytes}
 use Rattle.sketch_member.specs.Faults.{IsFirstFault, IsFlag, bits_steps, header, header_steps, steps}
@@ -29,7 +29,7 @@ either m n x is = elim (Contains-push_cases (m ∷ []) n x is) [
     nothing : (k : ℕ) → k < 0 → ⊥
     nothing k h = omega arith
 
--- eight bytes from a place on are those of their number, a word
+-- eight bytes from a place on are those of their number
 eight_count : (bytes : List ℕ) (place : ℕ) → place + 8 ≤ length bytes →
     length (take 8 (drop place bytes)) ≡ 8
 eight_count bytes place there =
@@ -44,12 +44,6 @@ eight_back : (bytes : List ℕ) (place : ℕ) → AreBytes bytes → place + 8 �
 eight_back bytes place are there =
     rw (eight_count bytes place there)
     at (low_bytes-le (take 8 (drop place bytes)) (eight_are bytes place are))
-
-eight_word : (bytes : List ℕ) (place : ℕ) → AreBytes bytes → place + 8 ≤ length bytes →
-    IsWord (le (take 8 (drop place bytes)))
-eight_word bytes place are there =
-    rw (eight_count bytes place there)
-    at (le-lt (take 8 (drop place bytes)) (eight_are bytes place are))
 
 -- a list from a place on is those eight bytes and what is behind them
 eight_split : (bytes : List ℕ) (place : ℕ) → AreBytes bytes → place + 8 ≤ length bytes →

@@ -6,8 +6,7 @@ use Rattle.sketch_member.specs.Merge.{AreAlike, Merges}
 use Rattle.sketch_member.specs.Table.{Table, IsTable, IsSet, IsIndex, IsMember, Inserts, empty_table}
 
 -- The bytes of a table pass all steps of the reading, in either version, and those of a view in
--- version 2. Bytes are those of one
--- table at most. Version 1 keeps all of a table but its count.
+-- version 2. Bytes are those of one table at most. Version 1 keeps all of a table but its count.
 pub record FormLaw : Type 0 where
   pub passes : (table : Table) (bytes : List ℕ) → IsTable table → IsForm table bytes →
       AllPass (length bytes) (steps bytes)

@@ -73,8 +73,8 @@ impl MemberTable {
     ///
     /// # Errors
     ///
-    /// At bytes that are not all of a table: `InvalidData`, for the first fault in the order of
-    /// their places. Where the bits find no memory, as where the text of a refusal does:
+    /// Where the bytes are no table: `InvalidData`, for the first fault in the order of their
+    /// places. Where the bits find no memory, as where the text of a refusal does:
     /// `OutOfMemory`, with no message.
     pub fn from_bytes(alloc: Global, bytes: &[u8]) -> Result<MemberTable, Error>
         ensures { MatchResult result

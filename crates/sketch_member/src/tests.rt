@@ -28,8 +28,7 @@ const UNKNOWN_COUNT: [u8; 32] = [
     0,
 ];
 
-/// Asserts that two values are equal. As one function it is proved once, and not at each place; its
-/// clause says that it comes back only from equal values.
+/// Asserts that two values are equal.
 fn assert_same<T: PartialEq + Debug + Drop>(rt: &impl Abort, left: T, right: T)
     ensures { IsTrue (T.eq left right) }
 {

@@ -35,8 +35,8 @@ impl TableView<'_> {
     ///
     /// # Errors
     ///
-    /// At bytes that are not all of a table: the first fault in the order of their places. At a
-    /// table of version 1: [`Fault::Version1`].
+    /// Where the bytes are no table: the first fault in the order of their places. At a table of
+    /// version 1: [`Fault::Version1`].
     pub fn new(bytes: &[u8]) -> Result<TableView<'_>, Fault>
         ensures { MatchResult result (λ view. IsTable view × (bytes.now ≡ form2 view))
             (λ fault. IsFirstFault (length bytes.now) (view_steps bytes.now) fault) }

@@ -11,8 +11,7 @@ pub(crate) const FOX: &[u8] = b"The quick brown fox jumps over the lazy dog";
 
 pub(crate) const FOX_LINE: &str = "e34bbc7bbc071b6c7a433ca9c49a9347\n";
 
-// Asserts that two values are equal. As one function it is proved once, and not at each place; its
-// clause says that it comes back only from equal values.
+// Asserts that two values are equal.
 pub(crate) fn assert_same<T: PartialEq + Debug + Drop>(rt: &impl Abort, left: T, right: T)
     ensures { IsTrue (T.eq left right) }
 {

@@ -262,7 +262,7 @@ class MemberTable:
     """A table of members: it tells of a key whether it was inserted, is never wrong about one that
     was, and may be wrong about one that was not.
 
-    It has 2**log2_bits bits, of which each key sets as many as hashes says. A key is any bytes-like
+    It has 2**log2_bits bits, of which each key sets at most as many as hashes says. A key is any bytes-like
     object whose memory is contiguous. Of the calls on one object each waits for the others, so
     threads may share it.
     """

@@ -1,7 +1,7 @@
 //! Columns of keys: a call hashes all keys of a column.
 
 ghost use Rattle.std.specs.Prelude.{◌≡◌, ℕ, ◌+◌, ◌<◌, ◌≤◌, length, map, slice_index, MatchResult};
-ghost use Rattle.sketch_hash.specs.Columns.{HashesEach, HashesEachNumber, IsBound, AreBounds, IsFirstFault, key_at, murmur_words};
+ghost use Rattle.sketch_hash.specs.Columns.{HashesEach, HashesEachNumber, IsBound, AreBounds, IsFirstWrongOffset, key_at, murmur_words};
 ghost use Rattle.sketch_hash.specs.Xxh64.{xxh64};
 
 use super::murmurhash::MurmurHash3X64128;
@@ -116,7 +116,7 @@ impl MurmurHash3X64128 {
 fn check_offsets<O: Offset>(bytes: &[u8], offsets: &[O], keys: usize) -> Result<(), usize>
     requires { keys < usize.MAX }
     ensures { let places = map O.place offsets.now in MatchResult result
-        (λ _. AreBounds bytes.now places keys) (λ i. IsFirstFault bytes.now places keys i) }
+        (λ _. AreBounds bytes.now places keys) (λ i. IsFirstWrongOffset bytes.now places keys i) }
 {
     let mut last = 0;
     for i in 0..keys + 1 {

@@ -262,8 +262,8 @@ impl Hasher for XxHash64 {
     ghost empty_write = { xxh64_after-empty };
 }
 
-/// The hash of one key of many: without a call for a long one, and with a loop over the last words,
-/// as processors guess fewer of its branches wrong where lengths vary.
+/// The hash of one key of many. A long key takes no call, and the last words go through a loop:
+/// where lengths vary, processors mispredict fewer of its branches.
 #[inline(always)]
 pub(super) fn hash_one_of_many(bytes: &[u8], seed: u64) -> u64
     ensures { result ≡ xxh64 seed bytes.now }
@@ -277,7 +277,7 @@ pub(super) fn hash_one_of_many(bytes: &[u8], seed: u64) -> u64
     avalanche(fold_tail(hash, last))
 }
 
-// The hash of a stripe of bytes and more. In a call of its own it costs that of short keys nothing.
+// The hash of 32 bytes and more. It is a call of its own, so that it costs short keys nothing.
 #[inline(never)]
 fn hash_long(bytes: &[u8], seed: u64) -> u64
     requires { 32 ≤ length bytes.now }
@@ -355,7 +355,7 @@ fn fold_words(mut hash: u64, tail: &[u8]) -> (u64, &[u8])
     (hash, rest)
 }
 
-// The same without a loop: faster for one key, longer where it is inlined.
+// The same without a loop: faster for one key, but more code where it is inlined.
 #[inline(always)]
 fn fold_rest(mut hash: u64, tail: &[u8]) -> u64
     requires { length tail.now < 32 }

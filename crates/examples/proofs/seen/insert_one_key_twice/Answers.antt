@@ -2,7 +2,7 @@ use Rattle.std.proofs.Common.{◌≡◌, ◌∙◌, ℕ, List, [], ◌∷◌, re
 use Rattle.sketch_member.specs.Laws.{InsertLaw}
 use Rattle.sketch_member.specs.Table.{Table, Inserts, IsMember, IsSet, IsTable}
 use Rattle.examples.proofs.SeenLemmas.{of_two, same_values}
-use Rattle.examples.proofs.seen.insert_in_both_orders.Goals as goal
+use Rattle.examples.proofs.seen.insert_one_key_twice.Goals as goal
 
 -- what is promised of the tables, one after two inserts and the other after three
 record Promised (two three : Table) (x y : List ℕ) : Type 0 where
