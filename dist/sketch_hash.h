@@ -119,14 +119,17 @@ size_t sketch_murmur3_x64_128_each64(const void *input, size_t length, const uin
 size_t sketch_xxh64_each_u64(const uint64_t *values, size_t value_count, uint64_t seed,
                              uint64_t *out, size_t count);
 
-/* ---- A table of members: it tells of a key whether it was inserted, is never wrong about one that
- * was, and may be wrong about one that was not.
+/* ---- A table of members (a Bloom filter): it tells of a key whether it was inserted, is never wrong
+ * about one that was, and may be wrong about one that was not.
+ *
+ * With 7 hashes, about one other key in 100 is told as inserted where the table has 10 bits for each
+ * key, and one in 1000 where it has 15.
  *
  * A table is its bytes, which any machine reads and writes alike. They lie where the caller wants,
  * as in a file that is mapped. Each call checks the header, 24 bytes, and makes no pass over the
  * bits to do so. What a call refuses it leaves as it was. */
 
-/* What a call answers: the number of the first fault, in the order of the bytes. */
+/* What a call answers: the number of the first fault, in this order. */
 enum sketch_member_status {
     SKETCH_MEMBER_DONE = 0,
     SKETCH_MEMBER_HEADER_ENDS = -1,     /* the header is not all there */
@@ -139,7 +142,8 @@ enum sketch_member_status {
     SKETCH_MEMBER_UNKNOWN_COUNT = -8,   /* the count is unknown and not 0 */
     SKETCH_MEMBER_MISSING_BITS = -9,    /* there are fewer bytes than the bits need */
     SKETCH_MEMBER_TRAILING_BYTES = -10, /* there are more */
-    SKETCH_MEMBER_VERSION_1 = -11,      /* a table of version 1, which has no place for a count */
+    SKETCH_MEMBER_VERSION_1 = -11,      /* a table of version 1, which has no place for a count; no
+                                         * call here reads it */
     SKETCH_MEMBER_OTHER_SEED = -12,     /* two tables to be merged have other seeds, */
     SKETCH_MEMBER_OTHER_LOG2_BITS = -13, /* other sizes, */
     SKETCH_MEMBER_OTHER_HASHES = -14     /* or other numbers of hashes */
@@ -148,8 +152,9 @@ enum sketch_member_status {
 /* How many bytes a table of 2^log2_bits bits has: 24 + 2^log2_bits / 8; 0 outside of 6 to 20. */
 size_t sketch_member_size(unsigned log2_bits);
 
-/* Makes bytes a table without keys. Wanted are log2_bits of 6 to 20, hashes of 1 to 16, and a
- * length of as many bytes as sketch_member_size answers. */
+/* Makes bytes a table without keys. It refuses, in this order: log2_bits outside of 6 to 20, hashes
+ * outside of 1 to 16, and a length other than that of sketch_member_size (HEADER_ENDS below 24, else
+ * MISSING_BITS or TRAILING_BYTES). */
 int sketch_member_init(void *bytes, size_t length, uint64_t seed, unsigned log2_bits,
                        unsigned hashes);
 

@@ -16,10 +16,7 @@ export interface Stream {
     digest(): bigint;
     /** The digest in lower hexadecimal, 16 or 32 digits, the highest first. */
     hexdigest(): string;
-    /** Where each key of a column begins, and then where the last one ends: one more than keys. */
-export type Offsets = Uint32Array | Int32Array | BigUint64Array | BigInt64Array;
-
-/** A stream that goes on from here by itself. */
+    /** A stream that goes on from here by itself. */
     copy(): this;
     /** Drops all bytes, and keeps the seed where none is given. */
     reset(seed?: bigint): this;
@@ -32,8 +29,8 @@ export interface Library {
     murmur3X64_128(bytes: Input, seed?: bigint): bigint;
     /**
      * XXH64 of each key of a column, laid out as Apache Arrow does strings: key i is the bytes from
-     * offsets[i] up to offsets[i + 1]. The column is copied into the module's memory, which stays as
-     * large.
+     * offsets[i] up to offsets[i + 1]. The column is copied into the module's memory, which does not
+     * shrink afterwards.
      *
      * @throws {RangeError} with the index of the first offset that is missing, past the end or below
      * the one before; or where there is no memory for the column
@@ -52,6 +49,6 @@ export interface Library {
 /**
  * Loads the module: from sketch_hash.wasm beside this file, or from another URL or its bytes.
  *
- * @throws {Error} where the engine lacks 64-bit memories, or the module cannot be read
+ * @throws {Error} where the engine lacks 64-bit memories, or the module cannot be read, or is none
  */
 export function load(source?: URL | string | BufferSource): Promise<Library>;

@@ -3,7 +3,7 @@
 //
 //     import { load } from './sketch_hash.mjs';
 //     const { xxh64, Xxh64, xxh64Each } = await load();
-//     xxh64(new TextEncoder().encode('fox'), 0n);          // a BigInt
+//     xxh64(new TextEncoder().encode('fox'), 0n);          // a BigInt: .toString(16).padStart(16, '0')
 //     new Xxh64(0n).update(first).update(second).hexdigest();
 //     xxh64Each(bytes, Uint32Array.of(0, 3, 6));           // a BigUint64Array: the hash of each key
 //
@@ -16,10 +16,14 @@ const PIECE = 4 * PAGE; // of the input that is copied into the module's memory 
 const UNABLE = 'This engine lacks WebAssembly with 64-bit memories. Chrome and Edge have them from 133 on, '
     + 'Firefox from 134 on, Node from 24 on, and Node 20 under --experimental-wasm-memory64.';
 
+// A module that has such a memory and nothing else.
+const MEMORY64 = Uint8Array.of(0, 0x61, 0x73, 0x6d, 1, 0, 0, 0, 5, 3, 1, 4, 0);
+
 /** Loads the module: from sketch_hash.wasm beside this file, or from another URL or its bytes. */
 export async function load(source = new URL('sketch_hash.wasm', import.meta.url)) {
     const bytes = source instanceof URL || typeof source === 'string' ? await read(source) : source;
-    if (!globalThis.WebAssembly?.validate(bytes)) throw new Error(UNABLE);
+    if (!globalThis.WebAssembly?.validate(MEMORY64)) throw new Error(UNABLE);
+    if (!WebAssembly.validate(bytes)) throw new Error('what was loaded is no WebAssembly module, or is cut short');
     const { instance } = await WebAssembly.instantiate(bytes, {});
     return library(instance.exports);
 }
@@ -85,8 +89,8 @@ function library(calls) {
         return h1 << 64n | h2;
     }
 
-    // Runs a call over columns. Behind the hashes, from the place of the input on, lie the columns, the
-    // last one first, since the bytes are the first one and the others need places of their width.
+    // Runs a call over columns. The hashes lie from the place of the input on, and behind them the
+    // columns from the last to the first: offsets before the bytes, as they lie at multiples of their width.
     function each(call, columns, seed, count, size) {
         makeRoom(columns.reduce((sum, { byteLength }) => sum + byteLength, count * size));
         let end = begin + count * size;

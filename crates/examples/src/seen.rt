@@ -82,6 +82,14 @@ pub fn count_saved(alloc: Global, saved: &[u8]) -> Result<Option<u64>, Error>
     Ok(read_again(alloc, saved)?.count())
 }
 
+/// Whether saved bytes contain a key. Those of version 1 contain what their table does.
+pub fn is_saved(alloc: Global, saved: &[u8], key: &[u8]) -> Result<bool, Error>
+    ensures { (table : Table) → IsTable table → saved.now ≡ form1 table →
+        IfOk result (λ is_seen. IsTrue is_seen ↔ IsMember table key.now) }
+{
+    Ok(read_again(alloc, saved)?.contains(&raw_bytes::from_slice(key)))
+}
+
 /// Makes a table of keys twice, in `bytes` and in memory of its own, and answers the bytes of the
 /// second.
 pub fn see_keys_twice(

@@ -6,7 +6,7 @@ use crate::merging::merge_saved_twin;
 use crate::refusals::{
     check_seed, check_version, malformed, text_of_key, text_of_short, text_of_stopped,
 };
-use crate::seen::{count_saved, see_keys_twice};
+use crate::seen::{count_saved, is_saved, see_keys_twice};
 use crate::streams::usual_hashes;
 use datasketches::codec::{Short, Stopped};
 use datasketches::hash::value::{natural_extend, raw_bytes};
@@ -50,5 +50,6 @@ fn bytes_of_a_table_are_made_twice(rt: HostRuntime) -> Result<(), Fail> {
     assert_same(&rt, made.as_slice(), bytes.as_slice());
     assert_same(&rt, merge_saved_twin(&mut bytes, &made).is_ok(), true);
     assert_same(&rt, count_saved(alloc, &bytes)?, Some(2));
+    assert_same(&rt, is_saved(alloc, &bytes, b"fox")?, true);
     Ok(())
 }
