@@ -1,0 +1,159 @@
+"""What the sources of the crates ask for and promise, as docs/memory.md and docs/contracts.txt have it."""
+import hashlib
+import re
+
+
+def is_source(path):
+    """Whether a file is code of a crate, and no test."""
+    return bool(re.match(r"crates/(?!sketch_vectors/)\w+/src/.*\.rt$", path)) and "tests" not in path
+
+
+# ---- docs/memory.md
+
+# A call that is handed the allocator; and what a refusal that it makes is wrapped in.
+HANDED = r"(?:(Err\()(?:\w+\.)?)?([\w:]+!?)[(\[]\s*(?:in )?alloc\b"
+
+# Calls that can ask for memory without it, as methods or by their paths.
+ASKING = [
+    r"append", r"clone\w*", r"collect", r"concat", r"drain", r"extend", r"extend_from\w*", r"extend_with\w*",
+    r"insert", r"insert_\w+", r"into_owned", r"join", r"push\w*", r"repeat", r"replace\w*", r"reserve\w*",
+    r"resize\w*", r"shrink\w*", r"sort\w*", r"splice", r"split_off", r"to_mut", r"to_owned", r"to_vec", r"try_\w+",
+    r"write_all", r"write_fmt", r"write_str",
+]
+# What stands before those of them that ask for none: inserts into tables, writes to a formatter.
+OWN = ("header.insert", "table.insert", "seen.insert", "one.insert", "other.insert", "in_place::insert", "f.write_str")
+
+# What can make an error that tells of memory, or of a text that fails to print.
+TELLING = "|".join([
+    r"Err(?:::<.*?>)?\((?:self|\w*Error)\)", r"AllocError", r"OutOfMemory", r"NoMemory", r"fmt::Error", r"Error::from\(",
+    r"\bDefault::default", r"(?<!UnexpectedEof)\.into\(\)", r"\bwrite(?:ln)?!\((?!\s*f\b)",
+])
+
+CALLS = re.compile(rf"{HANDED}|(?:\.|::)({'|'.join(ASKING)})\b(?=\(|::)\(?(?:alloc\b)?|\b(alloc)\b|({TELLING})")
+
+
+def rest_of_call(code, at):
+    """What stands from a place between the brackets of a call to their end."""
+    depth, end = 1, at
+    while depth:
+        depth += (code[end] in "([") - (code[end] in ")]")
+        end += 1
+    return code[at : end - 1].strip(" ,;")
+
+
+def requests_of(body):
+    """The calls of a body that are handed the allocator or let a list grow, and the errors that it makes. An
+    error that is returned where it is made is shown as `Err(f(..))`, a request for memory with its size."""
+    code = re.sub(r"//.*", "", body)
+    found = []
+    for match in CALLS.finditer(code):
+        is_handed_back, *names = match.groups()
+        name = next(filter(None, names))
+        if code[: match.end()].rstrip("(").endswith(OWN):
+            continue
+        if re.search(r"\b(with_capacity|reserve\w*|resize\w*|vec!)$", name):
+            name = f"{name}({rest_of_call(code, match.end())})"
+        found.append(f"Err({name}(..))" if is_handed_back else name)
+    return found
+
+
+def tellings_of(body):
+    """The lines of a body that tell of memory by themselves; a `return` alone with the line before it."""
+    lines = [re.sub(r" *//.*", "", line).strip() for line in body.split("\n")]
+    return [
+        f"{lines[at - 1]} {line}" if line.startswith("return") else line
+        for at, line in enumerate(lines)
+        if re.search(TELLING, line)
+    ]
+
+
+FUNCTIONS = re.compile(
+    r"^( *)(?:pub(?:\([a-z]+\))? )?(?:(?:const|final|unsafe|extern \"C\") )*fn (\w+)(.*?)^\1(?:\}|\{\})$", re.M | re.S
+)
+
+
+def requests(tree):
+    """The same of each function of the sources that has some, as lines of docs/memory.md."""
+    rows = []
+    for path in filter(is_source, sorted(tree)):
+        for _, name, body in FUNCTIONS.findall(tree[path]):
+            start = re.search(r"^ *\{$|\{$", body, re.M)
+            calls = requests_of(body[start.end():]) if start else []
+            if calls:
+                rows.append(f"| `{path[7:]}` | `{name}` | {', '.join(f'`{call}`' for call in calls)} |")
+                rows += [f"    {name}: {line}" for line in tellings_of(body[start.end():])]
+    return rows
+
+
+# Traits that a compiler can derive, and the types that have one by hand: no clause speaks of them.
+DERIVED = ("Clone", "Copy", "Debug", "Default", "Drop", "Eq", "Hash", "Ord", "PartialEq", "PartialOrd")
+BY_HAND = {
+    ("Debug", "Error"), ("Debug", "MurmurHash3X64128"), ("Debug", "Value<T, S>"), ("Debug", "XxHash64"),
+    ("Default", "MurmurHash3X64128"), ("Default", "XxHash64"), ("Hash", "Point"), ("Hash", "Value<T, S>"),
+}
+IMPLEMENTATIONS = re.compile(r"^(\s*(?:unsafe )?impl\b.*?(\w+)(?:<.*>)? for (.+) \{)", re.M)
+
+# Lines that hide something from the above: another name, an error for memory as a constant, a macro. And
+# texts that depend on how they are to be printed.
+HIDING = re.compile("|".join([
+    rf"^.*\b(?:AllocError|Error|OutOfMemory|Global|{'|'.join(DERIVED)}) as \w+.*",
+    r"^use std::fmt\b.*\bError\b.*",
+    r"^\s*(?:pub(?:\(\w+\))? )?(?:const|static|type)\b(?! fn).*(?:AllocError|OutOfMemory|NoMemory).*",
+    r"^.*\b(?:macro_rules!|include!).*",
+    r"^.*[.:](?:alternate|pad\w*|precision|width|sign\w*)\((?<!kind\(\)\.width\().*",
+]), re.M)
+
+
+def written_by_hand(text):
+    """What a source has by hand beyond BY_HAND, and the lines that hide something."""
+    found = [
+        line.strip()
+        for line, trait, name in IMPLEMENTATIONS.findall(text)
+        if trait in DERIVED
+        and (trait, name) not in BY_HAND
+        and not (trait == "Hash" and re.fullmatch(r"[ui]\d+", name))
+    ]
+    return found + HIDING.findall(text)
+
+
+# ---- docs/contracts.txt
+
+def heads(text):
+    """The lines of a source that promise something: of each function that others can call its signature and
+    its clauses, of types and implementations their heads, and what their ghost fields say."""
+    found, depth, is_open = [], None, False
+    for line in text.split("\n"):
+        if depth is None:
+            start = re.match(r" *(pub(?:\(\w+\))? |unsafe |extern \"C\" |const |final )*(fn|ghost|impl|trait|struct|enum)\b(?! use)", line)
+            if not start:
+                continue
+            kind = start.group(2)
+            if kind in ("impl", "trait"):
+                is_open = kind == "trait" or " for " in line
+            elif kind == "fn" and not start.group(1) and not (is_open and line.startswith(" ")):
+                continue
+            depth = 0
+        depth += line.count("{") - line.count("}")
+        if line.strip() not in ("{", "{}"):
+            found.append(line)
+        # Here a body begins, or there is none.
+        if depth == 1 and line.endswith("{") or depth == 0 and line.endswith(("{}", ";")):
+            depth = None
+    return found
+
+
+def contracts(tree):
+    """What docs/contracts.txt says: the sums of the definitions, and the heads of each source but the tests."""
+    lines = [CONTRACTS_HEAD]
+    for path in sorted(tree):
+        if re.match(r"crates/\w+/specs/.*\.antt$", path):
+            lines.append(f"{hashlib.sha256(tree[path].encode()).hexdigest()}  {path}")
+    for path in sorted(tree):
+        if is_source(path) and heads(tree[path]):
+            lines += ["", f"== {path[7:]}", "", *heads(tree[path])]
+    return "\n".join(lines) + "\n"
+
+
+CONTRACTS_HEAD = """What is promised, in one place: written by `python3 .ci/documents --write`, compared by the gate.
+First the sums of the definitions, then the clauses of each function that others can call, file by file.
+"""
