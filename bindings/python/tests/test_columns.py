@@ -88,6 +88,8 @@ REFUSED = [
     [1, 2],
     (DATA, DATA),
     (DATA, numpy.zeros(4, "uint16")),
+    (DATA, numpy.zeros(4, "float32")),
+    memoryview(bytearray(20))[4:12].cast("Q"),
     ("text", numpy.zeros(4, "uint32")),
     5,
 ]

@@ -8,8 +8,9 @@ import sys
 import pytest
 
 FOX = b"The quick brown fox jumps over the lazy dog"
+LONG = "import sketch_hash; print(sketch_hash.xxh64_hexdigest(bytes(2_500_000)), end='')"
 XXH64, MURMUR = b"0b242d361fda71bc", b"e34bbc7bbc071b6c7a433ca9c49a9347"
-NAMES = [b"fox", b"a b", b" front", b"new\nline", b"back\\slash", b"\\n", b"\xff\xfe", b"  two"]
+NAMES = [b"return\rline", b"fox", b"a b", b" front", b"new\nline", b"back\\slash", b"\\n", b"\xff\xfe", b"  two"]
 
 
 @pytest.fixture(autouse=True)
@@ -31,7 +32,19 @@ def test_a_file_and_standard_input():
     assert run("fox", "-", input=b"")[1] == XXH64 + b"  fox\nef46db3751d8e999  -\n"
 
 
+def test_a_file_longer_than_a_read():
+    with open("long", "wb") as file:
+        file.write(bytes(2_500_000))
+    expected = subprocess.run([sys.executable, "-c", LONG], capture_output=True).stdout
+    assert run("long")[1] == expected + b"  long\n"
+    feeder = subprocess.Popen(["sh", "-c", "cat fox; sleep 0.2; cat fox"], stdout=subprocess.PIPE)
+    assert run(stdin=feeder.stdout)[1] == run(input=FOX * 2)[1] != run(input=FOX)[1]
+    feeder.wait()
+    feeder.stdout.close()
+
+
 def test_seeds():
+    assert run("--seed", "0x10", "fox") == run("--seed", "16", "fox")
     assert run("--seed", "18446744073709551615", "fox")[1] != run("fox")[1]
     for seed in ("18446744073709551616", "-1", "many", "1.5"):
         status, output, complaint = run("--seed", seed, "fox")
@@ -67,7 +80,13 @@ def test_check_tells_what_is_wrong():
     assert output == b"fox: OK\nfox: FAILED\nmissing: FAILED to open or read\n"
     for words in (b"1 improperly formatted", b"1 file(s) could not", b"1 computed hash"):
         assert words in complaint
-    assert run("-c", input=b"")[0] == 1
+    good, bad = XXH64 + b"  fox\n", b"0" * 16 + b"  fox\n"
+    for lines in (good + b"no hash\n", good + XXH64 + b"  missing\n", good + bad):
+        assert run("-c", input=lines)[0] == 1
+    assert run("-cq", input=good + bad)[1] == b"fox: FAILED\n"
+    assert run("-c", "-", "missing", input=good)[0] == 1
+    status, output, complaint = run("-c", input=b"")
+    assert (status, output) == (1, b"") and b"no line with a hash" in complaint
     assert run("-c", "missing")[0] == 1
 
 

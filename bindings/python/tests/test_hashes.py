@@ -2,6 +2,7 @@
 import array
 import doctest
 import mmap
+import os
 import random
 
 import peers
@@ -88,6 +89,33 @@ def test_reset_keeps_the_seed(kind):
     assert hasher.digest() == kind(FOX, seed=1 << 63).digest()
 
 
+def test_what_they_are_called():
+    assert (xxh64.name, murmur3_x64_128.name) == ("XXH64", "MURMUR3_X64_128")
+    assert sketch_hash.algorithms_available == {"xxh64", "murmur3_x64_128"}
+    with open(os.path.join(os.path.dirname(__file__), "..", "pyproject.toml")) as file:
+        assert f'version = "{sketch_hash.__version__}"' in file.read()
+
+
+@pytest.mark.parametrize("kind", KINDS)
+def test_each_call_waits_for_the_others(kind):
+    hasher, entered = kind(b"fox"), []
+
+    class Spy:
+        def __enter__(self):
+            entered.append(1)
+
+        def __exit__(self, *_):
+            pass
+
+    hasher._lock = Spy()
+    for call in (
+        lambda: hasher.update(b"fox"), hasher.digest, hasher.hexdigest, hasher.intdigest, hasher.copy, hasher.reset
+    ):
+        entered.clear()
+        call()
+        assert entered == [1]
+
+
 @pytest.mark.parametrize("kind", KINDS)
 def test_lengths_past_32_bits(kind):
     """The zeros are never written, so they take no memory."""
@@ -108,6 +136,10 @@ def test_lengths_past_32_bits(kind):
             tables = [sketch_hash.MemberTable(6, 1, (1 << 64) - 1) for _ in range(2)]
             tables[0].insert(zeros)
             tables[1].insert_each((zeros, array.array("Q", [0, len(zeros)])))
+            # Offsets of 32 bits have no sign.
+            short = sketch_hash.MemberTable(6, 1)
+            short.insert_each((zeros, array.array("I", [1 << 31, (1 << 31) + 3])))
+            assert bytes(3) in short and short.count == 1
             for table in tables:
                 assert int.from_bytes(table.to_bytes()[24:], "little") == 1 << answers[kind] % 64
                 assert zeros in table and b"fox" not in table

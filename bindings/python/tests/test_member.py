@@ -244,6 +244,10 @@ def test_equal_tables_are_equal():
     other = filled()
     other.insert(KEYS[0])
     assert filled() != other and filled() != filled().to_bytes()
+    assert MemberTable(10, 3, SEED) != MemberTable(10, 3, SEED + 1)
+    assert MemberTable(10, 3, SEED) != MemberTable(10, 4, SEED) != MemberTable(11, 4, SEED)
+    with pytest.raises(TypeError, match="unhashable"):
+        hash(other)
 
 
 def test_columns_that_are_refused():
@@ -266,6 +270,7 @@ def test_a_column_that_lies_in_the_table_is_refused():
         (part[size - 1 :], numpy.zeros(2, "u4")),
         (b"fox", part[size - 8 : size + 8].cast("I")),
         (b"fox", part[size - 8 : size + 8].cast("Q")),
+        (b"fox", part[size - 24 : size].cast("Q")),
     ):
         with pytest.raises(ValueError, match="the key lies in the bytes of the table"):
             view.insert_each(column)
@@ -399,6 +404,43 @@ def test_threads_that_share_a_table():
     assert [table.to_bytes() for table in tables] == [expected] * 2
 
 
+def test_each_call_waits_for_the_others():
+    table, other, entered = filled(), filled(), []
+
+    class Spy:
+        def __enter__(self):
+            entered.append(1)
+
+        def __exit__(self, *_):
+            pass
+
+    table._lock = Spy()
+    numbers = numpy.arange(3, dtype="u8")
+    for call in (
+        lambda: table.insert(b"fox"),
+        lambda: table.insert_each(numbers),
+        lambda: table.contains_each(numbers),
+        lambda: b"fox" in table,
+        lambda: table.count,
+        lambda: table.seed,
+        lambda: table.log2_bits,
+        lambda: table.hashes,
+        lambda: table.merge(other),
+        lambda: table.to_bytes(),
+        lambda: other.merge(table),
+    ):
+        entered.clear()
+        call()
+        assert entered == [1]
+
+
+def test_a_copy_is_of_the_same_kind():
+    class Named(MemberTable):
+        pass
+
+    assert type(Named(6, 1).copy()) is Named
+
+
 def test_tables_that_are_merged_into_each_other():
     """No thread waits for ever."""
     one, two = filled(keys=[b"one"]), filled(keys=[b"two"])
@@ -428,9 +470,12 @@ def test_short_calls_keep_the_lock_of_python(ticks):  # noqa: F811
 def test_long_calls_give_up_the_lock_of_python(ticks):  # noqa: F811
     """The other thread may be late on a busy machine, so it is given ten seconds."""
     key, table, other = bytes(1 << 24), MemberTable(20, 1), MemberTable(20, 1)
+    offsets = numpy.zeros(1 << 20, "u4")
     calls = [
         lambda: table.insert(key),
         lambda: table.insert_each(memoryview(key).cast("Q")),
+        lambda: table.insert_each((b"", offsets)),
+        lambda: table.contains_each((b"", offsets)),
         lambda: key in table,
         lambda: table.merge(other),
     ]

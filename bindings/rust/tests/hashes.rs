@@ -3,7 +3,7 @@
 mod plain;
 
 use sketch_hash::{murmur3_x64_128, xxh64, xxh64_u64, BuildMurmur3X64_128, BuildXxh64};
-use sketch_hash::{Murmur3X64_128, Xxh64};
+use sketch_hash::{murmur3_x64_128_each, xxh64_each, MemberTable, Murmur3X64_128, Xxh64};
 use std::collections::HashMap;
 use std::hash::{BuildHasher, Hash, Hasher};
 
@@ -100,6 +100,58 @@ fn a_number_and_more_are_all_their_bytes() {
     assert_eq!(other.digest(), xxh64(b"\x01\0\0\0\0\0\0\0fox", 9001));
 }
 
+/// Each write of a number feeds its bytes, the lowest first.
+#[test]
+fn each_number_feeds_its_bytes() {
+    fn feed(hasher: &mut impl Hasher, word: u128) {
+        hasher.write_u8(word as u8);
+        hasher.write_u16(word as u16);
+        hasher.write_u32(word as u32);
+        hasher.write_u64(word as u64);
+        hasher.write_u128(word);
+        hasher.write_usize(word as usize);
+        hasher.write_i8(word as i8);
+        hasher.write_i16(word as i16);
+        hasher.write_i32(word as i32);
+        hasher.write_i64(word as i64);
+    }
+    let word = 0x8f1e_2d3c_4b5a_6978_8796_a5b4_c3d2_e1f0_u128;
+    let mut bytes = Vec::new();
+    for width in [1, 2, 4, 8, 16, 8, 1, 2, 4, 8] {
+        bytes.extend(&word.to_le_bytes()[..width]);
+    }
+    let (mut x, mut m) = (Xxh64::new(7), Murmur3X64_128::new(7));
+    feed(&mut x, word);
+    feed(&mut m, word);
+    assert_eq!(x.digest(), xxh64(&bytes, 7));
+    assert_eq!(m.digest(), murmur3_x64_128(&bytes, 7));
+    for (width, first) in [(1, true), (2, true), (4, true), (8, true), (4, false)] {
+        let (mut x, mut m) = (Xxh64::new(7), Murmur3X64_128::new(7));
+        match (width, first) {
+            (1, _) => (x.write_u8(0xf0), m.write_u8(0xf0)),
+            (2, _) => (x.write_u16(0xe1f0), m.write_u16(0xe1f0)),
+            (4, true) => (x.write_u32(0xc3d2_e1f0), m.write_u32(0xc3d2_e1f0)),
+            (4, _) => (x.write_i32(word as i32), m.write_i32(word as i32)),
+            _ => (x.write_u64(word as u64), m.write_u64(word as u64)),
+        };
+        assert_eq!(x.digest(), xxh64(&word.to_le_bytes()[..width], 7));
+        assert_eq!(m.digest(), murmur3_x64_128(&word.to_le_bytes()[..width], 7));
+    }
+}
+
+/// A map's hashers may be made where a constant is wanted, begin with seed 0, and compare by all of
+/// their seeds.
+#[test]
+fn what_makes_hashers() {
+    const X: BuildXxh64 = BuildXxh64::new(1 << 32);
+    const M: BuildMurmur3X64_128 = BuildMurmur3X64_128::new(1 << 32);
+    assert_eq!((X, M), (BuildXxh64::new(1 << 32), BuildMurmur3X64_128::new(1 << 32)));
+    assert_ne!(X, BuildXxh64::default());
+    assert_ne!(M, BuildMurmur3X64_128::default());
+    assert_eq!(BuildXxh64::default().hash_one(5_u64), xxh64_u64(5, 0));
+    assert_eq!(BuildMurmur3X64_128::default().build_hasher().digest(), murmur3_x64_128(&[], 0));
+}
+
 #[test]
 fn copies_go_their_own_ways() {
     let (mut x, mut m) = (Xxh64::default(), Murmur3X64_128::default());
@@ -114,6 +166,9 @@ fn copies_go_their_own_ways() {
     assert_eq!(m2.digest(), murmur3_x64_128(FOX, 0));
     assert_eq!(format!("{x2:?}"), "Xxh64 { seed: 0, length: 43 }");
     assert_eq!(format!("{m2:?}"), "Murmur3X64_128 { length: 43, .. }");
+    let mut few = Xxh64::new(5);
+    few.update(b"fox");
+    assert_eq!(format!("{few:?}"), "Xxh64 { seed: 5, length: 3 }");
 }
 
 #[test]
@@ -176,4 +231,19 @@ fn lengths_past_32_bits() {
     hasher.update(&zeros);
     assert_eq!(murmur3_x64_128(&zeros, u64::MAX), hasher.digest());
     assert_eq!(hasher.digest(), (0x0b42_f570_045f_be6c, 0xe4db_2f08_1f3a_e5b5));
+    assert_eq!(format!("{hasher:?}"), "Murmur3X64_128 { length: 4294967333, .. }");
+    let mut out = [0];
+    xxh64_each(&zeros, &[0_u64, zeros.len() as u64], u64::MAX, &mut out).unwrap();
+    assert_eq!(out, [0x9ae5_8395_6774_714e]);
+    let mut out = [[0; 2]];
+    murmur3_x64_128_each(&zeros, &[0_u64, zeros.len() as u64], u64::MAX, &mut out).unwrap();
+    assert_eq!(out, [[0x0b42_f570_045f_be6c, 0xe4db_2f08_1f3a_e5b5]]);
+    let mut table = MemberTable::new(u64::MAX, 6, 1).unwrap();
+    table.insert(&zeros);
+    assert_eq!(word_of(&table.as_bytes()[24..]), 1 << (0x9ae5_8395_6774_714e_u64 % 64));
+    assert!(table.contains(&zeros));
+}
+
+fn word_of(bytes: &[u8]) -> u64 {
+    u64::from_le_bytes(bytes.try_into().unwrap())
 }

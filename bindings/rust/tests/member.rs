@@ -193,4 +193,30 @@ fn what_is_printed() {
     assert_eq!(text, expected);
     let error: Box<dyn std::error::Error> = Box::new(MemberTable::new(0, 5, 1).unwrap_err());
     assert_eq!(error.to_string(), "log2_bits is not 6 to 20");
+    for (error, text) in [
+        (TableError::HeaderEnds, "the header is not all there"),
+        (TableError::PreambleLongs, "byte 0 is neither 2 nor 3"),
+        (TableError::SerialVersion, "byte 1 is not one less than byte 0"),
+        (TableError::Family, "byte 2 is not 200"),
+        (TableError::Hashes, "hashes is not 1 to 16"),
+        (TableError::Reserved, "bytes 5 to 7 are not as they have to be"),
+        (TableError::UnknownCount, "the count is unknown and not 0"),
+        (TableError::MissingBits, "there are fewer bytes than the bits need"),
+        (TableError::TrailingBytes, "there are more bytes than the bits need"),
+        (TableError::Version1, "a table of version 1, which has no place for a count"),
+        (TableError::OtherSeed, "the tables have different seeds"),
+        (TableError::OtherLog2Bits, "the tables have different sizes"),
+        (TableError::OtherHashes, "the tables have different numbers of hashes"),
+    ] {
+        assert_eq!(error.to_string(), text);
+    }
+}
+
+#[test]
+fn tables_are_equal_where_their_bytes_are() {
+    let table = filled(10, 3, 0..20);
+    assert_eq!(table, filled(10, 3, 0..20));
+    assert_ne!(table, filled(10, 3, 0..21));
+    assert_ne!(MemberTable::new(1, 10, 3), MemberTable::new(2, 10, 3));
+    assert_ne!(MemberTable::new(1, 10, 3), MemberTable::new(1, 10, 4));
 }
