@@ -60,6 +60,11 @@ for (const offsets of [narrow, Int32Array.from(narrow), wide, BigInt64Array.from
     }
 }
 assert.throws(() => xxh64Each(all, Int32Array.of(0, -1)), /the offset at 1 is/);
+const far = new Uint32Array(70_000);
+far[65_535] = long.length + 1;
+assert.throws(() => xxh64Each(long, far), /the offset at 65535 is/);
+class Named extends Xxh64 {}
+assert.ok(new Named(7n).copy() instanceof Named);
 const ends = Uint32Array.from({ length: 300_001 }, (_, at) => at * 10);
 const before = new Xxh64(5n).update(long.subarray(0, 99));
 const hashes = xxh64Each(long, ends, 5n);
@@ -105,6 +110,13 @@ assert.equal((await load(String(new URL('sketch_hash.wasm', dist)))).xxh64(fox),
 for (const part of [bytes.subarray(1), bytes.subarray(0, 1000), new ArrayBuffer(0)]) {
     await assert.rejects(load(part), /no WebAssembly module, or is cut short/);
 }
+assert.equal((await load('sketch_hash.wasm')).xxh64(fox), xxh64(fox));
+const { fetch } = globalThis;
+globalThis.fetch = async () => new Response(bytes, { status: 404, statusText: 'Not Found' });
+await assert.rejects(load('https://localhost/sketch_hash.wasm'), /404 Not Found/);
+globalThis.fetch = async () => new Response(bytes);
+assert.equal((await load('https://localhost/sketch_hash.wasm')).xxh64(fox), xxh64(fox));
+globalThis.fetch = fetch;
 const { validate } = WebAssembly;
 WebAssembly.validate = () => false;
 await assert.rejects(load(bytes), /64-bit memories.*Firefox from 134/);

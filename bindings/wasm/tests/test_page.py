@@ -168,6 +168,11 @@ def test_files_that_are_dropped(page):
         """
         const dropped = new DataTransfer();
         for (const name of ['first', 'second']) dropped.items.add(new File([name], name));
+        const isOver = () => document.getElementById('drop').classList.contains('over');
+        for (const [type, over] of [['dragover', true], ['dragleave', false]]) {
+            document.body.dispatchEvent(new DragEvent(type, { dataTransfer: dropped, bubbles: true, cancelable: true }));
+            if (isOver() !== over) throw new Error(type);
+        }
         for (const type of ['dragover', 'drop']) {
             const event = new DragEvent(type, { dataTransfer: dropped, bubbles: true, cancelable: true });
             if (document.body.dispatchEvent(event)) throw new Error(`${type}: the browser would open the file`);
@@ -191,6 +196,18 @@ def test_copy(page, files):
     assert page.chromium.execute_script("return window.copied") == expected
 
 
+def test_copy_where_the_clipboard_is_refused(page, files):
+    page.chromium.execute_script(
+        "navigator.clipboard.writeText = () => Promise.reject(); document.execCommand = () => false"
+    )
+    page.choose(*files(fox=FOX))
+    page.wait_for("fox", "done")
+    page.row("fox").find_element(By.CSS_SELECTOR, "button.copy").click()
+    page.wait_for("fox", "selected")
+    selected = page.chromium.execute_script("return getSelection().toString()")
+    assert selected.split() == list(FOX_HASHES)
+
+
 def sparse(path, size):
     with open(path, "wb") as file:
         file.truncate(size)
@@ -206,9 +223,30 @@ def test_stop_in_the_middle(page, tmp_path, files):
     page.row("endless").find_element(By.CSS_SELECTOR, "button.stop").click()
     page.wait_for("endless", "stopped")
     assert page.hashes("endless") == ("", "")
+    page.set_seed("7")
+    page.wait(lambda: page.hashes("fox") == hashes(FOX, 7))
+    assert "stopped" in page.text("endless", "td.status")
+    page.set_seed("0")
     page.choose(*files(after=b"after"))
     page.wait_for("after", "done")
     assert page.hashes("after") == hashes(b"after")
+
+
+def test_stop_before_the_beginning(page, tmp_path):
+    """Four files are read at a time; a fifth one waits."""
+    names = [f"endless{n}" for n in range(5)]
+    for name in names:
+        page.choose(sparse(tmp_path / name, 1 << 36))
+    for name in reversed(names):
+        page.row(name).find_element(By.CSS_SELECTOR, "button.stop").click()
+        page.wait_for(name, "stopped")
+
+
+def test_sizes(page):
+    sizes = "return [0, 1023, 1024, 1536, 1048575, 1048576, 1 << 30, 2 ** 50].map(size)"
+    assert page.chromium.execute_script(sizes) == [
+        "0 bytes", "1023 bytes", "1.0 KiB", "1.5 KiB", "1024.0 KiB", "1.0 MiB", "1.0 GiB", "1024.0 TiB"
+    ]
 
 
 def test_the_page_does_not_stand_still(page, tmp_path):
@@ -271,3 +309,14 @@ def test_an_engine_without_64_bit_memories(chromium, tmp_path):
     chromium.get((tmp_path / "page.html").as_uri())
     page = Page(chromium)
     page.wait(lambda: "Firefox from 134" in page.one("#unable").text)
+
+
+def test_a_worker_that_does_not_start(chromium, tmp_path):
+    text = (DIST / "wasm/index.html").read_text()
+    changed = text.replace("onmessage = async", "throw new Error('no start'); onmessage = async")
+    assert changed != text
+    (tmp_path / "page.html").write_text(changed)
+    chromium.get((tmp_path / "page.html").as_uri())
+    page = Page(chromium)
+    page.wait(lambda: "The worker did not start" in page.one("#unable").text)
+    chromium.get_log("browser")
