@@ -26,7 +26,7 @@ OWN = ("header.insert", "table.insert", "seen.insert", "one.insert", "other.inse
 # What can make an error that tells of memory, or of a text that fails to print.
 TELLING = "|".join([
     r"Err(?:::<.*?>)?\((?:self|\w*Error)\)", r"AllocError", r"OutOfMemory", r"NoMemory", r"fmt::Error", r"Error::from\(",
-    r"\bDefault::default", r"(?<!UnexpectedEof)\.into\(\)", r"\bwrite(?:ln)?!\((?!\s*f\b)",
+    r"(?<!MurmurHash3X64128)(?<!XxHash64)::default\b", r"(?<!UnexpectedEof)\.into\(\)", r"\bwrite(?:ln)?!\((?!\s*f\b)",
 ])
 
 CALLS = re.compile(rf"{HANDED}|(?:\.|::)({'|'.join(ASKING)})\b(?=\(|::)\(?(?:alloc\b)?|\b(alloc)\b|({TELLING})")
@@ -43,7 +43,8 @@ def rest_of_call(code, at):
 
 def requests_of(body):
     """The calls of a body that are handed the allocator or let a list grow, and the errors that it makes. An
-    error that is returned where it is made is shown as `Err(f(..))`, a request for memory with its size."""
+    error that is returned where it is made is shown as `Err(f(..))`, a request for memory with its size, and
+    what a closure does, perhaps more than once, as `closure(f)`."""
     code = re.sub(r"//.*", "", body)
     found = []
     for match in CALLS.finditer(code):
@@ -53,7 +54,9 @@ def requests_of(body):
             continue
         if re.search(r"\b(with_capacity|reserve\w*|resize\w*|vec!)$", name):
             name = f"{name}({rest_of_call(code, match.end())})"
-        found.append(f"Err({name}(..))" if is_handed_back else name)
+        line = code[code.rfind("\n", 0, match.start()) + 1 : match.start()]
+        is_in_closure = re.search(r"\|[^|]*\|", line)
+        found.append(f"Err({name}(..))" if is_handed_back else f"closure({name})" if is_in_closure else name)
     return found
 
 
