@@ -27,9 +27,13 @@ OWN = ("header.insert", "table.insert", "seen.insert", "one.insert", "other.inse
 TELLING = "|".join([
     r"Err(?:::<.*?>)?\((?:self|\w*Error)\)", r"AllocError", r"OutOfMemory", r"NoMemory", r"fmt::Error", r"Error::from\(",
     r"(?<!MurmurHash3X64128)(?<!XxHash64)::default\b", r"(?<!UnexpectedEof)\.into\(\)", r"\bwrite(?:ln)?!\((?!\s*f\b)",
+    r"\bok_or(?:_else)?\(\w*Error\)",
 ])
 
-CALLS = re.compile(rf"{HANDED}|(?:\.|::)({'|'.join(ASKING)})\b(?=\(|::)\(?(?:alloc\b)?|\b(alloc)\b|({TELLING})")
+CALLS = re.compile(
+    rf"{HANDED}|(?:\.|::)({'|'.join(ASKING)})\b(?=\(|::)\(?(?:alloc\b)?|"
+    rf"\b(alloc)\b|({TELLING})|\b(writer\.write(?:_\w+)?)\b(?=\()"
+)
 
 
 def rest_of_call(code, at):
@@ -97,10 +101,11 @@ BY_HAND = {
 IMPLEMENTATIONS = re.compile(r"^(\s*(?:unsafe )?impl\b.*?(\w+)(?:<.*>)? for (.+) \{)", re.M)
 
 # Lines that hide something from the above: another name, an error for memory as a constant, a macro. And
-# texts that depend on how they are to be printed.
+# texts that depend on how they are to be printed, and closures of several lines.
 HIDING = re.compile("|".join([
     rf"^.*\b(?:AllocError|Error|OutOfMemory|Global|{'|'.join(DERIVED)}) as \w+.*",
-    r"^use std::fmt\b.*\bError\b.*",
+    r"^\s*use (?:std::)?fmt\b.*(?:\bError\b|\*).*",
+    r"^.*= (?:move )?\|[^|\n]*\| \{$",
     r"^\s*(?:pub(?:\(\w+\))? )?(?:const|static|type)\b(?! fn).*(?:AllocError|OutOfMemory|NoMemory).*",
     r"^.*\b(?:macro_rules!|include!).*",
     r"^.*[.:](?:alternate|pad\w*|precision|width|sign\w*)\((?<!kind\(\)\.width\().*",
