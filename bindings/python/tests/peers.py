@@ -1,4 +1,5 @@
-"""Murmur in plain Python, written from its published definition: a peer that shares no code."""
+"""A Murmur in plain Python, written from its published definition, and a lock that counts: peers of the tests that
+share no code with the package."""
 
 WORD = (1 << 64) - 1
 C1, C2 = 0x87C37B91114253D5, 0x4CF5AD432745937F
@@ -34,3 +35,15 @@ def murmur3_x64_128(data, seed):
     e1, e2 = end(h1), end(h2)
     first = e1 + e2 & WORD
     return first << 64 | e2 + first & WORD
+
+
+class CountedLock:
+    """In the place of an object's lock: how often it was taken."""
+
+    count = 0
+
+    def __enter__(self):
+        self.count += 1
+
+    def __exit__(self, *_):
+        pass

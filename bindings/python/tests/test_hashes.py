@@ -98,22 +98,14 @@ def test_what_they_are_called():
 
 @pytest.mark.parametrize("kind", KINDS)
 def test_each_call_waits_for_the_others(kind):
-    hasher, entered = kind(b"fox"), []
-
-    class Spy:
-        def __enter__(self):
-            entered.append(1)
-
-        def __exit__(self, *_):
-            pass
-
-    hasher._lock = Spy()
+    hasher, lock = kind(b"fox"), peers.CountedLock()
+    hasher._lock = lock
     for call in (
         lambda: hasher.update(b"fox"), hasher.digest, hasher.hexdigest, hasher.intdigest, hasher.copy, hasher.reset
     ):
-        entered.clear()
+        before = lock.count
         call()
-        assert entered == [1]
+        assert lock.count == before + 1
 
 
 @pytest.mark.parametrize("kind", KINDS)

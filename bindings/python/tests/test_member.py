@@ -9,6 +9,7 @@ import threading
 import time
 
 import numpy
+import peers
 import pytest
 import xxhash
 from sketch_hash import MemberTable
@@ -405,16 +406,8 @@ def test_threads_that_share_a_table():
 
 
 def test_each_call_waits_for_the_others():
-    table, other, entered = filled(), filled(), []
-
-    class Spy:
-        def __enter__(self):
-            entered.append(1)
-
-        def __exit__(self, *_):
-            pass
-
-    table._lock = Spy()
+    table, other, lock = filled(), filled(), peers.CountedLock()
+    table._lock = lock
     numbers = numpy.arange(3, dtype="u8")
     for call in (
         lambda: table.insert(b"fox"),
@@ -429,9 +422,9 @@ def test_each_call_waits_for_the_others():
         lambda: table.to_bytes(),
         lambda: other.merge(table),
     ):
-        entered.clear()
+        before = lock.count
         call()
-        assert entered == [1]
+        assert lock.count == before + 1
 
 
 def test_a_copy_is_of_the_same_kind():
