@@ -184,26 +184,24 @@ def test_files_that_are_dropped(page):
         assert page.hashes(name) == hashes(name.encode())
 
 
-def test_copy(page, files):
-    page.chromium.execute_script(
-        "navigator.clipboard.writeText = (text) => { window.copied = text; return Promise.resolve(); }"
-    )
+def copy_fox(page, files, script, status):
+    page.chromium.execute_script(script)
     page.choose(*files(fox=FOX))
     page.wait_for("fox", "done")
     page.row("fox").find_element(By.CSS_SELECTOR, "button.copy").click()
-    page.wait_for("fox", "copied")
+    page.wait_for("fox", status)
+
+
+def test_copy(page, files):
+    keep = "navigator.clipboard.writeText = (text) => { window.copied = text; return Promise.resolve(); }"
+    copy_fox(page, files, keep, "copied")
     expected = "".join(f"{it}  fox\n" for it in FOX_HASHES)
     assert page.chromium.execute_script("return window.copied") == expected
 
 
 def test_copy_where_the_clipboard_is_refused(page, files):
-    page.chromium.execute_script(
-        "navigator.clipboard.writeText = () => Promise.reject(); document.execCommand = () => false"
-    )
-    page.choose(*files(fox=FOX))
-    page.wait_for("fox", "done")
-    page.row("fox").find_element(By.CSS_SELECTOR, "button.copy").click()
-    page.wait_for("fox", "selected")
+    refuse = "navigator.clipboard.writeText = () => Promise.reject(); document.execCommand = () => false"
+    copy_fox(page, files, refuse, "selected")
     selected = page.chromium.execute_script("return getSelection().toString()")
     assert selected.split() == list(FOX_HASHES)
 
