@@ -57,6 +57,10 @@ def test_under_node(cases):
     check(cases, json.loads(said.stdout))
 
 
+def test_the_worker_under_node():
+    subprocess.run([*node_words(), HERE / "worker.mjs"], check=True)
+
+
 def test_in_chromium(cases, chromium, server):
     chromium.get(server.replace("index.html", "sketch_hash.mjs"))
     text = (HERE / "answer.mjs").read_text().replace("export ", "")

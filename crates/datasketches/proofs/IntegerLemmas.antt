@@ -5,12 +5,13 @@ use Rattle.std.specs.Prelude.{ℤ, pos, negsuc}
 use Rattle.std.proofs.lemmas.Int.{ints}
 use Rattle.std.proofs.lemmas.List.Elements.{All-nil}
 use Rattle.sketch_base.specs.Bytes.{le, eight, modulo}
+use Rattle.sketch_base.proofs.BytesLemmas.{IsByte}
 use Rattle.sketch_hash.specs.Words.{IsWord}
 use Rattle.sketch_hash.specs.Murmur.{murmur}
 use Rattle.sketch_hash.specs.Xxh64.{xxh64}
 use Rattle.sketch_hash.specs.Laws.{PieceLaws, MurmurStepLaws, Xxh64StepLaws}
 use Rattle.datasketches.specs.Laws.{IsShort, IntegerLaw, ModuloLaw}
-use Rattle.datasketches.proofs.MurmurLawLemmas.{IsByte, cut_block-once}
+use Rattle.datasketches.proofs.MurmurLawLemmas.{cut_block-once}
 use Rattle.datasketches.proofs.Xxh64LawLemmas.{hash_u64_law}
 
 pub modulo-lt : (z : ℤ) → IsWord (modulo 64 z)

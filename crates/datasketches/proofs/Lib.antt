@@ -1,5 +1,4 @@
 pub mod KnownAnswerLemmas
-pub mod SliceLemmas
 pub mod AgreeLemmas
 pub mod MurmurLawLemmas
 pub mod Xxh64LawLemmas

@@ -7,6 +7,7 @@ use Rattle.std.proofs.lemmas.List.{map-append, length-take-le, take-append-drop}
 use Rattle.std.proofs.lemmas.List.Sums.{fold-append}
 use Rattle.std.proofs.lemmas.List.Elements.{All-take, All-drop}
 use Rattle.sketch_base.specs.Bytes.{AreBytes}
+use Rattle.sketch_base.proofs.BytesLemmas.{IsByte}
 use Rattle.sketch_hash.specs.Words.{IsWord}
 use Rattle.sketch_hash.specs.Pieces.{pieces}
 use Rattle.sketch_hash.specs.Murmur.{step, block_words, blocks, tail, with_tail, finalize, murmur}
@@ -19,10 +20,6 @@ use Rattle.datasketches.proofs.AgreeLemmas.{agree-front, agree-back, agree-beyon
 
 length_word : (n : ℕ) → IsWord (n % 2 ^ 64)
 length_word n = mod_below n (2 ^ 64) (omega arith)
-
--- the predicate of `AreBytes`
-abbrev pub IsByte : ℕ → Type 0
-IsByte b = b < 256
 
 -- ---- a hash in two parts: the pair of words after whole blocks, and what is made of it
 

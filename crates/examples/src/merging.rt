@@ -2,10 +2,12 @@
 
 ghost use Rattle.std.specs.Prelude.{◌≡◌, ◌≢◌, ◌⊎◌, ℕ, ◌+◌, List, ◌++◌, Err, IfErr, IfOk, IsOk};
 ghost use Rattle.datasketches.specs.ErrorValue.{memory_error};
+ghost use Rattle.sketch_member.specs.Form.{form2};
+ghost use Rattle.sketch_member.specs.InPlace.{Becomes, IsMergeFault};
 ghost use Rattle.sketch_member.specs.Laws.{StandsFor, count_after};
 ghost use Rattle.sketch_member.specs.Limits.{IsHashes, IsLog2Bits};
-ghost use Rattle.sketch_member.specs.Merge.{AreAlike, FirstDifference};
-ghost use Rattle.sketch_member.specs.Table.{IsMember, empty_table};
+ghost use Rattle.sketch_member.specs.Merge.{AreAlike, FirstDifference, Merges};
+ghost use Rattle.sketch_member.specs.Table.{Table, IsMember, IsTable, empty_table};
 
 use datasketches::error::Error;
 use sketch_member::laws::{form_law, merge_law};
@@ -13,6 +15,10 @@ use sketch_member::{Difference, MemberTable, MergeFault, in_place};
 use std::alloc::Global;
 
 /// Merges the table of another worker into one: it stands for the values of both, and counts them.
+///
+/// # Errors
+///
+/// Where the two are not alike, in seed, size or hashes: `InvalidArgument`. The table is unchanged.
 pub fn merge_worker(
     alloc: Global,
     table: &mut MemberTable,
@@ -35,6 +41,11 @@ pub fn merge_worker(
 
 /// Merges `second` and then `third` into `table`; and `third` into `second`, and that into `twin`.
 /// Both end as the same table, which contains what any of the three did.
+///
+/// # Errors
+///
+/// Where two of them are not alike. `table` may have taken `second` by then; the others are
+/// unchanged.
 pub fn merge_as_a_tree(
     alloc: Global,
     table: &mut MemberTable,
@@ -48,6 +59,7 @@ pub fn merge_as_a_tree(
         IsMember table.old fed ⊎ (IsMember second.old fed ⊎ IsMember third.now fed) →
         IsMember table.new fed) }
     ensures accepted { AreAlike table.old second.old → AreAlike table.old third.now → IsOk result }
+    ensures refused { IfErr result (λ _. (second.new ≡ second.old) × (twin.new ≡ twin.old)) }
 {
     merge_law();
     table.merge(alloc, second)?;
@@ -58,6 +70,10 @@ pub fn merge_as_a_tree(
 }
 
 /// Merges each of two tables into the other. Both end as the same table.
+///
+/// # Errors
+///
+/// Where the two are not alike. Both are unchanged.
 pub fn merge_either_way(
     alloc: Global,
     one: &mut MemberTable,
@@ -67,6 +83,7 @@ pub fn merge_either_way(
     requires { twin.now ≡ one.old }
     ensures same { IfOk result (λ _. one.new ≡ other.new) }
     ensures accepted { AreAlike one.old other.old → IsOk result }
+    ensures refused { IfErr result (λ _. (one.new ≡ one.old) × (other.new ≡ other.old)) }
 {
     merge_law();
     one.merge(alloc, other)?;
@@ -74,6 +91,11 @@ pub fn merge_either_way(
 }
 
 /// Merges an empty table, which changes nothing.
+///
+/// # Errors
+///
+/// Where there is no such table, or it is not alike: `InvalidArgument`. Where memory runs out:
+/// `OutOfMemory`, with no message.
 pub fn merge_nothing(
     alloc: Global,
     table: &mut MemberTable,
@@ -92,7 +114,7 @@ pub fn merge_nothing(
     Ok(())
 }
 
-/// Merges a table that is the same, which changes nothing but the count.
+/// Merges a table that is the same, which changes nothing but the count. It never fails.
 pub fn merge_twin(alloc: Global, table: &mut MemberTable, twin: &MemberTable) -> Result<(), Error>
     requires { twin.now ≡ table.old }
     ensures { IsOk result × (table.new ≡ record table.old { count = table.new.count }) }
@@ -101,12 +123,18 @@ pub fn merge_twin(alloc: Global, table: &mut MemberTable, twin: &MemberTable) ->
     table.merge(alloc, twin)
 }
 
-/// Merges the bytes of a table into equal bytes, in place. It fails only where they are no table of
-/// version 2: they are never unlike.
+/// Merges the bytes of a table into equal bytes, in place.
+///
+/// # Errors
+///
+/// Where they are no table of version 2: they are never unlike. The bytes are unchanged.
 pub fn merge_saved_twin(saved: &mut [u8], twin: &[u8]) -> Result<(), MergeFault>
     requires { twin.now ≡ saved.old }
     ensures alike { (part : Difference) → result ≢ Err (MergeFault.Unlike part) }
-    ensures unchanged { IfErr result (λ _. saved.new ≡ saved.old) }
+    ensures merged { IfOk result (λ _. (other : Table) × IsTable other
+        × (twin.now ≡ form2 other) × Becomes (Merges other) saved.old saved.new) }
+    ensures refused { IfErr result (λ fault. (saved.new ≡ saved.old)
+        × IsMergeFault saved.old twin.now fault) }
 {
     form_law();
     in_place::merge(saved, twin)

@@ -16,6 +16,10 @@ use datasketches::hash::{check_seed_hash, compute_seed_hash};
 use std::alloc::{AllocError, Global};
 
 /// Accepts serial version 3.
+///
+/// # Errors
+///
+/// At any other: `InvalidData`, or `OutOfMemory` where the text finds no memory.
 pub fn check_version(alloc: Global, version: u8) -> Result<(), Error>
     ensures { MatchResult result
         (λ _. version ≡ 3)
@@ -26,6 +30,11 @@ pub fn check_version(alloc: Global, version: u8) -> Result<(), Error>
 }
 
 /// Accepts the seed hash of a seed that can be used.
+///
+/// # Errors
+///
+/// At a seed whose hash is 0: `InvalidArgument`. At another hash: `InvalidData`. `OutOfMemory` where
+/// the text finds no memory.
 pub fn check_seed(alloc: Global, seed: u64, actual: u16) -> Result<(), Error>
     ensures accepted { IfOk result (λ _. (seed_hash seed ≢ 0) × (actual ≡ seed_hash seed)) }
     ensures refused { IfErr result (λ error.
@@ -47,6 +56,10 @@ pub fn malformed(alloc: Global, words: Result<String, AllocError>) -> Error
 }
 
 /// What a list of items that ended too early says.
+///
+/// # Errors
+///
+/// Where memory runs out.
 pub fn text_of_short(alloc: Global, short: &Short) -> Result<String, AllocError>
     ensures { IfOk result (λ text. string_bytes text ≡ short_text short.now.read) }
 {
@@ -54,6 +67,10 @@ pub fn text_of_short(alloc: Global, short: &Short) -> Result<String, AllocError>
 }
 
 /// What a list of items that found no memory says.
+///
+/// # Errors
+///
+/// Where memory runs out.
 pub fn text_of_stopped(alloc: Global, stopped: &Stopped) -> Result<String, AllocError>
     ensures { IfOk result (λ text. string_bytes text ≡ stopped_text stopped.now.accepted) }
 {
@@ -61,6 +78,10 @@ pub fn text_of_stopped(alloc: Global, stopped: &Stopped) -> Result<String, Alloc
 }
 
 /// A wrapped key in decimal, as the key itself prints.
+///
+/// # Errors
+///
+/// Where memory runs out.
 pub fn text_of_key(alloc: Global, key: &NaturalExtend<u32>) -> Result<String, AllocError>
     ensures { IfOk result (λ text. string_bytes text ≡ decimal key.now) }
 {

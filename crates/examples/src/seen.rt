@@ -1,12 +1,13 @@
 //! Keys that were seen, in a table of members that is saved and loaded.
 
-ghost use Rattle.std.specs.Prelude.{ℕ, List, ◌≡◌, ◌⊎◌, ◌↔◌, ◌+◌, [], None, IfErr, IfOk, IsTrue, MatchResult, length, Contains};
+ghost use Rattle.std.specs.Prelude.{ℕ, List, ◌≡◌, ◌⊎◌, ◌↔◌, ◌+◌, [], None, IfErr, IfOk, IsTrue, MatchResult, length, map, Contains};
 ghost use Rattle.datasketches.specs.ErrorValue.{memory_error};
 ghost use Rattle.datasketches.specs.Refusals.{Refuses};
-ghost use Rattle.sketch_member.specs.Faults.{AllPass, IsFirstFault, fault_text, init_steps, steps, view_steps};
+ghost use Rattle.sketch_member.specs.Faults.{AllPass, FirstFault, IsFirstFault, fault_text, init_steps, steps, view_steps};
 ghost use Rattle.sketch_member.specs.Form.{IsForm, form1, form2};
 ghost use Rattle.sketch_member.specs.InPlace.{Becomes};
-ghost use Rattle.sketch_member.specs.Laws.{StandsFor, count_after};
+ghost use Rattle.sketch_member.specs.Laws.{IsMadeOf, StandsFor, count_after};
+ghost use Rattle.sketch_member.specs.Merge.{AreAlike};
 ghost use Rattle.sketch_member.specs.Table.{Table, Inserts, IsMember, IsSet, IsTable, empty_table};
 
 use datasketches::error::{Error, ErrorKind};
@@ -17,6 +18,11 @@ use std::alloc::{AllocError, Global};
 
 /// The table of the keys seen so far, from the bytes that were saved; a new one, of 1024 bits with
 /// seven indexes a key, where there are none.
+///
+/// # Errors
+///
+/// Where the bytes are no table: `InvalidData`, with the first fault in them. Where memory runs out:
+/// `OutOfMemory`, with no message.
 pub fn load_keys(alloc: Global, saved: &[u8]) -> Result<MemberTable, Error>
     ensures loaded { IfOk result (λ seen.
         ((saved.now ≡ []) × (seen ≡ empty_table 0 10 7)) ⊎ IsForm seen saved.now) }
@@ -46,7 +52,11 @@ pub fn see_key(seen: &mut MemberTable, key: &[u8]) -> bool
 }
 
 /// The same in the bytes of a table, where they lie, as in a file that is mapped. It takes no
-/// memory, and leaves bytes that are no table as they are.
+/// memory.
+///
+/// # Errors
+///
+/// Where the bytes are no table of version 2: the first fault in them. They are unchanged.
 pub fn see_key_in(bytes: &mut [u8], key: &[u8]) -> Result<bool, Fault>
     ensures { MatchResult result
         (λ is_seen. Becomes (λ before after. (IsTrue is_seen ↔ IsMember before key.now)
@@ -62,12 +72,19 @@ pub fn see_key_in(bytes: &mut [u8], key: &[u8]) -> Result<bool, Fault>
 }
 
 /// Loads the keys seen, sees one more, and answers whether it was seen, with the bytes to be saved.
+///
+/// # Errors
+///
+/// As those of [`load_keys`]; memory may run out in the saving too.
 pub fn see_saved_key(alloc: Global, saved: &[u8], key: &[u8]) -> Result<(bool, Vec<u8>), Error>
-    ensures { IfOk result (λ answer. (before after : Table)
+    ensures seen { IfOk result (λ answer. (before after : Table)
         × (((saved.now ≡ []) × (before ≡ empty_table 0 10 7)) ⊎ IsForm before saved.now)
         × (IsTrue answer.0 ↔ IsMember before key.now)
         × Inserts key.now before after
         × (answer.1.items ≡ form2 after)) }
+    ensures refused { IfErr result (λ error. (error ≡ memory_error) ⊎ ((fault : Fault)
+        × IsFirstFault (length saved.now) (steps saved.now) fault
+        × Refuses ErrorKind.InvalidData (fault_text fault) error)) }
 {
     let mut seen = load_keys(alloc, saved)?;
     let is_seen = see_key(&mut seen, key);
@@ -75,29 +92,56 @@ pub fn see_saved_key(alloc: Global, saved: &[u8], key: &[u8]) -> Result<(bool, V
 }
 
 /// How many inserts saved bytes counted: `None` for bytes of version 1, which have no count.
+///
+/// # Errors
+///
+/// As those of [`load_keys`].
 pub fn count_saved(alloc: Global, saved: &[u8]) -> Result<Option<u64>, Error>
-    ensures { (table : Table) → IsTable table → saved.now ≡ form1 table →
+    ensures version1 { (table : Table) → IsTable table → saved.now ≡ form1 table →
         IfOk result (λ count. count ≡ None) }
+    ensures counted { (table : Table) → IsTable table → IsForm table saved.now →
+        IfOk result (λ count. count ≡ table.count) }
+    ensures refused { IfErr result (λ error. FirstFault (length saved.now) (steps saved.now) error
+        ⊎ (AllPass (length saved.now) (steps saved.now) × (error ≡ memory_error))) }
 {
+    form_law();
     Ok(read_again(alloc, saved)?.count())
 }
 
 /// Whether saved bytes contain a key. Those of version 1 contain what their table does.
+///
+/// # Errors
+///
+/// As those of [`load_keys`].
 pub fn is_saved(alloc: Global, saved: &[u8], key: &[u8]) -> Result<bool, Error>
-    ensures { (table : Table) → IsTable table → saved.now ≡ form1 table →
+    ensures version1 { (table : Table) → IsTable table → saved.now ≡ form1 table →
         IfOk result (λ is_seen. IsTrue is_seen ↔ IsMember table key.now) }
+    ensures told { (table : Table) → IsTable table → IsForm table saved.now →
+        IfOk result (λ is_seen. IsTrue is_seen ↔ IsMember table key.now) }
+    ensures refused { IfErr result (λ error. FirstFault (length saved.now) (steps saved.now) error
+        ⊎ (AllPass (length saved.now) (steps saved.now) × (error ≡ memory_error))) }
 {
+    form_law();
     Ok(read_again(alloc, saved)?.contains(&raw_bytes::from_slice(key)))
 }
 
 /// Makes a table of keys twice, in `bytes` and in memory of its own, and answers the bytes of the
 /// second.
+///
+/// # Errors
+///
+/// Where `bytes` are not as many as the table has: `InvalidArgument`, with the first fault. Where
+/// memory runs out: `OutOfMemory`, with no message.
 pub fn see_keys_twice(
     alloc: Global,
     bytes: &mut [u8],
     keys: &[RawBytes<&[u8]>],
 ) -> Result<Vec<u8>, Error>
     ensures same { IfOk result (λ made. bytes.new ≡ made.items) }
+    ensures whole { IfOk result (λ made. (whole : Table)
+        × AreAlike (empty_table 0 10 7) whole
+        × IsMadeOf (map (λ key. key.now) keys.now) whole
+        × (made.items ≡ form2 whole)) }
     ensures refused { IfErr result (λ error. (error ≡ memory_error) ⊎ ((fault : Fault)
         × IsFirstFault (length bytes.old) (init_steps 10 7 bytes.old) fault
         × Refuses ErrorKind.InvalidArgument (fault_text fault) error)) }
@@ -113,6 +157,10 @@ pub fn count_seen(seen: &MemberTable) -> Option<u64>
 }
 
 /// Whether two tables are the same, count and all, by the bytes in which they are saved.
+///
+/// # Errors
+///
+/// Where memory runs out.
 pub fn are_same_tables(
     alloc: Global,
     one: &MemberTable,
@@ -125,8 +173,13 @@ pub fn are_same_tables(
 }
 
 /// The bytes in which a table is saved. They pass each step of the reading.
+///
+/// # Errors
+///
+/// Where memory runs out.
 pub fn save_keys(alloc: Global, seen: &MemberTable) -> Result<Vec<u8>, AllocError>
-    ensures { IfOk result (λ bytes. AllPass (length bytes.items) (steps bytes.items)) }
+    ensures saved { IfOk result (λ bytes. bytes.items ≡ form2 seen.now) }
+    ensures pass { IfOk result (λ bytes. AllPass (length bytes.items) (steps bytes.items)) }
 {
     form_law();
     let bytes = seen.to_bytes(alloc)?;

@@ -2,7 +2,7 @@
 
 ghost use Rattle.std.specs.Prelude.{◌≡◌, ℕ, List, ◌++◌};
 ghost use Rattle.std.specs.List.{flat_map};
-ghost use Rattle.datasketches.specs.Held.{Xxh64Holds};
+ghost use Rattle.datasketches.specs.Held.{Xxh64Holds, xxh64_held};
 ghost use Rattle.datasketches.specs.Murmur.{murmur};
 ghost use Rattle.datasketches.specs.Xxh64.{xxh64};
 
@@ -57,4 +57,12 @@ pub fn xxh64_from(state: &XxHash64State, back: &[u8]) -> u64
     let mut hasher = XxHash64::resume(state);
     hasher.write(back);
     hasher.finish64()
+}
+
+/// A checkpoint that is taken up and kept once more: it holds the same, also where no hasher made
+/// it.
+pub fn keep_again(state: &XxHash64State) -> XxHash64State
+    ensures { xxh64_held result ≡ xxh64_held state.now }
+{
+    XxHash64::resume(state).state()
 }

@@ -1,11 +1,19 @@
 -- What the definitions of bytes and numbers give: the first byte apart, bounds, there and back, and the
 -- library's `to_le_bytes`.
-use Rattle.std.proofs.Common.{◌≡◌, ℕ, zero, suc, ◌+◌, ◌*◌, ◌/◌, ◌%◌, ◌^◌, ◌<◌, List, [], ◌∷◌, length, refl, sym, ap, ◌∙◌, arith, add-one}
+use Rattle.std.proofs.Common.{◌≡◌, ℕ, zero, suc, ◌+◌, ◌*◌, ◌/◌, ◌%◌, ◌^◌, ◌<◌, List, [], ◌∷◌, length, get_or, Fits, w8, refl, sym, ap, ◌∙◌, arith, add-one}
 use Rattle.std.proofs.Math.Nat.{pow-suc, div-div-eq-div-mul, one-le-pow}
 use Rattle.std.proofs.Math.Arith.{mod-mul}
-use Rattle.std.proofs.lemmas.List.Elements.{All-nil, All-cons, All-head, All-tail}
+use Rattle.std.proofs.lemmas.List.Elements.{All-nil, All-cons, All-head, All-tail, All-from_get_or}
 use Rattle.std.specs.Int.{byte_at, bytes_low_first, to_le_bytes, Width, byte_len}
 use Rattle.sketch_base.specs.Bytes.{AreBytes, weighted_from, le, low_bytes}
+
+-- the predicate of `AreBytes`
+abbrev pub IsByte : ℕ → Type 0
+IsByte b = b < 256
+
+-- what is known of a slice of bytes that a function takes
+pub bytes_known : (bytes : List ℕ) → ((i : ℕ) → Fits w8 (get_or bytes i 0)) → AreBytes bytes
+bytes_known bytes h = All-from_get_or IsByte bytes 0 (λ i l. (h i).fits)
 
 -- each byte is worth 256 times as much one place on
 pub weighted_from-suc : (bytes : List ℕ) (i : ℕ) → weighted_from (i + 1) bytes ≡ 256 * weighted_from i bytes
@@ -25,8 +33,8 @@ le-cons b bytes = let e = weighted_from-suc bytes 0 in omega arith
 pub le-lt : (bytes : List ℕ) → AreBytes bytes → le bytes < 256 ^ length bytes
 le-lt [] h = omega arith
 le-lt (b ∷ bytes) h =
-    let first = All-head (λ x. x < 256) b bytes h in
-    let others = le-lt bytes (All-tail (λ x. x < 256) b bytes h) in
+    let first = All-head IsByte b bytes h in
+    let others = le-lt bytes (All-tail IsByte b bytes h) in
     rw (le-cons b bytes, pow-suc) (below b (le bytes) (256 ^ length bytes) first others)
   where
     below : (b n p : ℕ) → b < 256 → n < p → b + 256 * n < p * 256
@@ -34,10 +42,10 @@ le-lt (b ∷ bytes) h =
 
 -- a number's lowest bytes are bytes
 pub low_bytes-are : (count n : ℕ) → AreBytes (low_bytes count n)
-low_bytes-are zero n = All-nil (λ b. b < 256)
+low_bytes-are zero n = All-nil IsByte
 low_bytes-are (suc count) n =
     let others = low_bytes-are count (n / 256) in
-    All-cons (λ b. b < 256) (n % 256) (low_bytes count (n / 256)) (omega arith) others
+    All-cons IsByte (n % 256) (low_bytes count (n / 256)) (omega arith) others
 
 -- the number of a number's lowest bytes
 pub le-low_bytes : (count n : ℕ) → le (low_bytes count n) ≡ n % 256 ^ count
@@ -59,8 +67,8 @@ length-low_bytes (suc count) n = ap suc (length-low_bytes count (n / 256))
 pub low_bytes-le : (bytes : List ℕ) → AreBytes bytes → low_bytes (length bytes) (le bytes) ≡ bytes
 low_bytes-le [] h = refl
 low_bytes-le (b ∷ bytes) h =
-    let first = All-head (λ x. x < 256) b bytes h in
-    let others = low_bytes-le bytes (All-tail (λ x. x < 256) b bytes h) in
+    let first = All-head IsByte b bytes h in
+    let others = low_bytes-le bytes (All-tail IsByte b bytes h) in
     let low : (b + 256 * le bytes) % 256 ≡ b = omega arith in
     let high : (b + 256 * le bytes) / 256 ≡ le bytes = omega arith in
     rw (le-cons b bytes, low, high, others) refl

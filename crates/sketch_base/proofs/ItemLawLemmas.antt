@@ -16,7 +16,7 @@ use Rattle.sketch_base.specs.Items.{InType, item_kind, width, widths, spell, spe
 use Rattle.sketch_base.specs.ItemLaws.{Holds, ItemLaw}
 use Rattle.std.proofs.Math.Seq.{take-append_seam, drop-append_seam}
 use Rattle.sketch_base.specs.Bytes.{AreBytes, le, be, low_bytes, twos_complement, modulo}
-use Rattle.sketch_base.proofs.BytesLemmas.{low_bytes-are, le-low_bytes, le-lt, low_bytes-le, length-low_bytes}
+use Rattle.sketch_base.proofs.BytesLemmas.{low_bytes-are, le-low_bytes, le-lt, low_bytes-le, length-low_bytes, IsByte}
 
 -- so many bytes take a number below so many powers of 256, and give it back, in either order
 le-back : (count n : ℕ) → n < 256 ^ count → le (low_bytes count n) ≡ n
@@ -28,10 +28,10 @@ be-back count n small = ap le (reverse-reverse (low_bytes count n)) ∙ le-back 
 AreBytes-reverse : (bytes : List ℕ) → AreBytes bytes → AreBytes (reverse bytes)
 AreBytes-reverse [] h = h
 AreBytes-reverse (b ∷ bytes) h =
-    let first = All-head (λ x. x < 256) b bytes h in
-    let others = AreBytes-reverse bytes (All-tail (λ x. x < 256) b bytes h) in
-    All-same (λ x. x < 256) (reverse (b ∷ bytes)) (reverse bytes ++ b ∷ []) (reverse-append (b ∷ []) bytes)
-    (All-push (λ x. x < 256) (reverse bytes) b others first)
+    let first = All-head IsByte b bytes h in
+    let others = AreBytes-reverse bytes (All-tail IsByte b bytes h) in
+    All-same IsByte (reverse (b ∷ bytes)) (reverse bytes ++ b ∷ []) (reverse-append (b ∷ []) bytes)
+    (All-push IsByte (reverse bytes) b others first)
 
 -- a signed number modulo 2 ^ w, and back
 twos_complement-modulo : (w half : ℕ) (z : ℤ) → 2 ^ (w - 1) ≡ half → 2 ^ w ≡ 2 * half → mag z < half →

@@ -3,14 +3,14 @@ use Rattle.std.proofs.Common.{◌≡◌, ℕ, ◌^◌, ◌<◌, List, ◌++◌, 
 use Rattle.std.proofs.lemmas.List.{take_all, length-take-le, length-drop, take-append-drop, take_at, drop_at}
 use Rattle.std.proofs.lemmas.List.Elements.{All-take, All-drop, All-append}
 use Rattle.sketch_base.specs.Bytes.{le, low_bytes, eight}
-use Rattle.sketch_base.proofs.BytesLemmas.{le-lt, low_bytes-are, le-low_bytes, length-low_bytes, low_bytes-le}
+use Rattle.sketch_base.proofs.BytesLemmas.{le-lt, low_bytes-are, le-low_bytes, length-low_bytes, low_bytes-le, IsByte}
 use Rattle.sketch_hash.specs.Words.{IsWord}
 use Rattle.sketch_hash.specs.Pieces.{word_at}
 use Rattle.sketch_hash.specs.Murmur.{block_words}
 use Rattle.sketch_hash.specs.OneToOne.{OneToOne}
 use Rattle.sketch_hash.specs.Laws.{AreWords, IsBlock, PieceLaws}
 use Rattle.sketch_hash.proofs.Undoes.{Undoes, one_to_one}
-use Rattle.sketch_hash.proofs.PiecesLemmas.{IsByte, IsPiece, rest-whole, pieces-aligned, rest-aligned, pieces_short, rest_short, pieces_one, rest-are, rest-lt, length-rest_same}
+use Rattle.sketch_hash.proofs.PiecesLemmas.{IsPiece, rest-whole, pieces-aligned, rest-aligned, pieces_short, rest_short, pieces_one, rest-are, rest-lt, length-rest_same}
 
 -- eight bytes and their number
 pub word_of_bytes : Undoes (IsPiece 8) IsWord le eight

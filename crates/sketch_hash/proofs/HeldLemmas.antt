@@ -4,7 +4,7 @@ use Rattle.std.proofs.Math.Nat.{mod-add-mod, mod-eq_of_lt, suc-add, mod-eq-sub-d
 use Rattle.std.proofs.lemmas.List.{length-take-le}
 use Rattle.std.proofs.lemmas.List.Elements.{All-take}
 use Rattle.sketch_base.specs.Bytes.{AreBytes, le, low_bytes}
-use Rattle.sketch_base.proofs.BytesLemmas.{low_bytes-le}
+use Rattle.sketch_base.proofs.BytesLemmas.{low_bytes-le, IsByte}
 use Rattle.sketch_hash.specs.declared.hash.murmurhash.state.MurmurState.{MurmurState}
 use Rattle.sketch_hash.specs.MurmurWriteLemmas.{murmur_stands_after}
 use Rattle.sketch_hash.specs.declared.hash.xxhash.state.XxHash64State.{XxHash64State}
@@ -63,7 +63,7 @@ pub low_bytes-take : (count : ℕ) (bytes : List ℕ) → AreBytes bytes → cou
 low_bytes-take count bytes b h =
     let front : List ℕ = take count bytes in
     ap (λ k. low_bytes k (le front)) (sym (length-take-le count bytes h))
-    ∙ low_bytes-le front (All-take (λ x. x < 256) count bytes b)
+    ∙ low_bytes-le front (All-take IsByte count bytes b)
 
 -- what a write makes of a state that stands for bytes
 pub murmur_holds_after : (state next : MurmurState) (bytes : List ℕ) →

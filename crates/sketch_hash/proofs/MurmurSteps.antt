@@ -4,6 +4,7 @@ use Rattle.std.specs.List.{All, fold}
 use Rattle.std.proofs.lemmas.List.{append_cancel_right, length-replicate}
 use Rattle.std.proofs.lemmas.List.Elements.{All-map, All-weaker, All-append, All-replicate}
 use Rattle.sketch_base.specs.Bytes.{AreBytes}
+use Rattle.sketch_base.proofs.BytesLemmas.{IsByte}
 use Rattle.sketch_hash.specs.Words.{IsWord, plus, times, rotate}
 use Rattle.sketch_hash.specs.Pieces.{pieces}
 use Rattle.sketch_hash.specs.Murmur.{c1, c2, mix1, mix2, fmix, step1, step2, step, block_words, blocks, with_tail, cross, finalize}
@@ -11,7 +12,7 @@ use Rattle.sketch_hash.specs.OneToOne.{OneToOne}
 use Rattle.sketch_hash.specs.Laws.{AreWords, IsBlock, MurmurStepLaws}
 use Rattle.sketch_hash.specs.OneToOneLemmas.{◌▸◌, on_first, on_second, on_both, along}
 use Rattle.sketch_hash.proofs.Undoes.{times-once, plus-once, xor-once, xor_word-once, rotate-once, shifted-once}
-use Rattle.sketch_hash.proofs.PiecesLemmas.{IsByte, IsPiece, pieces-are}
+use Rattle.sketch_hash.proofs.PiecesLemmas.{IsPiece, pieces-are}
 use Rattle.sketch_hash.proofs.BlockLemmas.{block_words-once}
 
 times_c1 : OneToOne IsWord IsWord (λ x. times x c1)

@@ -1,13 +1,13 @@
 -- Numbers of lists of bytes: joined, cut, and as a block's two words.
-use Rattle.std.proofs.Common.{◌≡◌, ℕ, zero, suc, ◌+◌, ◌-◌, ◌*◌, ◌/◌, ◌%◌, ◌^◌, ◌<◌, ◌≤◌, List, [], ◌∷◌, ◌++◌, length, take, drop, replicate, get_or, Fits, w8, refl, sym, ap, ◌∙◌, arith, subst, length-append, length-drop, zero-add, lt_of_lt_of_le, one-mul, min, inl, inr}
+use Rattle.std.proofs.Common.{◌≡◌, ℕ, zero, suc, ◌+◌, ◌-◌, ◌*◌, ◌/◌, ◌%◌, ◌^◌, ◌<◌, ◌≤◌, List, [], ◌∷◌, ◌++◌, length, take, drop, replicate, refl, sym, ap, ◌∙◌, arith, subst, length-append, length-drop, zero-add, lt_of_lt_of_le, one-mul, min, inl, inr}
 use Rattle.std.proofs.Math.Nat.{pow-suc, mod-eq_of_lt, div-eq_of_lt, add-mod-mod, add-mul-mod_self_right, add-mul-div_right, one-le-pow, pow-le-pow_right, min-eq_left, min-eq_right}
 use Rattle.std.proofs.Math.Pow.{pow-lt}
 use Rattle.std.proofs.lemmas.Bool.{cases_lt}
 use Rattle.std.proofs.lemmas.Nat.{pow-add}
 use Rattle.std.proofs.lemmas.List.{length-take, length-take-le, take-append-drop, drop-drop, take-take, length-replicate}
-use Rattle.std.proofs.lemmas.List.Elements.{All-append, All-take, All-drop, All-replicate, All-from_get_or}
+use Rattle.std.proofs.lemmas.List.Elements.{All-append, All-take, All-drop, All-replicate}
 use Rattle.sketch_base.specs.Bytes.{AreBytes, le, low_bytes}
-use Rattle.sketch_base.proofs.BytesLemmas.{le-cons, le-lt, low_bytes-are, le-low_bytes, length-low_bytes, low_bytes-le}
+use Rattle.sketch_base.proofs.BytesLemmas.{le-cons, le-lt, low_bytes-are, le-low_bytes, length-low_bytes, low_bytes-le, IsByte}
 use Rattle.sketch_hash.specs.Murmur.{block_words}
 use Rattle.sketch_hash.proofs.BlockLemmas.{halves}
 
@@ -41,7 +41,7 @@ le-cut n bytes h =
 pub le_take-lt : (n : ℕ) (bytes : List ℕ) → AreBytes bytes → n ≤ length bytes → le (take n bytes) < 256 ^ n
 le_take-lt n bytes b h =
     subst (λ k. le (take n bytes) < 256 ^ k) (length-take-le n bytes h)
-    (le-lt (take n bytes) (All-take (λ x. x < 256) n bytes b))
+    (le-lt (take n bytes) (All-take IsByte n bytes b))
 
 -- the number of what is behind the first bytes, as a quotient
 pub le-drop : (n : ℕ) (bytes : List ℕ) → AreBytes bytes → n ≤ length bytes →
@@ -79,7 +79,7 @@ le-ends w bytes b low high =
     let all : (n - w) + (w + w - n) ≡ w = omega arith in
     let behind : drop (w + w - n) back ≡ drop w bytes = drop-drop (w + w - n) (n - w) bytes
     ∙ ap (λ k. drop k bytes) all in
-    let quotient = le-drop (w + w - n) back (All-drop (λ x. x < 256) (n - w) bytes b) within in
+    let quotient = le-drop (w + w - n) back (All-drop IsByte (n - w) bytes b) within in
     ap (λ v. le (take w bytes) + v * 256 ^ w) (sym quotient ∙ ap le behind) ∙ sym (le-cut w bytes low)
 
 -- of more than eight bytes, the number of those behind the first eight, from that of the last eight
@@ -114,9 +114,6 @@ le-few bytes b h =
     let below = le-word bytes b h in
     rw (mod-eq_of_lt below, div-eq_of_lt below) refl
 
-pub bytes_known : (bytes : List ℕ) → ((i : ℕ) → Fits w8 (get_or bytes i 0)) → AreBytes bytes
-bytes_known bytes h = All-from_get_or (λ x. x < 256) bytes 0 (λ i l. (h i).fits)
-
 -- a number's lowest bytes, and bytes joined behind them
 le-joined : (count n : ℕ) (bytes : List ℕ) → n < 256 ^ count →
     le (low_bytes count n ++ bytes) ≡ n + le bytes * 256 ^ count
@@ -126,7 +123,7 @@ le-joined count n bytes h =
     ∙ ap (λ k. n + le bytes * 256 ^ k) (length-low_bytes count n)
 
 joined-are : (count n : ℕ) (bytes : List ℕ) → AreBytes bytes → AreBytes (low_bytes count n ++ bytes)
-joined-are count n bytes b = All-append (λ x. x < 256) (low_bytes count n) bytes (low_bytes-are count n) b
+joined-are count n bytes b = All-append IsByte (low_bytes count n) bytes (low_bytes-are count n) b
 
 joined-length : (count n : ℕ) (bytes : List ℕ) → length (low_bytes count n ++ bytes) ≡ count + length bytes
 joined-length count n bytes = length-append (low_bytes count n) bytes
@@ -164,7 +161,7 @@ le-block count n bytes b h low high =
     let all : 256 ^ missing * 256 ^ count ≡ 2 ^ 128 =
     sym (pow-add 256 missing count) ∙ ap (λ k. 256 ^ k) (whole count low) in
     let block : List ℕ = low_bytes count n ++ front in
-    let front_are : AreBytes front = All-take (λ x. x < 256) missing bytes b in
+    let front_are : AreBytes front = All-take IsByte missing bytes b in
     let size : length block ≡ 16 = joined-length count n front ∙ omega (arith, missing_len) in
     let below : le block < 2 ^ 128 =
     subst (λ k. le block < 256 ^ k) size (le-lt block (joined-are count n front front_are)) in
@@ -212,7 +209,7 @@ pub padded_words : (count n : ℕ) → count < 16 → n < 256 ^ count →
 padded_words count n low h =
     let zeros : List ℕ = replicate (16 - length (low_bytes count n)) 0 in
     let are : AreBytes zeros =
-    All-replicate (λ x. x < 256) (16 - length (low_bytes count n)) 0 (omega arith) in
+    All-replicate IsByte (16 - length (low_bytes count n)) 0 (omega arith) in
     let size : length zeros ≡ 16 - length (low_bytes count n) =
     length-replicate (16 - length (low_bytes count n)) 0 in
     let count_len = length-low_bytes count n in
@@ -257,7 +254,7 @@ pub block_words-filled : (count n : ℕ) (bytes : List ℕ) → AreBytes bytes �
     )
 block_words-filled count n bytes b h low high =
     let front : List ℕ = take (16 - count) bytes in
-    let front_are : AreBytes front = All-take (λ x. x < 256) (16 - count) bytes b in
+    let front_are : AreBytes front = All-take IsByte (16 - count) bytes b in
     let front_len = length-take-le (16 - count) bytes (omega arith) in
     let size : length (low_bytes count n ++ front) ≡ 16 =
     joined-length count n front ∙ omega (arith, front_len) in

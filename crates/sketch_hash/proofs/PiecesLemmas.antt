@@ -6,6 +6,7 @@ use Rattle.std.specs.Simd.{first_chunks}
 use Rattle.std.proofs.lemmas.List.{take_all, drop_all, length-take-le, length-drop, take-append-drop}
 use Rattle.std.proofs.lemmas.List.Elements.{All-nil, All-cons, All-take, All-drop}
 use Rattle.sketch_base.specs.Bytes.{AreBytes}
+use Rattle.sketch_base.proofs.BytesLemmas.{IsByte}
 use Rattle.sketch_hash.specs.Pieces.{first_pieces, pieces, rest}
 use Rattle.sketch_hash.specs.PiecesWriteLemmas.{pieces-append, rest-append}
 
@@ -45,10 +46,6 @@ rest-first w bytes p h =
     let first = length-take-le w bytes h in
     ap (rest w) (sym (take-append-drop w bytes)) ∙ rest-append w (take w bytes) (drop w bytes) p
     ∙ ap (λ t. rest w (t ++ drop w bytes)) (rest_one w (take w bytes) p first)
-
--- the predicate of `AreBytes`
-abbrev pub IsByte : ℕ → Type 0
-IsByte b = b < 256
 
 -- a piece of w bytes
 abbrev pub IsPiece : ℕ → List ℕ → Type 0

@@ -1,6 +1,6 @@
 use Rattle.std.proofs.Common.{◌≡◌, arith, rules}
 use Rattle.sketch_hash.specs.Murmur.{murmur}
-use Rattle.datasketches.proofs.SliceLemmas.{bytes_known}
+use Rattle.sketch_base.proofs.BytesLemmas.{bytes_known}
 use Rattle.datasketches.proofs.MurmurLawLemmas.{murmur_one_block, murmur_two_seeds}
 use Rattle.datasketches.proofs.laws.murmur_both.Goals as goal
 

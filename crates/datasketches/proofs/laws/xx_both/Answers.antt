@@ -1,6 +1,6 @@
 use Rattle.std.proofs.Common.{◌≡◌, arith, rules}
 use Rattle.sketch_hash.specs.Xxh64.{xxh64}
-use Rattle.datasketches.proofs.SliceLemmas.{bytes_known}
+use Rattle.sketch_base.proofs.BytesLemmas.{bytes_known}
 use Rattle.datasketches.proofs.laws.xx_both.Goals as goal
 
 pub returns-clause-values : goal.returns-clause-values

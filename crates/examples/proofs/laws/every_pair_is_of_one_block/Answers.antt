@@ -1,5 +1,5 @@
 use Rattle.std.proofs.Common.{◌≡◌, ◌*◌, ◌/◌, ◌<◌, ◌^◌, length, arith, rules}
-use Rattle.datasketches.proofs.SliceLemmas.{bytes_known}
+use Rattle.datasketches.proofs.BytesLemmas.{bytes_known}
 use Rattle.examples.proofs.laws.every_pair_is_of_one_block.Goals as goal
 
 pub returns-clause-some : goal.returns-clause-some

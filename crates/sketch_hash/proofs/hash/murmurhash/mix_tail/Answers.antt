@@ -2,9 +2,10 @@ use Rattle.std.proofs.Common.{rules, ◌≡◌, ℕ, ◌/◌, ◌^◌, List, [],
 use Rattle.std.proofs.Math.Nat.{div-eq_of_lt}
 use Rattle.std.proofs.lemmas.List.{nil_from_length}
 use Rattle.sketch_base.specs.Bytes.{le}
+use Rattle.sketch_base.proofs.BytesLemmas.{bytes_known}
 use Rattle.sketch_hash.specs.Murmur.{with_tail}
 use Rattle.sketch_hash.proofs.WordsLemmas.{xor-is}
-use Rattle.sketch_hash.proofs.NumberLemmas.{bytes_known, tail_words, le-word}
+use Rattle.sketch_hash.proofs.NumberLemmas.{tail_words, le-word}
 use Rattle.sketch_hash.proofs.MurmurLemmas.{xor_mix1-zero, xor_mix2-zero}
 use Rattle.sketch_hash.proofs.hash.murmurhash.mix_tail.Goals as goal
 

@@ -4,10 +4,10 @@ use Rattle.std.proofs.lemmas.List.Elements.{All-drop}
 use Rattle.sketch_base.specs.Bytes.{AreBytes, le, low_bytes}
 use Rattle.sketch_hash.specs.Pieces.{State, pieces, rest}
 use Rattle.sketch_hash.specs.Murmur.{murmur_after, step, block_words}
-use Rattle.sketch_base.proofs.BytesLemmas.{length-low_bytes, le-lt, low_bytes-le}
+use Rattle.sketch_base.proofs.BytesLemmas.{length-low_bytes, le-lt, low_bytes-le, bytes_known}
 use Rattle.sketch_hash.proofs.PiecesLemmas.{chunks-are}
 use Rattle.sketch_hash.proofs.StateLemmas.{state_after-through}
-use Rattle.sketch_hash.proofs.NumberLemmas.{bytes_known, block_words-filled, number-lt, words-lt, words-number}
+use Rattle.sketch_hash.proofs.NumberLemmas.{block_words-filled, number-lt, words-lt, words-number}
 use Rattle.sketch_hash.proofs.hash.murmurhash.MurmurHash3X64128.write_blocks.Goals as goal
 
 pub invariant_of-self : goal.invariant_of-self

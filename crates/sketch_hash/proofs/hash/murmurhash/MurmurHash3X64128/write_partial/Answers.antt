@@ -4,10 +4,10 @@ use Rattle.std.proofs.lemmas.List.Elements.{All-drop}
 use Rattle.sketch_base.specs.Bytes.{AreBytes, le, low_bytes}
 use Rattle.sketch_hash.specs.Pieces.{State}
 use Rattle.sketch_hash.specs.Murmur.{murmur_after, step, block_words}
-use Rattle.sketch_base.proofs.BytesLemmas.{length-low_bytes, le-lt, low_bytes-le}
+use Rattle.sketch_base.proofs.BytesLemmas.{length-low_bytes, le-lt, low_bytes-le, bytes_known}
 use Rattle.sketch_hash.proofs.PiecesLemmas.{pieces_short, rest_short}
 use Rattle.sketch_hash.proofs.StateLemmas.{state_after-waits, state_after-through}
-use Rattle.sketch_hash.proofs.NumberLemmas.{bytes_known, pow_eight, joined-is, joined-lt, low_bytes-joined, le-drop, block_words-filled, number-lt, words-lt, words-number}
+use Rattle.sketch_hash.proofs.NumberLemmas.{pow_eight, joined-is, joined-lt, low_bytes-joined, le-drop, block_words-filled, number-lt, words-lt, words-number}
 use Rattle.sketch_hash.proofs.hash.murmurhash.MurmurHash3X64128.write_partial.Goals as goal
 
 -- where the bytes fill no block

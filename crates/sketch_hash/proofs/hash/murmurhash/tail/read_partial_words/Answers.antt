@@ -1,6 +1,7 @@
 use Rattle.std.proofs.Common.{ℕ, ◌-◌, ◌≤◌, List, length, drop, arith, length-drop}
 use Rattle.std.proofs.lemmas.List.{take_all}
-use Rattle.sketch_hash.proofs.NumberLemmas.{bytes_known, le-last, le-few}
+use Rattle.sketch_base.proofs.BytesLemmas.{bytes_known}
+use Rattle.sketch_hash.proofs.NumberLemmas.{le-last, le-few}
 use Rattle.sketch_hash.proofs.hash.murmurhash.tail.read_partial_words.Goals as goal
 
 pub returns-then-count-gt8 : goal.returns-then-count-gt8

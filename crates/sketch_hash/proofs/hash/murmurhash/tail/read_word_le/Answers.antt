@@ -1,6 +1,7 @@
 use Rattle.std.proofs.Common.{rules, ◌+◌, ◌-◌, ◌≤◌, length, drop, arith, length-drop}
 use Rattle.std.proofs.lemmas.List.{take_all}
-use Rattle.sketch_hash.proofs.NumberLemmas.{bytes_known, le-ends}
+use Rattle.sketch_base.proofs.BytesLemmas.{bytes_known}
+use Rattle.sketch_hash.proofs.NumberLemmas.{le-ends}
 use Rattle.sketch_hash.proofs.hash.murmurhash.tail.read_word_le.Goals as goal
 
 pub returns-in_default : goal.returns-in_default
