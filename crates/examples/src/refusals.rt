@@ -33,8 +33,8 @@ pub fn check_version(alloc: Global, version: u8) -> Result<(), Error>
 ///
 /// # Errors
 ///
-/// At a seed whose hash is 0: `InvalidArgument`. At another hash: `InvalidData`. `OutOfMemory` where
-/// the text finds no memory.
+/// At a seed whose hash is 0: `InvalidArgument`. At another hash: `InvalidData`. Where the text
+/// finds no memory: `OutOfMemory`.
 pub fn check_seed(alloc: Global, seed: u64, actual: u16) -> Result<(), Error>
     ensures accepted { IfOk result (λ _. (seed_hash seed ≢ 0) × (actual ≡ seed_hash seed)) }
     ensures refused { IfErr result (λ error.

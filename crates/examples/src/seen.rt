@@ -21,8 +21,8 @@ use std::alloc::{AllocError, Global};
 ///
 /// # Errors
 ///
-/// Where the bytes are no table: `InvalidData`, with the first fault in them. Where memory runs out:
-/// `OutOfMemory`, with no message.
+/// Where the bytes are no table: `InvalidData`, with the first fault in them. Where memory runs
+/// out: `OutOfMemory`, with no message.
 pub fn load_keys(alloc: Global, saved: &[u8]) -> Result<MemberTable, Error>
     ensures loaded { IfOk result (λ seen.
         ((saved.now ≡ []) × (seen ≡ empty_table 0 10 7)) ⊎ IsForm seen saved.now) }
