@@ -10,7 +10,7 @@ use Rattle.sketch_hash.specs.Murmur.{block_words}
 use Rattle.sketch_hash.specs.OneToOne.{OneToOne}
 use Rattle.sketch_hash.specs.Laws.{AreWords, IsBlock, PieceLaws}
 use Rattle.sketch_hash.proofs.Undoes.{Undoes, one_to_one}
-use Rattle.sketch_hash.proofs.PiecesLemmas.{IsPiece, rest-whole, pieces-aligned, rest-aligned, pieces_short, rest_short, pieces_one, rest-are, rest-lt, length-rest_same}
+use Rattle.sketch_hash.proofs.PiecesLemmas.{IsPiece, rest-whole, pieces-aligned, rest-aligned, pieces_short, rest_short, pieces_one, rest-are, rest-lt, length_rest_same}
 
 -- eight bytes and their number
 pub word_of_bytes : Undoes (IsPiece 8) IsWord le eight
@@ -78,7 +78,7 @@ piece_laws = record {
   one_piece = pieces_one;
   rest_bytes = rest-are;
   rest_below = rest-lt;
-  rest_length = length-rest_same;
+  rest_length = length_rest_same;
   eight_are = low_bytes-are 8;
   eight_read = word_of_bytes.forth;
 }

@@ -14,7 +14,7 @@ use Rattle.sketch_hash.specs.Pieces.{State, absorb, state_after}
 use Rattle.sketch_hash.specs.Murmur.{murmur_after}
 use Rattle.sketch_hash.specs.Xxh64.{Lanes, xxh64_after}
 use Rattle.sketch_hash.proofs.CopyLemmas.{copy_taken}
-use Rattle.sketch_hash.proofs.PiecesLemmas.{length-rest}
+use Rattle.sketch_hash.proofs.PiecesLemmas.{length_rest}
 
 -- where as many bytes wait as the total has beyond the full pieces, it is so after a write
 counts-after : {P R : Type 0} (w : ℕ) (read : List ℕ → R) (f : P → R → P) (state : State P) (bytes : List ℕ) →
@@ -26,7 +26,7 @@ counts-after w read f state [] p h e = e
 counts-after w read f state (b ∷ bytes) p h e =
     let n : ℕ = length (b ∷ bytes) in
     let all : List ℕ = state.waiting ++ b ∷ bytes in
-    length-rest w all ∙ sym (mod-eq-sub-div-mul (length all) w)
+    length_rest w all ∙ sym (mod-eq-sub-div-mul (length all) w)
     ∙ ap (λ k. k % w) (length-append state.waiting (b ∷ bytes) ∙ ap (λ k. k + n) e)
     ∙ mod-add-mod state.total w n ∙ sym (h (state.total + n))
 

@@ -87,18 +87,18 @@ pub rest-are : (w : ℕ) (bytes : List ℕ) → AreBytes bytes → AreBytes (res
 unfolding rest
 rest-are w bytes h = All-drop IsByte (length bytes / w * w) bytes h
 
-pub length-rest : (w : ℕ) (bytes : List ℕ) → length (rest w bytes) ≡ length bytes - length bytes / w * w
+pub length_rest : (w : ℕ) (bytes : List ℕ) → length (rest w bytes) ≡ length bytes - length bytes / w * w
 unfolding rest
-length-rest w bytes = length-drop (length bytes / w * w) bytes
+length_rest w bytes = length-drop (length bytes / w * w) bytes
 
-pub length-rest_same : (w : ℕ) (a b : List ℕ) → length a ≡ length b → length (rest w a) ≡ length (rest w b)
-length-rest_same w a b e = length-rest w a ∙ ap (λ n. n - n / w * w) e ∙ sym (length-rest w b)
+pub length_rest_same : (w : ℕ) (a b : List ℕ) → length a ≡ length b → length (rest w a) ≡ length (rest w b)
+length_rest_same w a b e = length_rest w a ∙ ap (λ n. n - n / w * w) e ∙ sym (length_rest w b)
 
 -- the rest is shorter than a piece
 pub rest-lt : (w : ℕ) (bytes : List ℕ) → 0 < w → length (rest w bytes) < w
-rest-lt w bytes p = rw (length-rest w bytes) (omega arith)
+rest-lt w bytes p = rw (length_rest w bytes) (omega arith)
 
 -- a slice as arrays of w bytes is its pieces
-pub chunks-are : (n w : ℕ) (bytes : List ℕ) → first_chunks w n bytes ≡ first_pieces n w bytes
-chunks-are zero w bytes = refl
-chunks-are (suc n) w bytes = ap (λ t. take w bytes ∷ t) (chunks-are n w (drop w bytes))
+pub chunks_are : (n w : ℕ) (bytes : List ℕ) → first_chunks w n bytes ≡ first_pieces n w bytes
+chunks_are zero w bytes = refl
+chunks_are (suc n) w bytes = ap (λ t. take w bytes ∷ t) (chunks_are n w (drop w bytes))

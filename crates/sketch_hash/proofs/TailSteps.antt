@@ -10,7 +10,7 @@ use Rattle.sketch_hash.specs.Words.{IsWord}
 use Rattle.sketch_hash.specs.Pieces.{first_pieces, pieces, rest}
 use Rattle.sketch_hash.specs.Xxh64.{steps_of, steps}
 use Rattle.sketch_hash.specs.Laws.{IsStep, widths}
-use Rattle.sketch_hash.proofs.PiecesLemmas.{IsPiece, pieces-are, rest-are, length-rest_same}
+use Rattle.sketch_hash.proofs.PiecesLemmas.{IsPiece, pieces-are, rest-are, length_rest_same}
 
 -- the number of at most eight bytes is a word
 piece-word : (w : ℕ) → w ≤ 8 → (piece : List ℕ) → IsPiece w piece → IsWord (le piece)
@@ -60,8 +60,8 @@ widths-steps waiting =
 -- tails of one length have steps of the same widths
 pub widths-same : (a b : List ℕ) → length a ≡ length b → widths (steps a) ≡ widths (steps b)
 widths-same a b e =
-    let behind_eights = length-rest_same 8 a b e in
-    let behind_fours = length-rest_same 4 (rest 8 a) (rest 8 b) behind_eights in
+    let behind_eights = length_rest_same 8 a b e in
+    let behind_fours = length_rest_same 4 (rest 8 a) (rest 8 b) behind_eights in
     let eights = steps_of-same 8 a b e in
     let fours = steps_of-same 4 (rest 8 a) (rest 8 b) behind_eights in
     let ones = steps_of-same 1 (rest 4 (rest 8 a)) (rest 4 (rest 8 b)) behind_fours in

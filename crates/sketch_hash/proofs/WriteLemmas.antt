@@ -6,7 +6,7 @@ use Rattle.sketch_hash.specs.Pieces.{pieces, rest, State}
 use Rattle.sketch_hash.specs.Xxh64.{Lanes, stripe_step, seeded_step, xxh64_after}
 use Rattle.sketch_hash.specs.Lanes.{each_lane}
 use Rattle.sketch_hash.proofs.LanesLemmas.{fold-seeded}
-use Rattle.sketch_hash.proofs.PiecesLemmas.{length-rest}
+use Rattle.sketch_hash.proofs.PiecesLemmas.{length_rest}
 use Rattle.sketch_hash.proofs.StateLemmas.{state_after-fresh, state_after-through}
 
 -- the lanes after the stripes of bytes, beside the seed
@@ -57,5 +57,5 @@ after-begun s bytes missing t p e h =
 pub left-count : (count : ℕ) (bytes : List ℕ) → count < 32 → (32 - count) % 32 ≤ length bytes →
     (count + length bytes) % 32 ≡ length (rest 32 (drop ((32 - count) % 32) bytes))
 left-count count bytes low h =
-    rw (length-rest 32 (drop ((32 - count) % 32) bytes), length-drop ((32 - count) % 32) bytes)
+    rw (length_rest 32 (drop ((32 - count) % 32) bytes), length-drop ((32 - count) % 32) bytes)
     (omega arith)

@@ -2,7 +2,7 @@
 use Rattle.std.proofs.Common.{◌≡◌, ℕ, ◌%◌, ◌^◌, ◌<◌, ◌≤◌, List, [], ◌∷◌, length, take, drop, refl, sym, ap, ◌∙◌, arith, map, length-drop, zero-add}
 use Rattle.std.specs.List.{fold}
 use Rattle.std.proofs.Math.Nat.{mod-eq_of_lt}
-use Rattle.std.proofs.lemmas.List.{map-id}
+use Rattle.std.proofs.lemmas.List.{nil_from_length, map-id}
 use Rattle.std.proofs.lemmas.Bool.{lt-ltb, le-ltb}
 use Rattle.std.proofs.lemmas.List.Folds.{fold-map}
 use Rattle.sketch_base.specs.Bytes.{le, eight}
@@ -102,24 +102,29 @@ pub xxh64_answer-stands : (seed : ℕ) (bytes : List ℕ) (state : State (ℕ ×
 xxh64_answer-stands seed bytes state stands = ap xxh64_answer stands ∙ xxh64_answer-after seed bytes
 
 -- fewer bytes than a stripe start from the seed
-pub xxh64-short : (seed : ℕ) (bytes : List ℕ) → length bytes < 32 →
+pub of_short : (seed : ℕ) (bytes : List ℕ) → length bytes < 32 →
     xxh64 seed bytes ≡ avalanche (fold tail_step (plus (plus seed prime5) (length bytes)) (steps bytes))
 unfolding xxh64 finalize lanes
-xxh64-short seed bytes h =
+of_short seed bytes h =
     let count : length bytes % 2 ^ 64 ≡ length bytes = mod-eq_of_lt (omega (arith, h)) in
     let short = lt-ltb (length bytes) 32 h in
     let all = rest_short 32 bytes h in
     rw (count, short, all) refl
 
 -- a stripe and more start from the lanes
-pub xxh64-long : (seed : ℕ) (bytes : List ℕ) → 32 ≤ length bytes → length bytes < 2 ^ 64 →
+pub of_long : (seed : ℕ) (bytes : List ℕ) → 32 ≤ length bytes → length bytes < 2 ^ 64 →
     xxh64 seed bytes ≡ avalanche (fold tail_step
     (plus (merge (each_lane (lanes_start seed) (pieces 32 bytes))) (length bytes)) (steps (rest 32 bytes)))
 unfolding xxh64 finalize lanes lane lanes_start
-xxh64-long seed bytes h w =
+of_long seed bytes h w =
     let count : length bytes % 2 ^ 64 ≡ length bytes = mod-eq_of_lt w in
     let long = le-ltb (length bytes) 32 h in
     rw (count, long) refl
+
+-- no bytes are no step of the tail
+pub no_steps : (hash : ℕ) (tail : List ℕ) → length tail ≡ 0 → fold tail_step hash (steps tail) ≡ hash
+unfolding pieces rest steps
+no_steps hash tail none = rw (nil_from_length tail none) refl
 
 -- eight bytes are one step of the tail
 pub xxh64-eight : (seed x : ℕ) → IsWord x →

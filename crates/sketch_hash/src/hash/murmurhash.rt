@@ -14,7 +14,7 @@ pub use self::state::MurmurState;
 use self::tail::{join_words, read_partial_le, read_partial_words, split_words};
 use super::DEFAULT_UPDATE_SEED;
 use super::hasher::Hasher;
-use super::words::{read_u128_le, rotate, xor_shift};
+use super::words::{read_u128_le, rotate, split_pieces, xor_shift};
 use std::fmt;
 use std::marker::Model;
 
@@ -86,10 +86,11 @@ impl MurmurHash3X64128 {
     ///
     /// It reads the bytes where they lie, which takes less time than a hasher for short keys.
     #[inline(always)]
+    #[tactic(auto, unfolding(crate::specs::Murmur::murmur))]
     pub fn hash(bytes: &[u8], seed: u64) -> (u64, u64)
         ensures { result ≡ murmur seed bytes.now }
     {
-        let (blocks, tail) = bytes.as_chunks::<BLOCK>();
+        let (blocks, tail) = split_pieces::<BLOCK>(bytes);
         let (h1, h2) = fold_blocks(seed, seed, blocks);
         let (h1, h2) = mix_tail(h1, h2, tail);
         finalize(h1, h2, bytes.len() as u64)
@@ -140,7 +141,7 @@ impl MurmurHash3X64128 {
         let first = read_u128_le(&bytes[..BLOCK]) << (8 * self.count);
         let (k1, k2) = split_words(join_words(self.low, self.high).wrapping_add(first));
         let (h1, h2) = step(self.h1, self.h2, k1, k2);
-        let (blocks, last) = bytes[BLOCK - self.count..].as_chunks::<BLOCK>();
+        let (blocks, last) = split_pieces::<BLOCK>(&bytes[BLOCK - self.count..]);
         (self.h1, self.h2) = fold_blocks(h1, h2, blocks);
         (self.low, self.high) = split_words(read_partial_le(last));
         self.count = last.len();

@@ -1,7 +1,8 @@
-//! Arithmetic of 64-bit words, and words read from bytes.
+//! Arithmetic of 64-bit words, words read from bytes, and bytes cut into pieces.
 
 ghost use Rattle.std.specs.Prelude.{◌≡◌, ◌/◌, ◌^◌, ◌<◌, length};
 ghost use Rattle.sketch_base.specs.Bytes.{le};
+ghost use Rattle.sketch_hash.specs.Pieces.{pieces, rest};
 ghost use Rattle.sketch_hash.specs.Words.{xor, xor_shift, rotate};
 
 #[inline(always)]
@@ -66,4 +67,15 @@ pub(crate) fn rotate<const PLACES: u32>(word: u64) -> u64
     ensures { result ≡ rotate word PLACES }
 {
     word.rotate_left(PLACES)
+}
+
+/// The whole pieces of `WIDTH` bytes, and the bytes after them.
+#[inline(always)]
+pub(super) fn split_pieces<const WIDTH: usize>(bytes: &[u8]) -> (&[[u8; WIDTH]], &[u8])
+    requires { 0 < WIDTH }
+    ensures whole { result.0.now ≡ pieces WIDTH bytes.now }
+    ensures rest { result.1.now ≡ rest WIDTH bytes.now }
+    ensures short { length result.1.now < WIDTH }
+{
+    bytes.as_chunks::<WIDTH>()
 }

@@ -19,7 +19,7 @@ use self::primes::{PRIME1, PRIME2, PRIME3, PRIME4, PRIME5};
 pub use self::state::XxHash64State;
 use super::copy::copy_small;
 use super::hasher::Hasher;
-use super::words::{read_u32_le, read_u64_le, rotate, xor_shift};
+use super::words::{read_u32_le, read_u64_le, rotate, split_pieces, xor_shift};
 use std::fmt;
 use std::marker::Model;
 use std::simd::prelude::*;
@@ -88,6 +88,7 @@ impl XxHash64 {
     ///
     /// It reads the bytes where they lie, which takes less time than a hasher for short keys.
     #[inline(always)]
+    #[tactic(auto, using(crate::proofs::Xxh64Lemmas::of_short))]
     pub fn hash(bytes: &[u8], seed: u64) -> u64
         ensures { result ≡ xxh64 seed bytes.now }
     {
@@ -197,7 +198,7 @@ impl XxHash64 {
         ensures { self.new ≡ xxh64_after self.old bytes.now }
     {
         self.total = self.total.wrapping_add(bytes.len() as u64);
-        let (stripes, last) = bytes.as_chunks::<STRIPE>();
+        let (stripes, last) = split_pieces::<STRIPE>(bytes);
         self.lanes = fold_run(ScalarLanes::from_vector(self.lanes), stripes).into_vector();
         copy_small(&mut self.buffer, 0, last);
         self.count = last.len();
@@ -265,6 +266,7 @@ impl Hasher for XxHash64 {
 /// The hash of one key of many. A long key takes no call, and the last words go through a loop:
 /// where lengths vary, processors mispredict fewer of its branches.
 #[inline(always)]
+#[tactic(auto, using(crate::proofs::Xxh64Lemmas::of_short, crate::proofs::Xxh64Lemmas::of_long))]
 pub(super) fn hash_one_of_many(bytes: &[u8], seed: u64) -> u64
     ensures { result ≡ xxh64 seed bytes.now }
 {
@@ -272,23 +274,36 @@ pub(super) fn hash_one_of_many(bytes: &[u8], seed: u64) -> u64
         let hash = seed.wrapping_add(PRIME5).wrapping_add(bytes.len() as u64);
         return avalanche(fold_tail(hash, bytes));
     }
-    let (stripes, last) = bytes.as_chunks::<STRIPE>();
+    let (stripes, last) = split_pieces::<STRIPE>(bytes);
     let hash = merge_stripes(stripes, seed).wrapping_add(bytes.len() as u64);
     avalanche(fold_tail(hash, last))
 }
 
 // The hash of 32 bytes and more. It is a call of its own, so that it costs short keys nothing.
 #[inline(never)]
+#[tactic(auto, using(crate::proofs::Xxh64Lemmas::of_long))]
 fn hash_long(bytes: &[u8], seed: u64) -> u64
     requires { 32 ≤ length bytes.now }
     ensures { result ≡ xxh64 seed bytes.now }
 {
-    let (stripes, last) = bytes.as_chunks::<STRIPE>();
-    let hash = merge_stripes(stripes, seed).wrapping_add(bytes.len() as u64);
-    if last.is_empty() {
+    let (stripes, last) = split_pieces::<STRIPE>(bytes);
+    mix_rest(
+        merge_stripes(stripes, seed).wrapping_add(bytes.len() as u64),
+        last,
+    )
+}
+
+// The last mixing, after the tail, of which whole stripes leave none.
+#[inline(always)]
+#[tactic(auto, using(crate::proofs::Xxh64Lemmas::no_steps))]
+fn mix_rest(hash: u64, tail: &[u8]) -> u64
+    requires { length tail.now < 32 }
+    ensures { result ≡ avalanche (fold tail_step hash (steps tail.now)) }
+{
+    if tail.is_empty() {
         return avalanche(hash);
     }
-    avalanche(fold_rest(hash, last))
+    avalanche(fold_rest(hash, tail))
 }
 
 // The lanes of stripes as one word.

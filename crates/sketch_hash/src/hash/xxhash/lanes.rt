@@ -7,7 +7,7 @@ ghost use Rattle.sketch_hash.specs.Lanes.{each_lane, lanes_of, stripe_words};
 
 use super::primes::{PRIME1, PRIME2};
 use crate::hash::copy::copy_small;
-use crate::hash::words::{read_u64_le, rotate};
+use crate::hash::words::{read_u64_le, rotate, split_pieces};
 use std::simd::prelude::*;
 
 // The fewest stripes of a run that is worth a call.
@@ -107,7 +107,7 @@ pub(super) fn consume(
         copy_small(buffer, count, front);
         lanes.stripe_round(buffer);
     }
-    let (stripes, last) = behind.as_chunks::<32>();
+    let (stripes, last) = split_pieces::<32>(behind);
     fold_stripes(&mut lanes, stripes);
     copy_small(buffer, 0, last);
     lanes

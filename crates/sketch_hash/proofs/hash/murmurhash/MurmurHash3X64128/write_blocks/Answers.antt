@@ -5,7 +5,6 @@ use Rattle.sketch_base.specs.Bytes.{AreBytes, le, low_bytes}
 use Rattle.sketch_hash.specs.Pieces.{State, pieces, rest}
 use Rattle.sketch_hash.specs.Murmur.{murmur_after, step, block_words}
 use Rattle.sketch_base.proofs.BytesLemmas.{length-low_bytes, le-lt, low_bytes-le, bytes_known}
-use Rattle.sketch_hash.proofs.PiecesLemmas.{chunks-are}
 use Rattle.sketch_hash.proofs.StateLemmas.{state_after-through}
 use Rattle.sketch_hash.proofs.NumberLemmas.{block_words-filled, number-lt, words-lt, words-number}
 use Rattle.sketch_hash.proofs.hash.murmurhash.MurmurHash3X64128.write_blocks.Goals as goal
@@ -15,12 +14,12 @@ unfolding rest
 invariant_of-self c =
     let bytes : List ℕ = c.args.bytes.now in
     let missing : ℕ = 16 - c.self.inside.count in
-    let last : List ℕ = c.as_chunks.result.1.now in
+    let last : List ℕ = c.split_pieces.result.1.now in
     let bytes_are : AreBytes bytes = bytes_known bytes c.type_inv.bytes in
     let behind : List ℕ = drop missing bytes in
     let long : length behind ≤ length bytes - missing = rw (length-drop missing bytes) (omega arith) in
     let cut : take (length bytes - missing) behind ≡ behind = take_all (length bytes - missing) behind long in
-    let waits : last ≡ rest 16 behind = c.as_chunks.ensures.back ∙ ap (rest 16) cut in
+    let waits : last ≡ rest 16 behind = c.split_pieces.ensures.rest ∙ ap (rest 16) cut in
     let are : AreBytes last = subst AreBytes (sym waits)
     (All-drop (λ x. x < 256) _ behind (All-drop (λ x. x < 256) missing bytes bytes_are)) in
     let short : length last < 16 = search rules in
@@ -33,7 +32,7 @@ returns c =
     let i = c.self.inside in
     let bytes : List ℕ = c.args.bytes.now in
     let missing : ℕ = 16 - i.count in
-    let last : List ℕ = c.as_chunks.result.1.now in
+    let last : List ℕ = c.split_pieces.result.1.now in
     let bytes_are : AreBytes bytes = bytes_known bytes c.type_inv.bytes in
     let n : ℕ = i.low + i.high * 2 ^ 64 in
     let below : n < 256 ^ i.count = number-lt i.count i.low i.high c.self.invariant.1 c.self.invariant.2 in
@@ -43,9 +42,9 @@ returns c =
     let behind : List ℕ = drop missing bytes in
     let long : length behind ≤ length bytes - missing = rw (length-drop missing bytes) (omega arith) in
     let cut : take (length bytes - missing) behind ≡ behind = take_all (length bytes - missing) behind long in
-    let blocks : c.as_chunks.result.0.now ≡ pieces 16 behind =
-    c.as_chunks.ensures.front ∙ chunks-are _ 16 _ ∙ ap (pieces 16) cut in
-    let waits : last ≡ rest 16 behind = c.as_chunks.ensures.back ∙ ap (rest 16) cut in
+    let blocks : c.split_pieces.result.0.now ≡ pieces 16 behind =
+    c.split_pieces.ensures.whole ∙ ap (pieces 16) cut in
+    let waits : last ≡ rest 16 behind = c.split_pieces.ensures.rest ∙ ap (rest 16) cut in
     let are : AreBytes last = subst AreBytes (sym waits)
     (All-drop (λ x. x < 256) _ behind (All-drop (λ x. x < 256) missing bytes bytes_are)) in
     let low : i.count < 16 = c.self.invariant.0 in

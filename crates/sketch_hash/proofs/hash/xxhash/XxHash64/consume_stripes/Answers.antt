@@ -4,29 +4,26 @@ use Rattle.std.proofs.lemmas.List.{nil_from_length}
 use Rattle.sketch_hash.specs.Lanes.{each_lane, lanes_of}
 use Rattle.sketch_hash.specs.Pieces.{State, pieces, rest}
 use Rattle.sketch_hash.specs.Xxh64.{Lanes}
-use Rattle.sketch_hash.proofs.PiecesLemmas.{chunks-are}
 use Rattle.sketch_hash.proofs.WriteLemmas.{after-fresh}
 use Rattle.sketch_hash.proofs.hash.xxhash.XxHash64.consume_stripes.Goals as goal
 
 pub returns : goal.returns
-unfolding pieces rest
 returns c =
     let i = c.self.inside in
     let bytes : List ℕ = c.args.bytes.now in
-    let last : List ℕ = c.as_chunks.result.1.now in
+    let last : List ℕ = c.split_pieces.result.1.now in
     let held : List ℕ = take i.count i.buffer in
     let s : State (ℕ × Lanes) =
     record { folded = (i.seed, lanes_of i.lanes); total = i.total; waiting = held } in
     let none : length held ≡ 0 = rw (← c.self.view_is) at c.requires in
     let empty : held ≡ [] = nil_from_length held none in
     let total : i.total < 2 ^ 64 = search rules in
-    let stripes : c.as_chunks.result.0.now ≡ pieces 32 bytes =
-    c.as_chunks.ensures.front ∙ chunks-are _ 32 bytes in
+    let stripes : c.split_pieces.result.0.now ≡ pieces 32 bytes = c.split_pieces.ensures.whole in
     let run = c.into_vector-self-inside.ensures ∙ c.fold_run.ensures
-    ∙ ap (λ v. each_lane v c.as_chunks.result.0.now) c.from_vector.ensures
+    ∙ ap (λ v. each_lane v c.split_pieces.result.0.now) c.from_vector.ensures
     ∙ ap (each_lane (lanes_of i.lanes)) stripes in
     let waits : take (length last) c.copy_small.new.buffer ≡ rest 32 bytes =
-    ap (take (length last)) c.copy_small.ensures ∙ take-append_seam last _ ∙ c.as_chunks.ensures.back in
+    ap (take (length last)) c.copy_small.ensures ∙ take-append_seam last _ ∙ c.split_pieces.ensures.rest in
     rw (← c.self.view_is, waits)
     (ap (λ v. record {
       folded = (i.seed, v);

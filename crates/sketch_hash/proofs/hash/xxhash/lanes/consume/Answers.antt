@@ -5,14 +5,12 @@ use Rattle.sketch_hash.specs.Pieces.{State, pieces, rest}
 use Rattle.sketch_hash.specs.Xxh64.{Lanes, xxh64_after, stripe_step}
 use Rattle.sketch_hash.specs.ScalarLanes.{lanes_of_scalars, state_of_scalars}
 use Rattle.sketch_hash.specs.Lanes.{each_lane}
-use Rattle.sketch_hash.proofs.PiecesLemmas.{chunks-are}
 use Rattle.sketch_hash.proofs.CopyLemmas.{copy_full}
 use Rattle.sketch_hash.proofs.WriteLemmas.{after-fresh, after-begun, left-count}
 use Rattle.sketch_hash.proofs.hash.xxhash.lanes.consume.Goals as goal
 use Rattle.sketch_hash.proofs.hash.xxhash.lanes.consume.Goals.{then-missing-gt0, else-missing-gt0}
 
 pub returns : goal.returns
-unfolding pieces rest
 returns c = λ seed total below.
     let bytes : List ℕ = c.args.bytes.now in
     let buffer : List ℕ = c.args.buffer.now in
@@ -60,13 +58,13 @@ returns c = λ seed total below.
           }) (sym none)
           ∙ ap left (sym same)
     ] in
-    let last : List ℕ = c.as_chunks.result.1.now in
-    let lastly : last ≡ rest 32 (drop missing bytes) = c.as_chunks.ensures.back ∙ ap (rest 32) behind in
+    let last : List ℕ = c.split_pieces.result.1.now in
+    let lastly : last ≡ rest 32 (drop missing bytes) = c.split_pieces.ensures.rest ∙ ap (rest 32) behind in
     let run : lanes_of_scalars c.fold_stripes.new.lanes
     ≡ each_lane (lanes_of_scalars c.if-missing-gt0.lanes) (pieces 32 (drop missing bytes)) =
     c.fold_stripes.ensures
     ∙ ap (each_lane (lanes_of_scalars c.if-missing-gt0.lanes))
-    (c.as_chunks.ensures.front ∙ chunks-are _ 32 _ ∙ ap (pieces 32) behind) in
+    (c.split_pieces.ensures.whole ∙ ap (pieces 32) behind) in
     let waiting : take ((count + length bytes) % 32) c.copy_small-2.new.buffer
     ≡ rest 32 (drop missing bytes) =
     ap (λ n. take n c.copy_small-2.new.buffer)
