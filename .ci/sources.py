@@ -5,7 +5,12 @@ import re
 
 def is_source(path):
     """Whether a file is code of a crate, and no test."""
-    return bool(re.match(r"crates/(?!sketch_vectors/)\w+/src/.*\.rt$", path)) and "tests" not in path
+    return bool(re.match(r"crates/(?!sketch_vectors/)\w+/src/(?!.*\btests(?:/|\.rt$)).*\.rt$", path))
+
+
+def code_of(text):
+    """A text without its comments; what stands between quotes stays."""
+    return re.sub(r'("(?:\\.|[^"\\])*")|//.*', lambda match: match.group(1) or "", text)
 
 
 # ---- docs/memory.md
@@ -27,7 +32,7 @@ OWN = ("header.insert", "table.insert", "seen.insert", "one.insert", "other.inse
 TELLING = "|".join([
     r"Err(?:::<.*?>)?\((?:self|\w*Error)\)", r"AllocError", r"OutOfMemory", r"NoMemory", r"fmt::Error", r"Error::from\(",
     r"(?<!MurmurHash3X64128)(?<!XxHash64)::default\b", r"(?<!UnexpectedEof)\.into\(\)", r"\bwrite(?:ln)?!\((?!\s*f\b)",
-    r"\bok_or(?:_else)?\(\w*Error\)",
+    r"\bok_or(?:_else)?\(\w*Error\)", r"\bio::Error::\w+\(", r"\bconst_error\b", r"\b(?:Into::into|From::from)\b",
 ])
 
 CALLS = re.compile(
@@ -49,7 +54,7 @@ def requests_of(body):
     """The calls of a body that are handed the allocator or let a list grow, and the errors that it makes. An
     error that is returned where it is made is shown as `Err(f(..))`, a request for memory with its size, and
     what a closure does, perhaps more than once, as `closure(f)`."""
-    code = re.sub(r"//.*", "", body)
+    code = code_of(body)
     found = []
     for match in CALLS.finditer(code):
         is_handed_back, *names = match.groups()
@@ -66,7 +71,7 @@ def requests_of(body):
 
 def tellings_of(body):
     """The lines of a body that tell of memory by themselves; a `return` alone with the line before it."""
-    lines = [re.sub(r" *//.*", "", line).strip() for line in body.split("\n")]
+    lines = [line.strip() for line in code_of(body).split("\n")]
     return [
         f"{lines[at - 1]} {line}" if line.startswith("return") else line
         for at, line in enumerate(lines)
@@ -74,8 +79,11 @@ def tellings_of(body):
     ]
 
 
+# What may stand before `fn`; and who may see an item.
+SEEN = r"(?:pub(?:\([^)]*\))? )?"
+HEAD = rf"{SEEN}(?:(?:const|final|unsafe|extern \"C\") )*"
 FUNCTIONS = re.compile(
-    r"^( *)(?:pub(?:\([a-z]+\))? )?(?:(?:const|final|unsafe|extern \"C\") )*fn (\w+)(.*?)^\1(?:\}|\{\})$", re.M | re.S
+    rf"^( *){HEAD}fn (\w+)(.*?)^\1(?:\}}|\{{\}})$", re.M | re.S
 )
 
 
@@ -98,30 +106,48 @@ BY_HAND = {
     ("Debug", "Error"), ("Debug", "MurmurHash3X64128"), ("Debug", "Value<T, S>"), ("Debug", "XxHash64"),
     ("Default", "MurmurHash3X64128"), ("Default", "XxHash64"), ("Hash", "Point"), ("Hash", "Value<T, S>"),
 }
-IMPLEMENTATIONS = re.compile(r"^(\s*(?:unsafe )?impl\b.*?(\w+)(?:<.*>)? for (.+) \{)", re.M)
+IMPLEMENTATIONS = re.compile(
+    r"^ *((?:unsafe )?impl\b[^{;]*?(\w+)(?:<[^{;]*>)? for ([^{;]+?)(?:\s+where\b[^{;]*)?\s*\{)", re.M
+)
 
-# Lines that hide something from the above: another name, an error for memory as a constant, a macro. And
-# texts that depend on how they are to be printed, and closures of several lines.
+# Lines that hide something from the above: another name, another path, a macro, a comment that is no line,
+# a module inside another, an allocator that is called otherwise. And texts that depend on how they are to be
+# printed, and closures of several lines.
 HIDING = re.compile("|".join([
     rf"^.*\b(?:AllocError|Error|OutOfMemory|Global|{'|'.join(DERIVED)}) as \w+.*",
-    r"^\s*use (?:std::)?fmt\b.*(?:\bError\b|\*).*",
+    r"^\s*use (?:std::)?(?:fmt|io)\b.*(?:\bError\b|\*).*",
     r"^.*= (?:move )?\|[^|\n]*\| \{$",
-    r"^\s*(?:pub(?:\(\w+\))? )?(?:const|static|type)\b(?! fn).*(?:AllocError|OutOfMemory|NoMemory).*",
     r"^.*\b(?:macro_rules!|include!).*",
+    r"^.*\bf\.fill\(.*",
     r"^.*[.:](?:alternate|pad\w*|precision|width|sign\w*)\((?<!kind\(\)\.width\().*",
+    r"^.*/\*.*",
+    rf"^ *{SEEN}mod \w+ \{{",
+    r"^.*\b(?!alloc\b)\w+: &?(?:mut )?(?:Global|impl Alloc)\b.*",
+    rf"^(?! *{HEAD}fn \w)[^\"\n]*\bfn \w+\s*[<(].*",
 ]), re.M)
+
+# Items, outside of functions, that could stand for an error.
+ITEMS = re.compile(rf"^ *{SEEN}(?:const|static|type|struct|union)\b(?! fn)[^;}}]*[;}}]", re.M)
 
 
 def written_by_hand(text):
-    """What a source has by hand beyond BY_HAND, and the lines that hide something."""
+    """What a source has by hand beyond BY_HAND, lines that hide something, and what prints. (What docs/memory.md
+    shows in full is taken out before.)"""
+    text = code_of(text)
     found = [
-        line.strip()
-        for line, trait, name in IMPLEMENTATIONS.findall(text)
+        " ".join(head.split())
+        for head, trait, name in IMPLEMENTATIONS.findall(text)
         if trait in DERIVED
         and (trait, name) not in BY_HAND
         and not (trait == "Hash" and re.fullmatch(r"[ui]\d+", name))
     ]
-    return found + HIDING.findall(text)
+    found += [line.strip() for line in HIDING.findall(text)]
+    found += [
+        " ".join(item.split())
+        for item in ITEMS.findall(FUNCTIONS.sub("", text))
+        if re.search(r"AllocError|OutOfMemory|NoMemory|fmt::(?:Error|Result)|io::Error", item)
+    ]
+    return found + [line.strip() for line in re.findall(r"^.*fmt::Formatter.*$", text, re.M)]
 
 
 # ---- docs/contracts.txt
@@ -132,7 +158,7 @@ def heads(text):
     found, depth, is_open = [], None, False
     for line in text.split("\n"):
         if depth is None:
-            start = re.match(r" *(pub(?:\(\w+\))? |unsafe |extern \"C\" |const |final )*(fn|ghost|impl|trait|struct|enum)\b(?! use)", line)
+            start = re.match(r" *(pub(?:\([^)]*\))? |unsafe |extern \"C\" |const |final )*(fn|ghost|impl|trait|struct|enum)\b(?! use)", line)
             if not start:
                 continue
             kind = start.group(2)

@@ -204,7 +204,7 @@ pub fn is_found(seen: &MemberTable, key: &[u8]) -> bool
 }
 
 /// Inserts two keys into two empty tables, in either order, which makes the same table of both.
-/// Answers whether each contains the first.
+/// Answers whether each contains the first: it does.
 pub fn insert_in_either_order(
     one: &mut MemberTable,
     other: &mut MemberTable,
@@ -213,7 +213,8 @@ pub fn insert_in_either_order(
 ) -> (bool, bool)
     requires same { one.old ≡ other.old }
     requires empty { (i : ℕ) → IsSet one.old.bits i → ⊥ }
-    ensures { one.new ≡ other.new }
+    ensures same { one.new ≡ other.new }
+    ensures found { IsTrue result.0 × IsTrue result.1 }
 {
     insert_law();
     let (first, second) = (raw_bytes::from_slice(a), raw_bytes::from_slice(b));

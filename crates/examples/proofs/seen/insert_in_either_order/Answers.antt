@@ -1,6 +1,6 @@
-use Rattle.std.proofs.Common.{◌≡◌, ◌∙◌, ℕ, List, [], ◌∷◌, ap, sym}
+use Rattle.std.proofs.Common.{◌≡◌, ◌∙◌, ℕ, List, [], ◌∷◌, ap, sym, refl, lit≤}
 use Rattle.sketch_member.specs.Laws.{InsertLaw}
-use Rattle.sketch_member.specs.Table.{Table, Inserts, IsSet, IsTable, one_more}
+use Rattle.sketch_member.specs.Table.{Table, Inserts, IsMember, IsSet, IsTable, one_more}
 use Rattle.examples.proofs.SeenLemmas.{of_two, same_two}
 use Rattle.examples.proofs.seen.insert_in_either_order.Goals as goal
 
@@ -18,9 +18,26 @@ same_table law table one two other_one other_two x y empty a b c d is_two is_oth
     let counts = ap one_more a.count ∙ ap one_more (sym c.count) in
     same.1 (b.count ∙ counts ∙ sym d.count)
 
-pub returns : goal.returns
-returns c =
+pub returns-clause-same : goal.returns-clause-same
+returns-clause-same c =
     let other = rw (← c.requires.same) at c.insert-3.ensures in
     same_table c.insert_law.ensures _ _ _ _ _ _ _ c.requires.empty c.insert.ensures
     c.insert-2.ensures other c.insert-4.ensures c.contains.ensures.is_table
     c.contains-2.ensures.is_table
+
+-- a table of two values contains both
+both_found : InsertLaw → (table one two : Table) (x y : List ℕ) → ((i : ℕ) → IsSet table.bits i → ⊥) →
+    Inserts x table one → Inserts y one two → IsMember two x × IsMember two y
+both_found law table one two x y empty a b =
+    let stands = of_two law table one two x y empty a b in (
+      law.found two x (x ∷ y ∷ []) stands (0, lit≤ tt, refl),
+      law.found two y (x ∷ y ∷ []) stands (1, lit≤ tt, refl),
+    )
+
+pub returns-clause-found : goal.returns-clause-found
+returns-clause-found c =
+    let other = rw (← c.requires.same) at c.insert-3.ensures in
+    let law = c.insert_law.ensures in
+    let first = both_found law _ _ _ _ _ c.requires.empty c.insert.ensures c.insert-2.ensures in
+    let second = both_found law _ _ _ _ _ c.requires.empty other c.insert-4.ensures in
+    (c.contains.ensures.is_member.1 first.0, c.contains-2.ensures.is_member.1 second.1)
