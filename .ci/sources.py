@@ -10,7 +10,7 @@ def is_source(path):
 
 def code_of(text):
     """A text without its comments; what stands between quotes stays."""
-    return re.sub(r'("(?:\\.|[^"\\])*")|//.*', lambda match: match.group(1) or "", text)
+    return re.sub(r"""('"'|"(?:\\.|[^"\\])*")|//.*""", lambda match: match.group(1) or "", text)
 
 
 # ---- docs/memory.md
