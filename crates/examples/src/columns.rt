@@ -24,8 +24,7 @@ pub fn hash_texts(texts: &[u8], offsets: &[u64], out: &mut [u64]) -> Result<(), 
         × (fault < length offsets.now → slice_index offsets.now fault ≤ length texts.now →
         slice_index offsets.now fault < slice_index (0 ∷ offsets.now) fault)) }
 {
-    XxHash64::hash_each(texts, offsets, 9001, out)?;
-    Ok(())
+    XxHash64::hash_each(texts, offsets, 9001, out)
 }
 
 /// The XXH64 of each number, under the seed 9001; or how many numbers there are, where they are
@@ -37,6 +36,5 @@ pub fn hash_numbers(numbers: &[u64], out: &mut [u64]) -> Result<(), usize>
     ensures unchanged { IfErr result (λ fault.
         (fault ≡ length numbers.now) × (fault < length out.old) × (out.new ≡ out.old)) }
 {
-    XxHash64::hash_each_u64(numbers, 9001, out)?;
-    Ok(())
+    XxHash64::hash_each_u64(numbers, 9001, out)
 }

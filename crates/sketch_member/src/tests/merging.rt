@@ -44,8 +44,8 @@ fn try_both(
     let (merged, whole) = merge_both(alloc, seed, log2_bits, hashes, &FIRST, &SECOND)?;
     assert_same_for(rt, merged.as_slice() == whole.as_slice(), true, case);
     let mut table = table_of(alloc, seed, log2_bits, hashes, &FIRST)?;
-    let alone = table.to_bytes(alloc)?;
-    assert_same_for(rt, alone.as_slice() == whole.as_slice(), false, case);
+    let is_whole = table.to_bytes(alloc)?.as_slice() == whole.as_slice();
+    assert_same_for(rt, is_whole, false, case);
     table.merge(alloc, &table_of(alloc, seed, log2_bits, hashes, &SECOND)?)?;
     for n in FIRST.iter().chain(&SECOND) {
         assert_same_for(rt, table.contains(n), true, case);
@@ -75,17 +75,28 @@ fn merges_without_memory(rt: HostRuntime) {
     }
 }
 
-// Each value is inserted into a table of its own.
+// The table of these values, each of which is inserted into a table of its own.
+fn merged_values(
+    alloc: Global,
+    seed: u64,
+    log2_bits: u8,
+    hashes: u8,
+    values: &[&[u8]],
+) -> Result<MemberTable, Error> {
+    let mut all = MemberTable::new(alloc, seed, log2_bits, hashes)?;
+    for value in values {
+        let mut table = MemberTable::new(alloc, seed, log2_bits, hashes)?;
+        table.insert(&raw_bytes::from_slice(value));
+        all.merge(alloc, &table)?;
+    }
+    Ok(all)
+}
+
 #[test]
 fn merged_tables_have_the_bits_of_all(rt: HostRuntime) -> Result<(), Fail> {
     for (seed, log2_bits, hashes, values, bits) in &TABLES {
-        let mut all = MemberTable::new(rt.alloc(), *seed, *log2_bits, *hashes)?;
-        for value in *values {
-            let mut table = MemberTable::new(rt.alloc(), *seed, *log2_bits, *hashes)?;
-            table.insert(&raw_bytes::from_slice(value));
-            all.merge(rt.alloc(), &table)?;
-        }
-        let bytes = all.to_bytes(rt.alloc())?;
+        let table = merged_values(rt.alloc(), *seed, *log2_bits, *hashes, values)?;
+        let bytes = table.to_bytes(rt.alloc())?;
         assert_same_for(
             &rt,
             bytes.as_slice().split_at(bytes.len().min(24)).1,
@@ -96,28 +107,33 @@ fn merged_tables_have_the_bits_of_all(rt: HostRuntime) -> Result<(), Fail> {
     Ok(())
 }
 
-// The tables of eight parts, merged from the first on, from the last on, and as a tree.
+// The table of these parts, of two numbers each, merged in this order.
+fn merged_parts(alloc: Global, parts: &[u64]) -> Result<MemberTable, Error> {
+    let mut table = table_of(alloc, 3, 12, 5, &[])?;
+    for part in parts {
+        table.merge(alloc, &table_of(alloc, 3, 12, 5, &[*part, *part << 32])?)?;
+    }
+    Ok(table)
+}
+
+// The same of four pairs of parts, each of which is merged first.
+fn merged_pairs(alloc: Global, pairs: &[[u64; 2]]) -> Result<MemberTable, Error> {
+    let mut table = table_of(alloc, 3, 12, 5, &[])?;
+    for pair in pairs {
+        table.merge(alloc, &merged_parts(alloc, pair)?)?;
+    }
+    Ok(table)
+}
+
 #[test]
 fn merges_in_any_order_make_one_table(rt: HostRuntime) -> Result<(), Fail> {
     let alloc = rt.alloc();
-    let mut forth = table_of(alloc, 3, 12, 5, &[])?;
-    let mut back = table_of(alloc, 3, 12, 5, &[])?;
-    let mut tree = table_of(alloc, 3, 12, 5, &[])?;
-    for part in 0..8u64 {
-        forth.merge(alloc, &table_of(alloc, 3, 12, 5, &[part, part << 32])?)?;
-        let last = 7 - part;
-        back.merge(alloc, &table_of(alloc, 3, 12, 5, &[last, last << 32])?)?;
-    }
-    for part in [6, 2, 0, 4u64] {
-        let mut pair = table_of(alloc, 3, 12, 5, &[part, part << 32])?;
-        let next = part + 1;
-        pair.merge(alloc, &table_of(alloc, 3, 12, 5, &[next, next << 32])?)?;
-        tree.merge(alloc, &pair)?;
-    }
-    let bytes = forth.to_bytes(alloc)?;
-    assert_same(&rt, back.to_bytes(alloc)?.as_slice(), bytes.as_slice());
+    let bytes = merged_parts(alloc, &[0, 1, 2, 3, 4, 5, 6, 7])?.to_bytes(alloc)?;
+    let back = merged_parts(alloc, &[7, 6, 5, 4, 3, 2, 1, 0])?.to_bytes(alloc)?;
+    let tree = merged_pairs(alloc, &[[6, 7], [2, 3], [0, 1], [4, 5]])?;
+    assert_same(&rt, back.as_slice(), bytes.as_slice());
     assert_same(&rt, tree.to_bytes(alloc)?.as_slice(), bytes.as_slice());
-    assert_same(&rt, forth.count(), Some(16));
+    assert_same(&rt, tree.count(), Some(16));
     Ok(())
 }
 
