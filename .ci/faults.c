@@ -2,7 +2,7 @@
 // writes it faults. `.ci/sweep` uses it. Two words of the environment say what it does:
 //
 //     FAULT=refuse   a request for memory is refused
-//     FAULT=exhaust  a request for memory is refused, and each one behind it
+//     FAULT=exhaust  a request for memory is refused, and each one after it
 //     FAULT=fail     a read or a write fails, a read as an interrupted one does
 //     FAULT=short    a read or a write moves one byte
 //     FAULT_AT=N     at the Nth such call, counted from 1; at none where N is 0

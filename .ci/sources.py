@@ -31,7 +31,7 @@ OWN = ("header.insert", "table.insert", "seen.insert", "one.insert", "other.inse
 # What can make an error that tells of memory, or of a text that fails to print.
 TELLING = "|".join([
     r"Err(?:::<.*?>)?\((?:self|\w*Error)\)", r"AllocError", r"OutOfMemory", r"NoMemory", r"fmt::Error", r"Error::from\(",
-    r"(?<!MurmurHash3X64128)(?<!XxHash64)::default\b", r"(?<!UnexpectedEof)\.into\(\)", r"\bwrite(?:ln)?!\((?!\s*f\b)",
+    r"(?<!MurmurHash3X64128)(?<!XxHash64)::default\b", r"\.into\(\)", r"\bwrite(?:ln)?!\((?!\s*f\b)",
     r"\bok_or(?:_else)?\(\w*Error\)", r"\bio::Error::\w+\(", r"\bconst_error\b", r"\b(?:Into::into|From::from)\b",
 ])
 
@@ -112,8 +112,10 @@ IMPLEMENTATIONS = re.compile(
 
 # Lines that hide something from the above: another name, another path, a macro, a comment that is no line,
 # a module inside another, an allocator that is called otherwise. And texts that depend on how they are to be
-# printed, and closures of several lines.
+# printed, closures of several lines, and definitions of clauses under another name or out of proofs.
 HIDING = re.compile("|".join([
+    r"^.*\bghost use\b.* as .*",
+    r"^.*\bghost use (?!Rattle\.std\.proofs\.Common\.\{rules\};$).*\bproofs\b.*",
     rf"^.*\b(?:AllocError|Error|OutOfMemory|Global|{'|'.join(DERIVED)}) as \w+.*",
     r"^\s*use (?:std::)?(?:fmt|io)\b.*(?:\bError\b|\*).*",
     r"^.*= (?:move )?\|[^|\n]*\| \{$",
@@ -153,12 +155,18 @@ def written_by_hand(text):
 # ---- docs/contracts.txt
 
 def heads(text):
-    """The lines of a source that promise something: of each function that others can call its signature and
-    its clauses, of types and implementations their heads, and what their ghost fields say."""
+    """The lines of a source that promise something: what its clauses import; of each function that others can
+    call its signature and its clauses, of types and constants all, of implementations their heads, and what
+    their ghost fields say."""
     found, depth, is_open = [], None, False
     for line in text.split("\n"):
         if depth is None:
-            start = re.match(r" *(pub(?:\([^)]*\))? |unsafe |extern \"C\" |const |final )*(fn|ghost|impl|trait|struct|enum)\b(?! use)", line)
+            if re.match(r" *(?:ghost use\b|#\[(?:repr|unsafe)\b)", line):
+                found.append(line)
+                continue
+            start = re.match(
+                r" *(pub(?:\([^)]*\))? |unsafe |extern \"C\" |final |const (?=fn))*(fn|ghost|impl|trait|struct|enum|const)\b", line
+            )
             if not start:
                 continue
             kind = start.group(2)
@@ -168,10 +176,16 @@ def heads(text):
                 continue
             depth = 0
         depth += line.count("{") - line.count("}")
-        if line.strip() not in ("{", "{}"):
+        if kind == "const":
+            depth += line.count("[") - line.count("]")
+        if line.strip() not in ("{", "{}") and not line.strip().startswith("//"):
             found.append(line)
         # Here a body begins, or there is none.
-        if depth == 1 and line.endswith("{") or depth == 0 and line.endswith(("{}", ";")):
+        if kind in ("struct", "enum", "const"):
+            is_whole = depth == 0 and line.endswith(("}", ";"))
+        else:
+            is_whole = depth == 1 and line.endswith("{") or depth == 0 and line.endswith(("{}", ";"))
+        if is_whole:
             depth = None
     return found
 

@@ -46,7 +46,7 @@ typedef struct sketch_xxh64_state {
     unsigned char waiting[32]; /* the first total % 32 are bytes of the stream */
 } sketch_xxh64_state_t;
 
-/* The same state as after a reset. It names `seed` four times. */
+/* The same state as after a reset. It names `seed` five times. */
 #define SKETCH_XXH64_INIT(seed)                                                                   \
     {                                                                                             \
         (uint64_t)(seed), (uint64_t)(seed) + SKETCH_XXH64_PRIME1 + SKETCH_XXH64_PRIME2,           \

@@ -14,7 +14,7 @@ export interface Stream {
     update(bytes: Input): this;
     /** The hash of all bytes so far: 64 bits, or Murmur's 128 with its first word above the second. */
     digest(): bigint;
-    /** The digest in lower hexadecimal, 16 or 32 digits, the highest first. */
+    /** The digest in lower-case hexadecimal, 16 or 32 digits, the highest first. */
     hexdigest(): string;
     /** A stream that goes on from here by itself. */
     copy(): this;

@@ -19,6 +19,25 @@ HAS_TYPE(&sketch_murmur3_x64_128_update,
          void (*)(struct sketch_murmur3_x64_128_state *, const void *, size_t));
 HAS_TYPE(&sketch_murmur3_x64_128_digest,
          struct sketch_murmur3_x64_128_hash (*)(const struct sketch_murmur3_x64_128_state *));
+HAS_TYPE(&sketch_xxh64_each32, size_t (*)(const void *, size_t, const uint32_t *, size_t, uint64_t,
+                                          uint64_t *, size_t));
+HAS_TYPE(&sketch_xxh64_each64, size_t (*)(const void *, size_t, const uint64_t *, size_t, uint64_t,
+                                          uint64_t *, size_t));
+HAS_TYPE(&sketch_xxh64_each_u64,
+         size_t (*)(const uint64_t *, size_t, uint64_t, uint64_t *, size_t));
+HAS_TYPE(&sketch_murmur3_x64_128_each32,
+         size_t (*)(const void *, size_t, const uint32_t *, size_t, uint64_t,
+                    struct sketch_murmur3_x64_128_hash *, size_t));
+HAS_TYPE(&sketch_murmur3_x64_128_each64,
+         size_t (*)(const void *, size_t, const uint64_t *, size_t, uint64_t,
+                    struct sketch_murmur3_x64_128_hash *, size_t));
+HAS_TYPE(&sketch_member_size, size_t (*)(unsigned));
+HAS_TYPE(&sketch_member_init, int (*)(void *, size_t, uint64_t, unsigned, unsigned));
+HAS_TYPE(&sketch_member_check, int (*)(const void *, size_t));
+HAS_TYPE(&sketch_member_insert, int (*)(void *, size_t, const void *, size_t));
+HAS_TYPE(&sketch_member_contains, int (*)(const void *, size_t, const void *, size_t));
+HAS_TYPE(&sketch_member_merge, int (*)(void *, size_t, const void *, size_t));
+HAS_TYPE(&sketch_member_count, int (*)(const void *, size_t, uint64_t *));
 
 static sketch_xxh64_state_t x;
 static sketch_murmur3_x64_128_state_t m;

@@ -47,7 +47,7 @@ ModuloLaw hash =
 abbrev pub HashU64Law : Type 0
 HashU64Law = (seed : ℕ) → IsWord seed → OneToOne IsWord IsWord (λ x. xxh64 seed (eight x))
 
--- Under one seed, two streams that differ in exactly one step behind the same stripes have
+-- Under one seed, two streams that differ in exactly one step after the same stripes have
 -- different hashes.
 abbrev pub XxTailLaw : Type 0
 XxTailLaw =

@@ -140,7 +140,7 @@ pub fn extend_law()
 }
 
 /// Each item stands in bytes in one way, and so does each list of items of known kinds. Whatever
-/// stands behind the bytes of items, they are read back in order, and it remains.
+/// stands after the bytes of items, they are read back in order, and it remains.
 pub fn items_law()
     ensures { ItemLaw }
 {}

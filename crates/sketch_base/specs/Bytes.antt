@@ -20,7 +20,7 @@ le bytes = weighted_from 0 bytes
 abbrev pub be : List ℕ → ℕ
 be bytes = le (reverse bytes)
 
--- a number's lowest bytes, so many of them, the lowest first
+-- the count lowest bytes of n, the lowest first
 abbrev pub low_bytes : ℕ → ℕ → List ℕ
 low_bytes zero n = []
 low_bytes (suc count) n = n % 256 ∷ low_bytes count (n / 256)

@@ -23,7 +23,7 @@ error_of kind message = record { kind = kind; message = message; contexts = [] }
 abbrev pub memory_error : ErrorValue
 memory_error = error_of OutOfMemory []
 
--- the error with one more context, behind those that it has
+-- the error with one more context, after those that it has
 abbrev pub add_context : ErrorValue → List ℕ → List ℕ → ErrorValue
 add_context error key text =
     record error { contexts = error.contexts ++ record { key = key; text = text } ∷ [] }

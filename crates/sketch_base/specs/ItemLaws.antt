@@ -12,7 +12,7 @@ pub record Holds (bytes : List ℕ) (i : Item) : Type 0 where
   pub item : unspell (item_kind i) bytes ≡ i
 
 -- Each item stands in bytes in one way, and so does each list of items of known kinds, in as many
--- bytes as these have. Whatever stands behind the bytes of items, they are read back in order, and
+-- bytes as these have. Whatever stands after the bytes of items, they are read back in order, and
 -- it remains.
 pub record ItemLaw : Type 0 where
   pub spell_holds : (i : Item) → InType i → Holds (spell i) i

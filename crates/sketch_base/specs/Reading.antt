@@ -9,7 +9,7 @@ use Rattle.sketch_base.specs.declared.codec.item.Item.{Item}
 use Rattle.sketch_base.specs.declared.codec.item.Kind.{Kind}
 use Rattle.sketch_base.specs.Items.{widths, unspell_all}
 
--- A read of so many bytes: where they remain, the answer is their value and they are gone; where
+-- A read of count bytes: where they remain, the answer is their value and they are gone; where
 -- fewer remain, it is refused and nothing remains.
 abbrev pub Reads : {X : Type 0} → ℕ → (List ℕ → X) → List ℕ → Result X Error → List ℕ → Type 0
 Reads count value before result after = MatchResult result

@@ -8,7 +8,7 @@ use Rattle.sketch_base.specs.declared.codec.item.Item.{Item}
 use Rattle.sketch_base.specs.Items.{InType, spell_all}
 use Rattle.sketch_base.specs.WriterValue.{WriterValue}
 
--- A write of bytes: they stand behind the others; or there is no room for them, and all is as
+-- A write of bytes: they stand after the others; or there is no room for them, and all is as
 -- before. What is written fits the room, which never shrinks.
 pub record Writes (bytes : List ℕ) (before : WriterValue) (result : Result (Unit {0}) AllocError)
     (after : WriterValue) : Type 0 where
@@ -23,7 +23,7 @@ abbrev pub accepted_items : List Item → Result (Unit {0}) Stopped → List Ite
 accepted_items items (Ok _) = items
 accepted_items items (Err stopped) = take stopped.accepted items
 
--- A write of items: the bytes of those that are accepted stand behind the others, in order, and
+-- A write of items: the bytes of those that are accepted stand after the others, in order, and
 -- each of these lies in its type. It stops only at an item for which there is no room at that
 -- moment, and the room never shrinks.
 pub record WritesItems (items : List Item) (before : WriterValue)

@@ -116,7 +116,7 @@ impl Error {
         }
     }
 
-    /// Adds a context, the key and what the value prints, behind those that the error has.
+    /// Adds a context, the key and what the value prints, after those that the error has.
     ///
     /// # Errors
     ///

@@ -64,7 +64,7 @@ FirstFault count steps error =
 abbrev pub header : List ℕ → ℕ
 header bytes = 8 * slice_index bytes 0
 
--- the number that stands for the count: the header's bytes behind the seed, which are none in
+-- the number that stands for the count: the header's bytes after the seed, which are none in
 -- version 1
 abbrev pub count_number : List ℕ → ℕ
 count_number bytes = le (take (header bytes - 16) (drop 16 bytes))
@@ -108,7 +108,7 @@ size_steps bytes =
 abbrev pub IsFlag : ℕ → ℕ → Type 0
 IsFlag longs flag = (flag ≡ 0) ⊎ ((longs ≡ 3) × (flag ≡ 1))
 
--- that the flag is one, and the reserved bytes behind it are zero
+-- that the flag is one, and the reserved bytes after it are zero
 abbrev pub flag_step : List ℕ → Step
 flag_step bytes = record {
   needs = 8;
@@ -135,7 +135,7 @@ number_steps bytes = flag_step bytes ∷ seed_step ∷ count_step bytes ∷ []
 abbrev pub header_steps : List ℕ → List Step
 header_steps bytes = kind_steps bytes ++ (size_steps bytes ++ number_steps bytes)
 
--- that as many bytes are left behind a header as the bits need, and no more
+-- that as many bytes are left after a header as the bits need, and no more
 abbrev pub bits_steps : List ℕ → ℕ → ℕ → List Step
 bits_steps bytes header need =
     record {

@@ -30,7 +30,7 @@ pub enum Fault {
     Log2Bits(u8),
     /// `hashes` is not 1 to 16.
     Hashes(u8),
-    /// The flag of the count is none, or bytes that have to be zero are not.
+    /// Byte 5 is no flag that the version allows, or byte 6 or 7 is not zero.
     Reserved,
     /// The flag tells that the count is unknown, and the count is not zero.
     UnknownCount,
@@ -41,7 +41,7 @@ pub enum Fault {
         /// How many bytes follow the header.
         have: usize,
     },
-    /// So many bytes follow the bits.
+    /// This many bytes follow the bits.
     TrailingBytes(usize),
     /// The bytes are a table of version 1, which has no place for a count.
     Version1,

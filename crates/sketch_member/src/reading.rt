@@ -105,7 +105,7 @@ fn read_flag(reader: &mut SketchSlice, longs: u8) -> Result<u8, Fault>
     Ok(flag)
 }
 
-// Whether the bytes behind the sizes are what they may be: the flag tells of a count, where there
+// Whether the bytes after the sizes are what they may be: the flag tells of a count, where there
 // is one, and the others are zero.
 fn are_reserved(longs: u8, flag: u8, second: u8, third: u8) -> bool
     ensures { IsTrue result ↔ (IsFlag longs flag × (second ≡ 0) × (third ≡ 0)) }

@@ -10,7 +10,7 @@ abbrev pub name_of : Algorithm → List ℕ
 name_of Murmur = codes "murmur"
 name_of Xx = codes "xx"
 
--- the number that decimal digits stand for, read on behind the number n
+-- the number that decimal digits stand for, read on after the number n
 abbrev pub decimal_from : ℕ → List ℕ → ℕ
 decimal_from n [] = n
 decimal_from n (c ∷ digits) = decimal_from (10 * n + (c - 48)) digits

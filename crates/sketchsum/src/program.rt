@@ -58,7 +58,7 @@ pub fn program<V: Env, R: Read, W: Write>(
     ProgramEnd { outcome }
 }
 
-/// Runs what the words behind the program's name ask for. Where they ask for no hash, nothing is
+/// Runs what the words after the program's name ask for. Where they ask for no hash, nothing is
 /// read or written.
 pub fn answer<R: Read, W: Write>(words: &[String], reader: &mut R, writer: &mut W) -> Outcome
     ensures usage { result ≡ Outcome.Usage → AskForNone (map string_bytes words.now)

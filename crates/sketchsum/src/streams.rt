@@ -20,7 +20,7 @@ pub struct BoundedReader<'a, R> {
 }
 
 impl<'a, R: Read> BoundedReader<'a, R> {
-    /// The reader with so many turns, of which none was taken.
+    /// The reader with `turns` turns, of which none was taken.
     pub fn new(reader: &'a mut R, turns: u64) -> BoundedReader<'a, R>
         ensures same_reference { result.reader.ghost_name ≡ reader.entry.ghost_name }
         ensures reader { result.reader.now ≡ reader.old }
@@ -64,7 +64,7 @@ impl<'a, R: Read> BoundedReader<'a, R> {
 pub enum OutputState {
     /// Nothing was written.
     Nothing,
-    /// The last write went well, and no flush came behind it.
+    /// The last write went well, and no flush came after it.
     Unflushed,
     /// The last call was a flush that went well.
     Flushed,

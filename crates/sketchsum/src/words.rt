@@ -1,4 +1,4 @@
-//! The words of the call, behind the program's name.
+//! The words of the call, after the program's name.
 
 ghost use Rattle.std.specs.Prelude.{◌≡◌, ◌⊎◌, IfErr};
 
@@ -27,8 +27,8 @@ impl<V: Env> Env for Nameless<'_, V> {
     }
 }
 
-/// The words behind the program's name, or how the program ends without them: they found no memory,
-/// or one is not text.
+/// The words after the program's name, or how the program ends without them: they found no memory,
+/// or one is not UTF-8.
 pub fn words_of<V: Env>(env: &V, alloc: Global) -> Result<Vec<String>, Outcome>
     ensures { IfErr result (λ end. (end ≡ Outcome.NoMemory) ⊎ (end ≡ Outcome.Usage)) }
 {

@@ -83,7 +83,7 @@ class _Hash:
         return self.intdigest().to_bytes(self.digest_size, "big")
 
     def hexdigest(self):
-        """The digest in lower hexadecimal."""
+        """The digest in lower-case hexadecimal."""
         return self.intdigest().to_bytes(self.digest_size, "big").hex()
 
     def reset(self):

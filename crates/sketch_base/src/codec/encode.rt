@@ -46,7 +46,7 @@ impl fmt::Display for Stopped {
 impl std::error::Error for Stopped {}
 
 impl SketchBytes {
-    /// A writer that has no bytes yet, with room for so many.
+    /// A writer that has no bytes yet, with room for `capacity` of them.
     ///
     /// # Errors
     ///

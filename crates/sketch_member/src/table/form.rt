@@ -27,7 +27,7 @@ pub(crate) const LONGS_1: u8 = 2;
 
 pub(crate) const LONGS_2: u8 = 3;
 
-// The serial version under so many preamble longs.
+// The serial version under this number of preamble longs.
 pub(crate) fn serial_version(longs: u8) -> u8
     requires { 1 ≤ longs }
     ensures { result ≡ longs - 1 }
@@ -35,7 +35,7 @@ pub(crate) fn serial_version(longs: u8) -> u8
     longs - 1
 }
 
-// Whether a header of so many preamble longs has a count.
+// Whether a header of this number of preamble longs has a count.
 pub(crate) fn has_count(longs: u8) -> bool
     ensures { IsTrue result ↔ (longs ≡ 3) }
 {
