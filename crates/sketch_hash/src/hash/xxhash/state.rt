@@ -53,8 +53,8 @@ impl XxHash64State {
         copy_small(&mut self.waiting, count, bytes);
     }
 
-    // Takes bytes that fill the stripe that is begun, and more. In a call of its own it costs short
-    // writes nothing.
+    // Takes bytes that fill the stripe that is begun, and any after these. In a call of its own it
+    // costs short writes nothing.
     #[inline(never)]
     fn consume_stripes(&mut self, bytes: &[u8])
         requires { 32 ≤ self.old.total % 32 + length bytes.now }
