@@ -203,5 +203,6 @@ def contracts(tree):
 
 
 CONTRACTS_HEAD = """What is promised, in one place: written by `python3 .ci/documents --write`, compared by the gate.
-First the sums of the definitions, then the clauses of each function that others can call, file by file.
+First the sums of the definitions. Then, file by file, what the clauses import, the clauses of each function
+that others can call, and types and constants as they stand.
 """
