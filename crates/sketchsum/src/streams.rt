@@ -11,7 +11,8 @@ use std::io::{self, Read, Write};
 /// The most bytes that are read at a time, and held.
 pub const PIECE_BYTES: usize = 4096;
 
-/// A reader that may be read so many times, and that tells whether its last read failed.
+/// A reader that may be read a limited number of times, and that tells whether its last read
+/// failed.
 #[derive(Drop)]
 pub struct BoundedReader<'a, R> {
     reader: &'a mut R,
