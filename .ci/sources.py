@@ -111,8 +111,9 @@ IMPLEMENTATIONS = re.compile(
 )
 
 # Lines that hide something from the above: another name, another path, a macro, a comment that is no line,
-# a module inside another, an allocator that is called otherwise. And texts that depend on how they are to be
-# printed, closures of several lines, and definitions of clauses under another name or out of proofs.
+# a module inside another, an allocator that is called otherwise, a module `tests` that is no test, code that
+# tests do not run. And texts that depend on how they are to be printed, closures of several lines, and
+# definitions of clauses under another name or out of proofs.
 HIDING = re.compile("|".join([
     r"^.*\bghost use\b.* as .*",
     r"^.*\bghost use (?!Rattle\.std\.proofs\.Common\.\{rules\};$).*\bproofs\b.*",
@@ -124,6 +125,9 @@ HIDING = re.compile("|".join([
     r"^.*[.:](?:alternate|pad\w*|precision|width|sign\w*)\((?<!kind\(\)\.width\().*",
     r"^.*/\*.*",
     rf"^ *{SEEN}mod \w+ \{{",
+    rf"(?<!^#\[cfg\(test\)\]\n)^ *{SEEN}mod tests\b.*",
+    r"^(?!#\[cfg\(test\)\]\nmod tests;$).*\bcfg\w*\b.*",
+    r"^.*#!?\[path\b.*",
     r"^.*\b(?!alloc\b)\w+: &?(?:mut )?(?:Global|impl Alloc)\b.*",
     rf"^(?! *{HEAD}fn \w)[^\"\n]*\bfn \w+\s*[<(].*",
 ]), re.M)

@@ -114,10 +114,12 @@ fn each_number_feeds_its_bytes() {
         hasher.write_i16(word as i16);
         hasher.write_i32(word as i32);
         hasher.write_i64(word as i64);
+        hasher.write_i128(word as i128);
+        hasher.write_isize(word as isize);
     }
     let word = 0x8f1e_2d3c_4b5a_6978_8796_a5b4_c3d2_e1f0_u128;
     let mut bytes = Vec::new();
-    for width in [1, 2, 4, 8, 16, 8, 1, 2, 4, 8] {
+    for width in [1, 2, 4, 8, 16, 8, 1, 2, 4, 8, 16, 8] {
         bytes.extend(&word.to_le_bytes()[..width]);
     }
     let (mut x, mut m) = (Xxh64::new(7), Murmur3X64_128::new(7));

@@ -13,7 +13,7 @@ use Rattle.sketch_hash.specs.Pieces.{pieces}
 use Rattle.sketch_hash.specs.Murmur.{step, block_words, blocks, tail, with_tail, finalize, murmur}
 use Rattle.sketch_hash.specs.OneToOne.{OneToOne}
 use Rattle.sketch_hash.specs.Laws.{AreWords, IsBlock, PieceLaws, MurmurStepLaws}
-use Rattle.sketch_hash.specs.OneToOneLemmas.{◌▸◌, alike}
+use Rattle.sketch_hash.proofs.OneToOneLemmas.{◌▸◌, alike}
 use Rattle.datasketches.specs.Streams.{AgreeOutside, DifferInOneBlock}
 use Rattle.datasketches.specs.Laws.{MurmurBlockLaw, MurmurSeedLaw}
 use Rattle.datasketches.proofs.AgreeLemmas.{agree-front, agree-back, agree-beyond, three_parts}

@@ -13,7 +13,7 @@ use Rattle.sketch_hash.specs.Pieces.{rest}
 use Rattle.sketch_hash.specs.Xxh64.{prime5, Lanes, lane, lanes, merge, stripes, tail_step, tail_steps, avalanche, finalize, xxh64}
 use Rattle.sketch_hash.specs.OneToOne.{OneToOne}
 use Rattle.sketch_hash.specs.Laws.{IsStep, widths, PieceLaws, Xxh64StepLaws}
-use Rattle.sketch_hash.specs.OneToOneLemmas.{◌▸◌, alike}
+use Rattle.sketch_hash.proofs.OneToOneLemmas.{◌▸◌, alike}
 use Rattle.datasketches.specs.Streams.{AgreeOutside}
 use Rattle.datasketches.specs.Laws.{HashU64Law, XxTailLaw, XxSeedLaw}
 use Rattle.datasketches.proofs.AgreeLemmas.{agree-front, agree-back, agree-beyond, parts_at}

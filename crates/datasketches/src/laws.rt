@@ -12,7 +12,7 @@ ghost use Rattle.sketch_base.specs.ItemLaws.{ItemLaw};
 ghost use Rattle.sketch_hash.specs.Murmur.{murmur};
 ghost use Rattle.sketch_hash.specs.Xxh64.{xxh64};
 
-use sketch_hash::hash::{Hasher, MurmurHash3X64128, XxHash64};
+use sketch_hash::hash::{MurmurHash3X64128, XxHash64};
 use sketch_hash::laws::{murmur_step_laws, piece_laws, xxh64_step_laws};
 
 /// The Murmur pairs of two streams, each under its own seed.
@@ -26,15 +26,10 @@ pub fn murmur_both(seed_a: u64, a: &[u8], seed_b: u64, b: &[u8]) -> ((u64, u64),
 {
     piece_laws();
     murmur_step_laws();
-    (murmur_of(seed_a, a), murmur_of(seed_b, b))
-}
-
-fn murmur_of(seed: u64, bytes: &[u8]) -> (u64, u64)
-    ensures { result ≡ murmur seed bytes.now }
-{
-    let mut hasher = MurmurHash3X64128::with_seed(seed);
-    hasher.write(bytes);
-    hasher.finish128()
+    (
+        MurmurHash3X64128::hash(a, seed_a),
+        MurmurHash3X64128::hash(b, seed_b),
+    )
 }
 
 /// With the seed, the length and all other bytes fixed, the Murmur pair of a stream takes every
@@ -66,15 +61,7 @@ pub fn xx_both(seed_a: u64, a: &[u8], seed_b: u64, b: &[u8]) -> (u64, u64)
 {
     xx_tail_law();
     xx_seed_law();
-    (xxh64_of(seed_a, a), xxh64_of(seed_b, b))
-}
-
-fn xxh64_of(seed: u64, bytes: &[u8]) -> u64
-    ensures { result ≡ xxh64 seed bytes.now }
-{
-    let mut hasher = XxHash64::with_seed(seed);
-    hasher.write(bytes);
-    hasher.finish64()
+    (XxHash64::hash(a, seed_a), XxHash64::hash(b, seed_b))
 }
 
 /// Under one seed, two streams of one length with the same full stripes of 32 bytes, whose tails

@@ -126,11 +126,19 @@ fn hash_numbers(numbers: &[u64], out: &mut [u64]) -> bool
 #[test]
 fn states_go_on(rt: HostRuntime) {
     let mut state = XxHash64::with_seed(7).state();
-    assert_eq!(rt; xxh64_of_more(&mut state, b"fo"), sketch_xxh64(b"fo", 7));
-    assert_eq!(rt; xxh64_of_more(&mut state, b"x"), sketch_xxh64(b"fox", 7));
+    assert_same(
+        &rt,
+        xxh64_of_more(&mut state, b"fo"),
+        sketch_xxh64(b"fo", 7),
+    );
+    assert_same(
+        &rt,
+        xxh64_of_more(&mut state, b"x"),
+        sketch_xxh64(b"fox", 7),
+    );
     let mut state = MurmurHash3X64128::with_seed(7).state();
     let pair = murmur_of_more(&mut state, b"fox");
-    assert_eq!(rt; pair.h1, sketch_murmur3_x64_128(b"fox", 7).h1);
+    assert_same(&rt, pair.h1, sketch_murmur3_x64_128(b"fox", 7).h1);
 }
 
 #[test]
@@ -142,7 +150,7 @@ fn a_sentence_in_two_pieces(rt: HostRuntime) {
         b"The quick brown fox ",
         b"jumps over the lazy dog",
     );
-    assert_eq!(rt; hash, 0x0b24_2d36_1fda_71bc);
+    assert_same(&rt, hash, 0x0b24_2d36_1fda_71bc);
     let mut state = MurmurHash3X64128::with_seed(7).state();
     let pair = murmur_of_two(
         &mut state,
@@ -150,41 +158,53 @@ fn a_sentence_in_two_pieces(rt: HostRuntime) {
         b"The quick brown fox ",
         b"jumps over the lazy dog",
     );
-    assert_eq!(rt; pair.h1, 0xe34b_bc7b_bc07_1b6c);
-    assert_eq!(rt; pair.h2, 0x7a43_3ca9_c49a_9347);
+    assert_same(&rt, pair.h1, 0xe34b_bc7b_bc07_1b6c);
+    assert_same(&rt, pair.h2, 0x7a43_3ca9_c49a_9347);
 }
 
 #[test]
 fn a_column_of_two_words(rt: HostRuntime) {
     let (mut hashes, mut pairs) = ([9; 2], [[9; 2]; 2]);
-    assert_eq!(rt;
+    assert_same(
+        &rt,
         sketch_xxh64_each32(b"foxes", &[0, 3, 5], 7, &mut hashes),
-        0
+        0,
     );
-    assert_eq!(rt; hashes, [sketch_xxh64(b"fox", 7), sketch_xxh64(b"es", 7)]);
-    assert_eq!(rt;
+    assert_same(
+        &rt,
+        hashes,
+        [sketch_xxh64(b"fox", 7), sketch_xxh64(b"es", 7)],
+    );
+    assert_same(
+        &rt,
         sketch_xxh64_each64(b"foxes", &[0, 3, 2], 7, &mut hashes),
-        3
+        3,
     );
-    assert_eq!(rt; sketch_xxh64_each_u64(&[1], 7, &mut hashes), 2);
-    assert!(rt; hash_numbers(&[1, 2], &mut hashes));
-    assert_eq!(rt; hashes, [sketch_xxh64_u64(1, 7), sketch_xxh64_u64(2, 7)]);
-    assert_eq!(rt;
+    assert_same(&rt, sketch_xxh64_each_u64(&[1], 7, &mut hashes), 2);
+    assert_same(&rt, hash_numbers(&[1, 2], &mut hashes), true);
+    assert_same(
+        &rt,
+        hashes,
+        [sketch_xxh64_u64(1, 7), sketch_xxh64_u64(2, 7)],
+    );
+    assert_same(
+        &rt,
         sketch_murmur3_x64_128_each32(b"foxes", &[6, 3, 5], 7, &mut pairs),
-        1
+        1,
     );
-    assert_eq!(rt;
+    assert_same(
+        &rt,
         sketch_murmur3_x64_128_each64(b"foxes", &[0, 3, 5], 7, &mut pairs),
-        0
+        0,
     );
     let (hash, es, number) = hashes_of(b"es", 1, 7);
-    assert_eq!(rt; pairs[1], [es.h1, es.h2]);
-    assert_eq!(rt; number, sketch_xxh64_u64(1, 7));
-    assert!(rt; hash_keys32(b"foxes", &[0, 3, 5], &mut hashes));
-    assert_eq!(rt; hashes[1], hash);
-    assert!(rt; !hash_keys64(b"foxes", &[0, 3, 6], &mut hashes));
-    assert!(rt; murmur_keys32(b"foxes", &[0, 3, 5], &mut pairs));
-    assert!(rt; !murmur_keys64(b"foxes", &[0], &mut pairs));
+    assert_same(&rt, pairs[1], [es.h1, es.h2]);
+    assert_same(&rt, number, sketch_xxh64_u64(1, 7));
+    assert_same(&rt, hash_keys32(b"foxes", &[0, 3, 5], &mut hashes), true);
+    assert_same(&rt, hashes[1], hash);
+    assert_same(&rt, hash_keys64(b"foxes", &[0, 3, 6], &mut hashes), false);
+    assert_same(&rt, murmur_keys32(b"foxes", &[0, 3, 5], &mut pairs), true);
+    assert_same(&rt, murmur_keys64(b"foxes", &[0], &mut pairs), false);
 }
 
 #[test]
@@ -196,6 +216,6 @@ fn a_number_is_its_eight_bytes(rt: HostRuntime) {
         &[0x1f, 0x2e, 0x3d],
         &[0x4c, 0x5b, 0x6a, 0x79, 0x88],
     );
-    assert_eq!(rt; sketch_xxh64_u64(0x8879_6a5b_4c3d_2e1f, 9001), hash);
-    assert_eq!(rt; sketch_hash_version(), 10_100);
+    assert_same(&rt, sketch_xxh64_u64(0x8879_6a5b_4c3d_2e1f, 9001), hash);
+    assert_same(&rt, sketch_hash_version(), 10_100);
 }

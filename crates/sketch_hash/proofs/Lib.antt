@@ -4,6 +4,7 @@ pub mod PiecesLemmas
 pub mod StateLemmas
 pub mod MurmurLemmas
 pub mod Xxh64Lemmas
+pub mod OneToOneLemmas
 pub mod Undoes
 pub mod BlockLemmas
 pub mod MurmurSteps

@@ -10,7 +10,7 @@ use Rattle.sketch_hash.specs.Pieces.{pieces}
 use Rattle.sketch_hash.specs.Murmur.{c1, c2, mix1, mix2, fmix, step1, step2, step, block_words, blocks, with_tail, cross, finalize}
 use Rattle.sketch_hash.specs.OneToOne.{OneToOne}
 use Rattle.sketch_hash.specs.Laws.{AreWords, IsBlock, MurmurStepLaws}
-use Rattle.sketch_hash.specs.OneToOneLemmas.{◌▸◌, on_first, on_second, on_both, along}
+use Rattle.sketch_hash.proofs.OneToOneLemmas.{◌▸◌, on_first, on_second, on_both, along}
 use Rattle.sketch_hash.proofs.Undoes.{times-once, plus-once, xor-once, xor_word-once, rotate-once, shifted-once}
 use Rattle.sketch_hash.proofs.PiecesLemmas.{IsPiece, pieces-are}
 use Rattle.sketch_hash.proofs.BlockLemmas.{block_words-once}

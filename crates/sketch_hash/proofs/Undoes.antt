@@ -7,7 +7,7 @@ use Rattle.std.proofs.lemmas.Nat.{xor_comm, mul-mod_first, mul-mod_second, shr_l
 use Rattle.sketch_hash.specs.Words.{IsWord, plus, minus, times, xor, rotate, xor_shift}
 use Rattle.sketch_hash.specs.OneToOne.{OneToOne}
 use Rattle.sketch_hash.proofs.WordsLemmas.{xor-is, xor-lt, xor_shift-is, rotated_up, times-lt}
-use Rattle.sketch_hash.specs.OneToOneLemmas.{alike}
+use Rattle.sketch_hash.proofs.OneToOneLemmas.{alike}
 
 -- f takes S to T, and g undoes it
 pub record Undoes {A B : Type 0} (S : A → Type 0) (T : B → Type 0) (f : A → B) (g : B → A) : Type 0 where

@@ -5,7 +5,7 @@ use Rattle.sketch_hash.specs.Words.{IsWord, plus, times, rotate}
 use Rattle.sketch_hash.specs.Xxh64.{prime1, prime2, prime3, prime4, prime5, round, eight_step, four_step, byte_step, tail_step, avalanche}
 use Rattle.sketch_hash.specs.OneToOne.{OneToOne}
 use Rattle.sketch_hash.specs.Laws.{IsStep, Xxh64StepLaws}
-use Rattle.sketch_hash.specs.OneToOneLemmas.{◌▸◌, choice, along}
+use Rattle.sketch_hash.proofs.OneToOneLemmas.{◌▸◌, choice, along}
 use Rattle.sketch_hash.proofs.Xxh64Lemmas.{xxh64-eight}
 use Rattle.sketch_hash.proofs.TailSteps.{steps-are, widths-same}
 use Rattle.sketch_hash.proofs.Undoes.{times-once, plus-once, plus_word-once, xor-once, xor_word-once, rotate-once, shifted-once, shifted_less-once}

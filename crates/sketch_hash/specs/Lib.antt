@@ -18,4 +18,3 @@ pub mod KnownAnswers
 pub mod PiecesWriteLemmas
 pub mod MurmurWriteLemmas
 pub mod Xxh64WriteLemmas
-pub mod OneToOneLemmas

@@ -55,18 +55,13 @@ impl Model for XxHash64 {
 impl XxHash64 {
     /// A hasher with a seed, and no bytes.
     #[inline(always)]
-    #[tactic(auto, unfolding(crate::specs::Xxh64::xxh64_after, crate::specs::Xxh64::lanes_start))]
+    #[tactic(auto, unfolding(crate::specs::Xxh64::xxh64_after))]
     pub fn with_seed(seed: u64) -> Self
         ensures { Xxh64Stands result seed [] }
     {
         XxHash64 {
             seed,
-            lanes: u64x4::from_array([
-                seed.wrapping_add(PRIME1).wrapping_add(PRIME2),
-                seed.wrapping_add(PRIME2),
-                seed,
-                seed.wrapping_sub(PRIME1),
-            ]),
+            lanes: ScalarLanes::start(seed).into_vector(),
             total: 0,
             buffer: [0; STRIPE],
             count: 0,

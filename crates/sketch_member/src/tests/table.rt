@@ -347,12 +347,6 @@ fn assert_header_short<R: Abort + Eprint>(
 }
 
 #[test]
-fn bytes_cut_short_are_refused(rt: HostRuntime) {
-    assert_beginnings_refused(&rt, rt.alloc(), &ONE_VALUE_1, 16);
-    assert_beginnings_refused(&rt, rt.alloc(), &ONE_VALUE_2, 24);
-}
-
-#[test]
 fn trailing_bytes_are_refused(rt: HostRuntime) {
     let alloc = rt.alloc();
     let mut bytes = [0; 26];
