@@ -112,8 +112,9 @@ IMPLEMENTATIONS = re.compile(
 
 # Lines that hide something from the above: another name, another path, a macro, a comment that is no line,
 # a module inside another, an allocator that is called otherwise, a module `tests` that is no test, code that
-# tests do not run. And texts that depend on how they are to be printed, closures of several lines, and
-# definitions of clauses under another name or out of proofs.
+# tests do not run, other attributes or attributes beside code, raw texts or texts over several lines. And
+# texts that depend on how they are to be printed, closures of several lines, and definitions of clauses under
+# another name or out of proofs.
 HIDING = re.compile("|".join([
     r"^.*\bghost use\b.* as .*",
     r"^.*\bghost use (?!Rattle\.std\.proofs\.Common\.\{rules\};$).*\bproofs\b.*",
@@ -127,7 +128,11 @@ HIDING = re.compile("|".join([
     rf"^ *{SEEN}mod \w+ \{{",
     rf"(?<!^#\[cfg\(test\)\]\n)^ *{SEEN}mod tests\b.*",
     r"^(?!#\[cfg\(test\)\]\nmod tests;$).*\bcfg\w*\b.*",
-    r"^.*#!?\[path\b.*",
+    r"^.*#!?\[(?!(?:cfg|derive|derive_where|inline|repr|tactic|unsafe)\b).*",
+    r"^ *#!?\[.*[^\]\n]$",
+    r"^.*[^ \n].*#!?\[.*",
+    r"^.*\br#*\".*",
+    r"^(?:[^\"\n]|'\"'|\"(?:\\.|[^\"\\\n])*\")*(?<!')\"(?:\\.|[^\"\\\n])*$",
     r"^.*\b(?!alloc\b)\w+: &?(?:mut )?(?:Global|impl Alloc)\b.*",
     rf"^(?! *{HEAD}fn \w)[^\"\n]*\bfn \w+\s*[<(].*",
 ]), re.M)

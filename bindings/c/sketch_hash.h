@@ -129,7 +129,7 @@ size_t sketch_xxh64_each_u64(const uint64_t *values, size_t value_count, uint64_
  * as in a file that is mapped. Each call checks the header, 24 bytes, and makes no pass over the
  * bits to do so. What a call refuses it leaves as it was. */
 
-/* What a call answers: the number of the first fault, in this order. */
+/* What a call answers: the first fault in this order, or -1 where the header ends before it. */
 enum sketch_member_status {
     SKETCH_MEMBER_DONE = 0,
     SKETCH_MEMBER_HEADER_ENDS = -1,     /* the header is not all there */

@@ -19,7 +19,7 @@ static unsigned char mixed[KEYS]; /* lengths of 1 to 64 */
 /* All that is called and can be is inlined, however often it stands here. */
 #define FLAT __attribute__((flatten)) static uint64_t
 
-/* Keys one behind the other: of `length` bytes, or of mixed lengths where that is 0. */
+/* Keys one after the other: of `length` bytes, or of mixed lengths where that is 0. */
 #define KEYS_BY(NAME, CALL)                                        \
     FLAT NAME(size_t total, size_t length) {                       \
         uint64_t all = 0;                                          \

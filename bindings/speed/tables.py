@@ -14,7 +14,7 @@ for line in (docs / "speed.tsv").read_text(encoding="utf-8").splitlines():
 
 
 def markdown(cases):
-    """The table of cases by peers: medians, and behind each in brackets from where to where."""
+    """The table of cases by peers: medians, and after each, in brackets, its range."""
     peers = list(dict.fromkeys(peer for row in cases.values() for peer in row))
     yield "| | " + " | ".join(peers) + " |"
     yield "|---" * (len(peers) + 1) + "|"

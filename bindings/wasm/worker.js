@@ -14,7 +14,8 @@ let loaded;
 onmessage = async ({ data }) => {
     if (data.wasm) return begin(data.wasm);
     if ('stop' in data) return stop(data.stop);
-    if ('text' in data) return postMessage({ id: data.id, ...hashText(data) });
+    // Before the module is loaded a text has no hash; the page asks again then.
+    if ('text' in data) return loaded && postMessage({ id: data.id, ...hashText(data) });
     waiting.push(data);
     next();
 };

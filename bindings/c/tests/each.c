@@ -101,8 +101,10 @@ static void numbers(void) {
         blank();
         same("numbers, too few", sketch_xxh64_each_u64(wide, count, 7, hashes, KEYS),
              count < KEYS ? count + 1 : 0);
-        same("numbers, the last place", hashes[KEYS - 1],
-             count < KEYS ? 0x0909090909090909 : sketch_xxh64_u64(wide[KEYS - 1], 7));
+        for (size_t i = 0; i < KEYS; i++) {
+            same("numbers, each place", hashes[i],
+                 count < KEYS ? 0x0909090909090909 : sketch_xxh64_u64(wide[i], 7));
+        }
     }
 }
 

@@ -99,16 +99,23 @@ static void murmur(const unsigned char *bytes) {
 }
 
 /* With other seeds, and on a variable. */
+static void initialized(uint64_t by) {
+    sketch_xxh64_state_t begun_x = SKETCH_XXH64_INIT(by);
+    sketch_murmur3_x64_128_state_t begun_m = SKETCH_MURMUR3_X64_128_INIT(by);
+    sketch_xxh64_reset(&x, by);
+    sketch_murmur3_x64_128_reset(&m, by);
+    same("an initializer of xxh64", memcmp(&x, &begun_x, sizeof x) == 0, 1);
+    same("an initializer of murmur", memcmp(&m, &begun_m, sizeof m) == 0, 1);
+}
+
+/* Seeds with one bit, with all bits up to one or from one on, and others in no order. */
 static void initializers(void) {
-    uint64_t seeds[] = {0, 1, 0xffffffff, 0x100000000, UINT64_MAX - 1, UINT64_MAX};
-    for (size_t i = 0; i < sizeof seeds / sizeof *seeds; i++) {
-        sketch_xxh64_state_t begun_x = SKETCH_XXH64_INIT(seeds[i]);
-        sketch_murmur3_x64_128_state_t begun_m = SKETCH_MURMUR3_X64_128_INIT(seeds[i]);
-        sketch_xxh64_reset(&x, seeds[i]);
-        sketch_murmur3_x64_128_reset(&m, seeds[i]);
-        same("an initializer of xxh64", memcmp(&x, &begun_x, sizeof x) == 0, 1);
-        same("an initializer of murmur", memcmp(&m, &begun_m, sizeof m) == 0, 1);
+    for (int bit = 0; bit < 64; bit++) {
+        initialized(1ULL << bit);
+        initialized((1ULL << bit) - 1);
+        initialized(-1ULL << bit);
     }
+    for (uint64_t i = 0; i < 10000; i++) initialized(i * 0x9E3779B97F4A7C15ULL);
 }
 
 int main(void) {
@@ -119,5 +126,5 @@ int main(void) {
     xxh64(bytes);
     murmur(bytes);
     initializers();
-    return conclude(38);
+    return conclude(20410);
 }

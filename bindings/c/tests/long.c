@@ -1,5 +1,5 @@
-/* Lengths past 2^32, in one call and in one update, beside libxxhash. The zeros are never written,
- * so they take no memory. */
+/* Lengths past 2^32: XXH64 in one call and in one update beside libxxhash, Murmur in two updates beside
+ * one call. The zeros are never written, so they take no memory. */
 #include "sketch_hash.h"
 #include <stdlib.h>
 #include <xxhash.h>

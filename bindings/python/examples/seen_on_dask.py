@@ -79,7 +79,7 @@ def timed(call, *words):
 
 
 def scale(paths, sizes):
-    """Prints times, without that to start: each process has read the first file before."""
+    """Prints times without the start: each process has read the first file before."""
     by_one_process(paths[:1], sizes)
     table, alone = timed(by_one_process, paths, sizes)
     print(f"one process: {alone:.2f} s")

@@ -11,6 +11,8 @@ FOX = b"The quick brown fox jumps over the lazy dog"
 LONG = "import sketch_hash; print(sketch_hash.xxh64_hexdigest(bytes(2_500_000)), end='')"
 XXH64, MURMUR = b"0b242d361fda71bc", b"e34bbc7bbc071b6c7a433ca9c49a9347"
 NAMES = [b"return\rline", b"fox", b"a b", b" front", b"new\nline", b"back\\slash", b"\\n", b"\xff\xfe", b"  two"]
+# Each byte that a name may have, and what Python takes for an end of a line.
+NAMES += [b"x%cx" % byte for byte in range(1, 256) if byte != ord("/")] + ["x\x85\u2028\u2029x".encode()]
 
 
 @pytest.fixture(autouse=True)
@@ -88,6 +90,9 @@ def test_check_tells_what_is_wrong():
     status, output, complaint = run("-c", input=b"")
     assert (status, output) == (1, b"") and b"no line with a hash" in complaint
     assert run("-c", "missing")[0] == 1
+    status, output, complaint = run("-c", input=XXH64 + b"  fo\0x\n")
+    assert (status, output) == (1, b"fo\0x: FAILED to open or read\n")
+    assert complaint.startswith(b"sketch_hash: fo\0x: embedded null byte\n")
 
 
 @pytest.mark.skipif(not shutil.which("xxhsum"), reason="xxhsum is missing")

@@ -1,4 +1,5 @@
-"""Three faults that give a wrong hash without a word: a shared copy, two threads, a cut seed."""
+"""Faults that would give a wrong hash silently: a shared copy, two threads, a cut seed; and when
+Python's lock is given up."""
 import array
 import copy
 import fractions

@@ -1,8 +1,6 @@
 """The table of members beside a model over python3-xxhash, and bytes with damage."""
-import copy
 import itertools
 import mmap
-import pickle
 import random
 import struct
 import threading
@@ -14,11 +12,10 @@ import pytest
 import xxhash
 from sketch_hash import MemberTable
 from test_buffers import DATA, REFUSED, TAKEN
-from test_faults import ticks  # noqa: F401
+from test_faults import WAYS, ticks  # noqa: F401
 
 SEED = 2**64 - 5
 KEYS = [b"", bytes(1000), *[b"key %d" % n for n in range(50)]]
-WAYS = [copy.copy, copy.deepcopy, lambda it: it.copy(), lambda it: pickle.loads(pickle.dumps(it))]
 
 
 def filled(log2_bits=10, hashes=3, keys=KEYS):

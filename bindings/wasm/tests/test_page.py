@@ -71,6 +71,10 @@ class Page:
     def wait_for(self, name, status):
         self.wait(lambda: status in self.text(name, "td.status"))
 
+    def type(self, text):
+        typed = "arguments[0].value = arguments[1]; arguments[0].dispatchEvent(new Event('input'))"
+        self.chromium.execute_script(typed, self.one("textarea#text"), text)
+
     def text_hashes(self):
         return self.one("#text-xxh64").text, self.one("#text-murmur3").text
 
@@ -148,6 +152,10 @@ def test_a_text_as_it_is_typed(page):
     page.wait(lambda: page.text_hashes() == hashes("Grüß".encode()))
     page.set_seed("7")
     page.wait(lambda: page.text_hashes() == hashes("Grüß".encode(), 7))
+    # Letters and accents in two, other forms of letters, blanks: as they stand.
+    for text in ("e\u0301", "\ufb01 \u212b", " \ta\u00a0\n\n", "\ufeffa\u200b"):
+        page.type(text)
+        page.wait(lambda: page.text_hashes() == hashes(text.encode(), 7))
 
 
 def test_a_file_that_vanishes(page, tmp_path, files):

@@ -25,3 +25,26 @@ library.xxh64(input, 0);
 library.xxh64Each(input, new Uint16Array(2));
 // @ts-expect-error: the seed of a stream changes by a reset alone
 new library.Xxh64().seed = 1n;
+
+// Each type as it is, and no wider or narrower.
+type Same<A, B> = (<T>() => T extends A ? 1 : 2) extends (<T>() => T extends B ? 1 : 2) ? true : false;
+type Hash = (bytes: Input, seed?: bigint) => bigint;
+type Column = (bytes: Input, offsets: Offsets, seed?: bigint) => BigUint64Array;
+type Numbers = (values: BigUint64Array | BigInt64Array, seed?: bigint) => BigUint64Array;
+type Kind = new (seed?: bigint) => Stream;
+type Whole = {
+    xxh64: Hash, murmur3X64_128: Hash, xxh64Each: Column, xxh64EachU64: Numbers, murmur3X64_128Each: Column,
+    Xxh64: Kind, Murmur3X64_128: Kind, version: number,
+};
+type OfStream = {
+    readonly seed: bigint, update: (bytes: Input) => Stream, digest: () => bigint, hexdigest: () => string,
+    copy: () => Stream, reset: (seed?: bigint) => Stream,
+};
+type Each<T> = { [K in keyof T]: T[K] };
+const same: [
+    Same<Each<Library>, Whole>,
+    Same<Each<Stream>, OfStream>,
+    Same<typeof load, (source?: URL | string | BufferSource) => Promise<Library>>,
+    Same<Input, ArrayBuffer | ArrayBufferView>,
+    Same<Offsets, Uint32Array | Int32Array | BigUint64Array | BigInt64Array>,
+] = [true, true, true, true, true];

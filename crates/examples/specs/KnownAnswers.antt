@@ -3,7 +3,7 @@ use Rattle.std.specs.Prelude.{List, [], ◌∷◌, replicate, ℕ}
 use Rattle.datasketches.specs.declared.codec.Kind.TheVariants.{U64Le}
 use Rattle.examples.specs.Sketches.{IsSketch}
 
--- the preamble of an HLL sketch with the hash of the seed 9001, and eight bytes behind it
+-- the preamble of an HLL sketch with the hash of the seed 9001, and eight bytes after it
 abbrev pub sketch : ℕ → List ℕ
 sketch family = 1 ∷ 3 ∷ family ∷ 0xcc ∷ 0x93 ∷ replicate 8 0
 

@@ -19,6 +19,6 @@ pub record HasPreamble (seed : ℕ) (bytes : List ℕ) : Type 0 where
   pub seed_is : number_at 3 2 bytes ≡ seed_hash seed
   pub seed_is_usable : seed_hash seed ≢ 0
 
--- behind such a preamble stand the bytes of items of these kinds
+-- after such a preamble come the bytes of items of these kinds
 abbrev pub IsSketch : ℕ → List Kind → List ℕ → Type 0
 IsSketch seed kinds bytes = HasPreamble seed bytes × (widths kinds ≤ length (drop 5 bytes))

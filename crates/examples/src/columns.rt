@@ -6,8 +6,8 @@ ghost use Rattle.datasketches.specs.Xxh64.{xxh64};
 
 use datasketches::hash::XxHash64;
 
-/// The XXH64 of each text of a column, under the seed 9001; or the first offset that does not fit,
-/// and nothing is written.
+/// The XXH64 of each text of a column, under the seed 9001; or the index of the first offset that
+/// does not fit; then nothing is written.
 pub fn hash_texts(texts: &[u8], offsets: &[u64], out: &mut [u64]) -> Result<(), usize>
     ensures hashed { IfOk result (λ _. (i : ℕ) → i < length out.new →
         slice_index out.new i ≡ xxh64 9001 (take

@@ -28,21 +28,21 @@ pub fn pair_of(seed: u64, key: i32) -> (u64, u64)
     pair_of_value(seed, &sign_extend::from_i32(key))
 }
 
-/// Whether two pairs are one.
+/// Whether two pairs are equal.
 pub fn is_same_pair(a: (u64, u64), b: (u64, u64)) -> bool
     ensures { IsTrue result ↔ (a ≡ b) }
 {
     a == b
 }
 
-/// Whether two hashes are one.
+/// Whether two hashes are equal.
 pub fn is_same_hash(a: u64, b: u64) -> bool
     ensures { IsTrue result ↔ (a ≡ b) }
 {
     a == b
 }
 
-/// Whether two keys are one, by their pairs alone: no two keys share a pair.
+/// Whether two keys are equal, by their pairs alone: no two keys share a pair.
 pub fn is_same_key(seed: u64, x: i32, y: i32) -> bool
     ensures { IsTrue result ↔ (x ≡ y) }
 {

@@ -18,7 +18,8 @@ use std::alloc::Global;
 ///
 /// # Errors
 ///
-/// Where the two are not alike, in seed, size or hashes: `InvalidArgument`. The table is unchanged.
+/// Where the two are not alike, in seed, size or hashes: `InvalidArgument`, or `OutOfMemory` where
+/// the text finds no memory. The table is unchanged.
 pub fn merge_worker(
     alloc: Global,
     table: &mut MemberTable,

@@ -5,7 +5,7 @@ use Rattle.sketch_member.specs.Table.{Table}
 
 -- What the versions share. Byte 0: the preamble longs, one more than the version, of eight bytes
 -- each, which are the header; 1: the serial version; 2: the family; 3 and 4: the two sizes; 5: the
--- flag; 6 and 7: zero; 8 to 15: the seed, the lowest byte first. Behind it stand the bytes of the
+-- flag; 6 and 7: zero; 8 to 15: the seed, the lowest byte first. After it come the bytes of the
 -- count, and then the bits.
 abbrev pub form : ℕ → ℕ → List ℕ → Table → List ℕ
 form version flag count table =

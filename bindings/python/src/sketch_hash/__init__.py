@@ -109,7 +109,7 @@ def _take_up(kind, seed, checkpoint):
     """The object of a checkpoint, as pickle keeps it."""
     hasher = kind(seed=seed)
     if len(checkpoint) != _ffi.sizeof(hasher._state[0]):
-        raise ValueError(f"a checkpoint of {kind.__name__} has other than {len(checkpoint)} bytes")
+        raise ValueError(f"a checkpoint of {kind.__name__} does not have {len(checkpoint)} bytes")
     _ffi.memmove(hasher._state, checkpoint, len(checkpoint))
     return hasher
 
@@ -191,7 +191,7 @@ def _words(buffer, widths):
         raise TypeError(f"a column is one row of whole numbers of {bits} bits")
     words = _memory_of(f"uint{8 * view.itemsize}_t[]", buffer)
     if int(_ffi.cast("uintptr_t", words)) % view.itemsize:
-        raise ValueError("a column of numbers lies at a multiple of their width")
+        raise ValueError("a column of numbers has to lie at a multiple of their width")
     return words, view.itemsize
 
 

@@ -47,8 +47,9 @@ def hash_file(name, hasher):
                 while count := file.readinto(piece):
                     hasher.update(piece[:count])
                     bar.add(count)
-    except OSError as error:
-        complain(f"{name}: {error.strerror or error}")
+    except (OSError, ValueError) as error:
+        # No file has a name with a byte 0, which is a ValueError.
+        complain(f"{name}: {getattr(error, 'strerror', None) or error}")
         return None
     return hasher
 

@@ -1,4 +1,4 @@
-//! Each caller, run.
+//! Callers, run.
 
 use super::{
     FOX_MURMUR, FOX_XXH64, assert_out_of_memory, assert_refused, assert_same, assert_same_for,
@@ -10,7 +10,7 @@ use crate::keys::{is_new_key, is_same_key, is_same_word, pair_of};
 use crate::own::{BigEndian, Point};
 use crate::seen::{see_key_in, see_saved_key};
 use crate::sentence::hash_of_the_sentence;
-use crate::sketch::{at_place, read_sketch, write_sketch};
+use crate::sketch::{at_place, read_sketch};
 use crate::streams::{checkpoint, murmur_of_pieces, xxh64_from, xxh64_of_pieces};
 use datasketches::codec::{Item, Kind, SketchBytes};
 use datasketches::error::Error;
@@ -47,7 +47,7 @@ fn reading_a_sketch_takes_no_memory(rt: HostRuntime) {
     assert_same(&rt, item.ok(), Some(Item::U64Le(258)));
 }
 
-// One more place is wrong each time, and its fault is told before those behind it.
+// One more place is wrong each time, and its fault is told before those after it.
 #[test]
 fn other_bytes_are_refused(rt: HostRuntime) {
     let alloc = rt.alloc();
@@ -80,15 +80,6 @@ fn other_bytes_are_refused(rt: HostRuntime) {
 }
 
 #[test]
-fn a_seed_with_no_hash_is_refused(rt: HostRuntime) {
-    let alloc = rt.alloc();
-    let answer = read(alloc, &SKETCH, 50541, Kind::U64Le);
-    let line =
-        "InvalidArgument => seed 50541 produces a seed hash of zero; choose a different seed";
-    assert_refused(&rt, answer, line);
-}
-
-#[test]
 fn a_stream_in_pieces_has_one_hash(rt: HostRuntime) {
     let pieces = [
         raw_bytes::from_slice(b"The quick brown fox "),
@@ -103,12 +94,6 @@ fn a_stream_in_pieces_has_one_hash(rt: HostRuntime) {
 fn a_stream_goes_on_from_a_checkpoint(rt: HostRuntime) {
     let state = checkpoint(0, b"The quick brown fox jumps over the");
     assert_same(&rt, xxh64_from(&state, b" lazy dog"), FOX_XXH64);
-}
-
-#[test]
-fn a_sketch_that_was_written_is_read(rt: HostRuntime) {
-    let sketch = write_sketch(rt.alloc(), 9001, &[Item::U64Le(258)]).ok();
-    assert_same(&rt, sketch.as_deref(), Some(SKETCH.as_slice()));
 }
 
 // The hash of a value is that of the bytes that it feeds.

@@ -32,7 +32,7 @@ fn write_no_bytes(writer: &mut SketchBytes)
     }
 }
 
-// A caller's proof knows that `==` says yes exactly of values that are one.
+// A caller's proof knows that `==` is true exactly of equal values.
 fn is_same_item(a: &Item, b: &Item) -> bool
     ensures { IsTrue result ↔ (a.now ≡ b.now) }
 {
@@ -217,12 +217,6 @@ fn shows_items_kinds_and_counts(rt: HostRuntime) -> Result<(), Fail> {
     }
     let item = Item::U16Le(258);
     let (short, stopped) = (Short { read: 3 }, Stopped { accepted: 0 });
-    let text = format!(in rt.alloc(); "{short:?} {stopped:?}")?;
-    assert_same(
-        &rt,
-        text.as_str(),
-        "Short { read: 3 } Stopped { accepted: 0 }",
-    );
     let text = format!(in rt.alloc(); "{item:#?} {:#?} {short:#?} {stopped:#?}", item.kind())?;
     assert_same(
         &rt,
@@ -513,22 +507,6 @@ fn reads_one_number_after_another(rt: HostRuntime) {
         &rt,
         (reader.read_i64_be().ok(), reader.read_i32_le().ok()),
         (Some(-2), Some(-2_147_483_648)),
-    );
-    assert_same(
-        &rt,
-        (
-            SketchSlice::new(&[0xff, 0xfe]).read_i16_be().ok(),
-            SketchSlice::new(&[0xff, 0xfe]).read_i16_le().ok(),
-        ),
-        (Some(-2), Some(-257)),
-    );
-    assert_same(
-        &rt,
-        (
-            SketchSlice::new(&[1, 2, 3, 4]).read_u32_be().ok(),
-            SketchSlice::new(&[1, 2, 3, 4]).read_u32_le().ok(),
-        ),
-        (Some(16_909_060), Some(67_305_985)),
     );
 }
 

@@ -30,7 +30,7 @@ fn line_in_two_contexts(alloc: Global) -> Option<String>
     error.to_string(alloc).ok()
 }
 
-// A caller's proof knows that `==` says yes exactly of kinds that are one.
+// A caller's proof knows that `==` is true exactly of equal kinds.
 fn is_same_kind(a: ErrorKind, b: ErrorKind) -> bool
     ensures { IsTrue result ↔ (a ≡ b) }
 {

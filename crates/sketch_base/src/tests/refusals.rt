@@ -37,7 +37,7 @@ pub(crate) fn tell_refusal(rt: &impl Eprint) {
 }
 
 /// Whether an error tells that memory ran out, as it is and as it displays.
-pub(crate) fn is_memory_error(error: &Error) -> bool {
+fn is_memory_error(error: &Error) -> bool {
     let is_bare = error.kind() == ErrorKind::OutOfMemory && error.message().is_empty();
     is_bare && prints(error, "OutOfMemory")
 }

@@ -6,7 +6,7 @@ ghost use Rattle.std.specs.Prelude.{◌≡◌, ◌↔◌, IsTrue, MatchResult};
 use super::{assert_same, tell_refusal};
 use crate::hash::value::natural_extend::NaturalExtendStrategy;
 use crate::hash::value::sign_extend::{self, SignExtendStrategy};
-use crate::hash::value::{Value, calculate_hash, raw_bytes, value_law};
+use crate::hash::value::{Value, calculate_hash, raw_bytes};
 use std::alloc::{AllocError, Global};
 use std::cmp::Ordering;
 
@@ -100,12 +100,6 @@ fn others_are_not_empty_through_the_wrapper(rt: HostRuntime) -> Result<(), Alloc
     assert!(rt; !raw_bytes::from_string(text).is_empty());
     assert!(rt; !raw_bytes::from_str("abc").is_empty());
     Ok(())
-}
-
-#[test]
-fn the_law_holds_of_both_extensions(_rt: HostRuntime) {
-    value_law::<u8, NaturalExtendStrategy>();
-    value_law::<u8, SignExtendStrategy>();
 }
 
 #[test]

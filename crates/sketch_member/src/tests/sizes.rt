@@ -137,7 +137,7 @@ fn assert_malformed(rt: &impl Abort, answer: Result<MemberTable, Error>) {
     assert!(rt; kind == Some(ErrorKind::InvalidData));
 }
 
-// The sweep counts the requests: one for the bits of each table, and one for those of each copy.
+// The sweep counts the requests: one for the bits of each table.
 #[test]
 fn tables_that_are_read_make_16_requests(rt: HostRuntime) {
     for hashes in 1..=16 {

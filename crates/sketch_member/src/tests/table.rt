@@ -1,16 +1,12 @@
 //! The table of members: its bits, its bytes and its refusals.
 
 use super::{
-    ONE_VALUE_1, ONE_VALUE_2, UNKNOWN_COUNT, assert_out_of_memory, assert_refused, assert_same,
-    assert_same_for,
+    ONE_VALUE_1, ONE_VALUE_2, UNKNOWN_COUNT, assert_refused, assert_same, assert_same_for,
 };
 use crate::MemberTable;
 use crate::laws::{read_again, read_back};
-use datasketches::error::{Error, ErrorKind};
 use datasketches::hash::value::raw_bytes;
 use std::alloc::Global;
-use std::io::Eprint;
-use std::process::Abort;
 use std::test::Fail;
 
 // A seed, the two sizes, the values inserted, and the bits that are set then, as a model of the
@@ -141,17 +137,6 @@ fn a_table_of_version_1_has_no_count(rt: HostRuntime) -> Result<(), Fail> {
 }
 
 #[test]
-fn a_count_stays_at_the_greatest(rt: HostRuntime) -> Result<(), Fail> {
-    let mut bytes = ONE_VALUE_2;
-    bytes[16..24].copy_from_slice(&[0xff; 8]);
-    let mut table = MemberTable::from_bytes(rt.alloc(), &bytes)?;
-    assert_same(&rt, table.count(), Some(u64::MAX));
-    table.insert(&raw_bytes::from_str("a"));
-    assert_same(&rt, table.count(), Some(u64::MAX));
-    Ok(())
-}
-
-#[test]
 fn sizes_outside_their_limits_are_refused(rt: HostRuntime) {
     let alloc = rt.alloc();
     for (log2_bits, hashes, line) in [
@@ -177,77 +162,6 @@ fn sizes_outside_their_limits_are_refused(rt: HostRuntime) {
         ),
     ] {
         assert_refused(&rt, MemberTable::new(alloc, 0, log2_bits, hashes), line);
-    }
-}
-
-// A place in the bytes of a table, another byte there, and how that is refused.
-pub(super) type Change = (usize, u8, &'static str);
-
-pub(super) const CHANGES_1: [Change; 9] = [
-    (
-        0,
-        4,
-        "InvalidData => invalid preamble longs: expected one of [2, 3], got 4",
-    ),
-    (
-        0,
-        3,
-        "InvalidData => unsupported serial version: expected 2, got 1",
-    ),
-    (
-        1,
-        2,
-        "InvalidData => unsupported serial version: expected 1, got 2",
-    ),
-    (
-        2,
-        21,
-        "InvalidData => invalid family: expected 200 (MEMBER), got 21",
-    ),
-    (
-        3,
-        5,
-        "InvalidData => invalid log2 bits: expected 6 to 20, got 5",
-    ),
-    (
-        4,
-        17,
-        "InvalidData => invalid hashes: expected 1 to 16, got 17",
-    ),
-    (5, 1, "InvalidData => reserved bytes are not zero"),
-    (6, 1, "InvalidData => reserved bytes are not zero"),
-    (7, 128, "InvalidData => reserved bytes are not zero"),
-];
-
-pub(super) const CHANGES_2: [Change; 6] = [
-    (
-        0,
-        2,
-        "InvalidData => unsupported serial version: expected 1, got 2",
-    ),
-    (5, 2, "InvalidData => reserved bytes are not zero"),
-    (6, 1, "InvalidData => reserved bytes are not zero"),
-    (7, 1, "InvalidData => reserved bytes are not zero"),
-    (5, 0, "InvalidData => unknown count is not zero"),
-    (
-        3,
-        7,
-        "InvalidData => insufficient data (member bits): expected 16, got 8",
-    ),
-];
-
-#[test]
-fn changed_bytes_are_refused(rt: HostRuntime) {
-    let alloc = rt.alloc();
-    for (place, byte, line) in CHANGES_1 {
-        let mut bytes = ONE_VALUE_1;
-        bytes[place.min(7)] = byte;
-        assert_refused(&rt, MemberTable::from_bytes(alloc, &bytes), line);
-    }
-    for (place, byte, line) in CHANGES_2 {
-        let mut bytes = ONE_VALUE_2;
-        bytes[place.min(7)] = byte;
-        assert_refused(&rt, MemberTable::from_bytes(alloc, &bytes), line);
     }
 }
 
@@ -293,57 +207,6 @@ fn the_first_fault_is_told(rt: HostRuntime) {
     }
     let trailing = "InvalidData => trailing bytes: 1";
     assert_refused(&rt, MemberTable::from_bytes(alloc, &bytes), trailing);
-}
-
-// Asserts that each beginning of the bytes of a table with eight bytes of bits is refused, or that
-// memory ran out.
-pub(super) fn assert_beginnings_refused<R: Abort + Eprint>(
-    rt: &R,
-    alloc: Global,
-    bytes: &[u8],
-    header: usize,
-) {
-    for count in 0..bytes.len() {
-        let (beginning, _) = bytes.split_at(count);
-        let answer = MemberTable::from_bytes(alloc, beginning);
-        if count < header {
-            assert_header_short(rt, answer, count);
-        } else {
-            let have = count - header;
-            assert_refused(rt, answer, MISSING_BITS[have.min(7)]);
-        }
-    }
-}
-
-// How a table of eight bytes of bits is refused of which only 0 to 7 are there.
-const MISSING_BITS: [&'static str; 8] = [
-    "InvalidData => insufficient data (member bits): expected 8, got 0",
-    "InvalidData => insufficient data (member bits): expected 8, got 1",
-    "InvalidData => insufficient data (member bits): expected 8, got 2",
-    "InvalidData => insufficient data (member bits): expected 8, got 3",
-    "InvalidData => insufficient data (member bits): expected 8, got 4",
-    "InvalidData => insufficient data (member bits): expected 8, got 5",
-    "InvalidData => insufficient data (member bits): expected 8, got 6",
-    "InvalidData => insufficient data (member bits): expected 8, got 7",
-];
-
-// Asserts that a header that ends too early is refused, or that memory ran out.
-fn assert_header_short<R: Abort + Eprint>(
-    rt: &R,
-    answer: Result<MemberTable, Error>,
-    count: usize,
-) {
-    let Err(error) = answer else {
-        return assert_same_for(rt, true, false, count);
-    };
-    if error.kind() == ErrorKind::OutOfMemory {
-        return assert_out_of_memory(rt, &error);
-    }
-    let is_short = error.kind() == ErrorKind::InvalidData
-        && error
-            .message()
-            .starts_with("insufficient data (member table): ");
-    assert_same_for(rt, is_short, true, count);
 }
 
 #[test]

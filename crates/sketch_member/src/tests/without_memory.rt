@@ -1,11 +1,11 @@
 //! Tables where memory runs out. Each test holds whichever request for memory is refused.
 
-use super::table::{CHANGES_1, CHANGES_2, assert_beginnings_refused};
 use super::{
     ONE_VALUE_1, ONE_VALUE_2, UNKNOWN_COUNT, assert_out_of_memory, assert_refused, assert_same,
+    assert_same_for,
 };
 use crate::MemberTable;
-use datasketches::error::Error;
+use datasketches::error::{Error, ErrorKind};
 use datasketches::hash::value::raw_bytes;
 use std::alloc::Global;
 use std::io::Eprint;
@@ -116,6 +116,62 @@ fn sizes_are_refused_without_memory(rt: HostRuntime) {
     }
 }
 
+// A place in the bytes of a table, another byte there, and how that is refused.
+type Change = (usize, u8, &'static str);
+
+const CHANGES_1: [Change; 9] = [
+    (
+        0,
+        4,
+        "InvalidData => invalid preamble longs: expected one of [2, 3], got 4",
+    ),
+    (
+        0,
+        3,
+        "InvalidData => unsupported serial version: expected 2, got 1",
+    ),
+    (
+        1,
+        2,
+        "InvalidData => unsupported serial version: expected 1, got 2",
+    ),
+    (
+        2,
+        21,
+        "InvalidData => invalid family: expected 200 (MEMBER), got 21",
+    ),
+    (
+        3,
+        5,
+        "InvalidData => invalid log2 bits: expected 6 to 20, got 5",
+    ),
+    (
+        4,
+        17,
+        "InvalidData => invalid hashes: expected 1 to 16, got 17",
+    ),
+    (5, 1, "InvalidData => reserved bytes are not zero"),
+    (6, 1, "InvalidData => reserved bytes are not zero"),
+    (7, 128, "InvalidData => reserved bytes are not zero"),
+];
+
+const CHANGES_2: [Change; 6] = [
+    (
+        0,
+        2,
+        "InvalidData => unsupported serial version: expected 1, got 2",
+    ),
+    (5, 2, "InvalidData => reserved bytes are not zero"),
+    (6, 1, "InvalidData => reserved bytes are not zero"),
+    (7, 1, "InvalidData => reserved bytes are not zero"),
+    (5, 0, "InvalidData => unknown count is not zero"),
+    (
+        3,
+        7,
+        "InvalidData => insufficient data (member bits): expected 16, got 8",
+    ),
+];
+
 #[test]
 fn bytes_are_refused_without_memory(rt: HostRuntime) {
     for (place, byte, line) in CHANGES_1 {
@@ -139,6 +195,57 @@ fn bytes_are_refused_without_memory(rt: HostRuntime) {
         MemberTable::from_bytes(rt.alloc(), &longer[..25]),
         trailing,
     );
+}
+
+// Asserts that each beginning of the bytes of a table with eight bytes of bits is refused, or that
+// memory ran out.
+fn assert_beginnings_refused<R: Abort + Eprint>(
+    rt: &R,
+    alloc: Global,
+    bytes: &[u8],
+    header: usize,
+) {
+    for count in 0..bytes.len() {
+        let (beginning, _) = bytes.split_at(count);
+        let answer = MemberTable::from_bytes(alloc, beginning);
+        if count < header {
+            assert_header_short(rt, answer, count);
+        } else {
+            let have = count - header;
+            assert_refused(rt, answer, MISSING_BITS[have.min(7)]);
+        }
+    }
+}
+
+// How a table of eight bytes of bits is refused of which only 0 to 7 are there.
+const MISSING_BITS: [&'static str; 8] = [
+    "InvalidData => insufficient data (member bits): expected 8, got 0",
+    "InvalidData => insufficient data (member bits): expected 8, got 1",
+    "InvalidData => insufficient data (member bits): expected 8, got 2",
+    "InvalidData => insufficient data (member bits): expected 8, got 3",
+    "InvalidData => insufficient data (member bits): expected 8, got 4",
+    "InvalidData => insufficient data (member bits): expected 8, got 5",
+    "InvalidData => insufficient data (member bits): expected 8, got 6",
+    "InvalidData => insufficient data (member bits): expected 8, got 7",
+];
+
+// Asserts that a header that ends too early is refused, or that memory ran out.
+fn assert_header_short<R: Abort + Eprint>(
+    rt: &R,
+    answer: Result<MemberTable, Error>,
+    count: usize,
+) {
+    let Err(error) = answer else {
+        return assert_same_for(rt, true, false, count);
+    };
+    if error.kind() == ErrorKind::OutOfMemory {
+        return assert_out_of_memory(rt, &error);
+    }
+    let is_short = error.kind() == ErrorKind::InvalidData
+        && error
+            .message()
+            .starts_with("insufficient data (member table): ");
+    assert_same_for(rt, is_short, true, count);
 }
 
 #[test]

@@ -29,10 +29,3 @@ impl Both {
         (self.murmur3.finish128(), self.xxhash.finish64())
     }
 }
-
-/// What both answer under one seed, after one write.
-pub(crate) fn answers_of(seed: u64, bytes: &[u8]) -> ((u64, u64), u64) {
-    let mut both = Both::with_seeds(seed, seed);
-    both.write(bytes);
-    both.answers()
-}

@@ -1,4 +1,4 @@
-//! Equalities of hashes: those that the original documents, and the like of other forms.
+//! Equalities of hashes: those that the original documents, and similar ones of the other types.
 
 use crate::tests::{assert_same, assert_same_for};
 use datasketches::hash::value::{calculate_hash, natural_extend, raw_bytes, sign_extend};

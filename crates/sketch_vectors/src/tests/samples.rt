@@ -22,7 +22,7 @@ fn samples_are_answered_alike(rt: HostRuntime) {
     assert_same(&rt, count, 121);
 }
 
-// The words of an answer, and 0 behind them.
+// The words of an answer, and 0 after them.
 fn words_of(answer: &str) -> [u64; 3] {
     let mut words = [0; 3];
     for (place, word) in words.iter_mut().zip(answer.split_whitespace()) {
@@ -31,7 +31,7 @@ fn words_of(answer: &str) -> [u64; 3] {
     words
 }
 
-// The words that are answered to a question, and 0 behind them. None where it is not one.
+// The words that are answered to a question, and 0 after them. None where it is not one.
 fn answer_to(alloc: Global, question: &str) -> Option<[u64; 3]> {
     let (kind, asked) = question.split_once(' ')?;
     match kind {

@@ -7,7 +7,7 @@ use std::fmt::Display;
 use std::io::{self, Eprint, ErrorKind, Read, Write};
 use std::rt::Env;
 
-/// Every kind of fault that a reader or a writer may have.
+/// Every kind of fault that a reader or a writer may have, but `Interrupted`.
 pub const KINDS: [ErrorKind; 41] = [
     ErrorKind::NotFound,
     ErrorKind::PermissionDenied,

@@ -78,7 +78,7 @@ fn a_read_that_fails_in_mid_stream_writes_nothing(rt: HostRuntime) {
     }
 }
 
-// Nor is it where its bytes are read ahead.
+// A read that fails ahead is told too.
 #[test]
 fn a_read_ahead_that_fails_is_told(rt: HostRuntime) {
     for kind in KINDS.iter().chain(&[ErrorKind::Interrupted]) {
@@ -92,7 +92,7 @@ fn a_read_ahead_that_fails_is_told(rt: HostRuntime) {
     }
 }
 
-// Nor is it where what was read before the fault fills the memory of the read ahead, or nearly so.
+// So is one where the bytes before the fault fill the memory of the read ahead, or nearly so.
 #[test]
 fn a_read_ahead_fails_after_full_reads(rt: HostRuntime) {
     let bytes = [7; 131_090];

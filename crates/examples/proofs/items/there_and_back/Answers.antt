@@ -5,12 +5,12 @@ use Rattle.datasketches.specs.WriterValue.{WriterValue}
 use Rattle.datasketches.proofs.ItemLemmas.{widths-take-le}
 use Rattle.examples.proofs.items.there_and_back.Goals as goal
 
--- what holds ok_of_any holds of an Ok
+-- what holds anyway holds of an Ok
 ok_of_any : {X E : Type 0} (r : Result X E) (P : Type 0) → P → IfOk r (λ _. P)
 ok_of_any (Ok x) P h = h
 ok_of_any (Err e) P h = tt
 
--- the bytes that are read are those of the items, and the others behind them
+-- the bytes that are read are those of the items, and the others after them
 bytes_read : (empty filled : List ℕ) (items : List Item) (behind read : List ℕ) → empty ≡ [] →
     filled ≡ empty ++ spell_all items → read ≡ filled ++ behind → read ≡ spell_all items ++ behind
 bytes_read empty filled items behind read none written is = rw (is, written, none) refl

@@ -145,7 +145,7 @@ fn refuses_beside_every_pair_of_ends(rt: HostRuntime) {
     }
 }
 
-// Forty numbers, no two of which are one.
+// Forty numbers, all different.
 const LONGS: [u8; 40] = [
     1, 2, 3, 4, 5, 6, 7, 8, 9, 10, 0, 255, 254, 100, 99, 98, 97, 96, 95, 94, 20, 21, 22, 23, 24,
     25, 26, 27, 28, 29, 130, 131, 132, 133, 134, 135, 136, 137, 138, 139,

@@ -8,7 +8,7 @@ use crate::tests::refusals::{assert_accepted, assert_refused};
 use std::test::Fail;
 
 // A caller's proof knows the fields of each family.
-pub(super) fn families() -> [Family; 10]
+fn families() -> [Family; 10]
     ensures { map {B = ℕ × List ℕ × ℕ × ℕ}
         (λ family. (family.id, family.name.now, family.min_pre_longs, family.max_pre_longs)) result
         ≡ (3, codes "THETA", 1, 3) ∷ (7, codes "HLL", 1, 1) ∷ (9, codes "TUPLE", 1, 3)
