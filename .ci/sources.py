@@ -107,7 +107,7 @@ BY_HAND = {
     ("Default", "MurmurHash3X64128"), ("Default", "XxHash64"), ("Hash", "Point"), ("Hash", "Value<T, S>"),
 }
 IMPLEMENTATIONS = re.compile(
-    r"^ *((?:unsafe )?impl\b[^{;]*?(\w+)(?:<[^{;]*>)? for ([^{;]+?)(?:\s+where\b[^{;]*)?\s*\{)", re.M
+    r"^ *((?:unsafe )?impl\b[^{]*?(\w+)(?:<[^{]*>)? for ([^{]+?)(?:\s+where\b[^{]*)?\s*\{)", re.M
 )
 
 # Lines that hide something from the above: another name, another path, a macro, a comment that is no line,
