@@ -122,6 +122,7 @@ HIDING = re.compile("|".join([
     r"^\s*use (?:std::)?(?:fmt|io)\b.*(?:\bError\b|\*).*",
     r"^.*= (?:move )?\|[^|\n]*\| \{$",
     r"^.*\b(?:macro_rules!|include!).*",
+    r"^.*\bderive_where\b.*\bskip.*",
     r"^.*\bf\.fill\(.*",
     r"^.*[.:](?:alternate|pad\w*|precision|width|sign\w*)\((?<!kind\(\)\.width\().*",
     r"^.*/\*.*",
@@ -164,9 +165,9 @@ def written_by_hand(text):
 # ---- docs/contracts.txt
 
 def heads(text):
-    """The lines of a source that promise something: what its clauses import; of each function that others can
-    call its signature and its clauses, of types and constants all, of implementations their heads, and what
-    their ghost fields say."""
+    """The lines of a source that promise something: what its clauses import, and what it gives on under its own or
+    another name; of each function that others can call its signature and its clauses, of types and constants
+    all, of implementations their heads, and what their ghost fields say."""
     found, depth, is_open = [], None, False
     for line in text.split("\n"):
         if depth is None:
@@ -174,7 +175,7 @@ def heads(text):
                 found.append(line)
                 continue
             start = re.match(
-                r" *(pub(?:\([^)]*\))? |unsafe |extern \"C\" |final |const (?=fn))*(fn|ghost|impl|trait|struct|enum|const)\b", line
+                r" *(pub(?:\([^)]*\))? |unsafe |extern \"C\" |final |const (?=fn))*(fn|ghost|impl|trait|struct|enum|const|(?<=pub )(?:use|type)|(?<=\) )(?:use|type))\b", line
             )
             if not start:
                 continue
@@ -185,12 +186,12 @@ def heads(text):
                 continue
             depth = 0
         depth += line.count("{") - line.count("}")
-        if kind == "const":
+        if kind in ("const", "use"):
             depth += line.count("[") - line.count("]")
         if line.strip() not in ("{", "{}") and not line.strip().startswith("//"):
             found.append(line)
         # Here a body begins, or there is none.
-        if kind in ("struct", "enum", "const"):
+        if kind in ("struct", "enum", "const", "use", "type"):
             is_whole = depth == 0 and line.endswith(("}", ";"))
         else:
             is_whole = depth == 1 and line.endswith("{") or depth == 0 and line.endswith(("{}", ";"))

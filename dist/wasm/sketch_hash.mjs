@@ -60,7 +60,7 @@ function checkedColumn(column, kinds) {
 }
 
 function library(calls) {
-    // Behind the module's own data: a hash of 16 bytes, a state of up to 80 bytes, and the input.
+    // After the module's own data: a hash of 16 bytes, a state of up to 80 bytes, and the input.
     const hash = (calls.__heap_base.value + 15n) & ~15n;
     const state = hash + 16n;
     const input = state + 80n;
@@ -89,7 +89,7 @@ function library(calls) {
         return h1 << 64n | h2;
     }
 
-    // Runs a call over columns. The hashes lie from the place of the input on, and behind them the
+    // Runs a call over columns. The hashes lie from the place of the input on, and after them the
     // columns from the last to the first: offsets before the bytes, as they lie at multiples of their width.
     function each(call, columns, seed, count, size) {
         makeRoom(columns.reduce((sum, { byteLength }) => sum + byteLength, count * size));

@@ -45,6 +45,17 @@ def test_a_file_longer_than_a_read():
     feeder.stdout.close()
 
 
+def test_an_input_that_does_not_wait():
+    """Nothing to read for now is a fault, and not the end."""
+    here, there = os.pipe()
+    os.set_blocking(here, False)
+    os.write(there, FOX[:9])
+    status, output, complaint = run(stdin=here)
+    os.close(here)
+    os.close(there)
+    assert (status, output) == (1, b"") and complaint.startswith(b"sketch_hash: -: ")
+
+
 def test_seeds():
     assert run("--seed", "0x10", "fox") == run("--seed", "16", "fox")
     assert run("--seed", "18446744073709551615", "fox")[1] != run("fox")[1]

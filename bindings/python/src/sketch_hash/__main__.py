@@ -1,5 +1,6 @@
 """Prints the hashes of files, or checks them: python3 -m sketch_hash --help"""
 import argparse
+import errno
 import os
 import sys
 import time
@@ -44,7 +45,7 @@ def hash_file(name, hasher):
         with open(0 if name == "-" else name, "rb", buffering=0, closefd=name != "-") as file:
             with Bar(name, os.fstat(file.fileno()).st_size) as bar:
                 piece = memoryview(bytearray(PIECE))
-                while count := file.readinto(piece):
+                while count := read(file, piece):
                     hasher.update(piece[:count])
                     bar.add(count)
     except (OSError, ValueError) as error:
@@ -52,6 +53,14 @@ def hash_file(name, hasher):
         complain(f"{name}: {getattr(error, 'strerror', None) or error}")
         return None
     return hasher
+
+
+def read(file, piece):
+    """How many bytes were read into the piece, 0 at the end."""
+    count = file.readinto(piece)
+    if count is None:
+        raise BlockingIOError(errno.EAGAIN, os.strerror(errno.EAGAIN))
+    return count
 
 
 class Bar:
