@@ -1,6 +1,6 @@
 //! Items written, and read back as a list.
 
-ghost use Rattle.std.specs.Prelude.{◌≡◌, ◌↔◌, ℕ, List, ◌+◌, ◌<◌, ◌≤◌, ◌++◌, IfOk, IsTrue, false, length, map, take, drop};
+ghost use Rattle.std.specs.Prelude.{◌≡◌, ◌↔◌, ℕ, List, ◌+◌, ◌<◌, ◌≤◌, ◌++◌, if◌then◌else◌, IfOk, IsTrue, false, length, map, take, drop};
 ghost use Rattle.datasketches.specs.ItemLaws.{Holds};
 ghost use Rattle.datasketches.specs.Items.{item_kind, spell_all, unspell_all, width, widths};
 
@@ -107,6 +107,28 @@ pub fn write_if_it_fits(writer: &mut SketchBytes, bytes: &[u8]) -> bool
     ensures refused { result ≡ false → writer.new ≡ writer.old }
 {
     writer.write(bytes).is_ok()
+}
+
+/// A copy of bytes, written into room for just as many. The answer also says whether they were
+/// written, which they always are.
+///
+/// # Errors
+///
+/// Where the room finds no memory.
+pub fn copy_into_room(alloc: Global, bytes: &[u8]) -> Result<(Vec<u8>, bool), AllocError>
+    ensures copied { IfOk result (λ made. made.0.items ≡ bytes.now) }
+    ensures written { IfOk result (λ made. IsTrue made.1) }
+{
+    let mut writer = SketchBytes::with_capacity(alloc, bytes.len())?;
+    let is_written = writer.write(bytes).is_ok();
+    Ok((writer.into_bytes(), is_written))
+}
+
+/// Whether a buffer was filled from the front of bytes: if they are too few, it is as it was.
+pub fn fill(buffer: &mut [u8], bytes: &[u8]) -> bool
+    ensures { buffer.new ≡ (if result then take (length buffer.old) bytes.now else buffer.old) }
+{
+    SketchSlice::new(bytes).read_exact(buffer).is_ok()
 }
 
 /// The number of bytes in which an item stands.

@@ -36,6 +36,18 @@ pub fn load_keys(alloc: Global, saved: &[u8]) -> Result<MemberTable, Error>
     MemberTable::from_bytes(alloc, saved)
 }
 
+/// A table of no keys, in which no bit is set.
+///
+/// # Errors
+///
+/// Where memory runs out: `OutOfMemory`, with no message.
+pub fn start_keys(alloc: Global) -> Result<MemberTable, Error>
+    ensures empty { IfOk result (λ seen. (i : ℕ) → IsSet seen.bits i → ⊥) }
+    ensures refused { IfErr result (λ error. error ≡ memory_error) }
+{
+    MemberTable::new(alloc, 0, 10, 7)
+}
+
 /// Whether the table tells that a key was seen: it does of each that was, and may of another. It is
 /// seen from then on.
 pub fn see_key(seen: &mut MemberTable, key: &[u8]) -> bool

@@ -4,11 +4,11 @@ ghost use Rattle.std.specs.Prelude.{◌≡◌, ℕ, List, ◌++◌};
 ghost use Rattle.std.specs.List.{flat_map};
 ghost use Rattle.datasketches.specs.Held.{Xxh64Holds, xxh64_held};
 ghost use Rattle.datasketches.specs.Murmur.{murmur};
-ghost use Rattle.datasketches.specs.Xxh64.{xxh64};
+ghost use Rattle.datasketches.specs.Xxh64.{Xxh64Stands, xxh64};
 
 use datasketches::hash::value::feed_all;
 use datasketches::hash::value::raw_bytes::RawBytes;
-use datasketches::hash::{Hasher, MurmurHash3X64128, XxHash64, XxHash64State};
+use datasketches::hash::{Hash, Hasher, MurmurHash3X64128, XxHash64, XxHash64State};
 
 /// The Murmur pair of a stream that comes in pieces.
 pub fn murmur_of_pieces(seed: u64, pieces: &[RawBytes<&[u8]>]) -> (u64, u64)
@@ -26,6 +26,14 @@ pub fn xxh64_of_pieces(seed: u64, pieces: &[RawBytes<&[u8]>]) -> u64
     let mut hasher = XxHash64::with_seed(seed);
     feed_all(pieces, &mut hasher);
     hasher.finish64()
+}
+
+/// Feeds values to a hasher that was fed other bytes before.
+pub fn feed_more<T: Hash>(hasher: &mut XxHash64, values: &[T])
+    ensures { (seed : ℕ) (before : List ℕ) → Xxh64Stands hasher.old seed before →
+        Xxh64Stands hasher.new seed (before ++ flat_map T.fed values.now) }
+{
+    feed_all(values, hasher);
 }
 
 /// Both hashes of bytes under the usual seeds, as `Hasher` answers them: the first word of Murmur,

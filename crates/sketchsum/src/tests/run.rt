@@ -1,4 +1,4 @@
-ghost use Rattle.std.specs.Prelude.{◌≡◌, ◌+◌, ◌*◌, ◌≤◌, [], ◌++◌, codes, false, length, Err, IsTrue, OnOk};
+ghost use Rattle.std.specs.Prelude.{◌≡◌, ◌+◌, ◌*◌, ◌≤◌, [], ◌++◌, codes, false, true, length, Err, OnOk};
 ghost use Rattle.sketchsum.specs.Digest.{digest_line};
 
 use super::fakes::{Full, KINDS, NarrowWriter, SlowReader};
@@ -152,15 +152,19 @@ fn are_enough(turns: u64, input: &mut &[u8], output: &mut Vec<u8>) -> (bool, u64
     (answer != Err(RunFault::TooLong), reader.turns_left())
 }
 
-// Writes the line of what a reader has left: a line that is done is flushed.
+// Writes the line of what a reader has left. A line that is done is flushed, and a fault that is
+// told has happened.
 fn write_rest<R: Read, W: Write>(
     reader: &mut BoundedReader<'_, R>,
     writer: &mut CheckedWriter<'_, W>,
-) -> bool
-    ensures flushed { IsTrue result → writer.new.state ≡ OutputState.Flushed }
-    ensures read { IsTrue result → reader.new.has_failed ≡ false }
+) -> Result<(), RunFault>
+    ensures flushed { OnOk result (writer.new.state ≡ OutputState.Flushed) }
+    ensures read { OnOk result (reader.new.has_failed ≡ false) }
+    ensures read_fault { result ≡ Err RunFault.Read → reader.new.has_failed ≡ true }
+    ensures write_fault { result ≡ Err RunFault.Write →
+        writer.new.state ≡ OutputState.Failed }
 {
-    write_digest(Algorithm::Xx, 0, reader, writer).is_ok()
+    write_digest(Algorithm::Xx, 0, reader, writer)
 }
 
 // A reader of which nothing was read ahead, and the line of the usage.
@@ -187,7 +191,8 @@ fn a_run_takes_no_turn_in_vain(rt: HostRuntime) {
     assert_same(&rt, run_or_nothing(&mut FOX, &mut written), Ok(()));
     let (mut reader, line) = fresh(FOX);
     let mut input = BoundedReader::new(&mut reader, 2);
-    assert!(rt; write_rest(&mut input, &mut CheckedWriter::new(&mut written)));
+    let answer = write_rest(&mut input, &mut CheckedWriter::new(&mut written));
+    assert_same(&rt, answer, Ok(()));
     assert_same(&rt, line, "usage: sketchsum murmur|xx SEED");
 }
 
