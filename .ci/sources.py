@@ -138,6 +138,22 @@ HIDING = re.compile("|".join([
     rf"^(?! *{HEAD}fn \w)[^\"\n]*\bfn \w+\s*[<(].*",
 ]), re.M)
 
+ITEM = rf"(?:{SEEN}|unsafe |final |const (?=fn)|extern \"C\" )*(fn|impl|trait|struct|enum|union|mod|use|static|const|type)\b(?!\()"
+
+
+def nested_items(code):
+    """The items of a source that stand inside a function: another meaning for a name, or code that only seems to be
+    that of the function."""
+    found, outer = [], ""
+    for line in code.split("\n"):
+        item = re.match(rf"( *){ITEM}", line)
+        if item and not item.group(1):
+            outer = item.group(2)
+        elif item and (len(item.group(1)) > 4 or outer not in ("impl", "trait")):
+            found.append(line.strip())
+    return found
+
+
 # Items, outside of functions, that could stand for an error.
 ITEMS = re.compile(rf"^ *{SEEN}(?:const|static|type|struct|union)\b(?! fn)[^;}}]*[;}}]", re.M)
 
@@ -153,7 +169,7 @@ def written_by_hand(text):
         and (trait, name) not in BY_HAND
         and not (trait == "Hash" and re.fullmatch(r"[ui]\d+", name))
     ]
-    found += [line.strip() for line in HIDING.findall(text)]
+    found += [line.strip() for line in HIDING.findall(text)] + nested_items(text)
     found += [
         " ".join(item.split())
         for item in ITEMS.findall(FUNCTIONS.sub("", text))
