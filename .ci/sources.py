@@ -10,7 +10,7 @@ def is_source(path):
 
 def code_of(text):
     """A text without its comments; what stands between quotes stays."""
-    return re.sub(r"""('"'|"(?:\\.|[^"\\])*")|//.*""", lambda match: match.group(1) or "", text)
+    return re.sub(r"""('(?:\\.[^'\n]*|[^\\'\n])'|"(?:\\.|[^"\\])*")|//.*""", lambda match: match.group(1) or "", text)
 
 
 # ---- docs/memory.md
@@ -36,7 +36,7 @@ TELLING = "|".join([
 ])
 
 CALLS = re.compile(
-    rf"{HANDED}|(?:\.|::)({'|'.join(ASKING)})\b(?=\(|::)\(?(?:alloc\b)?|"
+    rf"{HANDED}|(?:\.(?=\w+(?:\(|::))|::)({'|'.join(ASKING)})\b\(?(?:alloc\b)?|"
     rf"\b(alloc)\b|({TELLING})|\b(writer\.write(?:_\w+)?)\b(?=\()"
 )
 
@@ -138,6 +138,10 @@ HIDING = re.compile("|".join([
     rf"^(?! *{HEAD}fn \w)[^\"\n]*\bfn \w+\s*[<(].*",
 ]), re.M)
 
+# Text in which code would be taken for a text or a comment: a text before two slashes, a quote that is one by
+# a backslash, a line that goes on; and blanks that are none.
+BLURRED = re.compile(r"^[^/\n]*\".*//.*|^.*'\\\"'.*|^.*\\$|^.*[\t\v\f\r\x85\xa0\u200b-\u200f\u2028\u2029\ufeff].*", re.M)
+
 ITEM = rf"(?:{SEEN}|unsafe |final |const (?=fn)|extern \"C\" )*(fn|impl|trait|struct|enum|union|mod|use|static|const|type)\b(?!\()"
 
 
@@ -161,8 +165,8 @@ ITEMS = re.compile(rf"^ *{SEEN}(?:const|static|type|struct|union)\b(?! fn)[^;}}]
 def written_by_hand(text):
     """What a source has by hand beyond BY_HAND, lines that hide something, and what prints. (What docs/memory.md
     shows in full is taken out before.)"""
-    text = code_of(text)
-    found = [
+    blurred, text = BLURRED.findall(text), code_of(text)
+    found = blurred + [
         " ".join(head.split())
         for head, trait, name in IMPLEMENTATIONS.findall(text)
         if trait in DERIVED
