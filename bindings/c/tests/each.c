@@ -1,6 +1,7 @@
 /* Columns of keys: each place beside the call on its key, and offsets that lie. Each array stands in
  * a block of its own, so that valgrind sees what is read or written outside. */
 #include "sketch_hash.h"
+#include "noise.h"
 #include "same.h"
 #include <stdlib.h>
 #include <string.h>
@@ -15,11 +16,9 @@ static sketch_murmur3_x64_128_hash_t *pairs;
 
 /* The keys of a column have `least` bytes and up to `spread` more. */
 static void lay_out(unsigned least, unsigned spread) {
-    static uint64_t word = 1;
     wide[0] = 5;
     for (int i = 0; i < KEYS; i++) {
-        word = word * 6364136223846793005ULL + 1442695040888963407ULL;
-        wide[i + 1] = wide[i] + least + (word >> 33) % (spread + 1);
+        wide[i + 1] = wide[i] + least + noise() % (spread + 1);
     }
     for (int i = 0; i <= KEYS; i++) narrow[i] = (uint32_t)wide[i];
     length = wide[KEYS] + 3;

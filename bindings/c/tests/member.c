@@ -5,6 +5,7 @@
 #include <stdlib.h>
 #include <string.h>
 #include <xxhash.h>
+#include "noise.h"
 #include "same.h"
 
 #define MOST_BYTES (24 + (1 << 20) / 8)
@@ -15,12 +16,6 @@ typedef struct {
     int is_known;
     unsigned char bits[MOST_BYTES - 24];
 } model;
-
-static uint64_t noise(void) {
-    static uint64_t word = 1;
-    word = word * 6364136223846793005ULL + 1442695040888963407ULL;
-    return word >> 33;
-}
 
 static size_t size_of(const model *m) { return 24 + ((size_t)1 << m->log2_bits) / 8; }
 

@@ -2,15 +2,9 @@
  * its own, so that valgrind sees a byte that is read or written outside. What all answer together
  * was made by this library. */
 #include "sketch_hash.h"
+#include "noise.h"
 #include <stdio.h>
 #include <stdlib.h>
-
-/* A generator of our own, so that the noise is the same everywhere. */
-static uint64_t noise(void) {
-    static uint64_t word = 1;
-    word = word * 6364136223846793005ULL + 1442695040888963407ULL;
-    return word >> 33;
-}
 
 static void fill(unsigned char *bytes, size_t length) {
     for (size_t i = 0; i < length; i++) bytes[i] = (unsigned char)noise();

@@ -57,7 +57,7 @@ pub fn is_new_key(seed: u64, earlier: &[i32], key: i32) -> bool
     earlier.iter().all(|other| !is_same_key(seed, *other, key))
 }
 
-/// Whether two keys of 64 bits, one without a sign and one with, are one, by their pairs alone:
+/// Whether two keys of 64 bits, one without a sign and one with, are equal, by their pairs alone:
 /// they are exactly if they agree modulo 2^64.
 pub fn is_same_word(seed: u64, x: u64, y: i64) -> bool
     ensures { IsTrue result ↔ (modulo 64 (pos x) ≡ modulo 64 y) }

@@ -17,7 +17,7 @@ use datasketches::hash::{Hasher, XxHash64};
 use datasketches::laws;
 use sketch_hash::laws::{murmur_step_laws, xxh64_step_laws};
 
-/// Whether two numbers are one, by `hash_u64` alone.
+/// Whether two numbers are equal, by `hash_u64` alone.
 pub fn is_same_number(seed: u64, x: u64, y: u64) -> bool
     ensures { IsTrue result ↔ (x ≡ y) }
 {
@@ -93,8 +93,8 @@ pub fn strategies_agree(signed: (i8, i16, i32, i64), unsigned: (u8, u16, u32, u6
     laws::extend_law();
 }
 
-/// Whether two streams of one length that agree outside one aligned block are one, by their Murmur
-/// pairs alone.
+/// Whether two streams of one length that agree outside one aligned block are equal, by their
+/// Murmur pairs alone.
 pub fn is_same_but_for_a_block(seed: u64, a: &[u8], b: &[u8], i: usize) -> bool
     requires one_length { length a.now ≡ length b.now }
     requires one_block { AgreeOutside (16 * i) (16 * i + 16) a.now b.now }
@@ -129,7 +129,7 @@ pub fn blocks_keep_states_apart(a0: u64, a1: u64, b0: u64, b1: u64)
     laws::murmur_seed_law();
 }
 
-/// Whether two seeds are one, by the Murmur pairs of one stream, and by its XXH64 hashes where it
+/// Whether two seeds are equal, by the Murmur pairs of one stream, and by its XXH64 hashes where it
 /// has fewer than 32 bytes.
 pub fn are_same_seeds(bytes: &[u8], seed_a: u64, seed_b: u64) -> (bool, bool)
     ensures murmur { IsTrue result.0 ↔ (seed_a ≡ seed_b) }
