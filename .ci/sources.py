@@ -33,6 +33,7 @@ TELLING = "|".join([
     r"Err(?:::<.*?>)?\((?:self|\w*Error)\)", r"AllocError", r"OutOfMemory", r"NoMemory", r"fmt::Error", r"Error::from\(",
     r"(?<!MurmurHash3X64128)(?<!XxHash64)::default\b", r"\.into\(\)", r"\bwrite(?:ln)?!\((?!\s*f\b)",
     r"\bok_or(?:_else)?\(\w*Error\)", r"\bio::Error::\w+\(", r"\bconst_error\b", r"\b(?:Into::into|From::from)\b",
+    r"\bStopped \{(?! \.\. \}| \w+ \}\) =>)",
 ])
 
 CALLS = re.compile(

@@ -10,7 +10,7 @@ import numpy
 import peers
 import pytest
 import xxhash
-from sketch_hash import MemberTable
+from sketch_hash import MemberTable, _calls
 from test_buffers import DATA, REFUSED, TAKEN
 from test_faults import WAYS, ticks  # noqa: F401
 
@@ -280,6 +280,13 @@ def test_a_column_that_lies_in_the_table_is_refused():
         for column in (part[size:].cast("Q"), part[size:size].cast("Q")):
             with pytest.raises(ValueError, match="log2_bits is not 6 to 20"):
                 call(column)
+
+
+# Keys of one byte, whose offsets alone are looked at: no byte of them is there.
+def test_a_column_may_have_more_than_2_to_the_32_keys():
+    null, most = _calls.ffi.NULL, 2**32
+    answer = _calls.lib.member_each(null, 0, null, most, null, 1, most + 5, null)
+    assert answer == most + 2
 
 
 def test_merged_tables_contain_the_keys_of_both():

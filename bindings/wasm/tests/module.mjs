@@ -40,8 +40,14 @@ assert.equal(m.digest(), murmur3X64_128(long, 5n));
 assert.equal(y.reset(7n).update(fox).digest(), xxh64(fox, 7n));
 assert.equal(y.seed, 7n);
 assert.equal(y.copy().reset().update(fox).digest(), xxh64(fox, 7n));
-assert.throws(() => y.reset(-1n), RangeError);
-assert.equal(y.digest(), xxh64(fox, 7n));
+// A refused call leaves the stream, its seed and its input.
+for (const refused of [() => y.reset(-1n), () => y.reset(last + 1n), () => y.reset(1), () => y.update('fox')]) {
+    assert.throws(refused, /is a BigInt|is from 0n|encode a string/);
+    assert.equal(y.seed, 7n);
+    assert.equal(y.digest(), xxh64(fox, 7n));
+    assert.equal(y.copy().digest(), xxh64(fox, 7n));
+}
+assert.equal(y.reset().update(fox).digest(), xxh64(fox, 7n));
 
 // Columns: of offsets of each kind, of none, and one that the module's memory has to grow for.
 function pairs(keys, seed) {
