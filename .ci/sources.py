@@ -1,4 +1,5 @@
 """What the sources of the crates ask for and promise, as docs/memory.md and docs/contracts.txt have it."""
+import functools
 import hashlib
 import re
 
@@ -88,16 +89,16 @@ FUNCTIONS = re.compile(
 )
 
 
-def requests(tree):
-    """The same of each function of the sources that has some, as lines of docs/memory.md."""
+@functools.cache
+def requests(path, text):
+    """The same of each function of a source that has some, as lines of docs/memory.md."""
     rows = []
-    for path in filter(is_source, sorted(tree)):
-        for _, name, body in FUNCTIONS.findall(tree[path]):
-            start = re.search(r"^ *\{$|\{$", body, re.M)
-            calls = requests_of(body[start.end():]) if start else []
-            if calls:
-                rows.append(f"| `{path[7:]}` | `{name}` | {', '.join(f'`{call}`' for call in calls)} |")
-                rows += [f"    {name}: {line}" for line in tellings_of(body[start.end():])]
+    for _, name, body in FUNCTIONS.findall(text):
+        start = re.search(r"^ *\{$|\{$", body, re.M)
+        calls = requests_of(body[start.end():]) if start else []
+        if calls:
+            rows.append(f"| `{path[7:]}` | `{name}` | {', '.join(f'`{call}`' for call in calls)} |")
+            rows += [f"    {name}: {line}" for line in tellings_of(body[start.end():])]
     return rows
 
 
@@ -163,6 +164,7 @@ def nested_items(code):
 ITEMS = re.compile(rf"^ *{SEEN}(?:const|static|type|struct|union)\b(?! fn)[^;}}]*[;}}]", re.M)
 
 
+@functools.cache
 def written_by_hand(text):
     """What a source has by hand beyond BY_HAND, lines that hide something, and what prints. (What docs/memory.md
     shows in full is taken out before.)"""
