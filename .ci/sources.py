@@ -194,7 +194,7 @@ def heads(text):
     found, depth, is_open = [], None, False
     for line in text.split("\n"):
         if depth is None:
-            if re.match(r" *(?:ghost use\b|#\[(?:repr|unsafe)\b)", line):
+            if re.match(r" *(?:ghost use\b|#\[(?:derive|derive_where|repr|unsafe)\b)", line):
                 found.append(line)
                 continue
             start = re.match(

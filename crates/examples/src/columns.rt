@@ -21,6 +21,7 @@ pub fn hash_texts(texts: &[u8], offsets: &[u64], out: &mut [u64]) -> Result<(), 
     ensures before { IfErr result (λ fault. (i : ℕ) → i < fault →
         slice_index offsets.now i ≤ length texts.now) }
     ensures refused { IfErr result (λ fault. (fault ≤ length out.old)
+        × (fault ≤ length offsets.now)
         × (fault < length offsets.now → slice_index offsets.now fault ≤ length texts.now →
         slice_index offsets.now fault < slice_index (0 ∷ offsets.now) fault)) }
 {

@@ -24,7 +24,8 @@ pub fn check_version(alloc: Global, version: u8) -> Result<(), Error>
     ensures { MatchResult result
         (λ _. version ≡ 3)
         (λ error. (version ≢ 3)
-        × Refuses ErrorKind.InvalidData (unsupported_serial_version_text 3 version) error) }
+        × ((error ≡ error_of ErrorKind.InvalidData (unsupported_serial_version_text 3 version))
+        ⊎ (error ≡ memory_error))) }
 {
     ensure_serial_version_is(alloc, 3, version)
 }

@@ -3,15 +3,17 @@
 use Rattle.std.specs.Prelude.{◌≡◌, ◌-◌, ◌^◌, ℕ, List, [], ◌∷◌, ◌++◌, codes, replicate, Option, None, Some}
 use Rattle.datasketches.specs.declared.error.ErrorKind.TheVariants.{InvalidArgument, InvalidData}
 use Rattle.datasketches.specs.ErrorValue.{error_of}
+use Rattle.sketch_member.specs.declared.fault.Fault.{Fault}
 use Rattle.sketch_member.specs.declared.fault.Fault.TheVariants.{HeaderEnds, Log2Bits, Hashes, Reserved, UnknownCount, Version1}
 use Rattle.sketch_member.specs.declared.fault.MergeFault.TheVariants.{From, Unlike}
 use Rattle.sketch_member.specs.declared.header.Difference.TheVariants.{Seed}
+use Rattle.sketch_member.specs.declared.header.Difference.TheVariants as part
 use Rattle.sketch_member.specs.Faults.{Fails, FirstFault, IsFirstFault, Step, init_steps, view_steps}
 use Rattle.sketch_member.specs.Form.{IsForm, form1, form2}
 use Rattle.sketch_member.specs.InPlace.{Becomes, IsMergeFault}
 use Rattle.sketch_member.specs.Laws.{IsMadeOf, count_after}
 use Rattle.sketch_member.specs.Limits.{IsHashes, IsLog2Bits}
-use Rattle.sketch_member.specs.Merge.{AreAlike, FirstDifference, Merges, sum_of_counts}
+use Rattle.sketch_member.specs.Merge.{AreAlike, FirstDifference, IsFirstDifference, Merges, sum_of_counts}
 use Rattle.sketch_member.specs.Table.{Table, IsSet, empty_table, index, one_more}
 
 abbrev pub one_value : Option ℕ → Table
@@ -85,9 +87,9 @@ pub record WorkedValues : Type 0 where
   pub read_in_1 : IsForm (one_value None) bytes1
   pub read_in_2 : IsForm (one_value (Some 258)) bytes2
   pub fails : Fails 1 never Reserved
-  pub fails_otherwise : Fails 1 never HeaderEnds → ⊥
+  pub fails_so_alone : (fault : Fault) → Fails 1 never fault → fault ≡ Reserved
   pub ends : Fails 0 never HeaderEnds
-  pub ends_otherwise : Fails 0 never Reserved → ⊥
+  pub ends_so_alone : (fault : Fault) → Fails 0 never fault → fault ≡ HeaderEnds
   pub first : IsFirstFault 1 (always ∷ never ∷ []) Reserved
   pub later : IsFirstFault 1 (never ∷ neither ∷ []) UnknownCount → ⊥
   pub first_fault : FirstFault 1 (always ∷ never ∷ [])
@@ -128,6 +130,10 @@ pub record MergedValues : Type 0 where
   pub later_difference :
       FirstDifference (one_value None) (record (one_value None) { seed = 1; hashes = 2 })
       (error_of InvalidArgument (codes "tables differ: hashes")) → ⊥
+  pub size_before_hashes : IsFirstDifference (one_value None)
+      (record (one_value None) { log2_bits = 7; hashes = 2 }) part.Hashes → ⊥
+  pub seed_before_size : IsFirstDifference (one_value None)
+      (record (one_value None) { seed = 1; log2_bits = 7 }) part.Log2Bits → ⊥
   pub no_difference :
       FirstDifference (one_value None) (other_value None)
       (error_of InvalidArgument (codes "tables differ: seed")) → ⊥

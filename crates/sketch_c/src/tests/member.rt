@@ -1,6 +1,9 @@
 //! The calls on tables: each status, and what a refusal leaves.
 
-ghost use Rattle.std.specs.Prelude.{◌≡◌, ◌↔◌, false, IsTrue};
+ghost use Rattle.std.specs.Prelude.{◌≡◌, ◌↔◌, ◌⊎◌, false, length, pos, IsTrue};
+ghost use Rattle.sketch_c.specs.Status.{status};
+ghost use Rattle.sketch_member.specs.declared.fault.Fault.{Fault};
+ghost use Rattle.sketch_member.specs.Faults.{IsFirstFault, view_steps};
 ghost use Rattle.sketch_member.specs.Form.{form2};
 ghost use Rattle.sketch_member.specs.InPlace.{Becomes};
 ghost use Rattle.sketch_member.specs.Merge.{Merges};
@@ -20,6 +23,22 @@ fn is_table(bytes: &[u8]) -> bool
 {
     form_law();
     sketch_member_check(bytes) == 0
+}
+
+/// The status of bytes: 0 where they are a table of version 2, else that of their first fault.
+fn status_of(bytes: &[u8]) -> i32
+    ensures { ((result ≡ pos 0) × (table : Table) × IsTable table × (bytes.now ≡ form2 table))
+        ⊎ ((fault : Fault) × IsFirstFault (length bytes.now) (view_steps bytes.now) fault
+        × (result ≡ status fault)) }
+{
+    sketch_member_check(bytes)
+}
+
+/// Whether an empty table was made: if not, nothing is changed.
+fn is_made(bytes: &mut [u8], seed: u64, log2_bits: u32, hashes: u32) -> bool
+    ensures { result ≡ false → bytes.new ≡ bytes.old }
+{
+    sketch_member_init(bytes, seed, log2_bits, hashes) == 0
 }
 
 /// Whether a key was inserted, and whether a count was read: what is not done changes nothing.
@@ -52,7 +71,7 @@ fn a_table_in_bytes(rt: HostRuntime) {
     let mut bytes = [0xff; 32];
     let mut count = 7;
     assert_same(&rt, sketch_member_size(6), 32);
-    assert_same(&rt, sketch_member_init(&mut bytes, 0, 6, 1), 0);
+    assert_same(&rt, is_made(&mut bytes, 0, 6, 1), true);
     assert_same(&rt, sketch_member_contains(&bytes, b""), 0);
     let done = insert_and_count(&mut bytes, b"", &ONE_KEY, &mut count);
     assert_same(&rt, (done, count), ((true, true), 1));
@@ -74,7 +93,7 @@ fn assert_refused(rt: &impl Abort, bytes: &mut [u8; 33], length: usize, status: 
     let mut other = ONE_KEY;
     let mut count = 7;
     let refused = &mut bytes[..length.min(33)];
-    assert_same(rt, sketch_member_check(refused), status);
+    assert_same(rt, status_of(refused), status);
     assert_same(rt, sketch_member_insert(refused, b"a"), status);
     assert_same(rt, sketch_member_contains(refused, b"a"), status);
     assert_same(rt, sketch_member_merge(refused, &ONE_KEY), status);

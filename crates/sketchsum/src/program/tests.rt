@@ -1,4 +1,4 @@
-ghost use Rattle.std.specs.Prelude.{◌≡◌, ◌≢◌, ℕ, [], false, length, map};
+ghost use Rattle.std.specs.Prelude.{◌≡◌, ◌≢◌, ◌≤◌, ◌^◌, ℕ, [], false, length, map};
 ghost use Rattle.std.specs.String.{string_bytes};
 ghost use Rattle.sketchsum.specs.Arguments.{AskFor};
 
@@ -21,6 +21,7 @@ fn answer_two_words(words: &[String], input: &mut &[u8], output: &mut Vec<u8>) -
     ensures usage { result ≡ Outcome.Usage → (algorithm : Algorithm) (seed : ℕ) →
         AskFor (map string_bytes words.now) algorithm seed → ⊥ }
     ensures whole { result ≡ Outcome.Done → input.new.now ≡ [] }
+    ensures too_long { result ≡ Outcome.Fault RunFault.TooLong → 2 ^ 32 ≤ length input.old.now }
     ensures silent { result ≢ Outcome.Done → result ≢ Outcome.Fault RunFault.Write →
         output.new ≡ output.old }
 {

@@ -58,5 +58,7 @@ returns c = record {
       let e : ◌≡◌ {A = ℕ} 2 0 = ap (λ t. get_or t.bits 3 0) h in omega (arith, e);
   difference = (Seed, (λ e. let f : ◌≡◌ {A = ℕ} 0 1 = e in omega (arith, f)), inl refl);
   later_difference = λ h. not_hashes h.0 h.1 h.2;
+  size_before_hashes = λ h. let e : ◌≡◌ {A = ℕ} 6 7 = h.1 in omega (arith, e);
+  seed_before_size = λ h. let e : ◌≡◌ {A = ℕ} 0 1 = h.0 in omega (arith, e);
   no_difference = λ h. no_part h.0 h.1;
 }

@@ -48,14 +48,14 @@ returns c = record {
   read_in_1 = inl (refl, refl);
   read_in_2 = inr refl;
   fails = inr (lit≤ tt, (λ h. h), refl);
-  fails_otherwise = λ h. elim h [
-    | inl few ↦ let low : 1 < 1 = few.0 in omega (arith, low)
-    | inr wrong ↦ let same : HeaderEnds ≡ Reserved = wrong.2 in cc
+  fails_so_alone = λ fault h. elim h [
+    | inl few ↦ let low : 1 < 1 = few.0 in absurd (omega (arith, low))
+    | inr wrong ↦ wrong.2
   ];
   ends = inl (lit≤ tt, refl);
-  ends_otherwise = λ h. elim h [
-    | inl few ↦ let same : Reserved ≡ HeaderEnds = few.1 in cc
-    | inr wrong ↦ let low : 1 ≤ 0 = wrong.0 in omega (arith, low)
+  ends_so_alone = λ fault h. elim h [
+    | inl few ↦ few.1
+    | inr wrong ↦ let low : 1 ≤ 0 = wrong.0 in absurd (omega (arith, low))
   ];
   first = inr ((lit≤ tt, tt), inl (inr (lit≤ tt, (λ h. h), refl)));
   later = λ h. elim h [
