@@ -10,16 +10,14 @@ use Rattle.std.proofs.lemmas.List.Elements.{All-take, All-drop, All-get_or}
 use Rattle.sketch_base.specs.Bytes.{AreBytes, eight}
 use Rattle.sketch_hash.specs.Words.{IsWord, plus}
 use Rattle.sketch_hash.specs.Pieces.{rest}
-use Rattle.sketch_hash.specs.Xxh64.{prime5, Lanes, lane, lanes, merge, stripes, tail_step, tail_steps, avalanche, finalize, xxh64}
+use Rattle.sketch_hash.specs.Xxh64.{prime5, Lanes, lanes, merge, stripes, tail_step, tail_steps, avalanche, finalize, xxh64}
 use Rattle.sketch_hash.specs.OneToOne.{OneToOne}
-use Rattle.sketch_hash.specs.Laws.{IsStep, widths, PieceLaws, Xxh64StepLaws}
+use Rattle.sketch_hash.specs.Laws.{IsStep, step_widths, PieceLaws, Xxh64StepLaws}
 use Rattle.sketch_hash.proofs.OneToOneLemmas.{◌▸◌, alike}
+use Rattle.sketch_hash.proofs.WordsLemmas.{plus-lt}
 use Rattle.datasketches.specs.Streams.{AgreeOutside}
 use Rattle.datasketches.specs.Laws.{HashU64Law, XxTailLaw, XxSeedLaw}
 use Rattle.datasketches.proofs.AgreeLemmas.{agree-front, agree-back, agree-beyond, parts_at}
-
-plus-lt : (x y : ℕ) → IsWord (plus x y)
-plus-lt x y = omega arith
 
 -- ---- a hash in two parts: the word that the tail begins at, and what is made of it
 
@@ -65,7 +63,7 @@ record SameOutsideStep (h i : ℕ) (xs ys : List (ℕ × ℕ)) : Type 0 where
   from_word : IsWord h
   xs_are : All IsStep xs
   ys_are : All IsStep ys
-  same_widths : widths xs ≡ widths ys
+  same_widths : step_widths xs ≡ step_widths ys
   agree : AgreeOutside i (i + 1) xs ys
   one_hash : onward xs h ≡ onward ys h
 
@@ -119,7 +117,7 @@ same_steps ps ss h i xs ys s =
     ]
 
 lanes-same : (seed : ℕ) (a b : List ℕ) → stripes a ≡ stripes b → lanes seed a ≡ lanes seed b
-unfolding lanes lane
+unfolding lanes
 lanes-same seed a b e = rw e refl
 
 pub xx_tail_law : PieceLaws → Xxh64StepLaws → XxTailLaw

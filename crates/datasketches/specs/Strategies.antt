@@ -121,8 +121,7 @@ sign_number I64 x = x
 sign_number U64 x = twos_complement 64 x
 
 -- Under a hash, two values of any two types, each fed alone after one seed, collide exactly if the
--- numbers that the strategy reads in them agree modulo 2 ^ 64. Numbers of 8 to 32 bits do exactly
--- if they are equal.
+-- numbers that the strategy reads in them agree modulo 2 ^ 64.
 abbrev pub StrategyLaw : {B : Type 0} → (ℕ → List ℕ → B) →
     ((t : IntegerType) → ValueOf t → List ℕ) → ((t : IntegerType) → ValueOf t → ℤ) → Type 0
 StrategyLaw hash fed number =

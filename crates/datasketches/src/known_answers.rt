@@ -3,8 +3,6 @@
 
 ghost use Rattle.datasketches.specs.KnownAnswers.{RefusalAnswers, Relations};
 
-pub use sketch_hash::known_answers::value_answers;
-
 /// Each range ends where it says, and each relation holds of a pair of streams, and not of one
 /// beside it. It does nothing: its contract is computed from the definitions.
 pub fn relations()

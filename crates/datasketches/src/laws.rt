@@ -1,5 +1,5 @@
-//! The laws of whole hashes: what is promised of collisions, of extended integers, and of items and
-//! their bytes. They stand on the laws of single steps, the module `laws` of `sketch_hash`.
+//! The laws: of collisions and of extended integers, which stand on those of single steps, the
+//! module `laws` of `sketch_hash`; and of items and their bytes.
 //!
 //! The functions with no parameters do nothing but call the laws that they stand on: the contract
 //! of each is a fact about the definitions.
@@ -18,7 +18,8 @@ use sketch_hash::laws::{murmur_step_laws, piece_laws, xxh64_step_laws};
 /// The Murmur pairs of two streams, each under its own seed.
 ///
 /// Under one seed, two streams of one length that differ in one aligned block of sixteen bytes only
-/// have different pairs; the block may be cut off at their end. So has one stream under two seeds.
+/// have different pairs; the block may be cut off at their end. One stream under two seeds has
+/// different pairs too.
 pub fn murmur_both(seed_a: u64, a: &[u8], seed_b: u64, b: &[u8]) -> ((u64, u64), (u64, u64))
     ensures values { result ≡ (murmur seed_a a.now, murmur seed_b b.now) }
     ensures one_block { seed_a ≡ seed_b → DifferInOneBlock a.now b.now → result.0 ≢ result.1 }
@@ -51,8 +52,10 @@ pub fn murmur_seed_law()
 /// The XXH64 hashes of two streams, each under its own seed.
 ///
 /// Under one seed, two streams of one length with the same full stripes of 32 bytes, whose tails
-/// differ in exactly one step, have different hashes. So has one stream of fewer than 32 bytes
-/// under two seeds.
+/// differ in exactly one step, have different hashes. A tail is the bytes after the last full
+/// stripe; its steps are words of eight bytes while eight are left, then a word of four where four
+/// are left, then single bytes. One stream of fewer than 32 bytes has different hashes under two
+/// seeds.
 pub fn xx_both(seed_a: u64, a: &[u8], seed_b: u64, b: &[u8]) -> (u64, u64)
     ensures values { result ≡ (xxh64 seed_a a.now, xxh64 seed_b b.now) }
     ensures one_tail_step { seed_a ≡ seed_b → DifferInOneTailStep a.now b.now →
@@ -65,7 +68,7 @@ pub fn xx_both(seed_a: u64, a: &[u8], seed_b: u64, b: &[u8]) -> (u64, u64)
 }
 
 /// Under one seed, two streams of one length with the same full stripes of 32 bytes, whose tails
-/// differ in exactly one step, have different XXH64 hashes.
+/// differ in exactly one step (see [`xx_both`]), have different XXH64 hashes.
 pub fn xx_tail_law()
     ensures { XxTailLaw }
 {
@@ -83,7 +86,7 @@ pub fn xx_seed_law()
 
 /// Integers of 8 to 32 bits, extended to eight bytes and written alone after one seed, have equal
 /// Murmur pairs exactly if they are equal, and equal XXH64 hashes exactly if they are equal. Any
-/// two integers have exactly if they agree modulo 2^64.
+/// two integers have equal hashes exactly if they agree modulo 2^64.
 pub fn integer_law()
     ensures murmur { IntegerLaw murmur }
     ensures xxh64 { IntegerLaw xxh64 }
@@ -126,8 +129,8 @@ pub fn extend_law()
     piece_laws();
 }
 
-/// Each item stands in bytes in one way, and so does each list of items of known kinds. Whatever
-/// stands after the bytes of items, they are read back in order, and it remains.
+/// An item has one form in bytes, and so has a list of items of known kinds. A list is read back
+/// from its bytes, whatever follows them, and what follows remains.
 pub fn items_law()
     ensures { ItemLaw }
 {}

@@ -5,7 +5,7 @@ use Rattle.datasketches.specs.Items.{widths}
 use Rattle.datasketches.specs.declared.codec.Kind.{Kind}
 use Rattle.datasketches.specs.SeedHash.{seed_hash}
 
--- the number in so many bytes from a place on, the lowest byte first
+-- the number in `count` bytes from a place on, the lowest byte first
 abbrev pub number_at : ℕ → ℕ → List ℕ → ℕ
 number_at place count bytes = le (take count (drop place bytes))
 

@@ -1,8 +1,9 @@
 //! Items written, and read back as a list.
 
 ghost use Rattle.std.specs.Prelude.{◌≡◌, ◌↔◌, ℕ, List, ◌+◌, ◌<◌, ◌≤◌, ◌++◌, if◌then◌else◌, IfOk, IsTrue, false, length, map, take, drop};
+ghost use Rattle.std.specs.List.{All};
 ghost use Rattle.datasketches.specs.ItemLaws.{Holds};
-ghost use Rattle.datasketches.specs.Items.{item_kind, spell_all, unspell_all, width, widths};
+ghost use Rattle.datasketches.specs.Items.{InType, item_kind, spell_all, unspell_all, width, widths};
 
 use datasketches::codec::{Item, Kind, Short, SketchBytes, SketchSlice, Stopped};
 use datasketches::laws;
@@ -172,4 +173,12 @@ pub fn are_same_items(alloc: Global, xs: &[Item], ys: &[Item]) -> Result<bool, A
         (Ok(()), Ok(())) => Ok(first.into_bytes() == second.into_bytes()),
         _ => Err(AllocError),
     }
+}
+
+/// Lists of items of the same kinds, however long, have the same bytes only if they are the same.
+pub fn lists_have_one_form()
+    ensures { (xs ys : List Item) → All InType xs → All InType ys →
+        map item_kind xs ≡ map item_kind ys → spell_all xs ≡ spell_all ys → xs ≡ ys }
+{
+    laws::items_law();
 }

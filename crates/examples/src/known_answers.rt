@@ -2,7 +2,7 @@
 
 ghost use Rattle.examples.specs.KnownAnswers.{Relations};
 
-use datasketches::known_answers::value_answers;
+use sketch_hash::known_answers::value_answers;
 
 /// What a sketch is holds of bytes, and not of those beside them. It does nothing: its contract is
 /// computed from the definitions.

@@ -2,9 +2,9 @@
 
 ghost use Rattle.std.specs.Prelude.{◌≡◌, ◌≢◌, ◌↔◌, ℕ, ◌+◌, ◌*◌, ◌%◌, ◌^◌, ◌<◌, List, ◌++◌, length, pos, IsTrue};
 ghost use Rattle.std.specs.List.{All, fold};
-ghost use Rattle.datasketches.specs.Bytes.{eight, modulo};
+ghost use Rattle.datasketches.specs.Bytes.{AreBytes, eight, modulo};
 ghost use Rattle.datasketches.specs.Murmur.{fmix, mix1, mix2, murmur, step};
-ghost use Rattle.datasketches.specs.StepLaws.{AreWords, IsBlock};
+ghost use Rattle.datasketches.specs.StepLaws.{AreWords, IsBlock, IsStep};
 ghost use Rattle.datasketches.specs.Strategies.{IntegerType, I8, I16, I32, I64, U8, U16, U32, U64, ValueOf, natural_fed, natural_number, sign_fed, sign_number};
 ghost use Rattle.datasketches.specs.Streams.{AgreeOutside};
 ghost use Rattle.datasketches.specs.Values.{integer_bytes};
@@ -105,14 +105,14 @@ pub fn is_same_but_for_a_block(seed: u64, a: &[u8], b: &[u8], i: usize) -> bool
     is_same_pair(first, second)
 }
 
-/// Every pair is that of one block, at any aligned place of a stream.
-pub fn every_pair_is_of_one_block(seed: u64, before: &[u8], after: &[u8], first: u64, second: u64)
-    requires { length before.now % 16 ≡ 0 }
-    ensures some { (block : List ℕ) × IsBlock block
-        × (murmur seed (before.now ++ block ++ after.now) ≡ (first, second)) }
-    ensures one { (x y : List ℕ) → IsBlock x → IsBlock y →
-        murmur seed (before.now ++ x ++ after.now) ≡ murmur seed (before.now ++ y ++ after.now) →
-        x ≡ y }
+/// Every pair is that of one block, at any aligned place of a stream of any length.
+pub fn every_pair_is_of_one_block(seed: u64, first: u64, second: u64)
+    ensures some { (i : ℕ) (before after : List ℕ) → AreBytes before → AreBytes after →
+        length before ≡ 16 * i → (block : List ℕ) × IsBlock block
+        × (murmur seed (before ++ block ++ after) ≡ (first, second)) }
+    ensures one { (i : ℕ) (before after x y : List ℕ) → AreBytes before → AreBytes after →
+        length before ≡ 16 * i → IsBlock x → IsBlock y →
+        murmur seed (before ++ x ++ after) ≡ murmur seed (before ++ y ++ after) → x ≡ y }
 {
     laws::murmur_block_law();
 }
@@ -153,6 +153,16 @@ pub fn is_same_but_for_a_step(seed: u64, a: &[u8], b: &[u8], i: usize) -> bool
     is_same_hash(first, second)
 }
 
+/// Streams of any length with the same stripes, whose tails differ in one step, have different
+/// hashes.
+pub fn tails_are_told_apart(seed: u64)
+    ensures { (a b : List ℕ) (i : ℕ) → AreBytes a → AreBytes b → length a ≡ length b →
+        stripes a ≡ stripes b → AgreeOutside i (i + 1) (tail_steps a) (tail_steps b) →
+        tail_steps a ≢ tail_steps b → xxh64 seed a ≢ xxh64 seed b }
+{
+    laws::xx_tail_law();
+}
+
 /// What a step of Murmur makes of two words, or of two pairs of words, tells them apart; and each
 /// word and each pair is made of one.
 pub fn murmur_steps_lose_nothing(x: u64, y: u64, z: u64, w: u64)
@@ -173,6 +183,8 @@ pub fn xxh64_steps_lose_nothing(x: u64, y: u64, read: u64, width: u64)
     ensures words { let s : ℕ × ℕ = (width, read) in tail_step x s ≡ tail_step y s → x ≡ y }
     ensures made { let s : ℕ × ℕ = (width, read) in
         (n : ℕ) × IsWord n × (tail_step n s ≡ x) }
+    ensures made_by_all { (list : List (ℕ × ℕ)) → All IsStep list →
+        (n : ℕ) × IsWord n × (fold tail_step n list ≡ x) }
 {
     xxh64_step_laws();
 }

@@ -29,7 +29,7 @@ weighted_from-suc (b ∷ bytes) i =
 pub le-cons : (b : ℕ) (bytes : List ℕ) → le (b ∷ bytes) ≡ b + 256 * le bytes
 le-cons b bytes = let e = weighted_from-suc bytes 0 in omega arith
 
--- so many bytes stand for less than so many powers of 256
+-- n bytes stand for a number below 256 ^ n
 pub le-lt : (bytes : List ℕ) → AreBytes bytes → le bytes < 256 ^ length bytes
 le-lt [] h = omega arith
 le-lt (b ∷ bytes) h =

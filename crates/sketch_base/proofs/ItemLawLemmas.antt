@@ -18,7 +18,7 @@ use Rattle.std.proofs.Math.Seq.{take-append_seam, drop-append_seam}
 use Rattle.sketch_base.specs.Bytes.{AreBytes, le, be, low_bytes, twos_complement, modulo}
 use Rattle.sketch_base.proofs.BytesLemmas.{low_bytes-are, le-low_bytes, le-lt, low_bytes-le, length-low_bytes, IsByte}
 
--- so many bytes take a number below so many powers of 256, and give it back, in either order
+-- a number below 256 ^ n has n bytes that give it back, in either order
 le-back : (count n : ℕ) → n < 256 ^ count → le (low_bytes count n) ≡ n
 le-back count n small = le-low_bytes count n ∙ mod-eq_of_lt small
 

@@ -17,38 +17,37 @@ pub record Range : Type 0 where
   pub text : List ℕ
   pub has : ℕ → Bool
 
--- The range between two ends. The one that is open at both ends has every number, and never prints.
+-- the start of a range lets the number in
+abbrev pub is_above : Bound ℕ → ℕ → Bool
+is_above (Included a) x = nat_le a x
+is_above (Excluded a) x = nat_lt a x
+is_above Unbounded x = true
+
+-- the end of a range lets the number in
+abbrev pub is_below : Bound ℕ → ℕ → Bool
+is_below (Included b) x = nat_le x b
+is_below (Excluded b) x = nat_lt x b
+is_below Unbounded x = true
+
+-- how the range between two ends prints; the one that is open at both ends never does
+abbrev pub range_text : Bound ℕ → Bound ℕ → List ℕ
+range_text (Included a) (Included b) =
+    codes "[" ++ (decimal a ++ (codes ", " ++ (decimal b ++ codes "]")))
+range_text (Included a) (Excluded b) =
+    codes "[" ++ (decimal a ++ (codes ", " ++ (decimal b ++ codes ")")))
+range_text (Excluded a) (Included b) =
+    codes "(" ++ (decimal a ++ (codes ", " ++ (decimal b ++ codes "]")))
+range_text (Excluded a) (Excluded b) =
+    codes "(" ++ (decimal a ++ (codes ", " ++ (decimal b ++ codes ")")))
+range_text Unbounded (Included b) = codes "at most " ++ decimal b
+range_text Unbounded (Excluded b) = codes "less than " ++ decimal b
+range_text (Included a) Unbounded = codes "at least " ++ decimal a
+range_text (Excluded a) Unbounded = codes "greater than " ++ decimal a
+range_text Unbounded Unbounded = []
+
+-- the range between two ends
 abbrev pub range : Bound ℕ → Bound ℕ → Range
-range (Included a) (Included b) = record {
-  text = codes "[" ++ (decimal a ++ (codes ", " ++ (decimal b ++ codes "]")));
-  has = λ x. nat_le a x && nat_le x b;
+range start end = record {
+  text = range_text start end;
+  has = λ x. is_above start x && is_below end x;
 }
-range (Included a) (Excluded b) = record {
-  text = codes "[" ++ (decimal a ++ (codes ", " ++ (decimal b ++ codes ")")));
-  has = λ x. nat_le a x && nat_lt x b;
-}
-range (Excluded a) (Included b) = record {
-  text = codes "(" ++ (decimal a ++ (codes ", " ++ (decimal b ++ codes "]")));
-  has = λ x. nat_lt a x && nat_le x b;
-}
-range (Excluded a) (Excluded b) = record {
-  text = codes "(" ++ (decimal a ++ (codes ", " ++ (decimal b ++ codes ")")));
-  has = λ x. nat_lt a x && nat_lt x b;
-}
-range Unbounded (Included b) = record {
-  text = codes "at most " ++ decimal b;
-  has = λ x. nat_le x b;
-}
-range Unbounded (Excluded b) = record {
-  text = codes "less than " ++ decimal b;
-  has = λ x. nat_lt x b;
-}
-range (Included a) Unbounded = record {
-  text = codes "at least " ++ decimal a;
-  has = λ x. nat_le a x;
-}
-range (Excluded a) Unbounded = record {
-  text = codes "greater than " ++ decimal a;
-  has = λ x. nat_lt a x;
-}
-range Unbounded Unbounded = record { text = []; has = λ x. true }

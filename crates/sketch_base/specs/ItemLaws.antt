@@ -5,15 +5,15 @@ use Rattle.sketch_base.specs.declared.codec.item.Item.{Item}
 use Rattle.sketch_base.specs.Bytes.{AreBytes}
 use Rattle.sketch_base.specs.Items.{InType, item_kind, width, widths, spell, spell_all, unspell, unspell_all}
 
--- bytes hold an item: so many as its kind has, of which its kind makes the item
+-- These bytes hold the item: there are as many as its kind has, and read as that kind they give
+-- the item.
 pub record Holds (bytes : List ℕ) (i : Item) : Type 0 where
   pub are_bytes : AreBytes bytes
   pub count : length bytes ≡ width (item_kind i)
   pub item : unspell (item_kind i) bytes ≡ i
 
--- Each item stands in bytes in one way, and so does each list of items of known kinds, in as many
--- bytes as these have. Whatever stands after the bytes of items, they are read back in order, and
--- it remains.
+-- An item has one form in bytes, and so has a list of items of known kinds, as long as these say. A
+-- list is read back from its bytes, whatever follows them, and what follows remains.
 pub record ItemLaw : Type 0 where
   pub spell_holds : (i : Item) → InType i → Holds (spell i) i
   pub spell_only : (i : Item) (bytes : List ℕ) → InType i → Holds bytes i → bytes ≡ spell i

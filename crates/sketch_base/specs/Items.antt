@@ -58,7 +58,7 @@ InType (item.U64Be n) = n < 2 ^ 64
 InType (item.I64Le n) = FitsSigned w64 n
 InType (item.I64Be n) = FitsSigned w64 n
 
--- the item of a kind that so many bytes hold
+-- the item that bytes give when they are read as a kind
 abbrev pub unspell : Kind → List ℕ → Item
 unspell kind.U8 bytes = item.U8 (le bytes)
 unspell kind.I8 bytes = item.I8 (twos_complement 8 (le bytes))

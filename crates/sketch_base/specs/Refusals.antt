@@ -10,7 +10,7 @@ use Rattle.sketch_base.specs.ErrorValue.{ErrorValue, error_of, memory_error}
 unfoldable pub Refuses : ErrorKind → List ℕ → ErrorValue → Type 0
 Refuses kind text error = (error ≡ error_of kind text) ⊎ (error ≡ memory_error)
 
--- a text is what a value prints; any text is where the value's type does not say what it prints
+-- the text is what a value prints, or any text if the value's type does not say what that is
 abbrev pub Prints : Option (List ℕ) → List ℕ → Type 0
 Prints output text = IfSome output (λ printed. text ≡ printed)
 

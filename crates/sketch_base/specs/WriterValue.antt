@@ -1,7 +1,8 @@
 -- What a writer of bytes is to its callers.
 use Rattle.std.specs.Prelude.{ℕ, List}
 
--- the bytes written, and the room: no write up to room bytes in all is refused
+-- the bytes written, and the capacity: a write after which there are at most `room` bytes is not
+-- refused
 pub record WriterValue : Type 0 where
   pub bytes : List ℕ
   pub room : ℕ

@@ -180,7 +180,8 @@ impl Error {
 
     /// Serialized data ended too early, as the value says.
     ///
-    /// Where the text finds no memory, the error is of kind `OutOfMemory`, with no message.
+    /// Where memory runs out or `value` fails to print, the error is of kind `OutOfMemory`, with no
+    /// message.
     pub fn insufficient_data<V: fmt::Display + Drop>(alloc: Global, value: V) -> Error
         ensures { (text : List ℕ) × Prints (V.output value) text
             × Refuses ErrorKind.InvalidData (insufficient_data_text text) result }
@@ -194,7 +195,8 @@ impl Error {
 
     /// Serialized data ended too early in the part that `context` names, as the value says.
     ///
-    /// Where the text finds no memory, the error is of kind `OutOfMemory`, with no message.
+    /// Where memory runs out or `value` fails to print, the error is of kind `OutOfMemory`, with no
+    /// message.
     pub fn insufficient_data_of<V: fmt::Display + Drop>(
         alloc: Global,
         context: &'static str,

@@ -15,7 +15,7 @@ pub(crate) fn assert_same<T: PartialEq + Debug + Drop>(rt: &impl Abort, left: T,
     assert_eq!(rt; left, right);
 }
 
-/// Asserts it of one case among several.
+/// Asserts that two values are equal, and names the case if they are not.
 pub(crate) fn assert_same_for<T: PartialEq + Debug + Drop>(
     rt: &impl Abort,
     left: T,

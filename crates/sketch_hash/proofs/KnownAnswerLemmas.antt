@@ -4,7 +4,7 @@ use Rattle.std.proofs.lemmas.List.Elements.{All-from_recursion, All-replicate}
 use Rattle.sketch_hash.specs.Words.{xor_below, xor, rotate}
 use Rattle.sketch_hash.specs.Pieces.{absorb, pieces, rest}
 use Rattle.sketch_hash.specs.Murmur.{mix1, mix2, fmix, step1, step2, step, with_tail, finalize as murmur_ending, murmur, murmur_after, murmur_answer}
-use Rattle.sketch_hash.specs.Xxh64.{round, lane, lanes_start, lanes, merge_round, merge, steps, eight_step, four_step, byte_step, tail_step, avalanche, finalize as xxh64_ending, xxh64, xxh64_after, xxh64_answer}
+use Rattle.sketch_hash.specs.Xxh64.{round, lanes_start, lanes, merge_round, merge, steps, eight_step, four_step, byte_step, tail_step, avalanche, finalize as xxh64_ending, xxh64, xxh64_after, xxh64_answer}
 use Rattle.sketch_base.specs.Bytes.{eight}
 use Rattle.sketch_hash.specs.Columns.{key_at, IsBound, AreBounds, AreHashes}
 use Rattle.sketch_hash.specs.KnownAnswers.{test_bytes_from, WordAnswers, MurmurAnswers, Xxh64Answers, ValueAnswers, Relations, Columns, bounds, foxes}
@@ -47,7 +47,7 @@ murmur_answers = record {
 }
 
 pub xxh64_answers : Xxh64Answers
-unfolding xor_below xor rotate pieces rest round lane lanes_start lanes merge_round merge steps eight_step
+unfolding xor_below xor rotate pieces rest round lanes_start lanes merge_round merge steps eight_step
     four_step byte_step tail_step avalanche xxh64_ending xxh64 xxh64_answer test_bytes_from
 xxh64_answers = record {
   no_bytes = refl;
@@ -129,8 +129,9 @@ are_numbers (suc (suc i)) d h = absurd (omega (arith, h))
 
 pub columns : Columns
 columns = record {
-  keys = (are_bounds, are_keys);
-  no_other_last_key = λ p. let size : 1 ≡ 2 = ap length (p.1 2 [] (lit< tt)) in omega (arith, size);
+  keys = (are_bounds, refl, are_keys);
+  no_other_last_key = λ p. let size : 1 ≡ 2 = ap length (p.2 2 [] (lit< tt)) in omega (arith, size);
+  no_missing_key = λ p. let size : 2 ≡ 3 = p.1 in omega (arith, size);
   no_fault_of_bounds = λ i p. p.0.1 (are_bounds i p.0.0);
   falls = (
     (omega arith, λ h. let after : 3 ≤ 2 = h.2 in omega (arith, after), bound_before_the_fall),
@@ -140,9 +141,10 @@ columns = record {
   no_keys_of_a_fall = λ _ p. let after : 3 ≤ 2 = (p.0 2 (omega arith)).2 in omega (arith, after);
   nothing_written = λ p.
       let size : 3 ≡ 0 = ap (λ places. length (slice_index_or places 0 [])) p.1 in omega (arith, size);
-  numbers = (omega arith, are_numbers);
+  numbers = (omega arith, refl, are_numbers);
   no_other_number = λ p.
-      let low : 1 ≡ 0 = ap (λ bytes. slice_index bytes 0) (p.1 1 [] (lit< tt)) in omega (arith, low);
+      let low : 1 ≡ 0 = ap (λ bytes. slice_index bytes 0) (p.2 1 [] (lit< tt)) in omega (arith, low);
+  no_missing_number = λ p. let size : 1 ≡ 2 = p.1 in omega (arith, size);
   too_few = (omega arith, refl, refl);
   no_numbers_of_too_few = λ _ p. let few : 2 ≤ 1 = p.0 in omega (arith, few);
   no_other_count = λ p. let count : 0 ≡ 1 = p.1 in omega (arith, count);

@@ -3,8 +3,8 @@ use Rattle.std.proofs.Common.{◌≡◌, ℕ, List, [], ◌∷◌, ◌++◌, len
 use Rattle.std.specs.List.{fold}
 use Rattle.std.specs.Simd.Lanes.{zip2}
 use Rattle.std.proofs.lemmas.List.Sums.{fold-append}
-use Rattle.sketch_hash.specs.Xxh64.{Lanes, round, stripe_step, seeded_step}
-use Rattle.sketch_hash.specs.Lanes.{lanes_of, stripe_words, each_lane}
+use Rattle.sketch_hash.specs.Xxh64.{Lanes, round, stripe_step, seeded_step, each_lane}
+use Rattle.sketch_hash.specs.Lanes.{lanes_of, stripe_words}
 
 -- stripe by stripe, each lane is folded over its own words
 fold-each_lane : (stripes : List (List ℕ)) (v : Lanes) → fold stripe_step v stripes ≡ each_lane v stripes

@@ -9,7 +9,7 @@ use Rattle.sketch_base.proofs.BytesLemmas.{le-lt}
 use Rattle.sketch_hash.specs.Words.{IsWord}
 use Rattle.sketch_hash.specs.Pieces.{first_pieces, pieces, rest}
 use Rattle.sketch_hash.specs.Xxh64.{steps_of, steps}
-use Rattle.sketch_hash.specs.Laws.{IsStep, widths}
+use Rattle.sketch_hash.specs.Laws.{IsStep, step_widths}
 use Rattle.sketch_hash.proofs.PiecesLemmas.{IsPiece, pieces-are, rest-are, length_rest_same}
 
 -- the number of at most eight bytes is a word
@@ -34,31 +34,32 @@ steps-are waiting h =
     All-append IsStep (steps_of 8 waiting ++ steps_of 4 behind) (steps_of 1 (rest 4 behind))
     (All-append IsStep (steps_of 8 waiting) (steps_of 4 behind) eights fours) ones
 
-widths-steps_of : (w : ℕ) (bytes : List ℕ) → widths (steps_of w bytes) ≡ replicate (length bytes / w) w
+widths-steps_of : (w : ℕ) (bytes : List ℕ) → step_widths (steps_of w bytes) ≡ replicate (length bytes / w) w
 unfolding pieces
 widths-steps_of w bytes = counted (length bytes / w) bytes
   where
     counted : (n : ℕ) (bytes : List ℕ) →
-        widths (map (λ piece. (w, le piece)) (first_pieces n w bytes)) ≡ replicate n w
+        step_widths (map (λ piece. (w, le piece)) (first_pieces n w bytes)) ≡ replicate n w
     counted zero bytes = refl
     counted (suc n) bytes = ap (λ t. w ∷ t) (counted n (drop w bytes))
 
-steps_of-same : (w : ℕ) (a b : List ℕ) → length a ≡ length b → widths (steps_of w a) ≡ widths (steps_of w b)
+steps_of-same : (w : ℕ) (a b : List ℕ) → length a ≡ length b →
+    step_widths (steps_of w a) ≡ step_widths (steps_of w b)
 steps_of-same w a b e = widths-steps_of w a ∙ ap (λ n. replicate (n / w) w) e ∙ sym (widths-steps_of w b)
 
-widths-steps : (waiting : List ℕ) → widths (steps waiting)
-    ≡ widths (steps_of 8 waiting) ++ widths (steps_of 4 (rest 8 waiting))
-    ++ widths (steps_of 1 (rest 4 (rest 8 waiting)))
+widths-steps : (waiting : List ℕ) → step_widths (steps waiting)
+    ≡ step_widths (steps_of 8 waiting) ++ step_widths (steps_of 4 (rest 8 waiting))
+    ++ step_widths (steps_of 1 (rest 4 (rest 8 waiting)))
 unfolding steps
 widths-steps waiting =
     let eights = steps_of 8 waiting in
     let fours = steps_of 4 (rest 8 waiting) in
     let ones = steps_of 1 (rest 4 (rest 8 waiting)) in
     map-append (λ s. s.0) (eights ++ fours) ones
-    ∙ ap (λ t. t ++ widths ones) (map-append (λ s. s.0) eights fours)
+    ∙ ap (λ t. t ++ step_widths ones) (map-append (λ s. s.0) eights fours)
 
 -- tails of one length have steps of the same widths
-pub widths-same : (a b : List ℕ) → length a ≡ length b → widths (steps a) ≡ widths (steps b)
+pub widths-same : (a b : List ℕ) → length a ≡ length b → step_widths (steps a) ≡ step_widths (steps b)
 widths-same a b e =
     let behind_eights = length_rest_same 8 a b e in
     let behind_fours = length_rest_same 4 (rest 8 a) (rest 8 b) behind_eights in

@@ -3,8 +3,7 @@ use Rattle.std.proofs.Common.{◌≡◌, ℕ, ◌+◌, ◌-◌, ◌%◌, ◌^◌
 use Rattle.std.proofs.lemmas.List.{length-take-le, map-id}
 use Rattle.std.specs.List.{fold}
 use Rattle.sketch_hash.specs.Pieces.{pieces, rest, State}
-use Rattle.sketch_hash.specs.Xxh64.{Lanes, stripe_step, seeded_step, xxh64_after}
-use Rattle.sketch_hash.specs.Lanes.{each_lane}
+use Rattle.sketch_hash.specs.Xxh64.{Lanes, stripe_step, seeded_step, xxh64_after, each_lane}
 use Rattle.sketch_hash.proofs.LanesLemmas.{fold-seeded}
 use Rattle.sketch_hash.proofs.PiecesLemmas.{length_rest}
 use Rattle.sketch_hash.proofs.StateLemmas.{state_after-fresh, state_after-through}

@@ -8,9 +8,8 @@ use Rattle.std.proofs.lemmas.List.Folds.{fold-map}
 use Rattle.sketch_base.specs.Bytes.{le, eight}
 use Rattle.sketch_base.proofs.BytesLemmas.{le-low_bytes}
 use Rattle.sketch_hash.specs.Pieces.{pieces, rest, State, absorb}
-use Rattle.sketch_hash.specs.Xxh64.{Lanes, prime5, lane, lanes_start, lanes, merge, steps_of, steps, tail_step, eight_step, four_step, byte_step, avalanche, finalize, xxh64, xxh64_start, xxh64_after, xxh64_answer, Xxh64Stands}
+use Rattle.sketch_hash.specs.Xxh64.{Lanes, prime5, lanes_start, lanes, merge, steps_of, steps, tail_step, eight_step, four_step, byte_step, avalanche, finalize, xxh64, xxh64_start, xxh64_after, xxh64_answer, Xxh64Stands, each_lane}
 use Rattle.sketch_hash.specs.Words.{IsWord, plus}
-use Rattle.sketch_hash.specs.Lanes.{each_lane}
 use Rattle.sketch_hash.proofs.LanesLemmas.{fold-seeded}
 use Rattle.sketch_hash.proofs.PiecesLemmas.{pieces_short, rest_short, pieces-first, rest-first}
 
@@ -90,7 +89,7 @@ fold_four hash bytes low high =
 -- the definition of the whole bytes
 pub xxh64_answer-after : (seed : ℕ) (bytes : List ℕ) →
     xxh64_answer (xxh64_after (xxh64_start seed) bytes) ≡ xxh64 seed bytes
-unfolding xxh64_answer xxh64_after xxh64 absorb pieces rest lanes lane lanes_start
+unfolding xxh64_answer xxh64_after xxh64 absorb pieces rest lanes lanes_start
 xxh64_answer-after seed [] = refl
 xxh64_answer-after seed (b ∷ bytes) =
     let all = map-id (pieces 32 (b ∷ bytes)) in
@@ -115,7 +114,7 @@ of_short seed bytes h =
 pub of_long : (seed : ℕ) (bytes : List ℕ) → 32 ≤ length bytes → length bytes < 2 ^ 64 →
     xxh64 seed bytes ≡ avalanche (fold tail_step
     (plus (merge (each_lane (lanes_start seed) (pieces 32 bytes))) (length bytes)) (steps (rest 32 bytes)))
-unfolding xxh64 finalize lanes lane lanes_start
+unfolding xxh64 finalize lanes lanes_start
 of_long seed bytes h w =
     let count : length bytes % 2 ^ 64 ≡ length bytes = mod-eq_of_lt w in
     let long = le-ltb (length bytes) 32 h in

@@ -41,7 +41,8 @@ abbrev pub HashesEach : {X : Type 0} →
 HashesEach hash bytes offsets before after result =
     let n = length before in
     MatchResult result
-    (λ _. AreBounds bytes offsets n × AreHashes hash (key_at bytes offsets) after)
+    (λ _. AreBounds bytes offsets n × (length after ≡ n)
+    × AreHashes hash (key_at bytes offsets) after)
     (λ fault. IsFirstWrongOffset bytes offsets n fault × (after ≡ before))
 
 -- The same of a column of numbers, whose keys are their eight bytes. With fewer numbers than places
@@ -51,7 +52,8 @@ abbrev pub HashesEachNumber : {X : Type 0} →
 HashesEachNumber hash numbers before after result =
     let n = length before in
     MatchResult result
-    (λ _. (n ≤ length numbers) × AreHashes hash (λ i. eight (slice_index numbers i)) after)
+    (λ _. (n ≤ length numbers) × (length after ≡ n)
+    × AreHashes hash (λ i. eight (slice_index numbers i)) after)
     (λ fault. (fault < n) × (fault ≡ length numbers) × (after ≡ before))
 
 -- MurmurHash3 of the bytes under a seed, as the two words of a place

@@ -1,5 +1,5 @@
--- The states of hashers that plain words and bytes stand for. Of the waiting bytes the first count:
--- as many as the total has after its last full piece.
+-- The states of hashers that plain words and bytes stand for. Of `waiting` only the first bytes are
+-- part of the state: as many as the total has after its last full piece.
 use Rattle.std.specs.Prelude.{ℕ, ◌%◌, List, take}
 use Rattle.sketch_hash.specs.declared.hash.murmurhash.state.MurmurState.{MurmurState}
 use Rattle.sketch_hash.specs.declared.hash.xxhash.state.XxHash64State.{XxHash64State}

@@ -175,6 +175,7 @@ foxes = codes "fox" ∷ [] ∷ codes "es" ∷ []
 pub record Columns : Type 0 where
   pub keys : Column bounds foxes (Ok tt)
   pub no_other_last_key : Column bounds (codes "fox" ∷ [] ∷ codes "e" ∷ []) (Ok tt) → ⊥
+  pub no_missing_key : Column bounds (codes "fox" ∷ [] ∷ []) (Ok tt) → ⊥
   pub no_fault_of_bounds : (i : ℕ) → Column bounds ([] ∷ [] ∷ [] ∷ []) (Err i) → ⊥
   pub falls : Column (0 ∷ 3 ∷ 2 ∷ 6 ∷ []) ([] ∷ [] ∷ [] ∷ []) (Err 2)
   pub no_later_fault : Column (0 ∷ 3 ∷ 2 ∷ 6 ∷ []) ([] ∷ [] ∷ [] ∷ []) (Err 3) → ⊥
@@ -183,6 +184,7 @@ pub record Columns : Type 0 where
   pub nothing_written : Column (0 ∷ 3 ∷ 2 ∷ 6 ∷ []) foxes (Err 2) → ⊥
   pub numbers : Numbers (1 ∷ 256 ∷ 3 ∷ []) (eight 1 ∷ eight 256 ∷ []) (Ok tt)
   pub no_other_number : Numbers (1 ∷ 256 ∷ []) (eight 1 ∷ eight 1 ∷ []) (Ok tt) → ⊥
+  pub no_missing_number : Numbers (1 ∷ 256 ∷ []) (eight 1 ∷ []) (Ok tt) → ⊥
   pub too_few : Numbers (1 ∷ []) ([] ∷ [] ∷ []) (Err 1)
   pub no_numbers_of_too_few : (after : List (List ℕ)) → Numbers (1 ∷ []) after (Ok tt) → ⊥
   pub no_other_count : Numbers (1 ∷ []) ([] ∷ [] ∷ []) (Err 0) → ⊥

@@ -22,8 +22,8 @@ abbrev pub IsStep : ℕ × ℕ → Type 0
 IsStep s = IsWord s.1
 
 -- the widths of steps
-abbrev pub widths : List (ℕ × ℕ) → List ℕ
-widths list = map (λ s. s.0) list
+abbrev pub step_widths : List (ℕ × ℕ) → List ℕ
+step_widths list = map (λ s. s.0) list
 
 -- How lists of bytes are cut: whole pieces in front leave the pieces and the rest of what comes
 -- after them, fewer bytes than a piece are all rest, and a rest is shorter than a piece. And how a
@@ -45,9 +45,8 @@ pub record PieceLaws : Type 0 where
   pub eight_are : (n : ℕ) → AreBytes (eight n)
   pub eight_read : (n : ℕ) → IsWord n → le (eight n) ≡ n
 
--- Murmur: how a word is mixed, and how a block, a tail and the end change the pair of words. A step
--- takes all pairs to all pairs whichever block it reads, and all blocks to all pairs whichever pair
--- it begins at.
+-- Murmur: how a word is mixed, and how a block, a tail and the end change the pair of words. For
+-- each block a step is a bijection of pairs, and for each pair one from blocks to pairs.
 pub record MurmurStepLaws : Type 0 where
   pub first_word : OneToOne IsWord IsWord mix1
   pub second_word : OneToOne IsWord IsWord mix2
@@ -64,16 +63,16 @@ pub record MurmurStepLaws : Type 0 where
       length a ≡ length b → length a < 16 → with_tail h a ≡ with_tail h b → a ≡ b
   pub finalize_of_pair : (n : ℕ) → IsWord n → OneToOne AreWords AreWords (λ h. finalize h n)
 
--- XXH64: a step of the tail takes all words to all words whichever number it reads. From each word,
--- and at each width, it takes all words, as the number that it reads, to all words. So does the
--- last mixing.
+-- XXH64: for each number that it reads, a step of the tail is a bijection of words; and for each
+-- word and width, it is one of the numbers that it reads, as words. So is the last mixing.
 pub record Xxh64StepLaws : Type 0 where
   pub step_of_word : (s : ℕ × ℕ) → IsStep s → OneToOne IsWord IsWord (λ h. tail_step h s)
   pub step_of_number : (width h : ℕ) → IsWord h →
       OneToOne IsWord IsWord (λ n. tail_step h (width, n))
   pub last_mixing : OneToOne IsWord IsWord avalanche
   pub tail_read : (waiting : List ℕ) → AreBytes waiting → All IsStep (steps waiting)
-  pub tail_widths : (a b : List ℕ) → length a ≡ length b → widths (steps a) ≡ widths (steps b)
+  pub tail_widths : (a b : List ℕ) → length a ≡ length b →
+      step_widths (steps a) ≡ step_widths (steps b)
   pub steps_of_word : (list : List (ℕ × ℕ)) → All IsStep list →
       OneToOne IsWord IsWord (λ h. fold tail_step h list)
   pub eight_bytes : (seed x : ℕ) → IsWord x →

@@ -4,7 +4,7 @@
 -- words, modulo 2 ^ 64.
 --
 -- One departure: the length counts modulo 2 ^ 64, and what is counted chooses between the two forms
--- of step 1, so 2 ^ 64 bytes and few more have the form of short inputs.
+-- of step 1, so 2 ^ 64 to 2 ^ 64 + 31 bytes have the form of short inputs.
 use Rattle.std.specs.Prelude.{◌≡◌, ℕ, ◌%◌, ◌^◌, List, [], ◌++◌, length, map, nat_lt, ◌==◌, if◌then◌else◌}
 use Rattle.std.specs.List.{fold}
 use Rattle.sketch_base.specs.Bytes.{le}
@@ -37,15 +37,21 @@ round lane word = times (rotate (plus lane (times word prime2)) 31) prime1
 abbrev pub stripes : List ℕ → List (List ℕ)
 stripes bytes = pieces 32 bytes
 
--- step 2, one lane by itself: from its start, the words at place j of all stripes, in order
-unfoldable pub lane : ℕ → ℕ → List ℕ → ℕ
-lane j start bytes = fold round start (map (word_at j) (stripes bytes))
-
 pub record Lanes : Type 0 where
   pub v1 : ℕ
   pub v2 : ℕ
   pub v3 : ℕ
   pub v4 : ℕ
+
+-- step 2, each lane by itself: from where it stands, the words at its place of all stripes, in
+-- order
+abbrev pub each_lane : Lanes → List (List ℕ) → Lanes
+each_lane v stripes = record {
+  v1 = fold round v.v1 (map (word_at 0) stripes);
+  v2 = fold round v.v2 (map (word_at 1) stripes);
+  v3 = fold round v.v3 (map (word_at 2) stripes);
+  v4 = fold round v.v4 (map (word_at 3) stripes);
+}
 
 -- step 1: where the lanes start
 unfoldable pub lanes_start : ℕ → Lanes
@@ -58,14 +64,7 @@ lanes_start seed = record {
 
 -- step 2: the lanes after all full stripes of an input
 unfoldable pub lanes : ℕ → List ℕ → Lanes
-lanes seed bytes =
-    let start = lanes_start seed in
-    record {
-      v1 = lane 0 start.v1 bytes;
-      v2 = lane 1 start.v2 bytes;
-      v3 = lane 2 start.v3 bytes;
-      v4 = lane 3 start.v4 bytes;
-    }
+lanes seed bytes = each_lane (lanes_start seed) (stripes bytes)
 
 -- step 3, `mergeAccumulator`: one lane enters the hash
 unfoldable pub merge_round : ℕ → ℕ → ℕ

@@ -1,4 +1,5 @@
-//! Hashing for sketches: a trait for hashers with its laws, and the two hashers.
+//! Hashing for sketches: hashers, columns of keys, values and the bytes that they feed, and seed
+//! hashes.
 
 mod copy;
 mod each;

@@ -23,7 +23,7 @@ fn assert_same<T: PartialEq + Debug + Drop>(rt: &impl Abort, left: T, right: T)
     assert_eq!(rt; left, right);
 }
 
-/// Asserts it of one case among several.
+/// Asserts that two values are equal, and names the case if they are not.
 fn assert_same_for<T: PartialEq + Debug + Drop>(
     rt: &impl Abort,
     left: T,
@@ -35,8 +35,8 @@ fn assert_same_for<T: PartialEq + Debug + Drop>(
     assert_eq!(rt; left, right, "for {case:?}");
 }
 
-/// Tells the sweep that a request for memory was refused. It fails a test that tells so where none
-/// was.
+/// Writes the line that tells `.ci/sweep` of a refused request for memory. The sweep fails a test
+/// that writes it where none was refused.
 fn tell_refusal(rt: &impl Eprint) {
     let _ = rt.eprintln("out of memory");
 }

@@ -7,7 +7,7 @@ use Rattle.datasketches.specs.Bytes.{AreBytes, le, eight}
 use Rattle.datasketches.proofs.BytesLemmas.{low_bytes-le}
 use Rattle.sketch_member.specs.declared.fault.Fault.{Fault}
 use Rattle.sketch_member.specs.declared.fault.Fault.TheVariants.{MissingBits, TrailingBytes}
-use Rattle.sketch_member.specs.Faults.{IsFirstFault, IsFlag, bits_steps, header, header_steps, steps}
+use Rattle.sketch_member.specs.Faults.{IsFirstFault, IsFlag, bits_steps, header_length, header_steps, steps}
 use Rattle.sketch_member.specs.Limits.{IsHashes, IsLog2Bits}
 use Rattle.sketch_member.specs.Table.{Table, IsTable, byte_count}
 use Rattle.sketch_member.proofs.SizeLemmas.{whole_bytes}
@@ -104,7 +104,7 @@ header_form longs seed log2_bits hashes flag count bytes rest whole version is_f
 
 -- where the bits of a table stand in its bytes
 form_bits : (table : Table) (bytes : List ℕ) → IsForm table bytes →
-    (header bytes + length table.bits ≡ length bytes)
+    (header_length bytes + length table.bits ≡ length bytes)
     × (get_or bytes 3 0 ≡ table.log2_bits)
     × (drop (length bytes - length table.bits) bytes ≡ table.bits)
 form_bits table bytes form = elim form [
@@ -112,7 +112,7 @@ form_bits table bytes form = elim form [
       let same : length bytes ≡ length (form1 table) = ap length first.1 in
       let count : length bytes ≡ 16 + length table.bits = omega (arith, same) in
       let start : length bytes - length table.bits ≡ 16 = omega (arith, count) in (
-        ap (λ b. header b + length table.bits) first.1 ∙ sym count,
+        ap (λ b. header_length b + length table.bits) first.1 ∙ sym count,
         ap (λ b. get_or b 3 0) first.1,
         ap (λ n. drop n bytes) start ∙ ap (drop 16) first.1,
       )
@@ -120,7 +120,7 @@ form_bits table bytes form = elim form [
       let same : length bytes ≡ length (form2 table) = ap length second in
       let count : length bytes ≡ 24 + length table.bits = omega (arith, same) in
       let start : length bytes - length table.bits ≡ 24 = omega (arith, count) in (
-        ap (λ b. header b + length table.bits) second ∙ sym count,
+        ap (λ b. header_length b + length table.bits) second ∙ sym count,
         ap (λ b. get_or b 3 0) second,
         ap (λ n. drop n bytes) start ∙ ap (drop 24) second,
       )
@@ -161,14 +161,14 @@ pub bits_fault : (table : Table) (bytes : List ℕ) (fault : Fault) →
 bits_fault table bytes fault fit log2_bits hashes count form told =
     let is = form (All-from_get_or (λ b. b < 256) bytes 0 (λ i l. (fit i).fits)) in
     let places = form_bits table bytes is in
-    let rest = length bytes - header bytes in
+    let rest = length bytes - header_length bytes in
     let have : length (drop (length bytes - length table.bits) bytes) ≡ rest =
     ap length places.2 ∙ omega (arith, places.0) in
     let need : byte_count table.log2_bits ≡ byte_count (get_or bytes 3 0) =
     ap byte_count (sym places.1) in
-    let there : header bytes ≤ length bytes = omega (arith, places.0) in
+    let there : header_length bytes ≤ length bytes = omega (arith, places.0) in
     fault-later (length bytes) (header_steps bytes)
-    (bits_steps bytes (header bytes) (byte_count (get_or bytes 3 0))) fault
+    (bits_steps bytes (header_length bytes) (byte_count (get_or bytes 3 0))) fault
     (header_passes table bytes log2_bits hashes count is) (elim (rw (have, need) at told) [
       | inl few ↦ inl (inr (there, (λ enough. below_not _ _ few.0 enough), few.1))
       | inr many ↦

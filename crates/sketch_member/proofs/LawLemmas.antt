@@ -5,7 +5,7 @@ use Rattle.datasketches.specs.Bytes.{le, eight}
 use Rattle.datasketches.specs.Words.{IsWord}
 use Rattle.datasketches.proofs.BytesLemmas.{le-low_bytes}
 use Rattle.sketch_member.proofs.FaultLemmas.{all_pass-append, header_pass}
-use Rattle.sketch_member.specs.Faults.{AllPass, IsFlag, bits_steps, count_number, header, header_steps, steps, version_step, view_steps}
+use Rattle.sketch_member.specs.Faults.{AllPass, IsFlag, bits_steps, count_number, header_length, header_steps, steps, version_step, view_steps}
 use Rattle.sketch_member.specs.Form.{IsForm, flag_of, form1, form2, number_of}
 use Rattle.sketch_member.specs.Laws.{FormLaw}
 use Rattle.sketch_member.specs.Limits.{IsHashes, IsLog2Bits}
@@ -56,11 +56,11 @@ header_passes table bytes log2_bits hashes count form =
     ]
 
 bits_pass : (table : Table) (bytes : List ℕ) → IsTable table → IsForm table bytes →
-    AllPass (length bytes) (bits_steps bytes (header bytes) (byte_count (get_or bytes 3 0)))
+    AllPass (length bytes) (bits_steps bytes (header_length bytes) (byte_count (get_or bytes 3 0)))
 bits_pass table bytes is form =
     let full : byte_count table.log2_bits ≡ length table.bits = omega (arith, is.bits) in
     let P : List ℕ → Type 0 =
-    λ b. AllPass (length b) (bits_steps b (header b) (byte_count (get_or b 3 0))) in
+    λ b. AllPass (length b) (bits_steps b (header_length b) (byte_count (get_or b 3 0))) in
     elim form [
       | inl first ↦ subst P (sym first.1)
           ((omega arith, omega (arith, full)), ((omega arith, omega (arith, full)), tt))
@@ -72,7 +72,7 @@ pub passes : (table : Table) (bytes : List ℕ) → IsTable table → IsForm tab
     AllPass (length bytes) (steps bytes)
 passes table bytes is form =
     all_pass-append (length bytes) (header_steps bytes)
-    (bits_steps bytes (header bytes) (byte_count (get_or bytes 3 0)))
+    (bits_steps bytes (header_length bytes) (byte_count (get_or bytes 3 0)))
     (header_passes table bytes is.log2_bits is.hashes is.count form) (bits_pass table bytes is form)
 
 viewed : (table : Table) (bytes : List ℕ) → IsTable table → bytes ≡ form2 table →
@@ -98,7 +98,7 @@ record Places (table : Table) (bytes : List ℕ) : Type 0 where
   hashes : table.hashes ≡ get_or bytes 4 0
   flag : flag_of table.count ≡ get_or bytes 5 0
   number : number_of table.count ≡ count_number bytes
-  bits : table.bits ≡ drop (header bytes) bytes
+  bits : table.bits ≡ drop (header_length bytes) bytes
 
 places1 : (table : Table) → IsTable table → table.count ≡ None → Places table (form1 table)
 places1 table is unknown = record {

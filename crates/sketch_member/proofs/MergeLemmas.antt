@@ -11,7 +11,9 @@ use Rattle.sketch_member.proofs.InsertLemmas.{insert_law, same_index, same_table
 use Rattle.sketch_member.proofs.LawLemmas.{form_law, same_table}
 use Rattle.sketch_member.specs.Form.{form2}
 use Rattle.sketch_member.specs.Laws.{InsertsAll, IsMadeOf, MergeLaw, StandsFor, count_after}
-use Rattle.sketch_member.specs.Merge.{AreAlike, Merges, sum_of_counts}
+use Rattle.sketch_member.specs.declared.header.Difference.{Difference}
+use Rattle.sketch_member.specs.declared.header.Difference.TheVariants.{Seed, Log2Bits, Hashes}
+use Rattle.sketch_member.specs.Merge.{AreAlike, IsFirstDifference, Merges, sum_of_counts}
 use Rattle.sketch_member.specs.Table.{Table, IsTable, IsSet, IsIndex, IsMember, Inserts, byte_count, empty_table}
 
 -- ---- tables that are alike
@@ -110,6 +112,31 @@ all_alike (fed ∷ values) before after (next, inserts, rest) =
       hashes = sym inserts.hashes;
     } in
     chained before next after first (all_alike values next after rest)
+
+-- tables of one seed and sizes to which values were inserted differ in no part
+pub no_difference : (seed log2_bits hashes : ℕ) (values others : List (List ℕ))
+    (start table start_other other : Table) →
+    start ≡ empty_table seed log2_bits hashes → InsertsAll values start table →
+    start_other ≡ empty_table seed log2_bits hashes → InsertsAll others start_other other →
+    (part : Difference) → IsFirstDifference table other part → ⊥
+no_difference seed log2_bits hashes values others start table start_other other is_empty all is_empty_other
+    all_other part differ =
+    let back = turned start table (all_alike values start table all) in
+    let one_start = same (is_empty ∙ sym is_empty_other) in
+    let onward = chained start start_other other one_start (all_alike others start_other other all_other) in
+    refuted part differ (chained table start other back onward)
+  where
+    same : {a b : Table} → a ≡ b → AreAlike a b
+    same e = record {
+      seed = ap (λ t. t.seed) e;
+      log2_bits = ap (λ t. t.log2_bits) e;
+      hashes = ap (λ t. t.hashes) e;
+    }
+
+    refuted : (part : Difference) → IsFirstDifference table other part → AreAlike table other → ⊥
+    refuted Seed differ alike = differ alike.seed
+    refuted Log2Bits differ alike = differ.1 alike.log2_bits
+    refuted Hashes differ alike = differ.2 alike.hashes
 
 -- inserts, and then others
 pub inserts_append : (values others : List (List ℕ)) (before next after : Table) →

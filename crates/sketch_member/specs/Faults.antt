@@ -33,12 +33,12 @@ pub record Step : Type 1 where
   pub Holds : Type 0
   pub fault : Fault
 
--- with so many bytes the step passes
+-- with this number of bytes the step passes
 abbrev pub Passes : ℕ → Step → Type 0
 Passes count step = (step.needs ≤ count) × step.Holds
 
--- with so many bytes the step fails, by this fault: bytes are missing, or else what has to hold
--- does not
+-- With this number of bytes the step fails by this fault: there are fewer bytes than it needs, or
+-- what has to hold does not.
 abbrev pub Fails : ℕ → Step → Fault → Type 0
 Fails count step fault = ((count < step.needs) × (fault ≡ HeaderEnds))
     ⊎ ((step.needs ≤ count) × (step.Holds → ⊥) × (fault ≡ step.fault))
@@ -61,13 +61,13 @@ FirstFault count steps error =
 -- ---- the steps of the reading, in order
 
 -- the header's length, of the preamble longs in byte 0
-abbrev pub header : List ℕ → ℕ
-header bytes = 8 * slice_index bytes 0
+abbrev pub header_length : List ℕ → ℕ
+header_length bytes = 8 * slice_index bytes 0
 
 -- the number that stands for the count: the header's bytes after the seed, which are none in
 -- version 1
 abbrev pub count_number : List ℕ → ℕ
-count_number bytes = le (take (header bytes - 16) (drop 16 bytes))
+count_number bytes = le (take (header_length bytes - 16) (drop 16 bytes))
 
 -- that the bytes are a table, of version 1 or 2
 abbrev pub kind_steps : List ℕ → List Step
@@ -124,7 +124,7 @@ seed_step = record { needs = 16; Holds = Unit {0}; fault = HeaderEnds }
 -- that the header is there, and a count that is not known is zero
 abbrev pub count_step : List ℕ → Step
 count_step bytes = record {
-  needs = header bytes;
+  needs = header_length bytes;
   Holds = slice_index bytes 5 ≡ 0 → count_number bytes ≡ 0;
   fault = UnknownCount;
 }
@@ -135,24 +135,24 @@ number_steps bytes = flag_step bytes ∷ seed_step ∷ count_step bytes ∷ []
 abbrev pub header_steps : List ℕ → List Step
 header_steps bytes = kind_steps bytes ++ (size_steps bytes ++ number_steps bytes)
 
--- that as many bytes are left after a header as the bits need, and no more
+-- that as many bytes are left from `start` on as the bits need, and no more
 abbrev pub bits_steps : List ℕ → ℕ → ℕ → List Step
-bits_steps bytes header need =
+bits_steps bytes start need =
     record {
-      needs = header;
-      Holds = need ≤ length bytes - header;
-      fault = MissingBits need (length bytes - header);
+      needs = start;
+      Holds = need ≤ length bytes - start;
+      fault = MissingBits need (length bytes - start);
     }
     ∷ record {
-      needs = header;
-      Holds = length bytes - header ≤ need;
-      fault = TrailingBytes (length bytes - header - need);
+      needs = start;
+      Holds = length bytes - start ≤ need;
+      fault = TrailingBytes (length bytes - start - need);
     }
     ∷ []
 
 abbrev pub steps : List ℕ → List Step
 steps bytes = header_steps bytes
-    ++ bits_steps bytes (header bytes) (byte_count (slice_index bytes 3))
+    ++ bits_steps bytes (header_length bytes) (byte_count (slice_index bytes 3))
 
 -- ---- the steps of other calls
 

@@ -1,10 +1,10 @@
 -- What a call does to bytes of version 2.
-use Rattle.std.specs.Prelude.{◌≡◌, ℕ, List, length}
+use Rattle.std.specs.Prelude.{◌≡◌, ℕ, List, ◌++◌, codes, length}
 use Rattle.sketch_member.specs.declared.fault.MergeFault.{MergeFault}
 use Rattle.sketch_member.specs.declared.fault.MergeFault.TheVariants.{Into, From, Unlike}
-use Rattle.sketch_member.specs.Faults.{IsFirstFault, view_steps}
+use Rattle.sketch_member.specs.Faults.{IsFirstFault, fault_text, view_steps}
 use Rattle.sketch_member.specs.Form.{form2}
-use Rattle.sketch_member.specs.Merge.{IsFirstDifference}
+use Rattle.sketch_member.specs.Merge.{IsFirstDifference, part_name, tables_differ_text}
 use Rattle.sketch_member.specs.Table.{Table, IsTable}
 
 -- the bytes of a table become those of another, and the two are in this relation
@@ -22,3 +22,9 @@ IsMergeFault into from (From fault) = (table : Table) × IsTable table × (into 
 IsMergeFault into from (Unlike part) = (table : Table) × (other : Table)
     × IsTable table × IsTable other × (into ≡ form2 table) × (from ≡ form2 other)
     × IsFirstDifference table other part
+
+-- what a fault of a merge prints
+abbrev pub merge_fault_text : MergeFault → List ℕ
+merge_fault_text (Into fault) = codes "table merged into: " ++ fault_text fault
+merge_fault_text (From fault) = codes "table merged from: " ++ fault_text fault
+merge_fault_text (Unlike part) = tables_differ_text (part_name part)

@@ -54,8 +54,8 @@ bytes_seeded = 3 ∷ 2 ∷ 200 ∷ 6 ∷ 1 ∷ replicate 3 0 ++ 2 ∷ 1 ∷ repl
 abbrev pub never : Step
 never = record { needs = 1; Holds = ⊥; fault = Reserved }
 
-abbrev pub neither : Step
-neither = record { needs = 1; Holds = ⊥; fault = UnknownCount }
+abbrev pub never_other : Step
+never_other = record { needs = 1; Holds = ⊥; fault = UnknownCount }
 
 -- a step that any byte passes
 abbrev pub always : Step
@@ -91,7 +91,7 @@ pub record WorkedValues : Type 0 where
   pub ends : Fails 0 never HeaderEnds
   pub ends_so_alone : (fault : Fault) → Fails 0 never fault → fault ≡ HeaderEnds
   pub first : IsFirstFault 1 (always ∷ never ∷ []) Reserved
-  pub later : IsFirstFault 1 (never ∷ neither ∷ []) UnknownCount → ⊥
+  pub later : IsFirstFault 1 (never ∷ never_other ∷ []) UnknownCount → ⊥
   pub first_fault : FirstFault 1 (always ∷ never ∷ [])
       (error_of InvalidData (codes "reserved bytes are not zero"))
   pub other_kind : FirstFault 1 (always ∷ never ∷ [])

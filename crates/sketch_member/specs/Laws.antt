@@ -23,8 +23,7 @@ abbrev pub StandsFor : Table → List (List ℕ) → Type 0
 StandsFor table values =
     (i : ℕ) → IsSet table.bits i ↔ ((fed : List ℕ) × Contains values fed × IsIndex table fed i)
 
--- the count after so many inserts into a table of none: their number, or the greatest word where
--- that is less
+-- the count after n inserts into an empty table: n, or the greatest word if that is less
 abbrev pub count_after : ℕ → Option ℕ
 count_after n = Some (min n (2 ^ 64 - 1))
 

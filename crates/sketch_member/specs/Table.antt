@@ -18,7 +18,7 @@ pub record Table : Type 0 where
 abbrev pub IsSet : List ℕ → ℕ → Type 0
 IsSet bits i = digit (slice_index bits (i / 8)) (i % 8) ≡ 1
 
--- how many bytes so many bits fill
+-- how many bytes 2 ^ log2_bits bits fill
 abbrev pub byte_count : ℕ → ℕ
 byte_count log2_bits = 2 ^ log2_bits / 8
 

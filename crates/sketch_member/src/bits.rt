@@ -31,8 +31,9 @@ pub(crate) fn set_all(bits: &mut [u8], other: &[u8])
     }
 }
 
-// Clears all bits, from both ends: of a loop from one, LLVM makes a call of the C library, which
-// nothing else here needs. The bytes may be of memory that was never written, so they are not read.
+// Clears all bits. The loop goes from both ends: one that goes from one end LLVM turns into a call
+// of `memset`, and nothing else here needs the C library. The bytes may be of memory that was never
+// written, so they are not read.
 pub(crate) fn clear(bits: &mut [u8])
     ensures { bits.new ≡ replicate (length bits.old) 0 }
 {

@@ -3,6 +3,7 @@
 ghost use Rattle.std.specs.Prelude.{Some};
 ghost use Rattle.datasketches.specs.Refusals.{Refuses};
 ghost use Rattle.sketch_member.specs.Faults.{fault_text};
+ghost use Rattle.sketch_member.specs.InPlace.{merge_fault_text};
 
 use crate::header::Difference;
 use crate::table::MEMBER;
@@ -93,6 +94,22 @@ impl fmt::Display for Fault {
         }
     }
 }
+
+impl fmt::Display for MergeFault {
+    ghost output = { λ fault. Some (merge_fault_text fault) };
+
+    fn fmt<W: fmt::Write>(&self, f: &mut fmt::Formatter<W>) -> fmt::Result {
+        match self {
+            MergeFault::Into(fault) => write!(f, "table merged into: {fault}"),
+            MergeFault::From(fault) => write!(f, "table merged from: {fault}"),
+            MergeFault::Unlike(part) => write!(f, "tables differ: {part}"),
+        }
+    }
+}
+
+impl std::error::Error for Fault {}
+
+impl std::error::Error for MergeFault {}
 
 impl Fault {
     // The error that tells of the fault, or that its text found no memory.

@@ -18,7 +18,7 @@ pub(crate) struct Header {
     pub(crate) seed: u64,
     pub(crate) log2_bits: u8,
     pub(crate) hashes: u8,
-    // None where the table was read from bytes without a count
+    // None where this table, or one merged into it, was read from bytes without a count
     pub(crate) count: Option<u64>,
 }
 

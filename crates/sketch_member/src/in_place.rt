@@ -1,7 +1,7 @@
 //! Tables of version 2 that are changed where their bytes lie, as in a file that is mapped.
 //!
-//! Each call checks the header, makes no pass over the bits to do so, and takes no memory. What it
-//! refuses it leaves as it was.
+//! `insert` and `merge` check the header, and look at no bits to do so. No call takes memory. A
+//! refused call changes nothing.
 
 ghost use Rattle.std.specs.Prelude.{◌≡◌, ◌+◌, length, MatchOption, MatchResult};
 ghost use Rattle.sketch_member.specs.Faults.{IsFirstFault, init_steps, view_steps};
@@ -36,8 +36,9 @@ pub fn size(log2_bits: u8) -> Option<usize>
 ///
 /// # Errors
 ///
-/// Where `log2_bits` is not 6 to 20, then where `hashes` is not 1 to 16, and then where the bytes
-/// are not as many as such a table has.
+/// [`Fault::Log2Bits`] where `log2_bits` is not 6 to 20, and then [`Fault::Hashes`] where `hashes`
+/// is not 1 to 16. Then, by the number of bytes, [`Fault::HeaderEnds`] below 24,
+/// [`Fault::MissingBits`] below the size of such a table, and [`Fault::TrailingBytes`] above it.
 pub fn init(bytes: &mut [u8], seed: u64, log2_bits: u8, hashes: u8) -> Result<(), Fault>
     ensures { MatchResult result
         (λ _. IsLog2Bits log2_bits × IsHashes hashes
@@ -82,8 +83,9 @@ pub fn insert<T: Hash>(bytes: &mut [u8], value: &T) -> Result<(), Fault>
 ///
 /// # Errors
 ///
-/// Where `into` is not a table, then where `from` is not, as those of
-/// [`TableView::new`](crate::TableView::new), and then where the two are not alike.
+/// [`MergeFault::Into`] where `into` is not a table, and then [`MergeFault::From`] where `from` is
+/// not, with the fault that [`TableView::new`](crate::TableView::new) answers. Then
+/// [`MergeFault::Unlike`] where seed or sizes differ.
 pub fn merge(into: &mut [u8], from: &[u8]) -> Result<(), MergeFault>
     ensures { MatchResult result
         (λ _. (other : Table) × IsTable other × (from.now ≡ form2 other)

@@ -5,6 +5,7 @@ ghost use Rattle.datasketches.specs.ErrorValue.{memory_error};
 ghost use Rattle.datasketches.specs.Refusals.{Refuses};
 ghost use Rattle.sketch_member.specs.Faults.{AllPass, FirstFault, IsFirstFault, fault_text, init_steps, steps};
 ghost use Rattle.sketch_member.specs.Form.{IsForm, form1, form2};
+ghost use Rattle.sketch_member.specs.Limits.{IsNewError};
 ghost use Rattle.sketch_member.specs.Merge.{AreAlike};
 ghost use Rattle.sketch_member.specs.Table.{IsMember, IsTable, Table, empty_table};
 ghost use Rattle.sketch_member.specs.Laws.{FormLaw, InsertLaw, InsertsAll, IsMadeOf, MergeLaw};
@@ -14,13 +15,13 @@ use datasketches::error::{Error, ErrorKind};
 use datasketches::hash::Hash;
 use std::alloc::Global;
 
-/// The bytes of a table are those of no other, and they are read.
+/// Bytes are the form of one table at most, and the checks accept the bytes of each table.
 pub fn form_law()
     ensures { FormLaw }
 {}
 
-/// A table is a function of the values that were inserted, in any order, and it contains each of
-/// them.
+/// Tables of one seed and the same sizes have the same bits if the same values were inserted, in
+/// any order, and are equal if their counts are too. A table contains each of its values.
 pub fn insert_law()
     ensures { InsertLaw }
 {}
@@ -45,8 +46,8 @@ pub fn read_back(alloc: Global, table: &MemberTable) -> Result<MemberTable, Erro
     MemberTable::from_bytes(alloc, &bytes)
 }
 
-/// The table that is read from bytes, written and read again: it is the one that the bytes are. Of
-/// bytes of version 1 it contains what their table does, and it has no count.
+/// Reads a table from bytes, writes it, and reads it again. This gives the table that was in the
+/// bytes; of bytes of version 1 without a count.
 ///
 /// # Errors
 ///
@@ -85,6 +86,7 @@ pub fn merge_both<T: Hash>(
         × AreAlike (empty_table seed log2_bits hashes) whole
         × IsMadeOf (map T.fed first.now ++ map T.fed second.now) whole
         × (both.1.items ≡ form2 whole)) }
+    ensures refused { IfErr result (IsNewError log2_bits hashes) }
 {
     merge_law();
     let mut merged = MemberTable::new(alloc, seed, log2_bits, hashes)?;
@@ -112,8 +114,8 @@ fn insert_all<T: Hash>(table: &mut MemberTable, values: &[T])
 ///
 /// # Errors
 ///
-/// As those of [`in_place::init`], all `InvalidArgument`. Memory may run out too: `OutOfMemory`,
-/// with no message.
+/// As those of [`in_place::init`], all `InvalidArgument`; `bytes` are then unchanged. Memory may
+/// run out too: `OutOfMemory`, with no message. `bytes` are then the table, or unchanged.
 pub fn insert_both<T: Hash>(
     alloc: Global,
     bytes: &mut [u8],
@@ -127,7 +129,7 @@ pub fn insert_both<T: Hash>(
         × AreAlike (empty_table seed log2_bits hashes) whole
         × IsMadeOf (map T.fed values.now) whole
         × (made.items ≡ form2 whole)) }
-    ensures refused { IfErr result (λ error. ((fault : Fault)
+    ensures refused { IfErr result (λ error. ((bytes.new ≡ bytes.old) × (fault : Fault)
         × IsFirstFault (length bytes.old) (init_steps log2_bits hashes bytes.old) fault
         × Refuses ErrorKind.InvalidArgument (fault_text fault) error)
         ⊎ (error ≡ memory_error)) }
@@ -151,7 +153,8 @@ fn insert_all_in_place<T: Hash>(
     ensures { MatchResult result
         (λ _. (made : Table) × IsTable made × (bytes.new ≡ form2 made)
         × InsertsAll (map T.fed values.now) (empty_table seed log2_bits hashes) made)
-        (λ fault. IsFirstFault (length bytes.old) (init_steps log2_bits hashes bytes.old) fault) }
+        (λ fault. (bytes.new ≡ bytes.old)
+        × IsFirstFault (length bytes.old) (init_steps log2_bits hashes bytes.old) fault) }
 {
     in_place::init(bytes, seed, log2_bits, hashes)?;
     for value in values {

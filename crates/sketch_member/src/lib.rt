@@ -1,7 +1,7 @@
-//! A table of members: it tells of a value whether it was inserted, is never wrong about one that
-//! was, and may be wrong about one that was not.
+//! A table of members, which is a Bloom filter: it tells of a value whether it was inserted, is
+//! never wrong about one that was, and may be wrong about one that was not.
 //!
-//! What it tells depends on nothing but the bytes that the values feed.
+//! Of a value it sees nothing but the bytes that the value feeds.
 #![tactic(auto)]
 
 mod bits;

@@ -6,7 +6,7 @@ ghost use Rattle.datasketches.specs.Refusals.{Refuses};
 ghost use Rattle.sketch_member.specs.Faults.{AllPass, FirstFault, steps};
 ghost use Rattle.sketch_member.specs.Form.{IsForm};
 ghost use Rattle.sketch_member.specs.Header.{table_of};
-ghost use Rattle.sketch_member.specs.Limits.{IsLog2Bits, IsHashes, invalid_log2_bits_text, invalid_hashes_text};
+ghost use Rattle.sketch_member.specs.Limits.{IsHashes, IsLog2Bits, IsNewError};
 ghost use Rattle.sketch_member.specs.Table.{Table, IsTable, empty_table, Inserts, IsMember, IsSet};
 
 use crate::header::Header;
@@ -23,11 +23,11 @@ mod merging;
 pub use self::form::MEMBER;
 pub(crate) use self::form::{HEADER_BYTES, LONGS_1, LONGS_2, has_count, serial_version};
 
-/// A table of members, of 2^`log2_bits` bits.
+/// A table of members, of 2^`log2_bits` bits, for a `log2_bits` of 6 to 20.
 ///
-/// Each value has `hashes` indexes: the XXH64 of what it feeds, under the table's seed and the
-/// seeds that follow it. A value is inserted by setting the bits at its indexes, and contained
-/// where all of them are set. Inserts are counted.
+/// Each value has `hashes` indexes, 1 to 16. Index j is the low `log2_bits` bits of the XXH64 of
+/// the bytes that the value feeds, under the seed plus j modulo 2^64. A value is inserted by
+/// setting the bits at its indexes, and contained where all of them are set. Inserts are counted.
 #[derive(Drop)]
 pub struct MemberTable {
     header: Header,
@@ -54,11 +54,7 @@ impl MemberTable {
         ensures answer { MatchResult result
             (λ table. IsLog2Bits log2_bits × IsHashes hashes
             × (table ≡ empty_table seed log2_bits hashes))
-            (λ error. ((IsLog2Bits log2_bits → ⊥)
-            × Refuses ErrorKind.InvalidArgument (invalid_log2_bits_text log2_bits) error)
-            ⊎ ((IsLog2Bits log2_bits × (IsHashes hashes → ⊥)
-            × Refuses ErrorKind.InvalidArgument (invalid_hashes_text hashes) error)
-            ⊎ (IsLog2Bits log2_bits × IsHashes hashes × (error ≡ memory_error)))) }
+            (IsNewError log2_bits hashes) }
         ensures empty { IfOk result (λ table. (i : ℕ) → IsSet table.bits i → ⊥) }
     {
         let header = match Header::new(seed, log2_bits, hashes) {
@@ -108,7 +104,8 @@ impl MemberTable {
         self.header.contains(&self.bits, value)
     }
 
-    /// How many inserts were counted; None where the table was read from bytes without a count.
+    /// How many inserts were counted. `None` if that is unknown: this table, or one that was merged
+    /// into it, was read from bytes without a count.
     pub fn count(&self) -> Option<u64>
         ensures { result ≡ self.now.count }
     {

@@ -35,7 +35,7 @@ fn assert_same<T: PartialEq + Debug + Drop>(rt: &impl Abort, left: T, right: T)
     assert_eq!(rt; left, right);
 }
 
-/// Asserts it of one case among several.
+/// Asserts that two values are equal, and names the case if they are not.
 fn assert_same_for<T: PartialEq + Debug + Drop>(
     rt: &impl Abort,
     left: T,
@@ -68,8 +68,8 @@ fn assert_refused<R: Abort + Eprint, T: Drop>(rt: &R, answer: Result<T, Error>, 
     assert_same_for(rt, prints(&error, line), true, line);
 }
 
-/// Asserts that an error displays as memory that ran out, and tells the sweep so. It fails a test
-/// that tells so where no request was refused.
+/// Asserts that an error displays as memory that ran out, and writes the line that tells
+/// `.ci/sweep` so. The sweep fails a test that writes it where no request was refused.
 fn assert_out_of_memory<R: Abort + Eprint>(rt: &R, error: &Error) {
     let _ = rt.eprintln("out of memory");
     assert_same(rt, prints(error, "OutOfMemory"), true);

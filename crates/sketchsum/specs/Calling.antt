@@ -17,10 +17,11 @@ outcome_of (Err fault) = Fault fault
 -- one run was made, of 2^32 turns at most, under the algorithm and the seed that the words ask for,
 -- and the outcome tells its result
 pub record RunsOnce (words : List (List ℕ)) (outcome : Outcome)
-    (unread left held holds : Option (List ℕ)) : Type 0 where
+    (unread_before unread_after written_before written_after : Option (List ℕ)) : Type 0 where
   pub algorithm : Algorithm
   pub seed : ℕ
   pub words_ask : AskFor words algorithm seed
   pub result : Result (Unit {0}) RunFault
   pub end : outcome ≡ outcome_of result
-  pub run : Runs algorithm seed (2 ^ 32) result unread left held holds
+  pub run : Runs algorithm seed (2 ^ 32) result
+      unread_before unread_after written_before written_after

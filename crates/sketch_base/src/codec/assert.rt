@@ -16,9 +16,12 @@ use std::io;
 use std::ops::Bound;
 use std::ops::Bound::{Excluded, Included, Unbounded};
 
-/// The refusal of data that ended too early, in the part that the tag names, as the error says.
+/// The error for data that ended too early in the part that the tag names: `insufficient data
+/// (TAG): TEXT`, with the text that `error` prints. No clause says that the text is the error's;
+/// that is tested.
 ///
-/// Where the text finds no memory, the error is of kind `OutOfMemory`, with no message.
+/// Where memory runs out or `error` fails to print, the error is of kind `OutOfMemory`, with no
+/// message.
 pub fn insufficient_data(alloc: Global, tag: &'static str, error: io::Error) -> Error
     ensures { (text : List ℕ)
         × Refuses ErrorKind.InvalidData (insufficient_data_of_text tag.entry.now text) result }

@@ -11,8 +11,8 @@ use std::{fmt, io};
 
 /// Reads numbers from a borrowed slice of bytes, without copying it.
 ///
-/// A read that finds too few bytes is refused with the kind `UnexpectedEof`, and then nothing
-/// remains to be read.
+/// A read that finds too few bytes fails with the kind `UnexpectedEof`, or with [`Short`] where it
+/// reads a list. Nothing remains to be read then.
 #[derive(Drop)]
 pub struct SketchSlice<'a> {
     slice: &'a [u8],
@@ -69,7 +69,8 @@ impl SketchSlice<'_> {
     ///
     /// # Errors
     ///
-    /// Where fewer bytes remain than the buffer holds: the buffer is as it was.
+    /// Where fewer bytes remain than the buffer holds: `UnexpectedEof`. The buffer is as it was,
+    /// and nothing remains to be read.
     pub fn read_exact(&mut self, buf: &mut [u8]) -> io::Result<()>
         ensures read { Reads (length buf.old) (λ _. tt) self.old result self.new }
         ensures filled { buf.new
@@ -219,7 +220,7 @@ impl SketchSlice<'_> {
     /// # Errors
     ///
     /// At the first item for which too few bytes remain: how many were read. Their places are
-    /// filled, the others are as they were.
+    /// filled, the others are as they were, and nothing remains to be read.
     #[tactic(auto, using(crate::proofs::ItemLemmas::one_item_more))]
     pub fn read_items(&mut self, kinds: &[Kind], out: &mut [Item]) -> Result<(), Short>
         requires { length kinds.now ≡ length out.old }

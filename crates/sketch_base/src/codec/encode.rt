@@ -12,8 +12,8 @@ use std::marker::Model;
 
 /// Writes numbers into bytes that grow as they are needed.
 ///
-/// A write is refused only where there is no room and memory for more runs out, and then it
-/// changes nothing.
+/// A write is refused only where there is no room and memory for more runs out. It then changes
+/// nothing; a refused [`SketchBytes::write_items`] keeps the items before the refused one.
 #[derive(Drop)]
 pub struct SketchBytes {
     bytes: Vec<u8>,

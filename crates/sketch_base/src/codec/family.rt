@@ -69,7 +69,7 @@ impl Family {
         max_pre_longs: 5,
     };
 
-    /// Relative error quantiles, which are exact at one end of the ranks.
+    /// Relative error quantiles, whose error is smallest at one end of the ranks.
     pub const REQ: Family = Family {
         id: 17,
         name: "REQ",
@@ -93,7 +93,7 @@ impl Family {
         max_pre_longs: 2,
     };
 
-    /// Bloom filters, which tell members.
+    /// Bloom filters, which tell whether a value may have been inserted.
     pub const BLOOMFILTER: Family = Family {
         id: 21,
         name: "BLOOMFILTER",

@@ -30,8 +30,8 @@ pub(crate) fn assert_line_or_refusal<R: Abort + Eprint>(rt: &R, error: &Error, l
     assert_same_for(rt, has_line(error, line), true, line);
 }
 
-/// Tells the sweep that a request for memory was refused. It fails a test that tells so where none
-/// was.
+/// Writes the line that tells `.ci/sweep` of a refused request for memory. The sweep fails a test
+/// that writes it where none was refused.
 pub(crate) fn tell_refusal(rt: &impl Eprint) {
     let _ = rt.eprintln("out of memory");
 }

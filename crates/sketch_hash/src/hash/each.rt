@@ -38,7 +38,8 @@ impl XxHash64 {
     /// The 64-bit hash of each key of a column under a seed, each at its place of `out`.
     ///
     /// The column has as many keys as `out` has places. The key at a place is the bytes of `bytes`
-    /// from the offset there up to the next offset, as Apache Arrow lays strings out.
+    /// from the offset there up to the next offset, as Apache Arrow lays strings out. Arrow's
+    /// offsets are signed: read as unsigned, a negative one is past the end.
     ///
     /// # Errors
     ///
@@ -86,11 +87,11 @@ impl MurmurHash3X64128 {
     /// The 128-bit hash of each key of a column under a seed, each as its first and its second word
     /// at its place of `out`.
     ///
-    /// The column is that of [`XxHash64::hash_each`].
+    /// The column is laid out as for [`XxHash64::hash_each`].
     ///
     /// # Errors
     ///
-    /// As of [`XxHash64::hash_each`].
+    /// The same as of [`XxHash64::hash_each`].
     #[inline(always)]
     pub fn hash_each<O: Offset>(
         bytes: &[u8],

@@ -45,9 +45,9 @@ impl Model for MurmurHash3X64128 {
       waiting = low_bytes h.count (h.low + h.high * 2 ^ 64);
     } };
 
-    // The first eight waiting bytes are in `low`, those after them in `high`, absent ones as
-    // zeros.
-    ghost invariant = { λ h. (h.count < 16)
+    // As many bytes wait as the total has beyond its whole blocks. The first eight of them are in
+    // `low`, those after them in `high`, absent ones as zeros.
+    ghost invariant = { λ h. (h.count ≡ h.total % 16)
         × (h.low < 256 ^ min h.count 8) × (h.high < 256 ^ (h.count - 8)) };
 }
 
@@ -83,8 +83,6 @@ impl MurmurHash3X64128 {
     }
 
     /// The 128-bit hash of bytes under a seed, as its first and its second word, in one call.
-    ///
-    /// It reads the bytes where they lie, which takes less time than a hasher for short keys.
     #[inline(always)]
     #[tactic(auto, unfolding(crate::specs::Murmur::murmur))]
     pub fn hash(bytes: &[u8], seed: u64) -> (u64, u64)
@@ -123,7 +121,7 @@ impl MurmurHash3X64128 {
             self.count = count;
         } else {
             (self.h1, self.h2) = step(self.h1, self.h2, k1, k2);
-            // What fell out of the block.
+            // The bytes that did not fit into the block.
             (self.low, self.high) = split_words(number >> (8 * (BLOCK - self.count)));
             self.count = count - BLOCK;
         }
@@ -137,7 +135,7 @@ impl MurmurHash3X64128 {
         ensures { self.new ≡ murmur_after self.old bytes.now }
     {
         self.total = self.total.wrapping_add(bytes.len() as u64);
-        // Of the first 16 bytes, those after the block fall out.
+        // The shift drops those of the first 16 bytes that do not fit into the block.
         let first = read_u128_le(&bytes[..BLOCK]) << (8 * self.count);
         let (k1, k2) = split_words(join_words(self.low, self.high).wrapping_add(first));
         let (h1, h2) = step(self.h1, self.h2, k1, k2);
@@ -178,6 +176,7 @@ impl Hasher for MurmurHash3X64128 {
         self.absorb(bytes);
     }
 
+    /// The first word of [`MurmurHash3X64128::finish128`].
     #[inline(always)]
     fn finish(&self) -> u64
         ensures answer { result ≡ (murmur_answer self.now).0 }

@@ -1,4 +1,5 @@
-//! The 16-bit hash of a seed, which tells whether two sketches were made with one seed.
+//! The 16-bit hash of a seed. Sketches with different seed hashes were made with different seeds;
+//! equal seed hashes do not show that the seeds are equal.
 
 ghost use Rattle.std.specs.Prelude.{◌≡◌, ◌≢◌, MatchResult};
 ghost use Rattle.sketch_base.specs.Refusals.{Refuses};
@@ -39,11 +40,12 @@ fn zero_seed_hash(alloc: Global, seed: u64, kind: ErrorKind) -> Error
     Error::from_text(alloc, kind, text)
 }
 
-/// Accepts exactly the expected seed hash. The name says whose it is.
+/// Accepts `actual` exactly if it is `expected`.
 ///
 /// # Errors
 ///
-/// At any other: of kind `kind`, or `OutOfMemory` where the text finds no memory.
+/// At any other: of kind `kind`, with `name`, the sketch's, in its text; or `OutOfMemory` where the
+/// text finds no memory.
 pub fn check_seed_hash(
     alloc: Global,
     expected: u16,

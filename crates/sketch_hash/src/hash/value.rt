@@ -1,5 +1,5 @@
-//! Values that are fed to hashers as the same bytes by every implementation of the library, in any
-//! language.
+//! Values, and the bytes that they feed to a hasher. These do not depend on the machine, so that
+//! sketches in other languages can feed the same.
 //!
 //! * [`natural_extend`]: integers as eight bytes, by their value.
 //! * [`sign_extend`]: integers as eight bytes, their highest bit taken for a sign.
@@ -40,7 +40,8 @@ pub trait HashStrategy<T: Eq> {
     ghost respects_eq: { (x y : T) → IsTrue (T.eq x y) → fed x ≡ fed y };
 }
 
-/// A value that is fed to hashers by the strategy `S`. In all else it behaves as the value itself.
+/// A value that is fed to hashers by the strategy `S`. It compares, clones, prints and dereferences
+/// as the value itself.
 #[derive(Drop)]
 #[derive_where(Clone, Copy, PartialEq, Eq, PartialOrd, Ord; T)]
 pub struct Value<T, S> {

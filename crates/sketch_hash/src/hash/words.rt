@@ -59,8 +59,8 @@ pub(crate) fn xor_shift(word: u64, places: u32) -> u64
 
 /// A word rotated to the left.
 ///
-/// Beside a product LLVM makes a second product of one of the rotation's shifts. In a function of
-/// its own, and with a constant number of places, it sees the rotation first.
+/// Next to a multiplication LLVM turns a shift of the rotation into a second multiplication. In a
+/// function of its own, and with a constant number of places, it sees the rotation first.
 pub(crate) fn rotate<const PLACES: u32>(word: u64) -> u64
     requires above { 0 < PLACES }
     requires below { PLACES < 64 }

@@ -5,9 +5,9 @@ ghost use Rattle.std.specs.List.{fold};
 ghost use Rattle.sketch_base.specs.Bytes.{eight};
 ghost use Rattle.sketch_hash.specs.Pieces.{State};
 ghost use Rattle.sketch_hash.specs.Words.{plus};
-ghost use Rattle.sketch_hash.specs.Xxh64.{Lanes, prime5, lanes_start, round, merge_round, merge, eight_step, four_step, byte_step, tail_step, steps, avalanche, xxh64, xxh64_after, xxh64_answer, Xxh64Stands};
+ghost use Rattle.sketch_hash.specs.Xxh64.{Lanes, prime5, lanes_start, round, merge_round, merge, eight_step, four_step, byte_step, tail_step, steps, avalanche, xxh64, xxh64_after, xxh64_answer, Xxh64Stands, each_lane};
 ghost use Rattle.sketch_hash.specs.ScalarLanes.{lanes_of_scalars};
-ghost use Rattle.sketch_hash.specs.Lanes.{each_lane, lanes_of};
+ghost use Rattle.sketch_hash.specs.Lanes.{lanes_of};
 ghost use Rattle.sketch_hash.specs.Xxh64WriteLemmas.{xxh64_after-append, xxh64_after-empty};
 
 mod lanes;
@@ -29,8 +29,9 @@ const STRIPE: usize = 32;
 
 /// XXH64: a fast hash of 64 bits for data that no adversary chooses.
 ///
-/// The number of bytes is counted modulo 2^64, and the long form of the hash is chosen by that
-/// count.
+/// The number of bytes is counted modulo 2^64, and the count chooses between the forms of the hash
+/// for inputs of fewer than 32 bytes and for longer ones. So an input of 2^64 to 2^64 + 31 bytes
+/// has the form for short ones.
 #[derive(Drop)]
 pub struct XxHash64 {
     seed: u64,
@@ -49,7 +50,7 @@ impl Model for XxHash64 {
       waiting = take h.count h.buffer;
     } };
 
-    ghost invariant = { λ h. h.count < 32 };
+    ghost invariant = { λ h. h.count ≡ h.total % 32 };
 }
 
 impl XxHash64 {
@@ -199,7 +200,8 @@ impl XxHash64 {
         self.count = last.len();
     }
 
-    // Takes bytes that go beyond the stripe that is begun. The lanes leave the vector once.
+    // Takes bytes that go beyond the stripe that is begun. The lanes are moved from the vector to
+    // four words once.
     #[inline(never)]
     fn complete_and_consume(&mut self, bytes: &[u8])
         requires short { length self.old.waiting < 32 }
@@ -258,8 +260,8 @@ impl Hasher for XxHash64 {
     ghost empty_write = { xxh64_after-empty };
 }
 
-/// The hash of one key of many. A long key takes no call, and the last words go through a loop:
-/// where lengths vary, processors mispredict fewer of its branches.
+/// The hash of one key of many. Long keys are hashed in line too, and the last words go through a
+/// loop: where lengths vary, processors mispredict fewer of its branches.
 #[inline(always)]
 #[tactic(auto, using(crate::proofs::Xxh64Lemmas::of_short, crate::proofs::Xxh64Lemmas::of_long))]
 pub(super) fn hash_one_of_many(bytes: &[u8], seed: u64) -> u64
@@ -288,7 +290,7 @@ fn hash_long(bytes: &[u8], seed: u64) -> u64
     )
 }
 
-// The last mixing, after the tail, of which whole stripes leave none.
+// Mixes in the tail, which is empty after whole stripes, and finishes.
 #[inline(always)]
 #[tactic(auto, using(crate::proofs::Xxh64Lemmas::no_steps))]
 fn mix_rest(hash: u64, tail: &[u8]) -> u64

@@ -15,7 +15,7 @@ fn low_bits_of(seed: u64) -> u64 {
 }
 
 #[test]
-fn seed_hashes_of_a_hundred_thousand_seeds(rt: HostRuntime) -> Result<(), Fail> {
+fn seed_hashes_of_many_seeds(rt: HostRuntime) -> Result<(), Fail> {
     let alloc = rt.alloc();
     for low in 0..100_000u64 {
         for seed in [low, low.wrapping_neg(), low ^ (1 << 63), low << 32] {

@@ -11,7 +11,7 @@ use datasketches::codec::SketchBytes;
 use datasketches::codec::family::Family;
 use std::alloc::{AllocError, Global};
 
-/// Tables of members, which tell whether a value was inserted.
+/// Tables of members, which tell whether a value may have been inserted.
 pub const MEMBER: Family = Family {
     id: 200,
     name: "MEMBER",

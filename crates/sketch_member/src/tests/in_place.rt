@@ -40,7 +40,7 @@ fn views_of_every_size_are_those_of_tables(rt: HostRuntime) -> Result<(), Fail> 
 }
 
 #[test]
-fn faults_and_their_copies_show_their_names(rt: HostRuntime) -> Result<(), Fail> {
+fn faults_and_their_copies_print_and_show_their_names(rt: HostRuntime) -> Result<(), Fail> {
     let alloc = rt.alloc();
     for n in 0..5000usize {
         let fault = Fault::TrailingBytes(n);
@@ -49,13 +49,36 @@ fn faults_and_their_copies_show_their_names(rt: HostRuntime) -> Result<(), Fail>
         let shown = format!(in alloc; "TrailingBytes({n})")?;
         assert_same(&rt, text.as_str(), shown.as_str());
     }
-    for (part, shown) in [
-        (Difference::Seed, "Unlike(Seed)"),
-        (Difference::Log2Bits, "Unlike(Log2Bits)"),
-        (Difference::Hashes, "Unlike(Hashes)"),
+    for (fault, shown, printed) in [
+        (
+            MergeFault::Unlike(Difference::Seed),
+            "Unlike(Seed)",
+            "tables differ: seed",
+        ),
+        (
+            MergeFault::Unlike(Difference::Log2Bits),
+            "Unlike(Log2Bits)",
+            "tables differ: log2 bits",
+        ),
+        (
+            MergeFault::Unlike(Difference::Hashes),
+            "Unlike(Hashes)",
+            "tables differ: hashes",
+        ),
+        (
+            MergeFault::Into(Fault::TrailingBytes(7)),
+            "Into(TrailingBytes(7))",
+            "table merged into: trailing bytes: 7",
+        ),
+        (
+            MergeFault::From(Fault::Version1),
+            "From(Version1)",
+            "table merged from: unsupported serial version: expected 2, got 1",
+        ),
     ] {
-        let text = format!(in alloc; "{:?}", MergeFault::Unlike(part))?;
-        assert_same(&rt, text.as_str(), shown);
+        let text = format!(in alloc; "{fault:?} {fault}")?;
+        let wanted = format!(in alloc; "{shown} {printed}")?;
+        assert_same(&rt, text.as_str(), wanted.as_str());
     }
     Ok(())
 }

@@ -52,8 +52,8 @@ pub const KINDS: [ErrorKind; 41] = [
     ErrorKind::Uncategorized,
 ];
 
-/// Gives at most `most` bytes at a read. Where it has a fault, it fails once, with so many bytes
-/// left, and then goes on.
+/// Gives at most `most` bytes at a read. Where it has a fault, it fails once, when the number of
+/// bytes beside it is left, and then goes on.
 #[derive(Drop)]
 pub struct SlowReader<'a> {
     bytes: &'a [u8],
@@ -118,7 +118,7 @@ pub struct NarrowWriter {
 }
 
 impl NarrowWriter {
-    /// A writer with room for so many bytes. Its first flush fails where it has a fault.
+    /// A writer with room for `room` bytes. Its first flush fails where it has a fault.
     pub fn new(
         alloc: Global,
         room: usize,

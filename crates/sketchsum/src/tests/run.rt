@@ -142,7 +142,7 @@ fn run_or_nothing(input: &mut &[u8], output: &mut Vec<u8>) -> Result<(), RunFaul
     run(Algorithm::Xx, 0, input, output)
 }
 
-// Whether so many turns were enough: if not, none is left.
+// Whether `turns` turns were enough, and how many are left: none, if they were not.
 fn are_enough(turns: u64, input: &mut &[u8], output: &mut Vec<u8>) -> (bool, u64)
     ensures { result.0 ≡ false → result.1 ≡ 0 }
 {

@@ -13,3 +13,8 @@ returns-clause-made c =
     let x : c.args.x < 2 ^ 64 = search rules in
     let read : c.args.read < 2 ^ 64 = search rules in
     (c.xxh64_step_laws.ensures.step_of_word _ read).reached _ x
+
+pub returns-clause-made_by_all : goal.returns-clause-made_by_all
+returns-clause-made_by_all c = λ list steps.
+    let x : c.args.x < 2 ^ 64 = search rules in
+    (c.xxh64_step_laws.ensures.steps_of_word list steps).reached _ x

@@ -110,7 +110,7 @@ fn is_between(start: Bound<u8>, end: Bound<u8>, x: u8) -> bool {
 }
 
 #[test]
-fn every_start_and_end_displays(rt: HostRuntime) -> Result<(), Fail> {
+fn starts_and_ends_display(rt: HostRuntime) -> Result<(), Fail> {
     let alloc = rt.alloc();
     for a in 0..=255 {
         for b in [0, 1, 6, 7, 8, 128, 255, a] {
@@ -127,7 +127,7 @@ fn every_start_and_end_displays(rt: HostRuntime) -> Result<(), Fail> {
 }
 
 #[test]
-fn refuses_beside_every_pair_of_ends(rt: HostRuntime) {
+fn ranges_answer_at_every_start(rt: HostRuntime) {
     for a in 0..=255 {
         for b in 0..=255 {
             for (start, end) in [
@@ -152,7 +152,7 @@ const LONGS: [u8; 40] = [
 ];
 
 #[test]
-fn accepts_the_members_of_every_list(rt: HostRuntime) -> Result<(), Fail> {
+fn accepts_the_members_of_lists_of_40_lengths(rt: HostRuntime) -> Result<(), Fail> {
     let alloc = rt.alloc();
     for count in 0..=LONGS.len() {
         let (expected, _) = LONGS.split_at(count);

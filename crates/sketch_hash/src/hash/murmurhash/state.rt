@@ -9,14 +9,15 @@ use super::{BLOCK, MurmurHash3X64128};
 use crate::hash::copy::copy_small;
 use crate::hash::hasher::Hasher;
 
-/// What a [`MurmurHash3X64128`] holds: a checkpoint of a stream, to be copied, kept and taken up
-/// again.
+/// What a [`MurmurHash3X64128`] holds: a checkpoint of a stream, to be copied, kept and resumed.
 ///
-/// Of `waiting` the first `total % 16` bytes count. Every value is safe to take up.
+/// Of `waiting` the first `total % 16` bytes count. Every value can be resumed.
 #[repr(C)]
 #[derive(Clone, Copy)]
 pub struct MurmurState {
+    /// The first word after the last whole block.
     pub h1: u64,
+    /// The second word after the last whole block.
     pub h2: u64,
     /// The number of bytes so far, modulo 2^64.
     pub total: u64,
@@ -33,11 +34,19 @@ impl MurmurState {
         ensures holds { (seed : ℕ) (before : List ℕ) → MurmurHolds self.old seed before →
             MurmurHolds self.new seed (before ++ bytes.now) }
     {
-        if bytes.len() < BLOCK - (self.total % BLOCK as u64) as usize {
+        if bytes.len() < BLOCK - self.waiting_count() {
             self.buffer_bytes(bytes);
         } else {
             self.consume_blocks(bytes);
         }
+    }
+
+    // How many bytes of `waiting` count.
+    #[inline(always)]
+    fn waiting_count(&self) -> usize
+        ensures { result ≡ self.now.total % 16 }
+    {
+        (self.total % BLOCK as u64) as usize
     }
 
     // Takes bytes that fill no block, in place.
@@ -46,7 +55,7 @@ impl MurmurState {
         requires { self.old.total % 16 + length bytes.now < 16 }
         ensures { murmur_held self.new ≡ murmur_after (murmur_held self.old) bytes.now }
     {
-        let count = (self.total % BLOCK as u64) as usize;
+        let count = self.waiting_count();
         self.total = self.total.wrapping_add(bytes.len() as u64);
         copy_small(&mut self.waiting, count, bytes);
     }
@@ -62,15 +71,14 @@ impl MurmurState {
 }
 
 impl MurmurHash3X64128 {
-    /// The hasher that a state was taken from.
+    /// A hasher that goes on from a state.
     #[inline(always)]
     pub fn resume(state: &MurmurState) -> Self
         ensures held { result ≡ murmur_held state.now }
-        ensures counts { length result.waiting ≡ result.total % 16 }
         ensures stands { (seed : ℕ) (bytes : List ℕ) → MurmurHolds state.now seed bytes →
             MurmurStands result seed bytes }
     {
-        let count = (state.total % BLOCK as u64) as usize;
+        let count = state.waiting_count();
         let (low, high) = split_words(read_front_le(&state.waiting, count));
         MurmurHash3X64128 {
             h1: state.h1,
@@ -85,8 +93,7 @@ impl MurmurHash3X64128 {
     /// The state of this hasher.
     #[inline(always)]
     pub fn state(&self) -> MurmurState
-        ensures held { length self.now.waiting ≡ self.now.total % 16 →
-            murmur_held result ≡ self.now }
+        ensures held { murmur_held result ≡ self.now }
         ensures holds { (seed : ℕ) (bytes : List ℕ) → MurmurStands self.now seed bytes →
             MurmurHolds result seed bytes }
     {

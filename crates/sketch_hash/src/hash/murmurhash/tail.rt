@@ -5,7 +5,7 @@ ghost use Rattle.sketch_base.specs.Bytes.{le, low_bytes};
 
 use crate::hash::words::{read_u16_le, read_u32_le, read_u64_le, read_u128_le};
 
-/// The number of fewer than 16 bytes.
+/// The little-endian number of fewer than 16 bytes.
 #[inline(always)]
 pub(super) fn read_partial_le(bytes: &[u8]) -> u128
     requires { length bytes.now < 16 }
@@ -23,14 +23,14 @@ pub(super) fn read_partial_words(bytes: &[u8]) -> (u64, u64)
 {
     let count = bytes.len();
     if count > 8 {
-        // Of the last eight bytes, those of the first eight fall out.
+        // The shift drops the bytes that the first word has.
         let last = read_u64_le(&bytes[count - 8..]) >> (8 * (16 - count));
         return (read_u64_le(&bytes[..8]), last);
     }
     (read_word_le(bytes), 0)
 }
 
-// The number of at most eight bytes.
+// The little-endian number of at most eight bytes.
 #[inline(always)]
 fn read_word_le(bytes: &[u8]) -> u64
     requires { length bytes.now ≤ 8 }
@@ -53,7 +53,7 @@ fn read_word_le(bytes: &[u8]) -> u64
     }
 }
 
-// The number of `count` bytes, from those of their first and of their last `width` bytes.
+// The number of `count` bytes, from the numbers of their first and of their last `width` bytes.
 #[inline(always)]
 fn combine_overlapping(first: u32, last: u32, width: usize, count: usize) -> u64
     requires width { width ≤ 4 }
@@ -63,7 +63,7 @@ fn combine_overlapping(first: u32, last: u32, width: usize, count: usize) -> u64
     requires last { last < 256 ^ width }
     ensures { result ≡ first + last / 256 ^ (width + width - count) * 256 ^ width }
 {
-    // Of the last bytes, those that `first` has fall out.
+    // The shift drops the bytes that `first` has.
     let behind = u64::from(last) >> (8 * (2 * width - count));
     u64::from(first) | (behind << (8 * width))
 }
@@ -84,7 +84,7 @@ pub(super) fn split_words(number: u128) -> (u64, u64)
     ((number % (1 << 64)) as u64, (number >> 64) as u64)
 }
 
-/// The number of the first `count` bytes of a block, fewer than 16: its lowest bytes are they.
+/// The little-endian number of the first `count` bytes of a block, for a `count` below 16.
 #[inline(always)]
 pub(super) fn read_front_le(block: &[u8; 16], count: usize) -> u128
     requires { count < 16 }

@@ -1,5 +1,5 @@
-//! Integers that are fed as eight bytes, by their value: a signed number with its sign, an
-//! unsigned one with zeros in front.
+//! Integers that are fed as eight bytes, the lowest first, by their value: a signed number is
+//! extended by its sign, an unsigned one by zeros.
 //!
 //! So the unsigned 255 of eight bits feeds what 255 of 64 bits feeds.
 

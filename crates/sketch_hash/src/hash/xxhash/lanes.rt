@@ -1,9 +1,9 @@
 //! XXH64's four lanes, and how stripes of 32 bytes change them.
 
 ghost use Rattle.std.specs.Prelude.{◌≡◌, ℕ, ◌+◌, ◌-◌, ◌%◌, ◌^◌, ◌<◌, ◌≤◌, length, take};
-ghost use Rattle.sketch_hash.specs.Xxh64.{Lanes, lanes_start, round, stripe_step, xxh64_after};
+ghost use Rattle.sketch_hash.specs.Xxh64.{Lanes, lanes_start, round, stripe_step, xxh64_after, each_lane};
 ghost use Rattle.sketch_hash.specs.ScalarLanes.{lanes_of_scalars, state_of_scalars};
-ghost use Rattle.sketch_hash.specs.Lanes.{each_lane, lanes_of, stripe_words};
+ghost use Rattle.sketch_hash.specs.Lanes.{lanes_of, stripe_words};
 
 use super::primes::{PRIME1, PRIME2};
 use crate::hash::copy::copy_small;
@@ -134,7 +134,7 @@ fn fold_long<L: StripeRound>(mut lanes: L, stripes: &[[u8; 32]]) -> L
     lanes
 }
 
-/// Takes the lanes on by stripes, however one stripe turns them.
+/// Folds stripes into the lanes, with either implementation of [`StripeRound`].
 #[inline(always)]
 pub(super) fn fold_stripes<L: StripeRound>(lanes: &mut L, stripes: &[[u8; 32]])
     ensures { L.lanes lanes.new ≡ each_lane (L.lanes lanes.old) stripes.now }

@@ -9,13 +9,14 @@ use super::{STRIPE, XxHash64};
 use crate::hash::copy::copy_small;
 use std::simd::prelude::*;
 
-/// What an [`XxHash64`] holds: a checkpoint of a stream, to be copied, kept and taken up again.
+/// What an [`XxHash64`] holds: a checkpoint of a stream, to be copied, kept and resumed.
 ///
-/// Of `waiting` the first `total % 32` bytes count. Every value is safe to take up.
+/// Of `waiting` the first `total % 32` bytes count. Every value can be resumed.
 #[repr(C)]
 #[derive(Clone, Copy)]
 pub struct XxHash64State {
     pub seed: u64,
+    /// The four lanes after the last whole stripe.
     pub v1: u64,
     pub v2: u64,
     pub v3: u64,
@@ -35,11 +36,19 @@ impl XxHash64State {
         ensures holds { (seed : ℕ) (before : List ℕ) → Xxh64Holds self.old seed before →
             Xxh64Holds self.new seed (before ++ bytes.now) }
     {
-        if bytes.len() < STRIPE - (self.total % STRIPE as u64) as usize {
+        if bytes.len() < STRIPE - self.waiting_count() {
             self.buffer_bytes(bytes);
         } else {
             self.consume_stripes(bytes);
         }
+    }
+
+    // How many bytes of `waiting` count.
+    #[inline(always)]
+    fn waiting_count(&self) -> usize
+        ensures { result ≡ self.now.total % 32 }
+    {
+        (self.total % STRIPE as u64) as usize
     }
 
     // Takes bytes that fill no stripe, in place.
@@ -48,7 +57,7 @@ impl XxHash64State {
         requires { self.old.total % 32 + length bytes.now < 32 }
         ensures { xxh64_held self.new ≡ xxh64_after (xxh64_held self.old) bytes.now }
     {
-        let count = (self.total % STRIPE as u64) as usize;
+        let count = self.waiting_count();
         self.total = self.total.wrapping_add(bytes.len() as u64);
         copy_small(&mut self.waiting, count, bytes);
     }
@@ -60,7 +69,7 @@ impl XxHash64State {
         requires { 32 ≤ self.old.total % 32 + length bytes.now }
         ensures { xxh64_held self.new ≡ xxh64_after (xxh64_held self.old) bytes.now }
     {
-        let count = (self.total % STRIPE as u64) as usize;
+        let count = self.waiting_count();
         self.total = self.total.wrapping_add(bytes.len() as u64);
         let lanes = ScalarLanes {
             v1: self.v1,
@@ -77,11 +86,10 @@ impl XxHash64State {
 }
 
 impl XxHash64 {
-    /// The hasher that a state was taken from.
+    /// A hasher that goes on from a state.
     #[inline(always)]
     pub fn resume(state: &XxHash64State) -> Self
         ensures held { result ≡ xxh64_held state.now }
-        ensures counts { length result.waiting ≡ result.total % 32 }
         ensures stands { (seed : ℕ) (bytes : List ℕ) → Xxh64Holds state.now seed bytes →
             Xxh64Stands result seed bytes }
     {
@@ -90,15 +98,14 @@ impl XxHash64 {
             lanes: u64x4::from_array([state.v1, state.v2, state.v3, state.v4]),
             total: state.total,
             buffer: state.waiting,
-            count: (state.total % STRIPE as u64) as usize,
+            count: state.waiting_count(),
         }
     }
 
     /// The state of this hasher.
     #[inline(always)]
     pub fn state(&self) -> XxHash64State
-        ensures held { length self.now.waiting ≡ self.now.total % 32 →
-            xxh64_held result ≡ self.now }
+        ensures held { xxh64_held result ≡ self.now }
         ensures holds { (seed : ℕ) (bytes : List ℕ) → Xxh64Stands self.now seed bytes →
             Xxh64Holds result seed bytes }
     {

@@ -3,8 +3,8 @@ use Rattle.datasketches.specs.declared.error.ErrorKind.TheVariants.{InvalidArgum
 use Rattle.datasketches.specs.ErrorValue.{memory_error}
 use Rattle.datasketches.specs.Refusals.{Refuses}
 use Rattle.sketch_member.specs.declared.fault.Fault.{Fault}
-use Rattle.sketch_member.specs.declared.fault.Fault.TheVariants.{Log2Bits, Hashes}
 use Rattle.sketch_member.specs.Faults.{IsFirstFault, fault_text, init_steps}
+use Rattle.sketch_member.specs.Limits.{IsHashes, IsLog2Bits}
 use Rattle.sketch_member.proofs.FaultLemmas.{of_err}
 use Rattle.sketch_member.specs.Form.{form2}
 use Rattle.sketch_member.specs.Laws.{InsertsAll}
@@ -39,17 +39,16 @@ pub returns-in_err-table-clause-refused : goal.returns-in_err-table-clause-refus
 returns-in_err-table-clause-refused g c =
     let log2_bits = c.args.log2_bits in
     let hashes = c.args.hashes in
-    of_err c.from_residual.result _ (λ error. ((fault : Fault)
+    let lies = c.in_default.ensures in
+    let alike = all_alike (map g.T.Hash.fed c.args.values.now) _ lies.0 lies.3 in
+    of_err c.from_residual.result _ (λ error. ((c.insert_all_in_place.new.bytes ≡ c.args.bytes.now)
+    × (fault : Fault)
     × IsFirstFault (length c.args.bytes.now) (init_steps log2_bits hashes c.args.bytes.now) fault
     × Refuses InvalidArgument (fault_text fault) error) ⊎ (error ≡ memory_error)) _
     c.from_residual.ensures.1 (elim c.in_err-table.ensures.answer [
-      | inl size ↦ inl (Log2Bits log2_bits, inl (inr (omega arith, size.0, refl)), size.1)
+      | inl size ↦ absurd (size.0 (subst IsLog2Bits (sym alike.log2_bits) lies.1.log2_bits))
       | inr later ↦ elim later [
-        | inl number ↦ inl (
-          Hashes hashes,
-          inr ((omega arith, number.0), inl (inr (omega arith, number.1, refl))),
-          number.2,
-        )
+        | inl number ↦ absurd (number.1 (subst IsHashes (sym alike.hashes) lies.1.hashes))
         | inr memory ↦ inr memory.2
       ]
     ])

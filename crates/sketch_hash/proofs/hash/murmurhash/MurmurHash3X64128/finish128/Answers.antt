@@ -1,4 +1,4 @@
-use Rattle.std.proofs.Common.{◌≡◌, ◌+◌, ◌*◌, ◌^◌, ◌<◌, refl, ap, ◌∙◌, rules}
+use Rattle.std.proofs.Common.{◌≡◌, ◌+◌, ◌*◌, ◌^◌, ◌<◌, refl, ap, ◌∙◌, arith, rules}
 use Rattle.sketch_hash.specs.Words.{IsWord}
 use Rattle.sketch_hash.specs.Murmur.{murmur_answer, with_tail}
 use Rattle.sketch_hash.proofs.WordsLemmas.{xor-is}
@@ -16,7 +16,8 @@ finished c =
     let first = xor-is i.h1 c.mix1.result w1 c.mix1.type_inv in
     let second = xor-is i.h2 c.mix2.result w2 c.mix2.type_inv in
     let below = number-lt i.count i.low i.high c.self.invariant.1 c.self.invariant.2 in
-    let words = padded_words i.count (i.low + i.high * 2 ^ 64) c.self.invariant.0 below in
+    let few : i.count < 16 = omega (arith, c.self.invariant.0) in
+    let words = padded_words i.count (i.low + i.high * 2 ^ 64) few below in
     let low : i.low < 2 ^ 64 = search rules in
     let parts = number-words i.low i.high low in
     rw (

@@ -1,10 +1,11 @@
-use Rattle.std.proofs.Common.{rules, ◌≡◌, ℕ, ◌+◌, ◌-◌, ◌*◌, ◌<◌, ◌≤◌, ◌^◌, ◌++◌, List, length, take, drop, refl, sym, ap, ◌∙◌, arith, subst, length-append, length-drop}
+use Rattle.std.proofs.Common.{rules, ◌≡◌, ℕ, ◌+◌, ◌-◌, ◌*◌, ◌/◌, ◌<◌, ◌≤◌, ◌^◌, ◌++◌, List, length, take, drop, refl, sym, ap, ◌∙◌, arith, subst, length-append, length-drop}
 use Rattle.std.proofs.lemmas.List.{take_all, length-take-le}
 use Rattle.std.proofs.lemmas.List.Elements.{All-drop}
 use Rattle.sketch_base.specs.Bytes.{AreBytes, le, low_bytes}
 use Rattle.sketch_hash.specs.Pieces.{State, pieces, rest}
 use Rattle.sketch_hash.specs.Murmur.{murmur_after, step, block_words}
 use Rattle.sketch_base.proofs.BytesLemmas.{length-low_bytes, le-lt, low_bytes-le, bytes_known}
+use Rattle.sketch_hash.proofs.PiecesLemmas.{length_rest}
 use Rattle.sketch_hash.proofs.StateLemmas.{state_after-through}
 use Rattle.sketch_hash.proofs.NumberLemmas.{block_words-filled, number-lt, words-lt, words-number}
 use Rattle.sketch_hash.proofs.hash.murmurhash.MurmurHash3X64128.write_blocks.Goals as goal
@@ -22,9 +23,11 @@ invariant_of-self c =
     let waits : last ≡ rest 16 behind = c.split_pieces.ensures.rest ∙ ap (rest 16) cut in
     let are : AreBytes last = subst AreBytes (sym waits)
     (All-drop (λ x. x < 256) _ behind (All-drop (λ x. x < 256) missing bytes bytes_are)) in
-    let short : length last < 16 = search rules in
+    let count : length last ≡ length behind - length behind / 16 * 16 =
+    ap length waits ∙ length_rest 16 behind in
     let sizes = words-lt (length last) (le last) (le-lt last are) in
-    rw (c.split_words.ensures, c.read_partial_le.ensures) (short, sizes.0, sizes.1)
+    rw (c.split_words.ensures, c.read_partial_le.ensures)
+    (omega (arith, count, length-drop missing bytes, c.self.invariant.0), sizes.0, sizes.1)
 
 pub returns : goal.returns
 unfolding murmur_after pieces rest
@@ -47,7 +50,7 @@ returns c =
     let waits : last ≡ rest 16 behind = c.split_pieces.ensures.rest ∙ ap (rest 16) cut in
     let are : AreBytes last = subst AreBytes (sym waits)
     (All-drop (λ x. x < 256) _ behind (All-drop (λ x. x < 256) missing bytes bytes_are)) in
-    let low : i.count < 16 = c.self.invariant.0 in
+    let low : i.count < 16 = omega (arith, c.self.invariant.0) in
     let enough : 16 ≤ i.count + length bytes = omega (arith, c.requires) in
     let within : missing ≤ length bytes = omega (arith, enough) in
     let count : length held ≡ i.count = length-low_bytes i.count n in

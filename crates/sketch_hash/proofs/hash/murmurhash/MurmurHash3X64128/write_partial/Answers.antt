@@ -25,7 +25,7 @@ invariant_of-self c =
       c.read_partial_le-number.ensures,
       joined-is i.count _ bytes are held few,
     )
-    (few, sizes.0, sizes.1)
+    (omega (arith, c.self.invariant.0, few), sizes.0, sizes.1)
 
 pub returns-then-count-lt-BLOCK : goal.returns-then-count-lt-BLOCK
 unfolding murmur_after
@@ -61,7 +61,7 @@ invariant_of-self-else-count-lt-BLOCK c =
     let are = bytes_known bytes c.type_inv.bytes in
     let behind : List ℕ = drop missing bytes in
     let behind_are : AreBytes behind = All-drop (λ x. x < 256) missing bytes are in
-    let low : i.count < 16 = c.self.invariant.0 in
+    let low : i.count < 16 = omega (arith, c.self.invariant.0) in
     let within : missing ≤ length bytes = omega (arith, enough) in
     let size : length behind ≡ i.count + length bytes - 16 =
     length-drop missing bytes ∙ omega (arith, low, enough) in
@@ -71,7 +71,7 @@ invariant_of-self-else-count-lt-BLOCK c =
     subst (λ n. le behind < 256 ^ n) size (le-lt behind behind_are) in
     let sizes = words-lt (i.count + length bytes - 16) (le behind) below in
     rw (c.split_words.ensures, c.read_partial_le-number.ensures, number)
-    (omega (arith, low, c.requires), sizes.0, sizes.1)
+    (omega (arith, c.self.invariant.0, enough, c.requires), sizes.0, sizes.1)
 
 pub returns-else-count-lt-BLOCK : goal.returns-else-count-lt-BLOCK
 unfolding murmur_after
@@ -88,7 +88,7 @@ returns-else-count-lt-BLOCK c =
     let front : List ℕ = take missing bytes in
     let behind : List ℕ = drop missing bytes in
     let behind_are : AreBytes behind = All-drop (λ x. x < 256) missing bytes are in
-    let low : i.count < 16 = c.self.invariant.0 in
+    let low : i.count < 16 = omega (arith, c.self.invariant.0) in
     let within : missing ≤ length bytes = omega (arith, enough) in
     let count : length held ≡ i.count = length-low_bytes i.count n in
     let short : length held < 16 = omega (arith, count, low) in

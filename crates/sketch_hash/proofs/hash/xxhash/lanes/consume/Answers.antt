@@ -2,9 +2,8 @@ use Rattle.std.proofs.Common.{rules, ◌≡◌, ℕ, ◌+◌, ◌-◌, ◌%◌, 
 use Rattle.std.proofs.Math.Seq.{take-append_seam}
 use Rattle.std.proofs.lemmas.List.{length-take-le}
 use Rattle.sketch_hash.specs.Pieces.{State, pieces, rest}
-use Rattle.sketch_hash.specs.Xxh64.{Lanes, xxh64_after, stripe_step}
+use Rattle.sketch_hash.specs.Xxh64.{Lanes, xxh64_after, stripe_step, each_lane}
 use Rattle.sketch_hash.specs.ScalarLanes.{lanes_of_scalars, state_of_scalars}
-use Rattle.sketch_hash.specs.Lanes.{each_lane}
 use Rattle.sketch_hash.proofs.CopyLemmas.{copy_full}
 use Rattle.sketch_hash.proofs.WriteLemmas.{after-fresh, after-begun, left-count}
 use Rattle.sketch_hash.proofs.hash.xxhash.lanes.consume.Goals as goal

@@ -1,7 +1,6 @@
 use Rattle.std.proofs.Common.{[], take, get_or, ◌∙◌, ap, sym}
 use Rattle.std.proofs.lemmas.List.{take_more}
-use Rattle.sketch_hash.specs.Xxh64.{stripe_step}
-use Rattle.sketch_hash.specs.Lanes.{each_lane}
+use Rattle.sketch_hash.specs.Xxh64.{stripe_step, each_lane}
 use Rattle.sketch_hash.proofs.LanesLemmas.{each_lane-more}
 use Rattle.sketch_hash.proofs.hash.xxhash.lanes.fold_stripes.Goals as goal
 

@@ -1,5 +1,5 @@
 use Rattle.std.proofs.Common.{◌≡◌, take}
-use Rattle.sketch_hash.specs.Lanes.{each_lane}
+use Rattle.sketch_hash.specs.Xxh64.{each_lane}
 use Rattle.sketch_hash.proofs.hash.xxhash.lanes.fold_stripes.Given as goal
 
 abbrev pub invariant-loop-stripe : goal.invariant-loop-stripe

@@ -17,5 +17,6 @@ returns c =
     let short : length (held ++ bytes) < 16 =
     rw (length-append held bytes, length-take-le _ s.waiting low) c.requires in
     let total : s.total < 2 ^ 64 = search rules in
-    rw (c.copy_small.ensures, held-waits 16 s.total s.waiting bytes (λ n. omega arith) c.requires within)
+    let joined = held-waits 16 s.total s.waiting bytes (λ n. omega arith) c.requires within in
+    rw (c.copy_small.ensures, c.waiting_count-count.ensures, joined)
     (sym (state_after-waits 16 block_words step (murmur_held s) bytes total short))

@@ -17,5 +17,6 @@ returns c =
     let short : length (held ++ bytes) < 32 =
     rw (length-append held bytes, length-take-le _ s.waiting low) c.requires in
     let total : s.total < 2 ^ 64 = search rules in
-    rw (c.copy_small.ensures, held-waits 32 s.total s.waiting bytes (λ n. omega arith) c.requires within)
+    let joined = held-waits 32 s.total s.waiting bytes (λ n. omega arith) c.requires within in
+    rw (c.copy_small.ensures, c.waiting_count-count.ensures, joined)
     (sym (state_after-waits 32 (λ stripe. stripe) seeded_step (xxh64_held s) bytes total short))
