@@ -11,11 +11,9 @@ import threading
 import time
 
 import pytest
-import sketch_hash
 from sketch_hash import MemberTable, murmur3_x64_128, murmur3_x64_128_each, xxh64, xxh64_each
+from test_buffers import KINDS, ONE_CALL
 
-KINDS = [xxh64, murmur3_x64_128]
-ONE_CALL = [getattr(sketch_hash, name) for name in sketch_hash.__all__ if name.endswith("digest")]
 WAYS = [copy.copy, copy.deepcopy, lambda it: it.copy(), lambda it: pickle.loads(pickle.dumps(it))]
 
 
