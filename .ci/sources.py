@@ -26,8 +26,10 @@ ASKING = [
     r"resize\w*", r"shrink\w*", r"sort\w*", r"splice", r"split_off", r"to_mut", r"to_owned", r"to_vec", r"try_\w+",
     r"write_all", r"write_fmt", r"write_str",
 ]
-# What stands before those of them that ask for none: inserts into tables, writes to a formatter.
-OWN = ("header.insert", "table.insert", "seen.insert", "one.insert", "other.insert", "in_place::insert", "f.write_str")
+# Those of them that ask for none: inserts into tables, writes to a formatter.
+OWN = re.compile(
+    r"(?<![\w.])(?:(?:(?:self\.)?header|table|seen|one|other)\.insert|in_place::insert|f\.write_str)$"
+)
 
 # What can make an error that tells of memory, or of a text that fails to print.
 TELLING = "|".join([
@@ -61,7 +63,7 @@ def requests_of(body):
     for match in CALLS.finditer(code):
         is_handed_back, *names = match.groups()
         name = next(filter(None, names))
-        if code[: match.end()].rstrip("(").endswith(OWN):
+        if OWN.search(code[: match.end()].rstrip("(")):
             continue
         if re.search(r"\b(with_capacity|reserve\w*|resize\w*|vec!)$", name):
             name = f"{name}({rest_of_call(code, match.end())})"

@@ -1,17 +1,17 @@
 """The glue to the library, which cffi writes and the C compiler checks against the header.
 
-The archive and the header are those of dist/, or of the folder that SKETCH_HASH_LIB_DIR names.
+The archive and the header are those of dist/, or of the folder whose absolute path SKETCH_HASH_LIB_DIR is.
 """
 import os
 
 import cffi
 
 own = os.path.join(os.path.dirname(os.path.abspath(__file__)), "..", "..", "dist")
-folder = os.environ.get("SKETCH_HASH_LIB_DIR", own)
+folder = os.path.abspath(os.environ.get("SKETCH_HASH_LIB_DIR") or own)
 archive = os.path.join(folder, "libsketch_hash.a")
 if not os.path.isfile(archive):
     raise FileNotFoundError(
-        f"{archive} is missing: set SKETCH_HASH_LIB_DIR to the folder that has libsketch_hash.a"
+        f"{archive} is missing: set SKETCH_HASH_LIB_DIR to the absolute path of its folder"
     )
 
 calls = cffi.FFI()
@@ -71,6 +71,11 @@ calls.set_source(
     "sketch_hash._calls",
     """
     #include <sketch_hash.h>
+
+    /* PyPy's cffi gives up Python's lock around each call by itself. */
+    #ifdef PYPY_VERSION
+    #error "sketch_hash is for CPython alone"
+    #endif
 
     /* The glue gives up Python's lock around each call by these two macros. A short call takes less
      * time than that, so the calls below do it, and from 64 KiB on alone. */

@@ -60,6 +60,8 @@ def chart(cases):
 
 page = docs / "speed.md"
 text = page.read_text(encoding="utf-8")
+if set(re.findall(r"<!-- table (\w+) -->", text)) != set(tables):
+    sys.exit(f"{page}: its tables are not those of speed.tsv: {', '.join(tables)}")
 for table, cases in tables.items():
     marks = rf"(<!-- table {table} -->\n).*?(<!-- end -->)"
     body = "\n" + "\n".join(markdown(cases)) + "\n\n"

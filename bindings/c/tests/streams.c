@@ -1,15 +1,9 @@
 /* 100,000 random streams in random cuts: prints a sum of what the library answers, for a comparison
  * of two builds of it. */
+#include "noise.h"
 #include "sketch_hash.h"
 #include <stdio.h>
 #include <string.h>
-
-/* The same noise everywhere. */
-static uint64_t noise(void) {
-    static uint64_t word = 1;
-    word = word * 6364136223846793005ULL + 1442695040888963407ULL;
-    return word >> 33;
-}
 
 static uint64_t sum;
 

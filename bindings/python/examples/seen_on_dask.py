@@ -64,7 +64,7 @@ def by_workers(client, paths, sizes):
 
 
 def client_of(address, workers=CORES):
-    """Of a scheduler, or of so many worker processes on this machine."""
+    """Of a scheduler, or of `workers` processes on this machine."""
     if not address:
         return Client(n_workers=workers, threads_per_worker=1, dashboard_address=None)
     try:

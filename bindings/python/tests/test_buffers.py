@@ -10,7 +10,11 @@ from sketch_hash import murmur3_x64_128, xxh64
 
 DATA = bytes(range(240))
 KINDS = [xxh64, murmur3_x64_128]
-ONE_CALL = [getattr(sketch_hash, name) for name in sketch_hash.__all__ if name.endswith("digest")]
+ONE_CALL = [
+    getattr(sketch_hash, f"{kind.__name__}_{digest}")
+    for kind in KINDS
+    for digest in ("digest", "hexdigest", "intdigest")
+]
 
 
 def anonymous(data):

@@ -1,7 +1,7 @@
 """The program: python3 -m sketch_hash."""
 import os
 import pty
-import shutil
+import signal
 import subprocess
 import sys
 
@@ -47,13 +47,24 @@ def test_a_file_longer_than_a_read():
 
 def test_an_input_that_does_not_wait():
     """Nothing to read for now is a fault, and not the end."""
+    for words, text in (([], FOX[:9]), (["--check"], XXH64 + b"  fox\n"), (["--check"], b"")):
+        here, there = os.pipe()
+        os.set_blocking(here, False)
+        os.write(there, text)
+        status, output, complaint = run(*words, stdin=here)
+        os.close(here)
+        os.close(there)
+        assert (status, output) == (1, b"")
+        assert complaint.startswith(b"sketch_hash: -: Resource temporarily unavailable\n")
+
+
+def test_an_output_that_nobody_reads():
     here, there = os.pipe()
-    os.set_blocking(here, False)
-    os.write(there, FOX[:9])
-    status, output, complaint = run(stdin=here)
     os.close(here)
+    command = [sys.executable, "-m", "sketch_hash", "fox"]
+    done = subprocess.run(command, stdout=there, stderr=subprocess.PIPE)
     os.close(there)
-    assert (status, output) == (1, b"") and complaint.startswith(b"sketch_hash: -: ")
+    assert (done.returncode, done.stderr) == (-signal.SIGPIPE, b"")
 
 
 def test_seeds():
@@ -106,7 +117,6 @@ def test_check_tells_what_is_wrong():
     assert complaint.startswith(b"sketch_hash: fo\0x: embedded null byte\n")
 
 
-@pytest.mark.skipif(not shutil.which("xxhsum"), reason="xxhsum is missing")
 def test_xxhsum_reads_the_lines_and_the_other_way_round():
     lines = run("fox")[1]
     assert subprocess.run(["xxhsum", "-c"], input=lines).returncode == 0

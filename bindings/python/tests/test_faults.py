@@ -4,17 +4,16 @@ import array
 import copy
 import fractions
 import pickle
+import signal
 import struct
 import sys
 import threading
 import time
 
 import pytest
-import sketch_hash
-from sketch_hash import murmur3_x64_128, murmur3_x64_128_each, xxh64, xxh64_each
+from sketch_hash import MemberTable, murmur3_x64_128, murmur3_x64_128_each, xxh64, xxh64_each
+from test_buffers import KINDS, ONE_CALL
 
-KINDS = [xxh64, murmur3_x64_128]
-ONE_CALL = [getattr(sketch_hash, name) for name in sketch_hash.__all__ if name.endswith("digest")]
 WAYS = [copy.copy, copy.deepcopy, lambda it: it.copy(), lambda it: pickle.loads(pickle.dumps(it))]
 
 
@@ -72,6 +71,26 @@ def test_threads_that_share_an_object(kind):
     for worker in workers:
         worker.join()
     assert hasher.digest() == kind((piece + piece[:256]) * (rounds * threads)).digest()
+
+
+@pytest.mark.parametrize("make, append, ask", [
+    (xxh64, xxh64.update, xxh64.digest),
+    (murmur3_x64_128, murmur3_x64_128.update, murmur3_x64_128.digest),
+    (lambda: MemberTable(10, 3), MemberTable.insert, MemberTable.to_bytes),
+])
+def test_a_handler_asks_during_a_call(make, append, ask):
+    """It runs when the call of C is over and the object's lock still held."""
+    shared, other, data, asked = make(), make(), bytes(1 << 25), []
+    before = signal.signal(signal.SIGALRM, lambda *_: asked.append(ask(shared)))
+    signal.setitimer(signal.ITIMER_REAL, 0.001, 0.001)
+    try:
+        while len(asked) < 20:
+            append(shared, data)
+            append(other, data)
+    finally:
+        signal.setitimer(signal.ITIMER_REAL, 0)
+        signal.signal(signal.SIGALRM, before)
+    assert ask(shared) == ask(other)
 
 
 @pytest.fixture

@@ -10,9 +10,9 @@ import pytest
 import sketch_hash
 import xxhash
 from sketch_hash import murmur3_x64_128, xxh64
+from test_buffers import KINDS
 
 FOX = b"The quick brown fox jumps over the lazy dog"
-KINDS = [xxh64, murmur3_x64_128]
 
 
 def peer_xxh64(data, seed):

@@ -93,7 +93,11 @@ for (const offsets of [[0, 3], new Uint8Array(2), new Float64Array(2), new DataV
 }
 assert.throws(() => xxh64EachU64(ends), /BigUint64Array/);
 assert.throws(() => murmur3X64_128Each('fox', ends), /TextEncoder/);
-for (const seed of [-1n, 2n ** 64n]) assert.throws(() => xxh64EachU64(new BigInt64Array(1), seed), RangeError);
+// A refused seed does not let the memory grow.
+const { grow } = WebAssembly.Memory.prototype;
+WebAssembly.Memory.prototype.grow = () => assert.fail('the memory grows');
+for (const seed of [-1n, 2n ** 64n]) assert.throws(() => xxh64EachU64(new BigInt64Array(1e6), seed), RangeError);
+WebAssembly.Memory.prototype.grow = grow;
 
 // The memory grows where one byte is missing: columns of each size over a whole page.
 const { xxh64Each: once } = await load(readFileSync(new URL('sketch_hash.wasm', dist)));

@@ -14,7 +14,7 @@ globalThis.postMessage = (said) => 'done' in said || waiting.get(said.id)?.(said
 (0, eval)(worker);
 await globalThis.onmessage({ data: { wasm: new ArrayBuffer(0) } });
 
-// What the worker says of a file that tells one size and has so many bytes, all zero.
+// What the worker says of a file that tells a size and has `count` bytes, all zero.
 function hash(size, count) {
     const slice = (from, to) => ({ arrayBuffer: async () => new ArrayBuffer(Math.max(Math.min(to, count) - from, 0)) });
     const id = waiting.size;

@@ -1,7 +1,7 @@
 """XXH64, MurmurHash3 x64 128 and a table of members, from functions that are proved.
 
 The classes of hashes are used as those of hashlib and of python-xxhash. Input is any bytes-like object whose
-memory is contiguous; a str is refused. A seed is a whole number from 0 to 2**64 - 1. Digests have
+memory is C-contiguous; a str is refused. A seed is a whole number from 0 to 2**64 - 1. Digests have
 the highest byte first.
 
 >>> xxh64(b"The quick brown fox jumps over the lazy dog").hexdigest()
@@ -13,7 +13,7 @@ Murmur's hexadecimal is its two words, each with the highest digit first. Other 
 bytes as they lie in memory, where each word's bytes are the other way round.
 """
 from operator import index as _index
-from threading import Lock as _Lock
+from threading import RLock as _Lock
 
 from ._calls import ffi as _ffi
 from ._calls import lib as _lib
@@ -60,7 +60,8 @@ def _seed(seed):
 
 
 class _Hash:
-    """A stream. Of the calls on one object each waits for the others, so threads may share it."""
+    """A stream. Each call waits for those of other threads on the same object, so threads and handlers of
+    signals may share it."""
 
     __slots__ = ("_lock", "_of_reset", "_state")
 
@@ -263,8 +264,8 @@ class MemberTable:
     was, and may be wrong about one that was not.
 
     It has 2**log2_bits bits, of which each key sets at most as many as hashes says. A key is any bytes-like
-    object whose memory is contiguous. Of the calls on one object each waits for the others, so
-    threads may share it.
+    object whose memory is C-contiguous. Each call waits for those of other threads on the same
+    object, so threads and handlers of signals may share it.
     """
 
     __slots__ = ("_lock", "_table")

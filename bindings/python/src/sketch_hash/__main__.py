@@ -2,6 +2,7 @@
 import argparse
 import errno
 import os
+import signal
 import sys
 import time
 
@@ -44,10 +45,9 @@ def hash_file(name, hasher):
     try:
         with open(0 if name == "-" else name, "rb", buffering=0, closefd=name != "-") as file:
             with Bar(name, os.fstat(file.fileno()).st_size) as bar:
-                piece = memoryview(bytearray(PIECE))
-                while count := read(file, piece):
-                    hasher.update(piece[:count])
-                    bar.add(count)
+                for piece in pieces(file):
+                    hasher.update(piece)
+                    bar.add(len(piece))
     except (OSError, ValueError) as error:
         # No file has a name with a byte 0, which is a ValueError.
         complain(f"{name}: {getattr(error, 'strerror', None) or error}")
@@ -55,12 +55,13 @@ def hash_file(name, hasher):
     return hasher
 
 
-def read(file, piece):
-    """How many bytes were read into the piece, 0 at the end."""
-    count = file.readinto(piece)
+def pieces(file):
+    """The pieces of a file, each in the memory of the one before."""
+    room = memoryview(bytearray(PIECE))
+    while count := file.readinto(room):
+        yield room[:count]
     if count is None:
         raise BlockingIOError(errno.EAGAIN, os.strerror(errno.EAGAIN))
-    return count
 
 
 class Bar:
@@ -119,8 +120,8 @@ def check(lists, seed, is_quiet):
     bad, unread, differ, good = 0, 0, 0, 0
     for name in lists:
         try:
-            with open(0 if name == "-" else name, "rb", closefd=name != "-") as file:
-                lines = os.fsdecode(file.read()).split("\n")
+            with open(0 if name == "-" else name, "rb", buffering=0, closefd=name != "-") as file:
+                lines = os.fsdecode(b"".join(map(bytes, pieces(file)))).split("\n")
         except OSError as error:
             complain(f"{name}: {error.strerror}")
             unread += 1
@@ -163,4 +164,6 @@ def complain(text):
 
 
 if __name__ == "__main__":
+    # As other programs do, this one ends without a word where nobody reads its output.
+    signal.signal(signal.SIGPIPE, signal.SIG_DFL)
     sys.exit(main())
