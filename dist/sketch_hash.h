@@ -2,10 +2,10 @@
  * that are proved.
  *
  * Proved of the library: for every seed, and however a stream is cut into updates, a digest is the
- * published hash of all bytes since the last reset; a table contains each key that was inserted;
- * no call allocates, or reads or writes outside of what it is given; no call fails but those on
- * tables, which answer a status, and those on columns, at offsets that do not fit; and every content
- * of a state, a table or an array of offsets is safe, even noise.
+ * published hash of all bytes since the last reset; a table contains each key that was inserted; no
+ * call reads or writes outside of what it is given; only calls on tables fail, with a negative
+ * status, and calls on columns, at an offset that does not fit; every content of a state, a table or
+ * an array of offsets is safe, even noise. The library imports nothing, so no call can allocate.
  *
  * What a caller owes, which no compiler checks:
  *   - A state starts by its _INIT or its _reset. A state of zeros is safe, but XXH64 of it is
@@ -122,8 +122,8 @@ size_t sketch_xxh64_each_u64(const uint64_t *values, size_t value_count, uint64_
 /* ---- A table of members (a Bloom filter): it tells of a key whether it was inserted, is never wrong
  * about one that was, and may be wrong about one that was not.
  *
- * With 7 hashes, about one other key in 100 is told as inserted where the table has 10 bits for each
- * key, and one in 1000 where it has 15.
+ * With 7 hashes, about one other key in 100 is reported as inserted where the table has 10 bits for
+ * each key, and one in 1000 where it has 15.
  *
  * A table is its bytes, which any machine reads and writes alike. They lie where the caller wants,
  * as in a file that is mapped. Each call checks the header, 24 bytes, and makes no pass over the

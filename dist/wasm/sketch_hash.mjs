@@ -68,7 +68,7 @@ function library(calls) {
     let memory = new Uint8Array(0);
     makeRoom(PIECE);
 
-    // Makes room for so many bytes of input. Views of the memory end when it grows.
+    // Makes room for `length` bytes of input. Views of the memory end when it grows.
     function makeRoom(length) {
         if (memory.length >= begin + length) return;
         grow(calls.memory, begin + length);
@@ -92,6 +92,7 @@ function library(calls) {
     // Runs a call over columns. The hashes lie from the place of the input on, and after them the
     // columns from the last to the first: offsets before the bytes, as they lie at multiples of their width.
     function each(call, columns, seed, count, size) {
+        checked(seed); // first, since the memory never shrinks
         makeRoom(columns.reduce((sum, { byteLength }) => sum + byteLength, count * size));
         let end = begin + count * size;
         const places = [];
@@ -100,7 +101,7 @@ function library(calls) {
             places.unshift(BigInt(end), BigInt(column.length));
             end += column.byteLength;
         }
-        const fault = call(...places, checked(seed), input, BigInt(count));
+        const fault = call(...places, seed, input, BigInt(count));
         if (fault) {
             throw new RangeError(`the offset at ${fault - 1n} is missing, past the end or below the one before`);
         }

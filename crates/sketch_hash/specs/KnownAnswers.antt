@@ -1,6 +1,6 @@
 -- What the definitions give for small inputs, and what each range and relation holds of. The hashes
 -- are known from elsewhere: from the tests of xxHash and of the library that is ported, and from
--- running these two. Those for totals past 32 bits are computed from the published last steps, since
+-- running these two. Those for totals past 32 bits are computed from the published last steps, as
 -- no input was that long.
 use Rattle.std.specs.Prelude.{◌≡◌, ℕ, zero, suc, ◌+◌, ◌-◌, ◌/◌, ◌^◌, ◌<◌, negsuc, List, [], ◌∷◌, codes, replicate, Result, Ok, Err}
 use Rattle.sketch_base.specs.Bytes.{AreBytes, eight}
