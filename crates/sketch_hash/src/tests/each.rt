@@ -26,7 +26,11 @@ fn wide_offsets() -> [u64; KEYS + 1] {
 }
 
 fn narrow_offsets() -> [u32; KEYS + 1] {
-    wide_offsets().map(|offset| offset as u32)
+    let mut offsets = [0; KEYS + 1];
+    for i in 0..KEYS as u32 {
+        offsets[i as usize + 1] = i * (i + 1) / 2;
+    }
+    offsets
 }
 
 #[test]
