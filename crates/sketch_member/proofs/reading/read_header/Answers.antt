@@ -1,37 +1,42 @@
-use Rattle.std.proofs.Common.{◌∷◌, ◌-◌, ap, ◌∙◌}
+use Rattle.std.proofs.Common.{◌≡◌, ℕ, List, [], ◌∷◌, ◌-◌, ap, rules, ◌∙◌}
+use Rattle.std.specs.Prelude.{Contains}
 use Rattle.sketch_member.proofs.FaultLemmas.{of_err, flag_fault, size_fault}
 use Rattle.sketch_member.proofs.FormLemmas.{header_form}
 use Rattle.sketch_member.proofs.reading.read_header.Goals as goal
 
+-- what the first three bytes tell
+abbrev Kind : List ℕ → List ℕ → Type 0
+Kind bytes rest = (longs : ℕ) × Contains (2 ∷ 3 ∷ []) longs × (bytes ≡ longs ∷ (longs - 1) ∷ 200 ∷ rest)
+
 pub returns-in_err-log2_bits : goal.returns-in_err-log2_bits
 returns-in_err-log2_bits c =
-    let kind = c.in_ok-longs.ensures in
+    let kind : Kind c.args.reader.now c.read_kind.new.reader = search rules in
     of_err _ _ _ _ c.from_residual-in_err-log2_bits.ensures.1
-    (size_fault _ _ _ _ kind.0 kind.1 c.in_err-log2_bits.ensures)
+    (size_fault _ _ _ _ kind.1 kind.2 c.in_err-log2_bits.ensures)
 
 pub returns-in_err-flag : goal.returns-in_err-flag
 returns-in_err-flag c =
-    let kind = c.in_ok-longs.ensures in
+    let kind : Kind c.args.reader.now c.read_kind.new.reader = search rules in
     let sizes = c.in_ok-log2_bits.ensures in
     of_err _ _ _ _ c.from_residual-in_err-flag.ensures.1
-    (flag_fault _ _ _ _ _ _ kind.0 sizes.0 sizes.1
-    (kind.1 ∙ ap (λ rest. c.in_ok-longs.longs ∷ (c.in_ok-longs.longs - 1) ∷ 200 ∷ rest) sizes.2)
+    (flag_fault _ _ _ _ _ _ kind.1 sizes.0 sizes.1
+    (kind.2 ∙ ap (λ rest. kind.0 ∷ (kind.0 - 1) ∷ 200 ∷ rest) sizes.2)
     c.in_err-flag.ensures)
 
 pub returns : goal.returns
 returns c =
-    let kind = c.in_ok-longs.ensures in
+    let kind : Kind c.args.reader.now c.read_kind.new.reader = search rules in
     let sizes = c.in_ok-log2_bits.ensures in
     let flag = c.in_ok-flag.ensures in
     let seed = c.in_ok-seed.ensures in
     let count = c.in_ok-count.ensures in
-    let longs = c.in_ok-longs.longs in
-    let whole = kind.1 ∙ ap (λ rest. longs ∷ (longs - 1) ∷ 200 ∷ rest) (sizes.2
+    let longs = kind.0 in
+    let whole = kind.2 ∙ ap (λ rest. longs ∷ (longs - 1) ∷ 200 ∷ rest) (sizes.2
     ∙ ap (λ rest. c.in_ok-log2_bits.log2_bits ∷ c.in_ok-log2_bits.hashes ∷ rest) flag.1) in
     let counted = rw seed.2 at count in (
       sizes.0,
       sizes.1,
       counted.4,
-      rw (counted.1) (header_form longs _ _ _ _ _ c.args.reader.now _ whole kind.0 flag.0 seed.0
+      rw (counted.1) (header_form longs _ _ _ _ _ c.args.reader.now _ whole kind.1 flag.0 seed.0
           seed.1 counted.0 counted.2 counted.3),
     )
