@@ -1,14 +1,22 @@
-use Rattle.std.proofs.Common.{◌≡◌, ℕ, List, Option, Some, IfOk, IfSome, codes, string_bytes, subst}
-use Rattle.std.specs.Fmt.{decimal, ◌++?◌}
+use Rattle.std.proofs.Common.{◌≡◌, ℕ, List, Option, Some, Result, IfOk, IfSome, codes, subst, rules}
+use Rattle.std.specs.Fmt.{decimal, debug_list, ◌++?◌}
+use Rattle.sketch_base.specs.Refusals.{list_text}
 use Rattle.sketch_base.proofs.RefusalLemmas.{debug_list-is}
 use Rattle.sketch_base.proofs.error.Error.invalid_preamble_longs.Goals as goal
 
+abbrev with_list : Option (List ℕ) → ℕ → Option (List ℕ)
+with_list list actual = Some (codes "invalid preamble longs: expected one of ")
+    ++? (list ++? (Some (codes ", got ") ++? Some (decimal actual)))
+
 -- the list in the text is in the library's form, which is that of the definition
+listed : {X E : Type 0} (text : Result X E) (bytes_of : X → List ℕ) (expected : List ℕ) (actual : ℕ) →
+    IfOk text (λ made. IfSome (with_list (debug_list (λ n. Some (decimal n)) expected) actual)
+    (λ bytes. bytes_of made ≡ bytes)) →
+    IfOk text (λ made. IfSome (with_list (Some (list_text expected)) actual)
+    (λ bytes. bytes_of made ≡ bytes))
+listed text bytes_of expected actual =
+    subst (λ list. IfOk text (λ made. IfSome (with_list list actual) (λ bytes. bytes_of made ≡ bytes)))
+    (debug_list-is expected)
+
 pub returns : goal.returns
-returns c =
-    let Made : Option (List ℕ) → Type 0 = λ list. IfOk c.format.result (λ made. IfSome
-    (Some (codes "invalid preamble longs: expected one of ")
-    ++? (list ++? (Some (codes ", got ") ++? Some (decimal c.args.actual))))
-    (λ bytes. string_bytes made ≡ bytes)) in
-    let made = subst Made (debug_list-is c.args.expected.now) c.format.ensures.ok in
-    c.refusal.ensures _ made
+returns c = c.refusal.ensures _ (listed _ _ c.args.expected.now c.args.actual (search rules))
