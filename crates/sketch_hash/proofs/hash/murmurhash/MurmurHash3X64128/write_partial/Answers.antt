@@ -15,6 +15,7 @@ pub invariant_of-self : goal.invariant_of-self
 invariant_of-self c =
     let i = c.self.inside in
     let bytes : List ℕ = c.args.bytes.now in
+    let told : (number : ℕ) × (number ≡ le bytes) = search rules in
     let are = bytes_known bytes c.type_inv.bytes in
     let few : i.count + length bytes < 16 = c.if-count-lt-BLOCK.true in
     let held = number-lt i.count i.low i.high c.self.invariant.1 c.self.invariant.2 in
@@ -22,7 +23,7 @@ invariant_of-self c =
     rw (
       c.split_words-k1.ensures,
       c.join_words-waiting.ensures,
-      c.read_partial_le-number.ensures,
+      told.1,
       joined-is i.count _ bytes are held few,
     )
     (omega (arith, c.self.invariant.0, few), sizes.0, sizes.1)
@@ -32,6 +33,7 @@ unfolding murmur_after
 returns-then-count-lt-BLOCK c =
     let i = c.self.inside in
     let bytes : List ℕ = c.args.bytes.now in
+    let told : (number : ℕ) × (number ≡ le bytes) = search rules in
     let are = bytes_known bytes c.type_inv.bytes in
     let few : i.count + length bytes < 16 = c.if-count-lt-BLOCK.true in
     let n : ℕ = i.low + i.high * 2 ^ 64 in
@@ -44,7 +46,7 @@ returns-then-count-lt-BLOCK c =
       ← c.self.view_is,
       c.split_words-k1.ensures,
       c.join_words-waiting.ensures,
-      c.read_partial_le-number.ensures,
+      told.1,
       words-number,
       joined-is i.count n bytes are below few,
       low_bytes-joined i.count n bytes are below,
@@ -56,6 +58,7 @@ pub invariant_of-self-else-count-lt-BLOCK : goal.invariant_of-self-else-count-lt
 invariant_of-self-else-count-lt-BLOCK c =
     let i = c.self.inside in
     let bytes : List ℕ = c.args.bytes.now in
+    let told : (number : ℕ) × (number ≡ le bytes) = search rules in
     let missing : ℕ = 16 - i.count in
     let enough : 16 ≤ i.count + length bytes = c.if-count-lt-BLOCK.false in
     let are = bytes_known bytes c.type_inv.bytes in
@@ -70,7 +73,7 @@ invariant_of-self-else-count-lt-BLOCK c =
     let below : le behind < 256 ^ (i.count + length bytes - 16) =
     subst (λ n. le behind < 256 ^ n) size (le-lt behind behind_are) in
     let sizes = words-lt (i.count + length bytes - 16) (le behind) below in
-    rw (c.split_words.ensures, c.read_partial_le-number.ensures, number)
+    rw (c.split_words.ensures, told.1, number)
     (omega (arith, c.self.invariant.0, enough, c.requires), sizes.0, sizes.1)
 
 pub returns-else-count-lt-BLOCK : goal.returns-else-count-lt-BLOCK
@@ -78,6 +81,7 @@ unfolding murmur_after
 returns-else-count-lt-BLOCK c =
     let i = c.self.inside in
     let bytes : List ℕ = c.args.bytes.now in
+    let told : (number : ℕ) × (number ≡ le bytes) = search rules in
     let missing : ℕ = 16 - i.count in
     let enough : 16 ≤ i.count + length bytes = c.if-count-lt-BLOCK.false in
     let are = bytes_known bytes c.type_inv.bytes in
@@ -114,7 +118,7 @@ returns-else-count-lt-BLOCK c =
       c.split_words-k1.ensures,
       c.split_words.ensures,
       c.join_words-waiting.ensures,
-      c.read_partial_le-number.ensures,
+      told.1,
       number,
       words-number,
       waits,
