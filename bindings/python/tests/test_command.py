@@ -34,6 +34,8 @@ def test_a_file_and_standard_input():
     assert run("fox", "-", input=b"")[1] == XXH64 + b"  fox\nef46db3751d8e999  -\n"
 
 
+    # It is at its end the second time.
+    assert run("-", "-", input=FOX) == (0, XXH64 + b"  -\nef46db3751d8e999  -\n", b"")
 def test_a_file_longer_than_a_read():
     with open("long", "wb") as file:
         file.write(bytes(2_500_000))
