@@ -62,6 +62,12 @@ def test_an_input_that_does_not_wait():
 
 def test_an_output_that_nobody_reads():
     here, there = os.pipe()
+def test_an_output_that_is_full():
+    command = [sys.executable, "-m", "sketch_hash", "fox"]
+    with open("/dev/full", "wb") as full:
+        assert subprocess.run(command, stdout=full, stderr=subprocess.PIPE).returncode != 0
+
+
     os.close(here)
     command = [sys.executable, "-m", "sketch_hash", "fox"]
     done = subprocess.run(command, stdout=there, stderr=subprocess.PIPE)
