@@ -114,6 +114,9 @@ def test_check_tells_what_is_wrong():
         assert words in complaint
     good, bad = XXH64 + b"  fox\n", b"0" * 16 + b"  fox\n"
     for lines in (good + b"no hash\n", good + XXH64 + b"  missing\n", good + bad):
+    for digits in (XXH64.upper(), XXH64[1:], XXH64 + b"0", MURMUR[1:], MURMUR + b"0", b"", b"\\"):
+        status, output, complaint = run("-c", input=digits + b"  fox\n")
+        assert (status, output) == (1, b"") and b"1 improperly formatted" in complaint
         assert run("-c", input=lines)[0] == 1
     assert run("-cq", input=good + bad)[1] == b"fox: FAILED\n"
     assert run("-c", "-", "missing", input=good)[0] == 1
