@@ -130,6 +130,12 @@ def test_check_tells_what_is_wrong():
 
 def test_xxhsum_reads_the_lines_and_the_other_way_round():
     lines = run("fox")[1]
+def test_a_list_longer_than_a_read():
+    line = XXH64 + b"  fox\n"
+    count = (1 << 20) // len(line) + 1
+    assert run("--check", input=line * count) == (0, b"fox: OK\n" * count, b"")
+
+
     assert subprocess.run(["xxhsum", "-c"], input=lines).returncode == 0
     lines = subprocess.run(["xxhsum", "-H1", "fox"], capture_output=True).stdout
     assert run("--check", input=lines)[:2] == (0, b"fox: OK\n")
