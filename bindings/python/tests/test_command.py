@@ -1,11 +1,13 @@
 """The program: python3 -m sketch_hash."""
 import os
 import pty
+import re
 import signal
 import subprocess
 import sys
 
 import pytest
+from sketch_hash.__main__ import Bar
 
 FOX = b"The quick brown fox jumps over the lazy dog"
 LONG = "import sketch_hash; print(sketch_hash.xxh64_hexdigest(bytes(2_500_000)), end='')"
@@ -156,3 +158,19 @@ def test_a_bar_is_drawn_on_a_terminal_alone():
     drawn = os.read(terminal, 10000)
     os.close(terminal)
     assert done.returncode == 0 and b"[" in drawn and drawn.endswith(b"\r\033[K")
+
+
+def test_a_bar_is_as_long_as_what_is_read(capsys, monkeypatch):
+    monkeypatch.setattr(sys.stderr, "isatty", lambda: True)
+    for size, pieces, texts in (
+        (3 << 20, (1 << 20, 2 << 20), ("[#{10} {20}]  33% 1 MiB  fox", "[#{30}] 100% 3 MiB  fox")),
+        (1, (2,), ("[#{30}] 100% 0 MiB  fox",)),  # a file that has grown
+        (0, (2,), ("[ {30}]   0% 0 MiB  fox",)),
+    ):
+        with Bar("fox", size) as bar:
+            for piece, text in zip(pieces, texts):
+                bar.next = 0
+                bar.add(piece)
+                whole = re.sub(r"(.)\{(\d+)\}", lambda it: it[1] * int(it[2]), text)
+                assert capsys.readouterr().err == f"\r{whole}\033[K"
+        assert capsys.readouterr().err == "\r\033[K"
