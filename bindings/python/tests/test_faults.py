@@ -31,6 +31,24 @@ def test_a_copy_goes_its_own_way(kind, way):
     assert second.digest() == kind(seed=9001).digest()
 
 
+class NamedXxh64(xxh64):
+    pass
+
+
+class NamedMurmur(murmur3_x64_128):
+    pass
+
+
+class NamedTable(MemberTable):
+    pass
+
+
+@pytest.mark.parametrize("way", WAYS)
+def test_a_copy_is_of_the_same_kind(way):
+    for first in (NamedXxh64(), NamedMurmur(), NamedTable(6, 1)):
+        assert type(way(first)) is type(first)
+
+
 def test_a_checkpoint_has_its_words_in_order():
     """As the state stands in C's memory, so that other languages take it up. The words were computed
     apart."""

@@ -431,13 +431,6 @@ def test_each_call_waits_for_the_others():
         assert lock.count == before + 1
 
 
-def test_a_copy_is_of_the_same_kind():
-    class Named(MemberTable):
-        pass
-
-    assert type(Named(6, 1).copy()) is Named
-
-
 def test_tables_that_are_merged_into_each_other():
     """No thread waits for ever."""
     one, two = filled(keys=[b"one"]), filled(keys=[b"two"])
