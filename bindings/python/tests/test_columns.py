@@ -53,6 +53,16 @@ def test_each_number(dtype):
     assert xxh64_each(array.array("Q", [5])).tolist() == expected([b"\5" + bytes(7)], 0)
 
 
+def test_each_name_of_a_width():
+    """What C calls a number of 32 or 64 bits differs by machine: each of its names is taken."""
+    some = OFFSETS[500:601]
+    for code in "iIlLqQ":
+        offsets = array.array(code, some)
+        assert xxh64_each((DATA, offsets)).tolist() == expected(KEYS[500:600], 0)
+        if offsets.itemsize == 8:
+            assert xxh64_each(offsets).tolist() == xxh64_each(array.array("Q", some)).tolist()
+
+
 def test_nothing():
     assert xxh64_each(numpy.zeros(0, "uint64")).tolist() == []
     for each in EACH:
