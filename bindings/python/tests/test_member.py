@@ -273,6 +273,12 @@ def test_a_column_that_lies_in_the_table_is_refused():
         with pytest.raises(ValueError, match="the key lies in the bytes of the table"):
             view.insert_each(column)
         assert buffer == before
+    # Offsets whose last bytes alone lie in the table.
+    whole = bytearray(bytes(16) + before)
+    view_of_end = MemberTable.view(memoryview(whole)[16:-48])
+    with pytest.raises(ValueError, match="the key lies in the bytes of the table"):
+        view_of_end.insert_each((b"fox", memoryview(whole)[:24].cast("Q")))
+    assert whole == bytes(16) + before
     view.insert_each((part[size:], part[size + 32 :].cast("Q")))
     assert view.to_bytes() == model(10, 3, [*KEYS, b""])
     buffer[3] = 5
