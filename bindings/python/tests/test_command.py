@@ -34,10 +34,10 @@ def test_a_file_and_standard_input():
     assert run("-a", "murmur3_x64_128", "fox") == (0, MURMUR + b"  fox\n", b"")
     assert run(input=FOX) == (0, XXH64 + b"  -\n", b"")
     assert run("fox", "-", input=b"")[1] == XXH64 + b"  fox\nef46db3751d8e999  -\n"
-
-
     # It is at its end the second time.
     assert run("-", "-", input=FOX) == (0, XXH64 + b"  -\nef46db3751d8e999  -\n", b"")
+
+
 def test_a_file_longer_than_a_read():
     with open("long", "wb") as file:
         file.write(bytes(2_500_000))
@@ -62,14 +62,14 @@ def test_an_input_that_does_not_wait():
         assert complaint.startswith(b"sketch_hash: -: Resource temporarily unavailable\n")
 
 
-def test_an_output_that_nobody_reads():
-    here, there = os.pipe()
 def test_an_output_that_is_full():
     command = [sys.executable, "-m", "sketch_hash", "fox"]
     with open("/dev/full", "wb") as full:
         assert subprocess.run(command, stdout=full, stderr=subprocess.PIPE).returncode != 0
 
 
+def test_an_output_that_nobody_reads():
+    here, there = os.pipe()
     os.close(here)
     command = [sys.executable, "-m", "sketch_hash", "fox"]
     done = subprocess.run(command, stdout=there, stderr=subprocess.PIPE)
@@ -114,11 +114,11 @@ def test_check_tells_what_is_wrong():
     assert output == b"fox: OK\nfox: FAILED\nmissing: FAILED to open or read\n"
     for words in (b"1 improperly formatted", b"1 file(s) could not", b"1 computed hash"):
         assert words in complaint
-    good, bad = XXH64 + b"  fox\n", b"0" * 16 + b"  fox\n"
-    for lines in (good + b"no hash\n", good + XXH64 + b"  missing\n", good + bad):
     for digits in (XXH64.upper(), XXH64[1:], XXH64 + b"0", MURMUR[1:], MURMUR + b"0", b"", b"\\"):
         status, output, complaint = run("-c", input=digits + b"  fox\n")
         assert (status, output) == (1, b"") and b"1 improperly formatted" in complaint
+    good, bad = XXH64 + b"  fox\n", b"0" * 16 + b"  fox\n"
+    for lines in (good + b"no hash\n", good + XXH64 + b"  missing\n", good + bad):
         assert run("-c", input=lines)[0] == 1
     assert run("-cq", input=good + bad)[1] == b"fox: FAILED\n"
     assert run("-c", "-", "missing", input=good)[0] == 1
@@ -130,14 +130,14 @@ def test_check_tells_what_is_wrong():
     assert complaint.startswith(b"sketch_hash: fo\0x: embedded null byte\n")
 
 
-def test_xxhsum_reads_the_lines_and_the_other_way_round():
-    lines = run("fox")[1]
 def test_a_list_longer_than_a_read():
     line = XXH64 + b"  fox\n"
     count = (1 << 20) // len(line) + 1
     assert run("--check", input=line * count) == (0, b"fox: OK\n" * count, b"")
 
 
+def test_xxhsum_reads_the_lines_and_the_other_way_round():
+    lines = run("fox")[1]
     assert subprocess.run(["xxhsum", "-c"], input=lines).returncode == 0
     lines = subprocess.run(["xxhsum", "-H1", "fox"], capture_output=True).stdout
     assert run("--check", input=lines)[:2] == (0, b"fox: OK\n")

@@ -30,3 +30,18 @@ for (const size of [10, piece, 3 * piece + 1]) {
     assert.equal((await hash(size, size - 1)).fault, 'the file has changed');
 }
 assert.equal((await hash(10, 11)).fault, 'the file has changed');
+// As many files that fail as are read at the same time keep no place, and the next one is read.
+for (let n = 0; n < 4; n += 1) assert.equal((await hash(10, 9)).fault, 'the file has changed');
+assert.equal((await hash(0, 0)).xxh64, library.xxh64(new Uint8Array(0), 7n).toString(16).padStart(16, '0'));
+
+// A file past 2^32 bytes is read from each of its places. These pieces are empty.
+const places = [];
+const long = 2 ** 32 + piece + 1;
+const fault = new Promise((resolve) => waiting.set('long', resolve));
+const slice = (from, to) => {
+    places.push([from, to]);
+    return { arrayBuffer: async () => new ArrayBuffer(0) };
+};
+globalThis.onmessage({ data: { id: 'long', file: { size: long, slice }, seed: 7n } });
+assert.equal((await fault).fault, 'the file has changed');
+assert.deepEqual(places, Array.from({ length: Math.ceil(long / piece) }, (_, at) => [at * piece, (at + 1) * piece]));
