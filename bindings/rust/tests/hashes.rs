@@ -171,6 +171,27 @@ fn copies_go_their_own_ways() {
     let mut few = Xxh64::new(5);
     few.update(b"fox");
     assert_eq!(format!("{few:?}"), "Xxh64 { seed: 5, length: 3 }");
+    let again = Xxh64::from_bytes(&few.to_bytes());
+    assert_eq!(format!("{again:?}"), "Xxh64 { seed: 5, length: 3 }");
+}
+
+/// Whatever was written before, and under whichever seed.
+#[test]
+fn a_reset_begins_anew_under_its_seed() {
+    for length in 0..100 {
+        let (mut x, mut m) = (Xxh64::new(5), Murmur3X64_128::new(5));
+        for seed in [7, 9] {
+            x.update(&vec![1; length]);
+            m.update(&vec![1; length]);
+            x.reset(seed);
+            m.reset(seed);
+            assert_eq!(x.digest(), xxh64(b"", seed));
+            x.update(FOX);
+            m.update(FOX);
+            assert_eq!(x.digest(), xxh64(FOX, seed));
+            assert_eq!(m.digest(), murmur3_x64_128(FOX, seed));
+        }
+    }
 }
 
 #[test]
