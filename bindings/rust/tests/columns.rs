@@ -91,5 +91,6 @@ fn each_number_is_hashed() {
     assert_eq!(short, Err(ColumnError { index: 7 }));
     assert_eq!(out, before);
     let text = "the entry at 7 of the column is missing or does not fit";
-    assert_eq!(short.unwrap_err().to_string(), text);
+    let error: Box<dyn std::error::Error> = Box::new(short.unwrap_err());
+    assert_eq!(error.to_string(), text);
 }
