@@ -158,16 +158,18 @@ impl XxHash64 {
         STRIPE - self.count
     }
 
-    // Takes bytes that fill no stripe.
+    // Takes bytes that fill no stripe. The fields are set after the copy: what was set before it
+    // LLVM would read again from memory, since it does not know where the copy goes.
     #[inline(always)]
     fn buffer_bytes(&mut self, bytes: &[u8])
         requires { length self.old.waiting + length bytes.now < 32 }
         ensures { self.new ≡ xxh64_after self.old bytes.now }
     {
-        self.total = self.total.wrapping_add(bytes.len() as u64);
+        let total = self.total.wrapping_add(bytes.len() as u64);
         let count = self.count;
         copy_small(&mut self.buffer, count, bytes);
         self.count = count + bytes.len();
+        self.total = total;
     }
 
     // Takes the bytes that fill the stripe that is begun.
@@ -187,17 +189,19 @@ impl XxHash64 {
     }
 
     // Takes whole stripes straight from the slice, and then the bytes after them, where no byte
-    // waits.
+    // waits. Here too the fields are set after the copy.
     #[inline(always)]
     fn consume_stripes(&mut self, bytes: &[u8])
         requires { length self.old.waiting ≡ 0 }
         ensures { self.new ≡ xxh64_after self.old bytes.now }
     {
-        self.total = self.total.wrapping_add(bytes.len() as u64);
+        let total = self.total.wrapping_add(bytes.len() as u64);
         let (stripes, last) = split_pieces::<STRIPE>(bytes);
-        self.lanes = fold_run(ScalarLanes::from_vector(self.lanes), stripes).into_vector();
+        let lanes = fold_run(ScalarLanes::from_vector(self.lanes), stripes).into_vector();
         copy_small(&mut self.buffer, 0, last);
         self.count = last.len();
+        self.total = total;
+        self.lanes = lanes;
     }
 
     // Takes bytes that go beyond the stripe that is begun. The lanes are moved from the vector to

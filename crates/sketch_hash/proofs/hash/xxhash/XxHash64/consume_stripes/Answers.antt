@@ -31,7 +31,7 @@ returns c =
     let empty : held ≡ [] = nil_from_length held none in
     let total : i.total < 2 ^ 64 = search rules in
     let stripes : c.split_pieces.result.0.now ≡ pieces 32 bytes = c.split_pieces.ensures.whole in
-    let run = c.into_vector-self-inside.ensures ∙ c.fold_run.ensures
+    let run = c.into_vector-lanes.ensures ∙ c.fold_run.ensures
     ∙ ap (λ v. each_lane v c.split_pieces.result.0.now) c.from_vector.ensures
     ∙ ap (each_lane (lanes_of i.lanes)) stripes in
     let waits : take (length last) c.copy_small.new.buffer ≡ rest 32 bytes =
