@@ -142,9 +142,9 @@ HIDING = re.compile("|".join([
     rf"^(?! *{HEAD}fn \w)[^\"\n]*\bfn \w+\s*[<(].*",
 ]), re.M)
 
-# Text in which code would be taken for a text or a comment: a text before two slashes, a quote that is one by
-# a backslash, a line that goes on; and blanks that are none.
-BLURRED = re.compile(r"^[^/\n]*\".*//.*|^.*'\\\"'.*|^.*\\$|^.*[\t\v\f\r\x85\xa0\u200b-\u200f\u2028\u2029\ufeff].*", re.M)
+# Text in which code would be taken for a text or a comment: a text before two slashes, a line that goes on; and
+# blanks that are none.
+BLURRED = re.compile(r"^[^/\n]*\".*//.*|^.*\\$|^.*[\t\v\f\r\x85\xa0\u200b-\u200f\u2028\u2029\ufeff].*", re.M)
 
 ITEM = rf"(?:{SEEN}|unsafe |final |const (?=fn)|extern \"C\" )*(fn|impl|trait|struct|enum|union|mod|use|static|const|type)\b(?!\()"
 
