@@ -32,6 +32,8 @@ def run(*words, **how):
 def test_a_file_and_standard_input():
     assert run("fox") == (0, XXH64 + b"  fox\n", b"")
     assert run("-a", "murmur3_x64_128", "fox") == (0, MURMUR + b"  fox\n", b"")
+    status, output, complaint = run("-a", "md5", "fox")
+    assert (status, output) == (2, b"") and b"'md5' (choose from " in complaint
     assert run(input=FOX) == (0, XXH64 + b"  -\n", b"")
     assert run("fox", "-", input=b"")[1] == XXH64 + b"  fox\nef46db3751d8e999  -\n"
     # It is at its end the second time.
@@ -118,10 +120,16 @@ def test_check_tells_what_is_wrong():
         status, output, complaint = run("-c", input=digits + b"  fox\n")
         assert (status, output) == (1, b"") and b"1 improperly formatted" in complaint
     good, bad = XXH64 + b"  fox\n", b"0" * 16 + b"  fox\n"
-    for lines in (good + b"no hash\n", good + XXH64 + b"  missing\n", good + bad):
-        assert run("-c", input=lines)[0] == 1
+    missing = XXH64 + b"  missing\n"
+    for lines in (good + b"no hash\n", good + missing, good + bad, missing, bad, good + bad + missing):
+        status, output, complaint = run("-c", input=lines)
+        assert status == 1 and b"no line with a hash" not in complaint
     assert run("-cq", input=good + bad)[1] == b"fox: FAILED\n"
     assert run("-c", "-", "missing", input=good)[0] == 1
+    # As hashes are, standard input is left open.
+    assert run("-c", "-", "fox", "-", input=good) == (
+        1, b"fox: OK\n", b"sketch_hash: 1 improperly formatted line(s)\n"
+    )
     status, output, complaint = run("-c", input=b"")
     assert (status, output) == (1, b"") and b"no line with a hash" in complaint
     assert run("-c", "missing")[0] == 1
@@ -158,6 +166,10 @@ def test_a_bar_is_drawn_on_a_terminal_alone():
     drawn = os.read(terminal, 10000)
     os.close(terminal)
     assert done.returncode == 0 and b"[" in drawn and drawn.endswith(b"\r\033[K")
+    feeder = subprocess.Popen(command, stdout=subprocess.PIPE)
+    assert run(stdin=feeder.stdout) == run(input=FOX * 2)
+    feeder.stdout.close()
+    feeder.wait()
 
 
 def test_a_bar_is_as_long_as_what_is_read(capsys, monkeypatch):
