@@ -74,8 +74,11 @@ def test_refused(name):
 
 def test_a_str_is_refused_with_the_reason():
     for call in (*KINDS, *ONE_CALL, xxh64().update):
-        with pytest.raises(TypeError, match="encode"):
+        with pytest.raises(TypeError, match=r"^a str .*: pass data.encode\(\)$"):
             call("text")
+        with pytest.raises(TypeError) as found:
+            call(5)
+        assert "encode" not in str(found.value)
 
 
 def test_nothing():

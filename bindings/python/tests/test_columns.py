@@ -112,6 +112,19 @@ def test_refused(keys):
             each(keys)
 
 
+def test_what_is_refused_is_told():
+    for keys, text in (
+        (numpy.zeros(4, "u4"), "a column is one row of whole numbers of 64 bits"),
+        ((DATA, DATA), "a column is one row of whole numbers of 32 or 64 bits"),
+    ):
+        with pytest.raises(TypeError, match=f"^{text}$"):
+            xxh64_each(keys)
+    with pytest.raises(TypeError, match="^a column of bytes is a pair of bytes and offsets$"):
+        murmur3_x64_128_each(numpy.zeros(4, "u8"))
+    with pytest.raises(ValueError, match="^a column of numbers has to lie at a multiple of their width$"):
+        xxh64_each(memoryview(bytearray(20))[4:12].cast("Q"))
+
+
 def test_a_seed_outside_of_64_bits_is_refused():
     for each, keys in ((xxh64_each, numpy.zeros(4, "uint64")), (xxh64_each, PAIR), (EACH[1], PAIR)):
         with pytest.raises(OverflowError, match="a seed is from 0 to"):

@@ -65,7 +65,8 @@ def test_a_checkpoint_has_its_words_in_order():
 def test_a_checkpoint_of_another_length_is_refused():
     rebuild, (kind, seed, checkpoint) = xxh64().__reduce__()
     for other in (checkpoint[:-1], checkpoint + b"\0", b""):
-        with pytest.raises(ValueError):
+        text = f"^a checkpoint of xxh64 does not have {len(other)} bytes$"
+        with pytest.raises(ValueError, match=text):
             rebuild(kind, seed, other)
 
 
@@ -182,6 +183,13 @@ def test_a_seed_is_a_whole_number(seed):
 
 
 def test_the_first_and_the_last_seed():
-    assert xxh64(b"a", 0).digest() == xxh64(b"a").digest()
+    for kind in KINDS:
+        assert kind(b"a", 0).digest() == kind(b"a").digest()
+    for call in ONE_CALL:
+        assert call(b"a", 0) == call(b"a")
+    pair = b"a", array.array("I", [0, 1])
+    for each in (xxh64_each, murmur3_x64_128_each):
+        assert each(pair, 0) == each(pair)
+    assert xxh64_each(array.array("Q", [5]), 0) == xxh64_each(array.array("Q", [5]))
     assert xxh64(b"a", True).digest() == xxh64(b"a", 1).digest()
     assert xxh64(b"a", 2**64 - 1).digest() != xxh64(b"a", 0).digest()
