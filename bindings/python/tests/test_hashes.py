@@ -131,7 +131,11 @@ def test_lengths_past_32_bits(kind):
             # Offsets of 32 bits have no sign.
             short = sketch_hash.MemberTable(6, 1)
             short.insert_each((zeros, array.array("I", [1 << 31, (1 << 31) + 3])))
-            assert bytes(3) in short and short.count == 1
+            assert bytes(3) in short and bytes(5) not in short and short.count == 1
+            short.insert_each((zeros, array.array("Q", [1 << 32, (1 << 32) + 5])))
+            assert bytes(5) in short
             for table in tables:
                 assert int.from_bytes(table.to_bytes()[24:], "little") == 1 << answers[kind] % 64
                 assert zeros in table and b"fox" not in table
+                columns = [(zeros, array.array("Q", [0, end])) for end in (len(zeros), 37)]
+                assert [it.tolist() for it in map(table.contains_each, columns)] == [[True], [False]]

@@ -161,11 +161,11 @@ def test_each_damage_of_a_header_has_its_text(place):
 def test_bytes_of_another_length_are_refused():
     whole = filled().to_bytes()
     for length in range(len(whole)):
-        with pytest.raises(ValueError, match="header is not all" if length < 24 else "fewer bytes"):
+        with pytest.raises(ValueError, match="the header is not all there$" if length < 24 else "fewer bytes"):
             MemberTable.from_bytes(whole[:length])
     with pytest.raises(ValueError, match="more bytes"):
         MemberTable.from_bytes(whole + b"\0")
-    with pytest.raises(ValueError, match="a table of version 1, which has no place for a count"):
+    with pytest.raises(ValueError, match="^a table of version 1, which has no place for a count$"):
         MemberTable.from_bytes(bytes([2, 1, 200, 6, 3, 0, 0, 0]) + bytes(8 + 8))
 
 
@@ -270,13 +270,15 @@ def test_a_column_that_lies_in_the_table_is_refused():
         (b"fox", part[size - 8 : size + 8].cast("Q")),
         (b"fox", part[size - 24 : size].cast("Q")),
     ):
-        with pytest.raises(ValueError, match="the key lies in the bytes of the table"):
+        with pytest.raises(ValueError, match="the key lies in the bytes of the table$"):
             view.insert_each(column)
+        if not isinstance(column, tuple):
+            view.contains_each(column)  # which writes nothing there
         assert buffer == before
     # Offsets whose last bytes alone lie in the table.
     whole = bytearray(bytes(16) + before)
     view_of_end = MemberTable.view(memoryview(whole)[16:-48])
-    with pytest.raises(ValueError, match="the key lies in the bytes of the table"):
+    with pytest.raises(ValueError, match="the key lies in the bytes of the table$"):
         view_of_end.insert_each((b"fox", memoryview(whole)[:24].cast("Q")))
     assert whole == bytes(16) + before
     view.insert_each((part[size:], part[size + 32 :].cast("Q")))
@@ -293,6 +295,33 @@ def test_a_column_may_have_more_than_2_to_the_32_keys():
     null, most = _calls.ffi.NULL, 2**32
     answer = _calls.lib.member_each(null, 0, null, most, null, 1, most + 5, null)
     assert answer == most + 2
+
+
+def test_places_and_lengths_past_32_bits():
+    """Of places that the calls do not read, since there is no byte of a header."""
+    lib, at, far = _calls.lib, lambda place: _calls.ffi.cast("char *", place), 2**32
+    header_ends, in_table = lib.SKETCH_MEMBER_HEADER_ENDS, lib.KEY_IN_TABLE
+    for place, length, status in (
+        (3 * far, 8, header_ends),
+        (far, 8, header_ends),
+        (far, far + 8, in_table),
+        (far, far, header_ends),
+    ):
+        assert lib.member_insert(at(2 * far), 0, at(place), length) == status
+    null = _calls.ffi.NULL
+    for column, status in (
+        ((at(far), far + 8, null, 8, 1), in_table),
+        ((at(far), far, null, 8, 1), header_ends),
+        ((at(8), 0, at(far), 8, far // 8 + 1), in_table),
+    ):
+        assert lib.member_each(at(2 * far), 0, *column, null) == status
+    whole = _calls.ffi.from_buffer(filled().to_bytes())
+    long = whole, far + len(whole)
+    assert lib.sketch_member_check(*long) == lib.SKETCH_MEMBER_TRAILING_BYTES
+    for call in (lib.member_insert, lib.member_contains):
+        assert call(*long, null, 0) == lib.SKETCH_MEMBER_TRAILING_BYTES
+    assert lib.member_merge(*long, whole, len(whole)) == lib.SKETCH_MEMBER_TRAILING_BYTES
+    assert lib.member_merge(whole, len(whole), *long) == lib.SKETCH_MEMBER_TRAILING_BYTES
 
 
 def test_merged_tables_contain_the_keys_of_both():
@@ -320,7 +349,23 @@ def test_unlike_tables_stay_as_they_were():
             table.merge(other)
         with pytest.raises(TypeError):
             table |= other
+    with pytest.raises(TypeError, match="^a table is merged with a table, and not with bytes$"):
+        table.merge(b"fox")
     assert table.to_bytes() == filled().to_bytes()
+
+
+def test_another_class_may_know_tables():
+    class Other:
+        def __ror__(self, table):
+            return "mine"
+
+        def __eq__(self, table):
+            return True
+
+    table = filled()
+    assert table == Other()
+    table |= Other()
+    assert table == "mine"
 
 
 def test_counts_may_be_unknown_and_end_at_the_greatest():
@@ -365,7 +410,7 @@ def test_a_key_that_lies_in_the_table_is_refused():
     view = MemberTable.view(part[6:-5])
     before = bytes(buffer)
     for key in (part, part[6:-5], part[5:7], part[-6:-4], part[30:31]):
-        with pytest.raises(ValueError, match="the key lies in the bytes of the table"):
+        with pytest.raises(ValueError, match="the key lies in the bytes of the table$"):
             view.insert(key)
         assert key not in view and buffer == before
     for key in (part[:6], part[-5:], part[30:30]):
@@ -466,11 +511,13 @@ def test_short_calls_keep_the_lock_of_python(ticks):  # noqa: F811
 def test_long_calls_give_up_the_lock_of_python(ticks):  # noqa: F811
     """The other thread may be late on a busy machine, so it is given ten seconds."""
     key, table, other = bytes(1 << 24), MemberTable(20, 1), MemberTable(20, 1)
-    offsets = numpy.zeros(1 << 20, "u4")
+    offsets, ends = numpy.zeros(1 << 20, "u4"), numpy.array([0, len(key)])
     calls = [
         lambda: table.insert(key),
         lambda: table.insert_each(memoryview(key).cast("Q")),
         lambda: table.insert_each((b"", offsets)),
+        lambda: table.insert_each((key, ends)),
+        lambda: table.contains_each((key, ends)),
         lambda: table.contains_each((b"", offsets)),
         lambda: key in table,
         lambda: table.merge(other),
