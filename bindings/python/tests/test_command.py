@@ -121,12 +121,16 @@ def test_check_tells_what_is_wrong():
         assert (status, output) == (1, b"") and b"1 improperly formatted" in complaint
     good, bad = XXH64 + b"  fox\n", b"0" * 16 + b"  fox\n"
     missing = XXH64 + b"  missing\n"
-    for lines in (good + b"no hash\n", good + missing, good + bad, missing, bad, good + bad + missing):
+    wrong = missing, bad, good + missing, good + bad, good + bad + missing, good + b"no hash\n"
+    for lines in wrong:
         status, output, complaint = run("-c", input=lines)
         assert status == 1 and b"no line with a hash" not in complaint
     assert run("-cq", input=good + bad)[1] == b"fox: FAILED\n"
     assert run("-c", "-", "missing", input=good)[0] == 1
-    # As hashes are, standard input is left open.
+    # A line without a backslash before it has a name as it stands.
+    output = run("-c", input=XXH64 + b"  no\\nfile\n")[1]
+    assert output == b"no\\nfile: FAILED to open or read\n"
+    # Standard input is left open.
     assert run("-c", "-", "fox", "-", input=good) == (
         1, b"fox: OK\n", b"sketch_hash: 1 improperly formatted line(s)\n"
     )

@@ -138,4 +138,5 @@ def test_lengths_past_32_bits(kind):
                 assert int.from_bytes(table.to_bytes()[24:], "little") == 1 << answers[kind] % 64
                 assert zeros in table and b"fox" not in table
                 columns = [(zeros, array.array("Q", [0, end])) for end in (len(zeros), 37)]
-                assert [it.tolist() for it in map(table.contains_each, columns)] == [[True], [False]]
+                found = [table.contains_each(column).tolist() for column in columns]
+                assert found == [[True], [False]]

@@ -161,7 +161,8 @@ def test_each_damage_of_a_header_has_its_text(place):
 def test_bytes_of_another_length_are_refused():
     whole = filled().to_bytes()
     for length in range(len(whole)):
-        with pytest.raises(ValueError, match="the header is not all there$" if length < 24 else "fewer bytes"):
+        text = "the header is not all there$" if length < 24 else "fewer bytes"
+        with pytest.raises(ValueError, match=text):
             MemberTable.from_bytes(whole[:length])
     with pytest.raises(ValueError, match="more bytes"):
         MemberTable.from_bytes(whole + b"\0")
