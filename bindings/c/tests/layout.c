@@ -118,6 +118,18 @@ static void initializers(void) {
     for (uint64_t i = 0; i < 10000; i++) initialized(i * 0x9E3779B97F4A7C15ULL);
 }
 
+/* A status is 0, and else the negative number of its place. */
+static void statuses(void) {
+    static const int numbers[] = {
+        SKETCH_MEMBER_DONE,           SKETCH_MEMBER_HEADER_ENDS,     SKETCH_MEMBER_PREAMBLE_LONGS,
+        SKETCH_MEMBER_SERIAL_VERSION, SKETCH_MEMBER_FAMILY,          SKETCH_MEMBER_LOG2_BITS,
+        SKETCH_MEMBER_HASHES,         SKETCH_MEMBER_RESERVED,        SKETCH_MEMBER_UNKNOWN_COUNT,
+        SKETCH_MEMBER_MISSING_BITS,   SKETCH_MEMBER_TRAILING_BYTES,  SKETCH_MEMBER_VERSION_1,
+        SKETCH_MEMBER_OTHER_SEED,     SKETCH_MEMBER_OTHER_LOG2_BITS, SKETCH_MEMBER_OTHER_HASHES,
+    };
+    for (int i = 0; i < 15; i++) same("a status", numbers[i] == -i, 1);
+}
+
 int main(void) {
     unsigned char bytes[35];
     for (size_t i = 0; i < sizeof bytes; i++) bytes[i] = (unsigned char)i;
@@ -126,5 +138,6 @@ int main(void) {
     xxh64(bytes);
     murmur(bytes);
     initializers();
-    return conclude(20410);
+    statuses();
+    return conclude(20425);
 }
