@@ -65,7 +65,7 @@ for (const offsets of [narrow, Int32Array.from(narrow), wide, BigInt64Array.from
         assert.throws(() => each(all, offsets.subarray(3)), /the offset at 0 is/);
     }
 }
-assert.throws(() => xxh64Each(all, Int32Array.of(0, -1)), /the offset at 1 is/);
+assert.throws(() => xxh64Each(all, Int32Array.of(0, -1)), /the offset at 1 is missing, past the end or below the one before$/);
 const far = new Uint32Array(70_000);
 far[65_535] = long.length + 1;
 assert.throws(() => xxh64Each(long, far), /the offset at 65535 is/);
@@ -87,11 +87,13 @@ for (const kind of [BigUint64Array, BigInt64Array]) {
     assert.deepEqual([...xxh64EachU64(numbers, 9n)], expected);
     assert.equal(xxh64EachU64(numbers.subarray(4)).length, 0);
 }
-for (const offsets of [[0, 3], new Uint8Array(2), new Float64Array(2), new DataView(all.buffer), null, undefined]) {
+const bytewise = [Int8Array, Uint8Array, Uint8ClampedArray];
+const others = [...bytewise, Int16Array, Uint16Array, Float32Array, Float64Array].map((kind) => new kind(2));
+for (const offsets of [[0, 3], ...others, new DataView(all.buffer), null, undefined]) {
     assert.throws(() => xxh64Each(all, offsets), TypeError);
     assert.throws(() => xxh64EachU64(offsets), TypeError);
 }
-assert.throws(() => xxh64EachU64(ends), /BigUint64Array/);
+assert.throws(() => xxh64EachU64(ends), /the column is no BigUint64Array, BigInt64Array$/);
 assert.throws(() => murmur3X64_128Each('fox', ends), /TextEncoder/);
 // A refused seed does not let the memory grow.
 const { grow } = WebAssembly.Memory.prototype;
@@ -99,9 +101,23 @@ WebAssembly.Memory.prototype.grow = () => assert.fail('the memory grows');
 for (const seed of [-1n, 2n ** 64n]) assert.throws(() => xxh64EachU64(new BigInt64Array(1e6), seed), RangeError);
 WebAssembly.Memory.prototype.grow = grow;
 
-// The memory grows where one byte is missing: columns of each size over a whole page.
+// The memory grows where one byte is missing, and by no more pages than are.
+let memory;
+WebAssembly.Memory.prototype.grow = function (pages) {
+    memory = this;
+    return grow.call(this, pages);
+};
 const { xxh64Each: once } = await load(readFileSync(new URL('sketch_hash.wasm', dist)));
-for (let size = 300_000; size <= 300_000 + 65_536; size += 1) once(new Uint8Array(long.buffer, 0, size), Uint32Array.of(0, 9));
+const hashOf = (size) => once(new Uint8Array(long.buffer, 0, size), Uint32Array.of(0, 9));
+const page = 65_536;
+const { byteLength } = memory.buffer;
+let size = 4 * page - 100;
+while (memory.buffer.byteLength === byteLength) hashOf(size += 1);
+for (const [more, pages] of [[page - 1, 1], [page, 2], [3 * page, 4], [4 * page - 1, 4], [20 * page, 21]]) {
+    hashOf(size + more);
+    assert.equal(memory.buffer.byteLength, byteLength + page * pages);
+}
+WebAssembly.Memory.prototype.grow = grow;
 
 // What is refused.
 for (const seed of [-1n, 2n ** 64n, 2n ** 70n]) {
@@ -109,8 +125,22 @@ for (const seed of [-1n, 2n ** 64n, 2n ** 70n]) {
         assert.throws(call, RangeError);
     }
 }
-for (const seed of [0, '0', null, 1.5]) assert.throws(() => new Murmur3X64_128(seed), TypeError);
-for (const input of ['fox', [1, 2], 5, null, undefined]) assert.throws(() => xxh64(input, 0n), TypeError);
+const number = BigUint64Array.of(5n);
+for (const seed of [0, '0', null, 1.5]) {
+    for (const call of [() => new Xxh64(seed), () => new Murmur3X64_128(seed), () => xxh64(fox, seed),
+        () => murmur3X64_128(fox, seed), () => xxh64Each(all, narrow, seed),
+        () => murmur3X64_128Each(all, narrow, seed), () => xxh64EachU64(number, seed)]) {
+        assert.throws(call, { name: 'TypeError', message: 'a seed is a BigInt, as 0n' });
+    }
+}
+assert.throws(() => xxh64(fox, -1n), { message: 'a seed is from 0n to 2n ** 64n - 1n' });
+// Each call without a seed takes 0n.
+assert.deepEqual([...xxh64EachU64(number)], [xxh64(number, 0n)]);
+assert.deepEqual(xxh64Each(all, narrow), xxh64Each(all, narrow, 0n));
+assert.deepEqual(murmur3X64_128Each(all, narrow), murmur3X64_128Each(all, narrow, 0n));
+assert.equal(new Xxh64().update(fox).digest(), xxh64(fox, 0n));
+assert.equal(murmur3X64_128(fox), murmur3X64_128(fox, 0n));
+for (const input of ['fox', [1, 2], 5, null, undefined, new SharedArrayBuffer(8)]) assert.throws(() => xxh64(input, 0n), TypeError);
 assert.throws(() => new Xxh64().update('fox'), /TextEncoder/);
 
 // Other sources, bytes that are no module, and an engine without 64-bit memories.
@@ -123,14 +153,33 @@ for (const part of [bytes.subarray(1), bytes.subarray(0, 1000), new ArrayBuffer(
 assert.equal((await load('sketch_hash.wasm')).xxh64(fox), xxh64(fox));
 const { fetch } = globalThis;
 globalThis.fetch = async () => new Response(bytes, { status: 404, statusText: 'Not Found' });
-await assert.rejects(load('https://localhost/sketch_hash.wasm'), /404 Not Found/);
-globalThis.fetch = async () => new Response(bytes);
+const missing = { name: 'Error', message: 'https://localhost/sketch_hash.wasm: 404 Not Found' };
+await assert.rejects(load('https://localhost/sketch_hash.wasm'), missing);
+globalThis.fetch = async () => new Response(bytes, { status: 503 });
+await assert.rejects(load('https://localhost/sketch_hash.wasm'), /: 503/);
+const asked = [];
+globalThis.fetch = async (url) => asked.push(url.href) && new Response(bytes);
 assert.equal((await load('https://localhost/sketch_hash.wasm')).xxh64(fox), xxh64(fox));
+// Elsewhere than in Node a file is fetched too, also beside something that is called a process.
+const { process: node } = globalThis;
+for (const other of [undefined, {}, { versions: {} }]) {
+    globalThis.process = other;
+    assert.equal((await load()).xxh64(fox), xxh64(fox));
+}
+globalThis.process = node;
 globalThis.fetch = fetch;
+const beside = new URL('sketch_hash.wasm', dist).href;
+assert.deepEqual(asked, ['https://localhost/sketch_hash.wasm', beside, beside, beside]);
 const { validate } = WebAssembly;
 WebAssembly.validate = () => false;
-await assert.rejects(load(bytes), /64-bit memories.*Firefox from 134/);
+await assert.rejects(load(bytes), { name: 'Error', message: /64-bit memories.*Firefox from 134/ });
+WebAssembly.validate = (it) => it.length > 20 || it[11] !== 4; // the flags of a memory: 4 for 64 bits
+await assert.rejects(load(bytes), /64-bit memories/);
 WebAssembly.validate = validate;
+const { WebAssembly: engine } = globalThis;
+delete globalThis.WebAssembly;
+await assert.rejects(load(bytes), /64-bit memories/);
+globalThis.WebAssembly = engine;
 await assert.rejects(load(new URL('missing.wasm', dist)));
 
 console.log(JSON.stringify(answer(library, JSON.parse(readFileSync(0, 'utf8')))));

@@ -1,4 +1,4 @@
-// The page's worker under Node: a file of another length than it says has changed, and is told so.
+// The page's worker under Node: what it says of texts and files, in which order, and of files that change.
 import assert from 'node:assert/strict';
 import { readFileSync } from 'node:fs';
 
@@ -8,11 +8,87 @@ const library = await load();
 const page = readFileSync(new URL('index.html', dist), 'utf8');
 const [, worker] = page.match(/<script type="text\/plain" id="worker">\n(.*?)<\/script>/s);
 
+const piece = 4 << 20;
 const waiting = new Map();
-globalThis.load = async () => library;
-globalThis.postMessage = (said) => 'done' in said || waiting.get(said.id)?.(said);
+const said = [];
+globalThis.postMessage = (it) => {
+    said.push(it);
+    if (!('done' in it)) waiting.get(it.id)?.(it);
+};
+let clock = 1000;
+Object.defineProperty(globalThis, 'performance', { value: { now: () => clock } });
 (0, eval)(worker);
-await globalThis.onmessage({ data: { wasm: new ArrayBuffer(0) } });
+const tell = (data) => globalThis.onmessage({ data });
+const soon = () => new Promise(setImmediate);
+
+// Both hashes of bytes, as they are told of an id.
+function told(id, bytes) {
+    const [xxh64, murmur3] = [new library.Xxh64(7n), new library.Murmur3X64_128(7n)];
+    return { id, xxh64: xxh64.update(bytes).hexdigest(), murmur3: murmur3.update(bytes).hexdigest() };
+}
+
+// A file of zeros whose reads end when the test says so.
+const reads = [];
+function slow(id, size) {
+    const reading = (from, to) => new Promise((resolve, reject) => {
+        reads.push({ id, reject, end: () => resolve(new ArrayBuffer(Math.min(to, size) - from)) });
+    });
+    return { id, seed: 7n, file: { size, slice: (from, to) => ({ arrayBuffer: () => reading(from, to) }) } };
+}
+
+async function endReads() {
+    for (; reads.length > 0; await soon()) reads.shift().end();
+}
+
+// Before the module is loaded a text has no answer, and files wait.
+tell({ id: 1, text: 'fox', seed: 7n });
+tell(slow(2, 5));
+tell(slow(3, 0));
+tell(slow(4, 5));
+const module = new ArrayBuffer(8);
+globalThis.load = async () => { throw new Error('no memory'); };
+await tell({ wasm: module });
+await endReads();
+assert.deepEqual(said.splice(0), [{ unable: 'no memory' }]);
+globalThis.load = async (wasm) => wasm === module && library;
+await tell({ wasm: module });
+assert.deepEqual(reads.map(({ id }) => id), [2, 4]);
+await endReads();
+const early = said.splice(0).filter((it) => !('done' in it));
+assert.deepEqual(early.shift(), { ready: true });
+assert.deepEqual(new Set(early), new Set([2, 3, 4].map((id) => told(id, new Uint8Array(id === 3 ? 0 : 5)))));
+for (const text of ['', 'f\u00f6x']) {
+    tell({ id: 0, text, seed: 7n });
+    assert.deepEqual(said.splice(0), [told(0, new TextEncoder().encode(text))]);
+}
+
+// Four files are read at the same time, four pieces of each; others wait, and come in their order.
+for (let id = 0; id < 8; id += 1) tell(slow(id, 6 * piece));
+await soon();
+assert.deepEqual(reads.map(({ id }) => id).sort(), [0, 1, 2, 3].flatMap((id) => [id, id, id, id]));
+for (const id of [5, 4, 0, 'none']) tell({ stop: id });
+await endReads();
+const answers = said.splice(0).filter((it) => !('done' in it));
+assert.deepEqual(answers.slice(0, 3), [5, 4, 0].map((id) => ({ id, stopped: true })));
+assert.deepEqual(answers.slice(3), [1, 2, 3, 6, 7].map((id) => told(id, new Uint8Array(6 * piece))));
+
+// How far a file is, is told ten times a second at most.
+tell(slow(8, 6 * piece));
+for (await soon(); reads.length > 0; await soon()) {
+    clock += 60;
+    reads.shift().end();
+}
+assert.deepEqual(said.splice(0, 3), [1, 3, 5].map((count) => ({ id: 8, done: count * piece })));
+assert.deepEqual(said.splice(0), [told(8, new Uint8Array(6 * piece))]);
+
+// A read that fails is told, and those after it are let go.
+for (const error of [new Error('gone'), 'gone']) {
+    tell(slow(9, 3 * piece));
+    await soon();
+    reads.splice(0).forEach(({ reject }) => reject(error));
+    await soon();
+    assert.deepEqual(said.splice(0), [{ id: 9, fault: 'gone' }]);
+}
 
 // What the worker says of a file that tells a size and has `count` bytes, all zero.
 function hash(size, count) {
@@ -20,11 +96,10 @@ function hash(size, count) {
     const id = waiting.size;
     return new Promise((resolve) => {
         waiting.set(id, resolve);
-        globalThis.onmessage({ data: { id, file: { size, slice }, seed: 7n } });
+        tell({ id, file: { size, slice }, seed: 7n });
     });
 }
 
-const piece = 4 << 20;
 for (const size of [10, piece, 3 * piece + 1]) {
     assert.equal((await hash(size, size)).xxh64, library.xxh64(new Uint8Array(size), 7n).toString(16).padStart(16, '0'));
     assert.equal((await hash(size, size - 1)).fault, 'the file has changed');
@@ -42,6 +117,6 @@ const slice = (from, to) => {
     places.push([from, to]);
     return { arrayBuffer: async () => new ArrayBuffer(0) };
 };
-globalThis.onmessage({ data: { id: 'long', file: { size: long, slice }, seed: 7n } });
+tell({ id: 'long', file: { size: long, slice }, seed: 7n });
 assert.equal((await fault).fault, 'the file has changed');
 assert.deepEqual(places, Array.from({ length: Math.ceil(long / piece) }, (_, at) => [at * piece, (at + 1) * piece]));
