@@ -94,3 +94,24 @@ fn each_number_is_hashed() {
     let error: Box<dyn std::error::Error> = Box::new(short.unwrap_err());
     assert_eq!(error.to_string(), text);
 }
+
+/// Columns whose lengths take more than 16 bits, each of whose counts is used whole.
+#[test]
+fn long_columns() {
+    const LONG: usize = 70_000;
+    let ends: Vec<u32> = (0..=LONG as u32).collect();
+    let data: Vec<u8> = (0..LONG).map(|n| (n % 251) as u8).collect();
+    let numbers: Vec<u64> = (0..LONG as u64).collect();
+    let (mut x, mut m, mut u) = (vec![0; LONG], vec![[0; 2]; LONG], vec![0; LONG]);
+    xxh64_each(&data, &ends, SEED, &mut x).unwrap();
+    murmur3_x64_128_each(&data, &ends, SEED, &mut m).unwrap();
+    xxh64_each_u64(&numbers, SEED, &mut u).unwrap();
+    for n in [0, 1 << 16, LONG - 1] {
+        assert_eq!(x[n], plain::xxh64(&data[n..n + 1], SEED));
+        assert_eq!(m[n], <[u64; 2]>::from(plain::murmur3_x64_128(&data[n..n + 1], SEED)));
+        assert_eq!(u[n], plain::xxh64(&numbers[n].to_le_bytes(), SEED));
+    }
+    let missing = Err(ColumnError { index: LONG });
+    assert_eq!(xxh64_each(&data, &ends[..LONG], SEED, &mut x), missing);
+    assert_eq!(xxh64_each_u64(&numbers, SEED, &mut vec![0; LONG + 1]), missing);
+}

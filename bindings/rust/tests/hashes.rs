@@ -4,7 +4,9 @@ mod plain;
 
 use sketch_hash::{murmur3_x64_128, xxh64, xxh64_u64, BuildMurmur3X64_128, BuildXxh64};
 use sketch_hash::{murmur3_x64_128_each, xxh64_each, MemberTable, Murmur3X64_128, Xxh64};
+use sketch_hash::{ColumnError, TableError};
 use std::collections::HashMap;
+use std::fmt::Debug;
 use std::hash::{BuildHasher, Hash, Hasher};
 
 const FOX: &[u8] = b"The quick brown fox jumps over the lazy dog";
@@ -152,6 +154,25 @@ fn what_makes_hashers() {
     assert_ne!(M, BuildMurmur3X64_128::default());
     assert_eq!(BuildXxh64::default().hash_one(5_u64), xxh64_u64(5, 0));
     assert_eq!(BuildMurmur3X64_128::default().build_hasher().digest(), murmur3_x64_128(&[], 0));
+}
+
+/// What a program may ask of the types: errors are keys of sets, and all go to other threads.
+#[test]
+fn traits_of_the_types() {
+    fn copied<T: Copy + Eq + Debug>() {}
+    fn errors<T: Copy + Eq + Hash + Debug + Send + Sync>() {}
+    fn kept<T: Clone + Debug + Send + Sync>() {}
+    fn compared<T: Eq>() {}
+    copied::<BuildXxh64>();
+    copied::<BuildMurmur3X64_128>();
+    errors::<ColumnError>();
+    errors::<TableError>();
+    kept::<Xxh64>();
+    kept::<Murmur3X64_128>();
+    kept::<MemberTable>();
+    compared::<MemberTable>();
+    assert_eq!(TableError::HeaderEnds as i32, -1);
+    assert_eq!(TableError::OtherHashes as i32, -14);
 }
 
 #[test]
