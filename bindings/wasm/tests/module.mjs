@@ -117,6 +117,26 @@ for (const [more, pages] of [[page - 1, 1], [page, 2], [3 * page, 4], [4 * page 
     hashOf(size + more);
     assert.equal(memory.buffer.byteLength, byteLength + page * pages);
 }
+
+// Engines that count pages by BigInts alone or by numbers alone, and one that has no room.
+for (const type of ['bigint', 'number']) {
+    WebAssembly.Memory.prototype.grow = function (pages) {
+        if (typeof pages !== type) throw new TypeError('pages are counted otherwise');
+        try {
+            return grow.call(this, BigInt(pages));
+        } catch {
+            return grow.call(this, Number(pages));
+        }
+    };
+    assert.equal((await load()).xxh64(fox), xxh64(fox));
+}
+let asks = 0;
+WebAssembly.Memory.prototype.grow = () => {
+    asks += 1;
+    throw new RangeError('no room');
+};
+await assert.rejects(load(), { name: 'RangeError', message: 'no room' });
+assert.equal(asks, 1);
 WebAssembly.Memory.prototype.grow = grow;
 
 // What is refused.
