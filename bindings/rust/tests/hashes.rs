@@ -149,6 +149,8 @@ fn each_number_feeds_its_bytes() {
 fn what_makes_hashers() {
     const X: BuildXxh64 = BuildXxh64::new(1 << 32);
     const M: BuildMurmur3X64_128 = BuildMurmur3X64_128::new(1 << 32);
+    const STREAM: Xxh64 = Xxh64::new(1 << 32);
+    assert_eq!(STREAM.digest(), X.build_hasher().digest());
     assert_eq!((X, M), (BuildXxh64::new(1 << 32), BuildMurmur3X64_128::new(1 << 32)));
     assert_ne!(X, BuildXxh64::default());
     assert_ne!(M, BuildMurmur3X64_128::default());
@@ -270,6 +272,8 @@ fn lengths_past_32_bits() {
     let mut hasher = Xxh64::new(u64::MAX);
     hasher.update(&zeros);
     assert_eq!(hasher.digest(), 0x9ae5_8395_6774_714e);
+    let text = format!("{hasher:?}");
+    assert_eq!(text, format!("Xxh64 {{ seed: {}, length: 4294967333 }}", u64::MAX));
     assert_eq!(xxh64(&zeros, u64::MAX), 0x9ae5_8395_6774_714e);
     let mut hasher = Murmur3X64_128::new(u64::MAX);
     hasher.update(&zeros);

@@ -64,6 +64,17 @@ fn other_sizes_are_refused() {
     }
 }
 
+/// Also where a part of their length is that of a table.
+#[test]
+fn bytes_that_are_far_too_long_are_refused() {
+    let table = filled(6, 3, 0..1).into_bytes();
+    for power in [8, 16, 24, 32] {
+        let mut bytes = vec![0; table.len() + (1 << power)];
+        bytes[..table.len()].copy_from_slice(&table);
+        assert_eq!(MemberTable::from_bytes(&bytes), Err(TableError::TrailingBytes));
+    }
+}
+
 #[test]
 fn what_was_inserted_is_contained() {
     let table = filled(17, 7, 0..10_000);
