@@ -80,7 +80,7 @@ def test_an_output_that_nobody_reads():
 
 
 def test_seeds():
-    assert run("--seed", "0x10", "fox") == run("--seed", "16", "fox")
+    assert run("--seed", "0x10", "fox") == run("--seed", "16", "fox") == run("-s", "16", "fox")
     assert run("--seed", "18446744073709551615", "fox")[1] != run("fox")[1]
     for seed in ("18446744073709551616", "-1", "many", "1.5"):
         status, output, complaint = run("--seed", seed, "fox")
@@ -116,8 +116,10 @@ def test_check_tells_what_is_wrong():
     assert output == b"fox: OK\nfox: FAILED\nmissing: FAILED to open or read\n"
     for words in (b"1 improperly formatted", b"1 file(s) could not", b"1 computed hash"):
         assert words in complaint
-    for digits in (XXH64.upper(), XXH64[1:], XXH64 + b"0", MURMUR[1:], MURMUR + b"0", b"", b"\\"):
-        status, output, complaint = run("-c", input=digits + b"  fox\n")
+    wrong = XXH64.upper(), XXH64[1:], XXH64 + b"0", MURMUR[1:], MURMUR + b"0", b"", b"\\"
+    nameless = XXH64 + b"  ", XXH64 + b" fox", XXH64
+    for text in (*(digits + b"  fox" for digits in wrong), *nameless):
+        status, output, complaint = run("-c", input=text + b"\n")
         assert (status, output) == (1, b"") and b"1 improperly formatted" in complaint
     good, bad = XXH64 + b"  fox\n", b"0" * 16 + b"  fox\n"
     missing = XXH64 + b"  missing\n"
@@ -190,3 +192,18 @@ def test_a_bar_is_as_long_as_what_is_read(capsys, monkeypatch):
                 whole = re.sub(r"(.)\{(\d+)\}", lambda it: it[1] * int(it[2]), text)
                 assert capsys.readouterr().err == f"\r{whole}\033[K"
         assert capsys.readouterr().err == "\r\033[K"
+
+
+def test_a_bar_is_drawn_from_half_a_second_on_ten_times_a_second(capsys, monkeypatch):
+    monkeypatch.setattr(sys.stderr, "isatty", lambda: True)
+    now = [100.0]
+    monkeypatch.setattr("sketch_hash.__main__.time.monotonic", lambda: now[0])
+    with Bar("fox", 1000) as bar:
+        drawn = []
+        for hundredth in range(1, 100):
+            now[0] = 100.005 + hundredth / 100
+            bar.add(1)
+            if capsys.readouterr().err:
+                drawn.append(hundredth)
+    assert bar.done == 99
+    assert drawn == [50, 60, 70, 80, 90]

@@ -48,6 +48,14 @@ def test_tables_of_all_sizes_have_the_bytes_of_the_model(log2_bits):
         assert MemberTable.from_bytes(table.to_bytes()).to_bytes() == table.to_bytes()
 
 
+def test_sizes_are_whole_numbers_of_any_class():
+    class Ten:
+        def __index__(self):
+            return 10
+
+    assert MemberTable(Ten(), Ten()).to_bytes() == MemberTable(10, 10).to_bytes()
+
+
 def test_what_was_inserted_is_contained():
     table = filled(17, 7, (b"key %d" % n for n in range(10_000)))
     assert all(b"key %d" % n in table for n in range(10_000))
