@@ -79,6 +79,17 @@ def test_an_output_that_nobody_reads():
     assert (done.returncode, done.stderr) == (-signal.SIGPIPE, b"")
 
 
+def test_help():
+    status, output, complaint = run("--help")
+    words = b" ".join(output.split())
+    assert (status, complaint) == (0, b"") and words.startswith(b"usage: python3 -m sketch_hash ")
+    for text in (
+        "'-', or none, is standard input", "reads hashes from FILE", "with --check, prints no OK",
+        "Prints the hashes of files, or checks them: python3 -m sketch_hash --help",
+    ):
+        assert text.encode() in words
+
+
 def test_seeds():
     assert run("--seed", "0x10", "fox") == run("--seed", "16", "fox") == run("-s", "16", "fox")
     assert run("--seed", "18446744073709551615", "fox")[1] != run("fox")[1]
