@@ -90,6 +90,15 @@ def test_help():
         assert text.encode() in words
 
 
+def test_names_are_printed_as_sha256sum_does():
+    for name, printed in (
+        (b"new\nline", rb"new\nline"), (b"return\rline", rb"return\rline"), (b"back\\slash", rb"back\\slash"),
+    ):
+        with open(name, "wb") as file:
+            file.write(FOX)
+        assert run(name)[1] == b"\\" + XXH64 + b"  " + printed + b"\n"
+
+
 def test_seeds():
     assert run("--seed", "0x10", "fox") == run("--seed", "16", "fox") == run("-s", "16", "fox")
     assert run("--seed", "18446744073709551615", "fox")[1] != run("fox")[1]
@@ -125,8 +134,12 @@ def test_check_tells_what_is_wrong():
     status, output, complaint = run("-c", input=lines)
     assert status == 1
     assert output == b"fox: OK\nfox: FAILED\nmissing: FAILED to open or read\n"
-    for words in (b"1 improperly formatted", b"1 file(s) could not", b"1 computed hash"):
-        assert words in complaint
+    assert complaint.splitlines() == [
+        b"sketch_hash: missing: No such file or directory",
+        b"sketch_hash: 1 improperly formatted line(s)",
+        b"sketch_hash: 1 file(s) could not be read",
+        b"sketch_hash: 1 computed hash(es) did not match",
+    ]
     wrong = XXH64.upper(), XXH64[1:], XXH64 + b"0", MURMUR[1:], MURMUR + b"0", b"", b"\\"
     nameless = XXH64 + b"  ", XXH64 + b" fox", XXH64
     for text in (*(digits + b"  fox" for digits in wrong), *nameless):
