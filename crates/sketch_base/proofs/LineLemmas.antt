@@ -1,9 +1,9 @@
--- The displayed line, piece by piece as it is written.
-use Rattle.std.proofs.Common.{◌≡◌, ℕ, ◌≤◌, List, ◌∷◌, ◌++◌, length, take, map, codes, ap, sym, append_assoc}
+-- The displayed line and the debug text, piece by piece as they are written.
+use Rattle.std.proofs.Common.{◌≡◌, ℕ, ◌<◌, ◌≤◌, List, [], ◌∷◌, ◌++◌, length, take, map, codes, ap, sym, append_assoc, arith, refl}
 use Rattle.std.proofs.lemmas.List.{take_all}
 use Rattle.std.proofs.lemmas.List.Folds.{flat_map-map}
 use Rattle.std.specs.List.{flat_map}
-use Rattle.sketch_base.specs.ErrorValue.{ContextValue, pair_text, contexts_text}
+use Rattle.sketch_base.specs.ErrorValue.{ContextValue, pair_text, contexts_text, context_lines}
 
 -- the contexts in three pieces: the first, the others, and the closing brace
 pub contexts_text-is : {T : Type 0} (context : T → ContextValue) (first : T) (others all : List T) (n : ℕ) →
@@ -16,3 +16,14 @@ contexts_text-is context first others all n whole enough =
     (ap (λ pair. codes ", context: { " ++ pair
     ++ flat_map (λ other. codes ", " ++ pair_text (context other)) others ++ codes " }")
     (sym (append_assoc (context first).key (codes ": ") (context first).text)))
+
+-- the contexts of the debug text in two pieces: the line before them, and a line for each
+pub context_lines-is : {T : Type 0} (context : T → ContextValue) (all : List T) (n : ℕ) →
+    0 < length all → length all ≤ n →
+    10 ∷ codes "Context:" ++ 10 ∷
+    flat_map (λ c. codes "   " ++ pair_text (context c) ++ 10 ∷ []) (take n all)
+    ≡ context_lines (map context all)
+context_lines-is context [] n some enough = absurd (omega (arith, some))
+context_lines-is context (first ∷ others) n some enough =
+    let line : ContextValue → List ℕ = λ c. codes "   " ++ pair_text c ++ 10 ∷ [] in
+    rw (take_all n (first ∷ others) enough, flat_map-map line context (first ∷ others)) refl

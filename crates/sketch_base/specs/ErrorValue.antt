@@ -53,3 +53,15 @@ message_text message = if length message == 0 then [] else codes " => " ++ messa
 abbrev pub line : ErrorValue → List ℕ
 line error =
     error_kind_name error.kind ++ contexts_text error.contexts ++ message_text error.message
+
+-- all contexts in the debug text: nothing for none, else an empty line, the line `Context:`, and a
+-- line for each, which begins with three spaces
+abbrev pub context_lines : List ContextValue → List ℕ
+context_lines [] = []
+context_lines (first ∷ others) = 10 ∷ codes "Context:" ++ 10 ∷
+    flat_map (λ context. codes "   " ++ pair_text context ++ 10 ∷ []) (first ∷ others)
+
+-- the debug text: the kind and the message as they are displayed, a newline, and the contexts
+abbrev pub debug_text : ErrorValue → List ℕ
+debug_text error =
+    error_kind_name error.kind ++ message_text error.message ++ 10 ∷ context_lines error.contexts

@@ -2,7 +2,7 @@
 
 ghost use Rattle.std.specs.Prelude.{◌≡◌, ℕ, List, IfOk, IfErr, map, MatchResult, Some, string_bytes};
 ghost use Rattle.std.specs.Fmt.{DisplaysOnOk};
-ghost use Rattle.sketch_base.specs.ErrorValue.{contexts_text, error_kind_name, message_text};
+ghost use Rattle.sketch_base.specs.ErrorValue.{context_lines, contexts_text, error_kind_name, message_text};
 
 use std::alloc::{AllocError, Global};
 use std::fmt;
@@ -34,6 +34,8 @@ impl ErrorKind {
 
 impl fmt::Display for ErrorKind {
     ghost output = { λ kind. Some (error_kind_name kind) };
+
+    ghost styled_output = { λ kind _. Some (error_kind_name kind) };
 
     fn fmt<W: fmt::Write>(&self, f: &mut fmt::Formatter<W>) -> fmt::Result {
         f.write_str(self.into_static())
@@ -318,33 +320,53 @@ fn write_message<W: fmt::Write>(message: &str, f: &mut fmt::Formatter<W>) -> fmt
 }
 
 impl fmt::Debug for Error {
+    ghost use Rattle.sketch_base.specs.ErrorValue.{debug_text};
+
+    ghost debug_output = { λ error. Some (debug_text error) };
+
     fn fmt<W: fmt::Write>(&self, f: &mut fmt::Formatter<W>) -> fmt::Result {
         if f.alternate() {
-            let mut fields = f.debug_struct("Error");
-            fields.field("kind", &self.kind);
-            match &self.message {
-                Some(message) => fields.field("message", message),
-                None => fields.field("message", &""),
-            };
-            match &self.context {
-                Some(contexts) => fields.field("context", contexts),
-                None => fields.field("context", &[(); 0]),
-            };
-            return fields.finish();
+            return write_fields(self, f);
         }
-        let contexts = self.contexts();
-        write!(f, "{}", self.kind)?;
+        write!(f, "{}", self.kind())?;
         write_message(self.message(), f)?;
         writeln!(f)?;
-        if !contexts.is_empty() {
-            writeln!(f)?;
-            writeln!(f, "Context:")?;
-            for (key, text) in contexts {
-                writeln!(f, "   {key}: {text}")?;
-            }
-        }
-        Ok(())
+        write_context_lines(self.contexts(), f)
     }
+}
+
+// The contexts as the debug text has them.
+fn write_context_lines<W: fmt::Write>(
+    contexts: &[(&'static str, String)],
+    f: &mut fmt::Formatter<W>,
+) -> fmt::Result
+    ensures { DisplaysOnOk W.write_str_gives f.old result
+        (Some (context_lines
+        (map (λ c. record { key = c.0.now; text = string_bytes c.1 }) contexts.now))) f.new }
+{
+    if contexts.is_empty() {
+        return Ok(());
+    }
+    write!(f, "\nContext:\n")?;
+    for (key, text) in contexts {
+        writeln!(f, "   {key}: {text}")?;
+    }
+    Ok(())
+}
+
+// The alternate form of the debug text, as of a derived one.
+fn write_fields<W: fmt::Write>(error: &Error, f: &mut fmt::Formatter<W>) -> fmt::Result {
+    let mut fields = f.debug_struct("Error");
+    fields.field("kind", &error.kind);
+    match &error.message {
+        Some(message) => fields.field("message", message),
+        None => fields.field("message", &""),
+    };
+    match &error.context {
+        Some(contexts) => fields.field("context", contexts),
+        None => fields.field("context", &[(); 0]),
+    };
+    fields.finish()
 }
 
 impl std::error::Error for Error {}

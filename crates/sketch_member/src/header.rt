@@ -36,6 +36,8 @@ pub enum Difference {
 impl fmt::Display for Difference {
     ghost output = { λ part. Some (part_name part) };
 
+    ghost styled_output = { λ part _. Some (part_name part) };
+
     fn fmt<W: fmt::Write>(&self, f: &mut fmt::Formatter<W>) -> fmt::Result {
         f.write_str(match self {
             Difference::Seed => "seed",

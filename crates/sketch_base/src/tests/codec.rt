@@ -1,6 +1,6 @@
 //! Items, and what readers and writers do with bytes.
 
-ghost use Rattle.std.specs.Prelude.{◌≡◌, ◌↔◌, IfSome, IsTrue};
+ghost use Rattle.std.specs.Prelude.{◌≡◌, ◌↔◌, ◌≤◌, [], length, IfOk, IfSome, IsTrue};
 ghost use Rattle.std.specs.declared.io.ErrorKind.TheVariants.{UnexpectedEof};
 
 mod assert;
@@ -21,6 +21,22 @@ fn kind_of_refusal(bytes: &[u8]) -> Option<io::ErrorKind>
         Ok(_) => None,
         Err(error) => Some(error.kind()),
     }
+}
+
+// A caller's proof knows the bytes and the room of a writer.
+fn writer_of(alloc: Global, capacity: usize) -> Result<SketchBytes, AllocError>
+    ensures bytes { IfOk result (λ writer. writer.bytes ≡ []) }
+    ensures room { IfOk result (λ writer. writer.room ≡ capacity) }
+{
+    SketchBytes::with_capacity(alloc, capacity)
+}
+
+// It knows that nothing remains after the end.
+fn skip_all(reader: &mut SketchSlice, n: u64)
+    requires { length reader.old ≤ n }
+    ensures { reader.new ≡ [] }
+{
+    reader.advance(n);
 }
 
 // A caller's proof knows that a write of no bytes is never refused.
@@ -172,16 +188,14 @@ fn tells_counts_apart(rt: HostRuntime) {
 
 #[test]
 fn prints_how_far_a_list_came(rt: HostRuntime) -> Result<(), Fail> {
-    let short = Short { read: 3 }.to_string(rt.alloc())?;
-    let stopped = Stopped { accepted: 0 }.to_string(rt.alloc())?;
-    assert_same(
-        &rt,
-        (short.as_str(), stopped.as_str()),
-        (
-            "insufficient data after 3 items",
-            "out of memory after 0 items",
-        ),
-    );
+    for n in 0..1000 {
+        let (short, stopped) = (Short { read: n }, Stopped { accepted: n });
+        let text = format!(in rt.alloc(); "{short}; {stopped}")?;
+        let told = format!(in rt.alloc();
+            "insufficient data after {n} items; out of memory after {n} items"
+        )?;
+        assert_same(&rt, text.as_str(), told.as_str());
+    }
     Ok(())
 }
 
@@ -460,7 +474,7 @@ fn many_capacities_are_granted(rt: HostRuntime) -> Result<(), Fail> {
     let zeros = [0; 5000];
     for capacity in 0..=zeros.len() {
         let (bytes, _) = zeros.split_at(capacity);
-        let mut writer = SketchBytes::with_capacity(rt.alloc(), capacity)?;
+        let mut writer = writer_of(rt.alloc(), capacity)?;
         writer.write(bytes).unwrap();
         assert_same(&rt, writer.into_bytes().len(), capacity);
     }
@@ -472,10 +486,7 @@ fn many_capacities_are_granted(rt: HostRuntime) -> Result<(), Fail> {
         1 << 24,
         1 << 27,
     ] {
-        assert!(rt;
-            SketchBytes::with_capacity(rt.alloc(), capacity).is_ok(),
-            "{capacity}"
-        );
+        assert!(rt; writer_of(rt.alloc(), capacity).is_ok(), "{capacity}");
     }
     Ok(())
 }
@@ -549,6 +560,9 @@ fn advances_no_further_than_the_end(rt: HostRuntime) {
         reader.advance(first);
         reader.advance(then);
         assert_same_for(&rt, reader.remaining(), rest, (first, then));
+        let past = (reader.remaining().len() as u64).saturating_add(1);
+        skip_all(&mut reader, past);
+        assert!(rt; reader.remaining().is_empty());
     }
 }
 

@@ -1,7 +1,9 @@
 //! Errors: their kinds, their contexts and their texts.
 
-ghost use Rattle.std.specs.Prelude.{◌≡◌, ◌↔◌, codes, IfErr, IfSome, IsTrue, string_bytes};
-ghost use Rattle.sketch_base.specs.ErrorValue.{memory_error};
+ghost use Rattle.std.specs.Prelude.{◌≡◌, ◌↔◌, [], ◌∷◌, ◌++◌, codes, IfErr, IfSome, IsTrue, string_bytes};
+ghost use Rattle.std.specs.Fmt.{decimal};
+ghost use Rattle.sketch_base.specs.ErrorValue.{add_context, error_of, memory_error};
+ghost use Rattle.sketch_base.specs.Refusals.{Refuses};
 
 use crate::error::{Error, ErrorKind};
 use crate::tests::refusals::{assert_line_or_refusal, tell_refusal};
@@ -12,10 +14,11 @@ use std::hash::{DefaultHasher, Hash, Hasher};
 use std::process::Abort;
 use std::test::Fail;
 
-// A caller's proof knows the displayed bytes of an error that it made.
-fn line_in_two_contexts(alloc: Global) -> Option<String>
-    ensures { IfSome result (λ text. string_bytes text
-        ≡ codes "InvalidData, context: { index: 42, file: foo } => parsing failed") }
+// A caller's proof knows the error that it made.
+fn error_in_two_contexts(alloc: Global) -> Option<Error>
+    ensures { IfSome result (λ error. error ≡ add_context
+        (add_context (error_of ErrorKind.InvalidData (codes "parsing failed"))
+        (codes "index") (codes "42")) (codes "file") (codes "foo")) }
 {
     let Ok(message) = String::from_str(alloc, "parsing failed") else {
         return None;
@@ -27,7 +30,24 @@ fn line_in_two_contexts(alloc: Global) -> Option<String>
     let Ok(error) = error.with_context(alloc, "file", "foo") else {
         return None;
     };
-    error.to_string(alloc).ok()
+    Some(error)
+}
+
+// It knows the displayed bytes, and those of the debug text.
+fn line_in_two_contexts(alloc: Global) -> Option<String>
+    ensures { IfSome result (λ text. string_bytes text
+        ≡ codes "InvalidData, context: { index: 42, file: foo } => parsing failed") }
+{
+    error_in_two_contexts(alloc)?.to_string(alloc).ok()
+}
+
+fn debug_text_in_two_contexts(alloc: Global) -> Option<String>
+    ensures { IfSome result (λ text. string_bytes text
+        ≡ codes "InvalidData => parsing failed" ++ 10 ∷ 10 ∷ codes "Context:" ++ 10
+        ∷ codes "   index: 42" ++ 10 ∷ codes "   file: foo" ++ 10 ∷ []) }
+{
+    let error = error_in_two_contexts(alloc)?;
+    format!(in alloc; "{error:?}").ok()
 }
 
 // A caller's proof knows that `==` is true exactly of equal kinds.
@@ -70,6 +90,19 @@ fn error_in<V: fmt::Display + Copy + Drop>(
         error = error.with_context(alloc, *key, *value)?;
     }
     Ok(error)
+}
+
+// A caller's proof knows the texts of data that ended too early, as a number says.
+fn ends_at(alloc: Global, part: &'static str, n: u8) -> (Error, Error)
+    ensures alone { Refuses ErrorKind.InvalidData
+        (codes "insufficient data: " ++ decimal n) result.0 }
+    ensures part { Refuses ErrorKind.InvalidData
+        (codes "insufficient data (" ++ (part.entry.now ++ (codes "): " ++ decimal n))) result.1 }
+{
+    (
+        Error::insufficient_data(alloc, n),
+        Error::insufficient_data_of(alloc, part, n),
+    )
 }
 
 // An error, its line and its debug text, as the library that this one is ported from prints them.
@@ -203,11 +236,15 @@ fn assert_text(rt: &impl Abort, made: Result<String, AllocError>, text: &str) {
 
 #[test]
 fn shows_a_concrete_error(rt: HostRuntime) {
-    let text = line_in_two_contexts(rt.alloc()).ok_or(AllocError);
     assert_text(
         &rt,
-        text,
+        line_in_two_contexts(rt.alloc()).ok_or(AllocError),
         "InvalidData, context: { index: 42, file: foo } => parsing failed",
+    );
+    assert_text(
+        &rt,
+        debug_text_in_two_contexts(rt.alloc()).ok_or(AllocError),
+        "InvalidData => parsing failed\n\nContext:\n   index: 42\n   file: foo\n",
     );
 }
 
@@ -257,44 +294,25 @@ fn prints_each_of_two_hundred_contexts(rt: HostRuntime) -> Result<(), Fail> {
     Ok(())
 }
 
-// The contexts of an error, and the fields that it prints in the alternate form.
-const FIELDS: [(&'static [(&'static str, u8)], &'static str); 2] = [
-    (
-        &[],
-        "Error {
-    kind: InvalidData,
-    message: \"m\",
-    context: [],
-}",
-    ),
-    (
-        &[("a", 1)],
-        "Error {
-    kind: InvalidData,
-    message: \"m\",
-    context: [
-        (
-            \"a\",
-            \"1\",
-        ),
-    ],
-}",
-    ),
-];
+// Asserts that an error of a kind has these fields in the alternate form.
+fn assert_fields(rt: &impl Abort, alloc: Global, error: &Error, kind: ErrorKind, contexts: &str) {
+    let fields = format!(in alloc;
+        "Error {{\n    kind: {kind},\n    message: \"m\",\n    context: [{contexts}],\n}}"
+    );
+    let fields = fields.ok();
+    assert!(rt; fields.is_some());
+    assert_same(rt, format!(in alloc; "{error:#?}").ok(), fields);
+}
 
 #[test]
 fn prints_fields_in_the_alternate_form(rt: HostRuntime) -> Result<(), Fail> {
     let alloc = rt.alloc();
-    for (contexts, text) in FIELDS {
-        let error = error_in(alloc, ErrorKind::InvalidData, "m", contexts)?;
-        assert_text(&rt, format!(in alloc; "{error:#?}"), text);
-    }
+    let context = "\n        (\n            \"a\",\n            \"1\",\n        ),\n    ";
     for kind in KINDS {
         let error = error_of(alloc, kind, "m")?;
-        let text = format!(in alloc;
-            "Error {{\n    kind: {kind},\n    message: \"m\",\n    context: [],\n}}"
-        )?;
-        assert_text(&rt, format!(in alloc; "{error:#?}"), &text);
+        assert_fields(&rt, alloc, &error, kind, "");
+        let error = error.with_context(alloc, "a", 1u8)?;
+        assert_fields(&rt, alloc, &error, kind, context);
     }
     Ok(())
 }
@@ -380,9 +398,14 @@ fn prints_what_the_constructors_make(rt: HostRuntime) -> Result<(), Fail> {
         error.to_string(alloc),
         "InvalidData => insufficient data: x",
     );
-    let error = Error::insufficient_data_of(alloc, "header", 5u8);
+    let (alone, part) = ends_at(alloc, "header", 5);
+    assert_text(
+        &rt,
+        alone.to_string(alloc),
+        "InvalidData => insufficient data: 5",
+    );
     let line = "InvalidData => insufficient data (header): 5";
-    assert_text(&rt, error.to_string(alloc), line);
+    assert_text(&rt, part.to_string(alloc), line);
     let error = Error::insufficient_data_of(alloc, "", "");
     assert_text(
         &rt,

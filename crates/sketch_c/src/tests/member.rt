@@ -1,13 +1,14 @@
 //! The calls on tables: each status, and what a refusal leaves.
 
-ghost use Rattle.std.specs.Prelude.{◌≡◌, ◌↔◌, ◌⊎◌, false, length, pos, IsTrue};
-ghost use Rattle.sketch_c.specs.Status.{status};
+ghost use Rattle.std.specs.Prelude.{◌≡◌, ◌↔◌, ◌⊎◌, ◌+◌, ◌/◌, ◌^◌, ◌<◌, ◌≤◌, false, length, pos, IsTrue, None, Some};
+ghost use Rattle.sketch_c.specs.Status.{merge_status, status};
 ghost use Rattle.sketch_member.specs.declared.fault.Fault.{Fault};
-ghost use Rattle.sketch_member.specs.Faults.{IsFirstFault, view_steps};
+ghost use Rattle.sketch_member.specs.declared.fault.MergeFault.{MergeFault};
+ghost use Rattle.sketch_member.specs.Faults.{IsFirstFault, init_steps, view_steps};
 ghost use Rattle.sketch_member.specs.Form.{form2};
-ghost use Rattle.sketch_member.specs.InPlace.{Becomes};
+ghost use Rattle.sketch_member.specs.InPlace.{Becomes, IsMergeFault};
 ghost use Rattle.sketch_member.specs.Merge.{Merges};
-ghost use Rattle.sketch_member.specs.Table.{Inserts, IsTable, Table};
+ghost use Rattle.sketch_member.specs.Table.{Inserts, IsTable, Table, empty_table};
 
 use super::assert_same;
 use crate::{
@@ -32,6 +33,59 @@ fn status_of(bytes: &[u8]) -> i32
         × (result ≡ status fault)) }
 {
     sketch_member_check(bytes)
+}
+
+/// How many bytes a table has.
+fn size_of(log2_bits: u32) -> usize
+    ensures table { 6 ≤ log2_bits → log2_bits ≤ 20 → result ≡ 24 + 2 ^ log2_bits / 8 }
+    ensures none { 20 < log2_bits → result ≡ 0 }
+{
+    sketch_member_size(log2_bits)
+}
+
+/// The status of bytes that were to become an empty table.
+fn init_status(bytes: &mut [u8], seed: u64, log2_bits: u32, hashes: u32) -> i32
+    ensures { ((result ≡ pos 0) × (bytes.new ≡ form2 (empty_table seed log2_bits hashes)))
+        ⊎ ((fault : Fault) × (result ≡ status fault)
+        × IsFirstFault (length bytes.old) (init_steps log2_bits hashes bytes.old) fault) }
+{
+    sketch_member_init(bytes, seed, log2_bits, hashes)
+}
+
+/// The status of bytes into which a key was to be inserted.
+fn insert_status(bytes: &mut [u8], key: &[u8]) -> i32
+    ensures { (result ≡ pos 0) ⊎ ((fault : Fault) × (result ≡ status fault)
+        × IsFirstFault (length bytes.old) (view_steps bytes.old) fault) }
+{
+    sketch_member_insert(bytes, key)
+}
+
+/// The status of bytes of which was asked whether they contain a key.
+fn contains_status(bytes: &[u8], key: &[u8]) -> i32
+    ensures { ((table : Table) × (bytes.now ≡ form2 table) × ((result ≡ pos 1) ⊎ (result ≡ pos 0)))
+        ⊎ ((fault : Fault) × (result ≡ status fault)
+        × IsFirstFault (length bytes.now) (view_steps bytes.now) fault) }
+{
+    sketch_member_contains(bytes, key)
+}
+
+/// The status of bytes that were to be merged.
+fn merge_status_of(into: &mut [u8], from: &[u8]) -> i32
+    ensures { (result ≡ pos 0) ⊎ ((fault : MergeFault) × (result ≡ merge_status fault)
+        × IsMergeFault into.old from.now fault) }
+{
+    sketch_member_merge(into, from)
+}
+
+/// The status of bytes whose count was to be read, and the count.
+fn count_status(bytes: &[u8], count: &mut u64) -> i32
+    ensures { ((table : Table) × (bytes.now ≡ form2 table)
+        × (((result ≡ pos 0) × (table.count ≡ Some count.new))
+        ⊎ ((result ≡ pos 1) × (table.count ≡ None))))
+        ⊎ ((fault : Fault) × (result ≡ status fault)
+        × IsFirstFault (length bytes.now) (view_steps bytes.now) fault) }
+{
+    sketch_member_count(bytes, count)
 }
 
 /// Whether an empty table was made: if not, nothing is changed.
@@ -70,7 +124,7 @@ const ONE_KEY: [u8; 32] = [
 fn a_table_in_bytes(rt: HostRuntime) {
     let mut bytes = [0xff; 32];
     let mut count = 7;
-    assert_same(&rt, sketch_member_size(6), 32);
+    assert_same(&rt, size_of(6), 32);
     assert_same(&rt, is_made(&mut bytes, 0, 6, 1), true);
     assert_same(&rt, sketch_member_contains(&bytes, b""), 0);
     let done = insert_and_count(&mut bytes, b"", &ONE_KEY, &mut count);
@@ -83,7 +137,7 @@ fn a_table_in_bytes(rt: HostRuntime) {
     assert_same(&rt, sketch_member_count(&bytes, &mut count), 0);
     assert_same(&rt, count, 2);
     (bytes[5], bytes[16]) = (0, 0);
-    assert_same(&rt, sketch_member_count(&bytes, &mut count), 1);
+    assert_same(&rt, count_status(&bytes, &mut count), 1);
     assert_same(&rt, count, 2);
 }
 
@@ -94,11 +148,11 @@ fn assert_refused(rt: &impl Abort, bytes: &mut [u8; 33], length: usize, status: 
     let mut count = 7;
     let refused = &mut bytes[..length.min(33)];
     assert_same(rt, status_of(refused), status);
-    assert_same(rt, sketch_member_insert(refused, b"a"), status);
-    assert_same(rt, sketch_member_contains(refused, b"a"), status);
-    assert_same(rt, sketch_member_merge(refused, &ONE_KEY), status);
-    assert_same(rt, sketch_member_merge(&mut other, refused), status);
-    assert_same(rt, sketch_member_count(refused, &mut count), status);
+    assert_same(rt, insert_status(refused, b"a"), status);
+    assert_same(rt, contains_status(refused, b"a"), status);
+    assert_same(rt, merge_status_of(refused, &ONE_KEY), status);
+    assert_same(rt, merge_status_of(&mut other, refused), status);
+    assert_same(rt, count_status(refused, &mut count), status);
     assert_same(rt, (*bytes, other, count), (before, ONE_KEY, 7));
 }
 
@@ -154,11 +208,11 @@ fn sizes_are_refused(rt: HostRuntime) {
         (6, 256 + 1, -6),
         (7, 16, -9),
     ] {
-        let made = sketch_member_init(&mut bytes, 0, log2_bits, hashes);
+        let made = init_status(&mut bytes, 0, log2_bits, hashes);
         assert_same(&rt, (made, bytes), (status, ONE_KEY));
     }
     for log2_bits in [0, 5, 21, 256 + 6, u32::MAX] {
-        assert_same(&rt, sketch_member_size(log2_bits), 0);
+        assert_same(&rt, size_of(log2_bits), 0);
     }
-    assert_same(&rt, sketch_member_size(20), 131_096);
+    assert_same(&rt, size_of(20), 131_096);
 }

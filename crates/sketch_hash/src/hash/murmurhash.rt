@@ -157,6 +157,10 @@ impl Default for MurmurHash3X64128 {
 }
 
 impl fmt::Debug for MurmurHash3X64128 {
+    ghost use Rattle.std.specs.Prelude.{codes, Some};
+
+    ghost debug_output = { λ _. Some (codes "MurmurHash3X64128 { .. }") };
+
     fn fmt<W: fmt::Write>(&self, f: &mut fmt::Formatter<W>) -> fmt::Result {
         f.write_str("MurmurHash3X64128 { .. }")
     }

@@ -111,6 +111,8 @@ impl<T: fmt::Display, S> fmt::Display for Value<T, S> {
 }
 
 impl<T: fmt::Debug, S> fmt::Debug for Value<T, S> {
+    ghost debug_output = { λ value. T.debug_output value };
+
     fn fmt<W: fmt::Write>(&self, f: &mut fmt::Formatter<W>) -> fmt::Result {
         self.value.fmt(f)
     }

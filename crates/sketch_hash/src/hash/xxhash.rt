@@ -130,7 +130,7 @@ impl XxHash64 {
     fn merge(&self) -> u64
         ensures { result ≡ merge self.now.folded.1 }
     {
-        merge(ScalarLanes::from_vector(self.lanes))
+        merge(ScalarLanes::from_vector(&self.lanes))
     }
 
     #[inline(always)]
@@ -197,7 +197,7 @@ impl XxHash64 {
     {
         let total = self.total.wrapping_add(bytes.len() as u64);
         let (stripes, last) = split_pieces::<STRIPE>(bytes);
-        let lanes = fold_run(ScalarLanes::from_vector(self.lanes), stripes).into_vector();
+        let lanes = fold_run(ScalarLanes::from_vector(&self.lanes), stripes).into_vector();
         copy_small(&mut self.buffer, 0, last);
         self.count = last.len();
         self.total = total;
@@ -214,7 +214,7 @@ impl XxHash64 {
     {
         self.total = self.total.wrapping_add(bytes.len() as u64);
         let count = self.count;
-        let lanes = ScalarLanes::from_vector(self.lanes);
+        let lanes = ScalarLanes::from_vector(&self.lanes);
         self.lanes = consume(lanes, &mut self.buffer, count, bytes).into_vector();
         self.count = (count + bytes.len()) % STRIPE;
     }
@@ -231,6 +231,10 @@ impl Default for XxHash64 {
 }
 
 impl fmt::Debug for XxHash64 {
+    ghost use Rattle.std.specs.Prelude.{codes, Some};
+
+    ghost debug_output = { λ _. Some (codes "XxHash64 { .. }") };
+
     fn fmt<W: fmt::Write>(&self, f: &mut fmt::Formatter<W>) -> fmt::Result {
         f.write_str("XxHash64 { .. }")
     }

@@ -1,13 +1,13 @@
 //! Hashers by their single calls.
 
-ghost use Rattle.std.specs.Prelude.{◌≡◌, ◌++◌, IfSome};
+ghost use Rattle.std.specs.Prelude.{◌≡◌, ◌++◌, codes, IfSome, string_bytes};
 
 use super::{FOX, FOX_MURMUR, FOX_XXH64, assert_same, assert_same_for};
 use crate::hash::{
     DEFAULT_UPDATE_SEED, Hasher, MurmurHash3X64128, MurmurState, XxHash64, XxHash64State,
 };
 use crate::known_answers::TEST_BUFFER;
-use std::alloc::{AllocError, Global};
+use std::alloc::Global;
 
 // The Murmur pair after a write of each piece.
 fn murmur_of(seed: u64, pieces: &[&[u8]]) -> (u64, u64) {
@@ -195,26 +195,39 @@ fn defaults_have_their_seeds(rt: HostRuntime) {
     );
 }
 
-// The debug texts of both hashers, plain and with each field on a line.
-fn debug_texts(alloc: Global) -> Result<[String; 4], AllocError> {
-    let murmur = MurmurHash3X64128::with_seed(1);
-    let xxh64 = XxHash64::with_seed(1);
-    Ok([
-        format!(in alloc; "{murmur:?}")?,
-        format!(in alloc; "{murmur:#?}")?,
-        format!(in alloc; "{xxh64:?}")?,
-        format!(in alloc; "{xxh64:#?}")?,
-    ])
+// A caller's proof knows the debug texts of the hashers.
+fn murmur_text(alloc: Global, hasher: &MurmurHash3X64128) -> Option<String>
+    ensures { IfSome result (λ text. string_bytes text ≡ codes "MurmurHash3X64128 { .. }") }
+{
+    format!(in alloc; "{hasher:?}").ok()
 }
 
+fn xxh64_text(alloc: Global, hasher: &XxHash64) -> Option<String>
+    ensures { IfSome result (λ text. string_bytes text ≡ codes "XxHash64 { .. }") }
+{
+    format!(in alloc; "{hasher:?}").ok()
+}
+
+// The texts are the same with each field on a line.
 #[test]
-fn debug_texts_begin_with_the_name(rt: HostRuntime) -> Result<(), AllocError> {
-    let [murmur, long_murmur, xxh64, long_xxh64] = debug_texts(rt.alloc())?;
-    assert!(rt;
-        murmur.starts_with("MurmurHash3X64128") && long_murmur.starts_with("MurmurHash3X64128")
-    );
-    assert!(rt; xxh64.starts_with("XxHash64") && long_xxh64.starts_with("XxHash64"));
-    Ok(())
+fn debug_texts_begin_with_the_name(rt: HostRuntime) {
+    let alloc = rt.alloc();
+    let mut murmur = MurmurHash3X64128::with_seed(1);
+    murmur.write(FOX);
+    let mut xxh64 = XxHash64::with_seed(1);
+    xxh64.write(FOX);
+    for text in [
+        murmur_text(alloc, &murmur),
+        format!(in alloc; "{murmur:#?}").ok(),
+    ] {
+        assert_same(&rt, text.as_deref(), Some("MurmurHash3X64128 { .. }"));
+    }
+    for text in [
+        xxh64_text(alloc, &xxh64),
+        format!(in alloc; "{xxh64:#?}").ok(),
+    ] {
+        assert_same(&rt, text.as_deref(), Some("XxHash64 { .. }"));
+    }
 }
 
 // A caller's proof knows that a copy of a state is the state.

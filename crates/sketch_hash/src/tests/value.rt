@@ -1,7 +1,7 @@
-//! A wrapped value behaves as the value. The first four functions are proved for every type and
+//! A wrapped value behaves as the value. The first five functions are proved for every type and
 //! strategy.
 
-ghost use Rattle.std.specs.Prelude.{◌≡◌, ◌↔◌, IsTrue, MatchResult};
+ghost use Rattle.std.specs.Prelude.{◌≡◌, ◌↔◌, IfOk, IfSome, IsTrue, MatchResult, string_bytes};
 
 use super::{assert_same, tell_refusal};
 use crate::hash::value::natural_extend::NaturalExtendStrategy;
@@ -9,6 +9,7 @@ use crate::hash::value::sign_extend::{self, SignExtendStrategy};
 use crate::hash::value::{Value, calculate_hash, raw_bytes};
 use std::alloc::{AllocError, Global};
 use std::cmp::Ordering;
+use std::fmt::Debug;
 
 fn is_equal<T: Eq, S>(x: &Value<T, S>, y: &Value<T, S>) -> bool
     ensures { IsTrue result ↔ IsTrue (T.eq x.now y.now) }
@@ -36,6 +37,13 @@ fn clone_of<T: Clone, S>(value: &Value<T, S>) -> Result<Value<T, S>, AllocError>
     value.clone()
 }
 
+fn debug_text_of<T: Debug, S>(alloc: Global, value: &Value<T, S>) -> Result<String, AllocError>
+    ensures { IfOk result (λ text.
+        IfSome (T.debug_output value.now) (λ bytes. string_bytes text ≡ bytes)) }
+{
+    format!(in alloc; "{value:?}")
+}
+
 #[test]
 fn wrapped_numbers_compare_as_numbers(rt: HostRuntime) {
     let (three, four) = (sign_extend::from_u8(3), sign_extend::from_u8(4));
@@ -56,12 +64,13 @@ fn wrapped_numbers_behave_as_numbers(rt: HostRuntime) {
 }
 
 // The printed texts of the wrapped -1.
-fn texts_of_minus_one(alloc: Global) -> Result<[String; 9], AllocError> {
+fn texts_of_minus_one(alloc: Global) -> Result<[String; 10], AllocError> {
     let minus_one = sign_extend::from_i8(-1);
     Ok([
         format!(in alloc; "{minus_one}")?,
         format!(in alloc; "{minus_one:4}")?,
-        format!(in alloc; "{minus_one:?}")?,
+        format!(in alloc; "{minus_one:#}")?,
+        debug_text_of(alloc, &minus_one)?,
         format!(in alloc; "{minus_one:4?}")?,
         format!(in alloc; "{minus_one:#?}")?,
         format!(in alloc; "{minus_one:+}")?,
@@ -75,7 +84,7 @@ fn texts_of_minus_one(alloc: Global) -> Result<[String; 9], AllocError> {
 fn wrapped_numbers_print_as_numbers(rt: HostRuntime) -> Result<(), AllocError> {
     let texts = texts_of_minus_one(rt.alloc())?;
     let shown = [
-        "-1", "  -1", "-1", "  -1", "-1", "-1", "-001", "-1", "-0001",
+        "-1", "  -1", "-1", "-1", "  -1", "-1", "-1", "-001", "-1", "-0001",
     ];
     for (text, shown) in texts.iter().zip(&shown) {
         assert_same(&rt, text.as_str(), *shown);

@@ -1,12 +1,72 @@
 //! Tables that are read and changed where their bytes lie.
 
+ghost use Rattle.std.specs.Prelude.{◌≡◌, ◌++◌, codes, length, IfSome, string_bytes};
+ghost use Rattle.sketch_member.specs.Faults.{IsFirstFault, fault_text, view_steps};
+ghost use Rattle.sketch_member.specs.Form.{form2};
+ghost use Rattle.sketch_member.specs.Merge.{IsFirstDifference, part_name};
+ghost use Rattle.sketch_member.specs.Table.{IsTable, Table};
+
 use super::{ONE_VALUE_1, ONE_VALUE_2, UNKNOWN_COUNT, assert_same, assert_same_for};
 use crate::laws::insert_both;
 use crate::{Difference, Fault, MemberTable, MergeFault, TableView, in_place};
 use datasketches::error::ErrorKind;
 use datasketches::hash::value::raw_bytes;
+use std::alloc::Global;
 use std::process::Abort;
 use std::test::Fail;
+
+// A caller's proof knows what faults of a merge print.
+fn text_of_into(alloc: Global, fault: Fault) -> Option<String>
+    ensures { IfSome result (λ text. string_bytes text
+        ≡ codes "table merged into: " ++ fault_text fault) }
+{
+    MergeFault::Into(fault).to_string(alloc).ok()
+}
+
+fn text_of_from(alloc: Global, fault: Fault) -> Option<String>
+    ensures { IfSome result (λ text. string_bytes text
+        ≡ codes "table merged from: " ++ fault_text fault) }
+{
+    MergeFault::From(fault).to_string(alloc).ok()
+}
+
+fn text_of_unlike(alloc: Global, part: Difference) -> Option<String>
+    ensures { IfSome result (λ text. string_bytes text
+        ≡ codes "tables differ: " ++ part_name part) }
+{
+    MergeFault::Unlike(part).to_string(alloc).ok()
+}
+
+// It knows which fault a merge has: the first of the one, then of the other, then a difference.
+fn fault_into(into: &mut [u8], from: &[u8]) -> Option<Fault>
+    ensures { IfSome result (λ fault. IsFirstFault (length into.old) (view_steps into.old) fault) }
+{
+    match in_place::merge(into, from) {
+        Err(MergeFault::Into(fault)) => Some(fault),
+        _ => None,
+    }
+}
+
+fn fault_from(into: &mut [u8], from: &[u8]) -> Option<Fault>
+    ensures { IfSome result (λ fault. IsFirstFault (length from.now) (view_steps from.now) fault
+        × ((table : Table) × IsTable table × (into.old ≡ form2 table))) }
+{
+    match in_place::merge(into, from) {
+        Err(MergeFault::From(fault)) => Some(fault),
+        _ => None,
+    }
+}
+
+fn difference_of(into: &mut [u8], from: &[u8]) -> Option<Difference>
+    ensures { IfSome result (λ part. (table : Table) × (other : Table)
+        × IsTable table × IsTable other × (into.old ≡ form2 table) × (from.now ≡ form2 other)
+        × IsFirstDifference table other part) }
+{
+    match in_place::merge(into, from) {
+        Err(MergeFault::Unlike(part)) => Some(part),
+        _ => None,
+    }
+}
 
 #[test]
 fn views_of_every_size_are_those_of_tables(rt: HostRuntime) -> Result<(), Fail> {
@@ -36,8 +96,32 @@ fn views_of_every_size_are_those_of_tables(rt: HostRuntime) -> Result<(), Fail> 
             assert_same_for(&rt, told, (true, true, Some(2)), (log2_bits, hashes));
         }
     }
+    let numbers = [7u64; 100];
+    for count in 0..=numbers.len() {
+        let mut bytes = [0; 40];
+        let (values, _) = numbers.split_at(count);
+        let made = insert_both(rt.alloc(), &mut bytes, 0, 7, 2, values)?;
+        assert_same_for(&rt, made.as_slice() == bytes.as_slice(), true, count);
+    }
     Ok(())
 }
+
+const FAULTS: [Fault; 11] = [
+    Fault::HeaderEnds,
+    Fault::PreambleLongs(4),
+    Fault::SerialVersion {
+        expected: 2,
+        actual: 1,
+    },
+    Fault::Family(21),
+    Fault::Log2Bits(5),
+    Fault::Hashes(17),
+    Fault::Reserved,
+    Fault::UnknownCount,
+    Fault::MissingBits { need: 8, have: 7 },
+    Fault::TrailingBytes(1),
+    Fault::Version1,
+];
 
 #[test]
 fn faults_and_their_copies_print_and_show_their_names(rt: HostRuntime) -> Result<(), Fail> {
@@ -45,8 +129,8 @@ fn faults_and_their_copies_print_and_show_their_names(rt: HostRuntime) -> Result
     for n in 0..5000usize {
         let fault = Fault::TrailingBytes(n);
         assert_same_for(&rt, fault.clone().ok(), Some(fault), n);
-        let text = format!(in alloc; "{fault:?}")?;
-        let shown = format!(in alloc; "TrailingBytes({n})")?;
+        let text = format!(in alloc; "{fault:?} {fault}")?;
+        let shown = format!(in alloc; "TrailingBytes({n}) trailing bytes: {n}")?;
         assert_same(&rt, text.as_str(), shown.as_str());
     }
     for (fault, shown, printed) in [
@@ -79,6 +163,18 @@ fn faults_and_their_copies_print_and_show_their_names(rt: HostRuntime) -> Result
         let text = format!(in alloc; "{fault:?} {fault}")?;
         let wanted = format!(in alloc; "{shown} {printed}")?;
         assert_same(&rt, text.as_str(), wanted.as_str());
+        let told = match fault {
+            MergeFault::Into(fault) => text_of_into(alloc, fault),
+            MergeFault::From(fault) => text_of_from(alloc, fault),
+            MergeFault::Unlike(part) => text_of_unlike(alloc, part),
+        };
+        assert_same(&rt, told.as_deref(), Some(printed));
+    }
+    for fault in FAULTS {
+        let into = format!(in alloc; "table merged into: {fault}")?;
+        assert_same(&rt, text_of_into(alloc, fault), Some(into));
+        let from = format!(in alloc; "table merged from: {fault}")?;
+        assert_same(&rt, text_of_from(alloc, fault), Some(from));
     }
     Ok(())
 }
@@ -172,10 +268,10 @@ fn version_1_is_no_view_no_memory(rt: HostRuntime) {
     assert_same(&rt, TableView::new(&bytes).err(), Some(Fault::Version1));
     let inserted = in_place::insert(&mut bytes, &raw_bytes::from_str("a"));
     assert_same(&rt, inserted, Err(Fault::Version1));
-    let merged = in_place::merge(&mut bytes, &table);
-    assert_same(&rt, merged, Err(MergeFault::Into(Fault::Version1)));
-    let merged = in_place::merge(&mut table, &bytes);
-    assert_same(&rt, merged, Err(MergeFault::From(Fault::Version1)));
+    let found = fault_into(&mut bytes, &table);
+    assert_same(&rt, found, Some(Fault::Version1));
+    let found = fault_from(&mut table, &bytes);
+    assert_same(&rt, found, Some(Fault::Version1));
     assert_same(&rt, (bytes, table), (ONE_VALUE_1, ONE_VALUE_2));
     bytes[6] = 1;
     assert_same(&rt, TableView::new(&bytes).err(), Some(Fault::Reserved));
@@ -228,8 +324,8 @@ fn unlike_tables_stay_as_they_were_no_memory(rt: HostRuntime) {
         let mut other = ONE_VALUE_2;
         other[place] = byte;
         let before = other;
-        let merged = in_place::merge(&mut other, &ONE_VALUE_2);
-        assert_same_for(&rt, merged, Err(MergeFault::Unlike(part)), place);
+        let found = difference_of(&mut other, &ONE_VALUE_2);
+        assert_same_for(&rt, found, Some(part), place);
         assert_same_for(&rt, other, before, place);
     }
     let mut wider = [0; 40];

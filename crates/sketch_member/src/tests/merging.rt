@@ -1,5 +1,11 @@
 //! Tables that are merged.
 
+ghost use Rattle.std.specs.Prelude.{◌≡◌, IfErr, IfOk};
+ghost use Rattle.datasketches.specs.ErrorValue.{memory_error};
+ghost use Rattle.sketch_member.specs.Form.{form2};
+ghost use Rattle.sketch_member.specs.Limits.{IsHashes, IsLog2Bits};
+ghost use Rattle.sketch_member.specs.Table.{Table};
+
 use super::table::TABLES;
 use super::{
     ONE_VALUE_1, ONE_VALUE_2, assert_out_of_memory, assert_refused, assert_same, assert_same_for,
@@ -28,6 +34,25 @@ fn table_of(
     Ok(table)
 }
 
+// A caller's proof knows the seed and the sizes of the table of both streams, and that sizes within
+// their limits are refused only where memory runs out.
+fn merge_streams(
+    alloc: Global,
+    seed: u64,
+    log2_bits: u8,
+    hashes: u8,
+    first: &[u64],
+    second: &[u64],
+) -> Result<(Vec<u8>, Vec<u8>), Error>
+    ensures sizes { IfOk result (λ both. (whole : Table) × (seed ≡ whole.seed)
+        × (log2_bits ≡ whole.log2_bits) × (hashes ≡ whole.hashes)
+        × (both.1.items ≡ form2 whole)) }
+    ensures refused { IfErr result (λ error.
+        IsLog2Bits log2_bits → IsHashes hashes → error ≡ memory_error) }
+{
+    merge_both(alloc, seed, log2_bits, hashes, first, second)
+}
+
 const FIRST: [u64; 5] = [0, 1, u64::MAX, 258, 1];
 
 const SECOND: [u64; 4] = [7, 258, 1 << 63, 65_537];
@@ -41,7 +66,7 @@ fn try_both(
     hashes: u8,
 ) -> Result<(), Error> {
     let case = (seed, log2_bits, hashes);
-    let (merged, whole) = merge_both(alloc, seed, log2_bits, hashes, &FIRST, &SECOND)?;
+    let (merged, whole) = merge_streams(alloc, seed, log2_bits, hashes, &FIRST, &SECOND)?;
     assert_same_for(rt, merged.as_slice() == whole.as_slice(), true, case);
     let mut table = table_of(alloc, seed, log2_bits, hashes, &FIRST)?;
     let is_whole = table.to_bytes(alloc)?.as_slice() == whole.as_slice();
@@ -57,7 +82,7 @@ fn try_both(
 #[test]
 fn a_merge_makes_the_table_of_both_streams(rt: HostRuntime) -> Result<(), Fail> {
     for log2_bits in 6..=20 {
-        for hashes in [1, 7, 16] {
+        for hashes in 1..=16 {
             for seed in [0, 9001, u64::MAX] {
                 try_both(&rt, rt.alloc(), seed, log2_bits, hashes)?;
             }
@@ -201,7 +226,26 @@ fn try_unlike<R: Abort + Eprint>(rt: &R, alloc: Global) -> Result<(), Error> {
 
 #[test]
 fn unlike_tables_are_refused(rt: HostRuntime) -> Result<(), Fail> {
-    Ok(try_unlike(&rt, rt.alloc())?)
+    let alloc = rt.alloc();
+    for log2_bits in 6..=20 {
+        let mut table = MemberTable::new(alloc, 0, log2_bits, 16)?;
+        for hashes in 1..=15 {
+            let other = MemberTable::new(alloc, 0, log2_bits, hashes)?;
+            let line = "InvalidArgument => tables differ: hashes";
+            assert_refused(&rt, table.merge(alloc, &other), line);
+        }
+        for other_bits in 6..=20 {
+            let is_same = other_bits == log2_bits;
+            let other = MemberTable::new(alloc, u64::from(is_same), other_bits, 16)?;
+            let line = if is_same {
+                "InvalidArgument => tables differ: seed"
+            } else {
+                "InvalidArgument => tables differ: log2 bits"
+            };
+            assert_refused(&rt, table.merge(alloc, &other), line);
+        }
+    }
+    Ok(try_unlike(&rt, alloc)?)
 }
 
 #[test]

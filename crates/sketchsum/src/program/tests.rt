@@ -1,12 +1,14 @@
-ghost use Rattle.std.specs.Prelude.{◌≡◌, ◌≢◌, ◌≤◌, ◌^◌, ℕ, [], false, length, map};
+ghost use Rattle.std.specs.Prelude.{◌≡◌, ◌≢◌, ◌≤◌, ◌^◌, ◌++◌, ℕ, [], length, map};
 ghost use Rattle.std.specs.String.{string_bytes};
 ghost use Rattle.sketchsum.specs.Arguments.{AskFor};
+ghost use Rattle.sketchsum.specs.Digest.{digest_line};
 
 use super::{ProgramEnd, answer, program};
 use crate::arguments::Algorithm;
 use crate::ending::{Outcome, RunFault};
 use crate::tests::fakes::{Arguments, Full, KINDS, NarrowWriter, Screen, SlowReader};
 use crate::tests::{FOX, FOX_LINE, assert_same};
+use datasketches::hash::XxHash64;
 use std::alloc::{AllocError, Global};
 use std::process::{Abort, ExitCode, Termination};
 
@@ -28,12 +30,23 @@ fn answer_two_words(words: &[String], input: &mut &[u8], output: &mut Vec<u8>) -
     answer(words, input, output)
 }
 
-// Whether words found memory: if not, nothing is read or written.
-fn has_memory(words: &Arguments<'_>, alloc: Global, input: &mut &[u8], output: &mut Vec<u8>) -> bool
-    ensures { result ≡ false → (input.new ≡ input.old) × (output.new ≡ output.old) }
+// It knows the line, by the algorithm and the seed that the words ask for.
+fn answer_the_line(words: &[String], input: &mut &[u8], output: &mut Vec<u8>) -> Outcome
+    ensures { (algorithm : Algorithm) (seed : ℕ) →
+        AskFor (map string_bytes words.now) algorithm seed → result ≡ Outcome.Done →
+        output.new.items ≡ output.old.items ++ digest_line algorithm seed input.old.now }
 {
-    let end = program(words, alloc, input, output);
-    end.outcome != Outcome::NoMemory
+    answer(words, input, output)
+}
+
+// What a caller's proof knows of a whole call.
+fn call(words: &Arguments<'_>, alloc: Global, input: &mut &[u8], output: &mut Vec<u8>) -> Outcome
+    ensures usage { result ≡ Outcome.Usage → (input.new ≡ input.old) × (output.new ≡ output.old) }
+    ensures no_memory { result ≡ Outcome.NoMemory →
+        (input.new ≡ input.old) × (output.new ≡ output.old) }
+    ensures whole { result ≡ Outcome.Done → input.new.now ≡ [] }
+{
+    program(words, alloc, input, output).outcome
 }
 
 #[test]
@@ -48,7 +61,11 @@ fn a_run_has_two_words(rt: HostRuntime) -> Result<(), AllocError> {
         assert_same(&rt, answered, outcome);
     }
     let mut output = Vec::new(rt.alloc());
-    assert!(rt; has_memory(&Arguments(&[]), rt.alloc(), &mut FOX, &mut output));
+    let answered = answer_the_line(&words, &mut FOX, &mut output);
+    assert_same(&rt, answered, Outcome::Done);
+    let called = call(&Arguments(&[]), rt.alloc(), &mut FOX, &mut output);
+    assert_same(&rt, called, Outcome::Usage);
+    assert_same(&rt, output.as_slice(), b"0b242d361fda71bc\n".as_slice());
     Ok(())
 }
 
@@ -99,6 +116,9 @@ fn other_words_ask_for_nothing(rt: HostRuntime) {
     for words in [[b"".as_slice(), b"", b"xx", b"0"], [b"", b"xx", b"", b"0"]] {
         assert_status(&rt, rt.alloc(), &words, 2);
     }
+    for byte in 0..=255u8 {
+        assert_status(&rt, rt.alloc(), &[b"", b"xx", b"0", &[byte]], 2);
+    }
 }
 
 // Nor does a seed with a byte before it or after it that is no digit.
@@ -132,6 +152,21 @@ fn seeds_of_every_length_are_read(rt: HostRuntime) {
         assert_same(&rt, end.report(&screen), ExitCode::from(status));
         assert_same(&rt, output.as_slice(), line.as_bytes());
     }
+}
+
+// Each seed is the one that is hashed under.
+#[test]
+fn many_seeds_are_hashed_under(rt: HostRuntime) -> Result<(), AllocError> {
+    for seed in (0..5000).chain(123_400..123_500) {
+        let numeral = format!(in rt.alloc(); "{seed}")?;
+        let mut output = Vec::new(rt.alloc());
+        let words = Arguments(&[b"", b"xx", numeral.as_bytes()]);
+        let called = call(&words, rt.alloc(), &mut FOX, &mut output);
+        let line = format!(in rt.alloc(); "{:016x}\n", XxHash64::hash(FOX, seed))?;
+        assert_same(&rt, called, Outcome::Done);
+        assert_same(&rt, output.as_slice(), line.as_bytes());
+    }
+    Ok(())
 }
 
 // Asserts how the program ends on words, over the sentence.

@@ -1,3 +1,5 @@
+ghost use Rattle.std.specs.Prelude.{◌≡◌, codes};
+
 use super::assert_same;
 use crate::arguments::{Algorithm, parse};
 use crate::ending::{Outcome, RunFault, ending};
@@ -46,6 +48,15 @@ fn words_that_ask_for_nothing(rt: HostRuntime) -> Result<(), AllocError> {
     Ok(())
 }
 
+// A caller's proof knows the line of each fault.
+fn line_of(fault: RunFault) -> &'static str
+    ensures read { fault ≡ RunFault.Read → result.now ≡ codes "read fault" }
+    ensures too_long { fault ≡ RunFault.TooLong → result.now ≡ codes "input too long" }
+    ensures write { fault ≡ RunFault.Write → result.now ≡ codes "write fault" }
+{
+    ending(Outcome::Fault(fault)).1
+}
+
 #[test]
 fn each_outcome_has_its_status_and_line(rt: HostRuntime) {
     let cases = [
@@ -58,5 +69,8 @@ fn each_outcome_has_its_status_and_line(rt: HostRuntime) {
     ];
     for (end, told) in cases {
         assert_same(&rt, ending(end), told);
+        if let Outcome::Fault(fault) = end {
+            assert_same(&rt, line_of(fault), told.1);
+        }
     }
 }

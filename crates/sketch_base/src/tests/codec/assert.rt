@@ -1,5 +1,9 @@
 //! Checks: which numbers they accept, and how they refuse the others.
 
+ghost use Rattle.std.specs.Prelude.{◌++◌, ℕ, List, codes, IfErr};
+ghost use Rattle.std.specs.Fmt.{decimal};
+ghost use Rattle.sketch_base.specs.Refusals.{Refuses, list_text};
+
 use crate::codec::SketchSlice;
 use crate::codec::assert::{
     ensure_preamble_longs_in, ensure_preamble_longs_in_range, ensure_serial_version_is,
@@ -10,7 +14,7 @@ use crate::error::{Error, ErrorKind};
 use crate::tests::refusals::{assert_accepted, assert_line_or_refusal, assert_refused};
 use crate::tests::{assert_same, assert_same_for};
 use std::alloc::{AllocError, Global};
-use std::io::Eprint;
+use std::io::{self, Eprint};
 use std::ops::Bound::{self, Excluded, Included, Unbounded};
 use std::process::Abort;
 use std::test::Fail;
@@ -39,6 +43,22 @@ const RANGES: [(Bound<u8>, Bound<u8>, &'static str, u8, u8); 20] = [
     (Included(255), Included(0), "[255, 0]", 1, 0),
     (Excluded(255), Excluded(255), "(255, 255)", 1, 0),
 ];
+
+// A caller's proof knows the text of a refusal.
+fn check_longs(alloc: Global, expected: &[u8], actual: u8) -> Result<(), Error>
+    ensures { IfErr result (λ error. Refuses ErrorKind.InvalidData
+        (codes "invalid preamble longs: expected one of "
+        ++ (list_text expected.now ++ (codes ", got " ++ decimal actual))) error) }
+{
+    ensure_preamble_longs_in(alloc, expected, actual)
+}
+
+fn tell_part(alloc: Global, tag: &'static str, error: io::Error) -> Error
+    ensures { (text : List ℕ) × Refuses ErrorKind.InvalidData
+        (codes "insufficient data (" ++ (tag.entry.now ++ (codes "): " ++ text))) result }
+{
+    insufficient_data(alloc, tag, error)
+}
 
 // Asserts that a check accepts, or refuses with the preamble longs that it displays.
 fn assert_checked(
@@ -158,7 +178,7 @@ fn accepts_the_members_of_lists_of_40_lengths(rt: HostRuntime) -> Result<(), Fai
         let (expected, _) = LONGS.split_at(count);
         let list = format!(in alloc; "one of {expected:?}")?;
         for x in 0..=255 {
-            let answer = ensure_preamble_longs_in(alloc, expected, x);
+            let answer = check_longs(alloc, expected, x);
             let is_member = expected.iter().any(|longs| *longs == x);
             assert_checked(&rt, alloc, answer, is_member, &list, x)?;
         }
@@ -198,18 +218,39 @@ fn accepts_the_expected_version_alone(rt: HostRuntime) -> Result<(), Fail> {
     Ok(())
 }
 
+// Kinds of errors that a reader of a caller's may have.
+const IO_KINDS: [io::ErrorKind; 12] = [
+    io::ErrorKind::NotFound,
+    io::ErrorKind::PermissionDenied,
+    io::ErrorKind::ConnectionReset,
+    io::ErrorKind::BrokenPipe,
+    io::ErrorKind::WouldBlock,
+    io::ErrorKind::InvalidInput,
+    io::ErrorKind::InvalidData,
+    io::ErrorKind::TimedOut,
+    io::ErrorKind::WriteZero,
+    io::ErrorKind::Interrupted,
+    io::ErrorKind::OutOfMemory,
+    io::ErrorKind::Other,
+];
+
 #[test]
 fn tells_why_a_read_was_refused(rt: HostRuntime) -> Result<(), Fail> {
     let alloc = rt.alloc();
     for tag in ["preamble", "", "a", "hll sketch", "member table", "count"] {
         let refused = SketchSlice::new(&[]).read_u8().err().ok_or("read")?;
         let text = format!(in alloc; "insufficient data ({tag}): {refused}")?;
-        let error = insufficient_data(alloc, tag, refused);
+        let error = tell_part(alloc, tag, refused);
         assert_same(
             &rt,
             (error.kind(), error.message()),
             (ErrorKind::InvalidData, text.as_str()),
         );
+    }
+    for kind in IO_KINDS {
+        let text = format!(in alloc; "insufficient data (tag): {}", io::Error::from(kind))?;
+        let error = tell_part(alloc, "tag", io::Error::from(kind));
+        assert_same(&rt, error.message(), text.as_str());
     }
     Ok(())
 }

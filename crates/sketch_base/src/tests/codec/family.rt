@@ -1,10 +1,14 @@
 //! The families of the format.
 
-ghost use Rattle.std.specs.Prelude.{◌≡◌, ℕ, List, [], ◌∷◌, codes, map};
+ghost use Rattle.std.specs.Prelude.{◌≡◌, ℕ, List, [], ◌∷◌, ◌++◌, codes, map, IfErr};
+ghost use Rattle.std.specs.Fmt.{decimal};
+ghost use Rattle.sketch_base.specs.Refusals.{Refuses};
 
 use crate::codec::family::Family;
+use crate::error::{Error, ErrorKind};
 use crate::tests::assert_same;
 use crate::tests::refusals::{assert_accepted, assert_refused};
+use std::alloc::Global;
 use std::test::Fail;
 
 // A caller's proof knows the fields of each family.
@@ -28,6 +32,15 @@ fn families() -> [Family; 10]
         Family::TDIGEST,
         Family::BLOOMFILTER,
     ]
+}
+
+// It knows the text of a refusal.
+fn check_family(alloc: Global, family: &Family, id: u8) -> Result<(), Error>
+    ensures { IfErr result (λ error. Refuses ErrorKind.InvalidData
+        (codes "invalid family: expected " ++ (decimal family.now.id
+        ++ (codes " (" ++ (family.now.name.now ++ (codes "), got " ++ decimal id))))) error) }
+{
+    family.validate_id(alloc, id)
 }
 
 // Of each family its id, its name, and its least and greatest number of preamble longs.
@@ -65,7 +78,7 @@ fn accepts_its_own_id_alone(rt: HostRuntime) -> Result<(), Fail> {
     let alloc = rt.alloc();
     for family in families() {
         for id in 0..=255 {
-            let answer = family.validate_id(alloc, id);
+            let answer = check_family(alloc, &family, id);
             if id == family.id {
                 assert_accepted(&rt, answer, id);
             } else {

@@ -56,10 +56,10 @@ impl ScalarLanes {
     }
 
     #[inline(always)]
-    pub(super) fn from_vector(lanes: u64x4) -> Self
-        ensures { lanes_of_scalars result ≡ lanes_of lanes }
+    pub(super) fn from_vector(lanes: &u64x4) -> Self
+        ensures { lanes_of_scalars result ≡ lanes_of lanes.now }
     {
-        let [v1, v2, v3, v4] = lanes.to_array();
+        let [v1, v2, v3, v4] = *lanes.as_array();
         ScalarLanes { v1, v2, v3, v4 }
     }
 

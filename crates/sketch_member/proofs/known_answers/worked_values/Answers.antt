@@ -5,7 +5,7 @@ use Rattle.datasketches.specs.Pieces.{pieces, rest}
 use Rattle.datasketches.specs.Refusals.{Refuses}
 use Rattle.datasketches.specs.Words.{xor_below, xor, rotate}
 use Rattle.datasketches.specs.Xxh64.{round, lanes_start, lanes, merge_round, merge, steps, eight_step, four_step, byte_step, tail_step, avalanche, finalize, xxh64}
-use Rattle.sketch_member.specs.declared.fault.Fault.TheVariants.{HeaderEnds, Reserved, UnknownCount}
+use Rattle.sketch_member.specs.declared.fault.Fault.TheVariants.{Reserved, UnknownCount}
 use Rattle.sketch_member.specs.Table.{index}
 use Rattle.sketch_member.proofs.known_answers.worked_values.Goals as goal
 

@@ -1,4 +1,4 @@
-use Rattle.std.proofs.Common.{◌≡◌, ◌⊎◌, arith, inl, inr, length, map, ap, refl, sym, subst, ◌∙◌}
+use Rattle.std.proofs.Common.{◌≡◌, ◌⊎◌, inl, inr, length, map, ap, sym, subst, ◌∙◌}
 use Rattle.datasketches.specs.declared.error.ErrorKind.TheVariants.{InvalidArgument}
 use Rattle.datasketches.specs.ErrorValue.{memory_error}
 use Rattle.datasketches.specs.Refusals.{Refuses}
