@@ -1,6 +1,8 @@
 //! The two calls that answer hashes and tell that these differ.
 
-ghost use Rattle.std.specs.Prelude.{IsTrue};
+ghost use Rattle.std.specs.Prelude.{◌≡◌, ◌≢◌, ◌<◌, length, IsTrue};
+ghost use Rattle.sketch_hash.specs.Murmur.{murmur};
+ghost use Rattle.sketch_hash.specs.Xxh64.{xxh64};
 
 use crate::laws::{murmur_both, xx_both};
 use sketch_hash::known_answers::TEST_BUFFER;
@@ -20,6 +22,22 @@ fn assert_same<T: PartialEq + Debug + Drop>(rt: &impl Abort, left: T, right: T)
     assert_eq!(rt; left, right);
 }
 
+// A caller's proof knows both pairs of any two inputs, and that those of one input differ.
+fn murmur_pairs(seed: u64, bytes: &[u8], other_seed: u64, other: &[u8]) -> ((u64, u64), (u64, u64))
+    ensures pairs { result ≡ (murmur seed bytes.now, murmur other_seed other.now) }
+    ensures differ { bytes.now ≡ other.now → seed ≢ other_seed → result.0 ≢ result.1 }
+{
+    murmur_both(seed, bytes, other_seed, other)
+}
+
+fn xxh64_hashes(seed: u64, bytes: &[u8], other_seed: u64, other: &[u8]) -> (u64, u64)
+    ensures hashes { result ≡ (xxh64 seed bytes.now, xxh64 other_seed other.now) }
+    ensures differ { bytes.now ≡ other.now → length bytes.now < 32 → seed ≢ other_seed →
+        result.0 ≢ result.1 }
+{
+    xx_both(seed, bytes, other_seed, other)
+}
+
 #[test]
 fn murmur_tells_apart_two_sentences_that_differ_in_their_cut_off_block(rt: HostRuntime) {
     let eog = b"The quick brown fox jumps over the lazy eog";
@@ -29,7 +47,7 @@ fn murmur_tells_apart_two_sentences_that_differ_in_their_cut_off_block(rt: HostR
 
 #[test]
 fn murmur_pairs_of_two_seeds_take_no_memory(rt: HostRuntime) {
-    let (first, second) = murmur_both(0, &[], 1, &[]);
+    let (first, second) = murmur_pairs(0, &[], 1, &[]);
     assert_same(&rt, first, (0, 0));
     assert!(rt; second != first);
 }
@@ -37,7 +55,7 @@ fn murmur_pairs_of_two_seeds_take_no_memory(rt: HostRuntime) {
 #[test]
 fn xxh64_of_two_seeds_takes_no_memory(rt: HostRuntime) {
     let of_nothing = (0xef46_db37_51d8_e999, 0xac75_fda2_929b_17ef);
-    assert_same(&rt, xx_both(0, &[], OTHER_SEED, &[]), of_nothing);
+    assert_same(&rt, xxh64_hashes(0, &[], OTHER_SEED, &[]), of_nothing);
     let stripe = &TEST_BUFFER[0..32];
     let of_stripe = (0x18b2_1649_2bb4_4b70, 0xb3f3_3bdf_93ad_e409);
     assert_same(&rt, xx_both(0, stripe, OTHER_SEED, stripe), of_stripe);

@@ -14,7 +14,8 @@ pub fn hash_texts(texts: &[u8], offsets: &[u64], out: &mut [u64]) -> Result<(), 
         (slice_index offsets.now (i + 1) - slice_index offsets.now i)
         (drop (slice_index offsets.now i) texts.now))) }
     ensures inside { IfOk result (λ _. (i : ℕ) → i ≤ length out.old →
-        slice_index offsets.now i ≤ length texts.now) }
+        (i < length offsets.now) × (slice_index offsets.now i ≤ length texts.now)
+        × (slice_index (0 ∷ offsets.now) i ≤ slice_index offsets.now i)) }
     ensures rising { IfErr result (λ fault. (i : ℕ) → i < fault →
         slice_index (0 ∷ offsets.now) i ≤ slice_index offsets.now i) }
     ensures unchanged { IfErr result (λ _. out.new ≡ out.old) }

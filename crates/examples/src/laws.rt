@@ -34,15 +34,15 @@ pub fn every_word_is_a_hash(seed: u64, word: u64)
 
 /// Short integers collide exactly if they are equal, and any two exactly if they agree modulo 2^64,
 /// under both hashes.
-pub fn integers_are_told_apart(seed: u64, x: i32, y: u32, other: u32, z: i64, w: u64)
+pub fn integers_are_told_apart(seed: u64, x: i32, y: u32, other: i32, z: i64, w: u64)
     ensures murmur { ((murmur seed (integer_bytes x) ≡ murmur seed (integer_bytes (pos y)))
         ↔ (x ≡ pos y))
-        × ((murmur seed (integer_bytes (pos y)) ≡ murmur seed (integer_bytes (pos other)))
-        ↔ (pos y ≡ pos other)) }
+        × ((murmur seed (integer_bytes (pos y)) ≡ murmur seed (integer_bytes other))
+        ↔ (pos y ≡ other)) }
     ensures xxh64 { ((xxh64 seed (integer_bytes x) ≡ xxh64 seed (integer_bytes (pos y)))
         ↔ (x ≡ pos y))
-        × ((xxh64 seed (integer_bytes (pos y)) ≡ xxh64 seed (integer_bytes (pos other)))
-        ↔ (pos y ≡ pos other)) }
+        × ((xxh64 seed (integer_bytes (pos y)) ≡ xxh64 seed (integer_bytes other))
+        ↔ (pos y ≡ other)) }
     ensures murmur_modulo { (murmur seed (integer_bytes z) ≡ murmur seed (integer_bytes (pos w)))
         ↔ (modulo 64 z ≡ modulo 64 (pos w)) }
     ensures xxh64_modulo { (xxh64 seed (integer_bytes z) ≡ xxh64 seed (integer_bytes (pos w)))

@@ -105,6 +105,7 @@ pub fn merge_nothing(
     hashes: u8,
 ) -> Result<(), Error>
     ensures same { table.new ≡ table.old }
+    ensures merged { IfOk result (λ _. AreAlike table.old (empty_table seed log2_bits hashes)) }
     ensures refused { IfErr result (λ error. (error ≡ memory_error)
         ⊎ ((IsLog2Bits log2_bits × IsHashes hashes → ⊥)
         ⊎ (AreAlike table.old (empty_table seed log2_bits hashes) → ⊥))) }

@@ -42,6 +42,7 @@ pub fn load_keys(alloc: Global, saved: &[u8]) -> Result<MemberTable, Error>
 ///
 /// Where memory runs out: `OutOfMemory`, with no message.
 pub fn start_keys(alloc: Global) -> Result<MemberTable, Error>
+    ensures made { IfOk result (λ seen. seen ≡ empty_table 0 10 7) }
     ensures empty { IfOk result (λ seen. (i : ℕ) → IsSet seen.bits i → ⊥) }
     ensures refused { IfErr result (λ error. error ≡ memory_error) }
 {
@@ -208,7 +209,8 @@ pub fn saved_bytes_pass(saved: &[u8])
 
 /// Whether a table contains a key: it does where the key is one of the values for which it stands.
 pub fn is_found(seen: &MemberTable, key: &[u8]) -> bool
-    ensures { (values : List (List ℕ)) → StandsFor seen.now values → Contains values key.now →
+    ensures told { IsTrue result ↔ IsMember seen.now key.now }
+    ensures found { (values : List (List ℕ)) → StandsFor seen.now values → Contains values key.now →
         IsTrue result }
 {
     insert_law();
@@ -216,7 +218,7 @@ pub fn is_found(seen: &MemberTable, key: &[u8]) -> bool
 }
 
 /// Inserts two keys into two empty tables, in either order, which makes the same table of both.
-/// Answers whether each contains the first: it does.
+/// Answers whether one contains the first key, and the other the second: they do.
 pub fn insert_in_either_order(
     one: &mut MemberTable,
     other: &mut MemberTable,
@@ -226,6 +228,7 @@ pub fn insert_in_either_order(
     requires same { one.old ≡ other.old }
     requires empty { (i : ℕ) → IsSet one.old.bits i → ⊥ }
     ensures same { one.new ≡ other.new }
+    ensures counted { one.old.count ≡ count_after 0 → one.new.count ≡ count_after 2 }
     ensures found { IsTrue result.0 × IsTrue result.1 }
 {
     insert_law();
@@ -234,7 +237,7 @@ pub fn insert_in_either_order(
     one.insert(&second);
     other.insert(&second);
     other.insert(&first);
-    (one.contains(&first), other.contains(&first))
+    (one.contains(&first), other.contains(&second))
 }
 
 /// Whether two empty tables contain two keys that are inserted in either order, into the second

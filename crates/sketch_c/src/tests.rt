@@ -1,8 +1,8 @@
 //! The calls together, as a program in C makes them: proved from their contracts alone, and run.
 
-ghost use Rattle.std.specs.Prelude.{◌≡◌, ◌++◌, ◌<◌, ◌≤◌, ℕ, false, [], length, slice_index, slice_index_or, IsTrue};
+ghost use Rattle.std.specs.Prelude.{◌≡◌, ◌++◌, ◌<◌, ◌≤◌, ℕ, suc, [], length, slice_index, slice_index_or, IsTrue};
 ghost use Rattle.sketch_base.specs.Bytes.{eight};
-ghost use Rattle.sketch_hash.specs.Columns.{key_at, murmur_words};
+ghost use Rattle.sketch_hash.specs.Columns.{IsFirstWrongOffset, key_at, murmur_words};
 ghost use Rattle.sketch_hash.specs.Held.{murmur_held, xxh64_held};
 ghost use Rattle.sketch_hash.specs.Murmur.{murmur, murmur_after, murmur_answer};
 ghost use Rattle.sketch_hash.specs.Xxh64.{xxh64, xxh64_after, xxh64_answer};
@@ -77,50 +77,59 @@ fn murmur_of_more(state: &mut MurmurState, bytes: &[u8]) -> Murmur128
     sketch_murmur3_x64_128_digest(state)
 }
 
-/// Whether each key was hashed by XXH64, with offsets of 32 bits: else no place is changed.
-fn hash_keys32(input: &[u8], offsets: &[u32], out: &mut [u64]) -> bool
-    ensures hashed { IsTrue result → (i : ℕ) → i < length out.new →
-        slice_index out.new i ≡ xxh64 7 (key_at input.now offsets.now i) }
-    ensures refused { result ≡ false → out.new ≡ out.old }
+/// XXH64 of each key, with offsets of 32 bits: 0, or 1 more than the index of the first wrong
+/// offset, and then no place is changed.
+fn xxh64_keys32(input: &[u8], offsets: &[u32], seed: u64, out: &mut [u64]) -> usize
+    ensures hashed { result ≡ 0 → (i : ℕ) → i < length out.new →
+        slice_index out.new i ≡ xxh64 seed (key_at input.now offsets.now i) }
+    ensures refused { (place : ℕ) → result ≡ suc place → (out.new ≡ out.old)
+        × IsFirstWrongOffset input.now offsets.now (length out.old) place }
 {
-    sketch_xxh64_each32(input, offsets, 7, out) == 0
+    sketch_xxh64_each32(input, offsets, seed, out)
 }
 
-/// Whether each key was hashed by XXH64, with offsets of 64 bits: else no place is changed.
-fn hash_keys64(input: &[u8], offsets: &[u64], out: &mut [u64]) -> bool
-    ensures hashed { IsTrue result → (i : ℕ) → i < length out.new →
-        slice_index out.new i ≡ xxh64 7 (key_at input.now offsets.now i) }
-    ensures refused { result ≡ false → out.new ≡ out.old }
+/// XXH64 of each key, with offsets of 64 bits: 0, or 1 more than the index of the first wrong
+/// offset, and then no place is changed.
+fn xxh64_keys64(input: &[u8], offsets: &[u64], seed: u64, out: &mut [u64]) -> usize
+    ensures hashed { result ≡ 0 → (i : ℕ) → i < length out.new →
+        slice_index out.new i ≡ xxh64 seed (key_at input.now offsets.now i) }
+    ensures refused { (place : ℕ) → result ≡ suc place → (out.new ≡ out.old)
+        × IsFirstWrongOffset input.now offsets.now (length out.old) place }
 {
-    sketch_xxh64_each64(input, offsets, 7, out) == 0
+    sketch_xxh64_each64(input, offsets, seed, out)
 }
 
-/// Whether each key was hashed by Murmur, with offsets of 32 bits: else no place is changed.
-fn murmur_keys32(input: &[u8], offsets: &[u32], out: &mut [[u64; 2]]) -> bool
-    ensures hashed { IsTrue result → (i : ℕ) → i < length out.new →
-        slice_index_or out.new i [] ≡ murmur_words 7 (key_at input.now offsets.now i) }
-    ensures refused { result ≡ false → out.new ≡ out.old }
+/// MurmurHash3 x64 128 of each key, with offsets of 32 bits: 0, or 1 more than the index of the
+/// first wrong offset, and then no place is changed.
+fn murmur_keys32(input: &[u8], offsets: &[u32], seed: u64, out: &mut [[u64; 2]]) -> usize
+    ensures hashed { result ≡ 0 → (i : ℕ) → i < length out.new →
+        slice_index_or out.new i [] ≡ murmur_words seed (key_at input.now offsets.now i) }
+    ensures refused { (place : ℕ) → result ≡ suc place → (out.new ≡ out.old)
+        × IsFirstWrongOffset input.now offsets.now (length out.old) place }
 {
-    sketch_murmur3_x64_128_each32(input, offsets, 7, out) == 0
+    sketch_murmur3_x64_128_each32(input, offsets, seed, out)
 }
 
-/// Whether each key was hashed by Murmur, with offsets of 64 bits: else no place is changed.
-fn murmur_keys64(input: &[u8], offsets: &[u64], out: &mut [[u64; 2]]) -> bool
-    ensures hashed { IsTrue result → (i : ℕ) → i < length out.new →
-        slice_index_or out.new i [] ≡ murmur_words 7 (key_at input.now offsets.now i) }
-    ensures refused { result ≡ false → out.new ≡ out.old }
+/// MurmurHash3 x64 128 of each key, with offsets of 64 bits: 0, or 1 more than the index of the
+/// first wrong offset, and then no place is changed.
+fn murmur_keys64(input: &[u8], offsets: &[u64], seed: u64, out: &mut [[u64; 2]]) -> usize
+    ensures hashed { result ≡ 0 → (i : ℕ) → i < length out.new →
+        slice_index_or out.new i [] ≡ murmur_words seed (key_at input.now offsets.now i) }
+    ensures refused { (place : ℕ) → result ≡ suc place → (out.new ≡ out.old)
+        × IsFirstWrongOffset input.now offsets.now (length out.old) place }
 {
-    sketch_murmur3_x64_128_each64(input, offsets, 7, out) == 0
+    sketch_murmur3_x64_128_each64(input, offsets, seed, out)
 }
 
-/// Whether each number was hashed: there are enough of them then, and else no place is changed.
-fn hash_numbers(numbers: &[u64], out: &mut [u64]) -> bool
-    ensures enough { IsTrue result → length out.old ≤ length numbers.now }
-    ensures hashed { IsTrue result → (i : ℕ) → i < length out.new →
-        slice_index out.new i ≡ xxh64 7 (eight (slice_index numbers.now i)) }
-    ensures refused { result ≡ false → out.new ≡ out.old }
+/// XXH64 of each number: 0, or 1 more than how many there are, and then no place is changed.
+fn hash_numbers(numbers: &[u64], seed: u64, out: &mut [u64]) -> usize
+    ensures enough { result ≡ 0 → length out.old ≤ length numbers.now }
+    ensures hashed { result ≡ 0 → (i : ℕ) → i < length out.new →
+        slice_index out.new i ≡ xxh64 seed (eight (slice_index numbers.now i)) }
+    ensures refused { (place : ℕ) → result ≡ suc place → (out.new ≡ out.old)
+        × (place ≡ length numbers.now) × (place < length out.old) }
 {
-    sketch_xxh64_each_u64(numbers, 7, out) == 0
+    sketch_xxh64_each_u64(numbers, seed, out)
 }
 
 #[test]
@@ -164,47 +173,27 @@ fn a_sentence_in_two_pieces(rt: HostRuntime) {
 
 #[test]
 fn a_column_of_two_words(rt: HostRuntime) {
-    let (mut hashes, mut pairs) = ([9; 2], [[9; 2]; 2]);
-    assert_same(
-        &rt,
-        sketch_xxh64_each32(b"foxes", &[0, 3, 5], 7, &mut hashes),
-        0,
-    );
-    assert_same(
-        &rt,
-        hashes,
-        [sketch_xxh64(b"fox", 7), sketch_xxh64(b"es", 7)],
-    );
-    assert_same(
-        &rt,
-        sketch_xxh64_each64(b"foxes", &[0, 3, 2], 7, &mut hashes),
-        3,
-    );
-    assert_same(&rt, sketch_xxh64_each_u64(&[1], 7, &mut hashes), 2);
-    assert_same(&rt, hash_numbers(&[1, 2], &mut hashes), true);
-    assert_same(
-        &rt,
-        hashes,
-        [sketch_xxh64_u64(1, 7), sketch_xxh64_u64(2, 7)],
-    );
-    assert_same(
-        &rt,
-        sketch_murmur3_x64_128_each32(b"foxes", &[6, 3, 5], 7, &mut pairs),
-        1,
-    );
-    assert_same(
-        &rt,
-        sketch_murmur3_x64_128_each64(b"foxes", &[0, 3, 5], 7, &mut pairs),
-        0,
-    );
-    let (hash, es, number) = hashes_of(b"es", 1, 7);
-    assert_same(&rt, pairs[1], [es.h1, es.h2]);
-    assert_same(&rt, number, sketch_xxh64_u64(1, 7));
-    assert_same(&rt, hash_keys32(b"foxes", &[0, 3, 5], &mut hashes), true);
-    assert_same(&rt, hashes[1], hash);
-    assert_same(&rt, hash_keys64(b"foxes", &[0, 3, 6], &mut hashes), false);
-    assert_same(&rt, murmur_keys32(b"foxes", &[0, 3, 5], &mut pairs), true);
-    assert_same(&rt, murmur_keys64(b"foxes", &[0], &mut pairs), false);
+    let (fox, es) = (sketch_xxh64(b"fox", 7), sketch_xxh64(b"es", 7));
+    let mut hashes = [9; 2];
+    let answer = xxh64_keys32(b"foxes", &[0, 3, 5], 7, &mut hashes);
+    assert_same(&rt, (answer, hashes), (0, [fox, es]));
+    let answer = xxh64_keys64(b"foxes", &[0, 3, 2], 9, &mut hashes);
+    assert_same(&rt, (answer, hashes), (3, [fox, es]));
+    let answer = hash_numbers(&[1], 7, &mut hashes);
+    assert_same(&rt, (answer, hashes), (2, [fox, es]));
+    let (hash, pair, one) = hashes_of(b"es", 1, 7);
+    assert_same(&rt, hash, es);
+    let answer = hash_numbers(&[1, 2], 7, &mut hashes);
+    assert_same(&rt, (answer, hashes), (0, [one, sketch_xxh64_u64(2, 7)]));
+    let mut pairs = [[9; 2]; 2];
+    let answer = murmur_keys32(b"foxes", &[6, 3, 5], 7, &mut pairs);
+    assert_same(&rt, (answer, pairs), (1, [[9; 2]; 2]));
+    let answer = murmur_keys32(b"foxes", &[0, 3, 5], 7, &mut pairs);
+    assert_same(&rt, (answer, pairs[1]), (0, [pair.h1, pair.h2]));
+    let answer = murmur_keys64(b"foxes", &[0, 0, 3], 7, &mut pairs);
+    assert_same(&rt, (answer, pairs[0] == pairs[1]), (0, false));
+    let answer = murmur_keys64(b"foxes", &[0], 7, &mut pairs);
+    assert_same(&rt, answer, 2);
 }
 
 #[test]

@@ -1,6 +1,6 @@
-//! The line of a digest, from a reader to a writer that tell whether they failed.
+//! The line of a digest, from a reader to a writer that remember whether they failed.
 
-ghost use Rattle.std.specs.Prelude.{◌≡◌, ◌≢◌, ◌*◌, ◌≤◌, ◌++◌, length, true, false, OnOk, OnErr, Err, Some, IfSome};
+ghost use Rattle.std.specs.Prelude.{◌≡◌, ◌≢◌, ◌*◌, ◌≤◌, ◌++◌, length, true, OnOk, OnErr, Err, Some, IfSome};
 ghost use Rattle.std.specs.Io.KnownBytes.{Appends, IsAtEnd};
 ghost use Rattle.sketchsum.specs.Digest.{hex_word, newline};
 ghost use Rattle.sketchsum.specs.Reading.{HasRead};
@@ -8,7 +8,7 @@ ghost use Rattle.sketchsum.specs.Running.{Runs};
 
 use crate::arguments::Algorithm;
 use crate::ending::RunFault;
-use crate::streams::{BoundedReader, CheckedWriter, OutputState, PIECE_BYTES};
+use crate::streams::{BoundedReader, CheckedWriter, PIECE_BYTES};
 use datasketches::hash::{Hasher, MurmurHash3X64128, XxHash64};
 use std::fmt::{self, Display};
 use std::io::{Read, Write};
@@ -17,7 +17,8 @@ use std::io::{Read, Write};
 ///
 /// # Errors
 ///
-/// As those of [`crate::run::run_bounded`]; reader and writer tell that they failed.
+/// As those of [`crate::run::run_bounded`]. Reader and writer remember that a call failed, so a
+/// fault is answered where one did, and nowhere else.
 pub fn write_digest<R: Read, W: Write>(
     algorithm: Algorithm,
     seed: u64,
@@ -30,11 +31,13 @@ pub fn write_digest<R: Read, W: Write>(
         (R.remaining reader.old.reader.now) (R.remaining reader.new.reader.now)
         (W.contents writer.old.writer.now) (W.contents writer.new.writer.now) }
     ensures silent { OnErr result (result ≢ Err RunFault.Write → writer.new ≡ writer.old) }
-    ensures done { OnOk result ((reader.new.has_failed ≡ false)
-        × (writer.new.state ≡ OutputState.Flushed)) }
+    ensures done { OnOk result ((reader.new.has_failed ≡ reader.old.has_failed)
+        × (writer.new.has_failed ≡ writer.old.has_failed) × (writer.new.is_flushed ≡ true)) }
     ensures read { result ≡ Err RunFault.Read → reader.new.has_failed ≡ true }
-    ensures too_long { result ≡ Err RunFault.TooLong → reader.new.turns_left ≡ 0 }
-    ensures write { result ≡ Err RunFault.Write → writer.new.state ≡ OutputState.Failed }
+    ensures too_long { result ≡ Err RunFault.TooLong →
+        (reader.new.turns_left ≡ 0) × (reader.new.has_failed ≡ reader.old.has_failed) }
+    ensures write { result ≡ Err RunFault.Write →
+        (writer.new.has_failed ≡ true) × (reader.new.has_failed ≡ reader.old.has_failed) }
 {
     match algorithm {
         Algorithm::Murmur => {
@@ -61,10 +64,11 @@ fn read_into<H: Hasher, R: Read>(
         (λ bytes. (hasher.new ≡ H.after hasher.old bytes)
         × (length bytes ≤ 4096 * reader.old.turns_left)
         × (result ≡ Err RunFault.TooLong → reader.old.turns_left ≤ length bytes)) }
-    ensures whole { OnOk result ((reader.new.has_failed ≡ false)
+    ensures whole { OnOk result ((reader.new.has_failed ≡ reader.old.has_failed)
         × IsAtEnd (R.remaining reader.new.reader.now)) }
     ensures read { result ≡ Err RunFault.Read → reader.new.has_failed ≡ true }
-    ensures too_long { result ≡ Err RunFault.TooLong → reader.new.turns_left ≡ 0 }
+    ensures too_long { result ≡ Err RunFault.TooLong →
+        (reader.new.turns_left ≡ 0) × (reader.new.has_failed ≡ reader.old.has_failed) }
     ensures no_write { result ≢ Err RunFault.Write }
 {
     let mut piece = [0; PIECE_BYTES];
@@ -87,9 +91,10 @@ fn write_line<W: Write, D: Display + Drop>(
     ensures same_writer { writer.new.writer.ghost_name ≡ writer.old.writer.ghost_name }
     ensures line { OnOk result (IfSome (D.output line) (λ text. Appends
         (W.contents writer.old.writer.now) (W.contents writer.new.writer.now) (text ++ newline))) }
-    ensures done { OnOk result (writer.new.state ≡ OutputState.Flushed) }
+    ensures done { OnOk result ((writer.new.has_failed ≡ writer.old.has_failed)
+        × (writer.new.is_flushed ≡ true)) }
     ensures fault { OnErr result ((result ≡ Err RunFault.Write)
-        × (writer.new.state ≡ OutputState.Failed)) }
+        × (writer.new.has_failed ≡ true)) }
 {
     writer.writeln(line).map_err(|_| RunFault::Write)?;
     writer.flush().map_err(|_| RunFault::Write)

@@ -11,8 +11,7 @@ use std::io::{self, Read, Write};
 /// The most bytes that are read at a time, and held.
 pub const PIECE_BYTES: usize = 4096;
 
-/// A reader that may be read a limited number of times, and that tells whether its last read
-/// failed.
+/// A reader that may be read a limited number of times, and that remembers that a read failed.
 #[derive(Drop)]
 pub struct BoundedReader<'a, R> {
     reader: &'a mut R,
@@ -47,7 +46,7 @@ impl<'a, R: Read> BoundedReader<'a, R> {
         requires { 0 < self.old.turns_left }
         ensures same_reference { self.new.reader.ghost_name ≡ self.old.reader.ghost_name }
         ensures turn { self.new.turns_left + 1 ≡ self.old.turns_left }
-        ensures ok { OnOk result (self.new.has_failed ≡ false) }
+        ensures ok { OnOk result (self.new.has_failed ≡ self.old.has_failed) }
         ensures err { OnErr result (self.new.has_failed ≡ true) }
         ensures bound { ReadsAtMost result piece.new }
         ensures bytes { ReadConsumes (R.remaining self.old.reader.now)
@@ -55,29 +54,18 @@ impl<'a, R: Read> BoundedReader<'a, R> {
     {
         self.turns_left -= 1;
         let result = self.reader.read(piece);
-        self.has_failed = result.is_err();
+        self.has_failed |= result.is_err();
         result
     }
 }
 
-/// What became of what was written.
-#[derive(Clone, Copy, Debug, PartialEq, Eq)]
-pub enum OutputState {
-    /// Nothing was written.
-    Nothing,
-    /// The last write went well, and no flush came after it.
-    Unflushed,
-    /// The last call was a flush that went well.
-    Flushed,
-    /// The last write or flush failed.
-    Failed,
-}
-
-/// A writer that tells what became of what was written.
+/// A writer that tells whether all that was written is flushed, and that remembers that a write or
+/// a flush failed.
 #[derive(Drop)]
 pub struct CheckedWriter<'a, W> {
     writer: &'a mut W,
-    state: OutputState,
+    is_flushed: bool,
+    has_failed: bool,
 }
 
 impl<'a, W: Write> CheckedWriter<'a, W> {
@@ -85,43 +73,43 @@ impl<'a, W: Write> CheckedWriter<'a, W> {
     pub fn new(writer: &'a mut W) -> CheckedWriter<'a, W>
         ensures same_reference { result.writer.ghost_name ≡ writer.entry.ghost_name }
         ensures writer { result.writer.now ≡ writer.old }
-        ensures state { result.state ≡ OutputState.Nothing }
+        ensures flushed { result.is_flushed ≡ true }
+        ensures failed { result.has_failed ≡ false }
     {
         CheckedWriter {
             writer,
-            state: OutputState::Nothing,
+            is_flushed: true,
+            has_failed: false,
         }
     }
 
     /// Writes a line.
     pub fn writeln<D: Display + Drop>(&mut self, line: D) -> io::Result<()>
         ensures same_reference { self.new.writer.ghost_name ≡ self.old.writer.ghost_name }
-        ensures ok { OnOk result (self.new.state ≡ OutputState.Unflushed) }
-        ensures err { OnErr result (self.new.state ≡ OutputState.Failed) }
+        ensures flushed { self.new.is_flushed ≡ false }
+        ensures ok { OnOk result (self.new.has_failed ≡ self.old.has_failed) }
+        ensures err { OnErr result (self.new.has_failed ≡ true) }
         ensures bytes { OnOk result (IfSome (D.output line) (λ text.
             Appends (W.contents self.old.writer.now) (W.contents self.new.writer.now)
             (text ++ newline))) }
     {
         let result = self.writer.writeln(line);
-        self.state = match result {
-            Ok(()) => OutputState::Unflushed,
-            Err(_) => OutputState::Failed,
-        };
+        self.is_flushed = false;
+        self.has_failed |= result.is_err();
         result
     }
 
     /// Hands on all that was written.
     pub fn flush(&mut self) -> io::Result<()>
         ensures same_reference { self.new.writer.ghost_name ≡ self.old.writer.ghost_name }
-        ensures ok { OnOk result (self.new.state ≡ OutputState.Flushed) }
-        ensures err { OnErr result (self.new.state ≡ OutputState.Failed) }
+        ensures ok { OnOk result ((self.new.is_flushed ≡ true)
+            × (self.new.has_failed ≡ self.old.has_failed)) }
+        ensures err { OnErr result (self.new.has_failed ≡ true) }
         ensures bytes { Keeps (W.contents self.old.writer.now) (W.contents self.new.writer.now) }
     {
         let result = self.writer.flush();
-        self.state = match result {
-            Ok(()) => OutputState::Flushed,
-            Err(_) => OutputState::Failed,
-        };
+        self.is_flushed = result.is_ok();
+        self.has_failed |= result.is_err();
         result
     }
 }

@@ -8,7 +8,7 @@ use crate::columns::{hash_numbers, hash_texts};
 use crate::items::{are_same_items, there_and_back, write_if_it_fits};
 use crate::keys::{is_new_key, is_same_key, is_same_word, pair_of};
 use crate::own::{BigEndian, Point};
-use crate::seen::{see_key_in, see_saved_key};
+use crate::seen::{insert_in_either_order, is_found, see_key_in, see_saved_key, start_keys};
 use crate::sentence::hash_of_the_sentence;
 use crate::sketch::{at_place, read_sketch};
 use crate::streams::{checkpoint, murmur_of_pieces, xxh64_from, xxh64_of_pieces};
@@ -151,6 +151,8 @@ fn columns_are_hashed(rt: HostRuntime) {
     let (mut texts, mut numbers) = ([7; 2], [7; 2]);
     assert_same(&rt, hash_texts(b"foxes", &[0, 6, 5], &mut texts), Err(1));
     assert_same(&rt, hash_numbers(&[1], &mut numbers), Err(1));
+    assert_same(&rt, hash_texts(b"foxes", &[2, 1, 5], &mut texts), Err(1));
+    assert_same(&rt, hash_texts(b"", &[], &mut []), Err(0));
     assert_same(&rt, (texts, numbers), ([7; 2], [7; 2]));
     assert_same(&rt, hash_texts(b"foxes", &[0, 3, 5], &mut texts), Ok(()));
     assert_same(&rt, texts[1], XxHash64::hash(b"es", 9001));
@@ -197,6 +199,14 @@ fn keys_are_seen_once_saved(rt: HostRuntime) -> Result<(), Fail> {
         &rt,
         MemberTable::from_bytes(rt.alloc(), &saved)?.count(),
         Some(3),
+    );
+    let (mut one, mut other) = (start_keys(rt.alloc())?, start_keys(rt.alloc())?);
+    let found = insert_in_either_order(&mut one, &mut other, b"a", b"b");
+    assert_same(&rt, (found, one.count()), ((true, true), Some(2)));
+    assert_same(
+        &rt,
+        (is_found(&one, b"b"), is_found(&one, b"c")),
+        (true, false),
     );
     Ok(())
 }

@@ -59,6 +59,8 @@ fn unlike_workers_are_refused(rt: HostRuntime) -> Result<(), Fail> {
     let other = MemberTable::new(alloc, 1, 10, 7)?;
     let answer = merge_worker(alloc, &mut table, &other);
     assert_refused(&rt, answer, "InvalidArgument => tables differ: seed");
+    let answer = merge_nothing(alloc, &mut table, 9001, 10, 7);
+    assert_refused(&rt, answer, "InvalidArgument => tables differ: seed");
     assert_same(&rt, table.count(), Some(1));
     Ok(())
 }

@@ -1,8 +1,8 @@
 //! Errors: their kinds, their contexts and their texts.
 
-ghost use Rattle.std.specs.Prelude.{◌≡◌, ◌↔◌, [], ◌∷◌, ◌++◌, codes, IfErr, IfSome, IsTrue, string_bytes};
+ghost use Rattle.std.specs.Prelude.{◌≡◌, ◌↔◌, [], ◌∷◌, ◌++◌, codes, IfErr, IfOk, IfSome, IsTrue, MatchResult, string_bytes};
 ghost use Rattle.std.specs.Fmt.{decimal};
-ghost use Rattle.sketch_base.specs.ErrorValue.{add_context, error_of, memory_error};
+ghost use Rattle.sketch_base.specs.ErrorValue.{add_context, debug_text, error_kind_name, error_of, memory_error};
 ghost use Rattle.sketch_base.specs.Refusals.{Refuses};
 
 use crate::error::{Error, ErrorKind};
@@ -50,6 +50,20 @@ fn debug_text_in_two_contexts(alloc: Global) -> Option<String>
     format!(in alloc; "{error:?}").ok()
 }
 
+// It knows the texts of an error with neither message nor context.
+fn line_of_memory_error(alloc: Global) -> Option<String>
+    ensures { IfSome result (λ text. string_bytes text ≡ codes "OutOfMemory") }
+{
+    Error::from(AllocError).to_string(alloc).ok()
+}
+
+fn debug_text_of(alloc: Global, error: &Error) -> Option<String>
+    ensures text { IfSome result (λ text. string_bytes text ≡ debug_text error.now) }
+    ensures empty { debug_text memory_error ≡ codes "OutOfMemory" ++ 10 ∷ [] }
+{
+    format!(in alloc; "{error:?}").ok()
+}
+
 // A caller's proof knows that `==` is true exactly of equal kinds.
 fn is_same_kind(a: ErrorKind, b: ErrorKind) -> bool
     ensures { IsTrue result ↔ (a ≡ b) }
@@ -57,11 +71,33 @@ fn is_same_kind(a: ErrorKind, b: ErrorKind) -> bool
     a == b
 }
 
+// A caller's proof knows that a kind prints as its name at any width.
+fn kind_in_width(alloc: Global, kind: ErrorKind) -> Result<String, AllocError>
+    ensures { IfOk result (λ text. string_bytes text ≡ error_kind_name kind) }
+{
+    format!(in alloc; "{kind:20}")
+}
+
 // A caller's proof knows the error that `?` makes of a refusal of memory.
 fn copy_of_text(alloc: Global, text: &str) -> Result<String, Error>
     ensures { IfErr result (λ error. error ≡ memory_error) }
 {
     Ok(String::from_str(alloc, text)?)
+}
+
+// A caller's proof knows the error in one more context, under any key.
+fn at_number(alloc: Global, error: Error, key: &'static str, n: u8) -> Result<Error, Error>
+    ensures { MatchResult result
+        (λ added. added ≡ add_context error key.entry.now (decimal n))
+        (λ refused. refused ≡ error) }
+{
+    error.with_context(alloc, key, n)
+}
+
+fn kind_and_message(error: &Error) -> (ErrorKind, &str)
+    ensures { (result.0 ≡ error.now.kind) × (result.1.now ≡ error.now.message) }
+{
+    (error.kind(), error.message())
 }
 
 // A value whose printing fails by itself, as it does where memory runs out.
@@ -103,6 +139,14 @@ fn ends_at(alloc: Global, part: &'static str, n: u8) -> (Error, Error)
         Error::insufficient_data(alloc, n),
         Error::insufficient_data_of(alloc, part, n),
     )
+}
+
+// It knows the text of a number of preamble ints that was not expected.
+fn wrong_ints(alloc: Global, expected: u8, actual: u8) -> Error
+    ensures { Refuses ErrorKind.InvalidData (codes "invalid preamble ints: expected "
+        ++ (decimal expected ++ (codes ", got " ++ decimal actual))) result }
+{
+    Error::invalid_preamble_ints(alloc, expected, actual)
 }
 
 // An error, its line and its debug text, as the library that this one is ported from prints them.
@@ -253,6 +297,7 @@ fn assert_printed(rt: &impl Abort, alloc: Global, error: &Error, row: &Row) {
     assert_text(rt, error.to_string(alloc), row.line);
     assert_text(rt, format!(in alloc; "{error:20}"), row.line);
     assert_text(rt, format!(in alloc; "{error:?}"), row.debug);
+    assert_text(rt, format!(in alloc; "{error:20?}"), row.debug);
 }
 
 #[test]
@@ -273,7 +318,7 @@ fn prints_each_of_two_hundred_contexts(rt: HostRuntime) -> Result<(), Fail> {
     let mut lines = String::new(alloc);
     let mut fields = String::new(alloc);
     for n in 0..200u8 {
-        error = error.with_context(alloc, "n", n)?;
+        error = at_number(alloc, error, "n", n)?;
         if n > 0 {
             pairs = format!(in alloc; "{pairs}, n: {n}")?;
         }
@@ -344,7 +389,7 @@ fn keeps_kind_and_message(rt: HostRuntime) -> Result<(), Fail> {
     let bad = error_of(rt.alloc(), ErrorKind::InvalidArgument, "bad input")?;
     assert_same(
         &rt,
-        (bad.kind(), bad.message()),
+        kind_and_message(&bad),
         (ErrorKind::InvalidArgument, "bad input"),
     );
     Ok(())
@@ -377,7 +422,7 @@ fn prints_the_names_of_the_kinds(rt: HostRuntime) {
     ] {
         assert_text(&rt, String::from_str(alloc, kind.into_static()), name);
         assert_text(&rt, kind.to_string(alloc), name);
-        assert_text(&rt, format!(in alloc; "{kind:20}"), name);
+        assert_text(&rt, kind_in_width(alloc, kind), name);
         assert_text(&rt, format!(in alloc; "{kind:?}"), name);
         assert_text(&rt, format!(in alloc; "{kind:#?}"), name);
     }
@@ -423,7 +468,7 @@ fn prints_what_the_constructors_make(rt: HostRuntime) -> Result<(), Fail> {
     assert_text(&rt, error.to_string(alloc), line);
     for expected in 0..=255 {
         for actual in 0..=255 {
-            let error = Error::invalid_preamble_ints(alloc, expected, actual);
+            let error = wrong_ints(alloc, expected, actual);
             let line = format!(in alloc;
                 "InvalidData => invalid preamble ints: expected {expected}, got {actual}"
             )?;
@@ -438,13 +483,11 @@ fn a_refusal_of_memory_becomes_an_error(rt: HostRuntime) -> Result<(), Fail> {
     let alloc = rt.alloc();
     assert_text(&rt, copy_of_text(alloc, "x").map_err(|_| AllocError), "x");
     let error = Error::from(AllocError);
-    assert_same(
-        &rt,
-        (error.kind(), error.message()),
-        (ErrorKind::OutOfMemory, ""),
-    );
-    assert_text(&rt, error.to_string(alloc), "OutOfMemory");
-    assert_text(&rt, format!(in alloc; "{error:?}"), "OutOfMemory\n");
+    assert_same(&rt, kind_and_message(&error), (ErrorKind::OutOfMemory, ""));
+    let line = line_of_memory_error(alloc).ok_or(AllocError);
+    assert_text(&rt, line, "OutOfMemory");
+    let debug = debug_text_of(alloc, &error).ok_or(AllocError);
+    assert_text(&rt, debug, "OutOfMemory\n");
     let fields = "Error {\n    kind: OutOfMemory,\n    message: \"\",\n    context: [],\n}";
     assert_text(&rt, format!(in alloc; "{error:#?}"), fields);
     let error = error.with_context(alloc, "a", 1u8)?;

@@ -8,7 +8,7 @@ ghost use Rattle.sketch_member.specs.Faults.{IsFirstFault, init_steps, view_step
 ghost use Rattle.sketch_member.specs.Form.{form2};
 ghost use Rattle.sketch_member.specs.InPlace.{Becomes, IsMergeFault};
 ghost use Rattle.sketch_member.specs.Merge.{Merges};
-ghost use Rattle.sketch_member.specs.Table.{Inserts, IsTable, Table, empty_table};
+ghost use Rattle.sketch_member.specs.Table.{Inserts, IsMember, IsTable, Table, empty_table};
 
 use super::assert_same;
 use crate::{
@@ -38,14 +38,16 @@ fn status_of(bytes: &[u8]) -> i32
 /// How many bytes a table has.
 fn size_of(log2_bits: u32) -> usize
     ensures table { 6 ≤ log2_bits → log2_bits ≤ 20 → result ≡ 24 + 2 ^ log2_bits / 8 }
-    ensures none { 20 < log2_bits → result ≡ 0 }
+    ensures small { log2_bits < 6 → result ≡ 0 }
+    ensures large { 20 < log2_bits → result ≡ 0 }
 {
     sketch_member_size(log2_bits)
 }
 
 /// The status of bytes that were to become an empty table.
 fn init_status(bytes: &mut [u8], seed: u64, log2_bits: u32, hashes: u32) -> i32
-    ensures { ((result ≡ pos 0) × (bytes.new ≡ form2 (empty_table seed log2_bits hashes)))
+    ensures { ((result ≡ pos 0) × (6 ≤ log2_bits) × (log2_bits ≤ 20) × (1 ≤ hashes)
+        × (hashes ≤ 16) × (bytes.new ≡ form2 (empty_table seed log2_bits hashes)))
         ⊎ ((fault : Fault) × (result ≡ status fault)
         × IsFirstFault (length bytes.old) (init_steps log2_bits hashes bytes.old) fault) }
 {
@@ -62,7 +64,9 @@ fn insert_status(bytes: &mut [u8], key: &[u8]) -> i32
 
 /// The status of bytes of which was asked whether they contain a key.
 fn contains_status(bytes: &[u8], key: &[u8]) -> i32
-    ensures { ((table : Table) × (bytes.now ≡ form2 table) × ((result ≡ pos 1) ⊎ (result ≡ pos 0)))
+    ensures { ((table : Table) × (bytes.now ≡ form2 table)
+        × (((result ≡ pos 1) × IsMember table key.now)
+        ⊎ ((result ≡ pos 0) × (IsMember table key.now → ⊥))))
         ⊎ ((fault : Fault) × (result ≡ status fault)
         × IsFirstFault (length bytes.now) (view_steps bytes.now) fault) }
 {

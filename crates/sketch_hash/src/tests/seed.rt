@@ -1,11 +1,43 @@
 //! Seed hashes, and how they are refused.
 
+ghost use Rattle.std.specs.Prelude.{◌≡◌, ◌≢◌, ◌%◌, ◌^◌, ◌++◌, codes, MatchResult};
+ghost use Rattle.std.specs.Fmt.{decimal};
+ghost use Rattle.sketch_base.specs.Bytes.{eight};
+ghost use Rattle.sketch_base.specs.Refusals.{Refuses};
+ghost use Rattle.sketch_hash.specs.Murmur.{murmur};
+
 use super::{assert_same, assert_same_for, prints, tell_refusal};
 use crate::hash::{Hasher, MurmurHash3X64128, check_seed_hash, compute_seed_hash};
 use sketch_base::error::{Error, ErrorKind};
+use std::alloc::Global;
 use std::io::Eprint;
 use std::process::Abort;
 use std::test::Fail;
+
+// A caller's proof knows the hash of each seed, and the text of each refusal.
+fn hash_of_seed(alloc: Global, seed: u64, kind: ErrorKind) -> Result<u16, Error>
+    ensures { MatchResult result
+        (λ hash. (hash ≡ (murmur 0 (eight seed)).0 % 2 ^ 16) × (hash ≢ 0))
+        (λ error. ((murmur 0 (eight seed)).0 % 2 ^ 16 ≡ 0) × Refuses kind (codes "seed "
+        ++ decimal seed ++ codes " produces a seed hash of zero; choose a different seed") error) }
+{
+    compute_seed_hash(alloc, seed, kind)
+}
+
+fn check_hash(
+    alloc: Global,
+    expected: u16,
+    actual: u16,
+    name: &'static str,
+    kind: ErrorKind,
+) -> Result<(), Error>
+    ensures { MatchResult result (λ _. actual ≡ expected)
+        (λ error. (actual ≢ expected) × Refuses kind (codes "incompatible seed hash of "
+        ++ name.entry.now ++ codes ": expected " ++ decimal expected ++ codes ", got "
+        ++ decimal actual) error) }
+{
+    check_seed_hash(alloc, expected, actual, name, kind)
+}
 
 // The low sixteen bits of the first word of the seed's bytes, under seed 0.
 fn low_bits_of(seed: u64) -> u64 {
@@ -19,8 +51,7 @@ fn seed_hashes_of_many_seeds(rt: HostRuntime) -> Result<(), Fail> {
     let alloc = rt.alloc();
     for low in 0..100_000u64 {
         for seed in [low, low.wrapping_neg(), low ^ (1 << 63), low << 32] {
-            let answer = compute_seed_hash(alloc, seed, ErrorKind::InvalidData);
-            match answer {
+            match hash_of_seed(alloc, seed, ErrorKind::InvalidData) {
                 Ok(hash) => assert_same_for(&rt, u64::from(hash), low_bits_of(seed), seed),
                 Err(error) => {
                     let line = format!(in alloc;
@@ -65,13 +96,7 @@ fn each_pair_of_seed_hashes(rt: HostRuntime) -> Result<(), Fail> {
     for expected in HASHES {
         for actual in HASHES {
             for name in ["theta", "", "hll"] {
-                let answer = check_seed_hash(
-                    alloc,
-                    expected,
-                    actual,
-                    name,
-                    ErrorKind::InvalidArgument,
-                );
+                let answer = check_hash(alloc, expected, actual, name, ErrorKind::InvalidArgument);
                 let line = format!(in alloc;
                     "InvalidArgument => incompatible seed hash of {name}: \
                      expected {expected}, got {actual}"

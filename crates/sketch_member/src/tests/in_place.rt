@@ -37,6 +37,12 @@ fn text_of_unlike(alloc: Global, part: Difference) -> Option<String>
     MergeFault::Unlike(part).to_string(alloc).ok()
 }
 
+fn part_in_width(alloc: Global, part: Difference) -> Option<String>
+    ensures { IfSome result (λ text. string_bytes text ≡ part_name part) }
+{
+    format!(in alloc; "{part:20}").ok()
+}
+
 // It knows which fault a merge has: the first of the one, then of the other, then a difference.
 fn fault_into(into: &mut [u8], from: &[u8]) -> Option<Fault>
     ensures { IfSome result (λ fault. IsFirstFault (length into.old) (view_steps into.old) fault) }
@@ -169,6 +175,14 @@ fn faults_and_their_copies_print_and_show_their_names(rt: HostRuntime) -> Result
             MergeFault::Unlike(part) => text_of_unlike(alloc, part),
         };
         assert_same(&rt, told.as_deref(), Some(printed));
+        if let MergeFault::Unlike(part) = fault {
+            let name = part_in_width(alloc, part);
+            assert_same(
+                &rt,
+                name.as_deref(),
+                printed.strip_prefix("tables differ: "),
+            );
+        }
     }
     for fault in FAULTS {
         let into = format!(in alloc; "table merged into: {fault}")?;

@@ -1,23 +1,48 @@
 //! Tables that are merged.
 
-ghost use Rattle.std.specs.Prelude.{◌≡◌, IfErr, IfOk};
-ghost use Rattle.datasketches.specs.ErrorValue.{memory_error};
+ghost use Rattle.std.specs.Prelude.{◌≡◌, ◌↔◌, ◌++◌, ℕ, List, Contains, codes, map, IfErr, IfOk, MatchResult};
+ghost use Rattle.datasketches.specs.Bytes.{eight};
+ghost use Rattle.datasketches.specs.Refusals.{Refuses};
+ghost use Rattle.sketch_member.specs.declared.header.Difference.{Difference};
 ghost use Rattle.sketch_member.specs.Form.{form2};
-ghost use Rattle.sketch_member.specs.Limits.{IsHashes, IsLog2Bits};
-ghost use Rattle.sketch_member.specs.Table.{Table};
+ghost use Rattle.sketch_member.specs.Laws.{InsertsAll, StandsFor};
+ghost use Rattle.sketch_member.specs.Limits.{IsNewError};
+ghost use Rattle.sketch_member.specs.Merge.{AreAlike, IsFirstDifference, Merges, part_name};
+ghost use Rattle.sketch_member.specs.Table.{Table, empty_table};
 
 use super::table::TABLES;
 use super::{
     ONE_VALUE_1, ONE_VALUE_2, assert_out_of_memory, assert_refused, assert_same, assert_same_for,
 };
 use crate::MemberTable;
-use crate::laws::merge_both;
-use datasketches::error::Error;
+use crate::laws::{insert_law, merge_both};
+use datasketches::error::{Error, ErrorKind};
 use datasketches::hash::value::raw_bytes;
 use std::alloc::Global;
 use std::io::Eprint;
 use std::process::Abort;
 use std::test::Fail;
+
+// A caller's proof knows what a merge makes, and what a refusal says and leaves.
+fn merge_into(alloc: Global, table: &mut MemberTable, other: &MemberTable) -> Result<(), Error>
+    ensures { MatchResult result (λ _. Merges other.now table.old table.new)
+        (λ error. (table.new ≡ table.old) × (part : Difference)
+        × IsFirstDifference table.old other.now part
+        × Refuses ErrorKind.InvalidArgument (codes "tables differ: " ++ part_name part) error) }
+{
+    table.merge(alloc, other)
+}
+
+// It knows that alike tables of the same values, however many, have the same bits.
+fn contain(one: &MemberTable, other: &MemberTable, n: u64) -> (bool, bool)
+    ensures { (values others : List (List ℕ)) → AreAlike one.now other.now →
+        StandsFor one.now values → StandsFor other.now others →
+        ((fed : List ℕ) → Contains values fed ↔ Contains others fed) →
+        one.now.bits ≡ other.now.bits }
+{
+    insert_law();
+    (one.contains(&n), other.contains(&n))
+}
 
 // A table of these numbers, or the error of memory that ran out.
 fn table_of(
@@ -34,8 +59,8 @@ fn table_of(
     Ok(table)
 }
 
-// A caller's proof knows the seed and the sizes of the table of both streams, and that sizes within
-// their limits are refused only where memory runs out.
+// A caller's proof knows the table of both streams, whose bytes are made twice, and which error
+// there is.
 fn merge_streams(
     alloc: Global,
     seed: u64,
@@ -44,11 +69,13 @@ fn merge_streams(
     first: &[u64],
     second: &[u64],
 ) -> Result<(Vec<u8>, Vec<u8>), Error>
-    ensures sizes { IfOk result (λ both. (whole : Table) × (seed ≡ whole.seed)
+    ensures same { IfOk result (λ both. both.0.items ≡ both.1.items) }
+    ensures whole { IfOk result (λ both. (whole : Table) × (seed ≡ whole.seed)
         × (log2_bits ≡ whole.log2_bits) × (hashes ≡ whole.hashes)
+        × InsertsAll (map eight first.now ++ map eight second.now)
+        (empty_table whole.seed whole.log2_bits whole.hashes) whole
         × (both.1.items ≡ form2 whole)) }
-    ensures refused { IfErr result (λ error.
-        IsLog2Bits log2_bits → IsHashes hashes → error ≡ memory_error) }
+    ensures refused { IfErr result (IsNewError log2_bits hashes) }
 {
     merge_both(alloc, seed, log2_bits, hashes, first, second)
 }
@@ -71,9 +98,14 @@ fn try_both(
     let mut table = table_of(alloc, seed, log2_bits, hashes, &FIRST)?;
     let is_whole = table.to_bytes(alloc)?.as_slice() == whole.as_slice();
     assert_same_for(rt, is_whole, false, case);
-    table.merge(alloc, &table_of(alloc, seed, log2_bits, hashes, &SECOND)?)?;
+    merge_into(
+        alloc,
+        &mut table,
+        &table_of(alloc, seed, log2_bits, hashes, &SECOND)?,
+    )?;
+    let again = MemberTable::from_bytes(alloc, &whole)?;
     for n in FIRST.iter().chain(&SECOND) {
-        assert_same_for(rt, table.contains(n), true, case);
+        assert_same_for(rt, contain(&table, &again, *n), (true, true), case);
     }
     assert_same_for(rt, table.count(), Some(9), case);
     Ok(())
@@ -232,7 +264,7 @@ fn unlike_tables_are_refused(rt: HostRuntime) -> Result<(), Fail> {
         for hashes in 1..=15 {
             let other = MemberTable::new(alloc, 0, log2_bits, hashes)?;
             let line = "InvalidArgument => tables differ: hashes";
-            assert_refused(&rt, table.merge(alloc, &other), line);
+            assert_refused(&rt, merge_into(alloc, &mut table, &other), line);
         }
         for other_bits in 6..=20 {
             let is_same = other_bits == log2_bits;

@@ -1,13 +1,57 @@
 //! The table of members: its bits, its bytes and its refusals.
 
+ghost use Rattle.std.specs.Prelude.{◌≡◌, ◌↔◌, ◌⊎◌, ◌++◌, ℕ, List, None, codes, length, IfOk, MatchResult};
+ghost use Rattle.std.specs.Fmt.{decimal};
+ghost use Rattle.datasketches.specs.ErrorValue.{memory_error};
+ghost use Rattle.datasketches.specs.Refusals.{Refuses};
+ghost use Rattle.sketch_member.specs.declared.fault.Fault.{Fault};
+ghost use Rattle.sketch_member.specs.Faults.{AllPass, IsFirstFault, fault_text, steps};
+ghost use Rattle.sketch_member.specs.Form.{IsForm, form1};
+ghost use Rattle.sketch_member.specs.Limits.{IsHashes, IsLog2Bits};
+ghost use Rattle.sketch_member.specs.Table.{IsMember, IsTable, Table, empty_table};
+
 use super::{
     ONE_VALUE_1, ONE_VALUE_2, UNKNOWN_COUNT, assert_refused, assert_same, assert_same_for,
 };
 use crate::MemberTable;
 use crate::laws::{read_again, read_back};
+use datasketches::error::{Error, ErrorKind};
 use datasketches::hash::value::raw_bytes;
-use std::alloc::Global;
+use std::alloc::{AllocError, Global};
 use std::test::Fail;
+
+// A caller's proof knows which sizes are refused, which bytes are, and what each refusal says.
+fn new_table(alloc: Global, seed: u64, log2_bits: u8, hashes: u8) -> Result<MemberTable, Error>
+    ensures { MatchResult result
+        (λ table. IsLog2Bits log2_bits × IsHashes hashes
+        × (table ≡ empty_table seed log2_bits hashes))
+        (λ error. ((IsLog2Bits log2_bits → ⊥) × Refuses ErrorKind.InvalidArgument
+        (codes "invalid log2 bits: expected 6 to 20, got " ++ decimal log2_bits) error)
+        ⊎ ((IsLog2Bits log2_bits × (IsHashes hashes → ⊥) × Refuses ErrorKind.InvalidArgument
+        (codes "invalid hashes: expected 1 to 16, got " ++ decimal hashes) error)
+        ⊎ (IsLog2Bits log2_bits × IsHashes hashes × (error ≡ memory_error)))) }
+{
+    MemberTable::new(alloc, seed, log2_bits, hashes)
+}
+
+fn read_table(alloc: Global, bytes: &[u8]) -> Result<MemberTable, Error>
+    ensures { MatchResult result
+        (λ table. IsTable table × IsForm table bytes.now)
+        (λ error. ((fault : Fault) × IsFirstFault (length bytes.now) (steps bytes.now) fault
+        × Refuses ErrorKind.InvalidData (fault_text fault) error)
+        ⊎ (AllPass (length bytes.now) (steps bytes.now) × (error ≡ memory_error))) }
+{
+    MemberTable::from_bytes(alloc, bytes)
+}
+
+// It knows what is read of version 1, and written, and read again.
+fn read_version1(alloc: Global, bytes: &[u8]) -> Result<MemberTable, Error>
+    ensures { (table : Table) → IsTable table → bytes.now ≡ form1 table →
+        IfOk result (λ again. (again.count ≡ None)
+        × ((fed : List ℕ) → IsMember again fed ↔ IsMember table fed)) }
+{
+    read_again(alloc, bytes)
+}
 
 // A seed, the two sizes, the values inserted, and the bits that are set then, as a model of the
 // format in another language gives them.
@@ -130,7 +174,7 @@ fn a_table_of_version_1_has_no_count(rt: HostRuntime) -> Result<(), Fail> {
     );
     table.insert(&raw_bytes::from_str("a"));
     assert_same(&rt, table.count(), None);
-    let again = read_again(rt.alloc(), &ONE_VALUE_1)?;
+    let again = read_version1(rt.alloc(), &ONE_VALUE_1)?;
     assert!(rt; again.contains(&value));
     assert_same(&rt, again.count(), None);
     Ok(())
@@ -161,7 +205,7 @@ fn sizes_outside_their_limits_are_refused(rt: HostRuntime) {
             "InvalidArgument => invalid hashes: expected 1 to 16, got 17",
         ),
     ] {
-        assert_refused(&rt, MemberTable::new(alloc, 0, log2_bits, hashes), line);
+        assert_refused(&rt, new_table(alloc, 0, log2_bits, hashes), line);
     }
 }
 
@@ -202,7 +246,7 @@ fn the_first_fault_is_told(rt: HostRuntime) {
         (7, 0, "InvalidData => reserved bytes are not zero"),
         (5, 1, "InvalidData => unknown count is not zero"),
     ] {
-        assert_refused(&rt, MemberTable::from_bytes(alloc, &bytes), line);
+        assert_refused(&rt, read_table(alloc, &bytes), line);
         bytes[place.min(7)] = right;
     }
     let trailing = "InvalidData => trailing bytes: 1";
@@ -210,7 +254,7 @@ fn the_first_fault_is_told(rt: HostRuntime) {
 }
 
 #[test]
-fn trailing_bytes_are_refused(rt: HostRuntime) {
+fn trailing_bytes_are_refused(rt: HostRuntime) -> Result<(), AllocError> {
     let alloc = rt.alloc();
     let mut bytes = [0; 26];
     bytes[..24].copy_from_slice(&ONE_VALUE_1);
@@ -221,4 +265,9 @@ fn trailing_bytes_are_refused(rt: HostRuntime) {
         let count = count.min(bytes.len());
         assert_refused(&rt, MemberTable::from_bytes(alloc, &bytes[..count]), line);
     }
+    let mut bytes = Vec::from_slice(alloc, &ONE_VALUE_2)?;
+    bytes.resize(32 + (1 << 20), 0)?;
+    let line = "InvalidData => trailing bytes: 1048576";
+    assert_refused(&rt, MemberTable::from_bytes(alloc, &bytes), line);
+    Ok(())
 }

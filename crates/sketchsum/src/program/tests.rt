@@ -1,7 +1,9 @@
 ghost use Rattle.std.specs.Prelude.{◌≡◌, ◌≢◌, ◌≤◌, ◌^◌, ◌++◌, ℕ, [], length, map};
+ghost use Rattle.std.specs.Process.{exit_status};
 ghost use Rattle.std.specs.String.{string_bytes};
 ghost use Rattle.sketchsum.specs.Arguments.{AskFor};
 ghost use Rattle.sketchsum.specs.Digest.{digest_line};
+ghost use Rattle.sketchsum.specs.Ending.{status_of};
 
 use super::{ProgramEnd, answer, program};
 use crate::arguments::Algorithm;
@@ -45,8 +47,17 @@ fn call(words: &Arguments<'_>, alloc: Global, input: &mut &[u8], output: &mut Ve
     ensures no_memory { result ≡ Outcome.NoMemory →
         (input.new ≡ input.old) × (output.new ≡ output.old) }
     ensures whole { result ≡ Outcome.Done → input.new.now ≡ [] }
+    ensures whole_at_write { result ≡ Outcome.Fault RunFault.Write → input.new.now ≡ [] }
+    ensures too_long { result ≡ Outcome.Fault RunFault.TooLong → 2 ^ 32 ≤ length input.old.now }
 {
     program(words, alloc, input, output).outcome
+}
+
+// It knows the status of each outcome.
+fn status_of(end: ProgramEnd, screen: &Screen) -> ExitCode
+    ensures { exit_status result ≡ status_of end.outcome }
+{
+    end.report(screen)
 }
 
 #[test]
@@ -97,7 +108,7 @@ fn words_become_a_line_and_a_status(rt: HostRuntime) {
         let mut input = SlowReader::new(FOX, 7, None);
         let screen = Screen::new(rt.alloc());
         let end = program(&Arguments(words), rt.alloc(), &mut input, &mut output);
-        assert_same(&rt, end.report(&screen), ExitCode::from(status));
+        assert_same(&rt, status_of(end, &screen), ExitCode::from(status));
         assert_same(&rt, output.as_slice(), line.as_bytes());
         assert_same(&rt, screen.text().as_slice(), told.as_bytes());
         assert_same(&rt, input.reads == 0, status == 2);
@@ -107,8 +118,8 @@ fn words_become_a_line_and_a_status(rt: HostRuntime) {
 // No number of words but two asks for a hash.
 #[test]
 fn other_words_ask_for_nothing(rt: HostRuntime) {
-    for count in 0..40 {
-        let mut words = [b"0".as_slice(); 43];
+    for count in 0..100 {
+        let mut words = [b"0".as_slice(); 103];
         words[1] = b"xx";
         let status = if count == 1 { 0 } else { 2 };
         assert_status(&rt, rt.alloc(), &words[..2 + count], status);

@@ -1,4 +1,4 @@
-ghost use Rattle.std.specs.Prelude.{◌≡◌, codes};
+ghost use Rattle.std.specs.Prelude.{◌≡◌, [], codes};
 
 use super::assert_same;
 use crate::arguments::{Algorithm, parse};
@@ -48,13 +48,17 @@ fn words_that_ask_for_nothing(rt: HostRuntime) -> Result<(), AllocError> {
     Ok(())
 }
 
-// A caller's proof knows the line of each fault.
-fn line_of(fault: RunFault) -> &'static str
-    ensures read { fault ≡ RunFault.Read → result.now ≡ codes "read fault" }
-    ensures too_long { fault ≡ RunFault.TooLong → result.now ≡ codes "input too long" }
-    ensures write { fault ≡ RunFault.Write → result.now ≡ codes "write fault" }
+// A caller's proof knows the line of each outcome.
+fn line_of(end: Outcome) -> &'static str
+    ensures done { end ≡ Outcome.Done → result.now ≡ [] }
+    ensures read { end ≡ Outcome.Fault RunFault.Read → result.now ≡ codes "read fault" }
+    ensures too_long { end ≡ Outcome.Fault RunFault.TooLong →
+        result.now ≡ codes "input too long" }
+    ensures write { end ≡ Outcome.Fault RunFault.Write → result.now ≡ codes "write fault" }
+    ensures no_memory { end ≡ Outcome.NoMemory → result.now ≡ codes "out of memory" }
+    ensures usage { end ≡ Outcome.Usage → result.now ≡ codes "usage: sketchsum murmur|xx SEED" }
 {
-    ending(Outcome::Fault(fault)).1
+    ending(end).1
 }
 
 #[test]
@@ -69,8 +73,6 @@ fn each_outcome_has_its_status_and_line(rt: HostRuntime) {
     ];
     for (end, told) in cases {
         assert_same(&rt, ending(end), told);
-        if let Outcome::Fault(fault) = end {
-            assert_same(&rt, line_of(fault), told.1);
-        }
+        assert_same(&rt, line_of(end), told.1);
     }
 }

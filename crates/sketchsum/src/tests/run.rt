@@ -1,4 +1,4 @@
-ghost use Rattle.std.specs.Prelude.{◌≡◌, ◌+◌, ◌*◌, ◌≤◌, [], ◌++◌, codes, false, true, length, Err, OnOk};
+ghost use Rattle.std.specs.Prelude.{◌≡◌, ◌≢◌, ◌+◌, ◌*◌, ◌≤◌, [], ◌++◌, codes, false, true, length, Err, OnOk};
 ghost use Rattle.sketchsum.specs.Digest.{digest_line};
 
 use super::fakes::{Full, KINDS, NarrowWriter, SlowReader};
@@ -8,7 +8,7 @@ use crate::digest::write_digest;
 use crate::ending::{Outcome, RunFault, ending};
 use crate::read_ahead::ReadAhead;
 use crate::run::{run, run_bounded};
-use crate::streams::{BoundedReader, CheckedWriter, OutputState};
+use crate::streams::{BoundedReader, CheckedWriter};
 use std::io::{self, ErrorKind, Read, Write};
 
 #[test]
@@ -115,11 +115,18 @@ fn a_read_ahead_of_any_length_is_hashed(rt: HostRuntime) {
     for length in (65_516..65_556).chain(131_052..131_090) {
         let (mut ahead, mut plain) = (Vec::new(rt.alloc()), Vec::new(rt.alloc()));
         let mut input = bytes.get(..length).unwrap_or(&[]);
-        let mut reader = ReadAhead::new(input);
-        assert_same(&rt, run(Algorithm::Xx, 0, &mut reader, &mut ahead), Ok(()));
+        assert_same(&rt, run_ahead(input, &mut ahead), Ok(()));
         assert_same(&rt, run(Algorithm::Xx, 0, &mut input, &mut plain), Ok(()));
         assert_same(&rt, ahead, plain);
     }
+}
+
+// What a caller's proof knows of a run that reads ahead, as `main` does.
+fn run_ahead(input: &[u8], output: &mut Vec<u8>) -> Result<(), RunFault>
+    ensures { OnOk result (output.new.items
+        ≡ output.old.items ++ digest_line Algorithm.Xx 0 input.now) }
+{
+    run(Algorithm::Xx, 0, &mut ReadAhead::new(input), output)
 }
 
 // What a caller's proof knows of a run over bytes.
@@ -131,6 +138,7 @@ fn run_over_bytes(turns: u64, input: &mut &[u8], output: &mut Vec<u8>) -> Result
         turns + length input.new.now ≤ length input.old.now }
     ensures line { OnOk result (output.new.items
         ≡ output.old.items ++ digest_line Algorithm.Murmur 0 input.old.now) }
+    ensures silent { result ≡ Err RunFault.TooLong → output.new ≡ output.old }
 {
     run_bounded(Algorithm::Murmur, 0, turns, input, output)
 }
@@ -152,17 +160,17 @@ fn are_enough(turns: u64, input: &mut &[u8], output: &mut Vec<u8>) -> (bool, u64
     (answer != Err(RunFault::TooLong), reader.turns_left())
 }
 
-// Writes the line of what a reader has left. A line that is done is flushed, and a fault that is
-// told has happened.
+// Writes the line of what a reader has left. A line that is done is flushed, and no call failed; a
+// fault that is told has happened.
 fn write_rest<R: Read, W: Write>(
     reader: &mut BoundedReader<'_, R>,
     writer: &mut CheckedWriter<'_, W>,
 ) -> Result<(), RunFault>
-    ensures flushed { OnOk result (writer.new.state ≡ OutputState.Flushed) }
-    ensures read { OnOk result (reader.new.has_failed ≡ false) }
+    ensures flushed { OnOk result (writer.new.is_flushed ≡ true) }
+    ensures read { result ≢ Err RunFault.Read → reader.new.has_failed ≡ reader.old.has_failed }
+    ensures written { OnOk result (writer.new.has_failed ≡ writer.old.has_failed) }
     ensures read_fault { result ≡ Err RunFault.Read → reader.new.has_failed ≡ true }
-    ensures write_fault { result ≡ Err RunFault.Write →
-        writer.new.state ≡ OutputState.Failed }
+    ensures write_fault { result ≡ Err RunFault.Write → writer.new.has_failed ≡ true }
 {
     write_digest(Algorithm::Xx, 0, reader, writer)
 }
@@ -242,10 +250,12 @@ fn writers_that_fail_are_told(rt: HostRuntime) {
             (Algorithm::Murmur, 32, None),
             (Algorithm::Xx, 100, Some(kind)),
         ] {
-            let mut reader = FOX;
-            let mut writer = NarrowWriter::new(rt.alloc(), room, Full::Fails(kind), flush_fault);
-            let fault = run(algorithm, 0, &mut reader, &mut writer);
-            assert_same(&rt, fault, Err(RunFault::Write));
+            for seed in 0..100 {
+                let alloc = rt.alloc();
+                let mut writer = NarrowWriter::new(alloc, room, Full::Fails(kind), flush_fault);
+                let fault = run(algorithm, seed, &mut FOX, &mut writer);
+                assert_same(&rt, fault, Err(RunFault::Write));
+            }
         }
     }
     for (room, flush_fault) in [(10, None), (100, Some(ErrorKind::Interrupted))] {

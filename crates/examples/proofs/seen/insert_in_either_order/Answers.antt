@@ -40,4 +40,4 @@ returns-clause-found c =
     let law = c.insert_law.ensures in
     let first = both_found law _ _ _ _ _ c.requires.empty c.insert.ensures c.insert-2.ensures in
     let second = both_found law _ _ _ _ _ c.requires.empty other c.insert-4.ensures in
-    (c.contains.ensures.is_member.1 first.0, c.contains-2.ensures.is_member.1 second.1)
+    (c.contains.ensures.is_member.1 first.0, c.contains-2.ensures.is_member.1 second.0)

@@ -1,7 +1,8 @@
 //! Checks: which numbers they accept, and how they refuse the others.
 
-ghost use Rattle.std.specs.Prelude.{◌++◌, ℕ, List, codes, IfErr};
+ghost use Rattle.std.specs.Prelude.{◌≡◌, ◌≢◌, ◌++◌, ◌&&◌, ℕ, List, Contains, codes, IsTrue, MatchResult};
 ghost use Rattle.std.specs.Fmt.{decimal};
+ghost use Rattle.sketch_base.specs.Checks.{is_above, is_below, range_text};
 ghost use Rattle.sketch_base.specs.Refusals.{Refuses, list_text};
 
 use crate::codec::SketchSlice;
@@ -44,13 +45,32 @@ const RANGES: [(Bound<u8>, Bound<u8>, &'static str, u8, u8); 20] = [
     (Excluded(255), Excluded(255), "(255, 255)", 1, 0),
 ];
 
-// A caller's proof knows the text of a refusal.
+// A caller's proof knows which numbers each check accepts, and the text of its refusal.
+fn check_version(alloc: Global, expected: u8, actual: u8) -> Result<(), Error>
+    ensures { MatchResult result (λ _. actual ≡ expected)
+        (λ error. (actual ≢ expected) × Refuses ErrorKind.InvalidData
+        (codes "unsupported serial version: expected " ++ (decimal expected
+        ++ (codes ", got " ++ decimal actual))) error) }
+{
+    ensure_serial_version_is(alloc, expected, actual)
+}
+
 fn check_longs(alloc: Global, expected: &[u8], actual: u8) -> Result<(), Error>
-    ensures { IfErr result (λ error. Refuses ErrorKind.InvalidData
+    ensures { MatchResult result (λ _. Contains expected.now actual)
+        (λ error. (Contains expected.now actual → ⊥) × Refuses ErrorKind.InvalidData
         (codes "invalid preamble longs: expected one of "
         ++ (list_text expected.now ++ (codes ", got " ++ decimal actual))) error) }
 {
     ensure_preamble_longs_in(alloc, expected, actual)
+}
+
+fn check_range(alloc: Global, start: Bound<u8>, end: Bound<u8>, actual: u8) -> Result<(), Error>
+    ensures { MatchResult result (λ _. IsTrue (is_above start actual && is_below end actual))
+        (λ error. (IsTrue (is_above start actual && is_below end actual) → ⊥)
+        × Refuses ErrorKind.InvalidData (codes "invalid preamble longs: expected "
+        ++ (range_text start end ++ (codes ", got " ++ decimal actual))) error) }
+{
+    ensure_preamble_longs_in_range(alloc, start, end, actual)
 }
 
 fn tell_part(alloc: Global, tag: &'static str, error: io::Error) -> Error
@@ -85,7 +105,7 @@ fn accepts_the_numbers_of_a_range(rt: HostRuntime) -> Result<(), Fail> {
     let alloc = rt.alloc();
     for (start, end, range, first, last) in RANGES {
         for x in 0..=255 {
-            let answer = ensure_preamble_longs_in_range(alloc, start, end, x);
+            let answer = check_range(alloc, start, end, x);
             assert_checked(&rt, alloc, answer, first <= x && x <= last, range, x)?;
         }
     }
@@ -204,7 +224,7 @@ fn accepts_the_expected_version_alone(rt: HostRuntime) -> Result<(), Fail> {
     let alloc = rt.alloc();
     for expected in 0..=255 {
         for actual in 0..=255 {
-            let answer = ensure_serial_version_is(alloc, expected, actual);
+            let answer = check_version(alloc, expected, actual);
             if expected == actual {
                 assert_accepted(&rt, answer, actual);
             } else {

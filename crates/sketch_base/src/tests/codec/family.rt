@@ -1,6 +1,6 @@
 //! The families of the format.
 
-ghost use Rattle.std.specs.Prelude.{◌≡◌, ℕ, List, [], ◌∷◌, ◌++◌, codes, map, IfErr};
+ghost use Rattle.std.specs.Prelude.{◌≡◌, ◌≢◌, ℕ, List, [], ◌∷◌, ◌++◌, codes, map, MatchResult};
 ghost use Rattle.std.specs.Fmt.{decimal};
 ghost use Rattle.sketch_base.specs.Refusals.{Refuses};
 
@@ -34,9 +34,10 @@ fn families() -> [Family; 10]
     ]
 }
 
-// It knows the text of a refusal.
+// It knows which id a family accepts, and the text of a refusal.
 fn check_family(alloc: Global, family: &Family, id: u8) -> Result<(), Error>
-    ensures { IfErr result (λ error. Refuses ErrorKind.InvalidData
+    ensures { MatchResult result (λ _. id ≡ family.now.id)
+        (λ error. (id ≢ family.now.id) × Refuses ErrorKind.InvalidData
         (codes "invalid family: expected " ++ (decimal family.now.id
         ++ (codes " (" ++ (family.now.name.now ++ (codes "), got " ++ decimal id))))) error) }
 {
