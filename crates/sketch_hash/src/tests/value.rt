@@ -9,7 +9,7 @@ use crate::hash::value::sign_extend::{self, SignExtendStrategy};
 use crate::hash::value::{Value, calculate_hash, raw_bytes};
 use std::alloc::{AllocError, Global};
 use std::cmp::Ordering;
-use std::fmt::Debug;
+use std::fmt::{self, Debug, Display};
 
 fn is_equal<T: Eq, S>(x: &Value<T, S>, y: &Value<T, S>) -> bool
     ensures { IsTrue result ↔ IsTrue (T.eq x.now y.now) }
@@ -44,6 +44,20 @@ fn debug_text_of<T: Debug, S>(alloc: Global, value: &Value<T, S>) -> Result<Stri
     format!(in alloc; "{value:?}")
 }
 
+// A caller's own type, which prints as the wrapped value in it, in any width.
+#[derive(Drop)]
+struct Shown<'a, T, S>(&'a Value<T, S>);
+
+impl<'a, T: Display, S> Display for Shown<'a, T, S> {
+    ghost output = { λ shown. T.output shown.0.now };
+
+    ghost styled_output = { λ shown style. T.styled_output shown.0.now style };
+
+    fn fmt<W: fmt::Write>(&self, f: &mut fmt::Formatter<W>) -> fmt::Result {
+        self.0.fmt(f)
+    }
+}
+
 #[test]
 fn wrapped_numbers_compare_as_numbers(rt: HostRuntime) {
     let (three, four) = (sign_extend::from_u8(3), sign_extend::from_u8(4));
@@ -74,7 +88,7 @@ fn texts_of_minus_one(alloc: Global) -> Result<[String; 10], AllocError> {
         format!(in alloc; "{minus_one:4?}")?,
         format!(in alloc; "{minus_one:#?}")?,
         format!(in alloc; "{minus_one:+}")?,
-        format!(in alloc; "{minus_one:04}")?,
+        format!(in alloc; "{:04}", Shown(&minus_one))?,
         format!(in alloc; "{minus_one:.2?}")?,
         format!(in alloc; "{minus_one:+05?}")?,
     ])
