@@ -230,12 +230,28 @@ def heads(text):
     return found
 
 
+# In a file of tests: the head of a function, what an implementation is of, what a ghost field says.
+PROMISES = re.compile(rf"^( *){HEAD}fn \w+(?:.*\{{\n|(?:.*\n)*?\1\{{\n)|^ *impl\b.* for .*\n|^ *ghost\b(?! use).*\n", re.M)
+
+
+def callers(text):
+    """What callers in a file of tests promise: they use what the library promises, and are no tests themselves."""
+    found = [match[0] for match in PROMISES.finditer(text)]
+    return [head for head in found if not re.match(rf" *{HEAD}fn\b", head) or re.search(r"^ *ensures\b", head, re.M)]
+
+
 def contracts(tree):
-    """What docs/contracts.txt says: the sums of the definitions, and the heads of each source but the tests."""
+    """What docs/contracts.txt says: the sums of the definitions and of what callers in tests promise, and the heads of
+    each source but the tests."""
     lines = [CONTRACTS_HEAD]
     for path in sorted(tree):
         if re.match(r"crates/\w+/specs/.*\.antt$", path):
             lines.append(f"{hashlib.sha256(tree[path].encode()).hexdigest()}  {path}")
+    lines.append("")
+    for path in sorted(tree):
+        if re.match(r"crates/\w+/src/.*\.rt$", path) and not is_source(path) and callers(tree[path]):
+            found = callers(tree[path])
+            lines.append(f"{hashlib.sha256(''.join(found).encode()).hexdigest()}  {path} ({len(found)})")
     for path in sorted(tree):
         if is_source(path) and heads(tree[path]):
             lines += ["", f"== {path[7:]}", "", *heads(tree[path])]
@@ -243,6 +259,7 @@ def contracts(tree):
 
 
 CONTRACTS_HEAD = """What is promised, in one place: written by `python3 .ci/documents --write`, compared by the gate.
-First the sums of the definitions. Then, file by file, what the clauses import, the clauses of each function
-that others can call, and types and constants as they stand.
+First the sums of the definitions, and those of what callers in tests promise, with their number. Then, file by
+file, what the clauses import, the clauses of each function that others can call, and types and constants as they
+stand.
 """
