@@ -1,16 +1,17 @@
 """The program: python3 -m sketch_hash."""
 import os
 import pty
+import random
 import re
 import signal
 import subprocess
 import sys
 
 import pytest
+import xxhash
 from sketch_hash.__main__ import Bar
 
 FOX = b"The quick brown fox jumps over the lazy dog"
-LONG = "import sketch_hash; print(sketch_hash.xxh64_hexdigest(bytes(2_500_000)), end='')"
 XXH64, MURMUR = b"0b242d361fda71bc", b"e34bbc7bbc071b6c7a433ca9c49a9347"
 NAMES = [b"return\rline", b"fox", b"a b", b" front", b"new\nline", b"back\\slash", b"\\n", b"\xff\xfe", b"  two"]
 # Each byte that a name may have, and what Python takes for an end of a line.
@@ -41,14 +42,25 @@ def test_a_file_and_standard_input():
 
 
 def test_a_file_longer_than_a_read():
+    data = random.Random(1).randbytes(2_500_000)
     with open("long", "wb") as file:
-        file.write(bytes(2_500_000))
-    expected = subprocess.run([sys.executable, "-c", LONG], capture_output=True).stdout
-    assert run("long")[1] == expected + b"  long\n"
+        file.write(data)
+    assert run("long")[1] == xxhash.xxh64_hexdigest(data).encode() + b"  long\n"
     feeder = subprocess.Popen(["sh", "-c", "cat fox; sleep 0.2; cat fox"], stdout=subprocess.PIPE)
     assert run(stdin=feeder.stdout)[1] == run(input=FOX * 2)[1] != run(input=FOX)[1]
     feeder.wait()
     feeder.stdout.close()
+
+
+def test_an_input_that_breaks_off():
+    """A fault after some bytes is a fault, and not the end: the terminal is gone."""
+    for words, text in (([], FOX), (["--check"], XXH64 + b"  fox\n")):
+        here, there = pty.openpty()
+        os.write(there, text)
+        os.close(there)
+        status, output, complaint = run(*words, stdin=here)
+        os.close(here)
+        assert (status, output) == (1, b"") and b"-: Input/output error\n" in complaint
 
 
 def test_an_input_that_does_not_wait():

@@ -144,7 +144,7 @@ def test_short_calls_keep_the_lock_of_python(ticks):
 
 
 def test_long_calls_give_up_the_lock_of_python(ticks):
-    """The other thread may be late on a busy machine, so it is given several calls."""
+    """From 64 KiB on. The other thread may be late on a busy machine, so it is given ten seconds."""
     data, hashers = bytes(1 << 24), [kind() for kind in KINDS]
     columns = [
         lambda data: xxh64_each(memoryview(data).cast("Q")),
@@ -152,13 +152,17 @@ def test_long_calls_give_up_the_lock_of_python(ticks):
         lambda data: xxh64_each((data, array.array("Q", range(100000)))),
         lambda data: murmur3_x64_128_each((data, array.array("I", range(100000)))),
         lambda data: murmur3_x64_128_each((data, array.array("Q", range(100000)))),
+        *(
+            lambda _, each=each, width=width: each((b"", array.array(width, bytes(1 << 20))))
+            for each in (xxh64_each, murmur3_x64_128_each)
+            for width in "IQ"
+        ),
     ]
-    for call in (*ONE_CALL, *[it.update for it in hashers], *columns):
-        before = len(ticks)
-        for _ in range(1000):
+    edge = data[:65536]
+    for call in (*ONE_CALL, *[it.update for it in hashers], *columns, lambda _: hashers[0].update(edge)):
+        before, end = len(ticks), time.monotonic() + 10
+        while len(ticks) == before and time.monotonic() < end:
             call(data)
-            if len(ticks) > before:
-                break
         assert len(ticks) > before
 
 

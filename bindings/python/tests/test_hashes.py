@@ -1,6 +1,7 @@
 """Both hashes beside python3-xxhash, a plain Murmur and known answers."""
 import array
 import doctest
+import importlib.metadata
 import mmap
 import os
 import random
@@ -75,7 +76,7 @@ def test_attributes():
     for word in ("name", "digest_size", "digestsize", "block_size", "seed"):
         assert getattr(ours, word) == getattr(theirs, word)
     murmur = murmur3_x64_128(seed=7)
-    assert (murmur.digest_size, murmur.block_size, murmur.seed) == (16, 16, 7)
+    assert (murmur.digest_size, murmur.digestsize, murmur.block_size, murmur.seed) == (16, 16, 16, 7)
     assert len(murmur.digest()) == murmur.digest_size
     with pytest.raises(AttributeError):
         murmur.seed = 8
@@ -92,20 +93,34 @@ def test_reset_keeps_the_seed(kind):
 def test_what_they_are_called():
     assert (xxh64.name, murmur3_x64_128.name) == ("XXH64", "MURMUR3_X64_128")
     assert sketch_hash.algorithms_available == {"xxh64", "murmur3_x64_128"}
+    about = importlib.metadata.metadata("sketch-hash")
+    assert about["Version"] == sketch_hash.__version__
+    assert [it.replace(" (", "").rstrip(")") for it in about.get_all("Requires-Dist")] == ["cffi>=1.15"]
+    assert about.get_all("License-File") == ["LICENSE", "NOTICE"]
     with open(os.path.join(os.path.dirname(__file__), "..", "pyproject.toml")) as file:
-        assert f'version = "{sketch_hash.__version__}"' in file.read()
+        assert 'requires = ["setuptools>=61", "cffi>=1.15"]\n' in file.read()
 
 
 @pytest.mark.parametrize("kind", KINDS)
-def test_each_call_waits_for_the_others(kind):
-    hasher, lock = kind(b"fox"), peers.CountedLock()
-    hasher._lock = lock
+def test_each_call_waits_for_the_others(kind, monkeypatch):
+    hasher = kind(b"fox")
+    lock = peers.WatchedLock(monkeypatch, hasher, hasher._state)
     for call in (
         lambda: hasher.update(b"fox"), hasher.digest, hasher.hexdigest, hasher.intdigest, hasher.copy, hasher.reset
     ):
         before = lock.count
         call()
         assert lock.count == before + 1
+
+
+@pytest.mark.parametrize("kind", KINDS)
+def test_long_pieces_of_random_data(kind):
+    data = random.Random(3).randbytes(300_000)
+    for begin, end in ((0, 300_000), (1, 65_537), (5, 131_077), (7, 200_000)):
+        hasher = kind(data[:begin], 9)
+        hasher.update(data[begin:end])
+        assert hasher.intdigest() == PEERS[kind](data[:end], 9)
+        assert getattr(sketch_hash, f"{kind.__name__}_intdigest")(data[:end], 9) == PEERS[kind](data[:end], 9)
 
 
 @pytest.mark.parametrize("kind", KINDS)

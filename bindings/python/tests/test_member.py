@@ -251,6 +251,7 @@ def test_equal_tables_are_equal():
     other = filled()
     other.insert(KEYS[0])
     assert filled() != other and filled() != filled().to_bytes()
+    assert filled(keys=[b"fox"]) != filled(keys=[b"dog"])
     assert MemberTable(10, 3, SEED) != MemberTable(10, 3, SEED + 1)
     assert MemberTable(10, 3, SEED) != MemberTable(10, 4, SEED) != MemberTable(11, 4, SEED)
     with pytest.raises(TypeError, match="unhashable"):
@@ -469,9 +470,9 @@ def test_threads_that_share_a_table():
     assert [table.to_bytes() for table in tables] == [expected] * 2
 
 
-def test_each_call_waits_for_the_others():
-    table, other, lock = filled(), filled(), peers.CountedLock()
-    table._lock = lock
+def test_each_call_waits_for_the_others(monkeypatch):
+    table, other = filled(), filled()
+    lock = peers.WatchedLock(monkeypatch, table, table._table)
     numbers = numpy.arange(3, dtype="u8")
     for call in (
         lambda: table.insert(b"fox"),
@@ -515,6 +516,26 @@ def test_short_calls_keep_the_lock_of_python(ticks):  # noqa: F811
         assert key in table
         table.merge(table)
     assert len(ticks) == before
+
+
+def test_offsets_that_change_during_a_call():
+    """Once the first key is counted, all offsets were checked. The last one is made to lie then."""
+    buffer, offsets = bytearray(MemberTable(20, 16).to_bytes()), numpy.zeros(1 << 22, "u4")
+    view, found = MemberTable.view(buffer), []
+
+    def insert():
+        try:
+            view.insert_each((b"", offsets))
+        except ValueError as error:
+            found.append(str(error))
+
+    worker = threading.Thread(target=insert)
+    worker.start()
+    while worker.is_alive() and buffer[16:24] == bytes(8):
+        pass
+    offsets[-1] = 1 << 31
+    worker.join()
+    assert found == ["the offset at 4194303 is missing, past the end or below the one before"]
 
 
 def test_long_calls_give_up_the_lock_of_python(ticks):  # noqa: F811

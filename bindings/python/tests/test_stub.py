@@ -1,4 +1,5 @@
 """The type stubs name what the module has."""
+import array
 import ast
 import inspect
 import os
@@ -27,3 +28,42 @@ def test_the_stubs_fit_the_module():
         call = inspect.getattr_static(sketch_hash.MemberTable, word)
         call = getattr(call, "fget", getattr(call, "__func__", call))
         assert [word.arg for word in it.args.args] == list(inspect.signature(call).parameters)
+
+
+# What they return: each name of the stubs, and a call.
+TABLE = sketch_hash.MemberTable(6, 1)
+UNKNOWN = TABLE.from_bytes(TABLE.to_bytes()[:5] + bytes(1) + TABLE.to_bytes()[6:])
+COLUMN = b"fox", array.array("I", [0, 3])
+ANSWERS = [
+    *((name, getattr(sketch_hash, name)(COLUMN)) for name in sketch_hash.__all__ if name.endswith("_each")),
+    *((name, getattr(sketch_hash, name)(b"fox")) for name in sketch_hash.__all__ if name.endswith("digest")),
+    *((f"_Hash.{name}", getattr(sketch_hash.xxh64(), name)()) for name in ("digest", "hexdigest", "intdigest", "reset")),
+    ("_Hash.update", sketch_hash.xxh64().update(b"")),
+    ("_Hash.seed", sketch_hash.xxh64().seed),
+    ("MemberTable.insert", TABLE.insert(b"fox")),
+    ("MemberTable.update", TABLE.update([])),
+    ("MemberTable.insert_each", TABLE.insert_each(COLUMN)),
+    ("MemberTable.contains_each", TABLE.contains_each(COLUMN)),
+    ("MemberTable.__contains__", b"fox" in TABLE),
+    *((f"MemberTable.{name}", getattr(TABLE, name)) for name in ("seed", "log2_bits", "hashes", "count")),
+    ("MemberTable.count", UNKNOWN.count),
+    ("MemberTable.merge", TABLE.merge(TABLE)),
+    ("MemberTable.__eq__", TABLE == UNKNOWN),
+    ("MemberTable.to_bytes", TABLE.to_bytes()),
+]
+
+
+def test_the_stubs_say_what_is_returned():
+    with open(os.path.join(os.path.dirname(sketch_hash.__file__), "__init__.pyi")) as file:
+        stubs = ast.parse(file.read()).body
+    said = {it.name: ast.unparse(it.returns) for it in stubs if isinstance(it, ast.FunctionDef)}
+    for it in stubs:
+        if isinstance(it, ast.ClassDef):
+            calls = [call for call in it.body if isinstance(call, ast.FunctionDef)]
+            said.update({f"{it.name}.{call.name}": ast.unparse(call.returns) for call in calls})
+    found = {}
+    for name, answer in ANSWERS:
+        found.setdefault(name, set()).add("None" if answer is None else type(answer).__name__)
+    others = {name: words for name, words in said.items() if name not in found}
+    assert {*others.values()} == {"None", "_Self", "_Table"} and len(others) == 7
+    assert {name: {*said[name].split(" | ")} for name in found} == found
