@@ -60,11 +60,30 @@ fn every_cut_has_the_hash_of_the_whole() {
             let so_far = &bytes[..bytes.len() - rest.len()];
             assert_eq!(x.digest(), plain::xxh64(so_far, seed));
             assert_eq!(m.digest(), plain::murmur3_x64_128(so_far, seed));
-            x = Xxh64::from_bytes(&x.to_bytes());
-            m = Murmur3X64_128::from_bytes(&m.to_bytes());
+            if round % 2 == 0 {
+                x = Xxh64::from_bytes(&x.to_bytes());
+                m = Murmur3X64_128::from_bytes(&m.to_bytes());
+            }
         }
         assert_eq!(xxh64(&bytes, seed), plain::xxh64(&bytes, seed));
         assert_eq!(murmur3_x64_128(&bytes, seed), plain::murmur3_x64_128(&bytes, seed));
+    }
+}
+
+#[test]
+fn long_pieces_have_the_hash_of_the_whole() {
+    let bytes = Noise(3).bytes(300_000);
+    for (begin, end) in [(0, 300_000), (1, 65_537), (5, 131_077), (7, 200_000)] {
+        let (mut x, mut m) = (Xxh64::new(9), Murmur3X64_128::new(9));
+        for piece in [&bytes[..begin], &bytes[begin..end]] {
+            x.update(piece);
+            m.update(piece);
+        }
+        let so_far = &bytes[..end];
+        assert_eq!(x.digest(), plain::xxh64(so_far, 9));
+        assert_eq!(m.digest(), plain::murmur3_x64_128(so_far, 9));
+        assert_eq!(xxh64(so_far, 9), plain::xxh64(so_far, 9));
+        assert_eq!(murmur3_x64_128(so_far, 9), plain::murmur3_x64_128(so_far, 9));
     }
 }
 
