@@ -12,6 +12,7 @@ import sketch_hash
 import xxhash
 from sketch_hash import murmur3_x64_128, xxh64
 from test_buffers import KINDS
+from watched import WatchedLock
 
 FOX = b"The quick brown fox jumps over the lazy dog"
 
@@ -104,7 +105,7 @@ def test_what_they_are_called():
 @pytest.mark.parametrize("kind", KINDS)
 def test_each_call_waits_for_the_others(kind, monkeypatch):
     hasher = kind(b"fox")
-    lock = peers.WatchedLock(monkeypatch, hasher, hasher._state)
+    lock = WatchedLock(monkeypatch, hasher, hasher._state)
     for call in (
         lambda: hasher.update(b"fox"), hasher.digest, hasher.hexdigest, hasher.intdigest, hasher.copy, hasher.reset
     ):

@@ -7,12 +7,12 @@ import threading
 import time
 
 import numpy
-import peers
 import pytest
 import xxhash
 from sketch_hash import MemberTable, _calls
 from test_buffers import DATA, REFUSED, TAKEN
 from test_faults import WAYS, ticks  # noqa: F401
+from watched import WatchedLock
 
 SEED = 2**64 - 5
 KEYS = [b"", bytes(1000), *[b"key %d" % n for n in range(50)]]
@@ -472,7 +472,7 @@ def test_threads_that_share_a_table():
 
 def test_each_call_waits_for_the_others(monkeypatch):
     table, other = filled(), filled()
-    lock = peers.WatchedLock(monkeypatch, table, table._table)
+    lock = WatchedLock(monkeypatch, table, table._table)
     numbers = numpy.arange(3, dtype="u8")
     for call in (
         lambda: table.insert(b"fox"),

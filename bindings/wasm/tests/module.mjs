@@ -26,7 +26,7 @@ shared.set(all.subarray(8, 24));
 assert.equal(xxh64(shared, last), xxh64(all.subarray(8, 24), last));
 
 // An input that takes many pieces, and objects that take turns.
-const long = new Uint8Array(3_000_001).map((_, at) => at * 167);
+const long = new Uint8Array(3_000_001).map((_, at) => Math.imul(at, 2654435761) >>> 24);
 const [x, y, m] = [new Xxh64(last), new Xxh64(5n), new Murmur3X64_128(5n)];
 for (let at = 0; at < long.length; at += 99_991) {
     const piece = long.subarray(at, at + 99_991);
@@ -37,6 +37,8 @@ for (let at = 0; at < long.length; at += 99_991) {
 assert.equal(x.digest(), xxh64(long, last));
 assert.equal(y.digest(), xxh64(long, 5n));
 assert.equal(m.digest(), murmur3X64_128(long, 5n));
+assert.equal(y.digest(), 0x63eae01c6d8c0aecn);
+assert.equal(m.digest(), 0xd7dc1f3ffb35a07a5dcc3f369c04fb0en);
 assert.equal(y.reset(7n).update(fox).digest(), xxh64(fox, 7n));
 assert.equal(y.seed, 7n);
 assert.equal(y.copy().reset().update(fox).digest(), xxh64(fox, 7n));
@@ -49,6 +51,14 @@ for (const refused of [() => y.reset(-1n), () => y.reset(last + 1n), () => y.res
 }
 assert.equal(y.reset().update(fox).digest(), xxh64(fox, 7n));
 
+// Lengths past 2^31. The zeros are never written, so they take no memory.
+{
+    const zeros = new Uint8Array(2 ** 31 + 5);
+    assert.equal(xxh64(zeros, last), 0x432e09613d34362en);
+    assert.equal(murmur3X64_128(zeros, last), 0x01cfde68872ce8d84a9cf110ff9205c1n);
+    assert.equal(new Xxh64(last).update(zeros).digest(), 0x432e09613d34362en);
+}
+
 // Columns: of offsets of each kind, of none, and one that the module's memory has to grow for.
 function pairs(keys, seed) {
     return keys.map((key) => murmur3X64_128(key, seed)).flatMap((hash) => [hash >> 64n, hash & last]);
@@ -60,6 +70,7 @@ for (const offsets of [narrow, Int32Array.from(narrow), wide, BigInt64Array.from
     assert.deepEqual([...murmur3X64_128Each(all, offsets)], pairs(keys));
     for (const each of [xxh64Each, murmur3X64_128Each]) {
         assert.equal(each(all, offsets.subarray(1, 2)).length, 0);
+        assert.deepEqual(each(all, offsets.subarray(1)), each(all, offsets).subarray(each(all, offsets).length / 2));
         assert.throws(() => each(all.subarray(0, 9), offsets), /the offset at 2 is/);
         assert.throws(() => each(all, offsets.toReversed()), { name: 'RangeError', message: /the offset at 1 is/ });
         assert.throws(() => each(all, offsets.subarray(3)), /the offset at 0 is/);
@@ -85,6 +96,7 @@ for (const kind of [BigUint64Array, BigInt64Array]) {
     const numbers = kind.from([0n, 1n, last, 1n << 40n]);
     const expected = Array.from(numbers, (_, at) => xxh64(numbers.subarray(at, at + 1), 9n));
     assert.deepEqual([...xxh64EachU64(numbers, 9n)], expected);
+    assert.deepEqual([...xxh64EachU64(numbers.subarray(1), 9n)], expected.slice(1));
     assert.equal(xxh64EachU64(numbers.subarray(4)).length, 0);
 }
 const bytewise = [Int8Array, Uint8Array, Uint8ClampedArray];

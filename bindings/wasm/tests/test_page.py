@@ -121,6 +121,26 @@ def test_64_mebibytes(page, files):
             assert said.decode() == f"{answer}\n"
 
 
+def test_a_file_past_4_gibibytes(chromium, tmp_path):
+    """Its hashes were computed apart. The bar and the text beside it always say the same."""
+    chromium.get((DIST / "wasm/index.html").as_uri())
+    page = Page(chromium)
+    page.set_seed(str(2**64 - 1))
+    page.choose(sparse(tmp_path / "zeros", (1 << 32) + 37))
+    state = "const [bar, it] = document.querySelectorAll('progress, .status span'); return [bar.value, bar.max, it.textContent]"
+    said = []
+
+    def is_done():
+        value, of, text = page.chromium.execute_script(state)
+        said.append(text)
+        assert text in (f"{100 * value // of} %", "waiting") or (text == "done" and value == of)
+        return text == "done"
+
+    WebDriverWait(chromium, 10 * PATIENCE, 0.02).until(lambda _: is_done())
+    assert {f"{n} %" for n in range(10, 100)} & {*said}
+    assert page.hashes("zeros") == ("9ae583956774714e", "0b42f570045fbe6ce4db2f081f3ae5b5")
+
+
 def test_ten_files_at_once(page, files):
     noise = random.Random(2)
     contents = {f"file{n}": noise.randbytes(noise.randrange(10 << 20)) for n in range(10)}
@@ -139,6 +159,7 @@ def test_seeds(page, files):
         page.set_seed(wrong)
         page.wait(lambda: "0 to 18446744073709551615" in page.one("#seed-fault").text)
         assert page.hashes("fox") == ("", "") and page.text_hashes() == ("", "")
+        assert not page.row("fox").find_element(By.CSS_SELECTOR, "button.copy").is_enabled()
     page.set_seed("0x10")
     page.wait(lambda: page.hashes("fox") == hashes(FOX, 16))
     assert page.one("#seed-fault").text == ""
@@ -224,10 +245,13 @@ def test_stop_in_the_middle(page, tmp_path, files):
     page.choose(sparse(tmp_path / "endless", 1 << 36))
     page.choose(*files(fox=FOX))
     page.wait_for("fox", "done")
+    assert len(page.chromium.find_elements(By.CSS_SELECTOR, "tbody tr")) == 2
     bar = page.row("endless").find_element(By.TAG_NAME, "progress")
     page.wait(lambda: bar.get_property("value") > 0)
-    page.row("endless").find_element(By.CSS_SELECTOR, "button.stop").click()
+    page.row("endless").find_element(By.CSS_SELECTOR, "button.stop").send_keys(Keys.ENTER)
     page.wait_for("endless", "stopped")
+    # The button cannot be used any more, so its focus goes on to the name.
+    assert page.chromium.switch_to.active_element.text == "endless"
     assert page.hashes("endless") == ("", "")
     page.set_seed("7")
     page.wait(lambda: page.hashes("fox") == hashes(FOX, 7))
@@ -236,6 +260,21 @@ def test_stop_in_the_middle(page, tmp_path, files):
     page.choose(*files(after=b"after"))
     page.wait_for("after", "done")
     assert page.hashes("after") == hashes(b"after")
+
+
+def test_another_seed_stops_what_is_read(page, tmp_path):
+    """Four files are read at a time: under the new seed they are read again once the old reads have ended."""
+    names = [f"endless{n}" for n in range(4)]
+    page.choose(*[sparse(tmp_path / name, 1 << 36) for name in names])
+    bars = [page.row(name).find_element(By.TAG_NAME, "progress") for name in names]
+    for seed in ("1", "2"):
+        page.wait(lambda: all(bar.get_property("value") > 0 for bar in bars))
+        page.set_seed(seed)
+        assert all(bar.get_property("value") < 1 << 30 for bar in bars)
+    page.wait(lambda: all(bar.get_property("value") > 0 for bar in bars))
+    for name in names:
+        page.row(name).find_element(By.CSS_SELECTOR, "button.stop").click()
+        page.wait_for(name, "stopped")
 
 
 def test_stop_before_the_beginning(page, tmp_path):
@@ -298,6 +337,33 @@ def test_nothing_is_wider_than_the_window(page, files, width):
     page.wait(lambda: "done" in page.one("td.status").text)
     script = "return document.documentElement.scrollWidth - document.documentElement.clientWidth"
     assert page.chromium.execute_script(script) <= 0
+
+
+def test_a_name_is_a_text(page, files):
+    """Also where it looks like HTML. What is for one file is called by its name."""
+    page.choose(*files(**{"<i>fox": FOX}))
+    page.wait_for("<i>fox", "done")
+    assert page.text("<i>fox", ".name") == "<i>fox"
+    labels = [
+        page.row("<i>fox").find_element(By.CSS_SELECTOR, it).get_attribute("aria-label") for it in ("progress", ".stop", ".copy")
+    ]
+    assert labels == ["How far <i>fox is read", "Stop <i>fox", "Copy the hashes of <i>fox"]
+
+
+def test_the_contract_of_each_call_is_shown(page):
+    page.one("summary").click()
+    shown = page.one("#contract pre").text
+    for call in ("xxh64", "xxh64_u64", "xxh64_update", "murmur3_x64_128_digest", "xxh64_each32", "murmur3_x64_128_each64"):
+        assert f"fn sketch_{call}(" in shown
+    assert shown.count("ensures") >= shown.count("fn sketch_") == 14
+
+
+def test_the_page_may_ask_nobody(page):
+    """Its policy forbids what its own code does not do: to send anything away."""
+    ask = "fetch(location.href).then(() => arguments[0]('answered'), () => arguments[0]('refused'))"
+    assert page.chromium.execute_async_script(ask) == "refused"
+    kept = [line["message"] for line in page.chromium.get_log("browser") if line["level"] == "SEVERE"]
+    assert kept and all("Content Security Policy" in line for line in kept)
 
 
 def test_nothing_is_loaded_from_elsewhere(page):
