@@ -24,7 +24,7 @@ ASKING = [
     r"append", r"clone\w*", r"collect", r"concat", r"drain", r"extend", r"extend_from\w*", r"extend_with\w*",
     r"insert", r"insert_\w+", r"into_owned", r"join", r"push\w*", r"repeat", r"replace\w*", r"reserve\w*",
     r"resize\w*", r"shrink\w*", r"sort\w*", r"splice", r"split_off", r"to_mut", r"to_owned", r"to_vec", r"try_\w+",
-    r"write_all", r"write_fmt", r"write_str",
+    r"write_all", r"write_fmt", r"write_str", r"(?<=::)write\w*",
 ]
 # Those of them that ask for none: inserts into tables, writes to a formatter.
 OWN = re.compile(
@@ -122,7 +122,7 @@ IMPLEMENTATIONS = re.compile(
 # a module inside another, an allocator that is called otherwise, a module `tests` that is no test, code that
 # tests do not run, other attributes or attributes beside code, raw texts or texts over several lines. And
 # texts that depend on how they are to be printed, closures of several lines, definitions of clauses under
-# another name or out of proofs, and memory that is never given back.
+# another name or out of proofs, memory that is never given back, and an allocator that a list hands out.
 HIDING = re.compile("|".join([
     r"^.*\bghost use\b.* as .*",
     r"^.*\bghost use (?!Rattle\.std\.proofs\.Common\.\{rules\};$).*\bproofs\b.*",
@@ -132,7 +132,7 @@ HIDING = re.compile("|".join([
     r"^.*\b(?:macro_rules!|include!).*",
     r"^.*\bderive_where\b.*\bskip.*",
     r"^.*\bf\.fill\(.*",
-    r"^.*\b(?:forget|leak|into_raw\w*|ManuallyDrop)\b.*",
+    r"^.*\b(?:allocator|forget|leak|into_raw\w*|ManuallyDrop)\b.*",
     r"^.*[.:](?:alternate|pad\w*|precision|width|sign\w*)\((?<!kind\(\)\.width\().*",
     r"^.*/\*.*",
     rf"^ *{SEEN}mod \w+ \{{",
@@ -199,13 +199,15 @@ def heads(text):
     another name; of each function that others can call its signature and its clauses, of types and constants
     all, of implementations their heads, and what their ghost fields say."""
     found, depth, is_open = [], None, False
-    for line in text.split("\n"):
+    for line in filter(str.strip, code_of(text).split("\n")):
         if depth is None:
-            if re.match(r" *(?:ghost use\b|#\[(?:derive|derive_where|repr|unsafe)\b)", line):
+            if re.match(r" *#\[(?:derive|derive_where|repr|unsafe)\b", line):
                 found.append(line)
                 continue
             start = re.match(
-                r" *(pub(?:\([^)]*\))? |unsafe |extern \"C\" |final |const (?=fn))*(fn|ghost|impl|trait|struct|enum|const|(?<=pub )(?:use|type)|(?<=\) )(?:use|type))\b", line
+                r" *(pub(?:\([^)]*\))? |unsafe |extern \"C\" |final |const (?=fn)|ghost (?=use\b))*"
+                r"(fn|ghost|impl|trait|struct|enum|const|(?<=ghost )use|(?<=pub )(?:use|type)|(?<=\) )(?:use|type))\b",
+                line,
             )
             if not start:
                 continue
@@ -218,7 +220,7 @@ def heads(text):
         depth += line.count("{") - line.count("}")
         if kind in ("const", "use"):
             depth += line.count("[") - line.count("]")
-        if line.strip() not in ("{", "{}") and not line.strip().startswith("//"):
+        if line.strip() not in ("{", "{}"):
             found.append(line)
         # Here a body begins, or there is none.
         if kind in ("struct", "enum", "const", "use", "type"):
