@@ -1,9 +1,10 @@
-//! What the laws mean for a caller: each is used here, at all values of the types that it is for.
+//! What the laws mean for a caller, at the values that callers have.
 
-ghost use Rattle.std.specs.Prelude.{◌≡◌, ◌≢◌, ◌↔◌, ℕ, ◌+◌, ◌*◌, ◌%◌, ◌^◌, ◌<◌, List, ◌++◌, length, pos, IsTrue};
+ghost use Rattle.std.specs.Prelude.{◌≡◌, ◌≢◌, ◌⊎◌, ◌↔◌, ℕ, ◌+◌, ◌*◌, ◌%◌, ◌^◌, ◌<◌, ℤ, List, [], ◌∷◌, ◌++◌, length, pos, IsTrue};
 ghost use Rattle.std.specs.List.{All, fold};
-ghost use Rattle.datasketches.specs.Bytes.{AreBytes, eight, modulo};
+ghost use Rattle.datasketches.specs.Bytes.{AreBytes, eight, le, modulo};
 ghost use Rattle.datasketches.specs.Murmur.{fmix, mix1, mix2, murmur, step};
+ghost use Rattle.datasketches.specs.Pieces.{pieces, rest};
 ghost use Rattle.datasketches.specs.StepLaws.{AreWords, IsBlock, IsStep};
 ghost use Rattle.datasketches.specs.Strategies.{IntegerType, I8, I16, I32, I64, U8, U16, U32, U64, ValueOf, natural_fed, natural_number, sign_fed, sign_number};
 ghost use Rattle.datasketches.specs.Streams.{AgreeOutside};
@@ -15,7 +16,7 @@ use crate::keys::{is_same_hash, is_same_pair};
 use datasketches::hash::value::{HashStrategy, value_law};
 use datasketches::hash::{Hasher, XxHash64};
 use datasketches::laws;
-use sketch_hash::laws::{murmur_step_laws, xxh64_step_laws};
+use sketch_hash::laws::{murmur_step_laws, piece_laws, xxh64_step_laws};
 
 /// Whether two numbers are equal, by `hash_u64` alone.
 pub fn is_same_number(seed: u64, x: u64, y: u64) -> bool
@@ -34,15 +35,13 @@ pub fn every_word_is_a_hash(seed: u64, word: u64)
 
 /// Short integers collide exactly if they are equal, and any two exactly if they agree modulo 2^64,
 /// under both hashes.
-pub fn integers_are_told_apart(seed: u64, x: i32, y: u32, other: i32, z: i64, w: u64)
-    ensures murmur { ((murmur seed (integer_bytes x) ≡ murmur seed (integer_bytes (pos y)))
-        ↔ (x ≡ pos y))
-        × ((murmur seed (integer_bytes (pos y)) ≡ murmur seed (integer_bytes other))
-        ↔ (pos y ≡ other)) }
-    ensures xxh64 { ((xxh64 seed (integer_bytes x) ≡ xxh64 seed (integer_bytes (pos y)))
-        ↔ (x ≡ pos y))
-        × ((xxh64 seed (integer_bytes (pos y)) ≡ xxh64 seed (integer_bytes other))
-        ↔ (pos y ≡ other)) }
+pub fn integers_are_told_apart(seed: u64, signed: (i32, i32), unsigned: (u32, u32), z: i64, w: u64)
+    ensures murmur { (x y : ℤ) → (x ≡ signed.0) ⊎ (x ≡ pos unsigned.0) →
+        (y ≡ signed.1) ⊎ (y ≡ pos unsigned.1) →
+        (murmur seed (integer_bytes x) ≡ murmur seed (integer_bytes y)) ↔ (x ≡ y) }
+    ensures xxh64 { (x y : ℤ) → (x ≡ signed.0) ⊎ (x ≡ pos unsigned.0) →
+        (y ≡ signed.1) ⊎ (y ≡ pos unsigned.1) →
+        (xxh64 seed (integer_bytes x) ≡ xxh64 seed (integer_bytes y)) ↔ (x ≡ y) }
     ensures murmur_modulo { (murmur seed (integer_bytes z) ≡ murmur seed (integer_bytes (pos w)))
         ↔ (modulo 64 z ≡ modulo 64 (pos w)) }
     ensures xxh64_modulo { (xxh64 seed (integer_bytes z) ≡ xxh64 seed (integer_bytes (pos w)))
@@ -187,6 +186,30 @@ pub fn xxh64_steps_lose_nothing(x: u64, y: u64, read: u64, width: u64)
         (n : ℕ) × IsWord n × (fold tail_step n list ≡ x) }
 {
     xxh64_step_laws();
+}
+
+/// A stream is cut into whole pieces and a rest that is shorter; what follows whole pieces is cut
+/// as if it stood alone.
+pub fn streams_are_cut(width: usize, front: &[u8], back: &[u8])
+    requires { 0 < width }
+    ensures whole { length front.now ≡ width → pieces width front.now ≡ front.now ∷ [] }
+    ensures short { length front.now < width →
+        (pieces width front.now ≡ []) × (rest width front.now ≡ front.now) }
+    ensures behind { (i : ℕ) → length front.now ≡ width * i →
+        (pieces width (front.now ++ back.now) ≡ pieces width front.now ++ pieces width back.now)
+        × (rest width (front.now ++ back.now) ≡ rest width back.now) }
+    ensures rest { AreBytes (rest width back.now) × (length (rest width back.now) < width) }
+    ensures one_length { length front.now ≡ length back.now →
+        length (rest width front.now) ≡ length (rest width back.now) }
+{
+    piece_laws();
+}
+
+/// A word is read back from its eight bytes.
+pub fn words_are_read_back(word: u64)
+    ensures { AreBytes (eight word) × (le (eight word) ≡ word) }
+{
+    piece_laws();
 }
 
 /// Equal values feed equal bytes, under a strategy of anybody's.

@@ -4,7 +4,7 @@ ghost use Rattle.std.specs.Prelude.{◌≡◌, ◌≢◌, ◌⊎◌, ℕ, ◌+�
 ghost use Rattle.datasketches.specs.ErrorValue.{memory_error};
 ghost use Rattle.sketch_member.specs.Form.{form2};
 ghost use Rattle.sketch_member.specs.InPlace.{Becomes, IsMergeFault};
-ghost use Rattle.sketch_member.specs.Laws.{StandsFor, count_after};
+ghost use Rattle.sketch_member.specs.Laws.{IsMadeOf, StandsFor, count_after};
 ghost use Rattle.sketch_member.specs.Limits.{IsHashes, IsLog2Bits};
 ghost use Rattle.sketch_member.specs.Merge.{AreAlike, FirstDifference, Merges};
 ghost use Rattle.sketch_member.specs.Table.{Table, IsMember, IsTable, empty_table};
@@ -14,7 +14,8 @@ use sketch_member::laws::{form_law, merge_law};
 use sketch_member::{Difference, MemberTable, MergeFault, in_place};
 use std::alloc::Global;
 
-/// Merges the table of another worker into one: it stands for the values of both, and counts them.
+/// Merges the table of another worker into one: it stands for the values of both, and counts them,
+/// as the table of both streams does.
 ///
 /// # Errors
 ///
@@ -31,6 +32,10 @@ pub fn merge_worker(
     ensures counts { (m n : ℕ) →
         table.old.count ≡ count_after m → worker.now.count ≡ count_after n →
         IfOk result (λ _. table.new.count ≡ count_after (m + n)) }
+    ensures streams { (whole : Table) (values others : List (List ℕ)) →
+        IsTable whole → AreAlike table.old whole → IsMadeOf values table.old →
+        IsMadeOf others worker.now → IsMadeOf (values ++ others) whole →
+        IfOk result (λ _. table.new ≡ whole) }
     ensures refused { IfErr result (λ error. (table.new ≡ table.old)
         × FirstDifference table.old worker.now error) }
     ensures unlike { IfErr result (λ _. AreAlike table.old worker.now → ⊥) }

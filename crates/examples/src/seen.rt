@@ -1,6 +1,6 @@
 //! Keys that were seen, in a table of members that is saved and loaded.
 
-ghost use Rattle.std.specs.Prelude.{ℕ, List, ◌≡◌, ◌⊎◌, ◌↔◌, ◌+◌, [], None, IfErr, IfOk, IsTrue, MatchResult, length, map, Contains};
+ghost use Rattle.std.specs.Prelude.{ℕ, List, ◌≡◌, ◌⊎◌, ◌↔◌, ◌+◌, [], ◌∷◌, ◌++◌, None, IfErr, IfOk, IsTrue, MatchResult, length, map, Contains};
 ghost use Rattle.datasketches.specs.ErrorValue.{memory_error};
 ghost use Rattle.datasketches.specs.Refusals.{Refuses};
 ghost use Rattle.sketch_member.specs.Faults.{AllPass, FirstFault, IsFirstFault, fault_text, init_steps, steps, view_steps};
@@ -54,6 +54,8 @@ pub fn start_keys(alloc: Global) -> Result<MemberTable, Error>
 pub fn see_key(seen: &mut MemberTable, key: &[u8]) -> bool
     ensures told { IsTrue result ↔ IsMember seen.old key.now }
     ensures seen { Inserts key.now seen.old seen.new }
+    ensures stands { (keys : List (List ℕ)) → StandsFor seen.old keys →
+        StandsFor seen.new (keys ++ key.now ∷ []) }
     ensures counted { (n : ℕ) → seen.old.count ≡ count_after n →
         seen.new.count ≡ count_after (n + 1) }
 {
@@ -144,7 +146,7 @@ pub fn is_saved(alloc: Global, saved: &[u8], key: &[u8]) -> Result<bool, Error>
 /// # Errors
 ///
 /// Where `bytes` are not as many as the table has: `InvalidArgument`, with the first fault. Where
-/// memory runs out: `OutOfMemory`, with no message.
+/// memory runs out: `OutOfMemory`, with no message. `bytes` are then the table, or unchanged.
 pub fn see_keys_twice(
     alloc: Global,
     bytes: &mut [u8],
@@ -158,6 +160,10 @@ pub fn see_keys_twice(
     ensures refused { IfErr result (λ error. (error ≡ memory_error) ⊎ ((fault : Fault)
         × IsFirstFault (length bytes.old) (init_steps 10 7 bytes.old) fault
         × Refuses ErrorKind.InvalidArgument (fault_text fault) error)) }
+    ensures left { IfErr result (λ _. (bytes.new ≡ bytes.old) ⊎ (whole : Table)
+        × AreAlike (empty_table 0 10 7) whole
+        × IsMadeOf (map (λ key. key.now) keys.now) whole
+        × (bytes.new ≡ form2 whole)) }
 {
     insert_both(alloc, bytes, 0, 10, 7, keys)
 }
@@ -169,7 +175,8 @@ pub fn count_seen(seen: &MemberTable) -> Option<u64>
     seen.count()
 }
 
-/// Whether two tables are the same, count and all, by the bytes in which they are saved.
+/// Whether two tables are the same, count and all, by the bytes in which they are saved. They are
+/// if they were made alike, of the same keys and as many inserts.
 ///
 /// # Errors
 ///
@@ -179,9 +186,18 @@ pub fn are_same_tables(
     one: &MemberTable,
     other: &MemberTable,
 ) -> Result<bool, AllocError>
-    ensures { IfOk result (λ same. IsTrue same ↔ (one.now ≡ other.now)) }
+    ensures same { IfOk result (λ same. IsTrue same ↔ (one.now ≡ other.now)) }
+    ensures bits { (keys others : List (List ℕ)) → AreAlike one.now other.now →
+        StandsFor one.now keys → StandsFor other.now others →
+        ((key : List ℕ) → Contains keys key ↔ Contains others key) →
+        IfOk result (λ _. one.now.bits ≡ other.now.bits) }
+    ensures counts { (keys others : List (List ℕ)) → AreAlike one.now other.now →
+        StandsFor one.now keys → StandsFor other.now others →
+        ((key : List ℕ) → Contains keys key ↔ Contains others key) →
+        one.now.count ≡ other.now.count → IfOk result IsTrue }
 {
     form_law();
+    insert_law();
     Ok(one.to_bytes(alloc)? == other.to_bytes(alloc)?)
 }
 

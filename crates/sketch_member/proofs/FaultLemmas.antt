@@ -1,6 +1,6 @@
 -- Steps of a reading, and the answers that come of them.
 use Rattle.std.proofs.Common.{◌≡◌, ◌<◌, ◌≤◌, ℕ, ◌-◌, List, [], ◌∷◌, ◌++◌, length, arith, Result, Ok, Err, IsErrAnd, MatchResult, inl, inr, refl, subst, sym}
-use Rattle.std.specs.Prelude.{Contains}
+use Rattle.std.specs.Prelude.{Contains, ⊤}
 use Rattle.sketch_member.specs.declared.fault.Fault.{Fault}
 use Rattle.sketch_member.specs.Faults.{Step, AllPass, Fails, IsFirstFault, flag_step, header_steps, kind_steps, number_steps, size_steps}
 use Rattle.sketch_member.specs.Limits.{IsHashes, IsLog2Bits}
@@ -10,6 +10,11 @@ pub of_err : {X E : Type 0} (r : Result X E) (A : X → Type 0) (P : E → Type 
     IsErrAnd r (λ x. x ≡ e) → P e → MatchResult r A P
 of_err (Ok x) A P e is holds = absurd is
 of_err (Err x) A P e is holds = subst P (sym is) holds
+
+-- what holds anyway holds of an Err too
+pub anyway : {X E : Type 0} (r : Result X E) (P : Type 0) → P → MatchResult r (λ _. ⊤) (λ _. P)
+anyway (Ok x) P holds = tt
+anyway (Err x) P holds = holds
 
 -- a fault of the first steps is that of all; so is one of the others where the first pass
 pub fault-front : (count : ℕ) (front others : List Step) (fault : Fault) →

@@ -276,6 +276,14 @@ made_both_ways law seed log2_bits hashes first second start one start_other othe
     (made_of seed log2_bits hashes first one of_one)
     (made_of seed log2_bits hashes second other of_other) of_whole.1
 
+-- a table of inserts into an empty one is made of them, wherever its bytes lie
+pub whole_of : (seed log2_bits hashes : ℕ) (values : List (List ℕ)) (table : Table) (bytes : List ℕ) →
+    InsertsAll values (empty_table seed log2_bits hashes) table → bytes ≡ form2 table →
+    (whole : Table) × AreAlike (empty_table seed log2_bits hashes) whole × IsMadeOf values whole
+    × (bytes ≡ form2 whole)
+whole_of seed log2_bits hashes values table bytes all is =
+    (table, all_alike values _ table all, made_of seed log2_bits hashes values table all, is)
+
 -- the inserts of the same values into an empty table make one table
 pub made_once : (seed log2_bits hashes : ℕ) (values : List (List ℕ)) (table other : Table) →
     InsertsAll values (empty_table seed log2_bits hashes) table →

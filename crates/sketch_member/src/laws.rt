@@ -133,6 +133,10 @@ pub fn insert_both<T: Hash>(
         × IsFirstFault (length bytes.old) (init_steps log2_bits hashes bytes.old) fault
         × Refuses ErrorKind.InvalidArgument (fault_text fault) error)
         ⊎ (error ≡ memory_error)) }
+    ensures left { IfErr result (λ _. (bytes.new ≡ bytes.old) ⊎ (whole : Table)
+        × AreAlike (empty_table seed log2_bits hashes) whole
+        × IsMadeOf (map T.fed values.now) whole
+        × (bytes.new ≡ form2 whole)) }
 {
     if let Err(fault) = insert_all_in_place(bytes, seed, log2_bits, hashes, values) {
         return Err(fault.into_error(alloc, ErrorKind::InvalidArgument));

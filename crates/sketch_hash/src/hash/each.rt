@@ -39,7 +39,8 @@ impl XxHash64 {
     ///
     /// The column has as many keys as `out` has places. The key at a place is the bytes of `bytes`
     /// from the offset there up to the next offset, as Apache Arrow lays strings out. Arrow's
-    /// offsets are signed: read as unsigned, a negative one is past the end.
+    /// offsets are signed: a negative one, read as unsigned, is at least 2^31 or 2^63, so past the
+    /// end of all shorter columns.
     ///
     /// # Errors
     ///

@@ -1,6 +1,8 @@
 //! Hashers by their single calls.
 
-ghost use Rattle.std.specs.Prelude.{◌≡◌, ◌++◌, codes, IfSome, string_bytes};
+ghost use Rattle.std.specs.Prelude.{◌≡◌, ◌++◌, ℕ, List, codes, IfSome, string_bytes};
+ghost use Rattle.sketch_hash.specs.Murmur.{MurmurStands};
+ghost use Rattle.sketch_hash.specs.Xxh64.{Xxh64Stands};
 
 use super::{FOX, FOX_MURMUR, FOX_XXH64, assert_same, assert_same_for};
 use crate::hash::{
@@ -9,11 +11,26 @@ use crate::hash::{
 use crate::known_answers::TEST_BUFFER;
 use std::alloc::Global;
 
+// A caller's proof knows what a hasher of any seed and input stands for after a write.
+fn append_to_murmur(hasher: &mut MurmurHash3X64128, bytes: &[u8])
+    ensures { (seed : ℕ) (before : List ℕ) → MurmurStands hasher.old seed before →
+        MurmurStands hasher.new seed (before ++ bytes.now) }
+{
+    hasher.write(bytes);
+}
+
+fn append_to_xxh64(hasher: &mut XxHash64, bytes: &[u8])
+    ensures { (seed : ℕ) (before : List ℕ) → Xxh64Stands hasher.old seed before →
+        Xxh64Stands hasher.new seed (before ++ bytes.now) }
+{
+    hasher.write(bytes);
+}
+
 // The Murmur pair after a write of each piece.
 fn murmur_of(seed: u64, pieces: &[&[u8]]) -> (u64, u64) {
     let mut hasher = MurmurHash3X64128::with_seed(seed);
     for piece in pieces {
-        hasher.write(piece);
+        append_to_murmur(&mut hasher, piece);
     }
     hasher.finish128()
 }
@@ -22,7 +39,7 @@ fn murmur_of(seed: u64, pieces: &[&[u8]]) -> (u64, u64) {
 fn xxh64_of(seed: u64, pieces: &[&[u8]]) -> u64 {
     let mut hasher = XxHash64::with_seed(seed);
     for piece in pieces {
-        hasher.write(piece);
+        append_to_xxh64(&mut hasher, piece);
     }
     hasher.finish64()
 }

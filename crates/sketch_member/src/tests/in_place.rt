@@ -1,10 +1,12 @@
 //! Tables that are read and changed where their bytes lie.
 
-ghost use Rattle.std.specs.Prelude.{◌≡◌, ◌++◌, codes, length, IfSome, string_bytes};
+ghost use Rattle.std.specs.Prelude.{◌≡◌, ◌⊎◌, ◌++◌, codes, length, map, IfSome, string_bytes};
+ghost use Rattle.datasketches.specs.Bytes.{eight};
 ghost use Rattle.sketch_member.specs.Faults.{IsFirstFault, fault_text, view_steps};
 ghost use Rattle.sketch_member.specs.Form.{form2};
-ghost use Rattle.sketch_member.specs.Merge.{IsFirstDifference, part_name};
-ghost use Rattle.sketch_member.specs.Table.{IsTable, Table};
+ghost use Rattle.sketch_member.specs.Laws.{IsMadeOf};
+ghost use Rattle.sketch_member.specs.Merge.{AreAlike, IsFirstDifference, part_name};
+ghost use Rattle.sketch_member.specs.Table.{IsTable, Table, empty_table};
 
 use super::{ONE_VALUE_1, ONE_VALUE_2, UNKNOWN_COUNT, assert_same, assert_same_for};
 use crate::laws::insert_both;
@@ -74,6 +76,15 @@ fn difference_of(into: &mut [u8], from: &[u8]) -> Option<Difference>
     }
 }
 
+// It knows that bytes are the table of all values or as they were, whatever becomes of the call.
+fn fill(alloc: Global, bytes: &mut [u8], seed: u64, values: &[u64]) -> bool
+    ensures { (bytes.new ≡ bytes.old) ⊎ (whole : Table)
+        × AreAlike (empty_table seed 6 1) whole × IsMadeOf (map eight values.now) whole
+        × (bytes.new ≡ form2 whole) }
+{
+    insert_both(alloc, bytes, seed, 6, 1, values).is_ok()
+}
+
 #[test]
 fn views_of_every_size_are_those_of_tables(rt: HostRuntime) -> Result<(), Fail> {
     let values = [raw_bytes::from_str("a"), raw_bytes::from_str("b")];
@@ -108,6 +119,9 @@ fn views_of_every_size_are_those_of_tables(rt: HostRuntime) -> Result<(), Fail> 
         let (values, _) = numbers.split_at(count);
         let made = insert_both(rt.alloc(), &mut bytes, 0, 7, 2, values)?;
         assert_same_for(&rt, made.as_slice() == bytes.as_slice(), true, count);
+        let fits = fill(rt.alloc(), &mut [0; 32], 5, values);
+        let is_too_long = !fill(rt.alloc(), &mut [0; 33], 5, values);
+        assert_same_for(&rt, (fits, is_too_long), (true, true), count);
     }
     Ok(())
 }

@@ -5,10 +5,10 @@ use Rattle.datasketches.specs.Refusals.{Refuses}
 use Rattle.sketch_member.specs.declared.fault.Fault.{Fault}
 use Rattle.sketch_member.specs.Faults.{IsFirstFault, fault_text, init_steps}
 use Rattle.sketch_member.specs.Limits.{IsHashes, IsLog2Bits}
-use Rattle.sketch_member.proofs.FaultLemmas.{of_err}
+use Rattle.sketch_member.proofs.FaultLemmas.{anyway, of_err}
 use Rattle.sketch_member.specs.Form.{form2}
 use Rattle.sketch_member.specs.Laws.{InsertsAll}
-use Rattle.sketch_member.proofs.MergeLemmas.{all_alike, made_of, made_once}
+use Rattle.sketch_member.proofs.MergeLemmas.{all_alike, made_once, whole_of}
 use Rattle.sketch_member.proofs.laws.insert_both.Goals as goal
 
 pub returns-clause-same : goal.returns-clause-same
@@ -25,14 +25,9 @@ returns-clause-same g c =
 pub returns-clause-whole : goal.returns-clause-whole
 returns-clause-whole g c =
     let values = map g.T.Hash.fed c.args.values.now in
-    let table = c.insert_all.new.table in
-    let all = subst (λ t. InsertsAll values t table) c.in_ok-table.ensures.answer.2
-    c.insert_all.ensures in (
-      table,
-      all_alike values _ table all,
-      made_of c.args.seed c.args.log2_bits c.args.hashes values table all,
-      c.in_ok-to_bytes.ensures.form,
-    )
+    let all = subst (λ t. InsertsAll values t c.insert_all.new.table) c.in_ok-table.ensures.answer.2
+    c.insert_all.ensures in
+    whole_of c.args.seed c.args.log2_bits c.args.hashes values _ _ all c.in_ok-to_bytes.ensures.form
 
 -- sizes that `new` refuses were refused before
 pub returns-in_err-table-clause-refused : goal.returns-in_err-table-clause-refused
@@ -52,3 +47,15 @@ returns-in_err-table-clause-refused g c =
         | inr memory ↦ inr memory.2
       ]
     ])
+
+pub returns-in_err-table-clause-left : goal.returns-in_err-table-clause-left
+returns-in_err-table-clause-left g c =
+    let lies = c.in_default.ensures in
+    anyway c.from_residual.result _ (inr (whole_of c.args.seed c.args.log2_bits c.args.hashes
+    (map g.T.Hash.fed c.args.values.now) lies.0 _ lies.3 lies.2))
+
+pub returns-in_err-to_bytes-clause-left : goal.returns-in_err-to_bytes-clause-left
+returns-in_err-to_bytes-clause-left g c =
+    let lies = c.in_default.ensures in
+    anyway c.from_residual-in_err-to_bytes.result _ (inr (whole_of c.args.seed c.args.log2_bits
+    c.args.hashes (map g.T.Hash.fed c.args.values.now) lies.0 _ lies.3 lies.2))
