@@ -24,7 +24,8 @@ ASKING = [
     r"append", r"clone\w*", r"collect", r"concat", r"drain", r"extend", r"extend_from\w*", r"extend_with\w*",
     r"insert", r"insert_\w+", r"into_owned", r"join", r"push\w*", r"repeat", r"replace\w*", r"reserve\w*",
     r"resize\w*", r"shrink\w*", r"sort\w*", r"splice", r"split_off", r"to_mut", r"to_owned", r"to_vec", r"try_\w+",
-    r"write_all", r"write_fmt", r"write_str", r"(?<=::)write\w*",
+    r"write_all", r"write_fmt", r"write_str", r"(?<=::)write\w*", r"read_line", r"read_to_\w+", r"read_until",
+    r"with_capacity\w*", r"from_iter", r"allocate\w*",
 ]
 # Those of them that ask for none: inserts into tables, writes to a formatter.
 OWN = re.compile(
@@ -33,7 +34,7 @@ OWN = re.compile(
 
 # What can make an error that tells of memory, or of a text that fails to print.
 TELLING = "|".join([
-    r"Err(?:::<.*?>)?\((?:self|\w*Error)\)", r"AllocError", r"OutOfMemory", r"NoMemory", r"fmt::Error", r"Error::from\(",
+    r"Err(?:::<.*?>)?\((?:self|\w*Error(?: \{\s*\})?)\)", r"AllocError", r"OutOfMemory", r"NoMemory", r"fmt::Error", r"Error::from\(",
     r"(?<!MurmurHash3X64128)(?<!XxHash64)::default\b", r"\.into\(\)", r"\bwrite(?:ln)?!\((?!\s*f\b)",
     r"\bok_or(?:_else)?\(\w*Error\)", r"\bio::Error::\w+\(", r"\bconst_error\b", r"\b(?:Into::into|From::from)\b",
     r"\bStopped \{(?! \.\. \}| \w+ \}\) =>)",
@@ -54,6 +55,31 @@ def rest_of_call(code, at):
     return code[at : end - 1].strip(" ,;")
 
 
+def around(lines, more):
+    """Of lines that lead away from a place, the place's own first, those that begin or end the blocks around it, and
+    perhaps more that stand as far left."""
+    found, least = [], len(lines[0]) - len(lines[0].lstrip()) - 1
+    for line in filter(None, lines[1:]):
+        indent = len(line) - len(line.lstrip())
+        if indent <= least:
+            found, least = [*found, line], indent if more else indent - 1
+    return found
+
+
+def is_returned(code, start, end):
+    """Whether an `Err(f(` in a body, from a place to another, is returned: by `return`, or as the value of the body,
+    perhaps through blocks and arms that are that value."""
+    *before, line = code[:start].split("\n")
+    called = rest_of_call(code, end)
+    rest, *after = code[code.index(called, end) + len(called) :].split("\n")
+    if not re.fullmatch(r" *(?:.* => )?(?:return )?", line):
+        return False
+    return line.endswith("return ") or (
+        all(re.match(r" *(?:\} else|if|match|for|while)\b|.* => ", head) for head in around([line + "_", *before[::-1]], False))
+        and not any(end.endswith(";") for end in [rest, *around([line + "_", *after], True)])
+    )
+
+
 def requests_of(body):
     """The calls of a body that are handed the allocator or let a list grow, and the errors that it makes. An
     error that is returned where it is made is shown as `Err(f(..))`, a request for memory with its size, and
@@ -69,7 +95,8 @@ def requests_of(body):
             name = f"{name}({rest_of_call(code, match.end())})"
         line = code[code.rfind("\n", 0, match.start()) + 1 : match.start()]
         is_in_closure = re.search(r"\|[^|]*\|", line)
-        found.append(f"Err({name}(..))" if is_handed_back else f"closure({name})" if is_in_closure else name)
+        is_back = is_handed_back and is_returned(code, match.start(), match.end())
+        found.append(f"Err({name}(..))" if is_back else f"closure({name})" if is_in_closure else name)
     return found
 
 
@@ -118,21 +145,21 @@ IMPLEMENTATIONS = re.compile(
     r"^ *((?:unsafe )?impl\b[^{]*?(\w+)(?:<[^{]*>)? for ([^{]+?)(?:\s+where\b[^{]*)?\s*\{)", re.M
 )
 
-# Lines that hide something from the above: another name, another path, a macro, a comment that is no line,
-# a module inside another, an allocator that is called otherwise, a module `tests` that is no test, code that
+# Lines that hide something from the above: an import or a type under another name, a macro, a comment that is
+# no line, another path, a module inside another, an allocator that is called otherwise, a module `tests` that is no test, code that
 # tests do not run, other attributes or attributes beside code, raw texts or texts over several lines. And
 # texts that depend on how they are to be printed, closures of several lines, definitions of clauses under
 # another name or out of proofs, memory that is never given back, and an allocator that a list hands out.
 HIDING = re.compile("|".join([
-    r"^.*\bghost use\b.* as .*",
+    rf"^ *(?:{SEEN}|ghost )use\b[^;]* as \w[^;]*;",
+    r"^ *type (?!Target = T;).*",
     r"^.*\bghost use (?!Rattle\.std\.proofs\.Common\.\{rules\};$).*\bproofs\b.*",
-    rf"^.*\b(?:AllocError|Error|OutOfMemory|Global|{'|'.join(DERIVED)}) as \w+.*",
     r"^\s*use (?:std::)?(?:fmt|io)\b.*(?:\bError\b|\*).*",
     r"^.*= (?:move )?\|[^|\n]*\| \{$",
     r"^.*\b(?:macro_rules!|include!).*",
     r"^.*\bderive_where\b.*\bskip.*",
     r"^.*\bf\.fill\(.*",
-    r"^.*\b(?:allocator|forget|leak|into_raw\w*|ManuallyDrop)\b.*",
+    r"^.*\b(?:Allocator|allocator|emptied|forget|leak|into_raw\w*|ManuallyDrop)\b.*",
     r"^.*[.:](?:alternate|pad\w*|precision|width|sign\w*)\((?<!kind\(\)\.width\().*",
     r"^.*/\*.*",
     rf"^ *{SEEN}mod \w+ \{{",
@@ -189,14 +216,13 @@ def written_by_hand(text):
         for item in ITEMS.findall(FUNCTIONS.sub("", text))
         if re.search(r"AllocError|OutOfMemory|NoMemory|fmt::(?:Error|Result)|io::Error", item)
     ]
-    return found + [line.strip() for line in re.findall(r"^.*fmt::Formatter.*$", text, re.M)]
+    return found + [line.strip() for line in re.findall(r"^.*\bFormatter\b.*$", text, re.M)]
 
 
 # ---- docs/contracts.txt
 
 def heads(text):
-    """The lines of a source that promise something: what its clauses import, and what it gives on under its own or
-    another name; of each function that others can call its signature and its clauses, of types and constants
+    """The lines of a source that promise something: what its clauses import, and what it gives on; of each function that others can call its signature and its clauses, of types and constants
     all, of implementations their heads, and what their ghost fields say."""
     found, depth, is_open = [], None, False
     for line in filter(str.strip, code_of(text).split("\n")):
@@ -206,7 +232,7 @@ def heads(text):
                 continue
             start = re.match(
                 r" *(pub(?:\([^)]*\))? |unsafe |extern \"C\" |final |const (?=fn)|ghost (?=use\b))*"
-                r"(fn|ghost|impl|trait|struct|enum|const|(?<=ghost )use|(?<=pub )(?:use|type)|(?<=\) )(?:use|type))\b",
+                r"(fn|ghost|impl|trait|struct|enum|const|(?<=ghost )use|(?<=pub )(?:mod|use|type)|(?<=\) )(?:mod|use|type))\b",
                 line,
             )
             if not start:
@@ -223,7 +249,7 @@ def heads(text):
         if line.strip() not in ("{", "{}"):
             found.append(line)
         # Here a body begins, or there is none.
-        if kind in ("struct", "enum", "const", "use", "type"):
+        if kind in ("struct", "enum", "const", "mod", "use", "type"):
             is_whole = depth == 0 and line.endswith(("}", ";"))
         else:
             is_whole = depth == 1 and line.endswith("{") or depth == 0 and line.endswith(("{}", ";"))
