@@ -1,5 +1,5 @@
 /* Lengths past 2^32: XXH64 in one call and in one update beside libxxhash, Murmur in two updates beside
- * one call. The zeros are never written, so they take no memory. */
+ * one call, and columns whose second key begins behind them. The zeros are never written, so they take no memory. */
 #include "sketch_hash.h"
 #include <stdlib.h>
 #include <xxhash.h>
@@ -20,6 +20,19 @@ int main(void) {
     same("murmur, h1", sketch_murmur3_x64_128_digest(&m).h1, whole.h1);
     same("murmur, h2", sketch_murmur3_x64_128_digest(&m).h2, whole.h2);
     same("murmur, total", m.total, length);
+    const uint64_t offsets[] = {0, length - 5, length};
+    uint64_t x_out[2];
+    sketch_murmur3_x64_128_hash_t m_out[2], key = sketch_murmur3_x64_128(zeros, 5, UINT64_MAX);
+    whole = sketch_murmur3_x64_128(zeros, length - 5, UINT64_MAX);
+    same("xxh64, a column", sketch_xxh64_each64(zeros, length, offsets, 3, UINT64_MAX, x_out, 2), 0);
+    same("its first key", x_out[0], XXH64(zeros, length - 5, UINT64_MAX));
+    same("its second key", x_out[1], XXH64(zeros, 5, UINT64_MAX));
+    same("murmur, a column", sketch_murmur3_x64_128_each64(zeros, length, offsets, 3, UINT64_MAX, m_out, 2), 0);
+    same("its first key, h1", m_out[0].h1, whole.h1);
+    same("its first key, h2", m_out[0].h2, whole.h2);
+    same("its second key, h1", m_out[1].h1, key.h1);
+    same("its second key, h2", m_out[1].h2, key.h2);
+    same("bytes that end before 2^32", sketch_xxh64_each64(zeros, 37, offsets, 3, UINT64_MAX, x_out, 2), 2);
     free(zeros);
-    return conclude(5);
+    return conclude(14);
 }

@@ -72,6 +72,14 @@ def model(keys, count):
     return head + numpy.packbits(bits, bitorder="little").tobytes()
 
 
+def test_without_a_scheduler_this_machine_works(tmp_path):
+    (tmp_path / "keys").write_text("fox\ndog\n")
+    sizes = [f"{name}={size}" for name, size in zip(("--log2-bits", "--hashes", "--seed"), SIZES)]
+    command = [sys.executable, EXAMPLE, "--check", *sizes, "--out", tmp_path / "out", tmp_path / "keys"]
+    assert subprocess.run(command, stdout=subprocess.PIPE, timeout=120, check=True).stdout == b"2 keys\n"
+    assert (tmp_path / "out").read_bytes() == model([b"fox", b"dog"], 2)
+
+
 def is_wanted(worker):
     """Whether it has a table for a merge that still waits for others."""
     tables = list(worker.has_what)

@@ -3,6 +3,7 @@ import os
 import pty
 import random
 import re
+import select
 import signal
 import subprocess
 import sys
@@ -74,6 +75,35 @@ def test_an_input_that_does_not_wait():
         os.close(there)
         assert (status, output) == (1, b"")
         assert complaint.startswith(b"sketch_hash: -: Resource temporarily unavailable\n")
+
+
+def test_lines_come_as_soon_as_a_file_is_read():
+    os.mkfifo("late")
+    for words in (["fox", "late"], ["--check", "list"]):
+        with open("list", "wb") as file:
+            file.write(XXH64 + b"  fox\n" + XXH64 + b"  late\n")
+        command = [sys.executable, "-m", "sketch_hash", *words]
+        with subprocess.Popen(command, stdout=subprocess.PIPE) as program:
+            assert select.select([program.stdout], [], [], 30)[0]
+            first = os.read(program.stdout.fileno(), 100)
+            with open("late", "wb") as late:
+                late.write(FOX)
+            lines = first + program.stdout.read()
+            assert program.wait() == 0
+        if words[0] == "fox":
+            assert (first, lines) == (XXH64 + b"  fox\n", XXH64 + b"  fox\n" + XXH64 + b"  late\n")
+        else:
+            assert (first, lines) == (b"fox: OK\n", b"fox: OK\nlate: OK\n")
+
+
+def test_lists_that_cannot_be_read_are_counted():
+    with open("list", "wb") as file:
+        file.write(XXH64 + b"  fox\n")
+    assert run("--check", "none", "list", "nowhere") == (
+        1, b"fox: OK\n",
+        b"sketch_hash: none: No such file or directory\nsketch_hash: nowhere: No such file or directory\n"
+        b"sketch_hash: 2 file(s) could not be read\n",
+    )
 
 
 def test_an_output_that_is_full():
