@@ -1,6 +1,6 @@
 //! The calls together, as a program in C makes them: proved from their contracts alone, and run.
 
-ghost use Rattle.std.specs.Prelude.{◌≡◌, ◌++◌, ◌<◌, ◌≤◌, ℕ, suc, [], length, slice_index, slice_index_or, IsTrue};
+ghost use Rattle.std.specs.Prelude.{◌≡◌, ◌++◌, ◌<◌, ◌≤◌, ℕ, suc, [], length, replicate, slice_index, slice_index_or, IsTrue};
 ghost use Rattle.sketch_base.specs.Bytes.{eight};
 ghost use Rattle.sketch_hash.specs.Columns.{IsFirstWrongOffset, key_at, murmur_words};
 ghost use Rattle.sketch_hash.specs.Held.{murmur_held, xxh64_held};
@@ -58,6 +58,14 @@ fn murmur_of_two(state: &mut MurmurState, seed: u64, front: &[u8], back: &[u8]) 
     sketch_murmur3_x64_128_update(state, front);
     sketch_murmur3_x64_128_update(state, back);
     sketch_murmur3_x64_128_digest(state)
+}
+
+/// Starts two states anew, whose buffers then hold no byte of what they held before.
+fn clear_buffers(x: &mut XxHash64State, m: &mut MurmurState, seed: u64)
+    ensures { (x.new.waiting ≡ replicate 32 0) × (m.new.waiting ≡ replicate 16 0) }
+{
+    sketch_xxh64_reset(x, seed);
+    sketch_murmur3_x64_128_reset(m, seed);
 }
 
 /// XXH64 of what a state of any origin holds, and of more.
@@ -132,22 +140,23 @@ fn hash_numbers(numbers: &[u64], seed: u64, out: &mut [u64]) -> usize
     sketch_xxh64_each_u64(numbers, seed, out)
 }
 
+/// Whether the library has what came with 1.1.
+fn has_tables() -> bool
+    ensures { IsTrue result }
+{
+    sketch_hash_version() >= 10_100
+}
+
 #[test]
 fn states_go_on(rt: HostRuntime) {
-    let mut state = XxHash64::with_seed(7).state();
-    assert_same(
-        &rt,
-        xxh64_of_more(&mut state, b"fo"),
-        sketch_xxh64(b"fo", 7),
-    );
-    assert_same(
-        &rt,
-        xxh64_of_more(&mut state, b"x"),
-        sketch_xxh64(b"fox", 7),
-    );
-    let mut state = MurmurHash3X64128::with_seed(7).state();
-    let pair = murmur_of_more(&mut state, b"fox");
+    let mut x = XxHash64::with_seed(7).state();
+    assert_same(&rt, xxh64_of_more(&mut x, b"fo"), sketch_xxh64(b"fo", 7));
+    assert_same(&rt, xxh64_of_more(&mut x, b"x"), sketch_xxh64(b"fox", 7));
+    let mut m = MurmurHash3X64128::with_seed(7).state();
+    let pair = murmur_of_more(&mut m, b"fox");
     assert_same(&rt, pair.h1, sketch_murmur3_x64_128(b"fox", 7).h1);
+    clear_buffers(&mut x, &mut m, 8);
+    assert_same(&rt, (x.waiting, m.waiting), ([0; 32], [0; 16]));
 }
 
 #[test]
@@ -206,5 +215,5 @@ fn a_number_is_its_eight_bytes(rt: HostRuntime) {
         &[0x4c, 0x5b, 0x6a, 0x79, 0x88],
     );
     assert_same(&rt, sketch_xxh64_u64(0x8879_6a5b_4c3d_2e1f, 9001), hash);
-    assert_same(&rt, sketch_hash_version(), 10_100);
+    assert_same(&rt, (sketch_hash_version(), has_tables()), (10_100, true));
 }
