@@ -120,7 +120,7 @@ FUNCTIONS = re.compile(
 
 @functools.cache
 def requests(path, text):
-    """The same of each function of a source that has some, as lines of docs/memory.md."""
+    """What `requests_of` and `tellings_of` find in each function of a source, as lines of docs/memory.md."""
     rows = []
     for _, name, body in FUNCTIONS.findall(text):
         start = re.search(r"^ *\{$|\{$", body, re.M)

@@ -2,18 +2,19 @@
  * that are proved.
  *
  * Proved of the library: for every seed, and however a stream is cut into updates, a digest is the
- * published hash of all bytes since the last reset; a table contains each key that was inserted; no
- * call reads or writes outside of what it is given; only calls on tables fail, with a negative
- * status, and calls on columns, at an offset that does not fit; every content of a state, a table or
- * an array of offsets is safe, even noise. The library imports nothing, so no call can allocate.
+ * hash of all bytes since the last reset (tests, and no proof, show that its definition is the
+ * published algorithm); a table contains each key that was inserted; no call reads or writes
+ * outside of what it is given; only calls on tables fail, with a negative status, and calls on
+ * columns, at an offset that does not fit; every content of a state, a table or an array of offsets
+ * is safe, even noise. The library imports nothing, so no call can allocate.
  *
  * What a caller owes, which no compiler checks:
  *   - A state starts by its _INIT or its _reset. A state of zeros is safe, but XXH64 of it is
  *     wrong from 32 bytes on.
  *   - A pointer to a state or a count is valid, and nothing else touches it during a call.
  *   - `input`, `key` and the bytes of a table point to as many readable bytes as their length says,
- *     which stay as they are during the call and overlap nothing that the call writes. They may be
- *     NULL only if the length is 0. A length is below 2^63.
+ *     which nothing else changes during the call, and overlap nothing that the call writes. They
+ *     may be NULL only if the length is 0. A length is below 2^63.
  *   - The same holds of each array that is passed with a count, which is below 2^60. `out` overlaps
  *     nothing else that is passed.
  *   - The bytes of a table that a call changes are writable too.
@@ -144,9 +145,9 @@ enum sketch_member_status {
     SKETCH_MEMBER_TRAILING_BYTES = -10, /* there are more */
     SKETCH_MEMBER_VERSION_1 = -11,      /* a table of version 1, which has no place for a count; no
                                          * call here reads it */
-    SKETCH_MEMBER_OTHER_SEED = -12,     /* two tables to be merged have other seeds, */
-    SKETCH_MEMBER_OTHER_LOG2_BITS = -13, /* other sizes, */
-    SKETCH_MEMBER_OTHER_HASHES = -14     /* or other numbers of hashes */
+    SKETCH_MEMBER_OTHER_SEED = -12,     /* two tables to be merged have different seeds, */
+    SKETCH_MEMBER_OTHER_LOG2_BITS = -13, /* different sizes, */
+    SKETCH_MEMBER_OTHER_HASHES = -14     /* or different numbers of hashes */
 };
 
 /* How many bytes a table of 2^log2_bits bits has: 24 + 2^log2_bits / 8; 0 outside of 6 to 20. */
@@ -158,7 +159,10 @@ size_t sketch_member_size(unsigned log2_bits);
 int sketch_member_init(void *bytes, size_t length, uint64_t seed, unsigned log2_bits,
                        unsigned hashes);
 
+/* Whether the bytes are a table of version 2. */
 int sketch_member_check(const void *bytes, size_t length);
+
+/* Inserts a key. */
 int sketch_member_insert(void *bytes, size_t length, const void *key, size_t key_length);
 
 /* 1 where the table contains the key, 0 where it does not, or a negative status. */

@@ -84,9 +84,9 @@ pub fn xx_seed_law()
     xxh64_step_laws();
 }
 
-/// Integers of 8 to 32 bits, extended to eight bytes and written alone after one seed, have equal
-/// Murmur pairs exactly if they are equal, and equal XXH64 hashes exactly if they are equal. Any
-/// two integers have equal hashes exactly if they agree modulo 2^64.
+/// Whole numbers from -2^31 to 2^32 - 1, each written alone as eight bytes after one seed, have
+/// equal Murmur pairs exactly if they are equal, and equal XXH64 hashes exactly if they are equal.
+/// Any two whole numbers have equal hashes exactly if they agree modulo 2^64.
 pub fn integer_law()
     ensures murmur { IntegerLaw murmur }
     ensures xxh64 { IntegerLaw xxh64 }

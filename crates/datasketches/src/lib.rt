@@ -1,6 +1,6 @@
-//! The lowest layer of Apache DataSketches' Rust component, proved: errors, the codec of serialized
-//! sketches without floats, and the hashes, under their original paths; and beside them the laws of
-//! collisions.
+//! A proved port of the lowest layer of Apache DataSketches' Rust component: errors, the codec of
+//! serialized sketches without floats, and the hashes, under their original paths; and beside them
+//! the laws of collisions.
 #![tactic(auto)]
 
 pub use sketch_base::{codec, error};

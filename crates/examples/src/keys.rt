@@ -68,7 +68,8 @@ pub fn is_same_word(seed: u64, x: u64, y: i64) -> bool
     is_same_pair(first, second)
 }
 
-/// The Murmur pair of a key of text, which feeds its UTF-8 bytes, owned or not, as its bytes do.
+/// The Murmur pairs of three keys. Text feeds its UTF-8 bytes, owned or not, and bytes feed
+/// themselves.
 pub fn pairs_of_text(seed: u64, owned: String, borrowed: &str, bytes: Vec<u8>) -> [(u64, u64); 3]
     ensures { result ≡ murmur seed (string_bytes owned) ∷ murmur seed borrowed.now
         ∷ murmur seed bytes.items ∷ [] }

@@ -1,6 +1,6 @@
 //! What the laws mean for a caller, at the values that callers have.
 
-ghost use Rattle.std.specs.Prelude.{◌≡◌, ◌≢◌, ◌⊎◌, ◌↔◌, ℕ, ◌+◌, ◌*◌, ◌%◌, ◌^◌, ◌<◌, ℤ, List, [], ◌∷◌, ◌++◌, length, pos, IsTrue};
+ghost use Rattle.std.specs.Prelude.{◌≡◌, ◌≢◌, ◌⊎◌, ◌↔◌, ℕ, ◌+◌, ◌*◌, ◌^◌, ◌<◌, ℤ, List, [], ◌∷◌, ◌++◌, length, pos, IsTrue};
 ghost use Rattle.std.specs.List.{All, fold};
 ghost use Rattle.datasketches.specs.Bytes.{AreBytes, eight, le, modulo};
 ghost use Rattle.datasketches.specs.Murmur.{fmix, mix1, mix2, murmur, step};

@@ -21,6 +21,11 @@ use std::ops::Bound;
 
 /// Checks the preamble of a serialized HLL sketch that was made with the seed: preamble longs,
 /// serial version, family and seed hash.
+///
+/// # Errors
+///
+/// At the first that is wrong or missing: `InvalidData`. Where the seed's own hash is zero:
+/// `InvalidArgument`. Where the text finds no memory: `OutOfMemory`, with no message.
 pub fn check_preamble(alloc: Global, bytes: &[u8], seed: u64) -> Result<(), Error>
     ensures { MatchResult result
         (λ _. HasPreamble seed bytes.now) (λ _. HasPreamble seed bytes.now → ⊥) }
@@ -87,6 +92,11 @@ pub fn at_place(alloc: Global, error: Error, place: u64) -> Error
 }
 
 /// Reads the items of such a sketch, one of each kind, into as many places.
+///
+/// # Errors
+///
+/// As those of [`check_preamble`]; and `InvalidData` where bytes are missing, when the first places
+/// may have been written to.
 pub fn read_sketch(
     alloc: Global,
     bytes: &[u8],
@@ -110,6 +120,11 @@ pub fn read_sketch(
 }
 
 /// Writes such a sketch: the preamble, and then the items.
+///
+/// # Errors
+///
+/// Where the seed's hash is zero: `InvalidArgument`. Where memory runs out: `OutOfMemory`, with the
+/// number of items written as its context if there is memory for that.
 pub fn write_sketch(alloc: Global, seed: u64, items: &[Item]) -> Result<Vec<u8>, Error>
     ensures { IfOk result (λ bytes.
         HasPreamble seed bytes.items × (drop 5 bytes.items ≡ spell_all items.now)) }

@@ -1,4 +1,4 @@
--- What the calls on tables answer: 0 where they are done, and else a number below.
+-- What the calls on tables answer where they refuse: a negative number for each fault.
 use Rattle.std.specs.Prelude.{◌≡◌, ℕ, ℤ, pos, ◌-ℤ◌, List, length}
 use Rattle.sketch_member.specs.declared.fault.Fault.{Fault}
 use Rattle.sketch_member.specs.declared.fault.Fault.TheVariants.{HeaderEnds, PreambleLongs, SerialVersion, Family, Log2Bits, Hashes, Reserved, UnknownCount, MissingBits, TrailingBytes, Version1}

@@ -1,9 +1,10 @@
 //! The table of members, in bytes that the caller owns.
 //!
-//! Each call checks the header that it is given. What is refused is left as it was.
+//! Each call checks the header that it is given, and answers 0, or 1 where it says so; or the
+//! negative status of the first fault, and then leaves everything as it was.
 
 ghost use Rattle.std.specs.Prelude.{◌≡◌, ◌⊎◌, ◌+◌, pos, length, min, Some, None};
-ghost use Rattle.sketch_c.specs.Status.{IsTableIn, Refused, difference_status, merge_status, status};
+ghost use Rattle.sketch_c.specs.Status.{IsTableIn, Refused, merge_status, status};
 ghost use Rattle.sketch_member.specs.Faults.{IsFirstFault, init_steps};
 ghost use Rattle.sketch_member.specs.Form.{form2};
 ghost use Rattle.sketch_member.specs.InPlace.{Becomes, IsMergeFault};

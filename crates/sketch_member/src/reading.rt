@@ -1,6 +1,6 @@
 //! The reading of a table in bytes, from front to back.
 
-ghost use Rattle.std.specs.Prelude.{◌≡◌, ◌⊎◌, ◌↔◌, ◌-◌, ◌*◌, ◌<◌, ◌≤◌, ℕ, ◌∷◌, ◌++◌, [], Contains, length, take, drop, IfSome, MatchResult, IsTrue};
+ghost use Rattle.std.specs.Prelude.{◌≡◌, ◌⊎◌, ◌↔◌, ◌-◌, ◌*◌, ◌<◌, ◌≤◌, ℕ, ◌∷◌, [], Contains, length, take, drop, IfSome, MatchResult, IsTrue};
 ghost use Rattle.datasketches.specs.Bytes.{AreBytes, le};
 ghost use Rattle.datasketches.specs.Words.{IsWord};
 ghost use Rattle.sketch_member.specs.Faults.{Fails, IsFirstFault, IsFlag, flag_step, header_steps, kind_steps, size_steps, steps};
@@ -88,8 +88,8 @@ fn read_sizes(reader: &mut SketchSlice) -> Result<(u8, u8), Fault>
     Ok((log2_bits, hashes))
 }
 
-// The byte that tells whether the count is known, before reserved bytes that are zero, after the
-// preamble longs and four bytes more.
+// Byte 5, which tells whether the count is known, and the two reserved bytes after it, which are
+// zero.
 fn read_flag(reader: &mut SketchSlice, longs: u8) -> Result<u8, Fault>
     ensures { MatchResult result
         (λ flag. IsFlag longs flag × (reader.old ≡ flag ∷ 0 ∷ 0 ∷ reader.new))

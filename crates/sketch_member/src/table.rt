@@ -2,7 +2,6 @@
 
 ghost use Rattle.std.specs.Prelude.{◌≡◌, ◌⊎◌, ℕ, ◌↔◌, length, IfOk, IsTrue, MatchResult};
 ghost use Rattle.datasketches.specs.ErrorValue.{memory_error};
-ghost use Rattle.datasketches.specs.Refusals.{Refuses};
 ghost use Rattle.sketch_member.specs.Faults.{AllPass, FirstFault, steps};
 ghost use Rattle.sketch_member.specs.Form.{IsForm};
 ghost use Rattle.sketch_member.specs.Header.{table_of};

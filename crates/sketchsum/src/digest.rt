@@ -17,8 +17,8 @@ use std::io::{Read, Write};
 ///
 /// # Errors
 ///
-/// As those of [`crate::run::run_bounded`]. Reader and writer remember that a call failed, so a
-/// fault is answered where one did, and nowhere else.
+/// As those of [`crate::run::run_bounded`]. Reader and writer remember that a call failed. So where
+/// none had failed before, a fault is answered where one does, and nowhere else.
 pub fn write_digest<R: Read, W: Write>(
     algorithm: Algorithm,
     seed: u64,

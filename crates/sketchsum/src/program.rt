@@ -35,7 +35,7 @@ impl Termination for ProgramEnd {
     }
 }
 
-/// Does what the words of `env` ask for. Without words, nothing is read or written.
+/// Does what the words of `env` ask for. Where these cannot be had, nothing is read or written.
 pub fn program<V: Env, R: Read, W: Write>(
     env: &V,
     alloc: Global,

@@ -8,7 +8,7 @@ ghost use Rattle.sketchsum.specs.Digest.{newline};
 use std::fmt::Display;
 use std::io::{self, Read, Write};
 
-/// The most bytes that are read at a time, and held.
+/// The most bytes that a run takes in a turn.
 pub const PIECE_BYTES: usize = 4096;
 
 /// A reader that may be read a limited number of times, and that remembers that a read failed.

@@ -6,8 +6,9 @@ ghost use Rattle.sketch_base.specs.Bytes.{low_bytes, modulo};
 /// A hasher that is written to piece by piece.
 ///
 /// However the bytes are cut into writes, the answer is the same: two writes leave what one write
-/// of the joined bytes leaves, and a write of nothing leaves the hasher as it is. A hasher takes no
-/// memory and never refuses. It may be asked at any time, and written to after any answer.
+/// of the joined bytes leaves, and a write of nothing leaves the hasher as it is. No call fails. A
+/// hasher may be asked at any time, and written to after any answer. Those of this crate take no
+/// memory.
 ///
 /// A number is written as its little-endian bytes, and no hasher can change that.
 pub trait Hasher {

@@ -1,6 +1,6 @@
 //! MurmurHash3 x64 128, after Austin Appleby's MurmurHash3_x64_128.
 
-ghost use Rattle.std.specs.Prelude.{◌≡◌, ℕ, ◌+◌, ◌-◌, ◌*◌, ◌/◌, ◌%◌, ◌^◌, ◌<◌, ◌≤◌, List, [], ◌++◌, length, take, map, min};
+ghost use Rattle.std.specs.Prelude.{◌≡◌, ℕ, ◌+◌, ◌-◌, ◌*◌, ◌%◌, ◌^◌, ◌<◌, ◌≤◌, List, [], ◌++◌, length, map, min};
 ghost use Rattle.std.specs.List.{fold};
 ghost use Rattle.sketch_base.specs.Bytes.{le, low_bytes};
 ghost use Rattle.sketch_hash.specs.Pieces.{State};
@@ -22,7 +22,7 @@ const C1: u64 = 0x87c3_7b91_1142_53d5;
 
 const C2: u64 = 0x4cf5_ad43_2745_937f;
 
-// The bytes of a block.
+// How many bytes a block has.
 const BLOCK: usize = 16;
 
 /// MurmurHash3 x64 128: a fast hash of 128 bits for data that no adversary chooses.

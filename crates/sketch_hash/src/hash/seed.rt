@@ -17,8 +17,8 @@ use std::alloc::Global;
 ///
 /// # Errors
 ///
-/// Exactly where the seed hash is zero: of kind `error_kind`, or `OutOfMemory` where the text finds
-/// no memory.
+/// Exactly where the seed hash is zero: of kind `error_kind`, or `OutOfMemory` with no message
+/// where the text finds no memory.
 pub fn compute_seed_hash(alloc: Global, seed: u64, error_kind: ErrorKind) -> Result<u16, Error>
     ensures { MatchResult result
         (λ hash. (hash ≡ seed_hash seed) × (hash ≢ 0))
@@ -44,8 +44,8 @@ fn zero_seed_hash(alloc: Global, seed: u64, kind: ErrorKind) -> Error
 ///
 /// # Errors
 ///
-/// At any other: of kind `kind`, with `name`, the sketch's, in its text; or `OutOfMemory` where the
-/// text finds no memory.
+/// At any other: of kind `kind`, with `name`, the sketch's, in its text; or `OutOfMemory` with no
+/// message where the text finds no memory.
 pub fn check_seed_hash(
     alloc: Global,
     expected: u16,

@@ -1,9 +1,9 @@
 //! Arithmetic of 64-bit words, words read from bytes, and bytes cut into pieces.
 
-ghost use Rattle.std.specs.Prelude.{◌≡◌, ◌/◌, ◌^◌, ◌<◌, length};
+ghost use Rattle.std.specs.Prelude.{◌≡◌, ◌^◌, ◌<◌, length};
 ghost use Rattle.sketch_base.specs.Bytes.{le};
 ghost use Rattle.sketch_hash.specs.Pieces.{pieces, rest};
-ghost use Rattle.sketch_hash.specs.Words.{xor, xor_shift, rotate};
+ghost use Rattle.sketch_hash.specs.Words.{xor_shift, rotate};
 
 #[inline(always)]
 pub(crate) fn read_u64_le(bytes: &[u8]) -> u64

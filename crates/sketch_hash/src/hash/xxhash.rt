@@ -24,7 +24,7 @@ use std::fmt;
 use std::marker::Model;
 use std::simd::prelude::*;
 
-// The bytes of a stripe.
+// How many bytes a stripe has.
 const STRIPE: usize = 32;
 
 /// XXH64: a fast hash of 64 bits for data that no adversary chooses.
@@ -125,7 +125,6 @@ impl XxHash64 {
         self.total < STRIPE as u64
     }
 
-    // The four lanes as one word.
     #[inline(always)]
     fn merge(&self) -> u64
         ensures { result ≡ merge self.now.folded.1 }

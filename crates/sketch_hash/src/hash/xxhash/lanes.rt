@@ -134,7 +134,7 @@ fn fold_long<L: StripeRound>(mut lanes: L, stripes: &[[u8; 32]]) -> L
     lanes
 }
 
-/// Folds stripes into the lanes, with either implementation of [`StripeRound`].
+/// Folds stripes into the lanes, one after another.
 #[inline(always)]
 pub(super) fn fold_stripes<L: StripeRound>(lanes: &mut L, stripes: &[[u8; 32]])
     ensures { L.lanes lanes.new ≡ each_lane (L.lanes lanes.old) stripes.now }

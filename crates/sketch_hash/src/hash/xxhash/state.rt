@@ -15,11 +15,15 @@ use std::simd::prelude::*;
 #[repr(C)]
 #[derive(Clone, Copy)]
 pub struct XxHash64State {
+    /// The seed that the stream began with.
     pub seed: u64,
-    /// The four lanes after the last whole stripe.
+    /// The first of four lanes after the last whole stripe.
     pub v1: u64,
+    /// The second.
     pub v2: u64,
+    /// The third.
     pub v3: u64,
+    /// The fourth.
     pub v4: u64,
     /// The number of bytes so far, modulo 2^64.
     pub total: u64,
