@@ -22,6 +22,10 @@ export interface Stream {
     reset(seed?: bigint): this;
 }
 
+/**
+ * The calls. Each throws a TypeError where an input, a column or a seed is of another type, and a
+ * RangeError where a seed is not from 0n to 2n ** 64n - 1n; so do streams.
+ */
 export interface Library {
     /** XXH64 of the bytes under a seed, 0n if left out. */
     xxh64(bytes: Input, seed?: bigint): bigint;
@@ -36,9 +40,17 @@ export interface Library {
      * the one before; or where there is no memory for the column
      */
     xxh64Each(bytes: Input, offsets: Offsets, seed?: bigint): BigUint64Array;
-    /** XXH64 of the eight bytes of each number, the lowest first. */
+    /**
+     * XXH64 of the eight bytes of each number, the lowest first.
+     *
+     * @throws {RangeError} where there is no memory for the column
+     */
     xxh64EachU64(values: BigUint64Array | BigInt64Array, seed?: bigint): BigUint64Array;
-    /** MurmurHash3 x64 128 of each key, as xxh64Each takes them: two words for each, the first one first. */
+    /**
+     * MurmurHash3 x64 128 of each key, as xxh64Each takes them: two words for each, the first one first.
+     *
+     * @throws {RangeError} as xxh64Each does
+     */
     murmur3X64_128Each(bytes: Input, offsets: Offsets, seed?: bigint): BigUint64Array;
     Xxh64: new (seed?: bigint) => Stream;
     Murmur3X64_128: new (seed?: bigint) => Stream;

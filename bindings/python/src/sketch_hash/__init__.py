@@ -279,7 +279,10 @@ class MemberTable:
 
     @classmethod
     def from_bytes(cls, data):
-        """The table of bytes that to_bytes, another language or another machine wrote."""
+        """The table of bytes that to_bytes, another language or another machine wrote.
+
+        Bytes that are none of version 2 raise ValueError with the first fault.
+        """
         memory = _memory(data)
         own = bytearray(len(memory))
         _ffi.memmove(own, memory, len(memory))
@@ -290,7 +293,7 @@ class MemberTable:
         """The table in a writable buffer, as a file that is mapped, where it stays.
 
         Nothing else may change the buffer during a call. Two views of one buffer do not wait for
-        each other.
+        each other. Bytes that are no table of version 2 raise ValueError, now and in each later call.
         """
         table = _memory_of(buffer, require_writable=True)
         _done(_lib.sketch_member_check(table, len(table)))
@@ -300,20 +303,24 @@ class MemberTable:
         return it
 
     def insert(self, key):
-        """Inserts a key. A known count grows by one and stays at 2**64 - 1."""
+        """Inserts a key. A known count grows by one and stays at 2**64 - 1.
+
+        A key that lies in the bytes of the table raises ValueError.
+        """
         memory = _memory(key)
         with self._lock:
             _done(_lib.member_insert(self._table, len(self._table), memory, len(memory)))
 
     def update(self, keys):
-        """Inserts each of some keys."""
+        """Inserts each of some keys. Where one is refused, those before it stay inserted."""
         for key in keys:
             self.insert(key)
 
     def insert_each(self, keys):
         """Inserts each key of a column, as xxh64_each takes it.
 
-        Where an offset does not fit nothing is inserted. Each insert is proved. The loop over them, and
+        Where an offset does not fit, or the column lies in the bytes of the table, ValueError is raised and
+        nothing is inserted. Each insert is proved. The loop over them, and
         the check of the offsets, are this package's and tested.
         """
         column = _column(keys)
@@ -376,7 +383,10 @@ class MemberTable:
 
     def merge(self, other):
         """Merges a table of the same seed and sizes into this one, which then contains the keys of
-        both. Known counts add and stay at 2**64 - 1; an unknown one makes the sum unknown."""
+        both. Known counts add and stay at 2**64 - 1; an unknown one makes the sum unknown.
+
+        Where the seed or the sizes differ, ValueError is raised, and this table stays as it was.
+        """
         if not isinstance(other, MemberTable):
             raise TypeError(f"a table is merged with a table, and not with {type(other).__name__}")
         # The copy is elsewhere even where both are views of one buffer, and no lock waits for another.
