@@ -117,7 +117,7 @@ def test_refused(keys):
 
 def test_what_is_refused_is_told():
     for keys, text in (
-        (numpy.zeros(4, "u4"), "a column is one row of whole numbers of 64 bits"),
+        (numpy.zeros(4, "u4"), "a column is one row of whole numbers of 64 bits; texts are a pair of bytes and offsets"),
         ((DATA, DATA), "a column is one row of whole numbers of 32 or 64 bits"),
     ):
         with pytest.raises(TypeError, match=f"^{text}$"):

@@ -189,7 +189,8 @@ def _words(buffer, widths):
     is_whole = view.format.lstrip("@=<") in set("iIlLqQ")
     if not is_whole or view.ndim != 1 or view.itemsize not in widths:
         bits = " or ".join(str(8 * width) for width in widths)
-        raise TypeError(f"a column is one row of whole numbers of {bits} bits")
+        hint = "" if 4 in widths else "; texts are a pair of bytes and offsets"
+        raise TypeError(f"a column is one row of whole numbers of {bits} bits{hint}")
     words = _memory_of(f"uint{8 * view.itemsize}_t[]", buffer)
     if int(_ffi.cast("uintptr_t", words)) % view.itemsize:
         raise ValueError("a column of numbers has to lie at a multiple of their width")
