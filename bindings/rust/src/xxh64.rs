@@ -32,8 +32,8 @@ pub fn xxh64_u64(value: u64, seed: u64) -> u64 {
 /// XXH64 of a stream that comes in pieces.
 ///
 /// As a [`Hasher`] it hashes the bytes that it is fed, numbers as their bytes with the lowest first.
-/// A state is begun from the 33rd byte on: fewer bytes wait, and take one call, and eight bytes, as
-/// an integer key has, the call for one number.
+/// It keeps the first 32 bytes, and starts a state at the 33rd. Where no more than 32 come, one call
+/// hashes them all; where just eight come, as of an integer key, that is the call for one number.
 ///
 /// ```
 /// let mut hasher = sketch_hash::Xxh64::new(7);
