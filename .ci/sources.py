@@ -76,7 +76,7 @@ def is_returned(code, start, end):
         return False
     return line.endswith("return ") or (
         all(re.match(r" *(?:\} else|if|match|for|while)\b|.* => ", head) for head in around([line + "_", *before[::-1]], False))
-        and not any(end.endswith(";") for end in [rest, *around([line + "_", *after], True)])
+        and not any(tail.endswith(";") for tail in [rest, *around([line + "_", *after], True)])
     )
 
 
