@@ -34,7 +34,8 @@ OWN = re.compile(
 
 # What can make an error that tells of memory, or of a text that fails to print.
 TELLING = "|".join([
-    r"Err(?:::<.*?>)?\((?:self|\w*Error(?: \{\s*\})?)\)", r"AllocError", r"OutOfMemory", r"NoMemory", r"fmt::Error", r"Error::from\(",
+    r"Err(?:::<.*?>)?\((?:self|\w*Error(?: \{\s*\})?)\)", r"AllocError", r"OutOfMemory", r"NoMemory", r"fmt::Error",
+    r"Error::from\(",
     r"(?<!MurmurHash3X64128)(?<!XxHash64)::default\b", r"\.into\(\)", r"\bwrite(?:ln)?!\((?!\s*f\b)",
     r"\bok_or(?:_else)?\(\w*Error\)", r"\bio::Error::\w+\(", r"\bconst_error\b", r"\b(?:Into::into|From::from)\b",
     r"\bStopped \{(?! \.\. \}| \w+ \}\) =>)",
@@ -145,11 +146,11 @@ IMPLEMENTATIONS = re.compile(
     r"^ *((?:unsafe )?impl\b[^{]*?(\w+)(?:<[^{]*>)? for ([^{]+?)(?:\s+where\b[^{]*)?\s*\{)", re.M
 )
 
-# Lines that hide something from the above: an import or a type under another name, a macro, a comment that is
-# no line, another path, a module inside another, an allocator that is called otherwise, a module `tests` that is no test, code that
-# tests do not run, other attributes or attributes beside code, raw texts or texts over several lines. And
-# texts that depend on how they are to be printed, closures of several lines, definitions of clauses under
-# another name or out of proofs, memory that is never given back, and an allocator that a list hands out.
+# Lines that hide something from the above: an import or a type under another name, another path, a macro, a
+# comment that is no line, a module inside another, an allocator that is called otherwise, a module `tests` that
+# is no test, code that tests do not run, other attributes or attributes beside code, raw texts or texts over
+# several lines. And texts that depend on how they are to be printed, closures of several lines, definitions of
+# clauses out of proofs, memory that is never given back, and an allocator that a list hands out.
 HIDING = re.compile("|".join([
     rf"^ *(?:{SEEN}|ghost )use\b[^;]* as \w[^;]*;",
     r"^ *type (?!Target = T;).*",
@@ -222,8 +223,9 @@ def written_by_hand(text):
 # ---- docs/contracts.txt
 
 def heads(text):
-    """The lines of a source that promise something: what its clauses import, and what it gives on; of each function that others can call its signature and its clauses, of types and constants
-    all, of implementations their heads, and what their ghost fields say."""
+    """The lines of a source that promise something: what its clauses import, and what it gives on; of each function
+    that others can call its signature and its clauses, of types and constants all, of implementations their heads,
+    and what their ghost fields say."""
     found, depth, is_open = [], None, False
     for line in filter(str.strip, code_of(text).split("\n")):
         if depth is None:

@@ -174,8 +174,16 @@ def test_bytes_of_another_length_are_refused():
             MemberTable.from_bytes(whole[:length])
     with pytest.raises(ValueError, match="more bytes"):
         MemberTable.from_bytes(whole + b"\0")
+
+
+def test_bytes_of_version_1_become_those_of_version_2():
+    """As docs/formats.md says how; the count is then unknown."""
+    old = bytes([2, 1, 200, 6, 3, 0, 0, 0]) + (7).to_bytes(8, "little") + bytes(range(8))
     with pytest.raises(ValueError, match="^a table of version 1, which has no place for a count$"):
-        MemberTable.from_bytes(bytes([2, 1, 200, 6, 3, 0, 0, 0]) + bytes(8 + 8))
+        MemberTable.from_bytes(old)
+    table = MemberTable.from_bytes(bytes([3, 2]) + old[2:16] + bytes(8) + old[16:])
+    assert (table.seed, table.log2_bits, table.hashes, table.count) == (7, 6, 3, None)
+    assert table.to_bytes()[24:] == old[16:]
 
 
 OFFSETS = [0, *itertools.accumulate(map(len, KEYS))]
