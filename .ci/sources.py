@@ -25,11 +25,13 @@ ASKING = [
     r"insert", r"insert_\w+", r"into_owned", r"join", r"push\w*", r"repeat", r"replace\w*", r"reserve\w*",
     r"resize\w*", r"shrink\w*", r"sort\w*", r"splice", r"split_off", r"to_mut", r"to_owned", r"to_vec", r"try_\w+",
     r"write_all", r"write_fmt", r"write_str", r"(?<=::)write\w*", r"read_line", r"read_to_\w+", r"read_until",
-    r"with_capacity\w*", r"from_iter", r"allocate\w*",
+    r"with_capacity\w*", r"from_iter", r"allocate\w*", r"make_mut", r"unwrap_or_clone", r"(?<=Rc::)from_\w+",
 ]
-# Those of them that ask for none: inserts into tables, writes to a formatter.
+# Those of them that ask for none, with their arguments: inserts into tables, which take no place of a list, and
+# writes to a formatter.
 OWN = re.compile(
-    r"(?<![\w.])(?:(?:(?:self\.)?header|table|seen|one|other)\.insert|in_place::insert|f\.write_str)$"
+    r"(?<![\w.])(?:(?:in_place::insert|f\.write_str)\([^\n]*|(?:self\.)?header\.insert\((?:&mut self\.)?bits, value|"
+    r"(?:table|seen|one|other)\.insert\([^\n,]*)$"
 )
 
 # What can make an error that tells of memory, or of a text that fails to print.
@@ -38,7 +40,7 @@ TELLING = "|".join([
     r"Error::from\(",
     r"(?<!MurmurHash3X64128)(?<!XxHash64)::default\b", r"\.into\(\)", r"\bwrite(?:ln)?!\((?!\s*f\b)",
     r"\bok_or(?:_else)?\(\w*Error\)", r"\bio::Error::\w+\(", r"\bconst_error\b", r"\b(?:Into::into|From::from)\b",
-    r"\bStopped \{(?! \.\. \}| \w+ \}\) =>)",
+    r"\bStopped \{(?! \.\. \}| \w+ \}\) =>)", r"\b(?:AllocFailed|SpawnError)\b", r"\bErr\((?:[^()]|\([^()]*\))*\)\?",
 ])
 
 CALLS = re.compile(
@@ -90,7 +92,8 @@ def requests_of(body):
     for match in CALLS.finditer(code):
         is_handed_back, *names = match.groups()
         name = next(filter(None, names))
-        if OWN.search(code[: match.end()].rstrip("(")):
+        before = code[code.rfind("\n", 0, match.start()) + 1 : match.end()]
+        if before.endswith("(") and OWN.search(before + " ".join(rest_of_call(code, match.end()).split())):
             continue
         if re.search(r"\b(with_capacity|reserve\w*|resize\w*|vec!)$", name):
             name = f"{name}({rest_of_call(code, match.end())})"

@@ -1,6 +1,6 @@
 //! Items written, and read back as a list.
 
-ghost use Rattle.std.specs.Prelude.{◌≡◌, ◌↔◌, ℕ, List, ◌+◌, ◌<◌, ◌≤◌, ◌++◌, if◌then◌else◌, IfOk, IsTrue, false, length, map, take, drop};
+ghost use Rattle.std.specs.Prelude.{◌≡◌, ◌↔◌, ◌⊎◌, ℕ, List, ◌+◌, ◌<◌, ◌≤◌, ◌++◌, if◌then◌else◌, IfErr, IfOk, IsTrue, false, length, map, take, drop};
 ghost use Rattle.std.specs.List.{All};
 ghost use Rattle.datasketches.specs.ItemLaws.{Holds};
 ghost use Rattle.datasketches.specs.Items.{InType, item_kind, spell_all, unspell_all, width, widths};
@@ -14,7 +14,7 @@ use std::alloc::{AllocError, Global};
 ///
 /// # Errors
 ///
-/// Where memory runs out.
+/// Where memory runs out. The places are as they were, or have all items.
 pub fn there_and_back(
     alloc: Global,
     items: &[Item],
@@ -26,6 +26,7 @@ pub fn there_and_back(
     requires places { length places.old ≡ length items.now }
     ensures items { IfOk result (λ _. places.new ≡ items.now) }
     ensures rest { IfOk result (λ remaining. remaining.items ≡ rest.now) }
+    ensures left { IfErr result (λ _. (places.new ≡ places.old) ⊎ (places.new ≡ items.now)) }
 {
     laws::items_law();
     let mut writer = SketchBytes::with_capacity(alloc, 0)?;
@@ -176,9 +177,13 @@ pub fn are_same_items(alloc: Global, xs: &[Item], ys: &[Item]) -> Result<bool, A
 }
 
 /// Lists of items of the same kinds, however long, have the same bytes only if they are the same.
+/// They are read back, whatever follows them.
 pub fn lists_have_one_form()
-    ensures { (xs ys : List Item) → All InType xs → All InType ys →
+    ensures one_form { (xs ys : List Item) → All InType xs → All InType ys →
         map item_kind xs ≡ map item_kind ys → spell_all xs ≡ spell_all ys → xs ≡ ys }
+    ensures read_back { (xs : List Item) (behind : List ℕ) → All InType xs →
+        (unspell_all (map item_kind xs) (spell_all xs ++ behind) ≡ xs)
+        × (drop (widths (map item_kind xs)) (spell_all xs ++ behind) ≡ behind) }
 {
     laws::items_law();
 }

@@ -5,12 +5,12 @@ ghost use Rattle.std.specs.List.{All, fold};
 ghost use Rattle.datasketches.specs.Bytes.{AreBytes, eight, le, modulo};
 ghost use Rattle.datasketches.specs.Murmur.{fmix, mix1, mix2, murmur, step};
 ghost use Rattle.datasketches.specs.Pieces.{pieces, rest};
-ghost use Rattle.datasketches.specs.StepLaws.{AreWords, IsBlock, IsStep};
+ghost use Rattle.datasketches.specs.StepLaws.{AreWords, IsBlock, IsStep, step_widths};
 ghost use Rattle.datasketches.specs.Strategies.{IntegerType, I8, I16, I32, I64, U8, U16, U32, U64, ValueOf, natural_fed, natural_number, sign_fed, sign_number};
 ghost use Rattle.datasketches.specs.Streams.{AgreeOutside};
 ghost use Rattle.datasketches.specs.Values.{integer_bytes};
-ghost use Rattle.datasketches.specs.Words.{IsWord};
-ghost use Rattle.datasketches.specs.Xxh64.{stripes, tail_step, tail_steps, xxh64};
+ghost use Rattle.datasketches.specs.Words.{IsWord, plus};
+ghost use Rattle.datasketches.specs.Xxh64.{avalanche, eight_step, prime5, steps, stripes, tail_step, tail_steps, xxh64};
 
 use crate::keys::{is_same_hash, is_same_pair};
 use datasketches::hash::value::{HashStrategy, value_law};
@@ -35,17 +35,19 @@ pub fn every_word_is_a_hash(seed: u64, word: u64)
 
 /// Short integers collide exactly if they are equal, and any two exactly if they agree modulo 2^64,
 /// under both hashes.
-pub fn integers_are_told_apart(seed: u64, signed: (i32, i32), unsigned: (u32, u32), z: i64, w: u64)
+pub fn integers_are_told_apart(seed: u64, signed: (i32, i32), unsigned: (u32, u32))
     ensures murmur { (x y : ℤ) → (x ≡ signed.0) ⊎ (x ≡ pos unsigned.0) →
         (y ≡ signed.1) ⊎ (y ≡ pos unsigned.1) →
         (murmur seed (integer_bytes x) ≡ murmur seed (integer_bytes y)) ↔ (x ≡ y) }
     ensures xxh64 { (x y : ℤ) → (x ≡ signed.0) ⊎ (x ≡ pos unsigned.0) →
         (y ≡ signed.1) ⊎ (y ≡ pos unsigned.1) →
         (xxh64 seed (integer_bytes x) ≡ xxh64 seed (integer_bytes y)) ↔ (x ≡ y) }
-    ensures murmur_modulo { (murmur seed (integer_bytes z) ≡ murmur seed (integer_bytes (pos w)))
-        ↔ (modulo 64 z ≡ modulo 64 (pos w)) }
-    ensures xxh64_modulo { (xxh64 seed (integer_bytes z) ≡ xxh64 seed (integer_bytes (pos w)))
-        ↔ (modulo 64 z ≡ modulo 64 (pos w)) }
+    ensures murmur_modulo { (x y : ℤ) →
+        (murmur seed (integer_bytes x) ≡ murmur seed (integer_bytes y))
+        ↔ (modulo 64 x ≡ modulo 64 y) }
+    ensures xxh64_modulo { (x y : ℤ) →
+        (xxh64 seed (integer_bytes x) ≡ xxh64 seed (integer_bytes y))
+        ↔ (modulo 64 x ≡ modulo 64 y) }
 {
     laws::integer_law();
 }
@@ -178,36 +180,43 @@ pub fn murmur_steps_lose_nothing(x: u64, y: u64, z: u64, w: u64)
 }
 
 /// What a step of XXH64's tail makes of two words tells them apart, and each word is made of one.
+/// Tails of one length have steps of the same widths, and eight bytes are one step.
 pub fn xxh64_steps_lose_nothing(x: u64, y: u64, read: u64, width: u64)
     ensures words { let s : ℕ × ℕ = (width, read) in tail_step x s ≡ tail_step y s → x ≡ y }
     ensures made { let s : ℕ × ℕ = (width, read) in
         (n : ℕ) × IsWord n × (tail_step n s ≡ x) }
     ensures made_by_all { (list : List (ℕ × ℕ)) → All IsStep list →
         (n : ℕ) × IsWord n × (fold tail_step n list ≡ x) }
+    ensures widths { (a b : List ℕ) → length a ≡ length b →
+        step_widths (steps a) ≡ step_widths (steps b) }
+    ensures eight { (seed : ℕ) → xxh64 seed (eight read)
+        ≡ avalanche (eight_step (plus (plus seed prime5) 8) read) }
 {
     xxh64_step_laws();
 }
 
-/// A stream is cut into whole pieces and a rest that is shorter; what follows whole pieces is cut
-/// as if it stood alone.
-pub fn streams_are_cut(width: usize, front: &[u8], back: &[u8])
-    requires { 0 < width }
-    ensures whole { length front.now ≡ width → pieces width front.now ≡ front.now ∷ [] }
-    ensures short { length front.now < width →
-        (pieces width front.now ≡ []) × (rest width front.now ≡ front.now) }
-    ensures behind { (i : ℕ) → length front.now ≡ width * i →
-        (pieces width (front.now ++ back.now) ≡ pieces width front.now ++ pieces width back.now)
-        × (rest width (front.now ++ back.now) ≡ rest width back.now) }
-    ensures rest { AreBytes (rest width back.now) × (length (rest width back.now) < width) }
-    ensures one_length { length front.now ≡ length back.now →
-        length (rest width front.now) ≡ length (rest width back.now) }
+/// A list of any length is cut into whole pieces and a rest that is shorter; what follows whole
+/// pieces is cut as if it stood alone.
+pub fn lists_are_cut(width: usize)
+    ensures whole { (bytes : List ℕ) → 0 < width → length bytes ≡ width →
+        pieces width bytes ≡ bytes ∷ [] }
+    ensures short { (bytes : List ℕ) → length bytes < width →
+        (pieces width bytes ≡ []) × (rest width bytes ≡ bytes) }
+    ensures behind { (i : ℕ) (front back : List ℕ) → 0 < width → length front ≡ width * i →
+        (pieces width (front ++ back) ≡ pieces width front ++ pieces width back)
+        × (rest width (front ++ back) ≡ rest width back) }
+    ensures bytes { (bytes : List ℕ) → AreBytes bytes → AreBytes (rest width bytes) }
+    ensures below { (bytes : List ℕ) → 0 < width → length (rest width bytes) < width }
+    ensures one_length { (a b : List ℕ) → length a ≡ length b →
+        length (rest width a) ≡ length (rest width b) }
 {
     piece_laws();
 }
 
-/// A word is read back from its eight bytes.
+/// A word is read back from its eight bytes. Those of any number are bytes.
 pub fn words_are_read_back(word: u64)
-    ensures { AreBytes (eight word) × (le (eight word) ≡ word) }
+    ensures read { le (eight word) ≡ word }
+    ensures bytes { (n : ℕ) → AreBytes (eight n) }
 {
     piece_laws();
 }

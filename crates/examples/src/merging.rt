@@ -66,6 +66,8 @@ pub fn merge_as_a_tree(
         IsMember table.new fed) }
     ensures accepted { AreAlike table.old second.old → AreAlike table.old third.now → IsOk result }
     ensures refused { IfErr result (λ _. (second.new ≡ second.old) × (twin.new ≡ twin.old)) }
+    ensures left { IfErr result (λ _.
+        (table.new ≡ table.old) ⊎ Merges second.old table.old table.new) }
 {
     merge_law();
     table.merge(alloc, second)?;
@@ -73,6 +75,20 @@ pub fn merge_as_a_tree(
     second.merge(alloc, third)?;
     twin.merge(alloc, second)?;
     Ok(())
+}
+
+/// A merge of any two tables stands for the values of both, contains them, and counts both.
+pub fn merges_keep_all()
+    ensures stands { (before other after : Table) (values others : List (List ℕ)) →
+        Merges other before after → StandsFor before values → StandsFor other others →
+        StandsFor after (values ++ others) }
+    ensures found { (before other after : Table) (fed : List ℕ) → Merges other before after →
+        IsMember before fed ⊎ IsMember other fed → IsMember after fed }
+    ensures counted { (before other after : Table) (m n : ℕ) → Merges other before after →
+        before.count ≡ count_after m → other.count ≡ count_after n →
+        after.count ≡ count_after (m + n) }
+{
+    merge_law();
 }
 
 /// Merges each of two tables into the other. Both end as the same table.

@@ -49,6 +49,20 @@ pub fn start_keys(alloc: Global) -> Result<MemberTable, Error>
     MemberTable::new(alloc, 0, 10, 7)
 }
 
+/// An insert into any table adds the value to those that the table stands for, which are all found,
+/// and counts it. A table in which no bit is set stands for none.
+pub fn inserts_keep_all()
+    ensures none { (table : Table) → ((i : ℕ) → IsSet table.bits i → ⊥) → StandsFor table [] }
+    ensures one_more { (before after : Table) (fed : List ℕ) (values : List (List ℕ)) →
+        Inserts fed before after → StandsFor before values → StandsFor after (values ++ fed ∷ []) }
+    ensures found { (table : Table) (fed : List ℕ) (values : List (List ℕ)) →
+        StandsFor table values → Contains values fed → IsMember table fed }
+    ensures counted { (before after : Table) (fed : List ℕ) (n : ℕ) → Inserts fed before after →
+        before.count ≡ count_after n → after.count ≡ count_after (n + 1) }
+{
+    insert_law();
+}
+
 /// Whether the table tells that a key was seen: it does of each that was, and may of another. It is
 /// seen from then on.
 pub fn see_key(seen: &mut MemberTable, key: &[u8]) -> bool

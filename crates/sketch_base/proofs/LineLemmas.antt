@@ -6,16 +6,16 @@ use Rattle.std.specs.List.{flat_map}
 use Rattle.sketch_base.specs.ErrorValue.{ContextValue, pair_text, contexts_text, context_lines}
 
 -- the contexts in three pieces: the first, the others, and the closing brace
-pub contexts_text-is : {T : Type 0} (context : T → ContextValue) (first : T) (others all : List T) (n : ℕ) →
-    all ≡ first ∷ others → length others ≤ n →
-    codes ", context: { " ++ ((context first).key ++ (codes ": " ++ (context first).text))
+pub contexts_text-is : {T : Type 0} (context : T → ContextValue) (first : ContextValue)
+    (others all : List T) (n : ℕ) → map context all ≡ first ∷ map context others → length others ≤ n →
+    codes ", context: { " ++ (first.key ++ (codes ": " ++ first.text))
     ++ flat_map (λ other. codes ", " ++ pair_text (context other)) (take n others) ++ codes " }"
     ≡ contexts_text (map context all)
 contexts_text-is context first others all n whole enough =
     rw (whole, take_all n others enough, flat_map-map (λ other. codes ", " ++ pair_text other) context others)
     (ap (λ pair. codes ", context: { " ++ pair
     ++ flat_map (λ other. codes ", " ++ pair_text (context other)) others ++ codes " }")
-    (sym (append_assoc (context first).key (codes ": ") (context first).text)))
+    (sym (append_assoc first.key (codes ": ") first.text)))
 
 -- the contexts of the debug text in two pieces: the line before them, and a line for each
 pub context_lines-is : {T : Type 0} (context : T → ContextValue) (all : List T) (n : ℕ) →

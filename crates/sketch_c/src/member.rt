@@ -1,7 +1,8 @@
 //! The table of members, in bytes that the caller owns.
 //!
-//! Each call checks the header that it is given, and answers 0, or 1 where it says so; or the
-//! negative status of the first fault, and then leaves everything as it was.
+//! [`sketch_member_size`] answers a length. Each other call answers 0, or 1 where it says so; or
+//! the negative status of the first fault, and then leaves everything as it was. It checks the
+//! header of each table that it is given.
 
 ghost use Rattle.std.specs.Prelude.{◌≡◌, ◌⊎◌, ◌+◌, pos, length, min, Some, None};
 ghost use Rattle.sketch_c.specs.Status.{IsTableIn, Refused, merge_status, status};

@@ -1,13 +1,14 @@
 -- Numbers of lists of bytes: joined, cut, and as a block's two words.
-use Rattle.std.proofs.Common.{◌≡◌, ℕ, zero, suc, ◌+◌, ◌-◌, ◌*◌, ◌/◌, ◌%◌, ◌^◌, ◌<◌, ◌≤◌, List, [], ◌∷◌, ◌++◌, length, take, drop, replicate, refl, sym, ap, ◌∙◌, arith, subst, length-append, length-drop, zero-add, lt_of_lt_of_le, one-mul, min, inl, inr}
+use Rattle.std.proofs.Common.{◌≡◌, ℕ, zero, suc, ◌+◌, ◌-◌, ◌*◌, ◌/◌, ◌%◌, ◌^◌, ◌<◌, ◌≤◌, List, [], ◌∷◌, ◌++◌, length, take, drop, replicate, refl, sym, ap, ◌∙◌, arith, subst, length-append, length-drop, zero-add, lt_of_lt_of_le, one-mul, min, inl, inr, add_comm, get_or, w8, Fits}
 use Rattle.std.proofs.Math.Nat.{pow-suc, mod-eq_of_lt, div-eq_of_lt, add-mod-mod, add-mul-mod_self_right, add-mul-div_right, one-le-pow, pow-le-pow_right, min-eq_left, min-eq_right}
 use Rattle.std.proofs.Math.Pow.{pow-lt}
 use Rattle.std.proofs.lemmas.Bool.{cases_lt}
-use Rattle.std.proofs.lemmas.Nat.{pow-add}
-use Rattle.std.proofs.lemmas.List.{length-take, length-take-le, take-append-drop, drop-drop, take-take, length-replicate}
+use Rattle.std.proofs.lemmas.Nat.{pow-add, shl_whole, shr_le}
+use Rattle.std.specs.Int.Bits.{bit_or, or_shifted_r}
+use Rattle.std.proofs.lemmas.List.{length-take, length-take-le, take-append-drop, drop-drop, take-take, length-replicate, take_all}
 use Rattle.std.proofs.lemmas.List.Elements.{All-append, All-take, All-drop, All-replicate}
 use Rattle.sketch_base.specs.Bytes.{AreBytes, le, low_bytes}
-use Rattle.sketch_base.proofs.BytesLemmas.{le-cons, le-lt, low_bytes-are, le-low_bytes, length-low_bytes, low_bytes-le, IsByte}
+use Rattle.sketch_base.proofs.BytesLemmas.{le-cons, le-lt, low_bytes-are, le-low_bytes, length-low_bytes, low_bytes-le, bytes_known, IsByte}
 use Rattle.sketch_hash.specs.Murmur.{block_words}
 use Rattle.sketch_hash.proofs.BlockLemmas.{halves}
 
@@ -82,8 +83,26 @@ le-ends w bytes b low high =
     let quotient = le-drop (w + w - n) back (All-drop IsByte (n - w) bytes b) within in
     ap (λ v. le (take w bytes) + v * 256 ^ w) (sym quotient ∙ ap le behind) ∙ sym (le-cut w bytes low)
 
+-- the same by shifts
+pub combined : (w count first last shift : ℕ) → w ≤ 4 → first < 256 ^ w → last < 2 ^ 32 →
+    shift ≡ 8 * (w + w - count) →
+    bit_or first (last / 2 ^ shift * 2 ^ (8 * w) % 2 ^ 64)
+    ≡ first + last / 256 ^ (w + w - count) * 256 ^ w
+combined w count first last shift narrow low high is =
+    let s = w + w - count in
+    let behind : ℕ = last / 2 ^ (8 * s) in
+    let less = shr_le last (8 * s) in
+    let small : behind < 2 ^ 32 = omega (arith, high, less) in
+    let within : 32 + 8 * w ≤ 64 = omega (arith, narrow) in
+    let whole = shl_whole behind 32 (8 * w) 64 small within in
+    let below : first < 2 ^ (8 * w) = subst (λ p. first < p) (sym (pow_eight w)) low in
+    let joined : behind * 2 ^ (8 * w) + first ≡ first + behind * 256 ^ w =
+    add_comm (behind * 2 ^ (8 * w)) first ∙ ap (λ p. first + behind * p) (pow_eight w) in
+    rw (is, whole, or_shifted_r behind (8 * w) first below)
+    (joined ∙ ap (λ p. first + last / p * 256 ^ w) (pow_eight s))
+
 -- of more than eight bytes, the number of those behind the first eight, from that of the last eight
-pub le-last : (bytes : List ℕ) → AreBytes bytes → 8 < length bytes → length bytes < 16 →
+le-last : (bytes : List ℕ) → AreBytes bytes → 8 < length bytes → length bytes < 16 →
     ◌≡◌ {A = ℕ × ℕ}
     (le (take 8 bytes), le (drop (length bytes - 8) bytes) / 2 ^ (8 * (16 - length bytes)))
     (le bytes % 2 ^ 64, le bytes / 2 ^ 64)
@@ -108,11 +127,29 @@ le-last bytes b low high =
 pub le-word : (bytes : List ℕ) → AreBytes bytes → length bytes ≤ 8 → le bytes < 2 ^ 64
 le-word bytes b h = lt_of_lt_of_le (le-lt bytes b) (pow-le-pow_right {n = 256} (omega arith) h)
 
-pub le-few : (bytes : List ℕ) → AreBytes bytes → length bytes ≤ 8 →
+le-few : (bytes : List ℕ) → AreBytes bytes → length bytes ≤ 8 →
     ◌≡◌ {A = ℕ × ℕ} (le bytes, 0) (le bytes % 2 ^ 64, le bytes / 2 ^ 64)
 le-few bytes b h =
     let below = le-word bytes b h in
     rw (mod-eq_of_lt below, div-eq_of_lt below) refl
+
+-- the two words of fewer than 16 bytes, as they are read
+pub few_le : (bytes : List ℕ) → ((i : ℕ) → Fits w8 (get_or bytes i 0)) → length bytes ≤ 8 →
+    ◌≡◌ {A = ℕ × ℕ} (le bytes % 2 ^ 64, le bytes / 2 ^ 64) (le bytes, 0)
+few_le bytes known h = sym (le-few bytes (bytes_known bytes known) h)
+
+pub last_le : (bytes : List ℕ) → ((i : ℕ) → Fits w8 (get_or bytes i 0)) → 8 < length bytes →
+    length bytes < 16 →
+    ◌≡◌ {A = ℕ × ℕ} (le bytes % 2 ^ 64, le bytes / 2 ^ 64) (
+      le (take 8 bytes),
+      le (take (length bytes - (length bytes - 8)) (drop (length bytes - 8) bytes))
+          / 2 ^ (8 * (16 - length bytes)),
+    )
+last_le bytes known low high =
+    let back : length (drop (length bytes - 8) bytes) ≤ length bytes - (length bytes - 8) =
+    rw (length-drop (length bytes - 8) bytes) (omega arith) in
+    rw (take_all (length bytes - (length bytes - 8)) (drop (length bytes - 8) bytes) back)
+    (sym (le-last bytes (bytes_known bytes known) low high))
 
 -- a number's lowest bytes, and bytes joined behind them
 le-joined : (count n : ℕ) (bytes : List ℕ) → n < 256 ^ count →

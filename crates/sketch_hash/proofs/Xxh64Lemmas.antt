@@ -65,10 +65,10 @@ fold_word hash bytes low high =
     (fold-map tail_step (λ b. (1, b)) (four_step hash (le (take 4 bytes))) (drop 4 bytes))
 
 -- of three bytes at most, it is single bytes
-pub fold_short : (hash : ℕ) (bytes : List ℕ) → length bytes < 4 →
+pub fold_few : (hash : ℕ) (bytes : List ℕ) → length bytes < 4 →
     fold tail_step hash (steps bytes) ≡ fold byte_step hash bytes
 unfolding steps tail_step
-fold_short hash bytes h =
+fold_few hash bytes h =
     let no_eight = pieces_short 8 bytes (omega arith) in
     let all = rest_short 8 bytes (omega arith) in
     let no_four = pieces_short 4 bytes h in
@@ -82,7 +82,7 @@ pub fold_four : (hash : ℕ) (bytes : List ℕ) → 4 ≤ length bytes → lengt
     ≡ fold tail_step (four_step hash (le (take 4 bytes))) (steps (drop 4 bytes))
 fold_four hash bytes low high =
     let short : length (drop 4 bytes) < 4 = rw (length-drop 4 bytes) (omega arith) in
-    fold_word hash bytes low high ∙ sym (fold_short (four_step hash (le (take 4 bytes))) (drop 4 bytes) short)
+    fold_word hash bytes low high ∙ sym (fold_few (four_step hash (le (take 4 bytes))) (drop 4 bytes) short)
 
 -- ---- the whole
 

@@ -38,10 +38,10 @@ kept_elsewhere xs i k within differ = elim (cases_eq (k / 8) (i / 8)) [
 ]
 
 -- setting bit i sets it and leaves the others
-pub set_bit : (xs : List ℕ) (i k : ℕ) → i / 8 < length xs →
-    IsSet (set xs (i / 8) (bit_or (get_or xs (i / 8) 0) (1 * 2 ^ (i % 8) % 2 ^ 8))) k
+pub set_bit : (xs : List ℕ) (i k place : ℕ) → place ≡ i % 8 → i / 8 < length xs →
+    IsSet (set xs (i / 8) (bit_or (get_or xs (i / 8) 0) (1 * 2 ^ place % 2 ^ 8))) k
     ↔ (IsSet xs k ⊎ (k ≡ i))
-set_bit xs i k within = elim (cases_eq k i) [
+set_bit xs i k place low within = rw low (elim (cases_eq k i) [
   | inl same ↦
       let P : ℕ → Type 0 = IsSet (set xs (i / 8) (byte_with xs i)) in
       ((λ _. inr same), (λ _. subst P (sym same) (set_here xs i within)))
@@ -50,18 +50,18 @@ set_bit xs i k within = elim (cases_eq k i) [
         (λ is. inl (sym kept ∙ is)),
         (λ was. elim was [ inl is ↦ kept ∙ is | inr same ↦ absurd (differ same) ]),
       )
-]
+])
 
 -- and leaves bytes
-pub set_bit_bytes : (xs : List ℕ) (i : ℕ) → i / 8 < length xs → ((k : ℕ) → Fits w8 (get_or xs k 0)) →
-    (k : ℕ) →
-    get_or (set xs (i / 8) (bit_or (get_or xs (i / 8) 0) (1 * 2 ^ (i % 8) % 2 ^ 8))) k 0 < 256
-set_bit_bytes xs i within bytes k = elim (cases_eq k (i / 8)) [
+pub set_bit_bytes : (xs : List ℕ) (i place : ℕ) → place ≡ i % 8 → i / 8 < length xs →
+    ((k : ℕ) → Fits w8 (get_or xs k 0)) → (k : ℕ) →
+    get_or (set xs (i / 8) (bit_or (get_or xs (i / 8) 0) (1 * 2 ^ place % 2 ^ 8))) k 0 < 256
+set_bit_bytes xs i place low within bytes k = rw low (elim (cases_eq k (i / 8)) [
   | inl same ↦
       rw (same, get_or-set_same xs (i / 8) (byte_with xs i) 0 within)
       (or_of_8 (get_or xs (i / 8) 0) (1 * 2 ^ (i % 8) % 2 ^ 8) (bytes (i / 8)).fits (omega arith))
   | inr other ↦ rw (get_or-set_other xs (i / 8) k (byte_with xs i) 0 other) (bytes k).fits
-]
+])
 
 -- no bit is set in zeros
 pub zeros-get : (n k : ℕ) → get_or (replicate {A = ℕ} n 0) k 0 ≡ 0

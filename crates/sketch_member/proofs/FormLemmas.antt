@@ -59,25 +59,27 @@ header_bytes longs log2_bits hashes flag rest =
     longs ∷ (longs - 1) ∷ 200 ∷ log2_bits ∷ hashes ∷ flag ∷ 0 ∷ 0 ∷ rest
 
 -- they are the form of a table
-pub header_form : (longs seed log2_bits hashes flag : ℕ) (count : Option ℕ) (bytes rest : List ℕ) →
+pub header_form : (longs seed log2_bits hashes flag : ℕ) (count : Option ℕ) (bytes rest after bits : List ℕ) →
     bytes ≡ header_bytes longs log2_bits hashes flag rest → Contains (2 ∷ 3 ∷ []) longs →
-    IsFlag longs flag → 8 ≤ length rest → seed ≡ le (take 8 rest) →
-    8 * longs - 16 ≤ length (drop 8 rest) → flag_of count ≡ flag →
-    number_of count ≡ le (take (8 * longs - 16) (drop 8 rest)) → AreBytes bytes →
+    IsFlag longs flag → 8 ≤ length rest → seed ≡ le (take 8 rest) → after ≡ drop 8 rest →
+    8 * longs - 16 ≤ length after → bits ≡ drop (8 * longs - 16) after → flag_of count ≡ flag →
+    number_of count ≡ le (take (8 * longs - 16) after) → AreBytes bytes →
     let table : Table = record {
       seed = seed;
       log2_bits = log2_bits;
       hashes = hashes;
       count = count;
-      bits = drop (8 * longs - 16) (drop 8 rest);
+      bits = bits;
     } in
     IsForm table bytes
-header_form longs seed log2_bits hashes flag count bytes rest whole version is_flag there is_seed
-    more known number all_are =
+header_form longs seed log2_bits hashes flag count bytes rest after bits whole version is_flag there is_seed
+    is_after enough is_bits known is_number all_are =
+    let more = rw is_after at enough in
+    let number = rw is_after at is_number in
     let are : AreBytes rest =
     All-drop (λ b. b < 256) 8 (header_bytes longs log2_bits hashes flag rest) (rw whole at all_are) in
     let front = eight_split rest 0 are there in
-    elim (either 2 3 longs version) [
+    rw (is_bits, is_after) (elim (either 2 3 longs version) [
       | inl two ↦
           let zero : flag ≡ 0 = elim is_flag [
             | inl zero ↦ zero
@@ -96,7 +98,7 @@ header_form longs seed log2_bits hashes flag count bytes rest whole version is_f
           let counted : number_of count ≡ le (take 8 (drop 8 rest)) =
           number ∙ ap (λ n. le (take (8 * n - 16) (drop 8 rest))) three in
           inr cc
-    ]
+    ])
   where
     none : (count : Option ℕ) → flag_of count ≡ 0 → count ≡ None
     none None zero = refl

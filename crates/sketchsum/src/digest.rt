@@ -1,6 +1,6 @@
 //! The line of a digest, from a reader to a writer that remember whether they failed.
 
-ghost use Rattle.std.specs.Prelude.{◌≡◌, ◌≢◌, ◌*◌, ◌≤◌, ◌++◌, length, true, OnOk, OnErr, Err, Some, IfSome};
+ghost use Rattle.std.specs.Prelude.{◌≡◌, ◌≢◌, ◌*◌, ◌≤◌, ◌++◌, length, true, false, OnOk, OnErr, Err, Some, IfSome};
 ghost use Rattle.std.specs.Io.KnownBytes.{Appends, IsAtEnd};
 ghost use Rattle.sketchsum.specs.Digest.{hex_word, newline};
 ghost use Rattle.sketchsum.specs.Reading.{HasRead};
@@ -17,27 +17,29 @@ use std::io::{Read, Write};
 ///
 /// # Errors
 ///
-/// As those of [`crate::run::run_bounded`]. Reader and writer remember that a call failed. So where
-/// none had failed before, a fault is answered where one does, and nowhere else.
+/// As those of [`crate::run::run_bounded`]. Reader and writer remember that a call failed, and are
+/// not called again then. So a fault is answered where a call fails, and nowhere else.
 pub fn write_digest<R: Read, W: Write>(
     algorithm: Algorithm,
     seed: u64,
     reader: &mut BoundedReader<'_, R>,
     writer: &mut CheckedWriter<'_, W>,
 ) -> Result<(), RunFault>
+    requires reader { reader.old.has_failed ≡ false }
+    requires writer { writer.old.has_failed ≡ false }
     ensures same_reader { reader.new.reader.ghost_name ≡ reader.old.reader.ghost_name }
     ensures same_writer { writer.new.writer.ghost_name ≡ writer.old.writer.ghost_name }
     ensures runs { Runs algorithm seed reader.old.turns_left result
         (R.remaining reader.old.reader.now) (R.remaining reader.new.reader.now)
         (W.contents writer.old.writer.now) (W.contents writer.new.writer.now) }
     ensures silent { OnErr result (result ≢ Err RunFault.Write → writer.new ≡ writer.old) }
-    ensures done { OnOk result ((reader.new.has_failed ≡ reader.old.has_failed)
-        × (writer.new.has_failed ≡ writer.old.has_failed) × (writer.new.is_flushed ≡ true)) }
+    ensures done { OnOk result ((reader.new.has_failed ≡ false)
+        × (writer.new.has_failed ≡ false) × (writer.new.is_flushed ≡ true)) }
     ensures read { result ≡ Err RunFault.Read → reader.new.has_failed ≡ true }
     ensures too_long { result ≡ Err RunFault.TooLong →
-        (reader.new.turns_left ≡ 0) × (reader.new.has_failed ≡ reader.old.has_failed) }
+        (reader.new.turns_left ≡ 0) × (reader.new.has_failed ≡ false) }
     ensures write { result ≡ Err RunFault.Write →
-        (writer.new.has_failed ≡ true) × (reader.new.has_failed ≡ reader.old.has_failed) }
+        (writer.new.has_failed ≡ true) × (reader.new.has_failed ≡ false) }
 {
     match algorithm {
         Algorithm::Murmur => {
@@ -59,16 +61,17 @@ fn read_into<H: Hasher, R: Read>(
     hasher: &mut H,
     reader: &mut BoundedReader<'_, R>,
 ) -> Result<(), RunFault>
+    requires { reader.old.has_failed ≡ false }
     ensures same_reader { reader.new.reader.ghost_name ≡ reader.old.reader.ghost_name }
     ensures pieces { HasRead (R.remaining reader.old.reader.now) (R.remaining reader.new.reader.now)
         (λ bytes. (hasher.new ≡ H.after hasher.old bytes)
         × (length bytes ≤ 4096 * reader.old.turns_left)
         × (result ≡ Err RunFault.TooLong → reader.old.turns_left ≤ length bytes)) }
-    ensures whole { OnOk result ((reader.new.has_failed ≡ reader.old.has_failed)
+    ensures whole { OnOk result ((reader.new.has_failed ≡ false)
         × IsAtEnd (R.remaining reader.new.reader.now)) }
     ensures read { result ≡ Err RunFault.Read → reader.new.has_failed ≡ true }
     ensures too_long { result ≡ Err RunFault.TooLong →
-        (reader.new.turns_left ≡ 0) × (reader.new.has_failed ≡ reader.old.has_failed) }
+        (reader.new.turns_left ≡ 0) × (reader.new.has_failed ≡ false) }
     ensures no_write { result ≢ Err RunFault.Write }
 {
     let mut piece = [0; PIECE_BYTES];
@@ -88,11 +91,11 @@ fn write_line<W: Write, D: Display + Drop>(
     writer: &mut CheckedWriter<'_, W>,
     line: D,
 ) -> Result<(), RunFault>
+    requires { writer.old.has_failed ≡ false }
     ensures same_writer { writer.new.writer.ghost_name ≡ writer.old.writer.ghost_name }
     ensures line { OnOk result (IfSome (D.output line) (λ text. Appends
         (W.contents writer.old.writer.now) (W.contents writer.new.writer.now) (text ++ newline))) }
-    ensures done { OnOk result ((writer.new.has_failed ≡ writer.old.has_failed)
-        × (writer.new.is_flushed ≡ true)) }
+    ensures done { OnOk result ((writer.new.has_failed ≡ false) × (writer.new.is_flushed ≡ true)) }
     ensures fault { OnErr result ((result ≡ Err RunFault.Write)
         × (writer.new.has_failed ≡ true)) }
 {

@@ -11,7 +11,7 @@ use std::io::{self, Read, Write};
 /// The most bytes that a run takes in a turn.
 pub const PIECE_BYTES: usize = 4096;
 
-/// A reader that may be read a limited number of times, and that remembers that a read failed.
+/// A reader that may be read a limited number of times, and not again after a read that failed.
 #[derive(Drop)]
 pub struct BoundedReader<'a, R> {
     reader: &'a mut R,
@@ -43,10 +43,11 @@ impl<'a, R: Read> BoundedReader<'a, R> {
 
     /// Takes one turn: one read of up to a whole piece.
     pub fn read(&mut self, piece: &mut [u8; PIECE_BYTES]) -> io::Result<usize>
-        requires { 0 < self.old.turns_left }
+        requires turn_left { 0 < self.old.turns_left }
+        requires unfailed { self.old.has_failed ≡ false }
         ensures same_reference { self.new.reader.ghost_name ≡ self.old.reader.ghost_name }
         ensures turn { self.new.turns_left + 1 ≡ self.old.turns_left }
-        ensures ok { OnOk result (self.new.has_failed ≡ self.old.has_failed) }
+        ensures ok { OnOk result (self.new.has_failed ≡ false) }
         ensures err { OnErr result (self.new.has_failed ≡ true) }
         ensures bound { ReadsAtMost result piece.new }
         ensures bytes { ReadConsumes (R.remaining self.old.reader.now)
@@ -54,13 +55,13 @@ impl<'a, R: Read> BoundedReader<'a, R> {
     {
         self.turns_left -= 1;
         let result = self.reader.read(piece);
-        self.has_failed |= result.is_err();
+        self.has_failed = result.is_err();
         result
     }
 }
 
-/// A writer that tells whether all that was written is flushed, and that remembers that a write or
-/// a flush failed.
+/// A writer that tells whether all that was written is flushed, and that is not called again after
+/// a write or a flush that failed.
 #[derive(Drop)]
 pub struct CheckedWriter<'a, W> {
     writer: &'a mut W,
@@ -85,9 +86,10 @@ impl<'a, W: Write> CheckedWriter<'a, W> {
 
     /// Writes a line.
     pub fn writeln<D: Display + Drop>(&mut self, line: D) -> io::Result<()>
+        requires { self.old.has_failed ≡ false }
         ensures same_reference { self.new.writer.ghost_name ≡ self.old.writer.ghost_name }
         ensures flushed { self.new.is_flushed ≡ false }
-        ensures ok { OnOk result (self.new.has_failed ≡ self.old.has_failed) }
+        ensures ok { OnOk result (self.new.has_failed ≡ false) }
         ensures err { OnErr result (self.new.has_failed ≡ true) }
         ensures bytes { OnOk result (IfSome (D.output line) (λ text.
             Appends (W.contents self.old.writer.now) (W.contents self.new.writer.now)
@@ -95,21 +97,21 @@ impl<'a, W: Write> CheckedWriter<'a, W> {
     {
         let result = self.writer.writeln(line);
         self.is_flushed = false;
-        self.has_failed |= result.is_err();
+        self.has_failed = result.is_err();
         result
     }
 
     /// Hands on all that was written.
     pub fn flush(&mut self) -> io::Result<()>
+        requires { self.old.has_failed ≡ false }
         ensures same_reference { self.new.writer.ghost_name ≡ self.old.writer.ghost_name }
-        ensures ok { OnOk result ((self.new.is_flushed ≡ true)
-            × (self.new.has_failed ≡ self.old.has_failed)) }
+        ensures ok { OnOk result ((self.new.is_flushed ≡ true) × (self.new.has_failed ≡ false)) }
         ensures err { OnErr result (self.new.has_failed ≡ true) }
         ensures bytes { Keeps (W.contents self.old.writer.now) (W.contents self.new.writer.now) }
     {
         let result = self.writer.flush();
         self.is_flushed = result.is_ok();
-        self.has_failed |= result.is_err();
+        self.has_failed = result.is_err();
         result
     }
 }

@@ -347,6 +347,7 @@ fn merge_round(hash: u64, lane: u64) -> u64
 
 // The hash after the tail.
 #[inline(always)]
+#[tactic(auto, using(crate::proofs::Xxh64Lemmas::fold_word, crate::proofs::Xxh64Lemmas::fold_few))]
 fn fold_tail(hash: u64, tail: &[u8]) -> u64
     ensures { result ≡ fold tail_step hash (steps tail.now) }
 {

@@ -160,15 +160,17 @@ fn are_enough(turns: u64, input: &mut &[u8], output: &mut Vec<u8>) -> (bool, u64
     (answer != Err(RunFault::TooLong), reader.turns_left())
 }
 
-// Writes the line of what a reader has left. A line that is done is flushed, and no call failed; a
-// fault that is told has happened.
+// Writes the line of what a reader has left, where no call failed before. A line that is done is
+// flushed, and no call failed; a fault that is told has happened.
 fn write_rest<R: Read, W: Write>(
     reader: &mut BoundedReader<'_, R>,
     writer: &mut CheckedWriter<'_, W>,
 ) -> Result<(), RunFault>
+    requires reader { reader.old.has_failed ≡ false }
+    requires writer { writer.old.has_failed ≡ false }
     ensures flushed { OnOk result (writer.new.is_flushed ≡ true) }
-    ensures read { result ≢ Err RunFault.Read → reader.new.has_failed ≡ reader.old.has_failed }
-    ensures written { OnOk result (writer.new.has_failed ≡ writer.old.has_failed) }
+    ensures read { result ≢ Err RunFault.Read → reader.new.has_failed ≡ false }
+    ensures written { OnOk result (writer.new.has_failed ≡ false) }
     ensures read_fault { result ≡ Err RunFault.Read → reader.new.has_failed ≡ true }
     ensures write_fault { result ≡ Err RunFault.Write → writer.new.has_failed ≡ true }
 {

@@ -22,11 +22,11 @@ returns-clause-xxh64 c = λ x y is_x is_y.
     (short y _ _ (search rules, search rules) (search rules, search rules) is_y)
 
 pub returns-clause-murmur_modulo : goal.returns-clause-murmur_modulo
-returns-clause-murmur_modulo c =
+returns-clause-murmur_modulo c = λ x y.
     let seed : c.args.seed < 2 ^ 64 = search rules in
-    c.integer_law.ensures.murmur_modulo c.args.seed c.args.z (pos c.args.w) seed
+    c.integer_law.ensures.murmur_modulo c.args.seed x y seed
 
 pub returns-clause-xxh64_modulo : goal.returns-clause-xxh64_modulo
-returns-clause-xxh64_modulo c =
+returns-clause-xxh64_modulo c = λ x y.
     let seed : c.args.seed < 2 ^ 64 = search rules in
-    c.integer_law.ensures.xxh64_modulo c.args.seed c.args.z (pos c.args.w) seed
+    c.integer_law.ensures.xxh64_modulo c.args.seed x y seed

@@ -18,3 +18,11 @@ pub returns-clause-made_by_all : goal.returns-clause-made_by_all
 returns-clause-made_by_all c = λ list steps.
     let x : c.args.x < 2 ^ 64 = search rules in
     (c.xxh64_step_laws.ensures.steps_of_word list steps).reached _ x
+
+pub returns-clause-widths : goal.returns-clause-widths
+returns-clause-widths c = c.xxh64_step_laws.ensures.tail_widths
+
+pub returns-clause-eight : goal.returns-clause-eight
+returns-clause-eight c = λ seed.
+    let read : c.args.read < 2 ^ 64 = search rules in
+    c.xxh64_step_laws.ensures.eight_bytes seed c.args.read read

@@ -17,6 +17,7 @@ pub(super) fn read_partial_le(bytes: &[u8]) -> u128
 
 /// The same as two words, the lower first.
 #[inline(always)]
+#[tactic(auto, using(crate::proofs::NumberLemmas::few_le, crate::proofs::NumberLemmas::last_le))]
 pub(super) fn read_partial_words(bytes: &[u8]) -> (u64, u64)
     requires { length bytes.now < 16 }
     ensures { result ≡ (le bytes.now % 2 ^ 64, le bytes.now / 2 ^ 64) }

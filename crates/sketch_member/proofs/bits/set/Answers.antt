@@ -4,10 +4,10 @@ use Rattle.sketch_member.proofs.BitLemmas.{set_bit, set_bit_bytes}
 use Rattle.sketch_member.proofs.bits.set.Goals as goal
 
 pub returns-clause-bits : goal.returns-clause-bits
-returns-clause-bits c =
-    rw (and_mask c.args.i 3) (λ k. set_bit c.args.bits.now c.args.i k (omega arith))
+returns-clause-bits c = λ k.
+    set_bit c.args.bits.now c.args.i k _ (omega (arith, and_mask c.args.i 3)) (omega arith)
 
 pub returns-clause-bytes : goal.returns-clause-bytes
 returns-clause-bytes c =
-    rw (and_mask c.args.i 3)
-    (set_bit_bytes c.args.bits.now c.args.i (omega arith) (search rules))
+    set_bit_bytes c.args.bits.now c.args.i _ (omega (arith, and_mask c.args.i 3)) (omega arith)
+    (search rules)

@@ -29,14 +29,12 @@ returns c =
     let sizes = c.in_ok-log2_bits.ensures in
     let flag = c.in_ok-flag.ensures in
     let seed = c.in_ok-seed.ensures in
-    let count = c.in_ok-count.ensures in
     let longs = kind.0 in
     let whole = kind.2 ∙ ap (λ rest. longs ∷ (longs - 1) ∷ 200 ∷ rest) (sizes.2
-    ∙ ap (λ rest. c.in_ok-log2_bits.log2_bits ∷ c.in_ok-log2_bits.hashes ∷ rest) flag.1) in
-    let counted = rw seed.2 at count in (
+    ∙ ap (λ rest. c.in_ok-log2_bits.log2_bits ∷ c.in_ok-log2_bits.hashes ∷ rest) flag.1) in (
       sizes.0,
       sizes.1,
-      counted.4,
-      rw (counted.1) (header_form longs _ _ _ _ _ c.args.reader.now _ whole kind.1 flag.0 seed.0
-          seed.1 counted.0 counted.2 counted.3),
+      search rules,
+      header_form longs _ _ _ _ _ c.args.reader.now _ c.next_long.new.reader _ whole kind.1 flag.0 seed.0
+          seed.1 seed.2 (search rules) (search rules) (search rules) (search rules),
     )

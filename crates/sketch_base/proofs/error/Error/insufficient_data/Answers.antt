@@ -1,10 +1,11 @@
+use Rattle.std.proofs.Common.{rules}
 use Rattle.sketch_base.proofs.RefusalLemmas.{some_text}
 use Rattle.sketch_base.proofs.error.Error.insufficient_data.Goals as goal
 use Rattle.sketch_base.proofs.error.Error.insufficient_data.Goals.{in-Ok, in-Err}
 
 pub returns : goal.returns
 returns g c = elim c.match-to_string.branch [
-  | in-Ok w ↦ (_, w.in-Ok.ensures.ok, c.refusal.ensures _ (rw w.text-is w.format-text.ensures.ok))
+  | in-Ok w ↦ (_, w.in-Ok.ensures.ok, c.refusal.ensures _ (search rules))
   | in-Err w ↦ let any = some_text (g.V.Display.output c.args.value) in
-      (any.0, any.1, c.refusal.ensures _ (rw w.text-is tt))
+      (any.0, any.1, c.refusal.ensures _ (search rules))
 ]

@@ -1,7 +1,7 @@
 use Rattle.std.proofs.Common.{rules, ◌≡◌, ◌<◌, length, sym, ◌∙◌, refl}
 use Rattle.std.specs.List.{fold}
 use Rattle.sketch_hash.specs.Xxh64.{tail_step, steps}
-use Rattle.sketch_hash.proofs.Xxh64Lemmas.{fold_sixteen, fold_eight, fold_four, fold_short}
+use Rattle.sketch_hash.proofs.Xxh64Lemmas.{fold_sixteen, fold_eight, fold_four, fold_few}
 use Rattle.sketch_hash.proofs.hash.xxhash.fold_rest.Goals as goal
 use Rattle.sketch_hash.proofs.hash.xxhash.fold_rest.Goals.{then-rest-ge16, else-rest-ge16, then-rest-ge8, else-rest-ge8, then-rest-ge4, else-rest-ge4}
 
@@ -48,5 +48,5 @@ returns c =
       ) (sym (fold_four c.if-rest-ge8.hash c.if-rest-ge8.rest.now w.if-rest-ge4.true short))
       | else-rest-ge4 w ↦ rw (w.hash-is, w.rest-is) refl
     ] in
-    let last = fold_short c.if-rest-ge4.hash c.if-rest-ge4.rest.now (search rules) in
+    let last = fold_few c.if-rest-ge4.hash c.if-rest-ge4.rest.now (search rules) in
     c.fold_few.ensures ∙ sym last ∙ third ∙ second ∙ first

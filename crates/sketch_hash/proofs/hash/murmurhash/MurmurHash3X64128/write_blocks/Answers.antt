@@ -61,13 +61,14 @@ returns c =
     let read = block_words-filled i.count n bytes bytes_are below low enough in
     let through =
     state_after-through 16 block_words step s bytes missing (omega arith) total short within full in
+    let waiting : (waiting : ℕ) × (waiting ≡ i.low + i.high * 2 ^ 64) = search rules in
     rw (
       ← c.self.view_is,
       c.fold_blocks.ensures,
       c.step-h1.ensures,
       c.split_words-k1.ensures,
       c.read_u128_le.ensures,
-      c.join_words.ensures,
+      waiting.1,
       c.split_words.ensures,
       c.read_partial_le.ensures,
       words-number,
