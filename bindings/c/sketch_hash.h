@@ -33,6 +33,9 @@
 
 #ifdef __cplusplus
 extern "C" {
+#define SKETCH_HASH_U64(number) static_cast<uint64_t>(number)
+#else
+#define SKETCH_HASH_U64(number) ((uint64_t)(number))
 #endif
 
 /* 1.1.0: major * 10000 + minor * 100 + patch. The function answers that of the library. */
@@ -50,9 +53,9 @@ typedef struct sketch_xxh64_state {
 /* The same state as after a reset. It names `seed` five times. */
 #define SKETCH_XXH64_INIT(seed)                                                                   \
     {                                                                                             \
-        (uint64_t)(seed), (uint64_t)(seed) + SKETCH_XXH64_PRIME1 + SKETCH_XXH64_PRIME2,           \
-            (uint64_t)(seed) + SKETCH_XXH64_PRIME2, (uint64_t)(seed),                             \
-            (uint64_t)(seed)-SKETCH_XXH64_PRIME1, 0, { 0 }                                        \
+        SKETCH_HASH_U64(seed), SKETCH_HASH_U64(seed) + SKETCH_XXH64_PRIME1 + SKETCH_XXH64_PRIME2, \
+            SKETCH_HASH_U64(seed) + SKETCH_XXH64_PRIME2, SKETCH_HASH_U64(seed),                   \
+            SKETCH_HASH_U64(seed) - SKETCH_XXH64_PRIME1, 0, { 0 }                                 \
     }
 
 /* In one call, of bytes, and of the eight bytes of a number as a little-endian machine has them. */
@@ -82,7 +85,7 @@ typedef struct sketch_murmur3_x64_128_state {
 /* The same state as after a reset. It names `seed` twice. */
 #define SKETCH_MURMUR3_X64_128_INIT(seed)                                                         \
     {                                                                                             \
-        (uint64_t)(seed), (uint64_t)(seed), 0, { 0 }                                              \
+        SKETCH_HASH_U64(seed), SKETCH_HASH_U64(seed), 0, { 0 }                                    \
     }
 
 sketch_murmur3_x64_128_hash_t sketch_murmur3_x64_128(const void *input, size_t length,
@@ -179,8 +182,8 @@ int sketch_member_count(const void *bytes, size_t length, uint64_t *count);
 /* ---- For the initializers, and the layouts that the library was built for: with another one an
  * array below has the size -1, and does not compile. */
 
-#define SKETCH_XXH64_PRIME1 (((uint64_t)0x9E3779B1u << 32) | (uint64_t)0x85EBCA87u)
-#define SKETCH_XXH64_PRIME2 (((uint64_t)0xC2B2AE3Du << 32) | (uint64_t)0x27D4EB4Fu)
+#define SKETCH_XXH64_PRIME1 ((SKETCH_HASH_U64(0x9E3779B1u) << 32) | SKETCH_HASH_U64(0x85EBCA87u))
+#define SKETCH_XXH64_PRIME2 ((SKETCH_HASH_U64(0xC2B2AE3Du) << 32) | SKETCH_HASH_U64(0x27D4EB4Fu))
 
 typedef char sketch_hash_xxh64_state_has_no_padding
     [sizeof(sketch_xxh64_state_t) == 80 && offsetof(sketch_xxh64_state_t, waiting) == 48 ? 1 : -1];
