@@ -1,10 +1,11 @@
 //! A reader and a writer of a serialized sketch.
 
-ghost use Rattle.std.specs.Prelude.{◌≡◌, ◌≢◌, ◌⊎◌, ◌<◌, ◌≤◌, ◌++◌, codes, length, drop, IfErr, IfOk, MatchResult};
+ghost use Rattle.std.specs.Prelude.{ℕ, ◌≡◌, ◌≢◌, ◌⊎◌, ◌<◌, ◌≤◌, ◌++◌, codes, length, drop, IfErr, IfOk, MatchResult};
 ghost use Rattle.std.specs.Fmt.{decimal};
 ghost use Rattle.std.specs.String.{string_bytes};
-ghost use Rattle.datasketches.specs.ErrorValue.{add_context, error_of};
+ghost use Rattle.datasketches.specs.ErrorValue.{add_context, error_of, memory_error};
 ghost use Rattle.datasketches.specs.Refusals.{Refuses, invalid_preamble_ints_text, preamble_longs_out_of_range_text};
+ghost use Rattle.datasketches.specs.SeedHash.{seed_hash, zero_seed_hash_text};
 ghost use Rattle.datasketches.specs.Items.{spell_all, unspell_all};
 ghost use Rattle.examples.specs.Sketches.{HasPreamble, IsSketch};
 
@@ -126,8 +127,12 @@ pub fn read_sketch(
 /// Where the seed's hash is zero: `InvalidArgument`. Where memory runs out: `OutOfMemory`, with the
 /// number of items written as its context if there is memory for that.
 pub fn write_sketch(alloc: Global, seed: u64, items: &[Item]) -> Result<Vec<u8>, Error>
-    ensures { IfOk result (λ bytes.
+    ensures written { IfOk result (λ bytes.
         HasPreamble seed bytes.items × (drop 5 bytes.items ≡ spell_all items.now)) }
+    ensures refused { IfErr result (λ error.
+        ((seed_hash seed ≡ 0) × Refuses ErrorKind.InvalidArgument (zero_seed_hash_text seed) error)
+        ⊎ ((error ≡ memory_error) ⊎ ((n : ℕ) × (n < length items.now)
+        × (error ≡ add_context memory_error (codes "items") (decimal n))))) }
 {
     let hash = compute_seed_hash(alloc, seed, ErrorKind::InvalidArgument)?;
     let mut writer = SketchBytes::with_capacity(alloc, 5)?;
