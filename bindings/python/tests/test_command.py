@@ -176,6 +176,8 @@ def test_check_tells_what_is_wrong():
     status, output, complaint = run("-c", input=lines)
     assert status == 1
     assert output == b"fox: OK\nfox: FAILED\nmissing: FAILED to open or read\n"
+    quiet = run("-c", "-q", input=lines)
+    assert quiet == (1, b"fox: FAILED\nmissing: FAILED to open or read\n", complaint)
     assert complaint.splitlines() == [
         b"sketch_hash: missing: No such file or directory",
         b"sketch_hash: 1 improperly formatted line(s)",

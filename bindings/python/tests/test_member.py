@@ -72,7 +72,7 @@ def test_every_order_gives_the_same_bits():
     assert twice.to_bytes()[24:] == filled().to_bytes()[24:]
 
 
-@pytest.mark.parametrize("number", [-1, 0, 5, 21, 255, 256 + 10, 2**32 + 10, -(2**70), 2**70])
+@pytest.mark.parametrize("number", [-1, 0, 5, 21, 255, 10 - 256, 256 + 10, 2**32 + 10, -(2**70), 2**70])
 def test_other_sizes_are_refused(number):
     with pytest.raises(ValueError, match="^log2_bits is not 6 to 20$"):
         MemberTable(number, 0)

@@ -4,7 +4,7 @@ ghost use Rattle.std.specs.Prelude.{ℕ, ◌≡◌, ◌≢◌, ◌⊎◌, ◌<�
 ghost use Rattle.std.specs.Fmt.{decimal};
 ghost use Rattle.std.specs.String.{string_bytes};
 ghost use Rattle.datasketches.specs.ErrorValue.{add_context, error_of, memory_error};
-ghost use Rattle.datasketches.specs.Refusals.{Refuses, invalid_preamble_ints_text, preamble_longs_out_of_range_text};
+ghost use Rattle.datasketches.specs.Refusals.{Refuses, insufficient_data_of_text, invalid_preamble_ints_text, preamble_longs_out_of_range_text};
 ghost use Rattle.datasketches.specs.SeedHash.{seed_hash, zero_seed_hash_text};
 ghost use Rattle.datasketches.specs.Items.{spell_all, unspell_all};
 ghost use Rattle.examples.specs.Sketches.{HasPreamble, IsSketch};
@@ -106,10 +106,13 @@ pub fn read_sketch(
     places: &mut [Item],
 ) -> Result<(), Error>
     requires { length kinds.now ≡ length places.old }
-    ensures { MatchResult result
+    ensures read { MatchResult result
         (λ _. IsSketch seed kinds.now bytes.now
         × (places.new ≡ unspell_all kinds.now (drop 5 bytes.now)))
         (λ _. IsSketch seed kinds.now bytes.now → ⊥) }
+    ensures short { IfErr result (λ error. HasPreamble seed bytes.now →
+        Refuses ErrorKind.InvalidData
+        (insufficient_data_of_text (codes "hll sketch") (codes "items")) error) }
 {
     check_preamble(alloc, bytes, seed)?;
     let mut reader = SketchSlice::new(bytes);

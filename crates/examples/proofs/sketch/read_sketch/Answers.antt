@@ -2,8 +2,8 @@ use Rattle.std.proofs.Common.{◌+◌, ap, length, drop, arith}
 use Rattle.datasketches.proofs.ItemLemmas.{widths-take-le}
 use Rattle.examples.proofs.sketch.read_sketch.Goals as goal
 
-pub returns-in-Err : goal.returns-in-Err
-returns-in-Err c =
+pub returns-in-Err-clause-read : goal.returns-in-Err-clause-read
+returns-in-Err-clause-read c =
     let short = c.in-Err.ensures in
     λ sketch. omega (
       arith,
