@@ -22,6 +22,7 @@ NAMES += [b"x%cx" % byte for byte in range(1, 256) if byte != ord("/")] + ["x\x8
 @pytest.fixture(autouse=True)
 def folder(tmp_path, monkeypatch):
     monkeypatch.chdir(tmp_path)
+    monkeypatch.delenv("PYTHONUNBUFFERED", raising=False)
     (tmp_path / "fox").write_bytes(FOX)
 
 
@@ -84,7 +85,10 @@ def test_lines_come_as_soon_as_a_file_is_read():
             file.write(XXH64 + b"  fox\n" + XXH64 + b"  late\n")
         command = [sys.executable, "-m", "sketch_hash", *words]
         with subprocess.Popen(command, stdout=subprocess.PIPE) as program:
-            assert select.select([program.stdout], [], [], 30)[0]
+            ready = select.select([program.stdout], [], [], 30)[0]
+            if not ready:
+                program.kill()  # it waits for what is late
+            assert ready
             first = os.read(program.stdout.fileno(), 100)
             with open("late", "wb") as late:
                 late.write(FOX)
@@ -162,13 +166,15 @@ def test_what_is_printed_is_read_back(algorithm):
     for name in NAMES:
         with open(name, "wb") as file:
             file.write(name)
-    status, lines, _ = run("-a", algorithm, "--seed", "7", *NAMES)
+    seed = str(2**63 + 7)
+    status, lines, _ = run("-a", algorithm, "--seed", seed, *NAMES)
     assert status == 0
-    status, output, complaint = run("--check", "--seed", "7", "-", input=lines)
+    status, output, complaint = run("--check", "--seed", seed, "-", input=lines)
     assert (status, complaint) == (0, b"")
     assert output == b"".join(name + b": OK\n" for name in NAMES)
-    assert run("--check", "--quiet", "--seed", "7", input=lines) == (0, b"", b"")
-    assert run("--check", "--seed", "8", input=lines)[0] == 1
+    assert run("--check", "--quiet", "--seed", seed, input=lines) == (0, b"", b"")
+    for other in ("7", "8"):
+        assert run("--check", "--seed", other, input=lines)[0] == 1
 
 
 def test_check_tells_what_is_wrong():
@@ -189,6 +195,9 @@ def test_check_tells_what_is_wrong():
     for text in (*(digits + b"  fox" for digits in wrong), *nameless):
         status, output, complaint = run("-c", input=text + b"\n")
         assert (status, output) == (1, b"") and b"1 improperly formatted" in complaint
+    lines = b"".join(b"0" * count + b"  fox\n" for count in range(100) if count not in (16, 32))
+    status, output, complaint = run("-c", input=lines)
+    assert (status, output) == (1, b"") and b"98 improperly formatted" in complaint
     good, bad = XXH64 + b"  fox\n", b"0" * 16 + b"  fox\n"
     missing = XXH64 + b"  missing\n"
     wrong = missing, bad, good + missing, good + bad, good + bad + missing, good + b"no hash\n"

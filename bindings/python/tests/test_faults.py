@@ -134,12 +134,11 @@ def ticks():
 
 
 def test_short_calls_keep_the_lock_of_python(ticks):
-    data, hasher = bytes(65535), xxh64()
+    data, hashers = bytes(65535), [kind() for kind in KINDS]
     before = len(ticks)
     for _ in range(1000):
-        hasher.update(data)
-        for call in ONE_CALL:
-            call(data[:100])
+        for call in (*ONE_CALL, *[it.update for it in hashers]):
+            call(data)
     assert len(ticks) == before
 
 
@@ -158,12 +157,13 @@ def test_long_calls_give_up_the_lock_of_python(ticks):
             for width in "IQ"
         ),
     ]
-    edge = data[:65536]
-    for call in (*ONE_CALL, *[it.update for it in hashers], *columns, lambda _: hashers[0].update(edge)):
-        before, end = len(ticks), time.monotonic() + 10
-        while len(ticks) == before and time.monotonic() < end:
-            call(data)
-        assert len(ticks) > before
+    whole = [*ONE_CALL, *[it.update for it in hashers]]
+    for given, calls in ((data, whole + columns), (data[:65536], whole)):
+        for call in calls:
+            before, end = len(ticks), time.monotonic() + 10
+            while len(ticks) == before and time.monotonic() < end:
+                call(given)
+            assert len(ticks) > before
 
 
 @pytest.mark.parametrize("seed", [-1, 2**64, 2**64 + 7, 2**70, -(2**64)])
