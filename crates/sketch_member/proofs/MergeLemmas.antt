@@ -147,6 +147,18 @@ inserts_append [] others before next after all rest =
 inserts_append (fed ∷ values) others before next after (one, inserts, all) rest =
     (one, inserts, inserts_append values others one next after all rest)
 
+-- inserts into a table that is empty are inserts into the empty one
+pub from_empty : (seed log2_bits hashes : ℕ) (values : List (List ℕ)) (start table : Table) →
+    InsertsAll values start table → start ≡ empty_table seed log2_bits hashes →
+    InsertsAll values (empty_table seed log2_bits hashes) table
+from_empty seed log2_bits hashes values start table all is_empty =
+    subst (λ t. InsertsAll values t table) is_empty all
+
+-- one table has one form
+pub same_bytes : (bytes others : List ℕ) (table other : Table) → table ≡ other →
+    bytes ≡ form2 table → others ≡ form2 other → bytes ≡ others
+same_bytes bytes others table other same is is_other = is ∙ ap form2 same ∙ sym is_other
+
 -- the inserts of the first i + 1 values of a list
 pub insert_next : {X : Type 0} (fed : X → List ℕ) (xs : List X) (i : ℕ) (default : X)
     (before next after : Table) → i < length xs → InsertsAll (map fed (take i xs)) before next →

@@ -11,6 +11,5 @@ returns c =
       c.to_le_bytes.ensures ∙ to_le_bytes-is w64 _,
       c.to_le_bytes-2.ensures ∙ to_le_bytes-is w64 _,
       c.serial_version.ensures,
-      c.count_parts-flag.ensures.flag,
-      c.count_parts-flag.ensures.number,
     )
+    (cc)
