@@ -6,6 +6,7 @@
 
 #define HAS_TYPE(what, ...) _Static_assert(_Generic(what, __VA_ARGS__: 1, default: 0), #what)
 
+HAS_TYPE(SKETCH_HASH_VERSION, int);
 HAS_TYPE(&sketch_hash_version, uint32_t (*)(void));
 HAS_TYPE(&sketch_xxh64, uint64_t (*)(const void *, size_t, uint64_t));
 HAS_TYPE(&sketch_xxh64_u64, uint64_t (*)(uint64_t, uint64_t));

@@ -171,6 +171,8 @@ fn what_makes_hashers() {
     const STREAM: Xxh64 = Xxh64::new(1 << 32);
     assert_eq!(STREAM.digest(), X.build_hasher().digest());
     assert_eq!((X, M), (BuildXxh64::new(1 << 32), BuildMurmur3X64_128::new(1 << 32)));
+    assert_eq!(format!("{X:?}"), "BuildXxh64 { seed: 4294967296 }");
+    assert_eq!(format!("{M:?}"), "BuildMurmur3X64_128 { seed: 4294967296 }");
     assert_ne!(X, BuildXxh64::default());
     assert_ne!(M, BuildMurmur3X64_128::default());
     assert_eq!(BuildXxh64::default().hash_one(5_u64), xxh64_u64(5, 0));
@@ -180,7 +182,7 @@ fn what_makes_hashers() {
 /// What a program may ask of the types: errors are keys of sets, and all go to other threads.
 #[test]
 fn traits_of_the_types() {
-    fn copied<T: Copy + Eq + Debug>() {}
+    fn copied<T: Copy + Eq + Debug + Send + Sync>() {}
     fn errors<T: Copy + Eq + Hash + Debug + Send + Sync>() {}
     fn kept<T: Clone + Debug + Send + Sync>() {}
     fn compared<T: Eq>() {}

@@ -106,6 +106,8 @@ def test_an_empty_file(page, files):
     page.choose(*files(empty=b""))
     page.wait_for("empty", "done")
     assert page.hashes("empty") == ("ef46db3751d8e999", "0" * 32)
+    bar = page.row("empty").find_element(By.TAG_NAME, "progress")
+    assert bar.get_property("value") == bar.get_property("max")
 
 
 def test_64_mebibytes(page, files):
@@ -162,6 +164,8 @@ def test_seeds(page, files):
         assert not page.row("fox").find_element(By.CSS_SELECTOR, "button.copy").is_enabled()
     page.set_seed("0x10")
     page.wait(lambda: page.hashes("fox") == hashes(FOX, 16))
+    page.set_seed("0XaB")
+    page.wait(lambda: page.hashes("fox") == hashes(FOX, 171))
     assert page.one("#seed-fault").text == ""
 
 
@@ -362,6 +366,10 @@ def test_the_page_may_ask_nobody(page):
     """Its policy forbids what its own code does not do: to send anything away."""
     ask = "fetch(location.href).then(() => arguments[0]('answered'), () => arguments[0]('refused'))"
     assert page.chromium.execute_async_script(ask) == "refused"
+    policy = page.one("meta[http-equiv=Content-Security-Policy]").get_attribute("content")
+    for part in policy.split("; "):
+        name, *words = part.split()
+        assert set(words) <= {"'none'", "'unsafe-inline'", "'wasm-unsafe-eval'", "blob:", "data:"}, name
     kept = [line["message"] for line in page.chromium.get_log("browser") if line["level"] == "SEVERE"]
     assert kept and all("Content Security Policy" in line for line in kept)
 
