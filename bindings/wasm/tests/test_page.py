@@ -210,6 +210,7 @@ def test_files_that_are_dropped(page):
             const event = new DragEvent(type, { dataTransfer: dropped, bubbles: true, cancelable: true });
             if (document.body.dispatchEvent(event)) throw new Error(`${type}: the browser would open the file`);
         }
+        if (isOver()) throw new Error('drop');
         """
     )
     for name in ("first", "second"):
@@ -279,6 +280,15 @@ def test_another_seed_stops_what_is_read(page, tmp_path):
     for name in names:
         page.row(name).find_element(By.CSS_SELECTOR, "button.stop").click()
         page.wait_for(name, "stopped")
+
+
+def test_the_button_that_a_file_ends_under(page, tmp_path):
+    """Its focus goes on to the button for the copy."""
+    page.choose(sparse(tmp_path / "large", 1 << 29))
+    page.row("large").find_element(By.CSS_SELECTOR, "button.stop").send_keys("")
+    assert page.chromium.switch_to.active_element.accessible_name == "Stop large"
+    page.wait_for("large", "done")
+    assert page.chromium.switch_to.active_element.accessible_name == "Copy the hashes of large"
 
 
 def test_stop_before_the_beginning(page, tmp_path):
@@ -354,8 +364,27 @@ def test_a_name_is_a_text(page, files):
     assert labels == ["How far <i>fox is read", "Stop <i>fox", "Copy the hashes of <i>fox"]
 
 
+def test_what_a_screen_reader_is_told(page, files):
+    names = {"input#files": "Drop files here, or choose them:", "input#seed": "Seed", "textarea#text": "Text, as UTF-8"}
+    for selector, name in names.items():
+        assert page.one(selector).accessible_name == name
+    seed = page.one("input#seed")
+    for text, is_bad in (("many", "true"), ("0", "false")):
+        page.set_seed(text)
+        assert seed.get_attribute("aria-invalid") == is_bad
+    assert page.one("#" + seed.get_attribute("aria-describedby")).get_attribute("id") == "seed-fault"
+    for selector in ("#seed-fault", "#unable"):
+        assert page.one(selector).get_attribute("role") == "alert"
+    assert page.one("#text-xxh64").find_element(By.XPATH, "..").get_attribute("aria-live") == "polite"
+    page.choose(*files(fox=FOX))
+    assert page.row("fox").find_element(By.CSS_SELECTOR, ".name").aria_role == "rowheader"
+    assert [it.get_attribute("scope") for it in page.chromium.find_elements(By.CSS_SELECTOR, "thead th")] == ["col"] * 6
+
+
 def test_the_contract_of_each_call_is_shown(page):
-    page.one("summary").click()
+    """Also to who comes by the link."""
+    assert not page.one("#contract pre").is_displayed()
+    page.one('a[href="#contract"]').click()
     shown = page.one("#contract pre").text
     for call in ("xxh64", "xxh64_u64", "xxh64_update", "murmur3_x64_128_digest", "xxh64_each32", "murmur3_x64_128_each64"):
         assert f"fn sketch_{call}(" in shown
@@ -366,10 +395,12 @@ def test_the_page_may_ask_nobody(page):
     """Its policy forbids what its own code does not do: to send anything away."""
     ask = "fetch(location.href).then(() => arguments[0]('answered'), () => arguments[0]('refused'))"
     assert page.chromium.execute_async_script(ask) == "refused"
-    policy = page.one("meta[http-equiv=Content-Security-Policy]").get_attribute("content")
-    for part in policy.split("; "):
-        name, *words = part.split()
+    text = page.one("meta[http-equiv=Content-Security-Policy]").get_attribute("content")
+    policy = {name: words for name, *words in (part.split() for part in text.split("; "))}
+    for name, words in policy.items():
         assert set(words) <= {"'none'", "'unsafe-inline'", "'wasm-unsafe-eval'", "blob:", "data:"}, name
+    # The last two do not follow from the first.
+    assert all(policy[it] == ["'none'"] for it in ("default-src", "base-uri", "form-action"))
     kept = [line["message"] for line in page.chromium.get_log("browser") if line["level"] == "SEVERE"]
     assert kept and all("Content Security Policy" in line for line in kept)
 
