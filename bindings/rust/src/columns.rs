@@ -7,7 +7,11 @@ use crate::calls::{
 use core::error::Error;
 use core::fmt;
 
-/// An offset of a column: `u32` or `u64`.
+/// An offset of a column: `u32` or `u64`. Apache Arrow's are signed:
+///
+/// ```compile_fail
+/// sketch_hash::xxh64_each(b"", &[0_i64, 0], 7, &mut [0]);
+/// ```
 pub trait Offset: sealed::Calls {}
 
 impl Offset for u32 {}
