@@ -10,7 +10,10 @@ docs = Path(sys.argv[1]) if len(sys.argv) > 1 else Path(__file__).parents[2] / "
 tables = {}
 for line in (docs / "speed.tsv").read_text(encoding="utf-8").splitlines():
     table, case, peer, *ratios = line.split("\t")
-    tables.setdefault(table, {}).setdefault(case, {})[peer] = ratios
+    row = tables.setdefault(table, {}).setdefault(case, {})
+    if peer in row:
+        sys.exit(f"speed.tsv: twice: {table}, {case}, {peer}")
+    row[peer] = ratios
 
 
 def markdown(cases):
