@@ -2,8 +2,9 @@
 
 ghost use Rattle.std.specs.Prelude.{◌≡◌, ◌↔◌, ◌⊎◌, ℕ, List, ◌+◌, ◌<◌, ◌≤◌, ◌++◌, if◌then◌else◌, IfErr, IfOk, IsTrue, false, length, map, take, drop};
 ghost use Rattle.std.specs.List.{All};
+ghost use Rattle.datasketches.specs.Bytes.{AreBytes};
 ghost use Rattle.datasketches.specs.ItemLaws.{Holds};
-ghost use Rattle.datasketches.specs.Items.{InType, item_kind, spell_all, unspell_all, width, widths};
+ghost use Rattle.datasketches.specs.Items.{InType, item_kind, spell, spell_all, unspell, unspell_all, width, widths};
 
 use datasketches::codec::{Item, Kind, Short, SketchBytes, SketchSlice, Stopped};
 use datasketches::laws;
@@ -177,13 +178,17 @@ pub fn are_same_items(alloc: Global, xs: &[Item], ys: &[Item]) -> Result<bool, A
 }
 
 /// Lists of items of the same kinds, however long, have the same bytes only if they are the same.
-/// They are read back, whatever follows them.
+/// They are read back, whatever follows them. An item is read back from its bytes, and from no
+/// others of its width.
 pub fn lists_have_one_form()
     ensures one_form { (xs ys : List Item) → All InType xs → All InType ys →
         map item_kind xs ≡ map item_kind ys → spell_all xs ≡ spell_all ys → xs ≡ ys }
     ensures read_back { (xs : List Item) (behind : List ℕ) → All InType xs →
         (unspell_all (map item_kind xs) (spell_all xs ++ behind) ≡ xs)
         × (drop (widths (map item_kind xs)) (spell_all xs ++ behind) ≡ behind) }
+    ensures one_item { (i : Item) → InType i → unspell (item_kind i) (spell i) ≡ i }
+    ensures no_other { (i : Item) (bytes : List ℕ) → InType i → AreBytes bytes →
+        length bytes ≡ width (item_kind i) → unspell (item_kind i) bytes ≡ i → bytes ≡ spell i }
 {
     laws::items_law();
 }

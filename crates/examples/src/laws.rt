@@ -26,9 +26,10 @@ pub fn is_same_number(seed: u64, x: u64, y: u64) -> bool
     is_same_hash(XxHash64::hash_u64(x, seed), XxHash64::hash_u64(y, seed))
 }
 
-/// Every word is the hash of a number, under every seed.
+/// Every word is the hash of a number, under every seed, and every such hash is a word.
 pub fn every_word_is_a_hash(seed: u64, word: u64)
-    ensures { (x : ℕ) × (x < 2 ^ 64) × (xxh64 seed (eight x) ≡ word) }
+    ensures made { (x : ℕ) × (x < 2 ^ 64) × (xxh64 seed (eight x) ≡ word) }
+    ensures lands { xxh64 seed (eight word) < 2 ^ 64 }
 {
     laws::hash_u64_law();
 }
@@ -74,10 +75,9 @@ pub fn values_are_told_apart(seed: u64)
 /// exactly if its top bit is clear. By sign, a signed and an unsigned value of one width feed the
 /// same exactly if they have the same bits.
 pub fn strategies_agree(signed: (i8, i16, i32, i64), unsigned: (u8, u16, u32, u64))
-    ensures signed { (natural_fed I8 signed.0 ≡ sign_fed I8 signed.0)
-        × (natural_fed I16 signed.1 ≡ sign_fed I16 signed.1)
-        × (natural_fed I32 signed.2 ≡ sign_fed I32 signed.2)
-        × (natural_fed I64 signed.3 ≡ sign_fed I64 signed.3) }
+    ensures signed { (x : ℤ) → (natural_fed I8 x ≡ sign_fed I8 x)
+        × (natural_fed I16 x ≡ sign_fed I16 x) × (natural_fed I32 x ≡ sign_fed I32 x)
+        × (natural_fed I64 x ≡ sign_fed I64 x) }
     ensures unsigned { ((natural_fed U8 unsigned.0 ≡ sign_fed U8 unsigned.0) ↔ (unsigned.0 < 2 ^ 7))
         × ((natural_fed U16 unsigned.1 ≡ sign_fed U16 unsigned.1) ↔ (unsigned.1 < 2 ^ 15))
         × ((natural_fed U32 unsigned.2 ≡ sign_fed U32 unsigned.2) ↔ (unsigned.2 < 2 ^ 31))
@@ -106,7 +106,8 @@ pub fn is_same_but_for_a_block(seed: u64, a: &[u8], b: &[u8], i: usize) -> bool
     is_same_pair(first, second)
 }
 
-/// Every pair is that of one block, at any aligned place of a stream of any length.
+/// Every pair of words is that of one block, and a block gives one, at any aligned place of a
+/// stream of any length.
 pub fn every_pair_is_of_one_block(seed: u64, first: u64, second: u64)
     ensures some { (i : ℕ) (before after : List ℕ) → AreBytes before → AreBytes after →
         length before ≡ 16 * i → (block : List ℕ) × IsBlock block
@@ -114,6 +115,9 @@ pub fn every_pair_is_of_one_block(seed: u64, first: u64, second: u64)
     ensures one { (i : ℕ) (before after x y : List ℕ) → AreBytes before → AreBytes after →
         length before ≡ 16 * i → IsBlock x → IsBlock y →
         murmur seed (before ++ x ++ after) ≡ murmur seed (before ++ y ++ after) → x ≡ y }
+    ensures lands { (i : ℕ) (before block after : List ℕ) → AreBytes before → AreBytes after →
+        length before ≡ 16 * i → IsBlock block →
+        AreWords (murmur seed (before ++ block ++ after)) }
 {
     laws::murmur_block_law();
 }
@@ -126,6 +130,8 @@ pub fn blocks_keep_states_apart(a0: u64, a1: u64, b0: u64, b1: u64)
     ensures reached { let a : ℕ × ℕ = (a0, a1) in
         (blocks : List (ℕ × ℕ)) → All AreWords blocks →
         (h : ℕ × ℕ) × AreWords h × (fold step h blocks ≡ a) }
+    ensures lands { let a : ℕ × ℕ = (a0, a1) in
+        (blocks : List (ℕ × ℕ)) → All AreWords blocks → AreWords (fold step a blocks) }
 {
     laws::murmur_seed_law();
 }
@@ -164,27 +170,35 @@ pub fn tails_are_told_apart(seed: u64)
     laws::xx_tail_law();
 }
 
-/// What a step of Murmur makes of two words, or of two pairs of words, tells them apart; and each
-/// word and each pair is made of one.
+/// What a step of Murmur makes of two words, or of two pairs of words, are words that tell them
+/// apart; and each word and each pair is made of one.
 pub fn murmur_steps_lose_nothing(x: u64, y: u64, z: u64, w: u64)
     ensures words { (mix1 x ≡ mix1 y → x ≡ y) × (mix2 x ≡ mix2 y → x ≡ y)
         × (fmix x ≡ fmix y → x ≡ y) }
     ensures made { ((n : ℕ) × IsWord n × (mix1 n ≡ x)) × ((n : ℕ) × IsWord n × (mix2 n ≡ x))
         × ((n : ℕ) × IsWord n × (fmix n ≡ x)) }
+    ensures land { IsWord (mix1 x) × IsWord (mix2 x) × IsWord (fmix x) }
     ensures pairs { let a : ℕ × ℕ = (x, y) in let b : ℕ × ℕ = (z, w) in
         (block : ℕ × ℕ) → AreWords block → step a block ≡ step b block → a ≡ b }
     ensures made_pairs { let a : ℕ × ℕ = (x, y) in
         (block : ℕ × ℕ) → AreWords block → (h : ℕ × ℕ) × AreWords h × (step h block ≡ a) }
+    ensures pairs_land { let a : ℕ × ℕ = (x, y) in
+        (block : ℕ × ℕ) → AreWords block → AreWords (step a block) }
 {
     murmur_step_laws();
 }
 
-/// What a step of XXH64's tail makes of two words tells them apart, and each word is made of one.
-/// Tails of one length have steps of the same widths, and eight bytes are one step.
+/// What a step of XXH64's tail makes of two words are words that tell them apart, and each word is
+/// made of one. So it is with two numbers that it reads, at any width. Tails of one length have
+/// steps of the same widths, and eight bytes are one step.
 pub fn xxh64_steps_lose_nothing(x: u64, y: u64, read: u64, width: u64)
     ensures words { let s : ℕ × ℕ = (width, read) in tail_step x s ≡ tail_step y s → x ≡ y }
     ensures made { let s : ℕ × ℕ = (width, read) in
         (n : ℕ) × IsWord n × (tail_step n s ≡ x) }
+    ensures lands { let s : ℕ × ℕ = (width, read) in IsWord (tail_step x s) }
+    ensures numbers { (w m n : ℕ) → IsWord m → IsWord n →
+        tail_step x (w, m) ≡ tail_step x (w, n) → m ≡ n }
+    ensures made_of_numbers { (w : ℕ) → (n : ℕ) × IsWord n × (tail_step x (w, n) ≡ y) }
     ensures made_by_all { (list : List (ℕ × ℕ)) → All IsStep list →
         (n : ℕ) × IsWord n × (fold tail_step n list ≡ x) }
     ensures widths { (a b : List ℕ) → length a ≡ length b →

@@ -7,8 +7,9 @@ ghost use Rattle.sketch_member.specs.Faults.{AllPass, FirstFault, IsFirstFault, 
 ghost use Rattle.sketch_member.specs.Form.{IsForm, form1, form2};
 ghost use Rattle.sketch_member.specs.InPlace.{Becomes};
 ghost use Rattle.sketch_member.specs.Laws.{IsMadeOf, StandsFor, count_after};
+ghost use Rattle.sketch_member.specs.Limits.{IsHashes, IsLog2Bits};
 ghost use Rattle.sketch_member.specs.Merge.{AreAlike};
-ghost use Rattle.sketch_member.specs.Table.{Table, Inserts, IsMember, IsSet, IsTable, empty_table};
+ghost use Rattle.sketch_member.specs.Table.{Table, Inserts, IsMember, IsSet, IsTable, byte_count, empty_table};
 
 use datasketches::error::{Error, ErrorKind};
 use datasketches::hash::value::raw_bytes::{self, RawBytes};
@@ -47,6 +48,17 @@ pub fn start_keys(alloc: Global) -> Result<MemberTable, Error>
     ensures refused { IfErr result (λ error. error ≡ memory_error) }
 {
     MemberTable::new(alloc, 0, 10, 7)
+}
+
+/// Makes bytes a table of no keys, where they lie: whether its sizes lie in their limits, and the
+/// bytes are as many as it has. Else they are unchanged.
+pub fn start_keys_in(bytes: &mut [u8], seed: u64, log2_bits: u8, hashes: u8) -> bool
+    ensures starts { IsLog2Bits log2_bits → IsHashes hashes →
+        length bytes.old ≡ 24 + byte_count log2_bits → IsTrue result }
+    ensures made { IsTrue result → bytes.new ≡ form2 (empty_table seed log2_bits hashes) }
+    ensures refused { ¬ (IsTrue result) → bytes.new ≡ bytes.old }
+{
+    in_place::init(bytes, seed, log2_bits, hashes).is_ok()
 }
 
 /// An insert into any table adds the value to those that the table stands for, which are all found,
@@ -229,10 +241,15 @@ pub fn save_keys(alloc: Global, seen: &MemberTable) -> Result<Vec<u8>, AllocErro
     Ok(bytes)
 }
 
-/// The bytes of a table pass each step of the reading, in version 1 too.
+/// The bytes of a table pass each step of the reading, in version 1 too, and those of version 2
+/// each step of a view. Those of version 1 keep all of a table but its count.
 pub fn saved_bytes_pass(saved: &[u8])
-    ensures { (table : Table) → IsTable table → IsForm table saved.now →
+    ensures read { (table : Table) → IsTable table → IsForm table saved.now →
         AllPass (length saved.now) (steps saved.now) }
+    ensures viewed { (table : Table) → IsTable table → saved.now ≡ form2 table →
+        AllPass (length saved.now) (view_steps saved.now) }
+    ensures version1 { (table read : Table) → IsTable table → IsTable read →
+        IsForm read (form1 table) → read ≡ record table { count = None } }
 {
     form_law();
 }

@@ -14,3 +14,9 @@ returns-clause-reached c = λ blocks words.
     let a0 : c.args.a0 < 2 ^ 64 = search rules in
     let a1 : c.args.a1 < 2 ^ 64 = search rules in
     (c.murmur_seed_law.ensures blocks words).reached _ (a0, a1)
+
+pub returns-clause-lands : goal.returns-clause-lands
+returns-clause-lands c = λ blocks words.
+    let a0 : c.args.a0 < 2 ^ 64 = search rules in
+    let a1 : c.args.a1 < 2 ^ 64 = search rules in
+    (c.murmur_seed_law.ensures blocks words).lands _ (a0, a1)

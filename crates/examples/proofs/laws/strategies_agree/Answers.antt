@@ -2,13 +2,12 @@ use Rattle.std.proofs.Common.{rules}
 use Rattle.examples.proofs.laws.strategies_agree.Goals as goal
 
 pub returns-clause-signed : goal.returns-clause-signed
-returns-clause-signed c =
-    let law = c.extend_law.ensures in
-    let x = c.args.signed in (
-      law.bits_8.signed_alike x.0,
-      law.bits_16.signed_alike x.1,
-      law.bits_32.signed_alike x.2,
-      law.bits_64.signed_alike x.3,
+returns-clause-signed c = λ x.
+    let law = c.extend_law.ensures in (
+      law.bits_8.signed_alike x,
+      law.bits_16.signed_alike x,
+      law.bits_32.signed_alike x,
+      law.bits_64.signed_alike x,
     )
 
 pub returns-clause-unsigned : goal.returns-clause-unsigned

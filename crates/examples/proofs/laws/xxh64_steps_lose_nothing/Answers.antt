@@ -14,6 +14,23 @@ returns-clause-made c =
     let read : c.args.read < 2 ^ 64 = search rules in
     (c.xxh64_step_laws.ensures.step_of_word _ read).reached _ x
 
+pub returns-clause-lands : goal.returns-clause-lands
+returns-clause-lands c =
+    let x : c.args.x < 2 ^ 64 = search rules in
+    let read : c.args.read < 2 ^ 64 = search rules in
+    (c.xxh64_step_laws.ensures.step_of_word _ read).lands _ x
+
+pub returns-clause-numbers : goal.returns-clause-numbers
+returns-clause-numbers c = λ w m n.
+    let x : c.args.x < 2 ^ 64 = search rules in
+    (c.xxh64_step_laws.ensures.step_of_number w c.args.x x).once m n
+
+pub returns-clause-made_of_numbers : goal.returns-clause-made_of_numbers
+returns-clause-made_of_numbers c = λ w.
+    let x : c.args.x < 2 ^ 64 = search rules in
+    let y : c.args.y < 2 ^ 64 = search rules in
+    (c.xxh64_step_laws.ensures.step_of_number w c.args.x x).reached c.args.y y
+
 pub returns-clause-made_by_all : goal.returns-clause-made_by_all
 returns-clause-made_by_all c = λ list steps.
     let x : c.args.x < 2 ^ 64 = search rules in
