@@ -1,13 +1,12 @@
 //! What the laws mean for a caller, at the values that callers have.
 
-ghost use Rattle.std.specs.Prelude.{◌≡◌, ◌≢◌, ◌⊎◌, ◌↔◌, ℕ, ◌+◌, ◌*◌, ◌^◌, ◌<◌, ℤ, List, [], ◌∷◌, ◌++◌, length, pos, IsTrue};
+ghost use Rattle.std.specs.Prelude.{◌≡◌, ◌≢◌, ◌⊎◌, ◌↔◌, ℕ, ◌+◌, ◌*◌, ◌^◌, ◌<◌, ◌≤◌, ℤ, List, [], ◌∷◌, ◌++◌, length, slice_index_or, pos, IsTrue};
 ghost use Rattle.std.specs.List.{All, fold};
 ghost use Rattle.datasketches.specs.Bytes.{AreBytes, eight, le, modulo};
 ghost use Rattle.datasketches.specs.Murmur.{fmix, mix1, mix2, murmur, step};
 ghost use Rattle.datasketches.specs.Pieces.{pieces, rest};
 ghost use Rattle.datasketches.specs.StepLaws.{AreWords, IsBlock, IsStep, step_widths};
 ghost use Rattle.datasketches.specs.Strategies.{IntegerType, I8, I16, I32, I64, U8, U16, U32, U64, ValueOf, natural_fed, natural_number, sign_fed, sign_number};
-ghost use Rattle.datasketches.specs.Streams.{AgreeOutside};
 ghost use Rattle.datasketches.specs.Values.{integer_bytes};
 ghost use Rattle.datasketches.specs.Words.{IsWord, plus};
 ghost use Rattle.datasketches.specs.Xxh64.{avalanche, eight_step, prime5, steps, stripes, tail_step, tail_steps, xxh64};
@@ -98,7 +97,8 @@ pub fn strategies_agree(signed: (i8, i16, i32, i64), unsigned: (u8, u16, u32, u6
 /// Murmur pairs alone.
 pub fn is_same_but_for_a_block(seed: u64, a: &[u8], b: &[u8], i: usize) -> bool
     requires one_length { length a.now ≡ length b.now }
-    requires one_block { AgreeOutside (16 * i) (16 * i + 16) a.now b.now }
+    requires one_block { (k d : ℕ) → k < 16 * i ⊎ 16 * i + 16 ≤ k →
+        slice_index_or a.now k d ≡ slice_index_or b.now k d }
     ensures same { a.now ≡ b.now → IsTrue result }
     ensures differ { a.now ≢ b.now → ¬ (IsTrue result) }
 {
@@ -152,7 +152,8 @@ pub fn are_same_seeds(bytes: &[u8], seed_a: u64, seed_b: u64) -> (bool, bool)
 pub fn is_same_but_for_a_step(seed: u64, a: &[u8], b: &[u8], i: usize) -> bool
     requires one_length { length a.now ≡ length b.now }
     requires same_stripes { stripes a.now ≡ stripes b.now }
-    requires one_step { AgreeOutside i (i + 1) (tail_steps a.now) (tail_steps b.now) }
+    requires one_step { (k : ℕ) (step : ℕ × ℕ) → k < i ⊎ i + 1 ≤ k →
+        slice_index_or (tail_steps a.now) k step ≡ slice_index_or (tail_steps b.now) k step }
     ensures differ { tail_steps a.now ≢ tail_steps b.now → ¬ (IsTrue result) }
     ensures same { a.now ≡ b.now → IsTrue result }
 {
@@ -164,7 +165,8 @@ pub fn is_same_but_for_a_step(seed: u64, a: &[u8], b: &[u8], i: usize) -> bool
 /// hashes.
 pub fn tails_are_told_apart(seed: u64)
     ensures { (a b : List ℕ) (i : ℕ) → AreBytes a → AreBytes b → length a ≡ length b →
-        stripes a ≡ stripes b → AgreeOutside i (i + 1) (tail_steps a) (tail_steps b) →
+        stripes a ≡ stripes b → ((k : ℕ) (step : ℕ × ℕ) → k < i ⊎ i + 1 ≤ k →
+        slice_index_or (tail_steps a) k step ≡ slice_index_or (tail_steps b) k step) →
         tail_steps a ≢ tail_steps b → xxh64 seed a ≢ xxh64 seed b }
 {
     laws::xx_tail_law();
