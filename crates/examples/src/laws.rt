@@ -3,13 +3,14 @@
 ghost use Rattle.std.specs.Prelude.{◌≡◌, ◌≢◌, ◌⊎◌, ◌↔◌, ℕ, ◌+◌, ◌*◌, ◌^◌, ◌<◌, ◌≤◌, ℤ, List, [], ◌∷◌, ◌++◌, length, slice_index_or, pos, IsTrue};
 ghost use Rattle.std.specs.List.{All, fold};
 ghost use Rattle.datasketches.specs.Bytes.{AreBytes, eight, le, modulo};
-ghost use Rattle.datasketches.specs.Murmur.{fmix, mix1, mix2, murmur, step};
+ghost use Rattle.datasketches.specs.Murmur.{block_words, blocks, finalize, fmix, mix1, mix2, murmur, step, with_tail};
 ghost use Rattle.datasketches.specs.Pieces.{pieces, rest};
 ghost use Rattle.datasketches.specs.StepLaws.{AreWords, IsBlock, IsStep, step_widths};
 ghost use Rattle.datasketches.specs.Strategies.{IntegerType, I8, I16, I32, I64, U8, U16, U32, U64, ValueOf, natural_fed, natural_number, sign_fed, sign_number};
 ghost use Rattle.datasketches.specs.Values.{integer_bytes};
 ghost use Rattle.datasketches.specs.Words.{IsWord, plus};
 ghost use Rattle.datasketches.specs.Xxh64.{avalanche, eight_step, prime5, steps, stripes, tail_step, tail_steps, xxh64};
+ghost use Rattle.sketch_hash.specs.OneToOne.{OneToOne};
 
 use crate::keys::{is_same_hash, is_same_pair};
 use datasketches::hash::value::{HashStrategy, value_law};
@@ -190,6 +191,23 @@ pub fn murmur_steps_lose_nothing(x: u64, y: u64, z: u64, w: u64)
     murmur_step_laws();
 }
 
+/// The blocks of a stream are pairs of words, each of one block; each step of a block, of a tail and
+/// of the end is one-to-one; and tails of one length are told apart.
+pub fn murmur_streams_lose_nothing(x: u64, y: u64, total: u64)
+    ensures blocks { (bytes : List ℕ) → AreBytes bytes → All AreWords (blocks bytes) }
+    ensures read { OneToOne IsBlock AreWords block_words }
+    ensures block { let h : ℕ × ℕ = (x, y) in OneToOne AreWords AreWords (λ k. step h k) }
+    ensures steps { (list : List (ℕ × ℕ)) → All AreWords list →
+        OneToOne AreWords AreWords (λ h. fold step h list) }
+    ensures tail { (waiting : List ℕ) → AreBytes waiting → length waiting < 16 →
+        OneToOne AreWords AreWords (λ h. with_tail h waiting) }
+    ensures tails { let h : ℕ × ℕ = (x, y) in (a b : List ℕ) → AreBytes a → AreBytes b →
+        length a ≡ length b → length a < 16 → with_tail h a ≡ with_tail h b → a ≡ b }
+    ensures end { OneToOne AreWords AreWords (λ h. finalize h total) }
+{
+    murmur_step_laws();
+}
+
 /// What a step of XXH64's tail makes of two words are words that tell them apart, and each word is
 /// made of one. So it is with two numbers that it reads, at any width. Tails of one length have
 /// steps of the same widths, and eight bytes are one step.
@@ -201,8 +219,10 @@ pub fn xxh64_steps_lose_nothing(x: u64, y: u64, read: u64, width: u64)
     ensures numbers { (w m n : ℕ) → IsWord m → IsWord n →
         tail_step x (w, m) ≡ tail_step x (w, n) → m ≡ n }
     ensures made_of_numbers { (w : ℕ) → (n : ℕ) × IsWord n × (tail_step x (w, n) ≡ y) }
-    ensures made_by_all { (list : List (ℕ × ℕ)) → All IsStep list →
-        (n : ℕ) × IsWord n × (fold tail_step n list ≡ x) }
+    ensures by_all { (list : List (ℕ × ℕ)) → All IsStep list →
+        OneToOne IsWord IsWord (λ h. fold tail_step h list) }
+    ensures last { OneToOne IsWord IsWord avalanche }
+    ensures read { (bytes : List ℕ) → AreBytes bytes → All IsStep (steps bytes) }
     ensures widths { (a b : List ℕ) → length a ≡ length b →
         step_widths (steps a) ≡ step_widths (steps b) }
     ensures eight { (seed : ℕ) → xxh64 seed (eight read)

@@ -1,6 +1,6 @@
 //! What refusals say, and how a text is made of what is printed.
 
-ghost use Rattle.std.specs.Prelude.{◌≡◌, ◌≢◌, ◌⊎◌, codes, IfErr, IfOk, MatchResult, string_bytes};
+ghost use Rattle.std.specs.Prelude.{◌≡◌, ◌≢◌, ◌⊎◌, ◌++◌, codes, IfErr, IfOk, MatchResult, string_bytes};
 ghost use Rattle.std.specs.Fmt.{decimal};
 ghost use Rattle.datasketches.specs.ErrorValue.{error_of, memory_error};
 ghost use Rattle.datasketches.specs.Reading.{short_text};
@@ -54,6 +54,14 @@ pub fn malformed(alloc: Global, words: Result<String, AllocError>) -> Error
         (λ _. result ≡ memory_error) }
 {
     Error::from_text(alloc, ErrorKind::InvalidData, words)
+}
+
+/// A refusal of data that ends in the part of this name, which a text explains.
+pub fn data_ends(alloc: Global, part: &'static str, text: &str) -> Error
+    ensures { (result ≡ error_of ErrorKind.InvalidData (codes "insufficient data ("
+        ++ (part.entry.now ++ (codes "): " ++ text.now)))) ⊎ (result ≡ memory_error) }
+{
+    Error::insufficient_data_of(alloc, part, text)
 }
 
 /// What a list of items that ended too early says.

@@ -31,10 +31,11 @@ returns-clause-made_of_numbers c = λ w.
     let y : c.args.y < 2 ^ 64 = search rules in
     (c.xxh64_step_laws.ensures.step_of_number w c.args.x x).reached c.args.y y
 
-pub returns-clause-made_by_all : goal.returns-clause-made_by_all
-returns-clause-made_by_all c = λ list steps.
-    let x : c.args.x < 2 ^ 64 = search rules in
-    (c.xxh64_step_laws.ensures.steps_of_word list steps).reached _ x
+pub returns-clause-by_all : goal.returns-clause-by_all
+returns-clause-by_all c = c.xxh64_step_laws.ensures.steps_of_word
+
+pub returns-clause-read : goal.returns-clause-read
+returns-clause-read c = c.xxh64_step_laws.ensures.tail_read
 
 pub returns-clause-widths : goal.returns-clause-widths
 returns-clause-widths c = c.xxh64_step_laws.ensures.tail_widths
