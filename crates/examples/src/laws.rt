@@ -9,7 +9,7 @@ ghost use Rattle.datasketches.specs.StepLaws.{AreWords, IsBlock, IsStep, step_wi
 ghost use Rattle.datasketches.specs.Strategies.{IntegerType, I8, I16, I32, I64, U8, U16, U32, U64, ValueOf, natural_fed, natural_number, sign_fed, sign_number};
 ghost use Rattle.datasketches.specs.Values.{integer_bytes};
 ghost use Rattle.datasketches.specs.Words.{IsWord, plus};
-ghost use Rattle.datasketches.specs.Xxh64.{avalanche, eight_step, prime5, steps, stripes, tail_step, tail_steps, xxh64};
+ghost use Rattle.datasketches.specs.Xxh64.{avalanche, eight_step, prime5, steps, tail_step, xxh64};
 ghost use Rattle.sketch_hash.specs.OneToOne.{OneToOne};
 
 use crate::keys::{is_same_hash, is_same_pair};
@@ -152,10 +152,11 @@ pub fn are_same_seeds(bytes: &[u8], seed_a: u64, seed_b: u64) -> (bool, bool)
 /// tail, by their hashes alone.
 pub fn is_same_but_for_a_step(seed: u64, a: &[u8], b: &[u8], i: usize) -> bool
     requires one_length { length a.now ≡ length b.now }
-    requires same_stripes { stripes a.now ≡ stripes b.now }
+    requires same_stripes { pieces 32 a.now ≡ pieces 32 b.now }
     requires one_step { (k : ℕ) (step : ℕ × ℕ) → k < i ⊎ i + 1 ≤ k →
-        slice_index_or (tail_steps a.now) k step ≡ slice_index_or (tail_steps b.now) k step }
-    ensures differ { tail_steps a.now ≢ tail_steps b.now → ¬ (IsTrue result) }
+        slice_index_or (steps (rest 32 a.now)) k step
+        ≡ slice_index_or (steps (rest 32 b.now)) k step }
+    ensures differ { steps (rest 32 a.now) ≢ steps (rest 32 b.now) → ¬ (IsTrue result) }
     ensures same { a.now ≡ b.now → IsTrue result }
 {
     let (first, second) = laws::xx_both(seed, a, seed, b);
@@ -166,9 +167,9 @@ pub fn is_same_but_for_a_step(seed: u64, a: &[u8], b: &[u8], i: usize) -> bool
 /// hashes.
 pub fn tails_are_told_apart(seed: u64)
     ensures { (a b : List ℕ) (i : ℕ) → AreBytes a → AreBytes b → length a ≡ length b →
-        stripes a ≡ stripes b → ((k : ℕ) (step : ℕ × ℕ) → k < i ⊎ i + 1 ≤ k →
-        slice_index_or (tail_steps a) k step ≡ slice_index_or (tail_steps b) k step) →
-        tail_steps a ≢ tail_steps b → xxh64 seed a ≢ xxh64 seed b }
+        pieces 32 a ≡ pieces 32 b → ((k : ℕ) (step : ℕ × ℕ) → k < i ⊎ i + 1 ≤ k →
+        slice_index_or (steps (rest 32 a)) k step ≡ slice_index_or (steps (rest 32 b)) k step) →
+        steps (rest 32 a) ≢ steps (rest 32 b) → xxh64 seed a ≢ xxh64 seed b }
 {
     laws::xx_tail_law();
 }
@@ -191,8 +192,8 @@ pub fn murmur_steps_lose_nothing(x: u64, y: u64, z: u64, w: u64)
     murmur_step_laws();
 }
 
-/// The blocks of a stream are pairs of words, each of one block; each step of a block, of a tail and
-/// of the end is one-to-one; and tails of one length are told apart.
+/// The blocks of a stream are pairs of words, each of one block; each step of a block, of a tail
+/// and of the end is one-to-one; and tails of one length are told apart.
 pub fn murmur_streams_lose_nothing(x: u64, y: u64, total: u64)
     ensures blocks { (bytes : List ℕ) → AreBytes bytes → All AreWords (blocks bytes) }
     ensures read { OneToOne IsBlock AreWords block_words }

@@ -1,8 +1,9 @@
 //! A reader and a writer of a serialized sketch.
 
-ghost use Rattle.std.specs.Prelude.{ℕ, ◌≡◌, ◌≢◌, ◌⊎◌, ◌<◌, ◌≤◌, ◌++◌, codes, length, drop, IfErr, IfOk, MatchResult};
+ghost use Rattle.std.specs.Prelude.{ℕ, ◌≡◌, ◌⊎◌, ◌<◌, ◌≤◌, ◌++◌, codes, length, drop, IfErr, IfOk, MatchResult};
 ghost use Rattle.std.specs.Fmt.{decimal};
 ghost use Rattle.std.specs.String.{string_bytes};
+ghost use Rattle.datasketches.specs.Checks.{AcceptsExactly};
 ghost use Rattle.datasketches.specs.ErrorValue.{add_context, error_of, memory_error};
 ghost use Rattle.datasketches.specs.Refusals.{Refuses, insufficient_data_of_text, invalid_preamble_ints_text, preamble_longs_out_of_range_text};
 ghost use Rattle.datasketches.specs.SeedHash.{seed_hash, zero_seed_hash_text};
@@ -59,10 +60,7 @@ pub fn check_longs(alloc: Global, longs: u8) -> Result<(), Error>
 
 /// Accepts ten preamble ints.
 pub fn check_ints(alloc: Global, ints: u8) -> Result<(), Error>
-    ensures { MatchResult result
-        (λ _. ints ≡ 10)
-        (λ error. (ints ≢ 10)
-        × Refuses ErrorKind.InvalidData (invalid_preamble_ints_text 10 ints) error) }
+    ensures { AcceptsExactly (ints ≡ 10) (invalid_preamble_ints_text 10 ints) result }
 {
     if ints == 10 {
         return Ok(());
