@@ -1,6 +1,6 @@
 //! Items written, and read back as a list.
 
-ghost use Rattle.std.specs.Prelude.{◌≡◌, ◌↔◌, ◌⊎◌, ℕ, List, ◌+◌, ◌<◌, ◌≤◌, ◌++◌, if◌then◌else◌, IfErr, IfOk, IsTrue, false, length, map, take, drop};
+ghost use Rattle.std.specs.Prelude.{◌≡◌, ◌↔◌, ◌⊎◌, ℕ, List, [], ◌+◌, ◌<◌, ◌≤◌, ◌++◌, if◌then◌else◌, IfErr, IfOk, IsTrue, false, length, map, take, drop};
 ghost use Rattle.std.specs.List.{All};
 ghost use Rattle.datasketches.specs.Bytes.{AreBytes};
 ghost use Rattle.datasketches.specs.ItemLaws.{Holds};
@@ -127,11 +127,15 @@ pub fn copy_into_room(alloc: Global, bytes: &[u8]) -> Result<(Vec<u8>, bool), Al
     Ok((writer.into_bytes(), is_written))
 }
 
-/// Whether a buffer was filled from the front of bytes: if they are too few, it is as it was.
-pub fn fill(buffer: &mut [u8], bytes: &[u8]) -> bool
-    ensures { buffer.new ≡ (if result then take (length buffer.old) bytes.now else buffer.old) }
+/// Fills a buffer from a reader: whether it had as many bytes. Those behind them remain. Where it
+/// had fewer, the buffer is as it was, and nothing remains.
+pub fn fill(reader: &mut SketchSlice, buffer: &mut [u8]) -> bool
+    ensures enough { IsTrue result ↔ length buffer.old ≤ length reader.old }
+    ensures filled { buffer.new
+        ≡ (if result then take (length buffer.old) reader.old else buffer.old) }
+    ensures rest { reader.new ≡ (if result then drop (length buffer.old) reader.old else []) }
 {
-    SketchSlice::new(bytes).read_exact(buffer).is_ok()
+    reader.read_exact(buffer).is_ok()
 }
 
 /// The number of bytes in which an item stands.
