@@ -1,7 +1,9 @@
 //! Items written, and read back as a list.
 
-ghost use Rattle.std.specs.Prelude.{◌≡◌, ◌↔◌, ◌⊎◌, ℕ, List, [], ◌+◌, ◌<◌, ◌≤◌, ◌++◌, if◌then◌else◌, IfErr, IfOk, IsTrue, false, length, map, take, drop};
+ghost use Rattle.std.specs.Prelude.{◌≡◌, ◌↔◌, ◌⊎◌, ℕ, List, [], ◌+◌, ◌<◌, ◌≤◌, ◌++◌, if◌then◌else◌, IfErr, IfOk, IsOk, IsTrue, false, length, map, take, drop};
+ghost use Rattle.std.specs.IoError.{error_kind};
 ghost use Rattle.std.specs.List.{All};
+ghost use Rattle.std.specs.declared.io.ErrorKind.TheVariants.{UnexpectedEof};
 ghost use Rattle.datasketches.specs.Bytes.{AreBytes};
 ghost use Rattle.datasketches.specs.ItemLaws.{Holds};
 ghost use Rattle.datasketches.specs.Items.{InType, item_kind, spell, spell_all, unspell, unspell_all, width, widths};
@@ -9,6 +11,7 @@ ghost use Rattle.datasketches.specs.Items.{InType, item_kind, spell, spell_all, 
 use datasketches::codec::{Item, Kind, Short, SketchBytes, SketchSlice, Stopped};
 use datasketches::laws;
 use std::alloc::{AllocError, Global};
+use std::io;
 
 /// Writes items, reads them back into the places, and answers what remains: the rest that was put
 /// after them.
@@ -127,15 +130,19 @@ pub fn copy_into_room(alloc: Global, bytes: &[u8]) -> Result<(Vec<u8>, bool), Al
     Ok((writer.into_bytes(), is_written))
 }
 
-/// Fills a buffer from a reader: whether it had as many bytes. Those behind them remain. Where it
-/// had fewer, the buffer is as it was, and nothing remains.
-pub fn fill(reader: &mut SketchSlice, buffer: &mut [u8]) -> bool
-    ensures enough { IsTrue result ↔ length buffer.old ≤ length reader.old }
-    ensures filled { buffer.new
-        ≡ (if result then take (length buffer.old) reader.old else buffer.old) }
-    ensures rest { reader.new ≡ (if result then drop (length buffer.old) reader.old else []) }
+/// Fills a buffer from a reader. The bytes behind those remain.
+///
+/// # Errors
+///
+/// Where fewer remain: `UnexpectedEof`. The buffer is as it was, and nothing remains.
+pub fn fill(reader: &mut SketchSlice, buffer: &mut [u8]) -> io::Result<()>
+    ensures enough { IsOk result ↔ length buffer.old ≤ length reader.old }
+    ensures filled { IfOk result (λ _. (buffer.new ≡ take (length buffer.old) reader.old)
+        × (reader.new ≡ drop (length buffer.old) reader.old)) }
+    ensures refused { IfErr result (λ error. (error_kind error ≡ UnexpectedEof)
+        × (buffer.new ≡ buffer.old) × (reader.new ≡ [])) }
 {
-    reader.read_exact(buffer).is_ok()
+    reader.read_exact(buffer)
 }
 
 /// The number of bytes in which an item stands.

@@ -1,15 +1,16 @@
 //! Tables of several workers that become one, in whatever order.
 
-ghost use Rattle.std.specs.Prelude.{◌≡◌, ◌≢◌, ◌⊎◌, ℕ, ◌+◌, List, ◌++◌, Err, IfErr, IfOk, IsOk};
+ghost use Rattle.std.specs.Prelude.{◌≡◌, ◌≢◌, ◌⊎◌, ℕ, ◌+◌, List, ◌++◌, codes, Err, IfErr, IfOk, IsOk};
 ghost use Rattle.datasketches.specs.ErrorValue.{memory_error};
+ghost use Rattle.datasketches.specs.Refusals.{Refuses};
 ghost use Rattle.sketch_member.specs.Form.{form2};
 ghost use Rattle.sketch_member.specs.InPlace.{Becomes, IsMergeFault};
 ghost use Rattle.sketch_member.specs.Laws.{IsMadeOf, StandsFor, count_after};
 ghost use Rattle.sketch_member.specs.Limits.{IsHashes, IsLog2Bits};
-ghost use Rattle.sketch_member.specs.Merge.{AreAlike, FirstDifference, Merges};
+ghost use Rattle.sketch_member.specs.Merge.{AreAlike, Merges};
 ghost use Rattle.sketch_member.specs.Table.{Table, IsMember, IsTable, empty_table};
 
-use datasketches::error::Error;
+use datasketches::error::{Error, ErrorKind};
 use sketch_member::laws::{form_law, merge_law};
 use sketch_member::{Difference, MemberTable, MergeFault, in_place};
 use std::alloc::Global;
@@ -37,7 +38,13 @@ pub fn merge_worker(
         IsMadeOf others worker.now → IsMadeOf (values ++ others) whole →
         IfOk result (λ _. table.new ≡ whole) }
     ensures refused { IfErr result (λ error. (table.new ≡ table.old)
-        × FirstDifference table.old worker.now error) }
+        × (((table.old.seed ≢ worker.now.seed)
+        × Refuses ErrorKind.InvalidArgument (codes "tables differ: seed") error)
+        ⊎ (((table.old.seed ≡ worker.now.seed) × (table.old.log2_bits ≢ worker.now.log2_bits)
+        × Refuses ErrorKind.InvalidArgument (codes "tables differ: log2 bits") error)
+        ⊎ ((table.old.seed ≡ worker.now.seed) × (table.old.log2_bits ≡ worker.now.log2_bits)
+        × (table.old.hashes ≢ worker.now.hashes)
+        × Refuses ErrorKind.InvalidArgument (codes "tables differ: hashes") error)))) }
     ensures unlike { IfErr result (λ _. AreAlike table.old worker.now → ⊥) }
 {
     merge_law();

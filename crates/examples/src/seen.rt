@@ -1,6 +1,6 @@
 //! Keys that were seen, in a table of members that is saved and loaded.
 
-ghost use Rattle.std.specs.Prelude.{ℕ, List, ◌≡◌, ◌⊎◌, ◌↔◌, ◌+◌, [], ◌∷◌, ◌++◌, None, IfErr, IfOk, IsTrue, MatchResult, length, map, Contains};
+ghost use Rattle.std.specs.Prelude.{ℕ, List, ◌≡◌, ◌⊎◌, ◌↔◌, ◌+◌, [], ◌∷◌, ◌++◌, ◌≢◌, ◌≤◌, None, Some, IfErr, IfOk, IsTrue, MatchResult, length, slice_index, map, Contains};
 ghost use Rattle.datasketches.specs.ErrorValue.{memory_error};
 ghost use Rattle.datasketches.specs.Refusals.{Refuses};
 ghost use Rattle.sketch_member.specs.Faults.{AllPass, FirstFault, IsFirstFault, fault_text, init_steps, steps, view_steps};
@@ -110,6 +110,16 @@ pub fn see_key_in(bytes: &mut [u8], key: &[u8]) -> Result<bool, Fault>
     let is_seen = TableView::new(bytes)?.contains(&value);
     in_place::insert(bytes, &value)?;
     Ok(is_seen)
+}
+
+/// What is wrong with bytes that begin as a table does, but are of another family.
+pub fn other_family(bytes: &[u8]) -> Option<Fault>
+    requires header { 3 ≤ length bytes.now }
+    requires table { (slice_index bytes.now 0 ≡ 3) × (slice_index bytes.now 1 ≡ 2) }
+    requires other { slice_index bytes.now 2 ≢ 200 }
+    ensures { result ≡ Some (Fault.Family (slice_index bytes.now 2)) }
+{
+    TableView::new(bytes).err()
 }
 
 /// Loads the keys seen, sees one more, and answers whether it was seen, with the bytes to be saved.
