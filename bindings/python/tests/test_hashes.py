@@ -81,6 +81,9 @@ def test_attributes():
     assert len(murmur.digest()) == murmur.digest_size
     with pytest.raises(AttributeError):
         murmur.seed = 8
+    for it in (ours, murmur, sketch_hash.MemberTable(10, 3)):
+        with pytest.raises(AttributeError):
+            it.other = 8
 
 
 @pytest.mark.parametrize("kind", KINDS)
