@@ -102,6 +102,14 @@ def test_the_fox(page, files):
     assert bar.get_property("value") == bar.get_property("max")
 
 
+def test_one_file_twice(page, files):
+    paths = files(fox=FOX)
+    for count in (1, 2):
+        page.choose(*paths)
+        rows = page.chromium.find_elements(By.CSS_SELECTOR, 'tr[data-name="fox"]')
+        page.wait(lambda: ["done" in row.text for row in rows] == [True] * count)
+
+
 def test_an_empty_file(page, files):
     page.choose(*files(empty=b""))
     page.wait_for("empty", "done")
@@ -124,11 +132,17 @@ def test_64_mebibytes(page, files):
 
 
 def test_a_file_past_4_gibibytes(chromium, tmp_path):
-    """Its hashes were computed apart. The bar and the text beside it always say the same."""
+    """It is not zero at its ends and its middle. Its hashes were computed apart. The bar and the text beside it always
+    say the same."""
     chromium.get((DIST / "wasm/index.html").as_uri())
     page = Page(chromium)
     page.set_seed(str(2**64 - 1))
-    page.choose(sparse(tmp_path / "zeros", (1 << 32) + 37))
+    large = sparse(tmp_path / "large", (1 << 32) + 37)
+    with open(large, "r+b") as file:
+        for at, byte in ((0, b"\1"), (1 << 31, b"\2"), ((1 << 32) - 1, b"\3"), ((1 << 32) + 36, b"\4")):
+            file.seek(at)
+            file.write(byte)
+    page.choose(large)
     state = "const [bar, it] = document.querySelectorAll('progress, .status span'); return [bar.value, bar.max, it.textContent]"
     said = []
 
@@ -140,7 +154,7 @@ def test_a_file_past_4_gibibytes(chromium, tmp_path):
 
     WebDriverWait(chromium, 10 * PATIENCE, 0.02).until(lambda _: is_done())
     assert {f"{n} %" for n in range(10, 100)} & {*said}
-    assert page.hashes("zeros") == ("9ae583956774714e", "0b42f570045fbe6ce4db2f081f3ae5b5")
+    assert page.hashes("large") == ("e7c41fccd784e763", "7e72d1a8272e0f4407c583ed175539bf")
 
 
 def test_ten_files_at_once(page, files):
@@ -291,14 +305,17 @@ def test_the_button_that_a_file_ends_under(page, tmp_path):
     assert page.chromium.switch_to.active_element.accessible_name == "Copy the hashes of large"
 
 
-def test_stop_before_the_beginning(page, tmp_path):
-    """Four files are read at a time; a fifth one waits."""
+def test_stop_before_the_beginning(page, tmp_path, files):
+    """Four files are read at a time; a fifth one waits, and one that waits behind it is read in its turn."""
     names = [f"endless{n}" for n in range(5)]
     for name in names:
         page.choose(sparse(tmp_path / name, 1 << 36))
+    page.choose(*files(fox=FOX))
     for name in reversed(names):
         page.row(name).find_element(By.CSS_SELECTOR, "button.stop").click()
         page.wait_for(name, "stopped")
+    page.wait_for("fox", "done")
+    assert page.hashes("fox") == FOX_HASHES
 
 
 def test_sizes(page):
@@ -413,21 +430,27 @@ def test_nothing_is_loaded_from_elsewhere(page):
         assert len(file.read()) < 60_000
 
 
+def changed_page(chromium, tmp_path, old, new):
+    text = (DIST / "wasm/index.html").read_text()
+    assert text.count(old) == 1
+    (tmp_path / "page.html").write_text(text.replace(old, new))
+    chromium.get((tmp_path / "page.html").as_uri())
+    return Page(chromium)
+
+
 def test_an_engine_without_64_bit_memories(chromium, tmp_path):
     """With a kind of memory that no engine knows in its question, the page says that the engine lacks it."""
-    text = (DIST / "wasm/index.html").read_text()
-    (tmp_path / "page.html").write_text(text.replace("5, 3, 1, 4, 0)", "5, 3, 1, 99, 0)"))
-    chromium.get((tmp_path / "page.html").as_uri())
-    page = Page(chromium)
+    page = changed_page(chromium, tmp_path, "5, 3, 1, 4, 0)", "5, 3, 1, 99, 0)")
     page.wait(lambda: "Firefox from 134" in page.one("#unable").text)
 
 
+def test_an_error_without_a_message(chromium, tmp_path, files):
+    page = changed_page(chromium, tmp_path, "await ahead.shift()", "await Promise.reject(new Error())")
+    page.choose(*files(fox=FOX))
+    page.wait_for("fox", "cannot be read: Error")
+
+
 def test_a_worker_that_does_not_start(chromium, tmp_path):
-    text = (DIST / "wasm/index.html").read_text()
-    changed = text.replace("onmessage = async", "throw new Error('no start'); onmessage = async")
-    assert changed != text
-    (tmp_path / "page.html").write_text(changed)
-    chromium.get((tmp_path / "page.html").as_uri())
-    page = Page(chromium)
+    page = changed_page(chromium, tmp_path, "onmessage = async", "throw new Error('no start'); onmessage = async")
     page.wait(lambda: "The worker did not start" in page.one("#unable").text)
     chromium.get_log("browser")
