@@ -159,6 +159,7 @@ def test_a_file_that_cannot_be_read():
     assert complaint == (
         b"sketch_hash: missing: No such file or directory\nsketch_hash: .: Is a directory\n"
     )
+    assert run("missing", "fox")[0] == run(".", "fox")[0] == 1
 
 
 @pytest.mark.parametrize("algorithm", ["xxh64", "murmur3_x64_128"])
@@ -200,6 +201,12 @@ def test_check_tells_what_is_wrong():
     assert (status, output) == (1, b"") and b"98 improperly formatted" in complaint
     good, bad = XXH64 + b"  fox\n", b"0" * 16 + b"  fox\n"
     missing = XXH64 + b"  missing\n"
+    complaint_of_three = run("-c", input=missing + bad + b"  \n")[2]
+    assert complaint_of_three.splitlines()[1:] == [
+        b"sketch_hash: 1 improperly formatted line(s)",
+        b"sketch_hash: 1 file(s) could not be read",
+        b"sketch_hash: 1 computed hash(es) did not match",
+    ]
     wrong = missing, bad, good + missing, good + bad, good + bad + missing, good + b"no hash\n"
     for lines in wrong:
         status, output, complaint = run("-c", input=lines)
@@ -209,6 +216,16 @@ def test_check_tells_what_is_wrong():
     # A line without a backslash before it has a name as it stands.
     output = run("-c", input=XXH64 + b"  no\\nfile\n")[1]
     assert output == b"no\\nfile: FAILED to open or read\n"
+    # A name is a path as it stands.
+    os.makedirs("far/away")
+    os.symlink("far/away", "link")
+    lines = XXH64 + b"  ./fox\n" + XXH64 + b"  link/../fox\n"
+    assert run("-c", input=lines)[:2] == (1, b"./fox: OK\nlink/../fox: FAILED to open or read\n")
+    # What is wrong in one list stays so after another one.
+    for name, text in (("good", good), ("bad", bad + missing + b"  \n")):
+        with open(name, "wb") as file:
+            file.write(text)
+    assert run("-c", "bad", "good")[::2] == run("-c", "good", "bad")[::2] == (1, complaint_of_three)
     # Standard input is left open.
     assert run("-c", "-", "fox", "-", input=good) == (
         1, b"fox: OK\n", b"sketch_hash: 1 improperly formatted line(s)\n"
@@ -259,6 +276,7 @@ def test_a_bar_is_as_long_as_what_is_read(capsys, monkeypatch):
     monkeypatch.setattr(sys.stderr, "isatty", lambda: True)
     for size, pieces, texts in (
         (3 << 20, (1 << 20, 2 << 20), ("[#{10} {20}]  33% 1 MiB  fox", "[#{30}] 100% 3 MiB  fox")),
+        (1000, (990,), ("[#{29} {1}]  99% 0 MiB  fox",)),
         (1, (2,), ("[#{30}] 100% 0 MiB  fox",)),  # a file that has grown
         (0, (2,), ("[ {30}]   0% 0 MiB  fox",)),
     ):

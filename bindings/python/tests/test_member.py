@@ -63,6 +63,13 @@ def test_what_was_inserted_is_contained():
     assert sum(b"key %d" % n in table for n in range(10_000, 20_000)) < 100
 
 
+def test_keys_before_one_that_is_refused_stay_inserted():
+    table = filled(keys=[])
+    with pytest.raises(TypeError):
+        table.update([b"fox", "dog", b"cat"])
+    assert table.to_bytes() == model(10, 3, [b"fox"])
+
+
 def test_every_order_gives_the_same_bits():
     mixed = KEYS[:]
     random.Random(1).shuffle(mixed)
@@ -351,6 +358,8 @@ def test_merged_tables_contain_the_keys_of_both():
     assert one is same and one.count == len(KEYS) + len(KEYS) - 20
     one.merge(one)
     assert one.to_bytes() == model(10, 3, KEYS, 2 * (2 * len(KEYS) - 20))
+    one |= one
+    assert one.to_bytes() == model(10, 3, KEYS, 4 * (2 * len(KEYS) - 20))
 
 
 def test_unlike_tables_stay_as_they_were():
@@ -449,6 +458,7 @@ def test_a_copy_goes_its_own_way(way):
         first.insert(b"first")
         second.insert(b"second")
         assert type(second) is MemberTable
+        assert type(second._lock) is type(first._lock) is type(filled()._lock)
         assert first.to_bytes() == model(10, 3, [*KEYS, b"first"])
         assert second.to_bytes() == model(10, 3, [*KEYS, b"second"])
 
