@@ -93,6 +93,8 @@ fn each_number_is_hashed() {
     let text = "the entry at 7 of the column is missing or does not fit";
     let error: Box<dyn std::error::Error> = Box::new(short.unwrap_err());
     assert_eq!(error.to_string(), text);
+    let last = ColumnError { index: usize::MAX };
+    assert_eq!(last.to_string(), text.replace('7', "18446744073709551615"));
 }
 
 /// Columns whose lengths take more than 16 bits, each of whose counts is used whole.

@@ -148,6 +148,26 @@ fn each_number_feeds_its_bytes() {
     feed(&mut m, word);
     assert_eq!(x.digest(), xxh64(&bytes, 7));
     assert_eq!(m.digest(), murmur3_x64_128(&bytes, 7));
+    // One kind over and over, past what is kept before a state is begun.
+    fn feed_one(hasher: &mut impl Hasher, width: usize, word: u128) {
+        match width {
+            1 => hasher.write_u8(word as u8),
+            2 => hasher.write_u16(word as u16),
+            4 => hasher.write_u32(word as u32),
+            8 => hasher.write_u64(word as u64),
+            _ => hasher.write_u128(word),
+        }
+    }
+    for width in [1, 2, 4, 8, 16] {
+        let (mut x, mut m, mut bytes) = (Xxh64::new(7), Murmur3X64_128::new(7), Vec::new());
+        for _ in 0..100 {
+            feed_one(&mut x, width, word);
+            feed_one(&mut m, width, word);
+            bytes.extend(&word.to_le_bytes()[..width]);
+            assert_eq!(x.digest(), xxh64(&bytes, 7));
+            assert_eq!(m.digest(), murmur3_x64_128(&bytes, 7));
+        }
+    }
     for (width, first) in [(1, true), (2, true), (4, true), (8, true), (4, false)] {
         let (mut x, mut m) = (Xxh64::new(7), Murmur3X64_128::new(7));
         match (width, first) {
@@ -177,6 +197,25 @@ fn what_makes_hashers() {
     assert_ne!(M, BuildMurmur3X64_128::default());
     assert_eq!(BuildXxh64::default().hash_one(5_u64), xxh64_u64(5, 0));
     assert_eq!(BuildMurmur3X64_128::default().build_hasher().digest(), murmur3_x64_128(&[], 0));
+}
+
+/// A hasher that starts again has its new seed, and XXH64's prints it.
+#[test]
+fn a_long_stream_starts_again() {
+    for length in [0, 32, 33, 1000] {
+        let (mut x, mut m) = (Xxh64::new(7), Murmur3X64_128::new(7));
+        x.update(&vec![1; length]);
+        m.update(&vec![1; length]);
+        assert_eq!(format!("{x:?}"), format!("Xxh64 {{ seed: 7, length: {length} }}"));
+        assert_eq!(format!("{m:?}"), format!("Murmur3X64_128 {{ length: {length}, .. }}"));
+        x.reset(8);
+        m.reset(8);
+        assert_eq!(format!("{x:?}"), "Xxh64 { seed: 8, length: 0 }");
+        assert_eq!(format!("{m:?}"), "Murmur3X64_128 { length: 0, .. }");
+        x.update(b"fox");
+        m.update(b"fox");
+        assert_eq!((x.digest(), m.digest()), (xxh64(b"fox", 8), murmur3_x64_128(b"fox", 8)));
+    }
 }
 
 /// What a program may ask of the types: errors are keys of sets, and all go to other threads.

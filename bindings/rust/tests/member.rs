@@ -228,6 +228,10 @@ fn tables_are_equal_where_their_bytes_are() {
     let table = filled(10, 3, 0..20);
     assert_eq!(table, filled(10, 3, 0..20));
     assert_ne!(table, filled(10, 3, 0..21));
+    for mut other in [filled(6, 1, 0..3), filled(20, 16, 0..3), filled(10, 3, 0..3)] {
+        other.clone_from(&table);
+        assert_eq!(other, table);
+    }
     assert_ne!(filled(10, 3, 0..1), filled(10, 3, 1..2));
     assert_ne!(MemberTable::new(1, 10, 3), MemberTable::new(2, 10, 3));
     assert_ne!(MemberTable::new(1, 10, 3), MemberTable::new(1, 10, 4));
