@@ -94,6 +94,7 @@ pub fn nothing_remains_after(bytes: &[u8], kinds: &[Kind], places: &mut [Item]) 
 pub fn write_what_fits(writer: &mut SketchBytes, items: &[Item]) -> usize
     ensures at_most { result ≤ length items.now }
     ensures written { writer.new.bytes ≡ writer.old.bytes ++ spell_all (take result items.now) }
+    ensures in_type { All InType (take result items.now) }
     ensures no_more { result < length items.now →
         writer.new.room < length (writer.old.bytes ++ spell_all (take (result + 1) items.now)) }
 {

@@ -1,11 +1,11 @@
 //! What the laws mean for a caller, at the values that callers have.
 
-ghost use Rattle.std.specs.Prelude.{◌≡◌, ◌≢◌, ◌⊎◌, ◌↔◌, ℕ, ◌+◌, ◌*◌, ◌^◌, ◌<◌, ◌≤◌, ℤ, List, [], ◌∷◌, ◌++◌, length, slice_index_or, pos, IsTrue};
+ghost use Rattle.std.specs.Prelude.{◌≡◌, ◌≢◌, ◌⊎◌, ◌↔◌, ℕ, ◌+◌, ◌*◌, ◌^◌, ◌<◌, ◌≤◌, ℤ, List, [], ◌∷◌, ◌++◌, length, map, slice_index_or, pos, IsTrue};
 ghost use Rattle.std.specs.List.{All, fold};
 ghost use Rattle.datasketches.specs.Bytes.{AreBytes, eight, le, modulo};
 ghost use Rattle.datasketches.specs.Murmur.{block_words, blocks, finalize, fmix, mix1, mix2, murmur, step, with_tail};
 ghost use Rattle.datasketches.specs.Pieces.{pieces, rest};
-ghost use Rattle.datasketches.specs.StepLaws.{AreWords, IsBlock, IsStep, step_widths};
+ghost use Rattle.datasketches.specs.StepLaws.{AreWords, IsBlock, IsStep};
 ghost use Rattle.datasketches.specs.Strategies.{IntegerType, I8, I16, I32, I64, U8, U16, U32, U64, ValueOf, natural_fed, natural_number, sign_fed, sign_number};
 ghost use Rattle.datasketches.specs.Values.{integer_bytes};
 ghost use Rattle.datasketches.specs.Words.{IsWord, plus};
@@ -174,6 +174,14 @@ pub fn tails_are_told_apart(seed: u64)
     laws::xx_tail_law();
 }
 
+/// Two seeds give a stream of fewer than 32 bytes two XXH64 hashes.
+pub fn seeds_are_told_apart(seed_a: u64, seed_b: u64)
+    ensures { (bytes : List ℕ) → AreBytes bytes → length bytes < 32 → seed_a ≢ seed_b →
+        xxh64 seed_a bytes ≢ xxh64 seed_b bytes }
+{
+    laws::xx_seed_law();
+}
+
 /// What a step of Murmur makes of two words, or of two pairs of words, are words that tell them
 /// apart; and each word and each pair is made of one.
 pub fn murmur_steps_lose_nothing(x: u64, y: u64, z: u64, w: u64)
@@ -225,7 +233,7 @@ pub fn xxh64_steps_lose_nothing(x: u64, y: u64, read: u64, width: u64)
     ensures last { OneToOne IsWord IsWord avalanche }
     ensures read { (bytes : List ℕ) → AreBytes bytes → All IsStep (steps bytes) }
     ensures widths { (a b : List ℕ) → length a ≡ length b →
-        step_widths (steps a) ≡ step_widths (steps b) }
+        map (λ s. s.0) (steps a) ≡ map (λ s. s.0) (steps b) }
     ensures eight { (seed : ℕ) → xxh64 seed (eight read)
         ≡ avalanche (eight_step (plus (plus seed prime5) 8) read) }
 {

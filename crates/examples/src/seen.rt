@@ -1,9 +1,9 @@
 //! Keys that were seen, in a table of members that is saved and loaded.
 
-ghost use Rattle.std.specs.Prelude.{ℕ, List, ◌≡◌, ◌⊎◌, ◌↔◌, ◌+◌, [], ◌∷◌, ◌++◌, ◌≢◌, ◌≤◌, None, Some, IfErr, IfOk, IsTrue, MatchResult, length, slice_index, map, Contains};
+ghost use Rattle.std.specs.Prelude.{ℕ, List, ◌≡◌, ◌⊎◌, ◌↔◌, ◌+◌, ◌<◌, [], ◌∷◌, ◌++◌, ◌≢◌, ◌≤◌, None, Some, IfErr, IfOk, IsTrue, MatchResult, length, slice_index, map, Contains};
 ghost use Rattle.datasketches.specs.ErrorValue.{memory_error};
 ghost use Rattle.datasketches.specs.Refusals.{Refuses};
-ghost use Rattle.sketch_member.specs.Faults.{AllPass, FirstFault, IsFirstFault, fault_text, init_steps, steps, view_steps};
+ghost use Rattle.sketch_member.specs.Faults.{AllPass, Fails, FirstFault, IsFirstFault, fault_text, init_steps, steps, view_steps};
 ghost use Rattle.sketch_member.specs.Form.{IsForm, form1, form2};
 ghost use Rattle.sketch_member.specs.InPlace.{Becomes};
 ghost use Rattle.sketch_member.specs.Laws.{IsMadeOf, StandsFor, count_after};
@@ -111,6 +111,27 @@ pub fn see_key_in(bytes: &mut [u8], key: &[u8]) -> Result<bool, Fault>
     in_place::insert(bytes, &value)?;
     Ok(is_seen)
 }
+
+/// What a fault says of a step, whose condition is here that two numbers are equal: bytes that end
+/// before it are told so, and others by the step's own fault. It is the first one where the steps
+/// before it pass.
+pub fn faults_are_told()
+    ensures early { (count needs x y : ℕ) (own told : Fault) → count < needs →
+        Fails count (record { needs = needs; Holds = x ≡ y; fault = own }) told →
+        told ≡ Fault.HeaderEnds }
+    ensures wrong { (count needs x y : ℕ) (own told : Fault) → needs ≤ count →
+        Fails count (record { needs = needs; Holds = x ≡ y; fault = own }) told →
+        (x ≢ y) × (told ≡ own) }
+    ensures first { (count needs x y : ℕ) (own told : Fault) (bytes : List ℕ) →
+        IsFirstFault count
+        (record { needs = needs; Holds = x ≡ y; fault = own } ∷ view_steps bytes) told →
+        Fails count (record { needs = needs; Holds = x ≡ y; fault = own }) told
+        ⊎ ((needs ≤ count) × (x ≡ y) × IsFirstFault count (view_steps bytes) told) }
+    ensures pass { (count needs x y : ℕ) (own : Fault) (bytes : List ℕ) →
+        AllPass count
+        (record { needs = needs; Holds = x ≡ y; fault = own } ∷ view_steps bytes) →
+        (needs ≤ count) × (x ≡ y) × AllPass count (view_steps bytes) }
+{}
 
 /// What is wrong with bytes that begin as a table does, but are of another family.
 pub fn other_family(bytes: &[u8]) -> Option<Fault>

@@ -1,11 +1,11 @@
 //! A reader and a writer of a serialized sketch.
 
-ghost use Rattle.std.specs.Prelude.{ℕ, ◌≡◌, ◌⊎◌, ◌<◌, ◌≤◌, ◌++◌, codes, length, drop, IfErr, IfOk, MatchResult};
+ghost use Rattle.std.specs.Prelude.{ℕ, ◌≡◌, ◌⊎◌, ◌<◌, ◌≤◌, ◌++◌, codes, length, drop, Contains, IfErr, IfOk, MatchResult};
 ghost use Rattle.std.specs.Fmt.{decimal};
 ghost use Rattle.std.specs.String.{string_bytes};
 ghost use Rattle.datasketches.specs.Checks.{AcceptsExactly};
 ghost use Rattle.datasketches.specs.ErrorValue.{add_context, error_of, memory_error};
-ghost use Rattle.datasketches.specs.Refusals.{Refuses, insufficient_data_of_text, invalid_preamble_ints_text, preamble_longs_out_of_range_text};
+ghost use Rattle.datasketches.specs.Refusals.{Refuses, insufficient_data_of_text, invalid_preamble_ints_text, invalid_preamble_longs_text, preamble_longs_out_of_range_text};
 ghost use Rattle.datasketches.specs.SeedHash.{seed_hash, zero_seed_hash_text};
 ghost use Rattle.datasketches.specs.Items.{spell_all, unspell_all};
 ghost use Rattle.examples.specs.Sketches.{HasPreamble, IsSketch};
@@ -56,6 +56,17 @@ pub fn check_longs(alloc: Global, longs: u8) -> Result<(), Error>
 {
     ensure_preamble_longs_in_range(alloc, Bound::Included(2), Bound::Excluded(5), longs)?;
     Ok(())
+}
+
+/// Accepts the listed numbers of preamble longs.
+pub fn check_longs_in(alloc: Global, expected: &[u8], longs: u8) -> Result<(), Error>
+    ensures { MatchResult result
+        (λ _. Contains expected.now longs)
+        (λ error. (Contains expected.now longs → ⊥)
+        × ((error ≡ error_of ErrorKind.InvalidData
+        (invalid_preamble_longs_text expected.now longs)) ⊎ (error ≡ memory_error))) }
+{
+    ensure_preamble_longs_in(alloc, expected, longs)
 }
 
 /// Accepts ten preamble ints.
