@@ -111,6 +111,11 @@ assert.throws(() => murmur3X64_128Each('fox', ends), /TextEncoder/);
 const { grow } = WebAssembly.Memory.prototype;
 WebAssembly.Memory.prototype.grow = () => assert.fail('the memory grows');
 for (const seed of [-1n, 2n ** 64n]) assert.throws(() => xxh64EachU64(new BigInt64Array(1e6), seed), RangeError);
+// A column for which there is no room leaves the library as it was.
+WebAssembly.Memory.prototype.grow = () => { throw new RangeError('no room'); };
+assert.throws(() => xxh64EachU64(new BigInt64Array(1e6)), { message: 'no room' });
+assert.equal(xxh64(fox, 7n), new Xxh64(7n).update(fox).digest());
+assert.deepEqual([...xxh64Each(all, narrow, last)], keys.map((key) => xxh64(key, last)));
 WebAssembly.Memory.prototype.grow = grow;
 
 // The memory grows where one byte is missing, and by no more pages than are.

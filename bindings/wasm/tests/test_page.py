@@ -56,6 +56,10 @@ class Page:
         self.one("input#seed").send_keys(Keys.CONTROL, "a")
         self.one("input#seed").send_keys(text)
 
+    def type_seed(self, text):
+        typed = "arguments[0].value = arguments[1]; arguments[0].dispatchEvent(new Event('input'))"
+        self.chromium.execute_script(typed, self.one("input#seed"), text)
+
     def row(self, name):
         return self.one(f'tr[data-name="{name}"]')
 
@@ -176,8 +180,10 @@ def test_seeds(page, files):
         page.wait(lambda: "0 to 18446744073709551615" in page.one("#seed-fault").text)
         assert page.hashes("fox") == ("", "") and page.text_hashes() == ("", "")
         assert not page.row("fox").find_element(By.CSS_SELECTOR, "button.copy").is_enabled()
-    page.set_seed("0x10")
-    page.wait(lambda: page.hashes("fox") == hashes(FOX, 16))
+    for seed in ("0x10", " 16\t"):
+        page.set_seed("many")
+        page.type_seed(seed)
+        page.wait(lambda: page.hashes("fox") == hashes(FOX, 16))
     page.set_seed("0XaB")
     page.wait(lambda: page.hashes("fox") == hashes(FOX, 171))
     assert page.one("#seed-fault").text == ""
@@ -202,12 +208,29 @@ def test_a_file_that_vanishes(page, tmp_path, files):
     page.set_seed("many")
     gone, fox = files(gone=b"gone" * 1000, fox=FOX)
     page.choose(gone, fox)
+    written = gone.stat()
     gone.unlink()
     page.set_seed("0")
     page.wait_for("gone", "cannot be read: ")
     assert page.hashes("gone") == ("", "")
     page.wait_for("fox", "done")
     assert page.hashes("fox") == FOX_HASHES
+    # Under another seed both are read again: what vanishes now has no hash, and the other one has its new one.
+    fox.unlink()
+    for seed in ("1", "2"):
+        page.set_seed(seed)
+        for name in ("gone", "fox"):
+            page.wait_for(name, "cannot be read: ")
+            assert page.hashes(name) == ("", "")
+            row = page.row(name)
+            assert not row.find_element(By.CSS_SELECTOR, "button.copy").is_enabled()
+            assert row.find_element(By.TAG_NAME, "progress").get_property("value") == 0
+    # One that is there again has its hash.
+    gone.write_bytes(b"gone" * 1000)
+    os.utime(gone, ns=(written.st_atime_ns, written.st_mtime_ns))
+    page.set_seed("3")
+    page.wait_for("gone", "done")
+    assert page.hashes("gone") == hashes(b"gone" * 1000, 3)
 
 
 def test_files_that_are_dropped(page):
@@ -215,6 +238,7 @@ def test_files_that_are_dropped(page):
         """
         const dropped = new DataTransfer();
         for (const name of ['first', 'second']) dropped.items.add(new File([name], name));
+        dropped.items.add(new File([], 'empty'));
         const isOver = () => document.getElementById('drop').classList.contains('over');
         for (const [type, over] of [['dragover', true], ['dragleave', false]]) {
             document.body.dispatchEvent(new DragEvent(type, { dataTransfer: dropped, bubbles: true, cancelable: true }));
@@ -230,6 +254,10 @@ def test_files_that_are_dropped(page):
     for name in ("first", "second"):
         page.wait_for(name, "done")
         assert page.hashes(name) == hashes(name.encode())
+    page.wait_for("empty", "done")
+    assert page.hashes("empty") == hashes(b"")
+    names = page.chromium.find_elements(By.CSS_SELECTOR, "tbody .name")
+    assert [it.text for it in names] == ["first", "second", "empty"]
 
 
 def copy_fox(page, files, script, status):
@@ -247,9 +275,11 @@ def test_copy(page, files):
     assert page.chromium.execute_script("return window.copied") == expected
 
 
-def test_copy_where_the_clipboard_is_refused(page, files):
-    refuse = "navigator.clipboard.writeText = () => Promise.reject(); document.execCommand = () => false"
-    copy_fox(page, files, refuse, "selected")
+@pytest.mark.parametrize("copies, status", [("false", "selected, to be copied"), ("true", "copied")])
+def test_copy_where_the_clipboard_is_refused(page, files, copies, status):
+    refuse = f"navigator.clipboard.writeText = () => Promise.reject(); document.execCommand = () => {copies}"
+    copy_fox(page, files, refuse, status)
+    assert page.text("fox", "td.status") == status
     selected = page.chromium.execute_script("return getSelection().toString()")
     assert selected.split() == list(FOX_HASHES)
 
