@@ -110,8 +110,8 @@ pub fn is_same_but_for_a_block(seed: u64, a: &[u8], b: &[u8], i: usize) -> bool
 /// Every pair of words is that of one block, and a block gives one, at any aligned place of a
 /// stream of any length.
 pub fn every_pair_is_of_one_block(seed: u64, first: u64, second: u64)
-    ensures some { (i : ℕ) (before after : List ℕ) → AreBytes before → AreBytes after →
-        length before ≡ 16 * i → (block : List ℕ) × IsBlock block
+    ensures some { (i : ℕ) (before after : List ℕ) → All (λ b. b < 256) before →
+        All (λ b. b < 256) after → length before ≡ 16 * i → (block : List ℕ) × IsBlock block
         × (murmur seed (before ++ block ++ after) ≡ (first, second)) }
     ensures one { (i : ℕ) (before after x y : List ℕ) → AreBytes before → AreBytes after →
         length before ≡ 16 * i → IsBlock x → IsBlock y →
@@ -166,7 +166,8 @@ pub fn is_same_but_for_a_step(seed: u64, a: &[u8], b: &[u8], i: usize) -> bool
 /// Streams of any length with the same stripes, whose tails differ in one step, have different
 /// hashes.
 pub fn tails_are_told_apart(seed: u64)
-    ensures { (a b : List ℕ) (i : ℕ) → AreBytes a → AreBytes b → length a ≡ length b →
+    ensures { (a b : List ℕ) (i : ℕ) → All (λ b. b < 256) a →
+        All (λ b. b < 256) b → length a ≡ length b →
         pieces 32 a ≡ pieces 32 b → ((k : ℕ) (step : ℕ × ℕ) → k < i ⊎ i + 1 ≤ k →
         slice_index_or (steps (rest 32 a)) k step ≡ slice_index_or (steps (rest 32 b)) k step) →
         steps (rest 32 a) ≢ steps (rest 32 b) → xxh64 seed a ≢ xxh64 seed b }
@@ -250,7 +251,8 @@ pub fn lists_are_cut(width: usize)
     ensures behind { (i : ℕ) (front back : List ℕ) → 0 < width → length front ≡ width * i →
         (pieces width (front ++ back) ≡ pieces width front ++ pieces width back)
         × (rest width (front ++ back) ≡ rest width back) }
-    ensures bytes { (bytes : List ℕ) → AreBytes bytes → AreBytes (rest width bytes) }
+    ensures bytes { (bytes : List ℕ) → All (λ b. b < 256) bytes →
+        All (λ b. b < 256) (rest width bytes) }
     ensures below { (bytes : List ℕ) → 0 < width → length (rest width bytes) < width }
     ensures one_length { (a b : List ℕ) → length a ≡ length b →
         length (rest width a) ≡ length (rest width b) }
