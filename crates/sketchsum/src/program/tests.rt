@@ -1,4 +1,4 @@
-ghost use Rattle.std.specs.Prelude.{◌≡◌, ◌≢◌, ◌≤◌, ◌^◌, ◌++◌, ℕ, [], length, map};
+ghost use Rattle.std.specs.Prelude.{◌≡◌, ◌≢◌, ◌≤◌, ◌+◌, ◌*◌, ◌^◌, ◌++◌, ℕ, [], length, map};
 ghost use Rattle.std.specs.Process.{exit_status};
 ghost use Rattle.std.specs.String.{string_bytes};
 ghost use Rattle.sketchsum.specs.Arguments.{AskFor};
@@ -26,6 +26,8 @@ fn answer_two_words(words: &[String], input: &mut &[u8], output: &mut Vec<u8>) -
         AskFor (map string_bytes words.now) algorithm seed → ⊥ }
     ensures whole { result ≡ Outcome.Done → input.new.now ≡ [] }
     ensures too_long { result ≡ Outcome.Fault RunFault.TooLong → 2 ^ 32 ≤ length input.old.now }
+    ensures bounded { result ≢ Outcome.Usage →
+        length input.old.now ≤ 4096 * 2 ^ 32 + length input.new.now }
     ensures silent { result ≢ Outcome.Done → result ≢ Outcome.Fault RunFault.Write →
         output.new ≡ output.old }
 {
