@@ -275,7 +275,8 @@ def test_equal_tables_are_equal():
 
 def test_columns_that_are_refused():
     table, offsets = filled(), numpy.array(OFFSETS)
-    for column in (5, KEYS, COLUMN, offsets.astype("u4"), (COLUMN, COLUMN), ("text", offsets)):
+    three = COLUMN, offsets, offsets
+    for column in (5, KEYS, COLUMN, offsets.astype("u4"), (COLUMN, COLUMN), ("text", offsets), three):
         for call in (table.insert_each, table.contains_each):
             with pytest.raises((TypeError, ValueError)):
                 call(column)
@@ -393,6 +394,18 @@ def test_another_class_may_know_tables():
     assert table == Other()
     table |= Other()
     assert table == "mine"
+
+
+def test_a_class_of_ones_own_is_a_table():
+    class Named(MemberTable):
+        pass
+
+    named, table = Named.from_bytes(filled().to_bytes()), filled()
+    assert type(named) is type(named.copy()) is Named
+    assert named == table and table == named
+    named.merge(table)
+    table.merge(Named.from_bytes(filled().to_bytes()))
+    assert named == table and table.to_bytes() == model(10, 3, KEYS, 2 * len(KEYS))
 
 
 def test_counts_may_be_unknown_and_end_at_the_greatest():
