@@ -204,18 +204,18 @@ impl XxHash64 {
     }
 
     // Takes bytes that go beyond the stripe that is begun. The lanes are moved from the vector to
-    // four words once.
+    // four words once. The count is set before, so that it needs no register in between.
     #[inline(never)]
     fn complete_and_consume(&mut self, bytes: &[u8])
         requires short { length self.old.waiting < 32 }
         requires fills { (32 - length self.old.waiting) % 32 ≤ length bytes.now }
         ensures { self.new ≡ xxh64_after self.old bytes.now }
     {
-        self.total = self.total.wrapping_add(bytes.len() as u64);
         let count = self.count;
+        self.total = self.total.wrapping_add(bytes.len() as u64);
+        self.count = (count + bytes.len()) % STRIPE;
         let lanes = ScalarLanes::from_vector(&self.lanes);
         self.lanes = consume(lanes, &mut self.buffer, count, bytes).into_vector();
-        self.count = (count + bytes.len()) % STRIPE;
     }
 }
 

@@ -87,6 +87,9 @@ impl StripeRound for ScalarLanes {
 /// Takes the lanes through bytes that come after `count` bytes of `buffer`: those that complete
 /// the stripe that is begun, then whole stripes straight from the slice. The last bytes, which fill
 /// no stripe, go to the front of `buffer`.
+///
+/// The last bytes are stored before the run of stripes: the next write reads them, and a processor
+/// is slow to read what it has just stored.
 #[inline(always)]
 pub(super) fn consume(
     mut lanes: ScalarLanes,
@@ -108,8 +111,8 @@ pub(super) fn consume(
         lanes.stripe_round(buffer);
     }
     let (stripes, last) = split_pieces::<32>(behind);
-    fold_stripes(&mut lanes, stripes);
     copy_small(buffer, 0, last);
+    fold_stripes(&mut lanes, stripes);
     lanes
 }
 
