@@ -74,5 +74,3 @@ long read(int file, void *bytes, size count) {
 long write(int file, const void *bytes, size count) {
   return move(SYS_WRITE, file, (void *)bytes, count, file == 1 ? 'o' : 'e', EIO);
 }
-
-long __write(int file, const void *bytes, size count) { return write(file, bytes, count); }

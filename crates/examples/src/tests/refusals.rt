@@ -1,6 +1,6 @@
 //! What refusals and wrapped keys say.
 
-use super::{assert_refused, assert_same};
+use super::{assert_refused, assert_same, prints};
 use crate::keys::{hash_of_text, inner_key, next_key};
 use crate::merging::merge_saved_twin;
 use crate::refusals::{
@@ -9,7 +9,11 @@ use crate::refusals::{
 use crate::seen::{count_saved, is_saved, see_keys_twice};
 use crate::streams::usual_hashes;
 use datasketches::codec::{Short, Stopped};
+use datasketches::error::Error;
 use datasketches::hash::value::{natural_extend, raw_bytes};
+use sketch_member::{Fault, MergeFault};
+use std::alloc::AllocError;
+use std::error;
 use std::test::Fail;
 
 #[test]
@@ -31,6 +35,21 @@ fn refusals_say_what_is_wrong(rt: HostRuntime) -> Result<(), Fail> {
     let text = text_of_stopped(alloc, &Stopped { accepted: 3 })?;
     assert_same(&rt, text.as_str(), "out of memory after 3 items");
     Ok(())
+}
+
+// Whether an error, as std knows errors, prints the text.
+fn is_error<E: error::Error + Drop>(error: E, text: &str) -> bool {
+    prints(error, text)
+}
+
+#[test]
+fn errors_are_errors_of_std(rt: HostRuntime) {
+    assert!(rt; is_error(Error::from(AllocError), "OutOfMemory"));
+    assert!(rt; is_error(Short { read: 3 }, "insufficient data after 3 items"));
+    assert!(rt; is_error(Stopped { accepted: 3 }, "out of memory after 3 items"));
+    assert!(rt; is_error(Fault::TrailingBytes(1), "trailing bytes: 1"));
+    let fault = MergeFault::From(Fault::TrailingBytes(1));
+    assert!(rt; is_error(fault, "table merged from: trailing bytes: 1"));
 }
 
 #[test]
