@@ -146,6 +146,13 @@ pub fn fill(reader: &mut SketchSlice, buffer: &mut [u8]) -> io::Result<()>
     reader.read_exact(buffer)
 }
 
+/// Skips the next `n` bytes, or all where they are fewer.
+pub fn skip(reader: &mut SketchSlice, n: u64)
+    ensures { reader.new ≡ drop n reader.old }
+{
+    reader.advance(n);
+}
+
 /// The number of bytes in which an item stands.
 pub fn count_bytes(item: &Item) -> usize
     ensures { result ≡ width (item_kind item.now) }

@@ -3,16 +3,15 @@
 ghost use Rattle.std.specs.Prelude.{◌≡◌, ◌≢◌, ◌⊎◌, ◌++◌, codes, IfErr, IfOk, MatchResult, string_bytes};
 ghost use Rattle.std.specs.Fmt.{decimal};
 ghost use Rattle.datasketches.specs.ErrorValue.{error_of, memory_error};
-ghost use Rattle.datasketches.specs.Reading.{short_text};
 ghost use Rattle.datasketches.specs.Refusals.{Refuses, unsupported_serial_version_text};
 ghost use Rattle.datasketches.specs.SeedHash.{incompatible_seed_hash_text, seed_hash, zero_seed_hash_text};
-ghost use Rattle.datasketches.specs.Writing.{stopped_text};
 
 use datasketches::codec::assert::ensure_serial_version_is;
 use datasketches::codec::{Short, Stopped};
 use datasketches::error::{Error, ErrorKind};
 use datasketches::hash::value::natural_extend::NaturalExtend;
 use datasketches::hash::{check_seed_hash, compute_seed_hash};
+use sketch_member::Fault;
 use std::alloc::{AllocError, Global};
 
 /// Accepts serial version 3.
@@ -47,13 +46,21 @@ pub fn check_seed(alloc: Global, seed: u64, actual: u16) -> Result<(), Error>
     check_seed_hash(alloc, expected, actual, "sketch", ErrorKind::InvalidData)
 }
 
-/// A refusal of malformed data in words of one's own, where there was memory for them.
-pub fn malformed(alloc: Global, words: Result<String, AllocError>) -> Error
+/// A refusal of a kind in words of one's own, where there was memory for them.
+pub fn refusal(alloc: Global, kind: ErrorKind, words: Result<String, AllocError>) -> Error
     ensures { MatchResult words
-        (λ message. result ≡ error_of ErrorKind.InvalidData (string_bytes message))
+        (λ message. result ≡ error_of kind (string_bytes message))
         (λ _. result ≡ memory_error) }
 {
-    Error::from_text(alloc, ErrorKind::InvalidData, words)
+    Error::from_text(alloc, kind, words)
+}
+
+/// A refusal of data that ends too early, which a text explains.
+pub fn ends_early(alloc: Global, text: &str) -> Error
+    ensures { (result ≡ error_of ErrorKind.InvalidData
+        (codes "insufficient data: " ++ text.now)) ⊎ (result ≡ memory_error) }
+{
+    Error::insufficient_data(alloc, text)
 }
 
 /// A refusal of data that ends in the part of this name, which a text explains.
@@ -70,7 +77,8 @@ pub fn data_ends(alloc: Global, part: &'static str, text: &str) -> Error
 ///
 /// Where memory runs out.
 pub fn text_of_short(alloc: Global, short: &Short) -> Result<String, AllocError>
-    ensures { IfOk result (λ text. string_bytes text ≡ short_text short.now.read) }
+    ensures { IfOk result (λ text. string_bytes text
+        ≡ codes "insufficient data after " ++ (decimal short.now.read ++ codes " items")) }
 {
     short.to_string(alloc)
 }
@@ -81,9 +89,22 @@ pub fn text_of_short(alloc: Global, short: &Short) -> Result<String, AllocError>
 ///
 /// Where memory runs out.
 pub fn text_of_stopped(alloc: Global, stopped: &Stopped) -> Result<String, AllocError>
-    ensures { IfOk result (λ text. string_bytes text ≡ stopped_text stopped.now.accepted) }
+    ensures { IfOk result (λ text. string_bytes text
+        ≡ codes "out of memory after " ++ (decimal stopped.now.accepted ++ codes " items")) }
 {
     stopped.to_string(alloc)
+}
+
+/// What bytes say that go on behind a table, by so many.
+///
+/// # Errors
+///
+/// Where memory runs out.
+pub fn text_of_trailing(alloc: Global, count: usize) -> Result<String, AllocError>
+    ensures { IfOk result (λ text. string_bytes text
+        ≡ codes "trailing bytes: " ++ decimal count) }
+{
+    Fault::TrailingBytes(count).to_string(alloc)
 }
 
 /// A wrapped key in decimal, as the key itself prints.

@@ -1,8 +1,10 @@
 //! Keys that were seen, in a table of members that is saved and loaded.
 
-ghost use Rattle.std.specs.Prelude.{ℕ, List, ◌≡◌, ◌⊎◌, ◌↔◌, ◌+◌, ◌<◌, [], ◌∷◌, ◌++◌, ◌≢◌, ◌≤◌, None, Some, IfErr, IfOk, IsTrue, MatchResult, length, slice_index, map, Contains};
+ghost use Rattle.std.specs.Prelude.{ℕ, List, ◌≡◌, ◌⊎◌, ◌↔◌, ◌+◌, ◌%◌, ◌^◌, ◌<◌, [], ◌∷◌, ◌++◌, ◌≢◌, ◌≤◌, None, Some, IfErr, IfOk, IsTrue, MatchResult, length, slice_index, map, Contains};
 ghost use Rattle.datasketches.specs.ErrorValue.{memory_error};
 ghost use Rattle.datasketches.specs.Refusals.{Refuses};
+ghost use Rattle.datasketches.specs.Words.{plus};
+ghost use Rattle.datasketches.specs.Xxh64.{xxh64};
 ghost use Rattle.sketch_member.specs.Faults.{AllPass, Fails, FirstFault, IsFirstFault, fault_text, init_steps, steps, view_steps};
 ghost use Rattle.sketch_member.specs.Form.{IsForm, form1, form2};
 ghost use Rattle.sketch_member.specs.InPlace.{Becomes};
@@ -112,6 +114,16 @@ pub fn see_key_in(bytes: &mut [u8], key: &[u8]) -> Result<bool, Fault>
     Ok(is_seen)
 }
 
+/// Inserts a key into the bytes of a table, whether or not they have its count, and says whether it
+/// was inserted.
+pub fn insert_in(bytes: &mut [u8], key: &[u8]) -> bool
+    ensures { (table : Table) → IsTable table → bytes.old ≡ form2 table → IsTrue result →
+        (after : Table) × Inserts key.now table after × (bytes.new ≡ form2 after) }
+{
+    form_law();
+    in_place::insert(bytes, &raw_bytes::from_slice(key)).is_ok()
+}
+
 /// What a fault says of a step, whose condition is here that two numbers are equal: bytes that end
 /// before it are told so, and others by the step's own fault. It is the first one where the steps
 /// before it pass.
@@ -202,27 +214,31 @@ pub fn is_saved(alloc: Global, saved: &[u8], key: &[u8]) -> Result<bool, Error>
 ///
 /// # Errors
 ///
-/// Where `bytes` are not as many as the table has: `InvalidArgument`, with the first fault. Where
-/// memory runs out: `OutOfMemory`, with no message. `bytes` are then the table, or unchanged.
+/// Where the sizes are outside their limits, or `bytes` are not as many as the table has:
+/// `InvalidArgument`, with the first fault. Where memory runs out: `OutOfMemory`, with no message.
+/// `bytes` are then the table, or unchanged.
 pub fn see_keys_twice(
     alloc: Global,
     bytes: &mut [u8],
+    seed: u64,
+    log2_bits: u8,
+    hashes: u8,
     keys: &[RawBytes<&[u8]>],
 ) -> Result<Vec<u8>, Error>
     ensures same { IfOk result (λ made. bytes.new ≡ made.items) }
     ensures whole { IfOk result (λ made. (whole : Table)
-        × AreAlike (empty_table 0 10 7) whole
+        × AreAlike (empty_table seed log2_bits hashes) whole
         × IsMadeOf (map (λ key. key.now) keys.now) whole
         × (made.items ≡ form2 whole)) }
     ensures refused { IfErr result (λ error. (error ≡ memory_error) ⊎ ((fault : Fault)
-        × IsFirstFault (length bytes.old) (init_steps 10 7 bytes.old) fault
+        × IsFirstFault (length bytes.old) (init_steps log2_bits hashes bytes.old) fault
         × Refuses ErrorKind.InvalidArgument (fault_text fault) error)) }
     ensures left { IfErr result (λ _. (bytes.new ≡ bytes.old) ⊎ (whole : Table)
-        × AreAlike (empty_table 0 10 7) whole
+        × AreAlike (empty_table seed log2_bits hashes) whole
         × IsMadeOf (map (λ key. key.now) keys.now) whole
         × (bytes.new ≡ form2 whole)) }
 {
-    insert_both(alloc, bytes, 0, 10, 7, keys)
+    insert_both(alloc, bytes, seed, log2_bits, hashes, keys)
 }
 
 /// How many keys were seen, each as often as it was, where that is known.
@@ -285,9 +301,12 @@ pub fn saved_bytes_pass(saved: &[u8])
     form_law();
 }
 
-/// Whether a table contains a key: it does where the key is one of the values for which it stands.
+/// Whether a table contains a key: it does where the key is one of the values for which it stands,
+/// and where the bits at its indexes are set.
 pub fn is_found(seen: &MemberTable, key: &[u8]) -> bool
     ensures told { IsTrue result ↔ IsMember seen.now key.now }
+    ensures indexes { IsTrue result ↔ ((j : ℕ) → j < seen.now.hashes → IsSet seen.now.bits
+        (xxh64 (plus seen.now.seed j) key.now % 2 ^ seen.now.log2_bits)) }
     ensures found { (values : List (List ℕ)) → StandsFor seen.now values → Contains values key.now →
         IsTrue result }
 {

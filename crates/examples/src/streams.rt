@@ -48,6 +48,14 @@ pub fn usual_hashes(bytes: &[u8]) -> (u64, u64)
     (first.finish(), second.finish())
 }
 
+/// What a hasher of any kind answers after more bytes.
+pub fn answer_of<H: Hasher>(hasher: &mut H, bytes: &[u8]) -> u64
+    ensures { result ≡ H.answer (H.after hasher.old bytes.now) }
+{
+    hasher.write(bytes);
+    hasher.finish()
+}
+
 /// A checkpoint of a stream: what the hasher of its first bytes holds.
 pub fn checkpoint(seed: u64, front: &[u8]) -> XxHash64State
     ensures { Xxh64Holds result seed front.now }

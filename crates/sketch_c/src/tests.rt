@@ -1,8 +1,8 @@
 //! The calls together, as a program in C makes them: proved from their contracts alone, and run.
 
-ghost use Rattle.std.specs.Prelude.{◌≡◌, ◌++◌, ◌<◌, ◌≤◌, ℕ, suc, [], length, replicate, slice_index, slice_index_or, IsTrue};
+ghost use Rattle.std.specs.Prelude.{◌≡◌, ◌++◌, ◌<◌, ◌≤◌, ℕ, suc, [], ◌∷◌, length, replicate, slice_index, slice_index_or, IsTrue};
 ghost use Rattle.sketch_base.specs.Bytes.{eight};
-ghost use Rattle.sketch_hash.specs.Columns.{IsFirstWrongOffset, key_at, murmur_words};
+ghost use Rattle.sketch_hash.specs.Columns.{IsFirstWrongOffset, key_at};
 ghost use Rattle.sketch_hash.specs.Held.{murmur_held, xxh64_held};
 ghost use Rattle.sketch_hash.specs.Murmur.{murmur, murmur_after, murmur_answer};
 ghost use Rattle.sketch_hash.specs.Xxh64.{xxh64, xxh64_after, xxh64_answer};
@@ -111,7 +111,8 @@ fn xxh64_keys64(input: &[u8], offsets: &[u64], seed: u64, out: &mut [u64]) -> us
 /// first wrong offset, and then no place is changed.
 fn murmur_keys32(input: &[u8], offsets: &[u32], seed: u64, out: &mut [[u64; 2]]) -> usize
     ensures hashed { result ≡ 0 → (i : ℕ) → i < length out.new →
-        slice_index_or out.new i [] ≡ murmur_words seed (key_at input.now offsets.now i) }
+        slice_index_or out.new i [] ≡ (murmur seed (key_at input.now offsets.now i)).0
+        ∷ (murmur seed (key_at input.now offsets.now i)).1 ∷ [] }
     ensures refused { (place : ℕ) → result ≡ suc place → (out.new ≡ out.old)
         × IsFirstWrongOffset input.now offsets.now (length out.old) place }
 {
@@ -122,7 +123,8 @@ fn murmur_keys32(input: &[u8], offsets: &[u32], seed: u64, out: &mut [[u64; 2]])
 /// first wrong offset, and then no place is changed.
 fn murmur_keys64(input: &[u8], offsets: &[u64], seed: u64, out: &mut [[u64; 2]]) -> usize
     ensures hashed { result ≡ 0 → (i : ℕ) → i < length out.new →
-        slice_index_or out.new i [] ≡ murmur_words seed (key_at input.now offsets.now i) }
+        slice_index_or out.new i [] ≡ (murmur seed (key_at input.now offsets.now i)).0
+        ∷ (murmur seed (key_at input.now offsets.now i)).1 ∷ [] }
     ensures refused { (place : ℕ) → result ≡ suc place → (out.new ≡ out.old)
         × IsFirstWrongOffset input.now offsets.now (length out.old) place }
 {
@@ -140,11 +142,11 @@ fn hash_numbers(numbers: &[u64], seed: u64, out: &mut [u64]) -> usize
     sketch_xxh64_each_u64(numbers, seed, out)
 }
 
-/// Whether the library has what came with 1.1.
-fn has_tables() -> bool
+/// Whether the library is of this version.
+fn is_this_version() -> bool
     ensures { IsTrue result }
 {
-    sketch_hash_version() >= 10_100
+    sketch_hash_version() == 10_100
 }
 
 #[test]
@@ -215,5 +217,9 @@ fn a_number_is_its_eight_bytes(rt: HostRuntime) {
         &[0x4c, 0x5b, 0x6a, 0x79, 0x88],
     );
     assert_same(&rt, sketch_xxh64_u64(0x8879_6a5b_4c3d_2e1f, 9001), hash);
-    assert_same(&rt, (sketch_hash_version(), has_tables()), (10_100, true));
+    assert_same(
+        &rt,
+        (sketch_hash_version(), is_this_version()),
+        (10_100, true),
+    );
 }

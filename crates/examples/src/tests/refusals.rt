@@ -4,12 +4,13 @@ use super::{assert_refused, assert_same, prints};
 use crate::keys::{hash_of_text, inner_key, next_key};
 use crate::merging::merge_saved_twin;
 use crate::refusals::{
-    check_seed, check_version, malformed, text_of_key, text_of_short, text_of_stopped,
+    check_seed, check_version, ends_early, refusal, text_of_key, text_of_short, text_of_stopped,
+    text_of_trailing,
 };
 use crate::seen::{count_saved, is_saved, see_keys_twice};
 use crate::streams::usual_hashes;
 use datasketches::codec::{Short, Stopped};
-use datasketches::error::Error;
+use datasketches::error::{Error, ErrorKind};
 use datasketches::hash::value::{natural_extend, raw_bytes};
 use sketch_member::{Fault, MergeFault};
 use std::alloc::AllocError;
@@ -28,12 +29,20 @@ fn refusals_say_what_is_wrong(rt: HostRuntime) -> Result<(), Fail> {
     let line =
         "InvalidArgument => seed 50541 produces a seed hash of zero; choose a different seed";
     assert_refused(&rt, check_seed(alloc, 50541, 0), line);
-    let error = malformed(alloc, format!(in alloc; "no sketch"));
-    assert_same(&rt, error.message(), "no sketch");
+    let error = refusal(
+        alloc,
+        ErrorKind::InvalidArgument,
+        format!(in alloc; "no sketch"),
+    );
+    assert_same(&rt, prints(&error, "InvalidArgument => no sketch"), true);
+    let error = ends_early(alloc, "no sketch");
+    assert_same(&rt, error.message(), "insufficient data: no sketch");
     let text = text_of_short(alloc, &Short { read: 3 })?;
     assert_same(&rt, text.as_str(), "insufficient data after 3 items");
     let text = text_of_stopped(alloc, &Stopped { accepted: 3 })?;
     assert_same(&rt, text.as_str(), "out of memory after 3 items");
+    let text = text_of_trailing(alloc, 1 << 40)?;
+    assert_same(&rt, text.as_str(), "trailing bytes: 1099511627776");
     Ok(())
 }
 
@@ -65,7 +74,8 @@ fn wrapped_keys_are_read_and_changed(rt: HostRuntime) -> Result<(), Fail> {
 #[test]
 fn bytes_of_a_table_are_made_twice(rt: HostRuntime) -> Result<(), Fail> {
     let (alloc, mut bytes) = (rt.alloc(), [0; 152]);
-    let made = see_keys_twice(alloc, &mut bytes, &[raw_bytes::from_slice(b"fox")])?;
+    let keys = [raw_bytes::from_slice(b"fox")];
+    let made = see_keys_twice(alloc, &mut bytes, 0, 10, 7, &keys)?;
     assert_same(&rt, made.as_slice(), bytes.as_slice());
     assert_same(&rt, merge_saved_twin(&mut bytes, &made).is_ok(), true);
     assert_same(&rt, count_saved(alloc, &bytes)?, Some(2));

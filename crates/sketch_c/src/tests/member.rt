@@ -64,7 +64,7 @@ fn insert_status(bytes: &mut [u8], key: &[u8]) -> i32
 
 /// The status of bytes of which was asked whether they contain a key.
 fn contains_status(bytes: &[u8], key: &[u8]) -> i32
-    ensures { ((table : Table) × (bytes.now ≡ form2 table)
+    ensures { ((table : Table) × IsTable table × (bytes.now ≡ form2 table)
         × (((result ≡ pos 1) × IsMember table key.now)
         ⊎ ((result ≡ pos 0) × (IsMember table key.now → ⊥))))
         ⊎ ((fault : Fault) × (result ≡ status fault)
@@ -83,7 +83,7 @@ fn merge_status_of(into: &mut [u8], from: &[u8]) -> i32
 
 /// The status of bytes whose count was to be read, and the count.
 fn count_status(bytes: &[u8], count: &mut u64) -> i32
-    ensures { ((table : Table) × (bytes.now ≡ form2 table)
+    ensures { ((table : Table) × IsTable table × (bytes.now ≡ form2 table)
         × (((result ≡ pos 0) × (table.count ≡ Some count.new))
         ⊎ ((result ≡ pos 1) × (table.count ≡ None))))
         ⊎ ((fault : Fault) × (result ≡ status fault)

@@ -49,6 +49,8 @@ fn call(words: &Arguments<'_>, alloc: Global, input: &mut &[u8], output: &mut Ve
     ensures no_memory { result ≡ Outcome.NoMemory →
         (input.new ≡ input.old) × (output.new ≡ output.old) }
     ensures whole { result ≡ Outcome.Done → input.new.now ≡ [] }
+    ensures line { result ≡ Outcome.Done → (algorithm : Algorithm) × (seed : ℕ) ×
+        (output.new.items ≡ output.old.items ++ digest_line algorithm seed input.old.now) }
     ensures whole_at_write { result ≡ Outcome.Fault RunFault.Write → input.new.now ≡ [] }
     ensures too_long { result ≡ Outcome.Fault RunFault.TooLong → 2 ^ 32 ≤ length input.old.now }
 {

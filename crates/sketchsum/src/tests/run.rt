@@ -130,17 +130,23 @@ fn run_ahead(input: &[u8], output: &mut Vec<u8>) -> Result<(), RunFault>
 }
 
 // What a caller's proof knows of a run over bytes.
-fn run_over_bytes(turns: u64, input: &mut &[u8], output: &mut Vec<u8>) -> Result<(), RunFault>
+fn run_over_bytes(
+    algorithm: Algorithm,
+    seed: u64,
+    turns: u64,
+    input: &mut &[u8],
+    output: &mut Vec<u8>,
+) -> Result<(), RunFault>
     ensures bounded { length input.old.now ≤ 4096 * turns + length input.new.now }
     ensures whole { OnOk result (input.new.now ≡ []) }
     ensures whole_at_write { result ≡ Err RunFault.Write → input.new.now ≡ [] }
     ensures too_long { result ≡ Err RunFault.TooLong →
         turns + length input.new.now ≤ length input.old.now }
     ensures line { OnOk result (output.new.items
-        ≡ output.old.items ++ digest_line Algorithm.Murmur 0 input.old.now) }
+        ≡ output.old.items ++ digest_line algorithm seed input.old.now) }
     ensures silent { result ≡ Err RunFault.TooLong → output.new ≡ output.old }
 {
-    run_bounded(Algorithm::Murmur, 0, turns, input, output)
+    run_bounded(algorithm, seed, turns, input, output)
 }
 
 // What a caller's proof knows of a run that fails.
@@ -211,7 +217,7 @@ fn a_run_leaves_what_its_turns_do_not_take(rt: HostRuntime) {
     for (turns, left) in [(0, 9000), (1, 4904), (2, 808), (3, 0), (4, 0)] {
         let mut input = [7; 9000].as_slice();
         let mut written = Vec::new(rt.alloc());
-        let result = run_over_bytes(turns, &mut input, &mut written);
+        let result = run_over_bytes(Algorithm::Murmur, 0, turns, &mut input, &mut written);
         assert_same(&rt, (result.is_ok(), input.len()), (turns == 4, left));
     }
 }
