@@ -2,9 +2,9 @@
 
 ghost use Rattle.std.specs.Prelude.{◌≡◌, ◌≢◌, ◌⊎◌, ◌++◌, codes, IfErr, IfOk, MatchResult, string_bytes};
 ghost use Rattle.std.specs.Fmt.{decimal};
-ghost use Rattle.datasketches.specs.ErrorValue.{error_of, memory_error};
-ghost use Rattle.datasketches.specs.Refusals.{Refuses, unsupported_serial_version_text};
-ghost use Rattle.datasketches.specs.SeedHash.{incompatible_seed_hash_text, seed_hash, zero_seed_hash_text};
+ghost use Rattle.datasketches.specs.ErrorValue.{debug_text, error_of, line, memory_error};
+ghost use Rattle.datasketches.specs.Refusals.{Refuses};
+ghost use Rattle.datasketches.specs.SeedHash.{seed_hash};
 
 use datasketches::codec::assert::ensure_serial_version_is;
 use datasketches::codec::{Short, Stopped};
@@ -23,7 +23,9 @@ pub fn check_version(alloc: Global, version: u8) -> Result<(), Error>
     ensures { MatchResult result
         (λ _. version ≡ 3)
         (λ error. (version ≢ 3)
-        × ((error ≡ error_of ErrorKind.InvalidData (unsupported_serial_version_text 3 version))
+        × ((error ≡ error_of ErrorKind.InvalidData
+        (codes "unsupported serial version: expected " ++ (decimal 3
+        ++ (codes ", got " ++ decimal version))))
         ⊎ (error ≡ memory_error))) }
 {
     ensure_serial_version_is(alloc, 3, version)
@@ -38,9 +40,11 @@ pub fn check_version(alloc: Global, version: u8) -> Result<(), Error>
 pub fn check_seed(alloc: Global, seed: u64, actual: u16) -> Result<(), Error>
     ensures accepted { IfOk result (λ _. (seed_hash seed ≢ 0) × (actual ≡ seed_hash seed)) }
     ensures refused { IfErr result (λ error.
-        ((seed_hash seed ≡ 0) × Refuses ErrorKind.InvalidArgument (zero_seed_hash_text seed) error)
+        ((seed_hash seed ≡ 0) × Refuses ErrorKind.InvalidArgument (codes "seed " ++ decimal seed
+        ++ codes " produces a seed hash of zero; choose a different seed") error)
         ⊎ ((actual ≢ seed_hash seed) × Refuses ErrorKind.InvalidData
-        (incompatible_seed_hash_text (codes "sketch") (seed_hash seed) actual) error)) }
+        (codes "incompatible seed hash of sketch: expected " ++ decimal (seed_hash seed)
+        ++ codes ", got " ++ decimal actual) error)) }
 {
     let expected = compute_seed_hash(alloc, seed, ErrorKind::InvalidArgument)?;
     check_seed_hash(alloc, expected, actual, "sketch", ErrorKind::InvalidData)
@@ -69,6 +73,18 @@ pub fn data_ends(alloc: Global, part: &'static str, text: &str) -> Error
         ++ (part.entry.now ++ (codes "): " ++ text.now)))) ⊎ (result ≡ memory_error) }
 {
     Error::insufficient_data_of(alloc, part, text)
+}
+
+/// The line that an error displays, and its debug text, however many contexts it has.
+///
+/// # Errors
+///
+/// Where memory runs out.
+pub fn texts_of_error(alloc: Global, error: &Error) -> Result<(String, String), AllocError>
+    ensures line { IfOk result (λ texts. string_bytes texts.0 ≡ line error.now) }
+    ensures debug { IfOk result (λ texts. string_bytes texts.1 ≡ debug_text error.now) }
+{
+    Ok((error.to_string(alloc)?, format!(in alloc; "{error:?}")?))
 }
 
 /// What a list of items that ended too early says.

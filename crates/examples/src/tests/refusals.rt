@@ -5,7 +5,7 @@ use crate::keys::{hash_of_text, inner_key, next_key};
 use crate::merging::merge_saved_twin;
 use crate::refusals::{
     check_seed, check_version, ends_early, refusal, text_of_key, text_of_short, text_of_stopped,
-    text_of_trailing,
+    text_of_trailing, texts_of_error,
 };
 use crate::seen::{count_saved, is_saved, see_keys_twice};
 use crate::streams::usual_hashes;
@@ -35,6 +35,9 @@ fn refusals_say_what_is_wrong(rt: HostRuntime) -> Result<(), Fail> {
         format!(in alloc; "no sketch"),
     );
     assert_same(&rt, prints(&error, "InvalidArgument => no sketch"), true);
+    let texts = texts_of_error(alloc, &error)?;
+    assert_same(&rt, texts.0.as_str(), "InvalidArgument => no sketch");
+    assert_same(&rt, texts.1.as_str(), "InvalidArgument => no sketch\n");
     let error = ends_early(alloc, "no sketch");
     assert_same(&rt, error.message(), "insufficient data: no sketch");
     let text = text_of_short(alloc, &Short { read: 3 })?;
