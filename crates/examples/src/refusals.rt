@@ -75,6 +75,24 @@ pub fn data_ends(alloc: Global, part: &'static str, text: &str) -> Error
     Error::insufficient_data_of(alloc, part, text)
 }
 
+/// A refusal of a family, in whatever numbers and name.
+pub fn wrong_family(alloc: Global, expected: u8, actual: u8, name: &'static str) -> Error
+    ensures { Refuses ErrorKind.InvalidData (codes "invalid family: expected "
+        ++ (decimal expected ++ (codes " (" ++ (name.entry.now ++ (codes "), got "
+        ++ decimal actual))))) result }
+{
+    Error::invalid_family(alloc, expected, actual, name)
+}
+
+/// The name of a kind of errors.
+pub fn name_of_kind(kind: ErrorKind) -> &'static str
+    ensures argument { kind ≡ ErrorKind.InvalidArgument → result.now ≡ codes "InvalidArgument" }
+    ensures data { kind ≡ ErrorKind.InvalidData → result.now ≡ codes "InvalidData" }
+    ensures memory { kind ≡ ErrorKind.OutOfMemory → result.now ≡ codes "OutOfMemory" }
+{
+    kind.into_static()
+}
+
 /// The line that an error displays, and its debug text, however many contexts it has.
 ///
 /// # Errors
@@ -121,6 +139,19 @@ pub fn text_of_trailing(alloc: Global, count: usize) -> Result<String, AllocErro
         ≡ codes "trailing bytes: " ++ decimal count) }
 {
     Fault::TrailingBytes(count).to_string(alloc)
+}
+
+/// What bytes say that are fewer than the bits of a table need.
+///
+/// # Errors
+///
+/// Where memory runs out.
+pub fn text_of_missing(alloc: Global, need: usize, have: usize) -> Result<String, AllocError>
+    ensures { IfOk result (λ text. string_bytes text
+        ≡ codes "insufficient data (member bits): expected " ++ (decimal need
+        ++ (codes ", got " ++ decimal have))) }
+{
+    Fault::MissingBits { need, have }.to_string(alloc)
 }
 
 /// A wrapped key in decimal, as the key itself prints.

@@ -15,7 +15,7 @@ ghost use Rattle.sketch_member.specs.Table.{Table, Inserts, IsMember, IsSet, IsT
 
 use datasketches::error::{Error, ErrorKind};
 use datasketches::hash::value::raw_bytes::{self, RawBytes};
-use sketch_member::laws::{form_law, insert_both, insert_law, read_again};
+use sketch_member::laws::{form_law, insert_both, insert_law, read_again, read_back};
 use sketch_member::{Fault, MemberTable, TableView, in_place};
 use std::alloc::{AllocError, Global};
 
@@ -175,6 +175,17 @@ pub fn see_saved_key(alloc: Global, saved: &[u8], key: &[u8]) -> Result<(bool, V
     Ok((is_seen, seen.to_bytes(alloc)?))
 }
 
+/// A table that is saved and loaded again: it is the same, whether or not it has a count.
+///
+/// # Errors
+///
+/// Where memory runs out: `OutOfMemory`, with no message.
+pub fn load_again(alloc: Global, seen: &MemberTable) -> Result<MemberTable, Error>
+    ensures { IfOk result (λ again. again ≡ seen.now) }
+{
+    read_back(alloc, seen)
+}
+
 /// How many inserts saved bytes counted: `None` for bytes of version 1, which have no count.
 ///
 /// # Errors
@@ -230,7 +241,8 @@ pub fn see_keys_twice(
         × AreAlike (empty_table seed log2_bits hashes) whole
         × IsMadeOf (map (λ key. key.now) keys.now) whole
         × (made.items ≡ form2 whole)) }
-    ensures refused { IfErr result (λ error. (error ≡ memory_error) ⊎ ((fault : Fault)
+    ensures refused { IfErr result (λ error. (error ≡ memory_error) ⊎ ((bytes.new ≡ bytes.old)
+        × (fault : Fault)
         × IsFirstFault (length bytes.old) (init_steps log2_bits hashes bytes.old) fault
         × Refuses ErrorKind.InvalidArgument (fault_text fault) error)) }
     ensures left { IfErr result (λ _. (bytes.new ≡ bytes.old) ⊎ (whole : Table)

@@ -2,13 +2,13 @@
 
 ghost use Rattle.std.specs.Prelude.{◌≡◌, ℕ, List, ◌++◌};
 ghost use Rattle.std.specs.List.{flat_map};
-ghost use Rattle.datasketches.specs.Held.{Xxh64Holds, xxh64_held};
+ghost use Rattle.datasketches.specs.Held.{MurmurHolds, Xxh64Holds, murmur_held, xxh64_held};
 ghost use Rattle.datasketches.specs.Murmur.{murmur};
 ghost use Rattle.datasketches.specs.Xxh64.{Xxh64Stands, xxh64};
 
 use datasketches::hash::value::feed_all;
 use datasketches::hash::value::raw_bytes::RawBytes;
-use datasketches::hash::{Hash, Hasher, MurmurHash3X64128, XxHash64, XxHash64State};
+use datasketches::hash::{Hash, Hasher, MurmurHash3X64128, MurmurState, XxHash64, XxHash64State};
 
 /// The Murmur pair of a stream that comes in pieces.
 pub fn murmur_of_pieces(seed: u64, pieces: &[RawBytes<&[u8]>]) -> (u64, u64)
@@ -63,6 +63,33 @@ pub fn checkpoint(seed: u64, front: &[u8]) -> XxHash64State
     let mut hasher = XxHash64::with_seed(seed);
     hasher.write(front);
     hasher.state()
+}
+
+/// A checkpoint of Murmur.
+pub fn murmur_checkpoint(seed: u64, front: &[u8]) -> MurmurState
+    ensures { MurmurHolds result seed front.now }
+{
+    let mut hasher = MurmurHash3X64128::with_seed(seed);
+    hasher.write(front);
+    hasher.state()
+}
+
+/// The Murmur pair of a stream that goes on from a checkpoint.
+pub fn murmur_from(state: &MurmurState, back: &[u8]) -> (u64, u64)
+    ensures { (seed : ℕ) (front : List ℕ) → MurmurHolds state.now seed front →
+        result ≡ murmur seed (front ++ back.now) }
+{
+    let mut hasher = MurmurHash3X64128::resume(state);
+    hasher.write(back);
+    hasher.finish128()
+}
+
+/// A checkpoint of Murmur that is taken up and kept once more: it holds the same, also where no
+/// hasher made it.
+pub fn keep_murmur_again(state: &MurmurState) -> MurmurState
+    ensures { murmur_held result ≡ murmur_held state.now }
+{
+    MurmurHash3X64128::resume(state).state()
 }
 
 /// The XXH64 hash of a stream that goes on from a checkpoint.

@@ -13,7 +13,15 @@ use std::io::{self, ErrorKind, Read, Write};
 
 #[test]
 fn an_input_becomes_its_line(rt: HostRuntime) {
-    let cases: [(Algorithm, u64, &[u8], &str); 5] = [
+    let eight = &[0xb8, 0xe4, 0x2a, 0x56, 0xf1, 0xfc, 0x30, 0x23];
+    let cases: [(Algorithm, u64, &[u8], &str); 7] = [
+        (
+            Algorithm::Murmur,
+            u64::MAX,
+            eight,
+            "b585fa32ba79bba912904104ac5ac4df\n",
+        ),
+        (Algorithm::Xx, u64::MAX, eight, "cc033c670917b4af\n"),
         (
             Algorithm::Murmur,
             0,
