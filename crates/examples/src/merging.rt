@@ -1,6 +1,6 @@
 //! Tables of several workers that become one, in whatever order.
 
-ghost use Rattle.std.specs.Prelude.{◌≡◌, ◌≢◌, ◌⊎◌, ℕ, ◌+◌, List, ◌++◌, codes, Err, IfErr, IfOk, IsOk, IsTrue};
+ghost use Rattle.std.specs.Prelude.{◌≡◌, ◌≢◌, ◌⊎◌, ℕ, ◌+◌, List, ◌++◌, codes, Err, IfErr, IfOk, IsOk};
 ghost use Rattle.datasketches.specs.ErrorValue.{memory_error};
 ghost use Rattle.datasketches.specs.Refusals.{Refuses};
 ghost use Rattle.sketch_member.specs.Form.{form2};
@@ -153,15 +153,20 @@ pub fn merge_twin(alloc: Global, table: &mut MemberTable, twin: &MemberTable) ->
     table.merge(alloc, twin)
 }
 
-/// Merges the bytes of a table into those of another, whether or not they have counts, and says
-/// whether they were merged.
-pub fn merge_saved(into: &mut [u8], from: &[u8]) -> bool
-    ensures { (table other : Table) → IsTable table → IsTable other → into.old ≡ form2 table →
-        from.now ≡ form2 other → IsTrue result →
-        (after : Table) × Merges other table after × (into.new ≡ form2 after) }
+/// Merges the bytes of a table into those of another, whether or not they have counts.
+///
+/// # Errors
+///
+/// Where one of them is no table of version 2, or they are not alike. Both are unchanged.
+pub fn merge_saved(into: &mut [u8], from: &[u8]) -> Result<(), MergeFault>
+    ensures merged { (table other : Table) → IsTable table → IsTable other → into.old ≡ form2 table →
+        from.now ≡ form2 other → IfOk result (λ _. (after : Table) × Merges other table after
+        × (into.new ≡ form2 after)) }
+    ensures refused { IfErr result (λ fault. (into.new ≡ into.old)
+        × IsMergeFault into.old from.now fault) }
 {
     form_law();
-    in_place::merge(into, from).is_ok()
+    in_place::merge(into, from)
 }
 
 /// Merges the bytes of a table into equal bytes, in place.

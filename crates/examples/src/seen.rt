@@ -114,14 +114,20 @@ pub fn see_key_in(bytes: &mut [u8], key: &[u8]) -> Result<bool, Fault>
     Ok(is_seen)
 }
 
-/// Inserts a key into the bytes of a table, whether or not they have its count, and says whether it
-/// was inserted.
-pub fn insert_in(bytes: &mut [u8], key: &[u8]) -> bool
-    ensures { (table : Table) → IsTable table → bytes.old ≡ form2 table → IsTrue result →
-        (after : Table) × Inserts key.now table after × (bytes.new ≡ form2 after) }
+/// Inserts a key into the bytes of a table, whether or not they have its count.
+///
+/// # Errors
+///
+/// Where the bytes are no table of version 2: the first fault in them. They are unchanged.
+pub fn insert_in(bytes: &mut [u8], key: &[u8]) -> Result<(), Fault>
+    ensures inserted { (table : Table) → IsTable table → bytes.old ≡ form2 table →
+        IfOk result (λ _. (after : Table) × Inserts key.now table after
+        × (bytes.new ≡ form2 after)) }
+    ensures refused { IfErr result (λ fault. (bytes.new ≡ bytes.old)
+        × IsFirstFault (length bytes.old) (view_steps bytes.old) fault) }
 {
     form_law();
-    in_place::insert(bytes, &raw_bytes::from_slice(key)).is_ok()
+    in_place::insert(bytes, &raw_bytes::from_slice(key))
 }
 
 /// What a fault says of a step, whose condition is here that two numbers are equal: bytes that end
@@ -181,7 +187,7 @@ pub fn see_saved_key(alloc: Global, saved: &[u8], key: &[u8]) -> Result<(bool, V
 ///
 /// Where memory runs out: `OutOfMemory`, with no message.
 pub fn load_again(alloc: Global, seen: &MemberTable) -> Result<MemberTable, Error>
-    ensures { IfOk result (λ again. again ≡ seen.now) }
+    ensures { MatchResult result (λ again. again ≡ seen.now) (λ error. error ≡ memory_error) }
 {
     read_back(alloc, seen)
 }
