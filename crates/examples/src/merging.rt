@@ -159,9 +159,9 @@ pub fn merge_twin(alloc: Global, table: &mut MemberTable, twin: &MemberTable) ->
 ///
 /// Where one of them is no table of version 2, or they are not alike. Both are unchanged.
 pub fn merge_saved(into: &mut [u8], from: &[u8]) -> Result<(), MergeFault>
-    ensures merged { (table other : Table) → IsTable table → IsTable other → into.old ≡ form2 table →
-        from.now ≡ form2 other → IfOk result (λ _. (after : Table) × Merges other table after
-        × (into.new ≡ form2 after)) }
+    ensures merged { (table other : Table) → IsTable table → IsTable other →
+        into.old ≡ form2 table → from.now ≡ form2 other → IfOk result (λ _. (after : Table)
+        × Merges other table after × (into.new ≡ form2 after)) }
     ensures refused { IfErr result (λ fault. (into.new ≡ into.old)
         × IsMergeFault into.old from.now fault) }
 {
