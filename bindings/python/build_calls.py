@@ -47,7 +47,7 @@ calls.cdef(
         const sketch_murmur3_x64_128_state_t *state);
 
     enum sketch_member_status {
-        SKETCH_MEMBER_DONE, SKETCH_MEMBER_HEADER_ENDS, SKETCH_MEMBER_PREAMBLE_LONGS,
+        SKETCH_MEMBER_OK, SKETCH_MEMBER_HEADER_ENDS, SKETCH_MEMBER_PREAMBLE_LONGS,
         SKETCH_MEMBER_SERIAL_VERSION, SKETCH_MEMBER_FAMILY, SKETCH_MEMBER_LOG2_BITS,
         SKETCH_MEMBER_HASHES, SKETCH_MEMBER_RESERVED, SKETCH_MEMBER_UNKNOWN_COUNT,
         SKETCH_MEMBER_MISSING_BITS, SKETCH_MEMBER_TRAILING_BYTES, SKETCH_MEMBER_VERSION_1,
@@ -72,13 +72,13 @@ calls.set_source(
     """
     #include <sketch_hash.h>
 
-    /* PyPy's cffi gives up Python's lock around each call by itself. */
+    /* PyPy's cffi releases the GIL around each call by itself. */
     #ifdef PYPY_VERSION
     #error "sketch_hash is for CPython alone"
     #endif
 
-    /* The glue gives up Python's lock around each call by these two macros. A short call takes less
-     * time than that, so the calls below do it, and from 64 KiB on alone. */
+    /* The glue releases the GIL around each call by these two macros. A short call takes less time
+     * than that, so the calls below do it, and from 64 KiB on alone. */
     #undef Py_BEGIN_ALLOW_THREADS
     #undef Py_END_ALLOW_THREADS
     #define Py_BEGIN_ALLOW_THREADS {

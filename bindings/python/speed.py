@@ -1,6 +1,6 @@
 """Measures a call beside python3-xxhash and hashlib's blake2b: python3 speed.py
 
-The contestants take turns in each of 51 rounds. The table has the nanoseconds of a call, and the
+The calls are timed in turns in each of 51 rounds. The table has the nanoseconds of a call, and the
 median of the rounds' ratios to python3-xxhash.
 """
 import hashlib

@@ -1,7 +1,7 @@
 """Measures the module under Node beside the native library, and the page beside a page that only
 reads the same file: python3 bindings/wasm/speed.py
 
-The contestants take turns in each of nine rounds; the table has the median of the rounds' ratios.
+The two sides are timed in turns in each of nine rounds; the table has the median of the rounds' ratios.
 It needs node, chromium, chromium-driver and python3-selenium.
 """
 import ctypes

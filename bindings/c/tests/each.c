@@ -71,7 +71,7 @@ static void each_key(void) {
     }
 }
 
-static void offsets_that_lie(void) {
+static void wrong_offsets(void) {
     lay_out(1, 40);
     for (size_t i = 0; i <= KEYS; i++) {
         const uint64_t offset = wide[i];
@@ -120,7 +120,7 @@ int main(void) {
     hashes = malloc(KEYS * sizeof *hashes);
     pairs = malloc(KEYS * sizeof *pairs);
     each_key();
-    offsets_that_lie();
+    wrong_offsets();
     numbers();
     no_keys();
     return conclude(100000);

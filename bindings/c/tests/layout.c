@@ -122,7 +122,7 @@ static void initializers(void) {
 /* A status is 0, and else the negative number of its place. */
 static void statuses(void) {
     static const int numbers[] = {
-        SKETCH_MEMBER_DONE,           SKETCH_MEMBER_HEADER_ENDS,     SKETCH_MEMBER_PREAMBLE_LONGS,
+        SKETCH_MEMBER_OK,             SKETCH_MEMBER_HEADER_ENDS,     SKETCH_MEMBER_PREAMBLE_LONGS,
         SKETCH_MEMBER_SERIAL_VERSION, SKETCH_MEMBER_FAMILY,          SKETCH_MEMBER_LOG2_BITS,
         SKETCH_MEMBER_HASHES,         SKETCH_MEMBER_RESERVED,        SKETCH_MEMBER_UNKNOWN_COUNT,
         SKETCH_MEMBER_MISSING_BITS,   SKETCH_MEMBER_TRAILING_BYTES,  SKETCH_MEMBER_VERSION_1,

@@ -81,7 +81,7 @@ def test_a_str_is_refused_with_the_reason():
         assert "encode" not in str(found.value)
 
 
-def test_nothing():
+def test_empty_input():
     for empty in (b"", bytearray(), memoryview(b""), array.array("Q"), numpy.zeros(0)):
         assert xxh64(empty).hexdigest() == "ef46db3751d8e999"
         assert murmur3_x64_128(empty).intdigest() == 0

@@ -65,7 +65,7 @@ def test_each_name_of_a_width():
             assert xxh64_each(offsets).tolist() == xxh64_each(array.array("Q", some)).tolist()
 
 
-def test_nothing():
+def test_columns_of_no_keys():
     assert xxh64_each(numpy.zeros(0, "uint64")).tolist() == []
     for each in EACH:
         assert each((b"", array.array("I", [0]))).tolist() == []
@@ -75,7 +75,7 @@ def test_nothing():
 
 @pytest.mark.parametrize("each", EACH)
 @pytest.mark.parametrize("dtype", WIDTHS)
-def test_offsets_that_lie(dtype, each):
+def test_wrong_offsets(dtype, each):
     offsets = numpy.array(OFFSETS, dtype)
     for place in (0, 1, 500, 1000):
         for lie in (len(DATA) + 1, -1):

@@ -144,7 +144,7 @@ def text_of(place, value):
         return None if 1 <= value <= 16 else "hashes is not 1 to 16"
     if place == 5 and value == 0:
         return "the count is unknown and not 0"
-    return "bytes 5 to 7 are not as they have to be" if place < 8 else None
+    return "byte 5 is not 0, or 1 in version 2, or byte 6 or 7 is not 0" if place < 8 else None
 
 
 @pytest.mark.parametrize("place", range(24))
@@ -176,7 +176,7 @@ def test_each_damage_of_a_header_has_its_text(place):
 def test_bytes_of_another_length_are_refused():
     whole = filled().to_bytes()
     for length in range(len(whole)):
-        text = "the header is not all there$" if length < 24 else "fewer bytes"
+        text = "the header is truncated$" if length < 24 else "fewer bytes"
         with pytest.raises(ValueError, match=text):
             MemberTable.from_bytes(whole[:length])
     with pytest.raises(ValueError, match="more bytes"):

@@ -1,4 +1,4 @@
-//! Lookups in a `HashMap` of 2^16 keys under four hashers: `cargo bench`. The contestants take turns
+//! Lookups in a `HashMap` of 2^16 keys under four hashers: `cargo bench`. The maps are timed in turns
 //! in each of 51 rounds. The table has the nanoseconds of a lookup, and the median of the rounds'
 //! ratios to std's hasher.
 
@@ -28,7 +28,7 @@ impl BuildHasher for BuildPlain {
 }
 
 /// A round under one hasher: the nanoseconds of a lookup.
-fn contestant<'a, K: Hash + Eq>(
+fn round_of<'a, K: Hash + Eq>(
     keys: &'a [K],
     hasher: impl BuildHasher + 'a,
 ) -> Box<dyn FnMut() -> f64 + 'a> {
@@ -48,19 +48,19 @@ fn median(mut numbers: Vec<f64>) -> f64 {
 }
 
 fn compare<K: Hash + Eq>(case: &str, keys: Vec<K>) {
-    let mut contestants = [
-        ("std's DefaultHasher", contestant(&keys, RandomState::new())),
-        ("Xxh64", contestant(&keys, BuildXxh64::new(0))),
-        ("plain XXH64, inlined", contestant(&keys, BuildPlain)),
-        ("Murmur3X64_128", contestant(&keys, BuildMurmur3X64_128::new(0))),
+    let mut maps = [
+        ("std's DefaultHasher", round_of(&keys, RandomState::new())),
+        ("Xxh64", round_of(&keys, BuildXxh64::new(0))),
+        ("plain XXH64, inlined", round_of(&keys, BuildPlain)),
+        ("Murmur3X64_128", round_of(&keys, BuildMurmur3X64_128::new(0))),
     ];
-    let mut times = vec![Vec::new(); contestants.len()];
+    let mut times = vec![Vec::new(); maps.len()];
     for _ in 0..ROUNDS {
-        for (times, (_, round)) in times.iter_mut().zip(&mut contestants) {
+        for (times, (_, round)) in times.iter_mut().zip(&mut maps) {
             times.push(round());
         }
     }
-    for (times_of, (name, _)) in times.iter().zip(&contestants) {
+    for (times_of, (name, _)) in times.iter().zip(&maps) {
         let ratios = times_of.iter().zip(&times[0]).map(|(time, base)| time / base).collect();
         println!("| {case} | {name} | {:.1} | {:.2} |", median(times_of.clone()), median(ratios));
     }

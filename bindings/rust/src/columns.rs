@@ -7,7 +7,8 @@ use crate::calls::{
 use core::error::Error;
 use core::fmt;
 
-/// An offset of a column: `u32` or `u64`. Apache Arrow's are signed:
+/// An offset of a column: `u32` or `u64`. Apache Arrow's are signed: cast their slice to the unsigned
+/// type of the same width. Without that:
 ///
 /// ```compile_fail
 /// sketch_hash::xxh64_each(b"", &[0_i64, 0], 7, &mut [0]);

@@ -34,7 +34,8 @@ impl MemberTable {
     ///
     /// # Errors
     ///
-    /// Where `log2_bits` is not 6 to 20, and then where `hashes` is not 1 to 16.
+    /// Where `log2_bits` is not 6 to 20, and then where `hashes` is not 1 to 16. If memory runs out,
+    /// the program aborts, as with any `Vec`.
     pub fn new(seed: u64, log2_bits: u32, hashes: u32) -> Result<Self, TableError> {
         let mut bytes = vec![0; sketch_member_size(log2_bits)];
         // SAFETY: the bytes are writable for their length, and borrowed alone.
@@ -49,7 +50,8 @@ impl MemberTable {
     ///
     /// # Errors
     ///
-    /// The first fault in the order of the bytes, where they are no table.
+    /// The first fault in the order of the bytes, where they are no table. Without memory as for
+    /// [`new`](Self::new).
     pub fn from_bytes(bytes: &[u8]) -> Result<Self, TableError> {
         // SAFETY: a slice is readable for its length, which is below 2^63, and does not change while
         // it is borrowed. This holds in the calls below too.
@@ -169,13 +171,13 @@ macro_rules! table_errors {
 }
 
 table_errors! {
-    -1 HeaderEnds "the header is not all there"
+    -1 HeaderEnds "the header is truncated"
     -2 PreambleLongs "byte 0 is neither 2 nor 3"
     -3 SerialVersion "byte 1 is not one less than byte 0"
     -4 Family "byte 2 is not 200"
     -5 Log2Bits "log2_bits is not 6 to 20"
     -6 Hashes "hashes is not 1 to 16"
-    -7 Reserved "bytes 5 to 7 are not as they have to be"
+    -7 Reserved "byte 5 is not 0, or 1 in version 2, or byte 6 or 7 is not 0"
     -8 UnknownCount "the count is unknown and not 0"
     -9 MissingBits "there are fewer bytes than the bits need"
     -10 TrailingBytes "there are more bytes than the bits need"

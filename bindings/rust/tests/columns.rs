@@ -69,7 +69,7 @@ fn lies_are_refused<O: Offset + Copy + TryFrom<usize, Error: Debug>>(greatest: O
 }
 
 #[test]
-fn offsets_that_lie_are_refused() {
+fn wrong_offsets_are_refused() {
     lies_are_refused(u32::MAX);
     lies_are_refused(u64::MAX);
 }

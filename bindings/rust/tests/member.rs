@@ -205,12 +205,12 @@ fn what_is_printed() {
     let error: Box<dyn std::error::Error> = Box::new(MemberTable::new(0, 5, 1).unwrap_err());
     assert_eq!(error.to_string(), "log2_bits is not 6 to 20");
     for (error, text) in [
-        (TableError::HeaderEnds, "the header is not all there"),
+        (TableError::HeaderEnds, "the header is truncated"),
         (TableError::PreambleLongs, "byte 0 is neither 2 nor 3"),
         (TableError::SerialVersion, "byte 1 is not one less than byte 0"),
         (TableError::Family, "byte 2 is not 200"),
         (TableError::Hashes, "hashes is not 1 to 16"),
-        (TableError::Reserved, "bytes 5 to 7 are not as they have to be"),
+        (TableError::Reserved, "byte 5 is not 0, or 1 in version 2, or byte 6 or 7 is not 0"),
         (TableError::UnknownCount, "the count is unknown and not 0"),
         (TableError::MissingBits, "there are fewer bytes than the bits need"),
         (TableError::TrailingBytes, "there are more bytes than the bits need"),

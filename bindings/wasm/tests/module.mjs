@@ -105,7 +105,7 @@ for (const offsets of [[0, 3], ...others, new DataView(all.buffer), null, undefi
     assert.throws(() => xxh64Each(all, offsets), TypeError);
     assert.throws(() => xxh64EachU64(offsets), TypeError);
 }
-assert.throws(() => xxh64EachU64(ends), /the column is no BigUint64Array, BigInt64Array$/);
+assert.throws(() => xxh64EachU64(ends), /the column must be one of BigUint64Array, BigInt64Array$/);
 assert.throws(() => murmur3X64_128Each('fox', ends), /TextEncoder/);
 // A refused seed does not let the memory grow.
 const { grow } = WebAssembly.Memory.prototype;
@@ -185,7 +185,7 @@ const bytes = readFileSync(new URL('sketch_hash.wasm', dist));
 assert.equal((await load(bytes)).xxh64(fox), xxh64(fox));
 assert.equal((await load(String(new URL('sketch_hash.wasm', dist)))).xxh64(fox), xxh64(fox));
 for (const part of [bytes.subarray(1), bytes.subarray(0, 1000), new ArrayBuffer(0)]) {
-    await assert.rejects(load(part), /no WebAssembly module, or is cut short/);
+    await assert.rejects(load(part), /not a WebAssembly module, or is truncated/);
 }
 assert.equal((await load('sketch_hash.wasm')).xxh64(fox), xxh64(fox));
 const { fetch } = globalThis;

@@ -121,7 +121,7 @@ pub fn write_if_it_fits(writer: &mut SketchBytes, bytes: &[u8]) -> bool
 ///
 /// # Errors
 ///
-/// Where the room finds no memory.
+/// Where memory runs out.
 pub fn copy_into_room(alloc: Global, bytes: &[u8]) -> Result<(Vec<u8>, bool), AllocError>
     ensures copied { IfOk result (λ made. made.0.items ≡ bytes.now) }
     ensures written { IfOk result (λ made. IsTrue made.1) }
@@ -131,7 +131,7 @@ pub fn copy_into_room(alloc: Global, bytes: &[u8]) -> Result<(Vec<u8>, bool), Al
     Ok((writer.into_bytes(), is_written))
 }
 
-/// Fills a buffer from a reader. The bytes behind those remain.
+/// Fills a buffer from a reader. The bytes after those remain.
 ///
 /// # Errors
 ///

@@ -21,7 +21,7 @@ use std::alloc::Global;
 /// # Errors
 ///
 /// Where the two are not alike, in seed, size or hashes: `InvalidArgument`, or `OutOfMemory` where
-/// the text finds no memory. The table is unchanged.
+/// memory for the text runs out. The table is unchanged.
 pub fn merge_worker(
     alloc: Global,
     table: &mut MemberTable,

@@ -1,7 +1,8 @@
 //! What refusals say, and how a text is made of what is printed.
 
-ghost use Rattle.std.specs.Prelude.{◌≡◌, ◌≢◌, ◌⊎◌, ◌++◌, codes, IfErr, IfOk, MatchResult, string_bytes};
+ghost use Rattle.std.specs.Prelude.{◌≡◌, ◌≢◌, ◌⊎◌, ◌++◌, ◌∷◌, [], ℕ, List, codes, IfErr, IfOk, MatchResult, string_bytes};
 ghost use Rattle.std.specs.Fmt.{decimal};
+ghost use Rattle.std.specs.List.{flat_map};
 ghost use Rattle.datasketches.specs.ErrorValue.{debug_text, error_of, line, memory_error};
 ghost use Rattle.datasketches.specs.Refusals.{Refuses};
 ghost use Rattle.datasketches.specs.SeedHash.{seed_hash};
@@ -18,7 +19,7 @@ use std::alloc::{AllocError, Global};
 ///
 /// # Errors
 ///
-/// At any other: `InvalidData`, or `OutOfMemory` where the text finds no memory.
+/// At any other: `InvalidData`, or `OutOfMemory` where memory for the text runs out.
 pub fn check_version(alloc: Global, version: u8) -> Result<(), Error>
     ensures { MatchResult result
         (λ _. version ≡ 3)
@@ -35,8 +36,8 @@ pub fn check_version(alloc: Global, version: u8) -> Result<(), Error>
 ///
 /// # Errors
 ///
-/// At a seed whose hash is 0: `InvalidArgument`. At another hash: `InvalidData`. Where the text
-/// finds no memory: `OutOfMemory`.
+/// At a seed whose hash is 0: `InvalidArgument`. At another hash: `InvalidData`. Where memory
+/// for the text runs out: `OutOfMemory`.
 pub fn check_seed(alloc: Global, seed: u64, actual: u16) -> Result<(), Error>
     ensures accepted { IfOk result (λ _. (seed_hash seed ≢ 0) × (actual ≡ seed_hash seed)) }
     ensures refused { IfErr result (λ error.
@@ -84,6 +85,18 @@ pub fn wrong_family(alloc: Global, expected: u8, actual: u8, name: &'static str)
     Error::invalid_family(alloc, expected, actual, name)
 }
 
+/// A refusal of a number of preamble longs, whatever was expected.
+pub fn wrong_longs(alloc: Global, expected: &[u8], actual: u8) -> Error
+    ensures none { expected.now ≡ [] → Refuses ErrorKind.InvalidData
+        (codes "invalid preamble longs: expected one of [], got " ++ decimal actual) result }
+    ensures some { (first : ℕ) (others : List ℕ) → expected.now ≡ first ∷ others →
+        Refuses ErrorKind.InvalidData (codes "invalid preamble longs: expected one of "
+        ++ ((codes "[" ++ decimal first ++ flat_map (λ other. codes ", " ++ decimal other) others
+        ++ codes "]") ++ (codes ", got " ++ decimal actual))) result }
+{
+    Error::invalid_preamble_longs(alloc, expected, actual)
+}
+
 /// The name of a kind of errors.
 pub fn name_of_kind(kind: ErrorKind) -> &'static str
     ensures argument { kind ≡ ErrorKind.InvalidArgument → result.now ≡ codes "InvalidArgument" }
@@ -117,7 +130,7 @@ pub fn text_of_short(alloc: Global, short: &Short) -> Result<String, AllocError>
     short.to_string(alloc)
 }
 
-/// What a list of items that found no memory says.
+/// What a list of items for which memory ran out says.
 ///
 /// # Errors
 ///
@@ -129,7 +142,7 @@ pub fn text_of_stopped(alloc: Global, stopped: &Stopped) -> Result<String, Alloc
     stopped.to_string(alloc)
 }
 
-/// What bytes say that go on behind a table, by so many.
+/// What the fault of so many bytes after a table says.
 ///
 /// # Errors
 ///

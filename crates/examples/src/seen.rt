@@ -1,6 +1,7 @@
 //! Keys that were seen, in a table of members that is saved and loaded.
 
-ghost use Rattle.std.specs.Prelude.{ℕ, List, ◌≡◌, ◌⊎◌, ◌↔◌, ◌+◌, ◌%◌, ◌^◌, ◌<◌, [], ◌∷◌, ◌++◌, ◌≢◌, ◌≤◌, None, Some, IfErr, IfOk, IsTrue, MatchResult, length, slice_index, map, Contains};
+ghost use Rattle.std.specs.Prelude.{ℕ, List, ◌≡◌, ◌⊎◌, ◌↔◌, ◌+◌, ◌-◌, ◌%◌, ◌^◌, ◌<◌, [], ◌∷◌, ◌++◌, ◌≢◌, ◌≤◌, None, Some, IfErr, IfOk, IsTrue, MatchResult, codes, length, slice_index, map, Contains};
+ghost use Rattle.std.specs.Fmt.{decimal};
 ghost use Rattle.datasketches.specs.ErrorValue.{memory_error};
 ghost use Rattle.datasketches.specs.Refusals.{Refuses};
 ghost use Rattle.datasketches.specs.Words.{plus};
@@ -43,13 +44,19 @@ pub fn load_keys(alloc: Global, saved: &[u8]) -> Result<MemberTable, Error>
 ///
 /// # Errors
 ///
-/// Where memory runs out: `OutOfMemory`, with no message.
-pub fn start_keys(alloc: Global) -> Result<MemberTable, Error>
-    ensures made { IfOk result (λ seen. seen ≡ empty_table 0 10 7) }
+/// Where a size is outside its limits: `InvalidArgument`. Where memory runs out: `OutOfMemory`,
+/// with no message.
+pub fn start_keys(alloc: Global, seed: u64, log2_bits: u8, hashes: u8) -> Result<MemberTable, Error>
+    ensures made { IfOk result (λ seen. seen ≡ empty_table seed log2_bits hashes) }
     ensures empty { IfOk result (λ seen. (i : ℕ) → IsSet seen.bits i → ⊥) }
-    ensures refused { IfErr result (λ error. error ≡ memory_error) }
+    ensures refused { IfErr result (λ error.
+        ((IsLog2Bits log2_bits → ⊥) × Refuses ErrorKind.InvalidArgument
+        (codes "invalid log2 bits: expected 6 to 20, got " ++ decimal log2_bits) error)
+        ⊎ ((IsLog2Bits log2_bits × (IsHashes hashes → ⊥) × Refuses ErrorKind.InvalidArgument
+        (codes "invalid hashes: expected 1 to 16, got " ++ decimal hashes) error)
+        ⊎ (IsLog2Bits log2_bits × IsHashes hashes × (error ≡ memory_error)))) }
 {
-    MemberTable::new(alloc, 0, 10, 7)
+    MemberTable::new(alloc, seed, log2_bits, hashes)
 }
 
 /// Makes bytes a table of no keys, where they lie: whether its sizes lie in their limits, and the
@@ -157,6 +164,23 @@ pub fn other_family(bytes: &[u8]) -> Option<Fault>
     requires table { (slice_index bytes.now 0 ≡ 3) × (slice_index bytes.now 1 ≡ 2) }
     requires other { slice_index bytes.now 2 ≢ 200 }
     ensures { result ≡ Some (Fault.Family (slice_index bytes.now 2)) }
+{
+    TableView::new(bytes).err()
+}
+
+/// What is wrong with bytes that begin with the header of a table of any size and with a count, but
+/// have fewer bytes behind it than the bits need, or more.
+pub fn other_length(bytes: &[u8]) -> Option<Fault>
+    requires header { 24 ≤ length bytes.now }
+    requires kind { (slice_index bytes.now 0 ≡ 3) × (slice_index bytes.now 1 ≡ 2)
+        × (slice_index bytes.now 2 ≡ 200) }
+    requires sizes { IsLog2Bits (slice_index bytes.now 3) × IsHashes (slice_index bytes.now 4) }
+    requires flag { (slice_index bytes.now 5 ≡ 1) × (slice_index bytes.now 6 ≡ 0)
+        × (slice_index bytes.now 7 ≡ 0) }
+    ensures short { length bytes.now < 24 + byte_count (slice_index bytes.now 3) → result
+        ≡ Some (Fault.MissingBits (byte_count (slice_index bytes.now 3)) (length bytes.now - 24)) }
+    ensures long { 24 + byte_count (slice_index bytes.now 3) < length bytes.now → result ≡ Some
+        (Fault.TrailingBytes (length bytes.now - 24 - byte_count (slice_index bytes.now 3))) }
 {
     TableView::new(bytes).err()
 }

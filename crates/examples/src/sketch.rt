@@ -27,7 +27,7 @@ use std::ops::Bound;
 /// # Errors
 ///
 /// At the first that is wrong or missing: `InvalidData`. Where the seed's own hash is zero:
-/// `InvalidArgument`. Where the text finds no memory: `OutOfMemory`, with no message.
+/// `InvalidArgument`. Where memory for the text runs out: `OutOfMemory`, with no message.
 pub fn check_preamble(alloc: Global, bytes: &[u8], seed: u64) -> Result<(), Error>
     ensures { MatchResult result
         (λ _. HasPreamble seed bytes.now) (λ _. HasPreamble seed bytes.now → ⊥) }

@@ -2,6 +2,7 @@
 
 ghost use Rattle.std.specs.Prelude.{◌≡◌, ℕ, List, ◌++◌};
 ghost use Rattle.std.specs.List.{flat_map};
+ghost use Rattle.datasketches.specs.Bytes.{low_bytes, modulo};
 ghost use Rattle.datasketches.specs.Held.{MurmurHolds, Xxh64Holds, murmur_held, xxh64_held};
 ghost use Rattle.datasketches.specs.Murmur.{murmur};
 ghost use Rattle.datasketches.specs.Xxh64.{Xxh64Stands, xxh64};
@@ -46,6 +47,29 @@ pub fn usual_hashes(bytes: &[u8]) -> (u64, u64)
     first.write(bytes);
     second.write(bytes);
     (first.finish(), second.finish())
+}
+
+/// Writes the fields of a record one after another, to a hasher of any kind: each feeds its bytes,
+/// the lowest first.
+pub fn write_record<H: Hasher>(
+    hasher: &mut H,
+    unsigned: (u8, u16, u32, u64),
+    signed: (i8, i16, i32, i64),
+)
+    ensures { hasher.new ≡ H.after (H.after (H.after (H.after (H.after (H.after (H.after (H.after
+        hasher.old (low_bytes 1 unsigned.0)) (low_bytes 2 unsigned.1)) (low_bytes 4 unsigned.2))
+        (low_bytes 8 unsigned.3)) (low_bytes 1 (modulo 8 signed.0)))
+        (low_bytes 2 (modulo 16 signed.1))) (low_bytes 4 (modulo 32 signed.2)))
+        (low_bytes 8 (modulo 64 signed.3)) }
+{
+    hasher.write_u8(unsigned.0);
+    hasher.write_u16(unsigned.1);
+    hasher.write_u32(unsigned.2);
+    hasher.write_u64(unsigned.3);
+    hasher.write_i8(signed.0);
+    hasher.write_i16(signed.1);
+    hasher.write_i32(signed.2);
+    hasher.write_i64(signed.3);
 }
 
 /// What a hasher of any kind answers after more bytes.

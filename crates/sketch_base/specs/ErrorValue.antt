@@ -19,7 +19,7 @@ pub record ErrorValue : Type 0 where
 abbrev pub error_of : ErrorKind → List ℕ → ErrorValue
 error_of kind message = record { kind = kind; message = message; contexts = [] }
 
--- the error in place of a refusal whose text found no memory
+-- the error in place of a refusal for whose text memory ran out
 abbrev pub memory_error : ErrorValue
 memory_error = error_of OutOfMemory []
 

@@ -6,7 +6,7 @@ use Rattle.std.specs.Fmt.{decimal}
 use Rattle.sketch_base.specs.declared.error.ErrorKind.{ErrorKind}
 use Rattle.sketch_base.specs.ErrorValue.{ErrorValue, error_of, memory_error}
 
--- the error has this kind and text and no context, or its text found no memory
+-- the error has this kind and text and no context, or memory for its text ran out
 unfoldable pub Refuses : ErrorKind → List ℕ → ErrorValue → Type 0
 Refuses kind text error = (error ≡ error_of kind text) ⊎ (error ≡ memory_error)
 

@@ -217,7 +217,7 @@ impl Error {
 
     /// Serialized data is of another family than the expected one, which has this name.
     ///
-    /// Where the text finds no memory, the error is of kind `OutOfMemory`, with no message.
+    /// Where memory for the text runs out, the error is of kind `OutOfMemory`, with no message.
     pub fn invalid_family(alloc: Global, expected: u8, actual: u8, name: &'static str) -> Error
         ensures { Refuses ErrorKind.InvalidData
             (invalid_family_text expected actual name.entry.now) result }
@@ -230,7 +230,7 @@ impl Error {
 
     /// A number of preamble longs is none of the expected ones.
     ///
-    /// Where the text finds no memory, the error is of kind `OutOfMemory`, with no message.
+    /// Where memory for the text runs out, the error is of kind `OutOfMemory`, with no message.
     pub fn invalid_preamble_longs(alloc: Global, expected: &[u8], actual: u8) -> Error
         ensures { Refuses ErrorKind.InvalidData
             (invalid_preamble_longs_text expected.now actual) result }
@@ -243,7 +243,7 @@ impl Error {
 
     /// A number of preamble ints is not the expected one.
     ///
-    /// Where the text finds no memory, the error is of kind `OutOfMemory`, with no message.
+    /// Where memory for the text runs out, the error is of kind `OutOfMemory`, with no message.
     pub fn invalid_preamble_ints(alloc: Global, expected: u8, actual: u8) -> Error
         ensures { Refuses ErrorKind.InvalidData
             (invalid_preamble_ints_text expected actual) result }

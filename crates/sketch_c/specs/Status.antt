@@ -10,28 +10,28 @@ use Rattle.sketch_member.specs.Faults.{IsFirstFault, view_steps}
 use Rattle.sketch_member.specs.Form.{form2}
 use Rattle.sketch_member.specs.Table.{Table, IsTable}
 
-abbrev minus : ℕ → ℤ
-minus n = pos 0 -ℤ pos n
+abbrev negative : ℕ → ℤ
+negative n = pos 0 -ℤ pos n
 
 -- the number of a fault
 abbrev pub status : Fault → ℤ
-status HeaderEnds = minus 1
-status (PreambleLongs n) = minus 2
-status (SerialVersion expected actual) = minus 3
-status (Family n) = minus 4
-status (Log2Bits n) = minus 5
-status (Hashes n) = minus 6
-status Reserved = minus 7
-status UnknownCount = minus 8
-status (MissingBits need have) = minus 9
-status (TrailingBytes n) = minus 10
-status Version1 = minus 11
+status HeaderEnds = negative 1
+status (PreambleLongs n) = negative 2
+status (SerialVersion expected actual) = negative 3
+status (Family n) = negative 4
+status (Log2Bits n) = negative 5
+status (Hashes n) = negative 6
+status Reserved = negative 7
+status UnknownCount = negative 8
+status (MissingBits need have) = negative 9
+status (TrailingBytes n) = negative 10
+status Version1 = negative 11
 
 -- the number of a part in which two tables differ
 abbrev pub difference_status : Difference → ℤ
-difference_status part.Seed = minus 12
-difference_status part.Log2Bits = minus 13
-difference_status part.Hashes = minus 14
+difference_status part.Seed = negative 12
+difference_status part.Log2Bits = negative 13
+difference_status part.Hashes = negative 14
 
 abbrev pub merge_status : MergeFault → ℤ
 merge_status (Into fault) = status fault

@@ -217,6 +217,10 @@ fn a_number_is_its_eight_bytes(rt: HostRuntime) {
         &[0x4c, 0x5b, 0x6a, 0x79, 0x88],
     );
     assert_same(&rt, sketch_xxh64_u64(0x8879_6a5b_4c3d_2e1f, 9001), hash);
+}
+
+#[test]
+fn the_version_is_told(rt: HostRuntime) {
     assert_same(
         &rt,
         (sketch_hash_version(), is_this_version()),

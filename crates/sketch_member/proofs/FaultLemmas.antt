@@ -37,7 +37,15 @@ all_pass-append count [] others pass more = more
 all_pass-append count (step ∷ front) others pass more =
     (pass.0, all_pass-append count front others pass.1 more)
 
--- a fault of the sizes is the first of a header whose kind is right
+-- where the kind is right, a fault of the steps after it is the first of the header
+after_kind : (longs : ℕ) (rest : List ℕ) (fault : Fault) → Contains (2 ∷ 3 ∷ []) longs →
+    let bytes = longs ∷ (longs - 1) ∷ 200 ∷ rest in
+    IsFirstFault (length bytes) (size_steps bytes ++ number_steps bytes) fault →
+    IsFirstFault (length bytes) (header_steps bytes) fault
+after_kind longs rest fault version later =
+    inr ((omega arith, version), inr ((omega arith, refl), inr ((omega arith, refl), later)))
+
+-- so is a fault of the sizes
 pub size_fault : (bytes : List ℕ) (longs : ℕ) (rest : List ℕ) (fault : Fault) →
     Contains (2 ∷ 3 ∷ []) longs → bytes ≡ longs ∷ (longs - 1) ∷ 200 ∷ rest →
     ((a b c : ℕ) → let bytes = a ∷ b ∷ c ∷ rest in
@@ -46,19 +54,11 @@ pub size_fault : (bytes : List ℕ) (longs : ℕ) (rest : List ℕ) (fault : Fau
 size_fault bytes longs rest fault version whole told =
     let whole_bytes = longs ∷ (longs - 1) ∷ 200 ∷ rest in
     subst (λ b. IsFirstFault (length b) (header_steps b) fault) (sym whole)
-    (inr (
-      (omega arith, version),
-      inr (
-        (omega arith, refl),
-        inr (
-          (omega arith, refl),
-          fault-front (length whole_bytes) (size_steps whole_bytes) (number_steps whole_bytes) fault
-              (told longs (longs - 1) 200),
-        ),
-      ),
-    ))
+    (after_kind longs rest fault version
+    (fault-front (length whole_bytes) (size_steps whole_bytes) (number_steps whole_bytes) fault
+    (told longs (longs - 1) 200)))
 
--- so is one of the flag where the sizes are right too
+-- and one of the flag, where the sizes are right too
 pub flag_fault : (bytes : List ℕ) (longs log2_bits hashes : ℕ) (rest : List ℕ) (fault : Fault) →
     Contains (2 ∷ 3 ∷ []) longs → IsLog2Bits log2_bits → IsHashes hashes →
     bytes ≡ longs ∷ (longs - 1) ∷ 200 ∷ log2_bits ∷ hashes ∷ rest →
@@ -67,22 +67,11 @@ pub flag_fault : (bytes : List ℕ) (longs log2_bits hashes : ℕ) (rest : List 
     IsFirstFault (length bytes) (header_steps bytes) fault
 flag_fault bytes longs log2_bits hashes rest fault version is_log2 is_hashes whole told =
     subst (λ b. IsFirstFault (length b) (header_steps b) fault) (sym whole)
+    (after_kind longs (log2_bits ∷ hashes ∷ rest) fault version
     (inr (
-      (omega arith, version),
-      inr (
-        (omega arith, refl),
-        inr (
-          (omega arith, refl),
-          inr (
-            (omega arith, is_log2),
-            inr (
-              (omega arith, is_hashes),
-              inl (told (longs - 1) 200 log2_bits hashes),
-            ),
-          ),
-        ),
-      ),
-    ))
+      (omega arith, is_log2),
+      inr ((omega arith, is_hashes), inl (told (longs - 1) 200 log2_bits hashes)),
+    )))
 
 pub header_pass : (bytes : List ℕ) → AllPass (length bytes) (kind_steps bytes) →
     AllPass (length bytes) (size_steps bytes) → AllPass (length bytes) (number_steps bytes) →

@@ -112,7 +112,7 @@ impl std::error::Error for Fault {}
 impl std::error::Error for MergeFault {}
 
 impl Fault {
-    // The error that tells of the fault, or that its text found no memory.
+    // The error that tells of the fault, or that memory for its text ran out.
     pub(crate) fn into_error(self, alloc: Global, kind: ErrorKind) -> Error
         ensures { Refuses kind (fault_text self) result }
     {

@@ -47,7 +47,7 @@ impl MemberTable {
     /// # Errors
     ///
     /// Where `log2_bits` is not 6 to 20, and then where `hashes` is not 1 to 16: `InvalidArgument`.
-    /// Where the bits find no memory, as where the text of a refusal does: `OutOfMemory`, with no
+    /// Where memory runs out, for the bits or for the text of a refusal: `OutOfMemory`, with no
     /// message.
     pub fn new(alloc: Global, seed: u64, log2_bits: u8, hashes: u8) -> Result<MemberTable, Error>
         ensures answer { MatchResult result
@@ -69,7 +69,7 @@ impl MemberTable {
     /// # Errors
     ///
     /// Where the bytes are no table: `InvalidData`, for the first fault in the order of their
-    /// places. Where the bits find no memory, as where the text of a refusal does:
+    /// places. Where memory runs out, for the bits or for the text of a refusal:
     /// `OutOfMemory`, with no message.
     pub fn from_bytes(alloc: Global, bytes: &[u8]) -> Result<MemberTable, Error>
         ensures { MatchResult result

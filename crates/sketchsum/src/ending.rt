@@ -21,7 +21,7 @@ pub enum Outcome {
     Done,
     /// The run stopped at a fault.
     Fault(RunFault),
-    /// The words of the call found no memory.
+    /// Memory for the words of the call ran out.
     NoMemory,
     /// The words of the call are not what the program takes.
     Usage,

@@ -27,8 +27,8 @@ impl<V: Env> Env for Nameless<'_, V> {
     }
 }
 
-/// The words after the program's name, or how the program ends without them: they found no memory,
-/// or one is not UTF-8.
+/// The words after the program's name, or how the program ends without them: memory ran out, or one
+/// is not UTF-8.
 pub fn words_of<V: Env>(env: &V, alloc: Global) -> Result<Vec<String>, Outcome>
     ensures { IfErr result (λ end. (end ≡ Outcome.NoMemory) ⊎ (end ≡ Outcome.Usage)) }
 {

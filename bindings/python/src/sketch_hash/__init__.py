@@ -60,8 +60,8 @@ def _seed(seed):
 
 
 class _Hash:
-    """A stream. Each call waits for those of other threads on the same object, so threads and handlers of
-    signals may share it."""
+    """A stream. Each call waits for those of other threads on the same object, so threads and
+    signal handlers may share it."""
 
     __slots__ = ("_lock", "_of_reset", "_state")
 
@@ -133,7 +133,8 @@ class xxh64(_Hash):
 
 
 class murmur3_x64_128(_Hash):
-    """MurmurHash3 x64 128 of a stream that comes in pieces."""
+    """MurmurHash3 x64 128 of a stream that comes in pieces. Its seed has 64 bits; one below 2**32
+    gives the hash of Austin Appleby's MurmurHash3_x64_128 under it."""
 
     __slots__ = ()
     name = "MURMUR3_X64_128"
@@ -266,7 +267,10 @@ class MemberTable:
 
     It has 2**log2_bits bits, of which each key sets at most as many as hashes says. A key is any bytes-like
     object whose memory is C-contiguous. Each call waits for those of other threads on the same
-    object, so threads and handlers of signals may share it.
+    object, so threads and signal handlers may share it.
+
+    log2_bits is 6 to 20 and hashes 1 to 16; others raise ValueError. A seed that is not 0 to 2**64 - 1
+    raises OverflowError.
     """
 
     __slots__ = ("_lock", "_table")
@@ -427,13 +431,13 @@ def _small(number):
 
 
 _FAULTS = {
-    _lib.SKETCH_MEMBER_HEADER_ENDS: "the header is not all there",
+    _lib.SKETCH_MEMBER_HEADER_ENDS: "the header is truncated",
     _lib.SKETCH_MEMBER_PREAMBLE_LONGS: "byte 0 is neither 2 nor 3",
     _lib.SKETCH_MEMBER_SERIAL_VERSION: "byte 1 is not one less than byte 0",
     _lib.SKETCH_MEMBER_FAMILY: "byte 2 is not 200",
     _lib.SKETCH_MEMBER_LOG2_BITS: "log2_bits is not 6 to 20",
     _lib.SKETCH_MEMBER_HASHES: "hashes is not 1 to 16",
-    _lib.SKETCH_MEMBER_RESERVED: "bytes 5 to 7 are not as they have to be",
+    _lib.SKETCH_MEMBER_RESERVED: "byte 5 is not 0, or 1 in version 2, or byte 6 or 7 is not 0",
     _lib.SKETCH_MEMBER_UNKNOWN_COUNT: "the count is unknown and not 0",
     _lib.SKETCH_MEMBER_MISSING_BITS: "there are fewer bytes than the bits need",
     _lib.SKETCH_MEMBER_TRAILING_BYTES: "there are more bytes than the bits need",

@@ -5,17 +5,20 @@ use super::{
     prints,
 };
 use crate::columns::{hash_numbers, hash_texts};
-use crate::items::{are_same_items, there_and_back, write_if_it_fits};
-use crate::keys::{is_new_key, is_same_key, is_same_word, pair_of};
+use crate::items::{are_same_items, skip, there_and_back, write_if_it_fits};
+use crate::keys::{hash_of_text, is_new_key, is_same_key, is_same_word, pair_of};
 use crate::own::{BigEndian, Point};
 use crate::seen::{insert_in_either_order, is_found, see_key_in, see_saved_key, start_keys};
 use crate::sentence::hash_of_the_sentence;
 use crate::sketch::{at_place, read_sketch};
-use crate::streams::{checkpoint, murmur_of_pieces, xxh64_from, xxh64_of_pieces};
-use datasketches::codec::{Item, Kind, SketchBytes};
+use crate::streams::{
+    answer_of, checkpoint, keep_murmur_again, murmur_checkpoint, murmur_from, murmur_of_pieces,
+    usual_hashes, write_record, xxh64_from, xxh64_of_pieces,
+};
+use datasketches::codec::{Item, Kind, SketchBytes, SketchSlice};
 use datasketches::error::Error;
-use datasketches::hash::XxHash64;
 use datasketches::hash::value::{calculate_hash, raw_bytes};
+use datasketches::hash::{Hasher, XxHash64};
 use sketch_member::{Fault, MemberTable, in_place};
 use std::alloc::{AllocError, Global};
 use std::test::Fail;
@@ -94,6 +97,24 @@ fn a_stream_in_pieces_has_one_hash(rt: HostRuntime) {
 fn a_stream_goes_on_from_a_checkpoint(rt: HostRuntime) {
     let state = checkpoint(0, b"The quick brown fox jumps over the");
     assert_same(&rt, xxh64_from(&state, b" lazy dog"), FOX_XXH64);
+    let state = murmur_checkpoint(0, b"The quick brown fox jumps over the");
+    let state = keep_murmur_again(&state);
+    assert_same(&rt, murmur_from(&state, b" lazy dog"), FOX_MURMUR);
+    let mut hasher = XxHash64::with_seed(0);
+    hasher.write(b"The quick brown fox jumps over the");
+    assert_same(&rt, answer_of(&mut hasher, b" lazy dog"), FOX_XXH64);
+}
+
+// The fields of a record feed their bytes one after another.
+#[test]
+fn a_record_has_the_hash_of_its_bytes(rt: HostRuntime) {
+    let bytes = [
+        1, 2, 0, 3, 0, 0, 0, 4, 0, 0, 0, 0, 0, 0, 0, 0xff, 0xfe, 0xff, 0xfd, 0xff, 0xff, 0xff,
+        0xfc, 0xff, 0xff, 0xff, 0xff, 0xff, 0xff, 0xff,
+    ];
+    let mut hasher = XxHash64::with_seed(9001);
+    write_record(&mut hasher, (1, 2, 3, 4), (-1, -2, -3, -4));
+    assert_same(&rt, hasher.finish64(), XxHash64::hash(&bytes, 9001));
 }
 
 // The hash of a value is that of the bytes that it feeds.
@@ -124,6 +145,9 @@ fn items_are_read_back(rt: HostRuntime) {
         (rest.ok().as_deref(), places),
         (Some([7, 8].as_slice()), items),
     );
+    let mut reader = SketchSlice::new(&[7, 8]);
+    skip(&mut reader, 1);
+    assert_same(&rt, reader.remaining(), [8].as_slice());
 }
 
 #[test]
@@ -185,6 +209,7 @@ fn the_sentence_has_its_hash(rt: HostRuntime) {
     let whole = raw_bytes::from_str("The quick brown fox jumps over the lazy dog");
     let (first, _) = hash_of_the_sentence();
     assert_same(&rt, first, calculate_hash(whole));
+    assert_same(&rt, usual_hashes(b"fox").0, hash_of_text("fox"));
 }
 
 #[test]
@@ -200,7 +225,8 @@ fn keys_are_seen_once_saved(rt: HostRuntime) -> Result<(), Fail> {
         MemberTable::from_bytes(rt.alloc(), &saved)?.count(),
         Some(3),
     );
-    let (mut one, mut other) = (start_keys(rt.alloc())?, start_keys(rt.alloc())?);
+    let mut one = start_keys(rt.alloc(), 0, 10, 7)?;
+    let mut other = start_keys(rt.alloc(), 0, 10, 7)?;
     let found = insert_in_either_order(&mut one, &mut other, b"a", b"b");
     assert_same(&rt, (found, one.count()), ((true, true), Some(2)));
     assert_same(

@@ -1,18 +1,17 @@
 //! What refusals and wrapped keys say.
 
 use super::{assert_refused, assert_same, prints};
-use crate::keys::{hash_of_text, inner_key, next_key};
-use crate::merging::merge_saved_twin;
+use crate::keys::{inner_key, next_key};
+use crate::merging::{merge_saved, merge_saved_twin};
 use crate::refusals::{
     check_seed, check_version, ends_early, name_of_kind, refusal, text_of_key, text_of_missing,
-    text_of_short, text_of_stopped, text_of_trailing, texts_of_error, wrong_family,
+    text_of_short, text_of_stopped, text_of_trailing, texts_of_error, wrong_family, wrong_longs,
 };
-use crate::seen::{count_saved, is_saved, see_keys_twice};
-use crate::streams::usual_hashes;
+use crate::seen::{count_saved, insert_in, is_saved, load_again, other_length, see_keys_twice};
 use datasketches::codec::{Short, Stopped};
 use datasketches::error::{Error, ErrorKind};
 use datasketches::hash::value::{natural_extend, raw_bytes};
-use sketch_member::{Fault, MergeFault};
+use sketch_member::{Fault, MemberTable, MergeFault};
 use std::alloc::AllocError;
 use std::error;
 use std::test::Fail;
@@ -51,6 +50,8 @@ fn refusals_say_what_is_wrong(rt: HostRuntime) -> Result<(), Fail> {
     assert_same(&rt, text.as_str(), line);
     let line = "InvalidData => invalid family: expected 7 (HLL), got 3";
     assert_same(&rt, prints(&wrong_family(alloc, 7, 3, "HLL"), line), true);
+    let line = "InvalidData => invalid preamble longs: expected one of [1, 2], got 3";
+    assert_same(&rt, prints(&wrong_longs(alloc, &[1, 2], 3), line), true);
     let name = name_of_kind(ErrorKind::InvalidArgument);
     assert_same(&rt, name, "InvalidArgument");
     Ok(())
@@ -77,7 +78,6 @@ fn wrapped_keys_are_read_and_changed(rt: HostRuntime) -> Result<(), Fail> {
     next_key(&mut key);
     assert_same(&rt, inner_key(&key), 8);
     assert_same(&rt, text_of_key(rt.alloc(), &key)?.as_str(), "8");
-    assert_same(&rt, usual_hashes(b"fox").0, hash_of_text("fox"));
     Ok(())
 }
 
@@ -90,5 +90,11 @@ fn bytes_of_a_table_are_made_twice(rt: HostRuntime) -> Result<(), Fail> {
     assert_same(&rt, merge_saved_twin(&mut bytes, &made).is_ok(), true);
     assert_same(&rt, count_saved(alloc, &bytes)?, Some(2));
     assert_same(&rt, is_saved(alloc, &bytes, b"fox")?, true);
+    assert_same(&rt, insert_in(&mut bytes, b"dog").is_ok(), true);
+    assert_same(&rt, merge_saved(&mut bytes, &made).is_ok(), true);
+    let table = MemberTable::from_bytes(alloc, &bytes)?;
+    assert_same(&rt, load_again(alloc, &table)?.count(), Some(4));
+    let missing = Fault::MissingBits { need: 128, have: 6 };
+    assert_same(&rt, other_length(&bytes[..30]), Some(missing));
     Ok(())
 }

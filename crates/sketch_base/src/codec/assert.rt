@@ -33,7 +33,7 @@ pub fn insufficient_data(alloc: Global, tag: &'static str, error: io::Error) -> 
 ///
 /// # Errors
 ///
-/// At any other: `InvalidData`, or `OutOfMemory` with no message where the text finds no memory.
+/// At any other: `InvalidData`, or `OutOfMemory` with no message if memory for the text runs out.
 pub fn ensure_serial_version_is(alloc: Global, expected: u8, actual: u8) -> Result<(), Error>
     ensures { AcceptsExactly (actual ≡ expected)
         (unsupported_serial_version_text expected actual) result }
@@ -59,7 +59,7 @@ fn unsupported_serial_version(alloc: Global, expected: u8, actual: u8) -> Error
 ///
 /// # Errors
 ///
-/// At any other: `InvalidData`, or `OutOfMemory` with no message where the text finds no memory.
+/// At any other: `InvalidData`, or `OutOfMemory` with no message if memory for the text runs out.
 pub fn ensure_preamble_longs_in(alloc: Global, expected: &[u8], actual: u8) -> Result<(), Error>
     ensures { AcceptsExactly (Contains expected.now actual)
         (invalid_preamble_longs_text expected.now actual) result }
@@ -76,7 +76,7 @@ pub fn ensure_preamble_longs_in(alloc: Global, expected: &[u8], actual: u8) -> R
 ///
 /// # Errors
 ///
-/// At any other: `InvalidData`, or `OutOfMemory` with no message where the text finds no memory.
+/// At any other: `InvalidData`, or `OutOfMemory` with no message if memory for the text runs out.
 pub fn ensure_preamble_longs_in_range(
     alloc: Global,
     start: Bound<u8>,

@@ -2,6 +2,9 @@
 
 ghost use Rattle.std.specs.Prelude.{◌≡◌, ◌↔◌, ◌≤◌, [], length, IfOk, IfSome, IsTrue};
 ghost use Rattle.std.specs.declared.io.ErrorKind.TheVariants.{UnexpectedEof};
+ghost use Rattle.sketch_base.specs.Items.{spell, unspell, width};
+ghost use Rattle.sketch_base.specs.Reading.{Reads};
+ghost use Rattle.sketch_base.specs.Writing.{Writes};
 
 mod assert;
 mod family;
@@ -357,8 +360,10 @@ fn first_item(kind: Kind, bytes: &[u8]) -> Option<Item> {
     Some(places[0])
 }
 
-// The item of a kind, by the read of its own name.
-fn read_by_name(reader: &mut SketchSlice, kind: Kind) -> io::Result<Item> {
+// The item of a kind, by the read of its own name: the kind's bytes say which.
+fn read_by_name(reader: &mut SketchSlice, kind: Kind) -> io::Result<Item>
+    ensures { Reads (width kind) (unspell kind) reader.old result reader.new }
+{
     Ok(match kind {
         Kind::U8 => Item::U8(reader.read_u8()?),
         Kind::I8 => Item::I8(reader.read_i8()?),
@@ -378,7 +383,9 @@ fn read_by_name(reader: &mut SketchSlice, kind: Kind) -> io::Result<Item> {
 }
 
 // Writes an item by the write of its own name.
-fn write_by_name(writer: &mut SketchBytes, item: Item) -> Result<(), AllocError> {
+fn write_by_name(writer: &mut SketchBytes, item: Item) -> Result<(), AllocError>
+    ensures { Writes (spell item) writer.old result writer.new }
+{
     match item {
         Item::U8(n) => writer.write_u8(n),
         Item::I8(n) => writer.write_i8(n),

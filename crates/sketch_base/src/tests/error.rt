@@ -528,7 +528,7 @@ fn answers_a_message_that_does_not_print(rt: HostRuntime) {
     }
 }
 
-// A context that finds no memory leaves the error as it was.
+// A context for which memory runs out leaves the error as it was.
 #[test]
 fn contexts_without_memory(rt: HostRuntime) {
     let alloc = rt.alloc();

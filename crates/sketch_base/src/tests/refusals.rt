@@ -21,7 +21,7 @@ pub(crate) fn assert_refused<T: Drop>(rt: &impl Abort, answer: Result<T, Error>,
     assert_same_for(rt, is_told, true, line);
 }
 
-/// Asserts that an error displays this line, or that its text found no memory.
+/// Asserts that an error displays this line, or that memory for its text ran out.
 pub(crate) fn assert_line_or_refusal<R: Abort + Eprint>(rt: &R, error: &Error, line: &str) {
     if is_memory_error(error) {
         tell_refusal(rt);

@@ -111,7 +111,7 @@ fn a_column_of_no_keys(rt: HostRuntime) {
 
 // The first offset that is wrong is told, and nothing is written.
 #[test]
-fn offsets_that_lie(rt: HostRuntime) {
+fn wrong_offsets_are_refused(rt: HostRuntime) {
     let bytes = bytes();
     for i in 0..=KEYS {
         let mut hashes = [9; KEYS];

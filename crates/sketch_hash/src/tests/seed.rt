@@ -169,7 +169,7 @@ fn accepted_seeds_take_no_memory(rt: HostRuntime) {
     }
 }
 
-// Asserts that a refusal displays this line, or that its text found no memory.
+// Asserts that a refusal displays this line, or that memory for its text ran out.
 fn assert_line_or_refusal<R: Abort + Eprint>(rt: &R, refusal: Option<Error>, line: &str) {
     let Some(error) = refusal else {
         return assert_same_for(rt, true, false, line);

@@ -82,7 +82,7 @@ impl MemberTable {
     ///
     /// # Errors
     ///
-    /// Where the bytes find no memory.
+    /// Where memory runs out.
     pub fn to_bytes(&self, alloc: Global) -> Result<Vec<u8>, AllocError>
         ensures form { IfOk result (λ bytes. bytes.items ≡ form2 self.now) }
         ensures is_table { IsTable self.now }

@@ -20,8 +20,8 @@ impl MemberTable {
     /// # Errors
     ///
     /// Where the seed, `log2_bits` or `hashes` differ: `InvalidArgument`, which names the first of
-    /// them that does. Where that text finds no memory: `OutOfMemory`, with no message. The table
-    /// is then as it was.
+    /// them that does. Where memory for that text runs out: `OutOfMemory`, with no message. The
+    /// table is then as it was.
     pub fn merge(&mut self, alloc: Global, other: &MemberTable) -> Result<(), Error>
         ensures merges { MatchResult result (λ _. Merges other.now self.old self.new)
             (λ error. (self.new ≡ self.old) × FirstDifference self.old other.now error) }

@@ -180,35 +180,6 @@ fn a_table_of_version_1_has_no_count(rt: HostRuntime) -> Result<(), Fail> {
     Ok(())
 }
 
-#[test]
-fn sizes_outside_their_limits_are_refused(rt: HostRuntime) {
-    let alloc = rt.alloc();
-    for (log2_bits, hashes, line) in [
-        (
-            5,
-            0,
-            "InvalidArgument => invalid log2 bits: expected 6 to 20, got 5",
-        ),
-        (
-            21,
-            16,
-            "InvalidArgument => invalid log2 bits: expected 6 to 20, got 21",
-        ),
-        (
-            6,
-            0,
-            "InvalidArgument => invalid hashes: expected 1 to 16, got 0",
-        ),
-        (
-            20,
-            17,
-            "InvalidArgument => invalid hashes: expected 1 to 16, got 17",
-        ),
-    ] {
-        assert_refused(&rt, new_table(alloc, 0, log2_bits, hashes), line);
-    }
-}
-
 // Bytes in which each place is wrong are made right place by place, and each time the fault at the
 // next one is told.
 #[test]

@@ -103,6 +103,16 @@ fn sizes_are_refused_without_memory(rt: HostRuntime) {
             "InvalidArgument => invalid log2 bits: expected 6 to 20, got 5",
         ),
         (
+            21,
+            16,
+            "InvalidArgument => invalid log2 bits: expected 6 to 20, got 21",
+        ),
+        (
+            6,
+            0,
+            "InvalidArgument => invalid hashes: expected 1 to 16, got 0",
+        ),
+        (
             20,
             17,
             "InvalidArgument => invalid hashes: expected 1 to 16, got 17",

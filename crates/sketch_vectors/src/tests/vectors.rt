@@ -1,4 +1,4 @@
-//! The vectors of the original's own tests, and one of xxHash: 33 bytes under the second seed.
+//! Known answers of both hashes.
 
 use crate::tests::{FOX, FOX_MURMUR, assert_same_for};
 use datasketches::hash::{Hasher, MurmurHash3X64128, XxHash64};

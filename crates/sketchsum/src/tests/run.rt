@@ -1,5 +1,7 @@
 ghost use Rattle.std.specs.Prelude.{◌≡◌, ◌≢◌, ◌+◌, ◌*◌, ◌≤◌, [], ◌++◌, codes, false, true, length, Err, OnOk};
-ghost use Rattle.sketchsum.specs.Digest.{digest_line};
+ghost use Rattle.datasketches.specs.Murmur.{murmur};
+ghost use Rattle.datasketches.specs.Xxh64.{xxh64};
+ghost use Rattle.sketchsum.specs.Digest.{digest_line, hex_word};
 
 use super::fakes::{Full, KINDS, NarrowWriter, SlowReader};
 use super::{FOX, FOX_LINE, assert_same};
@@ -150,8 +152,11 @@ fn run_over_bytes(
     ensures whole_at_write { result ≡ Err RunFault.Write → input.new.now ≡ [] }
     ensures too_long { result ≡ Err RunFault.TooLong →
         turns + length input.new.now ≤ length input.old.now }
-    ensures line { OnOk result (output.new.items
-        ≡ output.old.items ++ digest_line algorithm seed input.old.now) }
+    ensures xx { algorithm ≡ Algorithm.Xx → OnOk result (output.new.items
+        ≡ output.old.items ++ (hex_word (xxh64 seed input.old.now) ++ codes "\n")) }
+    ensures murmur { algorithm ≡ Algorithm.Murmur → OnOk result (output.new.items
+        ≡ output.old.items ++ (hex_word (murmur seed input.old.now).0
+        ++ (hex_word (murmur seed input.old.now).1 ++ codes "\n"))) }
     ensures silent { result ≡ Err RunFault.TooLong → output.new ≡ output.old }
 {
     run_bounded(algorithm, seed, turns, input, output)
@@ -201,7 +206,7 @@ fn fresh(input: &[u8]) -> (ReadAhead<&[u8]>, &'static str)
 }
 
 #[test]
-fn a_run_takes_no_turn_in_vain(rt: HostRuntime) {
+fn a_run_stops_at_the_first_empty_read(rt: HostRuntime) {
     for (turns, answer) in [
         (0, (false, 0)),
         (1, (false, 0)),
@@ -258,7 +263,7 @@ fn the_last_turn_has_to_find_the_end(rt: HostRuntime) {
 }
 
 #[test]
-fn writers_that_fail_are_told(rt: HostRuntime) {
+fn write_faults_are_reported(rt: HostRuntime) {
     for kind in KINDS {
         for (algorithm, room, flush_fault) in [
             (Algorithm::Xx, 0, None),

@@ -321,7 +321,7 @@ fn accepting_checks_take_no_memory(rt: HostRuntime) {
     }
 }
 
-// Asserts that a check refuses with this line, or finds no memory for its text.
+// Asserts that a check refuses with this line, or that memory for its text runs out.
 fn assert_refused_or_memory<R: Abort + Eprint>(rt: &R, answer: Result<(), Error>, line: &str) {
     match answer {
         Ok(()) => assert_same_for(rt, true, false, line),

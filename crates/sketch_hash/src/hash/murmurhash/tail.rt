@@ -1,4 +1,4 @@
-//! Numbers of fewer than 16 bytes.
+//! Blocks and tails as numbers and words.
 
 ghost use Rattle.std.specs.Prelude.{◌≡◌, ◌+◌, ◌-◌, ◌*◌, ◌/◌, ◌%◌, ◌^◌, ◌<◌, ◌≤◌, length, take};
 ghost use Rattle.sketch_base.specs.Bytes.{le, low_bytes};
