@@ -113,6 +113,8 @@ def main():
             parser.error(f"no such file: {path}")
     if not any(map(os.path.getsize, paths)):
         parser.error("the files have no keys")
+    if not os.path.isdir(os.path.dirname(os.path.abspath(words.out))):
+        parser.error(f"no folder for {words.out}")
     try:
         MemberTable(*sizes)
     except (OverflowError, ValueError) as error:
@@ -125,7 +127,7 @@ def main():
         check(table, by_one_process(paths, sizes))
     with open(words.out, "wb") as file:
         file.write(table.to_bytes())
-    print(f"{table.count} keys")
+    print(f"{table.count} inserts")
 
 
 if __name__ == "__main__":

@@ -49,6 +49,7 @@ def test_what_cannot_be_done_is_said(tmp_path, monkeypatch, capsys):
     for words, text in (
         ([out], "no such file"),
         ([empty, empty], "the files have no keys"),
+        ([fox, "--out", str(tmp_path / "none" / "out")], "no folder for "),
         ([fox, "--hashes", "17"], "hashes is not 1 to 16"),
         ([fox, "--seed", "-1"], "a seed is from 0"),
         ([fox, "--address", "127.0.0.1:1"], "no scheduler at 127.0.0.1:1"),
@@ -76,7 +77,7 @@ def test_without_a_scheduler_this_machine_works(tmp_path):
     (tmp_path / "keys").write_text("fox\ndog\n")
     sizes = [f"{name}={size}" for name, size in zip(("--log2-bits", "--hashes", "--seed"), SIZES)]
     command = [sys.executable, EXAMPLE, "--check", *sizes, "--out", tmp_path / "out", tmp_path / "keys"]
-    assert subprocess.run(command, stdout=subprocess.PIPE, timeout=120, check=True).stdout == b"2 keys\n"
+    assert subprocess.run(command, stdout=subprocess.PIPE, timeout=120, check=True).stdout == b"2 inserts\n"
     assert (tmp_path / "out").read_bytes() == model([b"fox", b"dog"], 2)
 
 

@@ -117,10 +117,11 @@ def test_refused(keys):
 
 def test_what_is_refused_is_told():
     for keys, text in (
-        (numpy.zeros(4, "u4"), "a column is one row of whole numbers of 64 bits; texts are a pair of bytes and offsets"),
-        (numpy.array(5, "u8"), "a column is one row of whole numbers of 64 bits; texts are a pair of bytes and offsets"),
-        ((DATA, DATA), "a column is one row of whole numbers of 32 or 64 bits"),
-        ((DATA, numpy.array(5, "u8")), "a column is one row of whole numbers of 32 or 64 bits"),
+        (numpy.zeros(4, "u4"), "a column is one row of whole numbers of 64 bits in the machine's byte order; texts are a pair of bytes and offsets"),
+        (numpy.array(5, "u8"), "a column is one row of whole numbers of 64 bits in the machine's byte order; texts are a pair of bytes and offsets"),
+        (numpy.zeros(4, ">u8"), "a column is one row of whole numbers of 64 bits in the machine's byte order; texts are a pair of bytes and offsets"),
+        ((DATA, DATA), "a column is one row of whole numbers of 32 or 64 bits in the machine's byte order"),
+        ((DATA, numpy.array(5, "u8")), "a column is one row of whole numbers of 32 or 64 bits in the machine's byte order"),
     ):
         with pytest.raises(TypeError, match=f"^{text}$"):
             xxh64_each(keys)

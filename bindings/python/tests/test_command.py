@@ -113,7 +113,17 @@ def test_lists_that_cannot_be_read_are_counted():
 def test_an_output_that_is_full():
     command = [sys.executable, "-m", "sketch_hash", "fox"]
     with open("/dev/full", "wb") as full:
-        assert subprocess.run(command, stdout=full, stderr=subprocess.PIPE).returncode != 0
+        done = subprocess.run(command, stdout=full, stderr=subprocess.PIPE)
+    assert (done.returncode, done.stderr) == (1, b"sketch_hash: standard output: No space left on device\n")
+
+
+def test_an_interrupt_ends_it_without_a_word():
+    command = [sys.executable, "-m", "sketch_hash", "fox", "-"]
+    with subprocess.Popen(command, stdin=subprocess.PIPE, stdout=subprocess.PIPE, stderr=subprocess.PIPE) as process:
+        assert process.stdout.readline() == XXH64 + b"  fox\n"
+        process.send_signal(signal.SIGINT)
+        assert process.stderr.read() == b""
+    assert process.returncode == -signal.SIGINT
 
 
 def test_an_output_that_nobody_reads():
@@ -130,7 +140,7 @@ def test_help():
     words = b" ".join(output.split())
     assert (status, complaint) == (0, b"") and words.startswith(b"usage: python3 -m sketch_hash ")
     for text in (
-        "'-', or none, is standard input", "reads hashes from FILE", "with --check, prints no OK",
+        "'-', or none, is standard input", "reads hashes from FILE", "with --check, prints no OK", "xxh64 if left out", "--check wants it too",
         "Prints the hashes of files, or checks them: python3 -m sketch_hash --help",
     ):
         assert text.encode() in words

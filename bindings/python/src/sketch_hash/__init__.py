@@ -191,7 +191,7 @@ def _words(buffer, widths):
     if not is_whole or view.ndim != 1 or view.itemsize not in widths:
         bits = " or ".join(str(8 * width) for width in widths)
         hint = "" if 4 in widths else "; texts are a pair of bytes and offsets"
-        raise TypeError(f"a column is one row of whole numbers of {bits} bits{hint}")
+        raise TypeError(f"a column is one row of whole numbers of {bits} bits in the machine's byte order{hint}")
     words = _memory_of(f"uint{8 * view.itemsize}_t[]", buffer)
     if int(_ffi.cast("uintptr_t", words)) % view.itemsize:
         raise ValueError("a column of numbers has to lie at a multiple of their width")

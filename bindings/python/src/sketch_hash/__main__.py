@@ -16,8 +16,8 @@ ESCAPES = [("\\", "\\\\"), ("\n", "\\n"), ("\r", "\\r")]
 def main():
     words = argparse.ArgumentParser(prog="python3 -m sketch_hash", description=__doc__)
     words.add_argument("files", nargs="*", metavar="FILE", help="'-', or none, is standard input")
-    words.add_argument("-a", "--algorithm", choices=HASHES, default="xxh64")
-    words.add_argument("-s", "--seed", type=whole_number, default=0)
+    words.add_argument("-a", "--algorithm", choices=HASHES, default="xxh64", help="xxh64 if left out")
+    words.add_argument("-s", "--seed", type=whole_number, default=0, help="0 if left out; --check wants it too")
     words.add_argument("-c", "--check", action="store_true", help="reads hashes from FILE")
     words.add_argument("-q", "--quiet", action="store_true", help="with --check, prints no OK")
     given = words.parse_args()
@@ -38,6 +38,8 @@ def whole_number(text):
         return _seed(int(text, 0))
     except OverflowError as error:
         raise argparse.ArgumentTypeError(error) from None
+    except ValueError:
+        raise argparse.ArgumentTypeError(f"a seed is a whole number, and not {text!r}") from None
 
 
 def hash_file(name, hasher):
@@ -164,6 +166,11 @@ def complain(text):
 
 
 if __name__ == "__main__":
-    # As other programs do, this one ends without a word where nobody reads its output.
+    # As other programs do, this one ends without a word where nobody reads its output, or at Ctrl-C.
     signal.signal(signal.SIGPIPE, signal.SIG_DFL)
-    sys.exit(main())
+    signal.signal(signal.SIGINT, signal.SIG_DFL)
+    try:
+        sys.exit(main())
+    except OSError as error:
+        complain(f"standard output: {error.strerror}")
+        os._exit(1)  # what could not be written is not tried again
