@@ -6,10 +6,11 @@ ghost use Rattle.std.specs.String.{string_bytes};
 ghost use Rattle.datasketches.specs.Bytes.{low_bytes, modulo};
 ghost use Rattle.datasketches.specs.Murmur.{murmur};
 ghost use Rattle.datasketches.specs.Values.{integer_bytes};
+ghost use Rattle.datasketches.specs.Xxh64.{xxh64};
 
 use datasketches::hash::value::natural_extend::NaturalExtend;
 use datasketches::hash::value::{calculate_hash, natural_extend, raw_bytes, sign_extend};
-use datasketches::hash::{Hash, MurmurHash3X64128};
+use datasketches::hash::{Hash, MurmurHash3X64128, XxHash64};
 use datasketches::laws;
 
 /// The Murmur pair of any value.
@@ -19,6 +20,15 @@ pub fn pair_of_value<T: Hash>(seed: u64, value: &T) -> (u64, u64)
     let mut hasher = MurmurHash3X64128::with_seed(seed);
     value.hash(&mut hasher);
     hasher.finish128()
+}
+
+/// The XXH64 hash of any value.
+pub fn hash_of_value<T: Hash>(seed: u64, value: &T) -> u64
+    ensures { result ≡ xxh64 seed (T.fed value.now) }
+{
+    let mut hasher = XxHash64::with_seed(seed);
+    value.hash(&mut hasher);
+    hasher.finish64()
 }
 
 /// The Murmur pair by which a distinct counter knows an integer key.

@@ -6,7 +6,7 @@ use super::{
 };
 use crate::columns::{hash_numbers, hash_texts};
 use crate::items::{are_same_items, skip, there_and_back, write_if_it_fits};
-use crate::keys::{hash_of_text, is_new_key, is_same_key, is_same_word, pair_of};
+use crate::keys::{hash_of_text, hash_of_value, is_new_key, is_same_key, is_same_word, pair_of};
 use crate::own::{BigEndian, Point};
 use crate::seen::{insert_in_either_order, is_found, see_key_in, see_saved_key, start_keys};
 use crate::sentence::hash_of_the_sentence;
@@ -208,6 +208,7 @@ fn errors_tell_their_place(rt: HostRuntime) -> Result<(), AllocError> {
 fn the_sentence_has_its_hash(rt: HostRuntime) {
     let whole = raw_bytes::from_str("The quick brown fox jumps over the lazy dog");
     let (first, _) = hash_of_the_sentence();
+    assert_same(&rt, hash_of_value(0, &whole), FOX_XXH64);
     assert_same(&rt, first, calculate_hash(whole));
     assert_same(&rt, usual_hashes(b"fox").0, hash_of_text("fox"));
 }
