@@ -4,9 +4,9 @@
  * Proved of the library: for every seed, and however a stream is cut into updates, a digest is the
  * hash of all bytes since the last reset (tests, and no proof, show that its definition is the
  * published algorithm); a table contains each key that was inserted; no call reads or writes
- * outside of what it is given; only calls on tables fail, with a negative status, and calls on
- * columns, at an offset that does not fit; every content of a state, a table or an array of offsets
- * is safe, even noise. The library imports nothing, so no call can allocate.
+ * outside of what it is given; only calls on tables fail, with a negative status
+ * (sketch_member_size: with 0), and calls on columns, at an offset that does not fit or a number
+ * that is missing; every content of a state, a table or an array of offsets is safe, even noise. The library imports nothing, so no call can allocate.
  *
  * What a caller owes, which no compiler checks:
  *   - A state starts by its _INIT or its _reset. A state of zeros is safe, but XXH64 of it is
@@ -15,8 +15,8 @@
  *   - `input`, `key` and the bytes of a table point to as many readable bytes as their length says,
  *     which nothing else changes during the call, and overlap nothing that the call writes. They
  *     may be NULL only if the length is 0. A length is below 2^63.
- *   - The same holds of each array that is passed with a count, which is below 2^60. `out` overlaps
- *     nothing else that is passed.
+ *   - The same holds of each array that is passed with a count of its elements, which is below 2^60;
+ *     it is aligned for its type. `out` is writable, and overlaps nothing else that is passed.
  *   - The bytes of a table that a call changes are writable too.
  *
  * A state or a table owns nothing: declare it, copy it by assignment, write it to a file (a state,
@@ -38,7 +38,7 @@ extern "C" {
 #define SKETCH_HASH_U64(number) ((uint64_t)(number))
 #endif
 
-/* 1.1.0: major * 10000 + minor * 100 + patch. The function answers that of the library. */
+/* 1.1.0: major * 10000 + minor * 100 + patch. The function returns that of the library. */
 #define SKETCH_HASH_VERSION 10100
 uint32_t sketch_hash_version(void);
 
@@ -103,7 +103,7 @@ sketch_murmur3_x64_128_digest(const sketch_murmur3_x64_128_state_t *state);
  * each i below `count`. `offsets` has count + 1 offsets, one if there are no keys. `offset_count` says
  * how many may be read; those beyond are not.
  *
- * A call answers 0 when all is done. Otherwise it has written nothing, and answers 1 + the index of
+ * A call returns 0 when all is done. Otherwise it has written nothing, and returns 1 + the index of
  * the first offset that is missing, is above `length`, or is below the offset before it. */
 
 size_t sketch_xxh64_each32(const void *input, size_t length, const uint32_t *offsets,
@@ -119,7 +119,7 @@ size_t sketch_murmur3_x64_128_each64(const void *input, size_t length, const uin
                                      sketch_murmur3_x64_128_hash_t *out, size_t count);
 
 /* A column of numbers, each hashed as sketch_xxh64_u64 does. With fewer values than `count` it writes
- * nothing, and answers 1 + value_count. */
+ * nothing, and returns 1 + value_count. */
 size_t sketch_xxh64_each_u64(const uint64_t *values, size_t value_count, uint64_t seed,
                              uint64_t *out, size_t count);
 
@@ -133,16 +133,17 @@ size_t sketch_xxh64_each_u64(const uint64_t *values, size_t value_count, uint64_
  * as in a file that is mapped. Each call checks the header, 24 bytes, and makes no pass over the
  * bits to do so. What a call refuses it leaves as it was. */
 
-/* What a call answers: the first fault in this order, or -1 where the header ends before it. */
+/* What a call returns: the first fault in this order, or -1 where the header ends before it. */
 enum sketch_member_status {
-    SKETCH_MEMBER_DONE = 0,
-    SKETCH_MEMBER_HEADER_ENDS = -1,     /* the header is not all there */
+    SKETCH_MEMBER_OK = 0,
+    SKETCH_MEMBER_HEADER_ENDS = -1,     /* the header is truncated */
     SKETCH_MEMBER_PREAMBLE_LONGS = -2,  /* byte 0 is neither 2 nor 3 */
     SKETCH_MEMBER_SERIAL_VERSION = -3,  /* byte 1 is not one less than byte 0 */
     SKETCH_MEMBER_FAMILY = -4,          /* byte 2 is not 200 */
     SKETCH_MEMBER_LOG2_BITS = -5,       /* log2_bits is not 6 to 20 */
     SKETCH_MEMBER_HASHES = -6,          /* hashes is not 1 to 16 */
-    SKETCH_MEMBER_RESERVED = -7,        /* bytes 5 to 7 are not as they have to be */
+    SKETCH_MEMBER_RESERVED = -7,        /* byte 5 is not 0, or 1 in version 2, or byte 6
+                                         * or 7 is not 0 */
     SKETCH_MEMBER_UNKNOWN_COUNT = -8,   /* the count is unknown and not 0 */
     SKETCH_MEMBER_MISSING_BITS = -9,    /* there are fewer bytes than the bits need */
     SKETCH_MEMBER_TRAILING_BYTES = -10, /* there are more */
@@ -162,7 +163,7 @@ size_t sketch_member_size(unsigned log2_bits);
 int sketch_member_init(void *bytes, size_t length, uint64_t seed, unsigned log2_bits,
                        unsigned hashes);
 
-/* Whether the bytes are a table of version 2. */
+/* 0 where the bytes are a table of version 2, else a negative status. */
 int sketch_member_check(const void *bytes, size_t length);
 
 /* Inserts a key. */
@@ -175,8 +176,8 @@ int sketch_member_contains(const void *bytes, size_t length, const void *key, si
  * table of the keys of both. A fault of `into` is told before one of `from`. */
 int sketch_member_merge(void *into, size_t length, const void *from, size_t from_length);
 
-/* How many inserts were counted, up to 2^64 - 1. 1 where that is unknown; the count is then as it
- * was, as it is where the status is negative. */
+/* Writes to `count` how many inserts were counted, at most 2^64 - 1, and returns 0. Returns 1 where
+ * that is unknown, or a negative status; `count` is then unchanged. */
 int sketch_member_count(const void *bytes, size_t length, uint64_t *count);
 
 /* ---- For the initializers, and the layouts that the library was built for: with another one an

@@ -10,7 +10,7 @@ export type Offsets = Uint32Array | Int32Array | BigUint64Array | BigInt64Array;
 export interface Stream {
     /** The seed of the last reset, from 0n to 2n ** 64n - 1n. */
     readonly seed: bigint;
-    /** Appends bytes, and answers the stream. */
+    /** Appends bytes, and returns the stream. */
     update(bytes: Input): this;
     /** The hash of all bytes so far: 64 bits, or Murmur's 128 with its first word above the second. */
     digest(): bigint;
@@ -52,7 +52,9 @@ export interface Library {
      * @throws {RangeError} as xxh64Each does
      */
     murmur3X64_128Each(bytes: Input, offsets: Offsets, seed?: bigint): BigUint64Array;
+    /** An empty stream under a seed, 0n if left out. */
     Xxh64: new (seed?: bigint) => Stream;
+    /** An empty stream under a seed, 0n if left out. */
     Murmur3X64_128: new (seed?: bigint) => Stream;
     /** major * 10000 + minor * 100 + patch */
     version: number;

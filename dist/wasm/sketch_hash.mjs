@@ -23,7 +23,7 @@ const MEMORY64 = Uint8Array.of(0, 0x61, 0x73, 0x6d, 1, 0, 0, 0, 5, 3, 1, 4, 0);
 export async function load(source = new URL('sketch_hash.wasm', import.meta.url)) {
     const bytes = source instanceof URL || typeof source === 'string' ? await read(source) : source;
     if (!globalThis.WebAssembly?.validate(MEMORY64)) throw new Error(UNABLE);
-    if (!WebAssembly.validate(bytes)) throw new Error('what was loaded is no WebAssembly module, or is cut short');
+    if (!WebAssembly.validate(bytes)) throw new Error('what was loaded is not a WebAssembly module, or is truncated');
     const { instance } = await WebAssembly.instantiate(bytes, {});
     return library(instance.exports);
 }
@@ -56,7 +56,7 @@ const OFFSETS = [Uint32Array, Int32Array, ...NUMBERS];
 
 function checkedColumn(column, kinds) {
     if (kinds.some((kind) => column instanceof kind)) return column;
-    throw new TypeError(`the column is no ${kinds.map(({ name }) => name).join(', ')}`);
+    throw new TypeError(`the column must be one of ${kinds.map(({ name }) => name).join(', ')}`);
 }
 
 function library(calls) {
