@@ -1,6 +1,6 @@
 //! Items written, and read back as a list.
 
-ghost use Rattle.std.specs.Prelude.{◌≡◌, ◌↔◌, ◌⊎◌, ℕ, List, [], ◌+◌, ◌<◌, ◌≤◌, ◌++◌, IfErr, IfOk, IsOk, IsTrue, false, length, map, take, drop};
+ghost use Rattle.std.specs.Prelude.{◌≡◌, ◌↔◌, ◌⊎◌, ℕ, List, [], ◌∷◌, ◌+◌, ◌*◌, ◌/◌, ◌%◌, ◌<◌, ◌≤◌, ◌++◌, IfErr, IfOk, IsOk, IsTrue, false, length, map, take, drop};
 ghost use Rattle.std.specs.IoError.{error_kind};
 ghost use Rattle.std.specs.List.{All};
 ghost use Rattle.std.specs.declared.io.ErrorKind.TheVariants.{UnexpectedEof};
@@ -129,6 +129,35 @@ pub fn copy_into_room(alloc: Global, bytes: &[u8]) -> Result<(Vec<u8>, bool), Al
     let mut writer = SketchBytes::with_capacity(alloc, bytes.len())?;
     let is_written = writer.write(bytes).is_ok();
     Ok((writer.into_bytes(), is_written))
+}
+
+/// Writes a number of 32 bits in both orders, the highest byte first and then the lowest.
+///
+/// # Errors
+///
+/// Where memory runs out.
+pub fn write_both_ways(writer: &mut SketchBytes, n: u32) -> Result<(), AllocError>
+    ensures { IfOk result (λ _. writer.new.bytes ≡ (writer.old.bytes
+        ++ (n / 256 / 256 / 256 % 256 ∷ n / 256 / 256 % 256 ∷ n / 256 % 256 ∷ n % 256 ∷ []))
+        ++ (n % 256 ∷ n / 256 % 256 ∷ n / 256 / 256 % 256 ∷ n / 256 / 256 / 256 % 256 ∷ [])) }
+{
+    writer.write_u32_be(n)?;
+    writer.write_u32_le(n)
+}
+
+/// Reads a number of 32 bits, the highest byte first, and one with the lowest first.
+///
+/// # Errors
+///
+/// Where fewer than eight bytes remain: `UnexpectedEof`.
+pub fn read_both_ways(reader: &mut SketchSlice) -> io::Result<(u32, u32)>
+    ensures { (a b c d e f g h : ℕ) (rest : List ℕ) →
+        reader.old ≡ a ∷ b ∷ c ∷ d ∷ e ∷ f ∷ g ∷ h ∷ rest →
+        IfOk result (λ numbers. (numbers.0 ≡ d + 256 * c + 65536 * b + 16777216 * a)
+        × (numbers.1 ≡ e + 256 * f + 65536 * g + 16777216 * h)) }
+{
+    let first = reader.read_u32_be()?;
+    Ok((first, reader.read_u32_le()?))
 }
 
 /// Fills a buffer from a reader. The bytes after those remain.

@@ -1,9 +1,9 @@
 //! What refusals say, and how a text is made of what is printed.
 
-ghost use Rattle.std.specs.Prelude.{◌≡◌, ◌≢◌, ◌⊎◌, ◌++◌, ◌∷◌, [], ℕ, List, codes, IfErr, IfOk, MatchResult, string_bytes};
+ghost use Rattle.std.specs.Prelude.{◌≡◌, ◌≢◌, ◌⊎◌, ◌++◌, ◌∷◌, [], ℕ, List, codes, IfErr, IfOk, MatchResult, length, string_bytes, ◌==◌, if◌then◌else◌};
 ghost use Rattle.std.specs.Fmt.{decimal};
 ghost use Rattle.std.specs.List.{flat_map};
-ghost use Rattle.datasketches.specs.ErrorValue.{debug_text, error_of, line, memory_error};
+ghost use Rattle.datasketches.specs.ErrorValue.{ContextValue, debug_text, error_kind_name, error_of, line, memory_error};
 ghost use Rattle.datasketches.specs.Refusals.{Refuses};
 ghost use Rattle.datasketches.specs.SeedHash.{seed_hash};
 
@@ -118,6 +118,33 @@ pub fn texts_of_error(alloc: Global, error: &Error) -> Result<(String, String), 
     Ok((error.to_string(alloc)?, format!(in alloc; "{error:?}")?))
 }
 
+/// The line and the debug text of every error, without contexts and with some.
+pub fn texts_are_spelled()
+    ensures line { (kind : ErrorKind) (message : List ℕ) → line (error_of kind message)
+        ≡ error_kind_name kind ++ []
+        ++ (if length message == 0 then [] else codes " => " ++ message) }
+    ensures debug_text { (kind : ErrorKind) (message : List ℕ) → debug_text (error_of kind message)
+        ≡ error_kind_name kind ++ (if length message == 0 then [] else codes " => " ++ message)
+        ++ 10 ∷ [] }
+    ensures lines { (kind : ErrorKind) (message key text : List ℕ) (others : List ContextValue) →
+        line (record {
+          kind = kind;
+          message = message;
+          contexts = record { key = key; text = text } ∷ others;
+        })
+        ≡ error_kind_name kind
+        ++ (codes ", context: { " ++ (key ++ codes ": " ++ text)
+        ++ flat_map (λ other. codes ", " ++ (other.key ++ codes ": " ++ other.text)) others
+        ++ codes " }")
+        ++ (if length message == 0 then [] else codes " => " ++ message) }
+    ensures debug_texts { (kind : ErrorKind) (message : List ℕ) (first : ContextValue)
+        (others : List ContextValue) →
+        debug_text (record { kind = kind; message = message; contexts = first ∷ others })
+        ≡ error_kind_name kind ++ (if length message == 0 then [] else codes " => " ++ message)
+        ++ 10 ∷ (10 ∷ codes "Context:" ++ 10 ∷ flat_map (λ context. codes "   "
+        ++ (context.key ++ codes ": " ++ context.text) ++ 10 ∷ []) (first ∷ others)) }
+{}
+
 /// What a list of items that ended too early says.
 ///
 /// # Errors
@@ -142,29 +169,41 @@ pub fn text_of_stopped(alloc: Global, stopped: &Stopped) -> Result<String, Alloc
     stopped.to_string(alloc)
 }
 
-/// What the fault of so many bytes after a table says.
+/// What a fault in the bytes of a table says.
 ///
 /// # Errors
 ///
 /// Where memory runs out.
-pub fn text_of_trailing(alloc: Global, count: usize) -> Result<String, AllocError>
-    ensures { IfOk result (λ text. string_bytes text
-        ≡ codes "trailing bytes: " ++ decimal count) }
+pub fn text_of_fault(alloc: Global, fault: &Fault) -> Result<String, AllocError>
+    ensures header { fault.now ≡ Fault.HeaderEnds → IfOk result (λ text. string_bytes text
+        ≡ codes "insufficient data (member table): unexpected end of file") }
+    ensures longs { (n : ℕ) → fault.now ≡ Fault.PreambleLongs n → IfOk result
+        (λ text. string_bytes text
+        ≡ codes "invalid preamble longs: expected one of [2, 3], got " ++ decimal n) }
+    ensures version { (expected actual : ℕ) → fault.now ≡ Fault.SerialVersion expected actual →
+        IfOk result (λ text. string_bytes text ≡ codes "unsupported serial version: expected "
+        ++ (decimal expected ++ (codes ", got " ++ decimal actual))) }
+    ensures family { (n : ℕ) → fault.now ≡ Fault.Family n → IfOk result (λ text. string_bytes text
+        ≡ codes "invalid family: expected " ++ (decimal 200 ++ (codes " (" ++ (codes "MEMBER"
+        ++ (codes "), got " ++ decimal n))))) }
+    ensures log2_bits { (n : ℕ) → fault.now ≡ Fault.Log2Bits n → IfOk result
+        (λ text. string_bytes text
+        ≡ codes "invalid log2 bits: expected 6 to 20, got " ++ decimal n) }
+    ensures hashes { (n : ℕ) → fault.now ≡ Fault.Hashes n → IfOk result
+        (λ text. string_bytes text ≡ codes "invalid hashes: expected 1 to 16, got " ++ decimal n) }
+    ensures reserved { fault.now ≡ Fault.Reserved → IfOk result
+        (λ text. string_bytes text ≡ codes "reserved bytes are not zero") }
+    ensures count { fault.now ≡ Fault.UnknownCount → IfOk result
+        (λ text. string_bytes text ≡ codes "unknown count is not zero") }
+    ensures missing { (need have : ℕ) → fault.now ≡ Fault.MissingBits need have →
+        IfOk result (λ text. string_bytes text ≡ codes "insufficient data (member bits): expected "
+        ++ (decimal need ++ (codes ", got " ++ decimal have))) }
+    ensures trailing { (n : ℕ) → fault.now ≡ Fault.TrailingBytes n → IfOk result
+        (λ text. string_bytes text ≡ codes "trailing bytes: " ++ decimal n) }
+    ensures version1 { fault.now ≡ Fault.Version1 → IfOk result
+        (λ text. string_bytes text ≡ codes "unsupported serial version: expected 2, got 1") }
 {
-    Fault::TrailingBytes(count).to_string(alloc)
-}
-
-/// What bytes say that are fewer than the bits of a table need.
-///
-/// # Errors
-///
-/// Where memory runs out.
-pub fn text_of_missing(alloc: Global, need: usize, have: usize) -> Result<String, AllocError>
-    ensures { IfOk result (λ text. string_bytes text
-        ≡ codes "insufficient data (member bits): expected " ++ (decimal need
-        ++ (codes ", got " ++ decimal have))) }
-{
-    Fault::MissingBits { need, have }.to_string(alloc)
+    fault.to_string(alloc)
 }
 
 /// A wrapped key in decimal, as the key itself prints.

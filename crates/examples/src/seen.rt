@@ -2,6 +2,7 @@
 
 ghost use Rattle.std.specs.Prelude.{ℕ, List, ◌≡◌, ◌⊎◌, ◌↔◌, ◌+◌, ◌-◌, ◌%◌, ◌^◌, ◌<◌, [], ◌∷◌, ◌++◌, ◌≢◌, ◌≤◌, None, Some, IfErr, IfOk, IsTrue, MatchResult, codes, length, slice_index, map, Contains};
 ghost use Rattle.std.specs.Fmt.{decimal};
+ghost use Rattle.datasketches.specs.Bytes.{low_bytes};
 ghost use Rattle.datasketches.specs.ErrorValue.{memory_error};
 ghost use Rattle.datasketches.specs.Refusals.{Refuses};
 ghost use Rattle.datasketches.specs.Words.{plus};
@@ -323,6 +324,12 @@ pub fn are_same_tables(
 /// Where memory runs out.
 pub fn save_keys(alloc: Global, seen: &MemberTable) -> Result<Vec<u8>, AllocError>
     ensures saved { IfOk result (λ bytes. bytes.items ≡ form2 seen.now) }
+    ensures known { (n : ℕ) → seen.now.count ≡ Some n → IfOk result (λ bytes. bytes.items
+        ≡ 3 ∷ 2 ∷ 200 ∷ seen.now.log2_bits ∷ seen.now.hashes ∷ 1 ∷ 0 ∷ 0
+        ∷ low_bytes 8 seen.now.seed ++ (low_bytes 8 n ++ seen.now.bits)) }
+    ensures unknown { seen.now.count ≡ None → IfOk result (λ bytes. bytes.items
+        ≡ 3 ∷ 2 ∷ 200 ∷ seen.now.log2_bits ∷ seen.now.hashes ∷ 0 ∷ 0 ∷ 0
+        ∷ low_bytes 8 seen.now.seed ++ (low_bytes 8 0 ++ seen.now.bits)) }
     ensures pass { IfOk result (λ bytes. AllPass (length bytes.items) (steps bytes.items)) }
 {
     form_law();
@@ -339,6 +346,8 @@ pub fn saved_bytes_pass(saved: &[u8])
         AllPass (length saved.now) (view_steps saved.now) }
     ensures version1 { (table read : Table) → IsTable table → IsTable read →
         IsForm read (form1 table) → read ≡ record table { count = None } }
+    ensures form1 { (table : Table) → form1 table ≡ 2 ∷ 1 ∷ 200 ∷ table.log2_bits ∷ table.hashes
+        ∷ 0 ∷ 0 ∷ 0 ∷ low_bytes 8 table.seed ++ table.bits }
 {
     form_law();
 }

@@ -42,14 +42,14 @@ pub fn program<V: Env, R: Read, W: Write>(
     reader: &mut R,
     writer: &mut W,
 ) -> ProgramEnd
-    ensures usage { result.outcome ≡ Outcome.Usage →
-        (reader.new ≡ reader.old) × (writer.new ≡ writer.old) }
-    ensures no_memory { result.outcome ≡ Outcome.NoMemory →
-        (reader.new ≡ reader.old) × (writer.new ≡ writer.old) }
+    ensures usage { result.outcome ≡ Outcome.Usage → reader.new ≡ reader.old }
+    ensures no_memory { result.outcome ≡ Outcome.NoMemory → reader.new ≡ reader.old }
     ensures runs { result.outcome ≢ Outcome.Usage → result.outcome ≢ Outcome.NoMemory →
         (words : List (List ℕ)) × RunsOnce words result.outcome
         (R.remaining reader.old) (R.remaining reader.new)
         (W.contents writer.old) (W.contents writer.new) }
+    ensures silent { result.outcome ≢ Outcome.Done →
+        result.outcome ≢ Outcome.Fault RunFault.Write → writer.new ≡ writer.old }
 {
     let outcome = match words_of(env, alloc) {
         Ok(words) => answer(&words, reader, writer),

@@ -5,7 +5,9 @@ use super::{
     prints,
 };
 use crate::columns::{hash_numbers, hash_texts};
-use crate::items::{are_same_items, skip, there_and_back, write_if_it_fits};
+use crate::items::{
+    are_same_items, read_both_ways, skip, there_and_back, write_both_ways, write_if_it_fits,
+};
 use crate::keys::{hash_of_text, hash_of_value, is_new_key, is_same_key, is_same_word, pair_of};
 use crate::own::{BigEndian, Point};
 use crate::seen::{insert_in_either_order, is_found, see_key_in, see_saved_key, start_keys};
@@ -167,6 +169,12 @@ fn bytes_are_written_if_they_fit(rt: HostRuntime) -> Result<(), AllocError> {
     let mut writer = SketchBytes::with_capacity(rt.alloc(), 3)?;
     assert_same(&rt, write_if_it_fits(&mut writer, &[1, 2, 3]), true);
     assert_same(&rt, writer.into_bytes().as_slice(), &[1, 2, 3]);
+    let mut writer = SketchBytes::with_capacity(rt.alloc(), 0)?;
+    write_both_ways(&mut writer, 0x0102_0304)?;
+    let bytes = writer.into_bytes();
+    assert_same(&rt, bytes.as_slice(), [1, 2, 3, 4, 4, 3, 2, 1].as_slice());
+    let read = read_both_ways(&mut SketchSlice::new(&bytes));
+    assert_same(&rt, read.ok(), Some((0x0102_0304, 0x0102_0304)));
     Ok(())
 }
 

@@ -4,8 +4,8 @@ use super::{assert_refused, assert_same, prints};
 use crate::keys::{inner_key, next_key};
 use crate::merging::{merge_saved, merge_saved_twin};
 use crate::refusals::{
-    check_seed, check_version, ends_early, name_of_kind, refusal, text_of_key, text_of_missing,
-    text_of_short, text_of_stopped, text_of_trailing, texts_of_error, wrong_family, wrong_longs,
+    check_seed, check_version, ends_early, name_of_kind, refusal, text_of_fault, text_of_key,
+    text_of_short, text_of_stopped, texts_of_error, wrong_family, wrong_longs,
 };
 use crate::seen::{count_saved, insert_in, is_saved, load_again, other_length, see_keys_twice};
 use datasketches::codec::{Short, Stopped};
@@ -43,9 +43,9 @@ fn refusals_say_what_is_wrong(rt: HostRuntime) -> Result<(), Fail> {
     assert_same(&rt, text.as_str(), "insufficient data after 3 items");
     let text = text_of_stopped(alloc, &Stopped { accepted: 3 })?;
     assert_same(&rt, text.as_str(), "out of memory after 3 items");
-    let text = text_of_trailing(alloc, 1 << 40)?;
+    let text = text_of_fault(alloc, &Fault::TrailingBytes(1 << 40))?;
     assert_same(&rt, text.as_str(), "trailing bytes: 1099511627776");
-    let text = text_of_missing(alloc, 8, 7)?;
+    let text = text_of_fault(alloc, &Fault::MissingBits { need: 8, have: 7 })?;
     let line = "insufficient data (member bits): expected 8, got 7";
     assert_same(&rt, text.as_str(), line);
     let line = "InvalidData => invalid family: expected 7 (HLL), got 3";

@@ -1,7 +1,7 @@
-ghost use Rattle.std.specs.Prelude.{◌≡◌, ◌≢◌, ◌+◌, ◌*◌, ◌≤◌, [], ◌++◌, codes, false, true, length, Err, OnOk};
+ghost use Rattle.std.specs.Prelude.{ℕ, ◌≡◌, ◌≢◌, ◌+◌, ◌*◌, ◌/◌, ◌%◌, ◌≤◌, [], ◌∷◌, ◌++◌, nat_lt, if◌then◌else◌, codes, false, true, length, Err, OnOk};
 ghost use Rattle.datasketches.specs.Murmur.{murmur};
 ghost use Rattle.datasketches.specs.Xxh64.{xxh64};
-ghost use Rattle.sketchsum.specs.Digest.{digest_line, hex_word};
+ghost use Rattle.sketchsum.specs.Digest.{digest_line, hex_digits, hex_word};
 
 use super::fakes::{Full, KINDS, NarrowWriter, SlowReader};
 use super::{FOX, FOX_LINE, assert_same};
@@ -161,6 +161,23 @@ fn run_over_bytes(
 {
     run_bounded(algorithm, seed, turns, input, output)
 }
+
+// It knows of any reader and writer that a read fault writes nothing.
+fn run_over_any<R: Read, W: Write>(reader: &mut R, writer: &mut W) -> Result<(), RunFault>
+    ensures { result ≡ Err RunFault.Read → writer.new ≡ writer.old }
+{
+    run_bounded(Algorithm::Xx, 0, 2, reader, writer)
+}
+
+// It knows the digits of every word, which are sixteen: each is the character of the rest of a
+// division by 16.
+#[tactic(auto, unfolding(crate::specs::Digest::hex_word))]
+fn digits_are_hexadecimal()
+    ensures none { (n : ℕ) → hex_digits 0 n ≡ [] }
+    ensures next { (count n : ℕ) → hex_digits (count + 1) n ≡ hex_digits count (n / 16)
+        ++ (if nat_lt (n % 16) 10 then 48 + n % 16 else 87 + n % 16) ∷ [] }
+    ensures word { (n : ℕ) → hex_word n ≡ hex_digits 16 n }
+{}
 
 // What a caller's proof knows of a run that fails.
 fn run_or_nothing(input: &mut &[u8], output: &mut Vec<u8>) -> Result<(), RunFault>
