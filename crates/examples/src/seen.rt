@@ -170,7 +170,7 @@ pub fn other_family(bytes: &[u8]) -> Option<Fault>
 }
 
 /// What is wrong with bytes that begin with the header of a table of any size and with a count, but
-/// have fewer bytes behind it than the bits need, or more.
+/// have fewer bytes after it than the bits need, or more.
 pub fn other_length(bytes: &[u8]) -> Option<Fault>
     requires header { 24 ≤ length bytes.now }
     requires kind { (slice_index bytes.now 0 ≡ 3) × (slice_index bytes.now 1 ≡ 2)

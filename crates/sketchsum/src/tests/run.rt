@@ -157,16 +157,8 @@ fn run_over_bytes(
     ensures murmur { algorithm ≡ Algorithm.Murmur → OnOk result (output.new.items
         ≡ output.old.items ++ (hex_word (murmur seed input.old.now).0
         ++ (hex_word (murmur seed input.old.now).1 ++ codes "\n"))) }
-    ensures silent { result ≡ Err RunFault.TooLong → output.new ≡ output.old }
 {
     run_bounded(algorithm, seed, turns, input, output)
-}
-
-// It knows of any reader and writer that a read fault writes nothing.
-fn run_over_any<R: Read, W: Write>(reader: &mut R, writer: &mut W) -> Result<(), RunFault>
-    ensures { result ≡ Err RunFault.Read → writer.new ≡ writer.old }
-{
-    run_bounded(Algorithm::Xx, 0, 2, reader, writer)
 }
 
 // It knows the digits of every word, which are sixteen: each is the character of the rest of a
@@ -179,11 +171,32 @@ fn digits_are_hexadecimal()
     ensures word { (n : ℕ) → hex_word n ≡ hex_digits 16 n }
 {}
 
-// What a caller's proof knows of a run that fails.
-fn run_or_nothing(input: &mut &[u8], output: &mut Vec<u8>) -> Result<(), RunFault>
-    ensures { result ≡ Err RunFault.TooLong → output.new ≡ output.old }
+// It knows of any reader and writer that nothing is written at a read fault, or where the input is
+// too long.
+fn run_over_any<R: Read, W: Write>(
+    algorithm: Algorithm,
+    seed: u64,
+    turns: u64,
+    reader: &mut R,
+    writer: &mut W,
+) -> Result<(), RunFault>
+    ensures read { result ≡ Err RunFault.Read → writer.new ≡ writer.old }
+    ensures too_long { result ≡ Err RunFault.TooLong → writer.new ≡ writer.old }
 {
-    run(Algorithm::Xx, 0, input, output)
+    run_bounded(algorithm, seed, turns, reader, writer)
+}
+
+// It knows the same of a run of 2^32 reads at most.
+fn run_or_nothing<R: Read, W: Write>(
+    algorithm: Algorithm,
+    seed: u64,
+    reader: &mut R,
+    writer: &mut W,
+) -> Result<(), RunFault>
+    ensures read { result ≡ Err RunFault.Read → writer.new ≡ writer.old }
+    ensures too_long { result ≡ Err RunFault.TooLong → writer.new ≡ writer.old }
+{
+    run(algorithm, seed, reader, writer)
 }
 
 // Whether `turns` turns were enough, and how many are left: none, if they were not.
@@ -234,7 +247,11 @@ fn a_run_stops_at_the_first_empty_read(rt: HostRuntime) {
         assert_same(&rt, are_enough(turns, &mut FOX, &mut written), answer);
     }
     let mut written = Vec::new(rt.alloc());
-    assert_same(&rt, run_or_nothing(&mut FOX, &mut written), Ok(()));
+    let answer = run_or_nothing(Algorithm::Xx, 0, &mut FOX, &mut written);
+    assert_same(&rt, answer, Ok(()));
+    let answer = run_over_any(Algorithm::Xx, 0, 2, &mut FOX, &mut written);
+    assert_same(&rt, answer, Ok(()));
+    digits_are_hexadecimal();
     let (mut reader, line) = fresh(FOX);
     let mut input = BoundedReader::new(&mut reader, 2);
     let answer = write_rest(&mut input, &mut CheckedWriter::new(&mut written));
