@@ -6,7 +6,8 @@
  * published algorithm); a table contains each key that was inserted; no call reads or writes
  * outside of what it is given; only calls on tables fail, with a negative status
  * (sketch_member_size: with 0), and calls on columns, at an offset that does not fit or a number
- * that is missing; every content of a state, a table or an array of offsets is safe, even noise. The library imports nothing, so no call can allocate.
+ * that is missing; every content of a state, a table or an array of offsets is safe, even noise.
+ * The library imports nothing, so no call can allocate.
  *
  * What a caller owes, which no compiler checks:
  *   - A state starts by its _INIT or its _reset. A state of zeros is safe, but XXH64 of it is
@@ -142,8 +143,8 @@ enum sketch_member_status {
     SKETCH_MEMBER_FAMILY = -4,          /* byte 2 is not 200 */
     SKETCH_MEMBER_LOG2_BITS = -5,       /* log2_bits is not 6 to 20 */
     SKETCH_MEMBER_HASHES = -6,          /* hashes is not 1 to 16 */
-    SKETCH_MEMBER_RESERVED = -7,        /* byte 5 is not 0, or 1 in version 2, or byte 6
-                                         * or 7 is not 0 */
+    SKETCH_MEMBER_RESERVED = -7,        /* byte 5 is not 0 (or 1 in version 2), or byte
+                                         * 6 or 7 is not 0 */
     SKETCH_MEMBER_UNKNOWN_COUNT = -8,   /* the count is unknown and not 0 */
     SKETCH_MEMBER_MISSING_BITS = -9,    /* there are fewer bytes than the bits need */
     SKETCH_MEMBER_TRAILING_BYTES = -10, /* there are more */

@@ -119,11 +119,15 @@ def test_an_output_that_is_full():
 
 def test_an_interrupt_ends_it_without_a_word():
     command = [sys.executable, "-m", "sketch_hash", "fox", "-"]
-    with subprocess.Popen(command, stdin=subprocess.PIPE, stdout=subprocess.PIPE, stderr=subprocess.PIPE) as process:
-        assert process.stdout.readline() == XXH64 + b"  fox\n"
-        process.send_signal(signal.SIGINT)
-        assert process.stderr.read() == b""
-    assert process.returncode == -signal.SIGINT
+    for start, status in ((signal.SIG_DFL, -signal.SIGINT), (signal.SIG_IGN, 0)):
+        with subprocess.Popen(
+            command, stdin=subprocess.PIPE, stdout=subprocess.PIPE, stderr=subprocess.PIPE,
+            preexec_fn=lambda: signal.signal(signal.SIGINT, start),
+        ) as process:
+            assert process.stdout.readline() == XXH64 + b"  fox\n"
+            process.send_signal(signal.SIGINT)
+            assert process.communicate()[1] == b""
+        assert process.returncode == status
 
 
 def test_an_output_that_nobody_reads():

@@ -144,7 +144,7 @@ def text_of(place, value):
         return None if 1 <= value <= 16 else "hashes is not 1 to 16"
     if place == 5 and value == 0:
         return "the count is unknown and not 0"
-    return "byte 5 is not 0, or 1 in version 2, or byte 6 or 7 is not 0" if place < 8 else None
+    return "byte 5 is not 0 (or 1 in version 2), or byte 6 or 7 is not 0" if place < 8 else None
 
 
 @pytest.mark.parametrize("place", range(24))

@@ -177,7 +177,7 @@ table_errors! {
     -4 Family "byte 2 is not 200"
     -5 Log2Bits "log2_bits is not 6 to 20"
     -6 Hashes "hashes is not 1 to 16"
-    -7 Reserved "byte 5 is not 0, or 1 in version 2, or byte 6 or 7 is not 0"
+    -7 Reserved "byte 5 is not 0 (or 1 in version 2), or byte 6 or 7 is not 0"
     -8 UnknownCount "the count is unknown and not 0"
     -9 MissingBits "there are fewer bytes than the bits need"
     -10 TrailingBytes "there are more bytes than the bits need"

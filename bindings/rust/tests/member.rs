@@ -210,7 +210,7 @@ fn what_is_printed() {
         (TableError::SerialVersion, "byte 1 is not one less than byte 0"),
         (TableError::Family, "byte 2 is not 200"),
         (TableError::Hashes, "hashes is not 1 to 16"),
-        (TableError::Reserved, "byte 5 is not 0, or 1 in version 2, or byte 6 or 7 is not 0"),
+        (TableError::Reserved, "byte 5 is not 0 (or 1 in version 2), or byte 6 or 7 is not 0"),
         (TableError::UnknownCount, "the count is unknown and not 0"),
         (TableError::MissingBits, "there are fewer bytes than the bits need"),
         (TableError::TrailingBytes, "there are more bytes than the bits need"),

@@ -135,9 +135,12 @@ pub fn copy_into_room(alloc: Global, bytes: &[u8]) -> Result<(Vec<u8>, bool), Al
 ///
 /// # Errors
 ///
-/// Where memory runs out.
+/// Where memory runs out. Neither is written then, or the first alone.
 pub fn write_both_ways(writer: &mut SketchBytes, n: u32) -> Result<(), AllocError>
-    ensures { IfOk result (λ _. writer.new.bytes ≡ (writer.old.bytes
+    ensures left { IfErr result (λ _. (writer.new.bytes ≡ writer.old.bytes) ⊎ (writer.new.bytes
+        ≡ writer.old.bytes
+        ++ (n / 256 / 256 / 256 % 256 ∷ n / 256 / 256 % 256 ∷ n / 256 % 256 ∷ n % 256 ∷ []))) }
+    ensures written { IfOk result (λ _. writer.new.bytes ≡ (writer.old.bytes
         ++ (n / 256 / 256 / 256 % 256 ∷ n / 256 / 256 % 256 ∷ n / 256 % 256 ∷ n % 256 ∷ []))
         ++ (n % 256 ∷ n / 256 % 256 ∷ n / 256 / 256 % 256 ∷ n / 256 / 256 / 256 % 256 ∷ [])) }
 {
@@ -149,12 +152,15 @@ pub fn write_both_ways(writer: &mut SketchBytes, n: u32) -> Result<(), AllocErro
 ///
 /// # Errors
 ///
-/// Where fewer than eight bytes remain: `UnexpectedEof`.
+/// Where fewer than eight bytes remain: `UnexpectedEof`. Nothing remains then.
 pub fn read_both_ways(reader: &mut SketchSlice) -> io::Result<(u32, u32)>
-    ensures { (a b c d e f g h : ℕ) (rest : List ℕ) →
+    ensures enough { IsOk result ↔ 8 ≤ length reader.old }
+    ensures refused { IfErr result (λ error.
+        (error_kind error ≡ UnexpectedEof) × (reader.new ≡ [])) }
+    ensures read { (a b c d e f g h : ℕ) (rest : List ℕ) →
         reader.old ≡ a ∷ b ∷ c ∷ d ∷ e ∷ f ∷ g ∷ h ∷ rest →
         IfOk result (λ numbers. (numbers.0 ≡ d + 256 * c + 65536 * b + 16777216 * a)
-        × (numbers.1 ≡ e + 256 * f + 65536 * g + 16777216 * h)) }
+        × (numbers.1 ≡ e + 256 * f + 65536 * g + 16777216 * h) × (reader.new ≡ rest)) }
 {
     let first = reader.read_u32_be()?;
     Ok((first, reader.read_u32_le()?))

@@ -169,8 +169,8 @@ pub fn other_family(bytes: &[u8]) -> Option<Fault>
     TableView::new(bytes).err()
 }
 
-/// What is wrong with bytes that begin with the header of a table of any size and with a count, but
-/// have fewer bytes after it than the bits need, or more.
+/// What is wrong with bytes that begin with the header of a table of any size and with a count:
+/// nothing, where as many bytes are after it as the bits need.
 pub fn other_length(bytes: &[u8]) -> Option<Fault>
     requires header { 24 ≤ length bytes.now }
     requires kind { (slice_index bytes.now 0 ≡ 3) × (slice_index bytes.now 1 ≡ 2)
@@ -178,6 +178,7 @@ pub fn other_length(bytes: &[u8]) -> Option<Fault>
     requires sizes { IsLog2Bits (slice_index bytes.now 3) × IsHashes (slice_index bytes.now 4) }
     requires flag { (slice_index bytes.now 5 ≡ 1) × (slice_index bytes.now 6 ≡ 0)
         × (slice_index bytes.now 7 ≡ 0) }
+    ensures right { length bytes.now ≡ 24 + byte_count (slice_index bytes.now 3) → result ≡ None }
     ensures short { length bytes.now < 24 + byte_count (slice_index bytes.now 3) → result
         ≡ Some (Fault.MissingBits (byte_count (slice_index bytes.now 3)) (length bytes.now - 24)) }
     ensures long { 24 + byte_count (slice_index bytes.now 3) < length bytes.now → result ≡ Some

@@ -437,7 +437,7 @@ _FAULTS = {
     _lib.SKETCH_MEMBER_FAMILY: "byte 2 is not 200",
     _lib.SKETCH_MEMBER_LOG2_BITS: "log2_bits is not 6 to 20",
     _lib.SKETCH_MEMBER_HASHES: "hashes is not 1 to 16",
-    _lib.SKETCH_MEMBER_RESERVED: "byte 5 is not 0, or 1 in version 2, or byte 6 or 7 is not 0",
+    _lib.SKETCH_MEMBER_RESERVED: "byte 5 is not 0 (or 1 in version 2), or byte 6 or 7 is not 0",
     _lib.SKETCH_MEMBER_UNKNOWN_COUNT: "the count is unknown and not 0",
     _lib.SKETCH_MEMBER_MISSING_BITS: "there are fewer bytes than the bits need",
     _lib.SKETCH_MEMBER_TRAILING_BYTES: "there are more bytes than the bits need",

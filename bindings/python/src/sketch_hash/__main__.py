@@ -166,9 +166,11 @@ def complain(text):
 
 
 if __name__ == "__main__":
-    # As other programs do, this one ends without a word where nobody reads its output, or at Ctrl-C.
+    # As other programs do, this one ends without a word where nobody reads its output, or at Ctrl-C, which it
+    # ignores where it was started so.
     signal.signal(signal.SIGPIPE, signal.SIG_DFL)
-    signal.signal(signal.SIGINT, signal.SIG_DFL)
+    if signal.getsignal(signal.SIGINT) is not signal.SIG_IGN:
+        signal.signal(signal.SIGINT, signal.SIG_DFL)
     try:
         sys.exit(main())
     except OSError as error:
