@@ -55,6 +55,14 @@ def test_each_number(dtype):
     assert xxh64_each(array.array("Q", [5])).tolist() == expected([b"\5" + bytes(7)], 0)
 
 
+def test_texts_of_one_width():
+    """As README tells it: the padding of each is part of its key."""
+    texts = numpy.array([b"", b"fox", b"eight888", b"dog"], "S8")
+    offsets = numpy.arange(0, 8 * len(texts) + 1, 8, dtype="u8")
+    padded = [bytes(text).ljust(8, b"\0") for text in texts]
+    assert xxh64_each((texts.tobytes(), offsets), 3).tolist() == expected(padded, 3)
+
+
 def test_each_name_of_a_width():
     """What C calls a number of 32 or 64 bits differs by machine: each of its names is taken."""
     some = OFFSETS[500:601]

@@ -363,6 +363,18 @@ def test_merged_tables_contain_the_keys_of_both():
     assert one.to_bytes() == model(10, 3, KEYS, 4 * (2 * len(KEYS) - 20))
 
 
+def test_two_tables_make_a_third():
+    one, two = filled(keys=KEYS[:20]), filled(keys=KEYS[20:])
+    both = MemberTable.view(bytearray(one.to_bytes())) | two
+    assert both.to_bytes() == filled().to_bytes()
+    assert one.to_bytes() == filled(keys=KEYS[:20]).to_bytes()
+    assert two.to_bytes() == filled(keys=KEYS[20:]).to_bytes()
+    both.insert(b"another")
+    assert (one | two).to_bytes() == filled().to_bytes()
+    with pytest.raises(ValueError, match="^the tables have different seeds$"):
+        one | MemberTable(10, 3, SEED + 1)
+
+
 def test_unlike_tables_stay_as_they_were():
     table = filled()
     for words, text in (
@@ -377,6 +389,8 @@ def test_unlike_tables_stay_as_they_were():
             table.merge(other)
         with pytest.raises(TypeError):
             table |= other
+        with pytest.raises(TypeError):
+            table | other
     with pytest.raises(TypeError, match="^a table is merged with a table, and not with bytes$"):
         table.merge(b"fox")
     assert table.to_bytes() == filled().to_bytes()

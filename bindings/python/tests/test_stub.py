@@ -23,7 +23,7 @@ def test_the_stubs_fit_the_module():
         assert hasattr(sketch_hash.xxh64, word) and hasattr(sketch_hash.murmur3_x64_128, word)
     stub = {it.name: it for it in named["MemberTable"].body}
     public = {word for word in vars(sketch_hash.MemberTable) if not word.startswith("_")}
-    assert {*stub} == {*public, "__init__", "__contains__", "__eq__", "__ior__"}
+    assert {*stub} == {*public, "__init__", "__contains__", "__eq__", "__ior__", "__or__"}
     for word, it in stub.items():
         call = inspect.getattr_static(sketch_hash.MemberTable, word)
         call = getattr(call, "fget", getattr(call, "__func__", call))

@@ -1,1 +1,2 @@
 pub mod SeenLemmas
+pub mod DefinitionLemmas

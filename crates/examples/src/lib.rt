@@ -2,6 +2,7 @@
 #![tactic(auto)]
 
 pub mod columns;
+pub mod definitions;
 pub mod items;
 pub mod keys;
 pub mod known_answers;

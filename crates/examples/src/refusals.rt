@@ -1,9 +1,9 @@
 //! What refusals say, and how a text is made of what is printed.
 
-ghost use Rattle.std.specs.Prelude.{◌≡◌, ◌≢◌, ◌⊎◌, ◌++◌, ◌∷◌, [], ℕ, List, codes, IfErr, IfOk, MatchResult, length, string_bytes, ◌==◌, if◌then◌else◌};
+ghost use Rattle.std.specs.Prelude.{◌≡◌, ◌≢◌, ◌⊎◌, ◌++◌, ◌∷◌, [], ℕ, List, codes, IfErr, IfOk, MatchResult, string_bytes};
 ghost use Rattle.std.specs.Fmt.{decimal};
 ghost use Rattle.std.specs.List.{flat_map};
-ghost use Rattle.datasketches.specs.ErrorValue.{ContextValue, debug_text, error_kind_name, error_of, line, memory_error};
+ghost use Rattle.datasketches.specs.ErrorValue.{debug_text, error_of, line, memory_error};
 ghost use Rattle.datasketches.specs.Refusals.{Refuses};
 ghost use Rattle.datasketches.specs.SeedHash.{seed_hash};
 
@@ -117,33 +117,6 @@ pub fn texts_of_error(alloc: Global, error: &Error) -> Result<(String, String), 
 {
     Ok((error.to_string(alloc)?, format!(in alloc; "{error:?}")?))
 }
-
-/// The line and the debug text of every error, without contexts and with some.
-pub fn texts_are_spelled()
-    ensures line { (kind : ErrorKind) (message : List ℕ) → line (error_of kind message)
-        ≡ error_kind_name kind ++ []
-        ++ (if length message == 0 then [] else codes " => " ++ message) }
-    ensures debug_text { (kind : ErrorKind) (message : List ℕ) → debug_text (error_of kind message)
-        ≡ error_kind_name kind ++ (if length message == 0 then [] else codes " => " ++ message)
-        ++ 10 ∷ [] }
-    ensures lines { (kind : ErrorKind) (message key text : List ℕ) (others : List ContextValue) →
-        line (record {
-          kind = kind;
-          message = message;
-          contexts = record { key = key; text = text } ∷ others;
-        })
-        ≡ error_kind_name kind
-        ++ (codes ", context: { " ++ (key ++ codes ": " ++ text)
-        ++ flat_map (λ other. codes ", " ++ (other.key ++ codes ": " ++ other.text)) others
-        ++ codes " }")
-        ++ (if length message == 0 then [] else codes " => " ++ message) }
-    ensures debug_texts { (kind : ErrorKind) (message : List ℕ) (first : ContextValue)
-        (others : List ContextValue) →
-        debug_text (record { kind = kind; message = message; contexts = first ∷ others })
-        ≡ error_kind_name kind ++ (if length message == 0 then [] else codes " => " ++ message)
-        ++ 10 ∷ (10 ∷ codes "Context:" ++ 10 ∷ flat_map (λ context. codes "   "
-        ++ (context.key ++ codes ": " ++ context.text) ++ 10 ∷ []) (first ∷ others)) }
-{}
 
 /// What a list of items that ended too early says.
 ///

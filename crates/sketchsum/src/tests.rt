@@ -1,6 +1,7 @@
 ghost use Rattle.std.specs.Prelude.{IsTrue};
 
 mod arguments;
+mod definitions;
 pub(crate) mod fakes;
 mod run;
 

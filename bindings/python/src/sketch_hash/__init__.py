@@ -405,6 +405,14 @@ class MemberTable:
         self.merge(other)
         return self
 
+    def __or__(self, other):
+        """A new table, which contains the keys of both, as merge tells; both stay as they were."""
+        if not isinstance(other, MemberTable):
+            return NotImplemented
+        table = self.copy()
+        table.merge(other)
+        return table
+
     def __eq__(self, other):
         """Whether both are the same table: seed, sizes, bits and count."""
         if not isinstance(other, MemberTable):

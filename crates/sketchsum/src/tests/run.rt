@@ -1,10 +1,10 @@
-ghost use Rattle.std.specs.Prelude.{ℕ, ◌≡◌, ◌≢◌, ◌+◌, ◌*◌, ◌/◌, ◌%◌, ◌≤◌, [], ◌∷◌, ◌++◌, nat_lt, if◌then◌else◌, codes, false, true, length, Err, OnOk};
+ghost use Rattle.std.specs.Prelude.{ℕ, ◌≡◌, ◌≢◌, ◌+◌, ◌*◌, ◌≤◌, [], ◌++◌, codes, false, true, length, Err, OnOk};
 ghost use Rattle.datasketches.specs.Murmur.{murmur};
 ghost use Rattle.datasketches.specs.Xxh64.{xxh64};
-ghost use Rattle.sketchsum.specs.Digest.{digest_line, hex_digits, hex_word};
+ghost use Rattle.sketchsum.specs.Digest.{digest_line, hex_word};
 
 use super::fakes::{Full, KINDS, NarrowWriter, SlowReader};
-use super::{FOX, FOX_LINE, assert_same};
+use super::{FOX, FOX_LINE, assert_same, definitions};
 use crate::arguments::Algorithm;
 use crate::digest::write_digest;
 use crate::ending::{Outcome, RunFault, ending};
@@ -161,16 +161,6 @@ fn run_over_bytes(
     run_bounded(algorithm, seed, turns, input, output)
 }
 
-// It knows the digits of every word, which are sixteen: each is the character of the rest of a
-// division by 16.
-#[tactic(auto, unfolding(crate::specs::Digest::hex_word))]
-fn digits_are_hexadecimal()
-    ensures none { (n : ℕ) → hex_digits 0 n ≡ [] }
-    ensures next { (count n : ℕ) → hex_digits (count + 1) n ≡ hex_digits count (n / 16)
-        ++ (if nat_lt (n % 16) 10 then 48 + n % 16 else 87 + n % 16) ∷ [] }
-    ensures word { (n : ℕ) → hex_word n ≡ hex_digits 16 n }
-{}
-
 // It knows of any reader and writer that nothing is written at a read fault, or where the input is
 // too long.
 fn run_over_any<R: Read, W: Write>(
@@ -251,7 +241,8 @@ fn a_run_stops_at_the_first_empty_read(rt: HostRuntime) {
     assert_same(&rt, answer, Ok(()));
     let answer = run_over_any(Algorithm::Xx, 0, 2, &mut FOX, &mut written);
     assert_same(&rt, answer, Ok(()));
-    digits_are_hexadecimal();
+    definitions::values();
+    definitions::relations();
     let (mut reader, line) = fresh(FOX);
     let mut input = BoundedReader::new(&mut reader, 2);
     let answer = write_rest(&mut input, &mut CheckedWriter::new(&mut written));
