@@ -79,12 +79,16 @@ pub record Forms : Type 0 where
   pub IsForm : (table : Table) (b : List ℕ) → forms.IsForm table b
       ↔ (((table.count ≡ None) × (b ≡ forms.form1 table)) ⊎ (b ≡ forms.form2 table))
 
--- the faults that steps tell of
+-- how many bytes steps need, and the faults that they tell of
+abbrev pub needs_of : List Step → List ℕ
+needs_of [] = []
+needs_of (step ∷ list) = step.needs ∷ needs_of list
+
 abbrev pub faults_of : List Step → List Fault
 faults_of [] = []
 faults_of (step ∷ list) = step.fault ∷ faults_of list
 
--- What a step needs and what has to hold is what its passing says, for every number of bytes.
+-- What has to hold is what the passing of a step says.
 pub record Faults : Type 0 where
   pub fault_text : (m n : ℕ) → map faults.fault_text
       (fault.HeaderEnds ∷ fault.PreambleLongs n ∷ fault.SerialVersion m n ∷ fault.Family n
@@ -110,15 +114,17 @@ pub record Faults : Type 0 where
       faults.Fails count (record { needs = needs; Holds = a ≡ b; fault = own }) told
       ↔ (((count < needs) × (told ≡ fault.HeaderEnds))
       ⊎ ((needs ≤ count) × (a ≡ b → ⊥) × (told ≡ own)))
-  pub AllPass : (count : ℕ) (b : List ℕ) → faults.AllPass count []
-      × (faults.AllPass count (faults.flag_step b ∷ faults.view_steps b)
-      ↔ (faults.Passes count (faults.flag_step b) × faults.AllPass count (faults.view_steps b)))
-  pub IsFirstFault : (count : ℕ) (b : List ℕ) (told : Fault) →
+  pub AllPass : (count needs x y : ℕ) (own : Fault) (b : List ℕ) → faults.AllPass count []
+      × (faults.AllPass count
+      (record { needs = needs; Holds = x ≡ y; fault = own } ∷ faults.view_steps b)
+      ↔ (((needs ≤ count) × (x ≡ y)) × faults.AllPass count (faults.view_steps b)))
+  pub IsFirstFault : (count needs x y : ℕ) (own told : Fault) (b : List ℕ) →
       (faults.IsFirstFault count [] told → ⊥)
-      × (faults.IsFirstFault count (faults.flag_step b ∷ faults.view_steps b) told
-      ↔ (faults.Fails count (faults.flag_step b) told
-      ⊎ (faults.Passes count (faults.flag_step b)
-      × faults.IsFirstFault count (faults.view_steps b) told)))
+      × (faults.IsFirstFault count
+      (record { needs = needs; Holds = x ≡ y; fault = own } ∷ faults.view_steps b) told
+      ↔ ((((count < needs) × (told ≡ fault.HeaderEnds))
+      ⊎ ((needs ≤ count) × (x ≡ y → ⊥) × (told ≡ own)))
+      ⊎ (((needs ≤ count) × (x ≡ y)) × faults.IsFirstFault count (faults.view_steps b) told)))
   pub FirstFault : (count : ℕ) (b : List ℕ) (error : ErrorValue) →
       faults.FirstFault count (faults.view_steps b) error
       ↔ ((told : Fault) × faults.IsFirstFault count (faults.view_steps b) told
@@ -135,36 +141,42 @@ pub record Faults : Type 0 where
       ≡ fault.PreambleLongs (slice_index b 0)
       ∷ fault.SerialVersion (slice_index b 0 - 1) (slice_index b 1)
       ∷ fault.Family (slice_index b 2) ∷ [])
+      × (needs_of (faults.kind_steps b) ≡ 1 ∷ 2 ∷ 3 ∷ [])
   pub size_steps : (count : ℕ) (b : List ℕ) →
       (faults.AllPass count (faults.size_steps b)
       ↔ (((4 ≤ count) × limits.IsLog2Bits (slice_index b 3))
       × (((5 ≤ count) × limits.IsHashes (slice_index b 4)) × Unit {0})))
       × (faults_of (faults.size_steps b)
       ≡ fault.Log2Bits (slice_index b 3) ∷ fault.Hashes (slice_index b 4) ∷ [])
+      × (needs_of (faults.size_steps b) ≡ 4 ∷ 5 ∷ [])
   pub IsFlag : (longs flag : ℕ) → faults.IsFlag longs flag
       ↔ ((flag ≡ 0) ⊎ ((longs ≡ 3) × (flag ≡ 1)))
   pub flag_step : (count : ℕ) (b : List ℕ) →
       (faults.Passes count (faults.flag_step b)
       ↔ ((8 ≤ count) × (faults.IsFlag (slice_index b 0) (slice_index b 5)
       × (slice_index b 6 ≡ 0) × (slice_index b 7 ≡ 0))))
-      × ((faults.flag_step b).fault ≡ fault.Reserved)
+      × ((faults.flag_step b).fault ≡ fault.Reserved) × ((faults.flag_step b).needs ≡ 8)
   pub seed_step : (count : ℕ) → (faults.Passes count faults.seed_step ↔ ((16 ≤ count) × Unit {0}))
-      × (faults.seed_step.fault ≡ fault.HeaderEnds)
+      × (faults.seed_step.fault ≡ fault.HeaderEnds) × (faults.seed_step.needs ≡ 16)
   pub count_step : (count : ℕ) (b : List ℕ) →
       (faults.Passes count (faults.count_step b)
       ↔ ((8 * slice_index b 0 ≤ count)
       × (slice_index b 5 ≡ 0 → faults.count_number b ≡ 0)))
       × ((faults.count_step b).fault ≡ fault.UnknownCount)
+      × ((faults.count_step b).needs ≡ 8 * slice_index b 0)
   pub number_steps : (count : ℕ) (b : List ℕ) →
       (faults.AllPass count (faults.number_steps b)
       ↔ faults.AllPass count (faults.flag_step b ∷ faults.seed_step ∷ faults.count_step b ∷ []))
       × (faults_of (faults.number_steps b)
       ≡ fault.Reserved ∷ fault.HeaderEnds ∷ fault.UnknownCount ∷ [])
+      × (needs_of (faults.number_steps b) ≡ 8 ∷ 16 ∷ 8 * slice_index b 0 ∷ [])
   pub header_steps : (count : ℕ) (b : List ℕ) →
       (faults.AllPass count (faults.header_steps b) ↔ faults.AllPass count
       (faults.kind_steps b ++ (faults.size_steps b ++ faults.number_steps b)))
       × (faults_of (faults.header_steps b) ≡ faults_of (faults.kind_steps b)
       ++ (faults_of (faults.size_steps b) ++ faults_of (faults.number_steps b)))
+      × (needs_of (faults.header_steps b)
+      ≡ 1 ∷ 2 ∷ 3 ∷ 4 ∷ 5 ∷ 8 ∷ 16 ∷ 8 * slice_index b 0 ∷ [])
   pub bits_steps : (count start need : ℕ) (b : List ℕ) →
       (faults.AllPass count (faults.bits_steps b start need)
       ↔ (((start ≤ count) × (need ≤ length b - start))
@@ -172,19 +184,23 @@ pub record Faults : Type 0 where
       × (faults_of (faults.bits_steps b start need)
       ≡ fault.MissingBits need (length b - start)
       ∷ fault.TrailingBytes (length b - start - need) ∷ [])
+      × (needs_of (faults.bits_steps b start need) ≡ start ∷ start ∷ [])
   pub steps : (count : ℕ) (b : List ℕ) →
       (faults.AllPass count (faults.steps b) ↔ faults.AllPass count (faults.header_steps b
       ++ faults.bits_steps b (8 * slice_index b 0) (2 ^ slice_index b 3 / 8)))
       × (faults_of (faults.steps b) ≡ faults_of (faults.header_steps b)
       ++ faults_of (faults.bits_steps b (8 * slice_index b 0) (2 ^ slice_index b 3 / 8)))
+      × (needs_of (faults.steps b) ≡ 1 ∷ 2 ∷ 3 ∷ 4 ∷ 5 ∷ 8 ∷ 16
+      ∷ 8 * slice_index b 0 ∷ 8 * slice_index b 0 ∷ 8 * slice_index b 0 ∷ [])
   pub version_step : (count : ℕ) (b : List ℕ) →
       (faults.Passes count (faults.version_step b)
       ↔ ((1 ≤ count) × (slice_index b 0 ≡ 3)))
-      × ((faults.version_step b).fault ≡ fault.Version1)
+      × ((faults.version_step b).fault ≡ fault.Version1) × ((faults.version_step b).needs ≡ 1)
   pub view_steps : (count : ℕ) (b : List ℕ) →
       (faults.AllPass count (faults.view_steps b)
       ↔ faults.AllPass count (faults.steps b ++ faults.version_step b ∷ []))
       × (faults_of (faults.view_steps b) ≡ faults_of (faults.steps b) ++ fault.Version1 ∷ [])
+      × (needs_of (faults.view_steps b) ≡ needs_of (faults.steps b) ++ 1 ∷ [])
   pub init_steps : (count log2_bits hashes : ℕ) (b : List ℕ) →
       (faults.AllPass count (faults.init_steps log2_bits hashes b)
       ↔ (((0 ≤ count) × limits.IsLog2Bits log2_bits) × (((0 ≤ count) × limits.IsHashes hashes)
@@ -192,6 +208,7 @@ pub record Faults : Type 0 where
       × (faults_of (faults.init_steps log2_bits hashes b)
       ≡ fault.Log2Bits log2_bits ∷ fault.Hashes hashes
       ∷ faults_of (faults.bits_steps b 24 (2 ^ log2_bits / 8)))
+      × (needs_of (faults.init_steps log2_bits hashes b) ≡ 0 ∷ 0 ∷ 24 ∷ 24 ∷ [])
 
 pub record Places : Type 0 where
   pub Becomes : (fed old new : List ℕ) → places.Becomes (tables.Inserts fed) old new

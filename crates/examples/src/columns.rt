@@ -1,10 +1,11 @@
 //! Columns of keys, hashed in one call.
 
-ghost use Rattle.std.specs.Prelude.{◌≡◌, ℕ, ◌+◌, ◌-◌, ◌<◌, ◌≤◌, ◌∷◌, length, take, drop, slice_index, IfErr, IfOk};
+ghost use Rattle.std.specs.Prelude.{◌≡◌, ℕ, ◌+◌, ◌-◌, ◌<◌, ◌≤◌, ◌∷◌, length, map, take, drop, slice_index, IfErr, IfOk};
 ghost use Rattle.datasketches.specs.Bytes.{eight};
 ghost use Rattle.datasketches.specs.Xxh64.{xxh64};
+ghost use Rattle.sketch_hash.specs.Columns.{HashesEach, murmur_words};
 
-use datasketches::hash::XxHash64;
+use datasketches::hash::{MurmurHash3X64128, Offset, XxHash64};
 
 /// The XXH64 of each text of a column, under the seed 9001; or the index of the first offset that
 /// does not fit; then nothing is written.
@@ -27,6 +28,39 @@ pub fn hash_texts(texts: &[u8], offsets: &[u64], out: &mut [u64]) -> Result<(), 
         slice_index offsets.now fault < slice_index (0 ∷ offsets.now) fault)) }
 {
     XxHash64::hash_each(texts, offsets, 9001, out)
+}
+
+/// The XXH64 of each key of a column, with offsets of any type.
+///
+/// # Errors
+///
+/// The index of the first offset that does not fit; then nothing is written.
+pub fn hash_keys<O: Offset>(
+    bytes: &[u8],
+    offsets: &[O],
+    seed: u64,
+    out: &mut [u64],
+) -> Result<(), usize>
+    ensures { HashesEach (xxh64 seed) bytes.now (map O.place offsets.now) out.old out.new result }
+{
+    XxHash64::hash_each(bytes, offsets, seed, out)
+}
+
+/// The Murmur pair of each key of a column, with offsets of any type, as two words of a place.
+///
+/// # Errors
+///
+/// The index of the first offset that does not fit; then nothing is written.
+pub fn pairs_of_keys<O: Offset>(
+    bytes: &[u8],
+    offsets: &[O],
+    seed: u64,
+    out: &mut [[u64; 2]],
+) -> Result<(), usize>
+    ensures { HashesEach (murmur_words seed) bytes.now (map O.place offsets.now) out.old out.new
+        result }
+{
+    MurmurHash3X64128::hash_each(bytes, offsets, seed, out)
 }
 
 /// The XXH64 of each number, under the seed 9001; or how many numbers there are, where they are

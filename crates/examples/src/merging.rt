@@ -1,6 +1,6 @@
 //! Tables of several workers that become one, in whatever order.
 
-ghost use Rattle.std.specs.Prelude.{◌≡◌, ◌≢◌, ◌⊎◌, ℕ, ◌+◌, List, ◌++◌, codes, Err, IfErr, IfOk, IsOk};
+ghost use Rattle.std.specs.Prelude.{◌≡◌, ◌≢◌, ◌⊎◌, ◌↔◌, ℕ, ◌+◌, List, ◌++◌, codes, map, Err, IfErr, IfOk, IsOk, IsTrue};
 ghost use Rattle.datasketches.specs.ErrorValue.{memory_error};
 ghost use Rattle.datasketches.specs.Refusals.{Refuses};
 ghost use Rattle.sketch_member.specs.Form.{form2};
@@ -11,7 +11,8 @@ ghost use Rattle.sketch_member.specs.Merge.{AreAlike, Merges};
 ghost use Rattle.sketch_member.specs.Table.{Table, IsMember, IsTable, empty_table};
 
 use datasketches::error::{Error, ErrorKind};
-use sketch_member::laws::{form_law, merge_law};
+use datasketches::hash::Hash;
+use sketch_member::laws::{form_law, merge_both, merge_law};
 use sketch_member::{Difference, MemberTable, MergeFault, in_place};
 use std::alloc::Global;
 
@@ -96,6 +97,66 @@ pub fn merges_keep_all()
         after.count ≡ count_after (m + n) }
 {
     merge_law();
+}
+
+/// Whichever of two tables is merged into the other, and in whatever order three are merged, the
+/// same table is made: that of both streams. An empty table changes nothing, and a table that is
+/// merged with itself nothing but the count.
+pub fn merges_have_no_order()
+    ensures streams { (before other after whole : Table) (first second : List (List ℕ)) →
+        IsTable after → IsTable whole → AreAlike before whole → Merges other before after →
+        IsMadeOf first before → IsMadeOf second other → IsMadeOf (first ++ second) whole →
+        after ≡ whole }
+    ensures either_way { (table other after back : Table) → IsTable after → IsTable back →
+        Merges other table after → Merges table other back → after ≡ back }
+    ensures as_a_tree { (a b c a_b b_c left right : Table) → IsTable left → IsTable right →
+        Merges b a a_b → Merges c a_b left → Merges c b b_c → Merges b_c a right → left ≡ right }
+    ensures nothing { (table after : Table) → IsTable table → IsTable after →
+        Merges (empty_table table.seed table.log2_bits table.hashes) table after → after ≡ table }
+    ensures itself { (table after : Table) → IsTable table → IsTable after →
+        Merges table table after → after ≡ record table { count = after.count } }
+{
+    merge_law();
+}
+
+/// The bytes of a table into which that of a second stream of values was merged, and those of the
+/// table of both streams: they are the same.
+///
+/// # Errors
+///
+/// Where the sizes are outside their limits: `InvalidArgument`. Where memory runs out:
+/// `OutOfMemory`, with no message.
+pub fn merge_streams<T: Hash>(
+    alloc: Global,
+    seed: u64,
+    log2_bits: u8,
+    hashes: u8,
+    first: &[T],
+    second: &[T],
+) -> Result<(Vec<u8>, Vec<u8>), Error>
+    ensures same { IfOk result (λ both. both.0.items ≡ both.1.items) }
+    ensures whole { IfOk result (λ both. (whole : Table)
+        × AreAlike (empty_table seed log2_bits hashes) whole
+        × IsMadeOf (map T.fed first.now ++ map T.fed second.now) whole
+        × (both.1.items ≡ form2 whole)) }
+    ensures refused { IfErr result (λ error. (error ≡ memory_error)
+        ⊎ (IsLog2Bits log2_bits × IsHashes hashes → ⊥)) }
+{
+    merge_both(alloc, seed, log2_bits, hashes, first, second)
+}
+
+/// Whether two faults of merges are the same.
+pub fn is_same_fault(one: &MergeFault, other: &MergeFault) -> bool
+    ensures { IsTrue result ↔ (one.now ≡ other.now) }
+{
+    one == other
+}
+
+/// A copy of a fault.
+pub fn copy_of_fault(fault: &MergeFault) -> MergeFault
+    ensures { result ≡ fault.now }
+{
+    *fault
 }
 
 /// Merges each of two tables into the other. Both end as the same table.

@@ -1,11 +1,11 @@
-//! A type and a strategy of one's own.
+//! A type, a strategy and an offset of one's own.
 
 ghost use Rattle.std.specs.Prelude.{◌++◌, reverse};
 ghost use Rattle.std.proofs.Common.{rules};
 ghost use Rattle.datasketches.specs.Bytes.{low_bytes, modulo};
 
 use datasketches::hash::value::{HashStrategy, Value};
-use datasketches::hash::{Hash, Hasher};
+use datasketches::hash::{Hash, Hasher, Offset};
 
 /// A point of a grid, which feeds its two numbers one after the other.
 #[derive(Clone, Copy, Debug, PartialEq, Eq)]
@@ -39,4 +39,21 @@ impl HashStrategy<u64> for BigEndianStrategy {
     }
 
     ghost respects_eq = { Prim.search rules };
+}
+
+/// A row of an index: where its key begins in a column, and the row's mark.
+#[derive(Clone, Copy)]
+pub struct Row {
+    /// How many bytes of the column stand before the key.
+    pub start: u32,
+    /// The mark, which is no part of the offset.
+    pub mark: u8,
+}
+
+impl Offset for Row {
+    ghost place = { λ row. row.start };
+
+    fn place(self) -> usize {
+        self.start as usize
+    }
 }

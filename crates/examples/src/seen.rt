@@ -16,9 +16,10 @@ ghost use Rattle.sketch_member.specs.Merge.{AreAlike};
 ghost use Rattle.sketch_member.specs.Table.{Table, Inserts, IsMember, IsSet, IsTable, byte_count, empty_table};
 
 use datasketches::error::{Error, ErrorKind};
-use datasketches::hash::value::raw_bytes::{self, RawBytes};
+use datasketches::hash::Hash;
+use datasketches::hash::value::raw_bytes;
 use sketch_member::laws::{form_law, insert_both, insert_law, read_again, read_back};
-use sketch_member::{Fault, MemberTable, TableView, in_place};
+use sketch_member::{Fault, MEMBER, MemberTable, TableView, in_place};
 use std::alloc::{AllocError, Global};
 
 /// The table of the keys seen so far, from the bytes that were saved; a new one, of 1024 bits with
@@ -122,6 +123,38 @@ pub fn see_key_in(bytes: &mut [u8], key: &[u8]) -> Result<bool, Fault>
     Ok(is_seen)
 }
 
+/// Whether the table tells that a value of any type was seen, by the bytes that the value feeds. It is
+/// seen from then on.
+pub fn see_value<T: Hash>(seen: &mut MemberTable, value: &T) -> bool
+    ensures told { IsTrue result ↔ IsMember seen.old (T.fed value.now) }
+    ensures seen { Inserts (T.fed value.now) seen.old seen.new }
+{
+    let is_seen = seen.contains(value);
+    seen.insert(value);
+    is_seen
+}
+
+/// Whether a table in bytes tells that a value of any type was seen.
+pub fn is_value_seen<T: Hash>(seen: &TableView<'_>, value: &T) -> bool
+    ensures { IsTrue result ↔ IsMember seen.now (T.fed value.now) }
+{
+    seen.contains(value)
+}
+
+/// Inserts a value of any type into the bytes of a table.
+///
+/// # Errors
+///
+/// Where the bytes are no table of version 2: the first fault in them. They are unchanged.
+pub fn see_value_in<T: Hash>(bytes: &mut [u8], value: &T) -> Result<(), Fault>
+    ensures { MatchResult result
+        (λ _. Becomes (Inserts (T.fed value.now)) bytes.old bytes.new)
+        (λ fault. (bytes.new ≡ bytes.old)
+        × IsFirstFault (length bytes.old) (view_steps bytes.old) fault) }
+{
+    in_place::insert(bytes, value)
+}
+
 /// Inserts a key into the bytes of a table, whether or not they have its count.
 ///
 /// # Errors
@@ -158,6 +191,20 @@ pub fn faults_are_told()
         (record { needs = needs; Holds = x ≡ y; fault = own } ∷ view_steps bytes) →
         (needs ≤ count) × (x ≡ y) × AllPass count (view_steps bytes) }
 {}
+
+/// The family of the tables, whose number stands in byte 2: its number and name, and the fewest and
+/// the most preamble longs.
+pub fn family_of_tables() -> (u8, &'static str, u8, u8)
+    ensures numbers { (result.0 ≡ 200) × (result.2 ≡ 2) × (result.3 ≡ 3) }
+    ensures name { result.1.now ≡ codes "MEMBER" }
+{
+    (
+        MEMBER.id,
+        MEMBER.name,
+        MEMBER.min_pre_longs,
+        MEMBER.max_pre_longs,
+    )
+}
 
 /// What is wrong with bytes that begin as a table does, but are of another family.
 pub fn other_family(bytes: &[u8]) -> Option<Fault>
@@ -252,26 +299,26 @@ pub fn is_saved(alloc: Global, saved: &[u8], key: &[u8]) -> Result<bool, Error>
     Ok(read_again(alloc, saved)?.contains(&raw_bytes::from_slice(key)))
 }
 
-/// Makes a table of keys twice, in `bytes` and in memory of its own, and answers the bytes of the
-/// second.
+/// Makes a table of keys of any type twice, in `bytes` and in memory of its own, and answers the
+/// bytes of the second.
 ///
 /// # Errors
 ///
 /// Where the sizes are outside their limits, or `bytes` are not as many as the table has:
 /// `InvalidArgument`, with the first fault. Where memory runs out: `OutOfMemory`, with no message.
 /// `bytes` are then the table, or unchanged.
-pub fn see_keys_twice(
+pub fn see_keys_twice<T: Hash>(
     alloc: Global,
     bytes: &mut [u8],
     seed: u64,
     log2_bits: u8,
     hashes: u8,
-    keys: &[RawBytes<&[u8]>],
+    keys: &[T],
 ) -> Result<Vec<u8>, Error>
     ensures same { IfOk result (λ made. bytes.new ≡ made.items) }
     ensures whole { IfOk result (λ made. (whole : Table)
         × AreAlike (empty_table seed log2_bits hashes) whole
-        × IsMadeOf (map (λ key. key.now) keys.now) whole
+        × IsMadeOf (map T.fed keys.now) whole
         × (made.items ≡ form2 whole)) }
     ensures refused { IfErr result (λ error. (error ≡ memory_error) ⊎ ((bytes.new ≡ bytes.old)
         × (fault : Fault)
@@ -279,7 +326,7 @@ pub fn see_keys_twice(
         × Refuses ErrorKind.InvalidArgument (fault_text fault) error)) }
     ensures left { IfErr result (λ _. (bytes.new ≡ bytes.old) ⊎ (whole : Table)
         × AreAlike (empty_table seed log2_bits hashes) whole
-        × IsMadeOf (map (λ key. key.now) keys.now) whole
+        × IsMadeOf (map T.fed keys.now) whole
         × (bytes.new ≡ form2 whole)) }
 {
     insert_both(alloc, bytes, seed, log2_bits, hashes, keys)

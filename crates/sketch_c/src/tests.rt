@@ -2,7 +2,7 @@
 
 ghost use Rattle.std.specs.Prelude.{◌≡◌, ◌++◌, ◌<◌, ◌≤◌, ℕ, suc, [], ◌∷◌, length, replicate, slice_index, slice_index_or, IsTrue};
 ghost use Rattle.sketch_base.specs.Bytes.{eight};
-ghost use Rattle.sketch_hash.specs.Columns.{IsFirstWrongOffset, key_at};
+ghost use Rattle.sketch_hash.specs.Columns.{AreBounds, IsFirstWrongOffset, key_at};
 ghost use Rattle.sketch_hash.specs.Held.{murmur_held, xxh64_held};
 ghost use Rattle.sketch_hash.specs.Murmur.{murmur, murmur_after, murmur_answer};
 ghost use Rattle.sketch_hash.specs.Xxh64.{xxh64, xxh64_after, xxh64_answer};
@@ -91,6 +91,7 @@ fn murmur_of_more(state: &mut MurmurState, bytes: &[u8]) -> Murmur128
 fn xxh64_keys32(input: &[u8], offsets: &[u32], seed: u64, out: &mut [u64]) -> usize
     ensures hashed { result ≡ 0 → (i : ℕ) → i < length out.new →
         slice_index out.new i ≡ xxh64 seed (key_at input.now offsets.now i) }
+    ensures bounds { result ≡ 0 → AreBounds input.now offsets.now (length out.old) }
     ensures refused { (place : ℕ) → result ≡ suc place → (out.new ≡ out.old)
         × IsFirstWrongOffset input.now offsets.now (length out.old) place }
 {
@@ -102,6 +103,7 @@ fn xxh64_keys32(input: &[u8], offsets: &[u32], seed: u64, out: &mut [u64]) -> us
 fn xxh64_keys64(input: &[u8], offsets: &[u64], seed: u64, out: &mut [u64]) -> usize
     ensures hashed { result ≡ 0 → (i : ℕ) → i < length out.new →
         slice_index out.new i ≡ xxh64 seed (key_at input.now offsets.now i) }
+    ensures bounds { result ≡ 0 → AreBounds input.now offsets.now (length out.old) }
     ensures refused { (place : ℕ) → result ≡ suc place → (out.new ≡ out.old)
         × IsFirstWrongOffset input.now offsets.now (length out.old) place }
 {
@@ -114,6 +116,7 @@ fn murmur_keys32(input: &[u8], offsets: &[u32], seed: u64, out: &mut [[u64; 2]])
     ensures hashed { result ≡ 0 → (i : ℕ) → i < length out.new →
         slice_index_or out.new i [] ≡ (murmur seed (key_at input.now offsets.now i)).0
         ∷ (murmur seed (key_at input.now offsets.now i)).1 ∷ [] }
+    ensures bounds { result ≡ 0 → AreBounds input.now offsets.now (length out.old) }
     ensures refused { (place : ℕ) → result ≡ suc place → (out.new ≡ out.old)
         × IsFirstWrongOffset input.now offsets.now (length out.old) place }
 {
@@ -126,10 +129,18 @@ fn murmur_keys64(input: &[u8], offsets: &[u64], seed: u64, out: &mut [[u64; 2]])
     ensures hashed { result ≡ 0 → (i : ℕ) → i < length out.new →
         slice_index_or out.new i [] ≡ (murmur seed (key_at input.now offsets.now i)).0
         ∷ (murmur seed (key_at input.now offsets.now i)).1 ∷ [] }
+    ensures bounds { result ≡ 0 → AreBounds input.now offsets.now (length out.old) }
     ensures refused { (place : ℕ) → result ≡ suc place → (out.new ≡ out.old)
         × IsFirstWrongOffset input.now offsets.now (length out.old) place }
 {
     sketch_murmur3_x64_128_each64(input, offsets, seed, out)
+}
+
+/// A copy of two words.
+fn copy_of(hash: &Murmur128) -> Murmur128
+    ensures { result ≡ hash.now }
+{
+    *hash
 }
 
 /// XXH64 of each number: 0, or 1 more than how many there are, and then no place is changed.
@@ -157,7 +168,8 @@ fn states_go_on(rt: HostRuntime) {
     assert_same(&rt, xxh64_of_more(&mut x, b"x"), sketch_xxh64(b"fox", 7));
     let mut m = MurmurHash3X64128::with_seed(7).state();
     let pair = murmur_of_more(&mut m, b"fox");
-    assert_same(&rt, pair.h1, sketch_murmur3_x64_128(b"fox", 7).h1);
+    let whole = copy_of(&sketch_murmur3_x64_128(b"fox", 7));
+    assert_same(&rt, pair.h1, whole.h1);
     clear_buffers(&mut x, &mut m, 8);
     assert_same(&rt, (x.waiting, m.waiting), ([0; 32], [0; 16]));
 }

@@ -4,13 +4,16 @@ use super::{
     FOX_MURMUR, FOX_XXH64, assert_out_of_memory, assert_refused, assert_same, assert_same_for,
     prints,
 };
-use crate::columns::{hash_numbers, hash_texts};
+use crate::columns::{hash_keys, hash_numbers, hash_texts, pairs_of_keys};
 use crate::items::{
     are_same_items, read_both_ways, skip, there_and_back, write_both_ways, write_if_it_fits,
 };
 use crate::keys::{hash_of_text, hash_of_value, is_new_key, is_same_key, is_same_word, pair_of};
-use crate::own::{BigEndian, Point};
-use crate::seen::{insert_in_either_order, is_found, see_key_in, see_saved_key, start_keys};
+use crate::own::{BigEndian, Point, Row};
+use crate::seen::{
+    family_of_tables, insert_in_either_order, is_found, is_value_seen, see_key_in, see_saved_key,
+    see_value, see_value_in, start_keys,
+};
 use crate::sentence::hash_of_the_sentence;
 use crate::sketch::{at_place, read_sketch};
 use crate::streams::{
@@ -20,8 +23,8 @@ use crate::streams::{
 use datasketches::codec::{Item, Kind, SketchBytes, SketchSlice};
 use datasketches::error::Error;
 use datasketches::hash::value::{calculate_hash, raw_bytes};
-use datasketches::hash::{Hasher, XxHash64};
-use sketch_member::{Fault, MemberTable, in_place};
+use datasketches::hash::{Hasher, MurmurHash3X64128, XxHash64};
+use sketch_member::{Fault, MemberTable, TableView, in_place};
 use std::alloc::{AllocError, Global};
 use std::test::Fail;
 
@@ -190,6 +193,13 @@ fn columns_are_hashed(rt: HostRuntime) {
     assert_same(&rt, texts[1], XxHash64::hash(b"es", 9001));
     assert_same(&rt, hash_numbers(&[1, 2], &mut numbers), Ok(()));
     assert_same(&rt, numbers[1], XxHash64::hash_u64(2, 9001));
+    let rows = [(0, 1), (3, 9), (5, 0)].map(|(start, mark)| Row { start, mark });
+    assert_same(&rt, hash_keys(b"foxes", &rows, 9001, &mut numbers), Ok(()));
+    assert_same(&rt, numbers, texts);
+    let mut pairs = [[7; 2]; 2];
+    assert_same(&rt, pairs_of_keys(b"foxes", &rows, 7, &mut pairs), Ok(()));
+    let (h1, h2) = MurmurHash3X64128::hash(b"es", 7);
+    assert_same(&rt, pairs[1], [h1, h2]);
 }
 
 #[test]
@@ -243,6 +253,10 @@ fn keys_are_seen_once_saved(rt: HostRuntime) -> Result<(), Fail> {
         (is_found(&one, b"b"), is_found(&one, b"c")),
         (true, false),
     );
+    let point = Point { x: 1, y: -1 };
+    for is_seen in [false, true] {
+        assert_same(&rt, see_value(&mut one, &point), is_seen);
+    }
     Ok(())
 }
 
@@ -259,6 +273,11 @@ fn keys_are_seen_in_place_no_memory(rt: HostRuntime) {
     assert_same(&rt, see_key_in(&mut bytes, b"a"), Ok(false));
     assert_same(&rt, see_key_in(&mut bytes, b"b"), Ok(false));
     assert_same(&rt, see_key_in(&mut bytes, b"a"), Ok(true));
+    let point = Point { x: 1, y: -1 };
+    assert_same(&rt, see_value_in(&mut bytes, &point), Ok(()));
+    let seen = TableView::new(&bytes);
+    assert!(rt; seen.is_ok_and(|seen| is_value_seen(&seen, &point)));
+    assert_same(&rt, family_of_tables(), (200, "MEMBER", 2, 3));
 }
 
 // Holds whichever request for memory is refused.

@@ -1,11 +1,14 @@
 //! Tables of several workers, merged in each way.
 
 use super::{assert_refused, assert_same, assert_same_for};
-use crate::merging::{merge_as_a_tree, merge_either_way, merge_nothing, merge_twin, merge_worker};
+use crate::merging::{
+    copy_of_fault, is_same_fault, merge_as_a_tree, merge_either_way, merge_nothing, merge_streams,
+    merge_twin, merge_worker,
+};
 use crate::seen::are_same_tables;
 use datasketches::error::Error;
 use datasketches::hash::value::raw_bytes;
-use sketch_member::MemberTable;
+use sketch_member::{Difference, Fault, MemberTable, MergeFault};
 use std::alloc::Global;
 use std::test::Fail;
 
@@ -49,7 +52,24 @@ fn two_workers_are_merged_either_way(rt: HostRuntime) -> Result<(), Fail> {
     merge_either_way(alloc, &mut one, &twin, &mut other)?;
     assert_same(&rt, are_same_tables(alloc, &one, &other)?, true);
     assert_same(&rt, one.contains(&raw_bytes::from_slice(b"a")), true);
+    let (merged, whole) = merge_streams(alloc, 0, 10, 7, &[1_u8, 2], &[2])?;
+    assert_same(&rt, merged.as_slice(), whole.as_slice());
     Ok(())
+}
+
+#[test]
+fn faults_of_merges_are_told_apart(rt: HostRuntime) {
+    let faults = [
+        MergeFault::Into(Fault::Family(7)),
+        MergeFault::Into(Fault::Family(9)),
+        MergeFault::From(Fault::Family(7)),
+        MergeFault::Unlike(Difference::Seed),
+    ];
+    for (i, one) in faults.iter().enumerate() {
+        for (j, other) in faults.iter().enumerate() {
+            assert_same(&rt, is_same_fault(&copy_of_fault(one), other), i == j);
+        }
+    }
 }
 
 #[test]

@@ -53,7 +53,10 @@ fn call(words: &Arguments<'_>, alloc: Global, input: &mut &[u8], output: &mut Ve
         (output.new.items ≡ output.old.items ++ digest_line algorithm seed input.old.now) }
     ensures whole_at_write { result ≡ Outcome.Fault RunFault.Write → input.new.now ≡ [] }
     ensures too_long { result ≡ Outcome.Fault RunFault.TooLong → 2 ^ 32 ≤ length input.old.now }
-    ensures silent { result ≡ Outcome.Fault RunFault.Read → output.new ≡ output.old }
+    ensures bounded { result ≢ Outcome.Usage → result ≢ Outcome.NoMemory →
+        length input.old.now ≤ 4096 * 2 ^ 32 + length input.new.now }
+    ensures silent { result ≢ Outcome.Done → result ≢ Outcome.Fault RunFault.Write →
+        output.new ≡ output.old }
 {
     program(words, alloc, input, output).outcome
 }

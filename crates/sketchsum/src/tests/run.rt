@@ -1,4 +1,4 @@
-ghost use Rattle.std.specs.Prelude.{ℕ, ◌≡◌, ◌≢◌, ◌+◌, ◌*◌, ◌≤◌, [], ◌++◌, codes, false, true, length, Err, OnOk};
+ghost use Rattle.std.specs.Prelude.{ℕ, ◌≡◌, ◌≢◌, ◌↔◌, ◌+◌, ◌*◌, ◌≤◌, [], ◌++◌, codes, false, true, length, Err, IsTrue, OnOk};
 ghost use Rattle.datasketches.specs.Murmur.{murmur};
 ghost use Rattle.datasketches.specs.Xxh64.{xxh64};
 ghost use Rattle.sketchsum.specs.Digest.{digest_line, hex_word};
@@ -216,6 +216,27 @@ fn write_rest<R: Read, W: Write>(
     write_digest(Algorithm::Xx, 0, reader, writer)
 }
 
+// A writer to which a word is written, and then one that is new: it has nothing to be flushed.
+fn write_word<W: Write>(writer: &mut CheckedWriter<'_, W>) -> io::Result<()>
+    requires { writer.old.has_failed ≡ false }
+    ensures { writer.new.is_flushed ≡ false }
+{
+    writer.writeln("word")
+}
+
+fn new_writer<W: Write>(writer: &mut W) -> CheckedWriter<'_, W>
+    ensures { (result.is_flushed ≡ true) × (result.has_failed ≡ false) }
+{
+    CheckedWriter::new(writer)
+}
+
+// Whether two outcomes are the same.
+fn is_same_outcome(one: Outcome, other: Outcome) -> bool
+    ensures { IsTrue result ↔ (one ≡ other) }
+{
+    one == other
+}
+
 // A reader of which nothing was read ahead, and the line of the usage.
 fn fresh(input: &[u8]) -> (ReadAhead<&[u8]>, &'static str)
     ensures reader { result.0.reader.now ≡ input.now }
@@ -245,8 +266,11 @@ fn a_run_stops_at_the_first_empty_read(rt: HostRuntime) {
     definitions::relations();
     let (mut reader, line) = fresh(FOX);
     let mut input = BoundedReader::new(&mut reader, 2);
-    let answer = write_rest(&mut input, &mut CheckedWriter::new(&mut written));
+    let mut checked = new_writer(&mut written);
+    assert!(rt; write_word(&mut checked).is_ok());
+    let answer = write_rest(&mut input, &mut new_writer(&mut written));
     assert_same(&rt, answer, Ok(()));
+    assert!(rt; !is_same_outcome(Outcome::Usage, Outcome::NoMemory));
     assert_same(&rt, line, "usage: sketchsum murmur|xx SEED");
 }
 
