@@ -123,8 +123,8 @@ pub fn see_key_in(bytes: &mut [u8], key: &[u8]) -> Result<bool, Fault>
     Ok(is_seen)
 }
 
-/// Whether the table tells that a value of any type was seen, by the bytes that the value feeds. It is
-/// seen from then on.
+/// Whether the table tells that a value of any type was seen, by the bytes that it feeds. The value
+/// is seen from then on.
 pub fn see_value<T: Hash>(seen: &mut MemberTable, value: &T) -> bool
     ensures told { IsTrue result ↔ IsMember seen.old (T.fed value.now) }
     ensures seen { Inserts (T.fed value.now) seen.old seen.new }
