@@ -65,5 +65,5 @@ def test_the_stubs_say_what_is_returned():
     for name, answer in ANSWERS:
         found.setdefault(name, set()).add("None" if answer is None else type(answer).__name__)
     others = {name: words for name, words in said.items() if name not in found}
-    assert {*others.values()} == {"None", "_Self", "_Table"} and len(others) == 7
+    assert {*others.values()} == {"None", "_Self", "_Table"} and len(others) == 8
     assert {name: {*said[name].split(" | ")} for name in found} == found
