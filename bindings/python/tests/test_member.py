@@ -415,7 +415,7 @@ def test_a_class_of_ones_own_is_a_table():
         pass
 
     named, table = Named.from_bytes(filled().to_bytes()), filled()
-    assert type(named) is type(named.copy()) is Named
+    assert type(named) is type(named.copy()) is type(named | table) is Named
     assert named == table and table == named
     named.merge(table)
     table.merge(Named.from_bytes(filled().to_bytes()))
