@@ -1,5 +1,4 @@
-//! The hashers of DataSketches' Rust component behind C calls, and a table of members over its
-//! XXH64. `hash/murmurhash.rs` and `hash/xxhash.rs` are its files, which `run` brings here.
+//! The hashers of DataSketches' Rust component behind C calls, and a Bloom filter over its XXH64. `hash/murmurhash.rs` and `hash/xxhash.rs` are its files, which `run` brings here.
 #![allow(dead_code)]
 
 use std::hash::Hasher;

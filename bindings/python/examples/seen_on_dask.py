@@ -1,4 +1,4 @@
-"""Puts the keys of many files into one table of members, by the workers of a Dask cluster.
+"""Puts the keys of many files into one Bloom filter, by the workers of a Dask cluster.
 
     python3 seen_on_dask.py --out seen.table FILE..
 

@@ -1,4 +1,4 @@
-"""The table of members beside a model over python3-xxhash, and bytes with damage."""
+"""The Bloom filter beside a model over python3-xxhash, and bytes with damage."""
 import itertools
 import mmap
 import random

@@ -1,4 +1,4 @@
-//! A table of members.
+//! A Bloom filter.
 
 use crate::calls::{
     sketch_member_check, sketch_member_contains, sketch_member_count, sketch_member_init,
@@ -11,8 +11,8 @@ use core::error::Error;
 use core::ffi::c_int;
 use core::fmt;
 
-/// A table of members: it tells of a key whether it was inserted, is never wrong about one that
-/// was, and may be wrong about one that was not.
+/// A Bloom filter: a table that tells whether a key was inserted. It has no false negatives, and may
+/// have false positives.
 ///
 /// A table is its bytes, which any machine reads and writes alike. Tables are equal exactly if
 /// their bytes are.

@@ -1,4 +1,4 @@
-//! The table of members beside a model over plain Rust, and bytes with damage.
+//! The Bloom filter beside a model over plain Rust, and bytes with damage.
 
 mod plain;
 

@@ -37,7 +37,7 @@ pub fn law_definitions()
     ensures strategies { Strategies }
 {}
 
-/// The definitions of tables of members, of their bytes and of merges.
+/// The definitions of Bloom filters, of their bytes and of merges.
 pub fn member_definitions()
     ensures limits { Limits }
     ensures tables { Tables }

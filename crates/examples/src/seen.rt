@@ -1,4 +1,4 @@
-//! Keys that were seen, in a table of members that is saved and loaded.
+//! Keys that were seen, in a Bloom filter that is saved and loaded.
 
 ghost use Rattle.std.specs.Prelude.{ℕ, List, ◌≡◌, ◌⊎◌, ◌↔◌, ◌+◌, ◌-◌, ◌%◌, ◌^◌, ◌<◌, [], ◌∷◌, ◌++◌, ◌≢◌, ◌≤◌, None, Some, IfErr, IfOk, IsTrue, MatchResult, codes, length, slice_index, map, Contains};
 ghost use Rattle.std.specs.Fmt.{decimal};

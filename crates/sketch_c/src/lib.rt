@@ -1,5 +1,5 @@
-//! The library `sketch_hash` for C: the hashers and the table of members, as calls that C and what
-//! calls C can make.
+//! The library `sketch_hash` for C: the hashers and the Bloom filter, a table, as calls that C and
+//! what calls C can make.
 //!
 //! A state and a table stand in the caller's memory. Every content of either is safe, nothing
 //! allocates, and wrong offsets are reported, so no call requires more than its types say.

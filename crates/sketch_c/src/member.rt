@@ -1,4 +1,4 @@
-//! The table of members, in bytes that the caller owns.
+//! The Bloom filter, a table in bytes that the caller owns.
 //!
 //! [`sketch_member_size`] answers a length. Each other call answers 0, or 1 where it says so; or
 //! the negative status of the first fault, and then leaves everything as it was. It checks the

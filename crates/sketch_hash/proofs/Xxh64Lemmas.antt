@@ -1,5 +1,5 @@
 -- XXH64's definition as the code meets it: stripe by stripe, and the tail step by step.
-use Rattle.std.proofs.Common.{◌≡◌, ℕ, ◌%◌, ◌^◌, ◌<◌, ◌≤◌, List, [], ◌∷◌, length, take, drop, refl, sym, ap, ◌∙◌, arith, map, length-drop, zero-add}
+use Rattle.std.proofs.Common.{◌≡◌, ℕ, ◌%◌, ◌^◌, ◌<◌, ◌≤◌, List, [], ◌∷◌, length, take, drop, refl, ap, ◌∙◌, arith, map, length-drop, zero-add}
 use Rattle.std.specs.List.{fold}
 use Rattle.std.proofs.Math.Nat.{mod-eq_of_lt}
 use Rattle.std.proofs.lemmas.List.{nil_from_length, map-id}
@@ -75,14 +75,6 @@ fold_few hash bytes h =
     let behind = rest_short 4 bytes h in
     let singles = steps_of_one bytes in
     rw (no_eight, all, no_four, behind, singles) (fold-map tail_step (λ b. (1, b)) hash bytes)
-
--- of four to seven bytes, with a word of four
-pub fold_four : (hash : ℕ) (bytes : List ℕ) → 4 ≤ length bytes → length bytes < 8 →
-    fold tail_step hash (steps bytes)
-    ≡ fold tail_step (four_step hash (le (take 4 bytes))) (steps (drop 4 bytes))
-fold_four hash bytes low high =
-    let short : length (drop 4 bytes) < 4 = rw (length-drop 4 bytes) (omega arith) in
-    fold_word hash bytes low high ∙ sym (fold_few (four_step hash (le (take 4 bytes))) (drop 4 bytes) short)
 
 -- ---- the whole
 

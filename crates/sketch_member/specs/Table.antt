@@ -1,4 +1,4 @@
--- What a table of members is to its callers, and what it knows of a value.
+-- What a Bloom filter is to its callers, and what it knows of a value.
 use Rattle.std.specs.Prelude.{◌≡◌, ℕ, ◌+◌, ◌-◌, ◌*◌, ◌/◌, ◌%◌, ◌^◌, ◌<◌, ◌↔◌, ◌⊎◌, min, List, length, replicate, slice_index, Option, Some, IfSome}
 use Rattle.std.specs.Option.{option_map}
 use Rattle.datasketches.specs.Words.{IsWord, plus, digit}

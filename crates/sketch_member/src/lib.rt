@@ -1,5 +1,5 @@
-//! A table of members, which is a Bloom filter: it tells of a value whether it was inserted, is
-//! never wrong about one that was, and may be wrong about one that was not.
+//! A Bloom filter: a table that tells whether a value was inserted. It has no false negatives, and
+//! may have false positives.
 //!
 //! Of a value it sees nothing but the bytes that the value feeds.
 #![tactic(auto)]

@@ -22,7 +22,7 @@ mod merging;
 pub use self::form::MEMBER;
 pub(crate) use self::form::{HEADER_BYTES, LONGS_1, LONGS_2, has_count, serial_version};
 
-/// A table of members, of 2^`log2_bits` bits, for a `log2_bits` of 6 to 20.
+/// A Bloom filter of 2^`log2_bits` bits, for a `log2_bits` of 6 to 20.
 ///
 /// Each value has `hashes` indexes, 1 to 16. Index j is the low `log2_bits` bits of the XXH64 of
 /// the bytes that the value feeds, under the seed plus j modulo 2^64. A value is inserted by

@@ -1,4 +1,4 @@
-"""XXH64, MurmurHash3 x64 128 and a table of members, from functions that are proved.
+"""XXH64, MurmurHash3 x64 128 and a Bloom filter, from functions that are proved.
 
 The classes of hashes are used as those of hashlib and of python-xxhash. Input is any bytes-like object whose
 memory is C-contiguous; a str is refused. A seed is a whole number from 0 to 2**64 - 1. Digests have
@@ -262,8 +262,8 @@ def murmur3_x64_128_each(keys, seed=0):
 
 
 class MemberTable:
-    """A table of members: it tells of a key whether it was inserted, is never wrong about one that
-    was, and may be wrong about one that was not.
+    """A Bloom filter: a table that tells whether a key was inserted. It has no false negatives, and
+    may have false positives.
 
     It has 2**log2_bits bits, of which each key sets at most as many as hashes says. A key is any bytes-like
     object whose memory is C-contiguous. Each call waits for those of other threads on the same

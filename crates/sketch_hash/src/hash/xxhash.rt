@@ -88,11 +88,12 @@ impl XxHash64 {
     pub fn hash(bytes: &[u8], seed: u64) -> u64
         ensures { result ≡ xxh64 seed bytes.now }
     {
-        if bytes.len() < STRIPE {
-            let hash = seed.wrapping_add(PRIME5).wrapping_add(bytes.len() as u64);
-            return avalanche(fold_rest(hash, bytes));
+        let hash = seed.wrapping_add(PRIME5).wrapping_add(bytes.len() as u64);
+        match bytes.len() {
+            ..16 => avalanche(fold_below_16(hash, bytes)),
+            ..STRIPE => avalanche(fold_from_16(hash, bytes)),
+            _ => hash_long(bytes, seed),
         }
-        hash_long(bytes, seed)
     }
 
     /// The 64-bit hash of the eight little-endian bytes of `input`, under a seed.
@@ -304,10 +305,11 @@ fn mix_rest(hash: u64, tail: &[u8]) -> u64
     requires { length tail.now < 32 }
     ensures { result ≡ avalanche (fold tail_step hash (steps tail.now)) }
 {
-    if tail.is_empty() {
-        return avalanche(hash);
-    }
-    avalanche(fold_rest(hash, tail))
+    avalanche(match tail.len() {
+        0 => hash,
+        ..16 => fold_below_16(hash, tail),
+        _ => fold_from_16(hash, tail),
+    })
 }
 
 // The lanes of stripes as one word.
@@ -347,16 +349,11 @@ fn merge_round(hash: u64, lane: u64) -> u64
 
 // The hash after the tail.
 #[inline(always)]
-#[tactic(auto, using(crate::proofs::Xxh64Lemmas::fold_word, crate::proofs::Xxh64Lemmas::fold_few))]
 fn fold_tail(hash: u64, tail: &[u8]) -> u64
     ensures { result ≡ fold tail_step hash (steps tail.now) }
 {
     let (hash, rest) = fold_words(hash, tail);
-    if rest.len() >= 4 {
-        let (word, bytes) = rest.split_at(4);
-        return fold_few(four_step(hash, read_u32_le(word)), bytes);
-    }
-    fold_few(hash, rest)
+    fold_below_8(hash, rest)
 }
 
 // The hash after the tail's words of eight bytes, and the bytes after these.
@@ -375,30 +372,56 @@ fn fold_words(mut hash: u64, tail: &[u8]) -> (u64, &[u8])
     (hash, rest)
 }
 
-// The same without a loop: faster for one key, but more code where it is inlined.
+// The hash after a tail of 16 bytes and more. The forms without a loop are faster for one key, but
+// more code where they are inlined. They return where a word was the last: a key of whole words
+// meets no other test.
 #[inline(always)]
-fn fold_rest(mut hash: u64, tail: &[u8]) -> u64
-    requires { length tail.now < 32 }
+#[tactic(auto, using(crate::proofs::Xxh64Lemmas::fold_sixteen, crate::proofs::Xxh64Lemmas::no_steps))]
+fn fold_from_16(hash: u64, tail: &[u8]) -> u64
+    requires low { 16 ≤ length tail.now }
+    requires high { length tail.now < 32 }
+    ensures { result ≡ fold tail_step hash (steps tail.now) }
+{
+    let (first, behind) = tail.split_at(8);
+    let (second, rest) = behind.split_at(8);
+    let hash = eight_step(eight_step(hash, read_u64_le(first)), read_u64_le(second));
+    if rest.is_empty() {
+        return hash;
+    }
+    fold_below_16(hash, rest)
+}
+
+// The same of fewer than 16 bytes.
+#[inline(always)]
+#[tactic(auto, using(crate::proofs::Xxh64Lemmas::fold_eight, crate::proofs::Xxh64Lemmas::no_steps))]
+fn fold_below_16(mut hash: u64, tail: &[u8]) -> u64
+    requires { length tail.now < 16 }
     ensures { result ≡ fold tail_step hash (steps tail.now) }
 {
     let mut rest = tail;
-    if rest.len() >= 16 {
-        let (first, behind) = rest.split_at(8);
-        let (second, behind) = behind.split_at(8);
-        hash = eight_step(eight_step(hash, read_u64_le(first)), read_u64_le(second));
-        rest = behind;
-    }
     if rest.len() >= 8 {
         let (word, behind) = rest.split_at(8);
         hash = eight_step(hash, read_u64_le(word));
+        if behind.is_empty() {
+            return hash;
+        }
         rest = behind;
     }
-    if rest.len() >= 4 {
-        let (word, behind) = rest.split_at(4);
-        hash = four_step(hash, read_u32_le(word));
-        rest = behind;
+    fold_below_8(hash, rest)
+}
+
+// The same of fewer than 8 bytes.
+#[inline(always)]
+#[tactic(auto, using(crate::proofs::Xxh64Lemmas::fold_word, crate::proofs::Xxh64Lemmas::fold_few))]
+fn fold_below_8(hash: u64, tail: &[u8]) -> u64
+    requires { length tail.now < 8 }
+    ensures { result ≡ fold tail_step hash (steps tail.now) }
+{
+    if tail.len() >= 4 {
+        let (word, bytes) = tail.split_at(4);
+        return fold_few(four_step(hash, read_u32_le(word)), bytes);
     }
-    fold_few(hash, rest)
+    fold_few(hash, tail)
 }
 
 // The hash after fewer than four single bytes.

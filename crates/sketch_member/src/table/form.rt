@@ -11,7 +11,7 @@ use datasketches::codec::SketchBytes;
 use datasketches::codec::family::Family;
 use std::alloc::{AllocError, Global};
 
-/// Tables of members, which tell whether a value may have been inserted.
+/// Bloom filters in the format of this crate, which is not that of `BLOOMFILTER`.
 pub const MEMBER: Family = Family {
     id: 200,
     name: "MEMBER",

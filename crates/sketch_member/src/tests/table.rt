@@ -1,4 +1,4 @@
-//! The table of members: its bits, its bytes and its refusals.
+//! The Bloom filter: its bits, its bytes and its refusals.
 
 ghost use Rattle.std.specs.Prelude.{◌≡◌, ◌↔◌, ◌⊎◌, ◌++◌, ℕ, List, None, codes, length, IfOk, MatchResult};
 ghost use Rattle.std.specs.Fmt.{decimal};

@@ -28,13 +28,16 @@ pub(super) fn read_partial_words(bytes: &[u8]) -> (u64, u64)
         let last = read_u64_le(&bytes[count - 8..]) >> (8 * (16 - count));
         return (read_u64_le(&bytes[..8]), last);
     }
+    if count == 8 {
+        return (read_u64_le(bytes), 0);
+    }
     (read_word_le(bytes), 0)
 }
 
-// The little-endian number of at most eight bytes.
+// The little-endian number of fewer than eight bytes.
 #[inline(always)]
 fn read_word_le(bytes: &[u8]) -> u64
-    requires { length bytes.now ≤ 8 }
+    requires { length bytes.now < 8 }
     ensures { result ≡ le bytes.now }
 {
     let count = bytes.len();
