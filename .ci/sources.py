@@ -71,15 +71,18 @@ def around(lines, more):
 
 def is_returned(code, start, end):
     """Whether an `Err(f(` in a body, from a place to another, is returned: by `return`, or as the value of the body,
-    perhaps through blocks and arms that are that value."""
+    perhaps through blocks and arms that are that value. One that a call or a `match` takes on is not."""
     *before, line = code[:start].split("\n")
     called = rest_of_call(code, end)
-    rest, *after = code[code.index(called, end) + len(called) :].split("\n")
+    behind = code[code.index(called, end) + len(called) :]
+    if re.match(r"[\s,)]*[.?]", behind):
+        return False
+    rest, *after = behind.split("\n")
     if not re.fullmatch(r" *(?:.* => )?(?:return )?", line):
         return False
     return line.endswith("return ") or (
         all(re.match(r" *(?:\} else|if|match|for|while)\b|.* => ", head) for head in around([line + "_", *before[::-1]], False))
-        and not any(tail.endswith(";") for tail in [rest, *around([line + "_", *after], True)])
+        and not any(re.search(r";$|(?<!else) \{$", tail) for tail in [rest, *around([line + "_", *after], True)])
     )
 
 

@@ -1,5 +1,6 @@
 """Columns of keys beside python3-xxhash and a Murmur in Python, key by key, and offsets that lie."""
 import array
+import ctypes
 import itertools
 import random
 
@@ -32,6 +33,11 @@ def test_each_key(dtype):
     for begin in (500, 501):
         some = xxh64_each((DATA, offsets[begin:601]))
         assert some.tolist() == expected(KEYS[begin:600], 0)
+
+
+def test_offsets_of_ctypes():
+    for kind in (ctypes.c_uint32, ctypes.c_uint64):
+        assert xxh64_each((DATA, (kind * len(OFFSETS))(*OFFSETS)), 9).tolist() == expected(KEYS, 9)
 
 
 @pytest.mark.parametrize("dtype", WIDTHS)

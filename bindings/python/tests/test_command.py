@@ -250,6 +250,13 @@ def test_check_tells_what_is_wrong():
     status, output, complaint = run("-c", input=XXH64 + b"  fo\0x\n")
     assert (status, output) == (1, b"fo\0x: FAILED to open or read\n")
     assert complaint.startswith(b"sketch_hash: fo\0x: embedded null byte\n")
+    # Any number of faults is one, also where a status would have no more digits.
+    for lines in (missing * 256, bad * 256, b"no hash\n" * 256, good + bad * 256):
+        assert run("-c", input=lines)[0] == 1
+    # The name of standard input is a name in a list too.
+    with open("list", "wb") as file:
+        file.write(XXH64 + b"  -\n")
+    assert run("-c", "list", input=FOX) == (0, b"-: OK\n", b"")
 
 
 def test_a_list_longer_than_a_read():

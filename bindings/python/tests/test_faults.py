@@ -10,6 +10,7 @@ import sys
 import threading
 import time
 
+import numpy
 import pytest
 from sketch_hash import MemberTable, murmur3_x64_128, murmur3_x64_128_each, xxh64, xxh64_each
 from test_buffers import KINDS, ONE_CALL
@@ -184,6 +185,14 @@ def test_a_seed_is_a_whole_number(seed):
     for call in ONE_CALL:
         with pytest.raises(TypeError):
             call(b"", seed)
+
+
+def test_a_seed_is_a_whole_number_of_any_type():
+    for seed in (numpy.uint64(2**64 - 1), numpy.int8(7), True):
+        for kind in KINDS:
+            assert kind(b"a", seed).digest() == kind(b"a", int(seed)).digest()
+        for call in ONE_CALL:
+            assert call(b"a", seed) == call(b"a", int(seed))
 
 
 def test_the_first_and_the_last_seed():

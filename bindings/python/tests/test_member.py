@@ -1,4 +1,5 @@
 """The Bloom filter beside a model over python3-xxhash, and bytes with damage."""
+import array
 import itertools
 import mmap
 import random
@@ -68,6 +69,23 @@ def test_keys_before_one_that_is_refused_stay_inserted():
     with pytest.raises(TypeError):
         table.update([b"fox", "dog", b"cat"])
     assert table.to_bytes() == model(10, 3, [b"fox"])
+
+
+def test_keys_before_a_list_that_fails_stay_inserted():
+    def keys():
+        yield b"fox"
+        raise KeyError
+
+    table = MemberTable(10, 3)
+    with pytest.raises(KeyError):
+        table.update(keys())
+    assert b"fox" in table and table.count == 1
+
+
+def test_a_table_without_keys_contains_none():
+    table = MemberTable(17, 7)
+    assert not any(bytes(length) in table for length in range(200))
+    assert not any(table.contains_each((bytes(3), array.array("I", [0, 0, 1, 3]))))
 
 
 def test_every_order_gives_the_same_bits():

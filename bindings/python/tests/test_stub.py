@@ -7,6 +7,31 @@ import os
 import sketch_hash
 
 
+# What an argument takes, by its name, or by the name of its call too.
+TAKEN = {
+    "data": "ReadableBuffer", "key": "ReadableBuffer", "buffer": "WriteableBuffer", "seed": "SupportsIndex",
+    "log2_bits": "SupportsIndex", "hashes": "SupportsIndex", "update.keys": "Iterable[ReadableBuffer]",
+    "murmur3_x64_128_each.keys": "tuple[ReadableBuffer, ReadableBuffer]",
+    "keys": "Union[ReadableBuffer, tuple[ReadableBuffer, ReadableBuffer]]",
+    "other": "MemberTable", "__eq__.other": "object",
+}
+
+
+def takes_the_same(stub, call):
+    """Whether a stub has the arguments of a call, with their defaults, and says what each takes."""
+    found = inspect.signature(call).parameters
+    names = [word.arg for word in stub.args.args]
+    values = [inspect.Parameter.empty] * len(names)
+    for place, value in enumerate(reversed(stub.args.defaults), 1):
+        values[-place] = ast.literal_eval(value)
+    assert dict(zip(names, values)) == {name: it.default for name, it in found.items()}
+    for word in stub.args.args:
+        if word.arg not in ("self", "cls"):
+            wanted = TAKEN.get(f"{stub.name}.{word.arg}", TAKEN[word.arg])
+            assert ast.unparse(word.annotation) == wanted
+    return True
+
+
 def test_the_stubs_fit_the_module():
     folder = os.path.dirname(sketch_hash.__file__)
     assert os.path.exists(os.path.join(folder, "py.typed"))
@@ -16,18 +41,20 @@ def test_the_stubs_fit_the_module():
     assert {*named, "algorithms_available"} == {*sketch_hash.__all__, "_Hash"}
     for name, it in named.items():
         if isinstance(it, ast.FunctionDef):
-            code = getattr(sketch_hash, name).__code__
-            assert [word.arg for word in it.args.args] == list(code.co_varnames[: code.co_argcount])
+            assert takes_the_same(it, getattr(sketch_hash, name))
     for it in named["_Hash"].body:
         word = it.name if isinstance(it, ast.FunctionDef) else it.target.id
-        assert hasattr(sketch_hash.xxh64, word) and hasattr(sketch_hash.murmur3_x64_128, word)
+        for kind in (sketch_hash.xxh64, sketch_hash.murmur3_x64_128):
+            call = inspect.getattr_static(kind, word)
+            if isinstance(it, ast.FunctionDef):
+                assert takes_the_same(it, getattr(call, "fget", call))
     stub = {it.name: it for it in named["MemberTable"].body}
     public = {word for word in vars(sketch_hash.MemberTable) if not word.startswith("_")}
     assert {*stub} == {*public, "__init__", "__contains__", "__eq__", "__ior__", "__or__"}
     for word, it in stub.items():
         call = inspect.getattr_static(sketch_hash.MemberTable, word)
         call = getattr(call, "fget", getattr(call, "__func__", call))
-        assert [word.arg for word in it.args.args] == list(inspect.signature(call).parameters)
+        assert takes_the_same(it, call)
 
 
 # What they return: each name of the stubs, and a call.

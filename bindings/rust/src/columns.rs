@@ -143,3 +143,17 @@ pub fn murmur3_x64_128_each<O: Offset>(
 ) -> Result<(), ColumnError> {
     each(O::MURMUR, input, offsets, seed, out)
 }
+
+#[cfg(test)]
+mod tests {
+    use super::*;
+
+    /// No test has as many offsets.
+    #[test]
+    fn an_index_past_32_bits_is_told() {
+        for index in [0, (1 << 32) - 1, 1 << 32, (1 << 32) + 7, usize::MAX - 1] {
+            assert_eq!(done(index + 1), Err(ColumnError { index }));
+        }
+        assert_eq!(done(0), Ok(()));
+    }
+}

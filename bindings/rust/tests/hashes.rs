@@ -139,15 +139,17 @@ fn each_number_feeds_its_bytes() {
         hasher.write_isize(word as isize);
     }
     let word = 0x8f1e_2d3c_4b5a_6978_8796_a5b4_c3d2_e1f0_u128;
-    let mut bytes = Vec::new();
-    for width in [1, 2, 4, 8, 16, 8, 1, 2, 4, 8, 16, 8] {
-        bytes.extend(&word.to_le_bytes()[..width]);
+    for word in [word, 0, 1, 300, 1 << 31, u128::MAX] {
+        let mut bytes = Vec::new();
+        for width in [1, 2, 4, 8, 16, 8, 1, 2, 4, 8, 16, 8] {
+            bytes.extend(&word.to_le_bytes()[..width]);
+        }
+        let (mut x, mut m) = (Xxh64::new(7), Murmur3X64_128::new(7));
+        feed(&mut x, word);
+        feed(&mut m, word);
+        assert_eq!(x.digest(), xxh64(&bytes, 7));
+        assert_eq!(m.digest(), murmur3_x64_128(&bytes, 7));
     }
-    let (mut x, mut m) = (Xxh64::new(7), Murmur3X64_128::new(7));
-    feed(&mut x, word);
-    feed(&mut m, word);
-    assert_eq!(x.digest(), xxh64(&bytes, 7));
-    assert_eq!(m.digest(), murmur3_x64_128(&bytes, 7));
     // One kind over and over, past what is kept before a state is begun.
     fn feed_one(hasher: &mut impl Hasher, width: usize, word: u128) {
         match width {
@@ -281,8 +283,10 @@ fn a_reset_begins_anew_under_its_seed() {
 fn any_checkpoint_is_safe() {
     let mut noise = Noise(3);
     for _ in 0..10_000 {
-        let mut x = Xxh64::from_bytes(&noise.bytes(80).try_into().unwrap());
-        let mut m = Murmur3X64_128::from_bytes(&noise.bytes(40).try_into().unwrap());
+        let (saved_x, saved_m) = (noise.bytes(80), noise.bytes(40));
+        let mut x = Xxh64::from_bytes(&saved_x[..].try_into().unwrap());
+        let mut m = Murmur3X64_128::from_bytes(&saved_m[..].try_into().unwrap());
+        assert_eq!((&x.to_bytes()[..], &m.to_bytes()[..]), (&saved_x[..], &saved_m[..]));
         let count = noise.below(70);
         let bytes = noise.bytes(count);
         x.update(&bytes);

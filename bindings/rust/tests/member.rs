@@ -80,6 +80,8 @@ fn what_was_inserted_is_contained() {
     let table = filled(17, 7, 0..10_000);
     assert!((0..10_000).all(|n| table.contains(&key(n))));
     assert_eq!(table.count(), Some(10_000));
+    let empty = filled(17, 7, 0..0);
+    assert!(!(0..200).any(|length| empty.contains(&vec![7; length])));
     let wrong = (10_000..20_000).filter(|n| table.contains(&key(*n))).count();
     assert!(wrong < 100, "{wrong} false answers");
 }
@@ -148,6 +150,10 @@ fn counts_may_be_unknown_and_end_at_the_greatest() {
             .unwrap()
     );
     assert_eq!(with_count(0, 1), Err(TableError::UnknownCount));
+    let powers = (0..64).map(|place| 1 << place);
+    for count in powers.flat_map(|power: u64| [power - 1, power, power + 1]) {
+        assert_eq!(with_count(1, count).unwrap().count(), Some(count));
+    }
 }
 
 /// The error that docs/formats.md has for a wrong byte of the header of a table of 2^10 bits.
@@ -202,6 +208,10 @@ fn what_is_printed() {
     let expected =
         "MemberTable { seed: 1234605616436508552, log2_bits: 10, hashes: 3, count: Some(20) }";
     assert_eq!(text, expected);
+    let mut unknown = filled(10, 3, 0..0).into_bytes();
+    unknown[5] = 0;
+    let text = format!("{:?}", MemberTable::from_bytes(&unknown).unwrap());
+    assert_eq!(text, expected.replace("Some(20)", "None"));
     let error: Box<dyn std::error::Error> = Box::new(MemberTable::new(0, 5, 1).unwrap_err());
     assert_eq!(error.to_string(), "log2_bits is not 6 to 20");
     for (error, text) in [
@@ -234,5 +244,13 @@ fn tables_are_equal_where_their_bytes_are() {
     }
     assert_ne!(filled(10, 3, 0..1), filled(10, 3, 1..2));
     assert_ne!(MemberTable::new(1, 10, 3), MemberTable::new(2, 10, 3));
+    for log2_bits in 6..12 {
+        let table = filled(log2_bits, 3, 0..3);
+        for place in 24..table.as_bytes().len() {
+            let mut bytes = table.as_bytes().to_vec();
+            bytes[place] ^= 1;
+            assert_ne!(MemberTable::from_bytes(&bytes).unwrap(), table);
+        }
+    }
     assert_ne!(MemberTable::new(1, 10, 3), MemberTable::new(1, 10, 4));
 }

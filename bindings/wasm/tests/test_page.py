@@ -161,13 +161,16 @@ def test_a_file_past_4_gibibytes(chromium, tmp_path):
     assert page.hashes("large") == ("e7c41fccd784e763", "7e72d1a8272e0f4407c583ed175539bf")
 
 
-def test_ten_files_at_once(page, files):
+def test_forty_files_at_once(page, files):
     noise = random.Random(2)
-    contents = {f"file{n}": noise.randbytes(noise.randrange(10 << 20)) for n in range(10)}
+    contents = {f"file{n}": noise.randbytes(noise.randrange(3 << 20)) for n in range(40)}
     page.choose(*files(**contents))
     for name, data in contents.items():
         page.wait_for(name, "done")
         assert page.hashes(name) == hashes(data)
+    page.set_seed("7")
+    for name, data in contents.items():
+        page.wait(lambda: page.hashes(name) == hashes(data, 7))
 
 
 def test_seeds(page, files):
@@ -198,7 +201,7 @@ def test_a_text_as_it_is_typed(page):
     page.set_seed("7")
     page.wait(lambda: page.text_hashes() == hashes("Grüß".encode(), 7))
     # Letters and accents in two, other forms of letters, blanks: as they stand.
-    for text in ("e\u0301", "\ufb01 \u212b", " \ta\u00a0\n\n", "\ufeffa\u200b"):
+    for text in ("e\u0301", "\ufb01 \u212b", " \ta\u00a0\n\n", "\ufeffa\u200b", "long" * (1 << 19)):
         page.type(text)
         page.wait(lambda: page.text_hashes() == hashes(text.encode(), 7))
 

@@ -19,15 +19,15 @@ use Rattle.datasketches.specs.declared.codec.Short.{Short}
 use Rattle.datasketches.specs.declared.codec.Stopped.{Stopped}
 use Rattle.datasketches.specs.declared.error.ErrorKind.{ErrorKind}
 use Rattle.datasketches.specs.declared.error.ErrorKind.TheVariants.{InvalidArgument, InvalidData, OutOfMemory}
-use Rattle.datasketches.specs.Bytes as bytes
-use Rattle.datasketches.specs.Checks as checks
-use Rattle.datasketches.specs.ErrorValue as errors
-use Rattle.datasketches.specs.ErrorValue.{ContextValue, ErrorValue}
-use Rattle.datasketches.specs.Items as items
-use Rattle.datasketches.specs.Reading as reading
-use Rattle.datasketches.specs.Refusals as refusals
-use Rattle.datasketches.specs.WriterValue.{WriterValue}
-use Rattle.datasketches.specs.Writing as writing
+use Rattle.sketch_base.specs.Bytes as bytes
+use Rattle.sketch_base.specs.Checks as checks
+use Rattle.sketch_base.specs.ErrorValue as errors
+use Rattle.sketch_base.specs.ErrorValue.{ContextValue, ErrorValue}
+use Rattle.sketch_base.specs.Items as items
+use Rattle.sketch_base.specs.Reading as reading
+use Rattle.sketch_base.specs.Refusals as refusals
+use Rattle.sketch_base.specs.WriterValue.{WriterValue}
+use Rattle.sketch_base.specs.Writing as writing
 
 pub record Bytes : Type 0 where
   pub AreBytes : (b : List ℕ) → bytes.AreBytes b ↔ All (λ x. x < 256) b

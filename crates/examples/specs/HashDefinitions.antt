@@ -2,7 +2,7 @@
 use Rattle.std.specs.Prelude.{ℕ, suc, ◌+◌, ◌-◌, ◌*◌, ◌/◌, ◌%◌, ◌^◌, ◌<◌, ◌≤◌, ◌≡◌, ◌↔◌, ℤ, List, [], ◌∷◌, ◌++◌, length, take, drop, map, replicate, codes, slice_index, slice_index_or, nat_lt, ◌==◌, if◌then◌else◌, Ok, Err}
 use Rattle.std.specs.Fmt.{decimal}
 use Rattle.std.specs.List.{fold}
-use Rattle.datasketches.specs.Bytes.{AreBytes, le, eight, modulo}
+use Rattle.sketch_base.specs.Bytes.{AreBytes, le, eight, modulo}
 use Rattle.sketch_hash.specs.declared.hash.murmurhash.state.MurmurState.{MurmurState}
 use Rattle.sketch_hash.specs.declared.hash.xxhash.state.XxHash64State.{XxHash64State}
 use Rattle.sketch_hash.specs.Columns as columns

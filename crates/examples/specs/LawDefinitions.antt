@@ -1,13 +1,13 @@
 -- The definitions of `datasketches` once more, written out, as [BaseDefinitions] does it. The laws
 -- themselves are used by the callers in `laws`.
 use Rattle.std.specs.Prelude.{ℕ, ◌+◌, ◌-◌, ◌*◌, ◌^◌, ◌<◌, ◌≤◌, ◌≡◌, ◌≢◌, ◌↔◌, ◌⊎◌, ℤ, pos, neg_ℤ, ◌≤ℤ◌, ◌<ℤ◌, List, [], ◌∷◌, length, slice_index_or}
-use Rattle.datasketches.specs.Bytes.{modulo, eight, twos_complement}
+use Rattle.sketch_base.specs.Bytes.{modulo, eight, twos_complement}
 use Rattle.datasketches.specs.Laws as laws
-use Rattle.datasketches.specs.Pieces.{pieces, rest}
+use Rattle.sketch_hash.specs.Pieces.{pieces, rest}
 use Rattle.datasketches.specs.Strategies as strategies
 use Rattle.datasketches.specs.Strategies.{I8, U8, I16, U16, I32, U32, I64, U64}
 use Rattle.datasketches.specs.Streams as streams
-use Rattle.datasketches.specs.Xxh64.{steps}
+use Rattle.sketch_hash.specs.Xxh64.{steps}
 
 pub record Streams : Type 0 where
   pub AgreeOutside : (low high : ℕ) (a b : List ℕ) → streams.AgreeOutside low high a b

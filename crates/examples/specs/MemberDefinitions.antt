@@ -1,10 +1,10 @@
 -- The definitions of `sketch_member` once more, written out, as [BaseDefinitions] does it.
 use Rattle.std.specs.Prelude.{ℕ, ◌+◌, ◌-◌, ◌*◌, ◌/◌, ◌%◌, ◌^◌, ◌<◌, ◌≤◌, ◌≡◌, ◌≢◌, ◌↔◌, ◌⊎◌, min, List, [], ◌∷◌, ◌++◌, length, take, drop, map, replicate, codes, slice_index, Contains, Option, None, Some, IfSome}
 use Rattle.std.specs.Fmt.{decimal}
-use Rattle.datasketches.specs.Bytes.{le, eight}
-use Rattle.datasketches.specs.ErrorValue.{ErrorValue, memory_error}
-use Rattle.datasketches.specs.Refusals.{Refuses}
-use Rattle.datasketches.specs.Xxh64.{xxh64}
+use Rattle.sketch_base.specs.Bytes.{le, eight}
+use Rattle.sketch_base.specs.ErrorValue.{ErrorValue, memory_error}
+use Rattle.sketch_base.specs.Refusals.{Refuses}
+use Rattle.sketch_hash.specs.Xxh64.{xxh64}
 use Rattle.datasketches.specs.declared.error.ErrorKind.TheVariants.{InvalidArgument, InvalidData}
 use Rattle.sketch_member.specs.declared.fault.Fault.{Fault}
 use Rattle.sketch_member.specs.declared.fault.Fault.TheVariants as fault
@@ -88,6 +88,11 @@ abbrev pub faults_of : List Step → List Fault
 faults_of [] = []
 faults_of (step ∷ list) = step.fault ∷ faults_of list
 
+-- steps whose conditions are that two numbers are equal, any number of them
+abbrev pub steps_of : List (ℕ × ℕ × ℕ × Fault) → List Step
+steps_of [] = []
+steps_of (s ∷ list) = record { needs = s.0; Holds = s.1 ≡ s.2; fault = s.3 } ∷ steps_of list
+
 -- What has to hold is what the passing of a step says.
 pub record Faults : Type 0 where
   pub fault_text : (m n : ℕ) → map faults.fault_text
@@ -114,20 +119,21 @@ pub record Faults : Type 0 where
       faults.Fails count (record { needs = needs; Holds = a ≡ b; fault = own }) told
       ↔ (((count < needs) × (told ≡ fault.HeaderEnds))
       ⊎ ((needs ≤ count) × (a ≡ b → ⊥) × (told ≡ own)))
-  pub AllPass : (count needs x y : ℕ) (own : Fault) (b : List ℕ) → faults.AllPass count []
+  pub AllPass : (count needs x y : ℕ) (own : Fault) (list : List (ℕ × ℕ × ℕ × Fault)) →
+      faults.AllPass count []
       × (faults.AllPass count
-      (record { needs = needs; Holds = x ≡ y; fault = own } ∷ faults.view_steps b)
-      ↔ (((needs ≤ count) × (x ≡ y)) × faults.AllPass count (faults.view_steps b)))
-  pub IsFirstFault : (count needs x y : ℕ) (own told : Fault) (b : List ℕ) →
-      (faults.IsFirstFault count [] told → ⊥)
+      (record { needs = needs; Holds = x ≡ y; fault = own } ∷ steps_of list)
+      ↔ (((needs ≤ count) × (x ≡ y)) × faults.AllPass count (steps_of list)))
+  pub IsFirstFault : (count needs x y : ℕ) (own told : Fault)
+      (list : List (ℕ × ℕ × ℕ × Fault)) → (faults.IsFirstFault count [] told → ⊥)
       × (faults.IsFirstFault count
-      (record { needs = needs; Holds = x ≡ y; fault = own } ∷ faults.view_steps b) told
+      (record { needs = needs; Holds = x ≡ y; fault = own } ∷ steps_of list) told
       ↔ ((((count < needs) × (told ≡ fault.HeaderEnds))
       ⊎ ((needs ≤ count) × (x ≡ y → ⊥) × (told ≡ own)))
-      ⊎ (((needs ≤ count) × (x ≡ y)) × faults.IsFirstFault count (faults.view_steps b) told)))
-  pub FirstFault : (count : ℕ) (b : List ℕ) (error : ErrorValue) →
-      faults.FirstFault count (faults.view_steps b) error
-      ↔ ((told : Fault) × faults.IsFirstFault count (faults.view_steps b) told
+      ⊎ (((needs ≤ count) × (x ≡ y)) × faults.IsFirstFault count (steps_of list) told)))
+  pub FirstFault : (count : ℕ) (list : List (ℕ × ℕ × ℕ × Fault)) (error : ErrorValue) →
+      faults.FirstFault count (steps_of list) error
+      ↔ ((told : Fault) × faults.IsFirstFault count (steps_of list) told
       × Refuses InvalidData (faults.fault_text told) error)
   pub header_length : (b : List ℕ) → faults.header_length b ≡ 8 * slice_index b 0
   pub count_number : (b : List ℕ) → faults.count_number b

@@ -12,6 +12,7 @@ use datasketches::hash::value::natural_extend::NaturalExtend;
 use datasketches::hash::value::{calculate_hash, natural_extend, raw_bytes, sign_extend};
 use datasketches::hash::{Hash, MurmurHash3X64128, XxHash64};
 use datasketches::laws;
+use std::ops::DerefMut;
 
 /// The Murmur pair of any value.
 pub fn pair_of_value<T: Hash>(seed: u64, value: &T) -> (u64, u64)
@@ -124,6 +125,13 @@ pub fn wrapped_values(
     (wrapped, wrapped_signed)
 }
 
+/// The first word of the Murmur pair of a value of any type, under the seed of sketch updates.
+pub fn hash_of_any<T: Hash + Drop>(value: T) -> u64
+    ensures { result ≡ (murmur 9001 (T.fed value)).0 }
+{
+    calculate_hash(value)
+}
+
 /// The hash of a key of text, as the library hashes any value.
 pub fn hash_of_text(key: &str) -> u64
     ensures { result ≡ (murmur 9001 key.now).0 }
@@ -144,6 +152,20 @@ pub fn next_key(key: &mut NaturalExtend<u32>)
     ensures { key.new ≡ key.old + 1 }
 {
     **key += 1;
+}
+
+// What any lender of a number shows.
+fn shown_by<D: DerefMut<Target = u32>>(lender: &mut D) -> u32
+    ensures { D.deref_mut_gives lender.old result }
+{
+    *lender.deref_mut()
+}
+
+/// The key inside, as a function of any lender sees it.
+pub fn key_through_any(key: &mut NaturalExtend<u32>) -> u32
+    ensures { result ≡ key.old }
+{
+    shown_by(key)
 }
 
 /// Replaces a wrapped key, through the wrapper.

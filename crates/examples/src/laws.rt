@@ -221,11 +221,12 @@ pub fn murmur_streams_lose_nothing(x: u64, y: u64, total: u64)
 /// What a step of XXH64's tail makes of two words are words that tell them apart, and each word is
 /// made of one. So it is with two numbers that it reads, at any width. Tails of one length have
 /// steps of the same widths, and eight bytes are one step.
-pub fn xxh64_steps_lose_nothing(x: u64, y: u64, read: u64, width: u64)
-    ensures words { let s : ℕ × ℕ = (width, read) in tail_step x s ≡ tail_step y s → x ≡ y }
-    ensures made { let s : ℕ × ℕ = (width, read) in
+pub fn xxh64_steps_lose_nothing(x: u64, y: u64, read: u64)
+    ensures words { (width : ℕ) → let s : ℕ × ℕ = (width, read) in
+        tail_step x s ≡ tail_step y s → x ≡ y }
+    ensures made { (width : ℕ) → let s : ℕ × ℕ = (width, read) in
         (n : ℕ) × IsWord n × (tail_step n s ≡ x) }
-    ensures lands { let s : ℕ × ℕ = (width, read) in IsWord (tail_step x s) }
+    ensures lands { (width : ℕ) → let s : ℕ × ℕ = (width, read) in IsWord (tail_step x s) }
     ensures numbers { (w m n : ℕ) → IsWord m → IsWord n →
         tail_step x (w, m) ≡ tail_step x (w, n) → m ≡ n }
     ensures made_of_numbers { (w : ℕ) → (n : ℕ) × IsWord n × (tail_step x (w, n) ≡ y) }
@@ -243,18 +244,20 @@ pub fn xxh64_steps_lose_nothing(x: u64, y: u64, read: u64, width: u64)
 
 /// A list of any length is cut into whole pieces and a rest that is shorter; what follows whole
 /// pieces is cut as if it stood alone.
-pub fn lists_are_cut(width: usize)
-    ensures whole { (bytes : List ℕ) → 0 < width → length bytes ≡ width →
+pub fn lists_are_cut()
+    ensures whole { (width : ℕ) (bytes : List ℕ) → 0 < width → length bytes ≡ width →
         pieces width bytes ≡ bytes ∷ [] }
-    ensures short { (bytes : List ℕ) → length bytes < width →
+    ensures short { (width : ℕ) (bytes : List ℕ) → length bytes < width →
         (pieces width bytes ≡ []) × (rest width bytes ≡ bytes) }
-    ensures behind { (i : ℕ) (front back : List ℕ) → 0 < width → length front ≡ width * i →
+    ensures behind { (width i : ℕ) (front back : List ℕ) → 0 < width →
+        length front ≡ width * i →
         (pieces width (front ++ back) ≡ pieces width front ++ pieces width back)
         × (rest width (front ++ back) ≡ rest width back) }
-    ensures bytes { (bytes : List ℕ) → All (λ b. b < 256) bytes →
+    ensures bytes { (width : ℕ) (bytes : List ℕ) → All (λ b. b < 256) bytes →
         All (λ b. b < 256) (rest width bytes) }
-    ensures below { (bytes : List ℕ) → 0 < width → length (rest width bytes) < width }
-    ensures one_length { (a b : List ℕ) → length a ≡ length b →
+    ensures below { (width : ℕ) (bytes : List ℕ) → 0 < width →
+        length (rest width bytes) < width }
+    ensures one_length { (width : ℕ) (a b : List ℕ) → length a ≡ length b →
         length (rest width a) ≡ length (rest width b) }
 {
     piece_laws();

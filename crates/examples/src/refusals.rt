@@ -3,7 +3,7 @@
 ghost use Rattle.std.specs.Prelude.{◌≡◌, ◌≢◌, ◌⊎◌, ◌++◌, ◌∷◌, [], ℕ, List, codes, IfErr, IfOk, MatchResult, string_bytes};
 ghost use Rattle.std.specs.Fmt.{decimal};
 ghost use Rattle.std.specs.List.{flat_map};
-ghost use Rattle.datasketches.specs.ErrorValue.{debug_text, error_of, line, memory_error};
+ghost use Rattle.datasketches.specs.ErrorValue.{add_context, debug_text, error_kind_name, error_of, line, memory_error};
 ghost use Rattle.datasketches.specs.Refusals.{Refuses};
 ghost use Rattle.datasketches.specs.SeedHash.{seed_hash};
 
@@ -14,6 +14,7 @@ use datasketches::hash::value::natural_extend::NaturalExtend;
 use datasketches::hash::{check_seed_hash, compute_seed_hash};
 use sketch_member::Fault;
 use std::alloc::{AllocError, Global};
+use std::fmt::Display;
 
 /// Accepts serial version 3.
 ///
@@ -58,6 +59,43 @@ pub fn refusal(alloc: Global, kind: ErrorKind, words: Result<String, AllocError>
         (λ _. result ≡ memory_error) }
 {
     Error::from_text(alloc, kind, words)
+}
+
+/// The error in one more context, of a value of any type; or as it was, where there is no text.
+///
+/// # Errors
+///
+/// Where memory runs out, or the value fails to print: the error as it was.
+pub fn in_context_of<V: Display + Drop>(
+    alloc: Global,
+    error: Error,
+    key: &'static str,
+    value: V,
+) -> Result<Error, Error>
+    ensures { MatchResult result
+        (λ added. (text : List ℕ) × (added ≡ add_context error key.entry.now text))
+        (λ refused. refused ≡ error) }
+{
+    error.with_context(alloc, key, value)
+}
+
+/// Data ends too early, as a value of any type says.
+pub fn ends_at_any<V: Display + Drop>(alloc: Global, value: V) -> Error
+    ensures { (text : List ℕ) × Refuses ErrorKind.InvalidData
+        (codes "insufficient data: " ++ text) result }
+{
+    Error::insufficient_data(alloc, value)
+}
+
+/// A wrapped value prints at any width as its inner value does.
+///
+/// # Errors
+///
+/// Where memory runs out.
+pub fn name_in_width(alloc: Global, kind: &NaturalExtend<ErrorKind>) -> Result<String, AllocError>
+    ensures { IfOk result (λ text. string_bytes text ≡ error_kind_name kind.now) }
+{
+    format!(in alloc; "{kind:20}")
 }
 
 /// A refusal of data that ends too early, which a text explains.

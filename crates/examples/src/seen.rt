@@ -216,6 +216,38 @@ pub fn other_family(bytes: &[u8]) -> Option<Fault>
     TableView::new(bytes).err()
 }
 
+/// What is wrong with bytes that do not begin as a table of either version does.
+pub fn other_longs(bytes: &[u8]) -> Option<Fault>
+    requires header { 1 ≤ length bytes.now }
+    requires other { (slice_index bytes.now 0 ≢ 2) × (slice_index bytes.now 0 ≢ 3) }
+    ensures { result ≡ Some (Fault.PreambleLongs (slice_index bytes.now 0)) }
+{
+    TableView::new(bytes).err()
+}
+
+/// What is wrong with bytes that begin as a table does, but are of a size outside its limits.
+pub fn other_size(bytes: &[u8]) -> Option<Fault>
+    requires header { 5 ≤ length bytes.now }
+    requires kind { (slice_index bytes.now 0 ≡ 3) × (slice_index bytes.now 1 ≡ 2)
+        × (slice_index bytes.now 2 ≡ 200) }
+    ensures log2_bits { (IsLog2Bits (slice_index bytes.now 3) → ⊥) →
+        result ≡ Some (Fault.Log2Bits (slice_index bytes.now 3)) }
+    ensures hashes { IsLog2Bits (slice_index bytes.now 3) →
+        (IsHashes (slice_index bytes.now 4) → ⊥) →
+        result ≡ Some (Fault.Hashes (slice_index bytes.now 4)) }
+{
+    TableView::new(bytes).err()
+}
+
+/// What is wrong with sizes of which bytes cannot be made a table.
+pub fn other_sizes(bytes: &mut [u8], seed: u64, log2_bits: u8, hashes: u8) -> Option<Fault>
+    ensures log2_bits { (IsLog2Bits log2_bits → ⊥) → result ≡ Some (Fault.Log2Bits log2_bits) }
+    ensures hashes { IsLog2Bits log2_bits → (IsHashes hashes → ⊥) →
+        result ≡ Some (Fault.Hashes hashes) }
+{
+    in_place::init(bytes, seed, log2_bits, hashes).err()
+}
+
 /// What is wrong with bytes that begin with the header of a table of any size and with a count:
 /// nothing, where as many bytes are after it as the bits need.
 pub fn other_length(bytes: &[u8]) -> Option<Fault>

@@ -8,7 +8,9 @@ use crate::columns::{hash_keys, hash_numbers, hash_texts, pairs_of_keys};
 use crate::items::{
     are_same_items, read_both_ways, skip, there_and_back, write_both_ways, write_if_it_fits,
 };
-use crate::keys::{hash_of_text, hash_of_value, is_new_key, is_same_key, is_same_word, pair_of};
+use crate::keys::{
+    hash_of_any, hash_of_text, hash_of_value, is_new_key, is_same_key, is_same_word, pair_of,
+};
 use crate::own::{BigEndian, Point, Row};
 use crate::seen::{
     family_of_tables, insert_in_either_order, is_found, is_value_seen, see_key_in, see_saved_key,
@@ -229,6 +231,11 @@ fn the_sentence_has_its_hash(rt: HostRuntime) {
     assert_same(&rt, hash_of_value(0, &whole), FOX_XXH64);
     assert_same(&rt, first, calculate_hash(whole));
     assert_same(&rt, usual_hashes(b"fox").0, hash_of_text("fox"));
+    assert_same(
+        &rt,
+        hash_of_any(raw_bytes::from_str("fox")),
+        hash_of_text("fox"),
+    );
 }
 
 #[test]

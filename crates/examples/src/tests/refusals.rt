@@ -1,16 +1,20 @@
 //! What refusals and wrapped keys say.
 
 use super::{assert_refused, assert_same, prints};
-use crate::keys::{inner_key, next_key};
+use crate::keys::{inner_key, key_through_any, next_key};
 use crate::merging::{merge_saved, merge_saved_twin};
 use crate::refusals::{
-    check_seed, check_version, ends_early, name_of_kind, refusal, text_of_fault, text_of_key,
-    text_of_short, text_of_stopped, texts_of_error, wrong_family, wrong_longs,
+    check_seed, check_version, ends_at_any, ends_early, in_context_of, name_in_width, name_of_kind,
+    refusal, text_of_fault, text_of_key, text_of_short, text_of_stopped, texts_of_error,
+    wrong_family, wrong_longs,
 };
-use crate::seen::{count_saved, insert_in, is_saved, load_again, other_length, see_keys_twice};
+use crate::seen::{
+    count_saved, insert_in, is_saved, load_again, other_length, other_longs, other_sizes,
+    see_keys_twice,
+};
 use datasketches::codec::{Short, Stopped};
 use datasketches::error::{Error, ErrorKind};
-use datasketches::hash::value::{natural_extend, raw_bytes};
+use datasketches::hash::value::{Value, natural_extend, raw_bytes};
 use sketch_member::{Fault, MemberTable, MergeFault};
 use std::alloc::AllocError;
 use std::error;
@@ -54,6 +58,11 @@ fn refusals_say_what_is_wrong(rt: HostRuntime) -> Result<(), Fail> {
     assert_same(&rt, prints(&wrong_longs(alloc, &[1, 2], 3), line), true);
     let name = name_of_kind(ErrorKind::InvalidArgument);
     assert_same(&rt, name, "InvalidArgument");
+    let line = "InvalidData, context: { place: 7 } => insufficient data: no sketch";
+    let error = in_context_of(alloc, ends_at_any(alloc, "no sketch"), "place", 7u64)?;
+    assert_same(&rt, prints(&error, line), true);
+    let name = name_in_width(alloc, &Value::new(ErrorKind::InvalidData))?;
+    assert_same(&rt, name.as_str(), "InvalidData");
     Ok(())
 }
 
@@ -76,7 +85,7 @@ fn errors_are_errors_of_std(rt: HostRuntime) {
 fn wrapped_keys_are_read_and_changed(rt: HostRuntime) -> Result<(), Fail> {
     let mut key = natural_extend::from_u32(7);
     next_key(&mut key);
-    assert_same(&rt, inner_key(&key), 8);
+    assert_same(&rt, (inner_key(&key), key_through_any(&mut key)), (8, 8));
     assert_same(&rt, text_of_key(rt.alloc(), &key)?.as_str(), "8");
     Ok(())
 }
@@ -96,5 +105,8 @@ fn bytes_of_a_table_are_made_twice(rt: HostRuntime) -> Result<(), Fail> {
     assert_same(&rt, load_again(alloc, &table)?.count(), Some(4));
     let missing = Fault::MissingBits { need: 128, have: 6 };
     assert_same(&rt, other_length(&bytes[..30]), Some(missing));
+    assert_same(&rt, other_longs(&[4]), Some(Fault::PreambleLongs(4)));
+    let fault = other_sizes(&mut bytes, 0, 21, 7);
+    assert_same(&rt, fault, Some(Fault::Log2Bits(21)));
     Ok(())
 }

@@ -1,7 +1,8 @@
-ghost use Rattle.std.specs.Prelude.{◌≡◌, ◌≢◌, ◌≤◌, ◌+◌, ◌*◌, ◌^◌, ◌++◌, ℕ, [], length, map};
+ghost use Rattle.std.specs.Prelude.{◌≡◌, ◌≢◌, ◌≤◌, ◌+◌, ◌*◌, ◌^◌, ◌++◌, ℕ, List, [], length, map};
 ghost use Rattle.std.specs.Process.{exit_status};
 ghost use Rattle.std.specs.String.{string_bytes};
 ghost use Rattle.sketchsum.specs.Arguments.{AskFor};
+ghost use Rattle.sketchsum.specs.Calling.{RunsOnce};
 ghost use Rattle.sketchsum.specs.Digest.{digest_line};
 ghost use Rattle.sketchsum.specs.Ending.{status_of};
 
@@ -12,7 +13,9 @@ use crate::tests::fakes::{Arguments, Full, KINDS, NarrowWriter, Screen, SlowRead
 use crate::tests::{FOX, FOX_LINE, assert_same};
 use datasketches::hash::XxHash64;
 use std::alloc::{AllocError, Global};
+use std::io::{Read, Write};
 use std::process::{Abort, ExitCode, Termination};
+use std::rt::Env;
 
 // The XXH64 of the sentence under the seed 7.
 const FOX_LINE_OF_7: &str = "73229526fb86a735\n";
@@ -61,6 +64,40 @@ fn call(words: &Arguments<'_>, alloc: Global, input: &mut &[u8], output: &mut Ve
     program(words, alloc, input, output).outcome
 }
 
+// It knows of any words, any reader and any writer, whether or not they tell their bytes, what a call
+// leaves.
+fn call_over_any<V: Env, R: Read, W: Write>(
+    env: &V,
+    alloc: Global,
+    reader: &mut R,
+    writer: &mut W,
+) -> Outcome
+    ensures usage { result ≡ Outcome.Usage →
+        (reader.new ≡ reader.old) × (writer.new ≡ writer.old) }
+    ensures no_memory { result ≡ Outcome.NoMemory →
+        (reader.new ≡ reader.old) × (writer.new ≡ writer.old) }
+    ensures runs { result ≢ Outcome.Usage → result ≢ Outcome.NoMemory →
+        (words : List (List ℕ)) × RunsOnce words result
+        (R.remaining reader.old) (R.remaining reader.new)
+        (W.contents writer.old) (W.contents writer.new) }
+    ensures silent { result ≢ Outcome.Done → result ≢ Outcome.Fault RunFault.Write →
+        writer.new ≡ writer.old }
+{
+    program(env, alloc, reader, writer).outcome
+}
+
+fn answer_over_any<R: Read, W: Write>(words: &[String], reader: &mut R, writer: &mut W) -> Outcome
+    ensures usage { result ≡ Outcome.Usage →
+        (reader.new ≡ reader.old) × (writer.new ≡ writer.old) }
+    ensures runs { result ≢ Outcome.Usage → RunsOnce (map string_bytes words.now) result
+        (R.remaining reader.old) (R.remaining reader.new)
+        (W.contents writer.old) (W.contents writer.new) }
+    ensures silent { result ≢ Outcome.Done → result ≢ Outcome.Fault RunFault.Write →
+        writer.new ≡ writer.old }
+{
+    answer(words, reader, writer)
+}
+
 // It knows the status of each outcome.
 fn status_of(end: ProgramEnd, screen: &Screen) -> ExitCode
     ensures { exit_status result ≡ status_of end.outcome }
@@ -84,6 +121,9 @@ fn a_run_has_two_words(rt: HostRuntime) -> Result<(), AllocError> {
     assert_same(&rt, answered, Outcome::Done);
     let called = call(&Arguments(&[]), rt.alloc(), &mut FOX, &mut output);
     assert_same(&rt, called, Outcome::Usage);
+    let called = call_over_any(&Arguments(&[]), rt.alloc(), &mut FOX, &mut output);
+    let answered = answer_over_any(&[], &mut FOX, &mut output);
+    assert_same(&rt, (called, answered), (Outcome::Usage, Outcome::Usage));
     assert_same(&rt, output.as_slice(), b"0b242d361fda71bc\n".as_slice());
     Ok(())
 }

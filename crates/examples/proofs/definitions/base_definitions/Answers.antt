@@ -1,5 +1,5 @@
 use Rattle.std.proofs.Common.{refl}
-use Rattle.datasketches.specs.Refusals.{Refuses}
+use Rattle.sketch_base.specs.Refusals.{Refuses}
 use Rattle.examples.proofs.DefinitionLemmas.{same}
 use Rattle.examples.proofs.definitions.base_definitions.Goals as goal
 

@@ -2,23 +2,23 @@ use Rattle.std.proofs.Common.{◌<◌, ◌^◌, rules}
 use Rattle.examples.proofs.laws.xxh64_steps_lose_nothing.Goals as goal
 
 pub returns-clause-words : goal.returns-clause-words
-returns-clause-words c = λ same.
+returns-clause-words c = λ width same.
     let x : c.args.x < 2 ^ 64 = search rules in
     let y : c.args.y < 2 ^ 64 = search rules in
     let read : c.args.read < 2 ^ 64 = search rules in
-    (c.xxh64_step_laws.ensures.step_of_word _ read).once _ _ x y same
+    (c.xxh64_step_laws.ensures.step_of_word (width, c.args.read) read).once _ _ x y same
 
 pub returns-clause-made : goal.returns-clause-made
-returns-clause-made c =
+returns-clause-made c = λ width.
     let x : c.args.x < 2 ^ 64 = search rules in
     let read : c.args.read < 2 ^ 64 = search rules in
-    (c.xxh64_step_laws.ensures.step_of_word _ read).reached _ x
+    (c.xxh64_step_laws.ensures.step_of_word (width, c.args.read) read).reached _ x
 
 pub returns-clause-lands : goal.returns-clause-lands
-returns-clause-lands c =
+returns-clause-lands c = λ width.
     let x : c.args.x < 2 ^ 64 = search rules in
     let read : c.args.read < 2 ^ 64 = search rules in
-    (c.xxh64_step_laws.ensures.step_of_word _ read).lands _ x
+    (c.xxh64_step_laws.ensures.step_of_word (width, c.args.read) read).lands _ x
 
 pub returns-clause-numbers : goal.returns-clause-numbers
 returns-clause-numbers c = λ w m n.

@@ -294,9 +294,11 @@ fn accepting_checks_take_no_memory(rt: HostRuntime) {
                 assert_accepted(&rt, answer, (x, end));
             }
             if let Some(below) = x.checked_sub(1) {
-                let start = Excluded(below);
-                let answer = ensure_preamble_longs_in_range(alloc, start, Included(end), x);
-                assert_accepted(&rt, answer, (x, end));
+                for finish in [Included(end), Excluded(end)] {
+                    let start = Excluded(below);
+                    let answer = ensure_preamble_longs_in_range(alloc, start, finish, x);
+                    assert_accepted(&rt, answer, (x, end));
+                }
             }
             for start in [Included(x), Excluded(x)] {
                 let answer = ensure_preamble_longs_in_range(alloc, start, Unbounded, end);
@@ -310,14 +312,21 @@ fn accepting_checks_take_no_memory(rt: HostRuntime) {
             assert_accepted(&rt, ensure_preamble_longs_in(alloc, expected, *x), count);
         }
     }
-    for id in 0..=255 {
-        let family = Family {
-            id,
-            name: "OTHER",
-            min_pre_longs: 1,
-            max_pre_longs: 1,
-        };
-        assert_accepted(&rt, family.validate_id(alloc, id), id);
+    let alike = [7; 300];
+    for count in 1..=alike.len() {
+        let (expected, _) = alike.split_at(count);
+        assert_accepted(&rt, ensure_preamble_longs_in(alloc, expected, 7), count);
+    }
+    for name in ["OTHER", "", "A FAMILY WITH A NAME OF THIRTY-NINE LETTERS"] {
+        for id in 0..=255 {
+            let family = Family {
+                id,
+                name,
+                min_pre_longs: 1,
+                max_pre_longs: 1,
+            };
+            assert_accepted(&rt, family.validate_id(alloc, id), id);
+        }
     }
 }
 
