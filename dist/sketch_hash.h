@@ -1,5 +1,5 @@
-/* sketch_hash 1.1.0: XXH64 and MurmurHash3_x64_128 of bytes, and a table of members, from functions
- * that are proved.
+/* sketch_hash 1.1.0: XXH64 and MurmurHash3_x64_128 of bytes, and a Bloom filter (a table, below), from
+ * functions that are proved.
  *
  * Proved of the library: for every seed, and however a stream is cut into updates, a digest is the
  * hash of all bytes since the last reset (tests, and no proof, show that its definition is the
@@ -124,11 +124,9 @@ size_t sketch_murmur3_x64_128_each64(const void *input, size_t length, const uin
 size_t sketch_xxh64_each_u64(const uint64_t *values, size_t value_count, uint64_t seed,
                              uint64_t *out, size_t count);
 
-/* ---- A table of members (a Bloom filter): it tells of a key whether it was inserted, is never wrong
- * about one that was, and may be wrong about one that was not.
- *
- * With 7 hashes, about one other key in 100 is reported as inserted where the table has 10 bits for
- * each key, and one in 1000 where it has 15.
+/* ---- A table, which is a Bloom filter: it tells whether a key was inserted. It has no false
+ * negatives. The false positive rate with 7 hashes is about 1 in 100 where the table has 10 bits
+ * for each key, and 1 in 1000 where it has 15.
  *
  * A table is its bytes, which any machine reads and writes alike. They lie where the caller wants,
  * as in a file that is mapped. Each call checks the header, 24 bytes, and makes no pass over the

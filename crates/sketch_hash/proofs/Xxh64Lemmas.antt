@@ -40,12 +40,12 @@ pub fold_eight : (hash : ℕ) (bytes : List ℕ) → 8 ≤ length bytes →
 unfolding tail_step
 fold_eight hash bytes h = ap (fold tail_step hash) (steps_eight bytes h)
 
--- of sixteen bytes and more, with two
-pub fold_sixteen : (hash : ℕ) (bytes : List ℕ) → 16 ≤ length bytes →
+-- of sixteen bytes and more, with a pair of words
+pub fold_pair : (hash : ℕ) (bytes : List ℕ) → 16 ≤ length bytes →
     fold tail_step hash (steps bytes)
     ≡ fold tail_step (eight_step (eight_step hash (le (take 8 bytes))) (le (take 8 (drop 8 bytes))))
     (steps (drop 8 (drop 8 bytes)))
-fold_sixteen hash bytes h =
+fold_pair hash bytes h =
     let behind : 8 ≤ length (drop 8 bytes) = rw (length-drop 8 bytes) (omega arith) in
     fold_eight hash bytes (omega arith)
     ∙ fold_eight (eight_step hash (le (take 8 bytes))) (drop 8 bytes) behind

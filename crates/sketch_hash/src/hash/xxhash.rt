@@ -376,7 +376,7 @@ fn fold_words(mut hash: u64, tail: &[u8]) -> (u64, &[u8])
 // more code where they are inlined. They return where a word was the last: a key of whole words
 // meets no other test.
 #[inline(always)]
-#[tactic(auto, using(crate::proofs::Xxh64Lemmas::fold_sixteen, crate::proofs::Xxh64Lemmas::no_steps))]
+#[tactic(auto, using(crate::proofs::Xxh64Lemmas::fold_pair, crate::proofs::Xxh64Lemmas::no_steps))]
 fn fold_from_16(hash: u64, tail: &[u8]) -> u64
     requires low { 16 ≤ length tail.now }
     requires high { length tail.now < 32 }

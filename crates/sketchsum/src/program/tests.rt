@@ -64,8 +64,8 @@ fn call(words: &Arguments<'_>, alloc: Global, input: &mut &[u8], output: &mut Ve
     program(words, alloc, input, output).outcome
 }
 
-// It knows of any words, any reader and any writer, whether or not they tell their bytes, what a call
-// leaves.
+// It knows of any words, any reader and any writer, whether or not they tell their bytes, what a
+// call leaves.
 fn call_over_any<V: Env, R: Read, W: Write>(
     env: &V,
     alloc: Global,
