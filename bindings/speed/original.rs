@@ -61,6 +61,23 @@ macro_rules! calls {
 calls!(XxHash64, their_xxh64_words, their_xxh64_keys, their_xxh64_stream);
 calls!(MurmurHash3X64128, their_murmur_words, their_murmur_keys, their_murmur_stream);
 
+/// A key of the table, which feeds its bytes to a hasher.
+trait Key: Copy {
+    fn feed(self, hasher: &mut XxHash64);
+}
+
+impl Key for u64 {
+    fn feed(self, hasher: &mut XxHash64) {
+        hasher.write(&self.to_le_bytes());
+    }
+}
+
+impl Key for &[u8] {
+    fn feed(self, hasher: &mut XxHash64) {
+        hasher.write(self);
+    }
+}
+
 struct Table {
     mask: u64,
     hashes: u64,
@@ -68,22 +85,27 @@ struct Table {
 }
 
 impl Table {
-    fn index(&self, word: u64, j: u64) -> usize {
+    fn new(log2_bits: u8, hashes: u8) -> Self {
+        let bits = vec![0; (1 << log2_bits) / 8];
+        Table { mask: (1 << log2_bits) - 1, hashes: u64::from(hashes), bits }
+    }
+
+    fn index(&self, key: impl Key, j: u64) -> usize {
         let mut hasher = XxHash64::with_seed(7 + j);
-        hasher.write(&word.to_le_bytes());
+        key.feed(&mut hasher);
         (hasher.finish() & self.mask) as usize
     }
 
-    fn insert(&mut self, word: u64) {
+    fn insert(&mut self, key: impl Key) {
         for j in 0..self.hashes {
-            let i = self.index(word, j);
+            let i = self.index(key, j);
             self.bits[i >> 3] |= 1 << (i & 7);
         }
     }
 
-    fn contains(&self, word: u64) -> bool {
+    fn contains(&self, key: impl Key) -> bool {
         (0..self.hashes).all(|j| {
-            let i = self.index(word, j);
+            let i = self.index(key, j);
             self.bits[i >> 3] >> (i & 7) & 1 == 1
         })
     }
@@ -98,8 +120,22 @@ pub unsafe extern "C" fn their_table(
     times: usize,
 ) -> u64 {
     let words = unsafe { slice(first, count) };
-    let bits = vec![0; (1 << log2_bits) / 8];
-    let mut table = Table { mask: (1 << log2_bits) - 1, hashes: u64::from(hashes), bits };
+    let mut table = Table::new(log2_bits, hashes);
     words.iter().for_each(|word| table.insert(*word));
     (0..times).flat_map(|_| words).filter(|word| table.contains(**word)).count() as u64
+}
+
+#[unsafe(no_mangle)]
+pub unsafe extern "C" fn their_table_of_keys(
+    first: *const u8,
+    count: usize,
+    length: usize,
+    log2_bits: u8,
+    hashes: u8,
+    times: usize,
+) -> u64 {
+    let keys = unsafe { slice(first, count) }.chunks_exact(length);
+    let mut table = Table::new(log2_bits, hashes);
+    keys.clone().for_each(|key| table.insert(key));
+    (0..times).flat_map(|_| keys.clone()).filter(|key| table.contains(*key)).count() as u64
 }

@@ -11,6 +11,8 @@
     uint64_t WHO##_murmur_stream(const void *bytes, size_t count, size_t length);        \
     uint64_t WHO##_table(const void *words, size_t count, uint8_t log2_bits, uint8_t hashes, \
                          size_t times);                                                  \
+    uint64_t WHO##_table_of_keys(const void *bytes, size_t count, size_t length,         \
+                                 uint8_t log2_bits, uint8_t hashes, size_t times);       \
     static uint64_t WHO##_xxh64_by_words(size_t total, size_t length) {                  \
         return WHO##_xxh64_words(input, total / length);                                 \
     }                                                                                    \
@@ -34,6 +36,12 @@
     }                                                                                    \
     static uint64_t WHO##_contains(size_t total, size_t hashes) {                        \
         return WHO##_table(input, total / 8, 16, (uint8_t)hashes, 20);                   \
+    }                                                                                    \
+    static uint64_t WHO##_key_inserts(size_t total, size_t length) {                     \
+        return WHO##_table_of_keys(input, total, length, 16, 7, 0);                      \
+    }                                                                                    \
+    static uint64_t WHO##_key_contains(size_t total, size_t length) {                    \
+        return WHO##_table_of_keys(input, total, length, 16, 7, 20);                     \
     }
 
 DECLARE(ours)
@@ -58,7 +66,7 @@ static void both(const char *name, work *xxh64, work *their_xxh64, work *murmur,
 
 int main(void) {
     static const size_t keys[] = {16, 24, 31, 32, 48, 64}, writes[] = {1, 7, 13, 100, 4096};
-    static const size_t hashes[] = {1, 7, 16};
+    static const size_t hashes[] = {1, 7, 16}, table_keys[] = {5, 16, 40};
     char name[64];
     fill_input();
     both("keys of 8 bytes, as words", ours_xxh64_by_words, their_xxh64_by_words,
@@ -79,9 +87,16 @@ int main(void) {
     both("1 MiB at once", ours_xxh64_by_stream, their_xxh64_by_stream, ours_murmur_by_stream,
          their_murmur_by_stream, LARGEST, LARGEST);
     for (size_t i = 0; i < sizeof hashes / sizeof *hashes; i++) {
-        snprintf(name, sizeof name, "%zu index%s", hashes[i], hashes[i] == 1 ? "" : "es");
+        snprintf(name, sizeof name, "values of 8 bytes, %zu index%s", hashes[i],
+                 hashes[i] == 1 ? "" : "es");
         compare("table", name, "inserts", ours_inserts, their_inserts, 8 * 4096, hashes[i]);
         compare("table", name, "contains", ours_contains, their_contains, 8 * 4096, hashes[i]);
+    }
+    for (size_t i = 0; i < sizeof table_keys / sizeof *table_keys; i++) {
+        size_t length = table_keys[i], total = KEYS * length;
+        snprintf(name, sizeof name, "keys of %zu bytes, 7 indexes", length);
+        compare("table", name, "inserts", ours_key_inserts, their_key_inserts, total, length);
+        compare("table", name, "contains", ours_key_contains, their_key_contains, total, length);
     }
     return 0;
 }

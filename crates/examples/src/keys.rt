@@ -9,8 +9,10 @@ ghost use Rattle.datasketches.specs.Values.{integer_bytes};
 ghost use Rattle.datasketches.specs.Xxh64.{xxh64};
 
 use datasketches::hash::value::natural_extend::NaturalExtend;
-use datasketches::hash::value::{calculate_hash, natural_extend, raw_bytes, sign_extend};
-use datasketches::hash::{Hash, MurmurHash3X64128, XxHash64};
+use datasketches::hash::value::{
+    HashStrategy, calculate_hash, natural_extend, raw_bytes, sign_extend,
+};
+use datasketches::hash::{Hash, MurmurHash3X64128};
 use datasketches::laws;
 use std::ops::DerefMut;
 
@@ -27,9 +29,14 @@ pub fn pair_of_value<T: Hash>(seed: u64, value: &T) -> (u64, u64)
 pub fn hash_of_value<T: Hash>(seed: u64, value: &T) -> u64
     ensures { result ≡ xxh64 seed (T.fed value.now) }
 {
-    let mut hasher = XxHash64::with_seed(seed);
-    value.hash(&mut hasher);
-    hasher.finish64()
+    value.xxh64(seed)
+}
+
+/// The XXH64 hash of a value that a strategy feeds.
+pub fn hash_by_strategy<T: Eq, S: HashStrategy<T>>(seed: u64, value: &T) -> u64
+    ensures { result ≡ xxh64 seed (S.fed value.now) }
+{
+    S::xxh64(value, seed)
 }
 
 /// The Murmur pair by which a distinct counter knows an integer key.

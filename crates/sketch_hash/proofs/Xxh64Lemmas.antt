@@ -9,6 +9,7 @@ use Rattle.sketch_base.specs.Bytes.{le, eight}
 use Rattle.sketch_base.proofs.BytesLemmas.{le-low_bytes}
 use Rattle.sketch_hash.specs.Pieces.{pieces, rest, State, absorb}
 use Rattle.sketch_hash.specs.Xxh64.{Lanes, prime5, lanes_start, lanes, merge, steps_of, steps, tail_step, eight_step, four_step, byte_step, avalanche, finalize, xxh64, xxh64_start, xxh64_after, xxh64_answer, Xxh64Stands, each_lane}
+use Rattle.sketch_hash.specs.Xxh64WriteLemmas.{xxh64_stands_after}
 use Rattle.sketch_hash.specs.Words.{IsWord, plus}
 use Rattle.sketch_hash.proofs.LanesLemmas.{fold-seeded}
 use Rattle.sketch_hash.proofs.PiecesLemmas.{pieces_short, rest_short, pieces-first, rest-first}
@@ -91,6 +92,14 @@ xxh64_answer-after seed (b ∷ bytes) =
 pub xxh64_answer-stands : (seed : ℕ) (bytes : List ℕ) (state : State (ℕ × Lanes)) →
     Xxh64Stands state seed bytes → xxh64_answer state ≡ xxh64 seed bytes
 xxh64_answer-stands seed bytes state stands = ap xxh64_answer stands ∙ xxh64_answer-after seed bytes
+
+-- a new hasher that is written to once answers for what was written
+pub of_one_write : (seed : ℕ) (bytes : List ℕ) (start state : State (ℕ × Lanes)) (answer : ℕ) →
+    Xxh64Stands start seed [] → state ≡ xxh64_after start bytes → answer ≡ xxh64_answer state →
+    answer ≡ xxh64 seed bytes
+of_one_write seed bytes start state answer begun written answered =
+    answered ∙ xxh64_answer-stands seed bytes state
+    (xxh64_stands_after start state bytes written seed [] begun)
 
 -- fewer bytes than a stripe start from the seed
 pub of_short : (seed : ℕ) (bytes : List ℕ) → length bytes < 32 →

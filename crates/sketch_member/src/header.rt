@@ -9,7 +9,7 @@ ghost use Rattle.sketch_member.specs.Table.{Inserts, IsIndex, IsMember, IsSet, I
 use crate::bits::{is_set, set, set_all};
 use crate::fault::Fault;
 use crate::limits::{ensure_hashes, ensure_log2_bits};
-use datasketches::hash::{Hash, XxHash64};
+use datasketches::hash::Hash;
 use std::fmt;
 
 /// All of a table but its bits.
@@ -143,9 +143,8 @@ impl Header {
         ensures index { result ≡ index self.now.seed self.now.log2_bits (T.fed value.now) j }
         ensures inside { result < 2 ^ self.now.log2_bits }
     {
-        let mut hasher = XxHash64::with_seed(self.seed.wrapping_add(u64::from(j)));
-        value.hash(&mut hasher);
-        (hasher.finish64() & ((1 << self.log2_bits) - 1)) as usize
+        let seed = self.seed.wrapping_add(u64::from(j));
+        (value.xxh64(seed) & ((1 << self.log2_bits) - 1)) as usize
     }
 }
 

@@ -9,9 +9,10 @@ use crate::items::{
     are_same_items, read_both_ways, skip, there_and_back, write_both_ways, write_if_it_fits,
 };
 use crate::keys::{
-    hash_of_any, hash_of_text, hash_of_value, is_new_key, is_same_key, is_same_word, pair_of,
+    hash_by_strategy, hash_of_any, hash_of_text, hash_of_value, is_new_key, is_same_key,
+    is_same_word, pair_of,
 };
-use crate::own::{BigEndian, Point, Row};
+use crate::own::{BigEndian, BigEndianStrategy, Point, Row};
 use crate::seen::{
     family_of_tables, insert_in_either_order, is_found, is_value_seen, see_key_in, see_saved_key,
     see_value, see_value_in, start_keys,
@@ -229,6 +230,11 @@ fn the_sentence_has_its_hash(rt: HostRuntime) {
     let whole = raw_bytes::from_str("The quick brown fox jumps over the lazy dog");
     let (first, _) = hash_of_the_sentence();
     assert_same(&rt, hash_of_value(0, &whole), FOX_XXH64);
+    assert_same(
+        &rt,
+        hash_by_strategy::<u64, BigEndianStrategy>(5, &7),
+        XxHash64::hash(&7u64.to_be_bytes(), 5),
+    );
     assert_same(&rt, first, calculate_hash(whole));
     assert_same(&rt, usual_hashes(b"fox").0, hash_of_text("fox"));
     assert_same(

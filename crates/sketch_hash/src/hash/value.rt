@@ -13,9 +13,11 @@ ghost use Rattle.std.specs.Prelude.{◌≡◌, ℕ, List, ◌++◌, IsTrue};
 ghost use Rattle.std.specs.List.{flat_map};
 ghost use Rattle.sketch_base.specs.Bytes.{low_bytes, modulo};
 ghost use Rattle.sketch_hash.specs.Murmur.{murmur};
+ghost use Rattle.sketch_hash.specs.Xxh64.{xxh64};
 
 use super::hasher::Hasher;
 use super::murmurhash::MurmurHash3X64128;
+use super::xxhash::XxHash64;
 use std::fmt;
 use std::marker::{Model, PhantomData};
 use std::ops::{Deref, DerefMut};
@@ -27,6 +29,18 @@ pub trait Hash {
     /// Feeds the value's bytes, in one write or several.
     fn hash<H: Hasher>(&self, state: &mut H)
         ensures { state.new ≡ H.after state.old (fed self.now) };
+
+    /// XXH64 of the value's bytes under a seed. A type whose bytes lie in one place can answer it
+    /// by [`XxHash64::hash`], which takes less time than a hasher.
+    #[inline(always)]
+    #[tactic(auto, using(crate::proofs::Xxh64Lemmas::of_one_write))]
+    fn xxh64(&self, seed: u64) -> u64
+        ensures { result ≡ xxh64 seed (fed self.now) }
+    {
+        let mut hasher = XxHash64::with_seed(seed);
+        self.hash(&mut hasher);
+        hasher.finish64()
+    }
 }
 
 /// A way to feed values of the type `T`, under which equal values feed equal bytes.
@@ -36,6 +50,17 @@ pub trait HashStrategy<T: Eq> {
     /// Feeds the value's bytes, in one write or several.
     fn hash<H: Hasher>(value: &T, state: &mut H)
         ensures { state.new ≡ H.after state.old (fed value.now) };
+
+    /// XXH64 of the value's bytes under a seed.
+    #[inline(always)]
+    #[tactic(auto, using(crate::proofs::Xxh64Lemmas::of_one_write))]
+    fn xxh64(value: &T, seed: u64) -> u64
+        ensures { result ≡ xxh64 seed (fed value.now) }
+    {
+        let mut hasher = XxHash64::with_seed(seed);
+        Self::hash(value, &mut hasher);
+        hasher.finish64()
+    }
 
     ghost respects_eq: { (x y : T) → IsTrue (T.eq x y) → fed x ≡ fed y };
 }
@@ -123,6 +148,11 @@ impl<T: Eq, S: HashStrategy<T>> Hash for Value<T, S> {
 
     fn hash<H: Hasher>(&self, state: &mut H) {
         S::hash(&self.value, state);
+    }
+
+    #[inline(always)]
+    fn xxh64(&self, seed: u64) -> u64 {
+        S::xxh64(&self.value, seed)
     }
 }
 

@@ -2,7 +2,8 @@
 
 use super::both::Both;
 use crate::tests::assert_same_for;
-use datasketches::hash::{MurmurHash3X64128, XxHash64};
+use datasketches::hash::value::raw_bytes;
+use datasketches::hash::{Hash, MurmurHash3X64128, XxHash64};
 use std::alloc::AllocError;
 
 const MURMUR_SEED: u64 = 42;
@@ -51,6 +52,8 @@ fn one_call_answers_as_a_hasher(rt: HostRuntime) {
             XxHash64::hash(bytes, XXH64_SEED),
         );
         assert_same_for(&rt, in_one_call, answers(&[bytes]), len);
+        let of_value = raw_bytes::from_slice(bytes).xxh64(XXH64_SEED);
+        assert_same_for(&rt, of_value, in_one_call.1, len);
     }
 }
 

@@ -7,8 +7,8 @@ ghost use Rattle.std.specs.Prelude.{◌≡◌};
 ghost use Rattle.std.specs.String.{string_bytes};
 ghost use Rattle.std.proofs.Common.{rules};
 
-use crate::hash::Hasher;
 use crate::hash::value::{HashStrategy, Value};
+use crate::hash::{Hasher, XxHash64};
 
 /// Bytes or text, fed as they are.
 pub type RawBytes<T> = Value<T, RawBytesStrategy>;
@@ -51,6 +51,11 @@ impl HashStrategy<Vec<u8>> for RawBytesStrategy {
         state.write(value.as_slice());
     }
 
+    #[inline(always)]
+    fn xxh64(value: &Vec<u8>, seed: u64) -> u64 {
+        XxHash64::hash(value.as_slice(), seed)
+    }
+
     ghost respects_eq = { Prim.search rules };
 }
 
@@ -59,6 +64,11 @@ impl HashStrategy<&[u8]> for RawBytesStrategy {
 
     fn hash<H: Hasher>(value: &&[u8], state: &mut H) {
         state.write(value);
+    }
+
+    #[inline(always)]
+    fn xxh64(value: &&[u8], seed: u64) -> u64 {
+        XxHash64::hash(value, seed)
     }
 
     ghost respects_eq = { Prim.search rules };
@@ -71,6 +81,11 @@ impl HashStrategy<String> for RawBytesStrategy {
         state.write(value.as_bytes());
     }
 
+    #[inline(always)]
+    fn xxh64(value: &String, seed: u64) -> u64 {
+        XxHash64::hash(value.as_bytes(), seed)
+    }
+
     ghost respects_eq = { Prim.search rules };
 }
 
@@ -79,6 +94,11 @@ impl HashStrategy<&str> for RawBytesStrategy {
 
     fn hash<H: Hasher>(value: &&str, state: &mut H) {
         state.write(value.as_bytes());
+    }
+
+    #[inline(always)]
+    fn xxh64(value: &&str, seed: u64) -> u64 {
+        XxHash64::hash(value.as_bytes(), seed)
     }
 
     ghost respects_eq = { Prim.search rules };
