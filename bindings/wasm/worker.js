@@ -45,24 +45,21 @@ function begun(seed) {
     };
 }
 
+// A stop is told at once. A file that is being read then ends unseen, at its next piece.
 function stop(id) {
     const at = waiting.findIndex((job) => job.id === id);
-    if (at >= 0) {
-        waiting.splice(at, 1);
-        postMessage({ id, stopped: true });
-    } else if (running.has(id)) {
-        running.get(id).isStopped = true;
-    }
+    if (at >= 0) waiting.splice(at, 1);
+    else if (running.has(id)) running.get(id).isStopped = true;
+    else return;
+    postMessage({ id, stopped: true });
 }
 
 function next() {
     while (loaded && waiting.length > 0 && running.size < AT_ONCE) {
         const job = waiting.shift();
+        const tell = (answer) => job.isStopped || postMessage({ id: job.id, ...answer });
         running.set(job.id, job);
-        hashFile(job).then(
-            (answer) => postMessage({ id: job.id, ...answer }),
-            (error) => postMessage({ id: job.id, fault: error.message || String(error) }),
-        ).finally(() => {
+        hashFile(job).then(tell, (error) => tell({ fault: error.message || String(error) })).finally(() => {
             running.delete(job.id);
             next();
         });
@@ -73,7 +70,7 @@ async function hashFile(job) {
     const hashers = begun(job.seed);
     let [done, told] = [0, 0];
     for await (const piece of pieces(job.file)) {
-        if (job.isStopped) return { stopped: true };
+        if (job.isStopped) return {};
         hashers.update(piece);
         done += piece.length;
         if (performance.now() > told + 100) {

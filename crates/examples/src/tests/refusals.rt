@@ -9,8 +9,8 @@ use crate::refusals::{
     wrong_family, wrong_longs,
 };
 use crate::seen::{
-    count_saved, insert_in, is_saved, load_again, other_length, other_longs, other_sizes,
-    see_keys_twice,
+    count_saved, insert_in, is_saved, load_again, other_length, other_longs, other_size,
+    other_sizes, see_keys_twice,
 };
 use datasketches::codec::{Short, Stopped};
 use datasketches::error::{Error, ErrorKind};
@@ -106,6 +106,8 @@ fn bytes_of_a_table_are_made_twice(rt: HostRuntime) -> Result<(), Fail> {
     let missing = Fault::MissingBits { need: 128, have: 6 };
     assert_same(&rt, other_length(&bytes[..30]), Some(missing));
     assert_same(&rt, other_longs(&[4]), Some(Fault::PreambleLongs(4)));
+    let fault = other_size(&[3, 2, 200, 5, 7]);
+    assert_same(&rt, fault, Some(Fault::Log2Bits(5)));
     let fault = other_sizes(&mut bytes, 0, 21, 7);
     assert_same(&rt, fault, Some(Fault::Log2Bits(21)));
     Ok(())

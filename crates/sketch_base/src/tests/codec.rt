@@ -360,7 +360,7 @@ fn first_item(kind: Kind, bytes: &[u8]) -> Option<Item> {
     Some(places[0])
 }
 
-// The item of a kind, by the read of its own name: the kind's bytes say which.
+// The item of a kind, by the read that is named for the kind.
 fn read_by_name(reader: &mut SketchSlice, kind: Kind) -> io::Result<Item>
     ensures { Reads (width kind) (unspell kind) reader.old result reader.new }
 {

@@ -160,7 +160,7 @@ fn accepted_seeds_take_no_memory(rt: HostRuntime) {
             ("theta", kind),
             ("", ErrorKind::InvalidData),
             ("hll", ErrorKind::OutOfMemory),
-            ("a sketch with a name of forty-one letters", kind),
+            ("a sketch with a name far longer than others", kind),
         ] {
             assert!(rt;
                 check_seed_hash(alloc, hash, hash, name, kind).is_ok(),

@@ -317,7 +317,7 @@ fn accepting_checks_take_no_memory(rt: HostRuntime) {
         let (expected, _) = alike.split_at(count);
         assert_accepted(&rt, ensure_preamble_longs_in(alloc, expected, 7), count);
     }
-    for name in ["OTHER", "", "A FAMILY WITH A NAME OF THIRTY-NINE LETTERS"] {
+    for name in ["OTHER", "", "A FAMILY WITH A NAME FAR LONGER THAN OTHERS"] {
         for id in 0..=255 {
             let family = Family {
                 id,
