@@ -1,7 +1,8 @@
 -- The lanes as the code holds them follow the lanes of the definition.
-use Rattle.std.proofs.Common.{◌≡◌, ℕ, List, [], ◌∷◌, ◌++◌, length, refl, sym, ap, ◌∙◌, arith}
+use Rattle.std.proofs.Common.{◌≡◌, ℕ, List, [], ◌∷◌, ◌++◌, length, take, drop, refl, sym, ap, ◌∙◌, arith}
 use Rattle.std.specs.List.{fold}
 use Rattle.std.specs.Simd.Lanes.{zip2}
+use Rattle.std.proofs.lemmas.List.{take-append-drop}
 use Rattle.std.proofs.lemmas.List.Sums.{fold-append}
 use Rattle.sketch_hash.specs.Xxh64.{Lanes, round, stripe_step, seeded_step, each_lane}
 use Rattle.sketch_hash.specs.Lanes.{lanes_of, stripe_words}
@@ -25,6 +26,17 @@ pub each_lane-more : (v : Lanes) (stripes : List (List ℕ)) (s : List ℕ) →
 each_lane-more v stripes s =
     ap (λ v. stripe_step v s) (sym (fold-each_lane stripes v))
     ∙ sym (fold-append stripe_step v stripes (s ∷ [])) ∙ fold-each_lane (stripes ++ s ∷ []) v
+
+-- first some stripes, and then the others
+pub in_parts : (v : Lanes) (n : ℕ) (stripes : List (List ℕ)) →
+    each_lane (each_lane v (take n stripes)) (drop n stripes) ≡ each_lane v stripes
+in_parts v n stripes =
+    let first = take n stripes in
+    let others = drop n stripes in
+    ap (λ w. each_lane w others) (sym (fold-each_lane first v))
+    ∙ sym (fold-each_lane others (fold stripe_step v first))
+    ∙ sym (fold-append stripe_step v first others)
+    ∙ ap (fold stripe_step v) (take-append-drop n stripes) ∙ fold-each_lane stripes v
 
 -- a list of four lanes and the words of a stripe, one by one
 pub lanes_of-stripe_round : (v : List ℕ) (stripe : List ℕ) → length v ≡ 4 →

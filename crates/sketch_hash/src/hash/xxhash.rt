@@ -27,6 +27,8 @@ use std::simd::prelude::*;
 // How many bytes a stripe has.
 const STRIPE: usize = 32;
 
+const TWO_STRIPES: usize = 2 * STRIPE;
+
 /// XXH64: a fast hash of 64 bits for data that no adversary chooses.
 ///
 /// The number of bytes is counted modulo 2^64, and the count chooses between the forms of the hash
@@ -92,7 +94,8 @@ impl XxHash64 {
         match bytes.len() {
             ..16 => avalanche(fold_below_16(hash, bytes)),
             ..STRIPE => avalanche(fold_from_16(hash, bytes)),
-            _ => hash_long(bytes, seed),
+            ..TWO_STRIPES => hash_one_stripe(bytes, seed),
+            _ => hash_stripes(bytes, seed),
         }
     }
 
@@ -284,18 +287,34 @@ pub(super) fn hash_one_of_many(bytes: &[u8], seed: u64) -> u64
     avalanche(fold_tail(hash, last))
 }
 
-// The hash of 32 bytes and more. It is a call of its own, so that it costs short keys nothing.
+// The hash of 32 to 63 bytes. It is a call of its own, so that it costs short keys nothing. LLVM
+// knows here that there is one stripe, and makes no loop.
 #[inline(never)]
 #[tactic(auto, using(crate::proofs::Xxh64Lemmas::of_long))]
-fn hash_long(bytes: &[u8], seed: u64) -> u64
-    requires { 32 ≤ length bytes.now }
+fn hash_one_stripe(bytes: &[u8], seed: u64) -> u64
+    requires low { 32 ≤ length bytes.now }
+    requires high { length bytes.now < 64 }
     ensures { result ≡ xxh64 seed bytes.now }
 {
     let (stripes, last) = split_pieces::<STRIPE>(bytes);
-    mix_rest(
-        merge_stripes(stripes, seed).wrapping_add(bytes.len() as u64),
-        last,
-    )
+    let hash = merge_stripes(stripes, seed).wrapping_add(bytes.len() as u64);
+    mix_rest(hash, last)
+}
+
+// The hash of 64 bytes and more. The first stripe stands before the loop over the others: after a
+// loop that each key enters, LLVM would keep each lane twice.
+#[inline(never)]
+#[tactic(auto, using(crate::proofs::Xxh64Lemmas::of_long, crate::proofs::LanesLemmas::in_parts))]
+fn hash_stripes(bytes: &[u8], seed: u64) -> u64
+    requires { 64 ≤ length bytes.now }
+    ensures { result ≡ xxh64 seed bytes.now }
+{
+    let (stripes, last) = split_pieces::<STRIPE>(bytes);
+    let (first, others) = stripes.split_at(stripes.len().min(1));
+    let mut lanes = ScalarLanes::start(seed);
+    fold_stripes(&mut lanes, first);
+    fold_stripes(&mut lanes, others);
+    mix_rest(merge(lanes).wrapping_add(bytes.len() as u64), last)
 }
 
 // Mixes in the tail, which is empty after whole stripes, and finishes.
