@@ -77,3 +77,8 @@ plus-lt x y = omega arith
 
 pub times-lt : (x y : ℕ) → IsWord (times x y)
 times-lt x y = mod_below (x * y) (2 ^ 64) (omega arith)
+
+-- a part of a sum that is taken five times can be added at the end, five times as large
+pub five_times : (r x a b : ℕ) →
+    plus (times (plus r x) 5) (5 * a + b) ≡ plus (times (plus r (plus x a)) 5) b
+five_times r x a b = omega arith

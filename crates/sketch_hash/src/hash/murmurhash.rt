@@ -225,19 +225,19 @@ fn block_word(bytes: &[u8]) -> u64
 }
 
 // The pair after one block of the words `k1` and `k2`.
+//
+// The second word is made from the first one. It takes the constant of that one at the end, five
+// times as large, and so does not wait for that sum.
 #[inline(always)]
 fn step(h1: u64, h2: u64, k1: u64, k2: u64) -> (u64, u64)
     ensures { result ≡ step (h1, h2) (k1, k2) }
 {
-    let h1 = rotate::<27>(h1 ^ mix1(k1))
-        .wrapping_add(h2)
-        .wrapping_mul(5)
-        .wrapping_add(0x52dc_e729);
+    let before = rotate::<27>(h1 ^ mix1(k1)).wrapping_add(h2).wrapping_mul(5);
     let h2 = rotate::<31>(h2 ^ mix2(k2))
-        .wrapping_add(h1)
+        .wrapping_add(before)
         .wrapping_mul(5)
-        .wrapping_add(0x3849_5ab5);
-    (h1, h2)
+        .wrapping_add(5 * 0x52dc_e729 + 0x3849_5ab5);
+    (before.wrapping_add(0x52dc_e729), h2)
 }
 
 // The pair after blocks.
