@@ -8,7 +8,7 @@ import numpy
 import peers
 import pytest
 import xxhash
-from sketch_hash import murmur3_x64_128_each, xxh64_each
+from sketch_hash import MemberTable, murmur3_x64_128_each, xxh64_each
 
 KEYS = [random.Random(7).randbytes(length % 101) for length in range(1000)]
 DATA = b"".join(KEYS)
@@ -77,6 +77,23 @@ def test_each_name_of_a_width():
         assert xxh64_each((DATA, offsets)).tolist() == expected(KEYS[500:600], 0)
         if offsets.itemsize == 8:
             assert xxh64_each(offsets).tolist() == xxh64_each(array.array("Q", some)).tolist()
+
+
+def test_columns_of_many_keys():
+    """More than 2**20, each of which is hashed and found."""
+    count = (1 << 20) + 5
+    data, numbers, places = bytes(count - 1) + b"-", numpy.arange(count, dtype="u8"), (0, 1 << 16, 1 << 20, count - 1)
+    table = MemberTable(20, 1)
+    table.insert(b"-")
+    for kind in ("u4", "u8"):
+        keys = data, numpy.arange(count + 1, dtype=kind)
+        ours, pairs = xxh64_each(keys), murmur3_x64_128_each(keys)
+        for at in places:
+            assert ours[at] == xxhash.xxh64_intdigest(data[at : at + 1])
+            assert pairs[2 * at] << 64 | pairs[2 * at + 1] == peers.murmur3_x64_128(data[at : at + 1], 0)
+        assert table.contains_each(keys).tolist() == [False] * (count - 1) + [True]
+    ours = xxh64_each(numbers)
+    assert [ours[at] for at in places] == expected([numbers[at].tobytes() for at in places], 0)
 
 
 def test_columns_of_no_keys():

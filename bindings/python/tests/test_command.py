@@ -130,6 +130,16 @@ def test_an_interrupt_ends_it_without_a_word():
         assert process.returncode == status
 
 
+def test_streams_that_are_closed():
+    for words, answer in [
+        ("fox 2>&-", (0, XXH64 + b"  fox\n", b"")),
+        ("fox >&-", (1, b"", b"sketch_hash: standard output: Bad file descriptor\n")),
+        ("missing 2>&-", (1, b"", b"")),
+    ]:
+        done = subprocess.run(f"exec {sys.executable} -m sketch_hash {words}", shell=True, capture_output=True)
+        assert (done.returncode, done.stdout, done.stderr) == answer
+
+
 def test_an_output_that_nobody_reads():
     here, there = os.pipe()
     os.close(here)
@@ -161,6 +171,7 @@ def test_names_are_printed_as_sha256sum_does():
 
 def test_seeds():
     assert run("--seed", "0x10", "fox") == run("--seed", "16", "fox") == run("-s", "16", "fox")
+    assert run("-s", "0b10000", "fox") == run("-s", "1_6", "fox") == run("-s", "16", "fox")
     assert run("--seed", "18446744073709551615", "fox")[1] != run("fox")[1]
     for seed in ("18446744073709551616", "-1", "many", "1.5"):
         status, output, complaint = run("--seed", seed, "fox")
@@ -173,7 +184,7 @@ def test_a_file_that_cannot_be_read():
     assert complaint == (
         b"sketch_hash: missing: No such file or directory\nsketch_hash: .: Is a directory\n"
     )
-    assert run("missing", "fox")[0] == run(".", "fox")[0] == 1
+    assert run("missing", "fox")[0] == run(".", "fox")[0] == run(*["missing"] * 256)[0] == 1
 
 
 @pytest.mark.parametrize("algorithm", ["xxh64", "murmur3_x64_128"])

@@ -387,6 +387,9 @@ def test_two_tables_make_a_third():
     assert both.to_bytes() == filled().to_bytes()
     assert one.to_bytes() == filled(keys=KEYS[:20]).to_bytes()
     assert two.to_bytes() == filled(keys=KEYS[20:]).to_bytes()
+    twice = one | one
+    assert twice is not one and twice.to_bytes() == model(10, 3, KEYS[:20], 40)
+    assert one.to_bytes() == filled(keys=KEYS[:20]).to_bytes()
     both.insert(b"another")
     assert (one | two).to_bytes() == filled().to_bytes()
     with pytest.raises(ValueError, match="^the tables have different seeds$"):

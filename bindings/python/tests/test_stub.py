@@ -32,6 +32,13 @@ def takes_the_same(stub, call):
     return True
 
 
+def is_of_its_kind(stub, call):
+    """Whether a stub is a property, or a call of the class, where that is one."""
+    kinds = {"property": property, "classmethod": classmethod}
+    marks = [word.id for word in stub.decorator_list]
+    return marks == [name for name, kind in kinds.items() if isinstance(call, kind)]
+
+
 def test_the_stubs_fit_the_module():
     folder = os.path.dirname(sketch_hash.__file__)
     assert os.path.exists(os.path.join(folder, "py.typed"))
@@ -42,17 +49,21 @@ def test_the_stubs_fit_the_module():
     for name, it in named.items():
         if isinstance(it, ast.FunctionDef):
             assert takes_the_same(it, getattr(sketch_hash, name))
+        else:
+            bases = getattr(sketch_hash, name).__bases__
+            assert [base.id for base in it.bases] == [base.__name__ for base in bases if base is not object]
     for it in named["_Hash"].body:
         word = it.name if isinstance(it, ast.FunctionDef) else it.target.id
         for kind in (sketch_hash.xxh64, sketch_hash.murmur3_x64_128):
             call = inspect.getattr_static(kind, word)
             if isinstance(it, ast.FunctionDef):
-                assert takes_the_same(it, getattr(call, "fget", call))
+                assert takes_the_same(it, getattr(call, "fget", call)) and is_of_its_kind(it, call)
     stub = {it.name: it for it in named["MemberTable"].body}
     public = {word for word in vars(sketch_hash.MemberTable) if not word.startswith("_")}
     assert {*stub} == {*public, "__init__", "__contains__", "__eq__", "__ior__", "__or__"}
     for word, it in stub.items():
         call = inspect.getattr_static(sketch_hash.MemberTable, word)
+        assert is_of_its_kind(it, call)
         call = getattr(call, "fget", getattr(call, "__func__", call))
         assert takes_the_same(it, call)
 

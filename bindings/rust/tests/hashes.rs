@@ -256,6 +256,9 @@ fn copies_go_their_own_ways() {
     let mut few = Xxh64::new(5);
     few.update(b"fox");
     assert_eq!(format!("{few:?}"), "Xxh64 { seed: 5, length: 3 }");
+    let mut other = Xxh64::new(6);
+    other.clone_from(&few);
+    assert_eq!((other.digest(), format!("{other:?}")), (few.digest(), format!("{few:?}")));
     let again = Xxh64::from_bytes(&few.to_bytes());
     assert_eq!(format!("{again:?}"), "Xxh64 { seed: 5, length: 3 }");
 }

@@ -42,6 +42,7 @@ assert.equal(m.digest(), 0xd7dc1f3ffb35a07a5dcc3f369c04fb0en);
 assert.equal(y.reset(7n).update(fox).digest(), xxh64(fox, 7n));
 assert.equal(y.seed, 7n);
 assert.equal(y.copy().reset().update(fox).digest(), xxh64(fox, 7n));
+assert.equal(y.copy().reset(0n).update(fox).digest(), xxh64(fox));
 // A refused call leaves the stream, its seed and its input.
 for (const refused of [() => y.reset(-1n), () => y.reset(last + 1n), () => y.reset(1), () => y.update('fox')]) {
     assert.throws(refused, /is a BigInt|is from 0n|encode a string/);

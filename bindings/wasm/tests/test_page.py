@@ -173,6 +173,15 @@ def test_forty_files_at_once(page, files):
         page.wait(lambda: page.hashes(name) == hashes(data, 7))
 
 
+def test_three_hundred_files(page, files):
+    """Each has hashes of its own."""
+    contents = {f"file{n}": b"%d" % n for n in range(300)}
+    page.choose(*files(**contents))
+    script = "return [...document.querySelectorAll('tbody tr')].map((it) => [it.dataset.name, it.querySelector('.xxh64').textContent])"
+    page.wait(lambda: all(hash for _, hash in page.chromium.execute_script(script)))
+    assert dict(page.chromium.execute_script(script)) == {name: hashes(data)[0] for name, data in contents.items()}
+
+
 def test_seeds(page, files):
     page.choose(*files(fox=FOX))
     page.wait_for("fox", "done")

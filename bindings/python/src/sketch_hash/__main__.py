@@ -72,7 +72,7 @@ class Bar:
     def __init__(self, name, size):
         self.name, self.size, self.done = name, size, 0
         self.is_drawn = False
-        self.next = time.monotonic() + 0.5 if sys.stderr.isatty() else float("inf")
+        self.next = time.monotonic() + 0.5 if sys.stderr and sys.stderr.isatty() else float("inf")
 
     def __enter__(self):
         return self
@@ -156,11 +156,15 @@ def check(lists, seed, is_quiet):
 
 
 def say(text):
+    if not sys.stdout:
+        raise OSError(errno.EBADF, os.strerror(errno.EBADF))
     sys.stdout.buffer.write(os.fsencode(text) + b"\n")
     sys.stdout.flush()
 
 
 def complain(text):
+    if not sys.stderr:
+        return
     sys.stderr.buffer.write(b"sketch_hash: " + os.fsencode(text) + b"\n")
     sys.stderr.flush()
 
