@@ -147,6 +147,7 @@ DERIVED = ("Clone", "Copy", "Debug", "Default", "Drop", "Eq", "Hash", "Ord", "Pa
 BY_HAND = {
     ("Debug", "Error"), ("Debug", "MurmurHash3X64128"), ("Debug", "Value<T, S>"), ("Debug", "XxHash64"),
     ("Default", "MurmurHash3X64128"), ("Default", "XxHash64"), ("Hash", "Point"), ("Hash", "Value<T, S>"),
+    ("Hash", "Word"),
 }
 IMPLEMENTATIONS = re.compile(
     r"^ *((?:unsafe )?impl\b[^{]*?(\w+)(?:<[^{]*>)? for ([^{]+?)(?:\s+where\b[^{]*)?\s*\{)", re.M

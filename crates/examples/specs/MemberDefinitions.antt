@@ -79,21 +79,59 @@ pub record Forms : Type 0 where
   pub IsForm : (table : Table) (b : List ℕ) → forms.IsForm table b
       ↔ (((table.count ≡ None) × (b ≡ forms.form1 table)) ⊎ (b ≡ forms.form2 table))
 
--- how many bytes steps need, and the faults that they tell of
-abbrev pub needs_of : List Step → List ℕ
-needs_of [] = []
-needs_of (step ∷ list) = step.needs ∷ needs_of list
+-- what has to hold of the first three bytes, of the two sizes, and of the number of bytes after the
+-- header
+abbrev pub kind_list : List ℕ → List Step
+kind_list b =
+    record {
+      needs = 1;
+      Holds = Contains (2 ∷ 3 ∷ []) (slice_index b 0);
+      fault = fault.PreambleLongs (slice_index b 0);
+    }
+    ∷ record {
+      needs = 2;
+      Holds = slice_index b 1 ≡ slice_index b 0 - 1;
+      fault = fault.SerialVersion (slice_index b 0 - 1) (slice_index b 1);
+    }
+    ∷ record {
+      needs = 3;
+      Holds = slice_index b 2 ≡ 200;
+      fault = fault.Family (slice_index b 2);
+    }
+    ∷ []
 
-abbrev pub faults_of : List Step → List Fault
-faults_of [] = []
-faults_of (step ∷ list) = step.fault ∷ faults_of list
+abbrev pub size_list : ℕ → ℕ → ℕ → ℕ → List Step
+size_list before last log2_bits hashes =
+    record {
+      needs = before;
+      Holds = (6 ≤ log2_bits) × (log2_bits ≤ 20);
+      fault = fault.Log2Bits log2_bits;
+    }
+    ∷ record { needs = last; Holds = (1 ≤ hashes) × (hashes ≤ 16); fault = fault.Hashes hashes }
+    ∷ []
+
+abbrev pub bits_list : ℕ → ℕ → ℕ → List Step
+bits_list start need have =
+    record { needs = start; Holds = need ≤ have; fault = fault.MissingBits need have }
+    ∷ record { needs = start; Holds = have ≤ need; fault = fault.TrailingBytes (have - need) }
+    ∷ []
+
+abbrev pub whole_list : List ℕ → List Step
+whole_list b = faults.header_steps b
+    ++ faults.bits_steps b (8 * slice_index b 0) (2 ^ slice_index b 3 / 8)
+
+abbrev pub init_list : ℕ → ℕ → List ℕ → List Step
+init_list log2_bits hashes b =
+    size_list 0 0 log2_bits hashes ++ faults.bits_steps b 24 (2 ^ log2_bits / 8)
 
 -- steps whose conditions are that two numbers are equal, any number of them
 abbrev pub steps_of : List (ℕ × ℕ × ℕ × Fault) → List Step
 steps_of [] = []
 steps_of (s ∷ list) = record { needs = s.0; Holds = s.1 ≡ s.2; fault = s.3 } ∷ steps_of list
 
--- What has to hold is what the passing of a step says.
+-- What has to hold is what the passing of a step says. Two lists of steps are alike where the same
+-- bytes pass them, and where they tell the same fault first: so no step is weaker, even where a
+-- later one makes up for it.
 pub record Faults : Type 0 where
   pub fault_text : (m n : ℕ) → map faults.fault_text
       (fault.HeaderEnds ∷ fault.PreambleLongs n ∷ fault.SerialVersion m n ∷ fault.Family n
@@ -138,23 +176,16 @@ pub record Faults : Type 0 where
   pub header_length : (b : List ℕ) → faults.header_length b ≡ 8 * slice_index b 0
   pub count_number : (b : List ℕ) → faults.count_number b
       ≡ le (take (8 * slice_index b 0 - 16) (drop 16 b))
-  pub kind_steps : (count : ℕ) (b : List ℕ) →
-      (faults.AllPass count (faults.kind_steps b)
-      ↔ (((1 ≤ count) × Contains (2 ∷ 3 ∷ []) (slice_index b 0))
-      × (((2 ≤ count) × (slice_index b 1 ≡ slice_index b 0 - 1))
-      × (((3 ≤ count) × (slice_index b 2 ≡ 200)) × Unit {0}))))
-      × (faults_of (faults.kind_steps b)
-      ≡ fault.PreambleLongs (slice_index b 0)
-      ∷ fault.SerialVersion (slice_index b 0 - 1) (slice_index b 1)
-      ∷ fault.Family (slice_index b 2) ∷ [])
-      × (needs_of (faults.kind_steps b) ≡ 1 ∷ 2 ∷ 3 ∷ [])
-  pub size_steps : (count : ℕ) (b : List ℕ) →
-      (faults.AllPass count (faults.size_steps b)
-      ↔ (((4 ≤ count) × limits.IsLog2Bits (slice_index b 3))
-      × (((5 ≤ count) × limits.IsHashes (slice_index b 4)) × Unit {0})))
-      × (faults_of (faults.size_steps b)
-      ≡ fault.Log2Bits (slice_index b 3) ∷ fault.Hashes (slice_index b 4) ∷ [])
-      × (needs_of (faults.size_steps b) ≡ 4 ∷ 5 ∷ [])
+  pub kind_steps : (count : ℕ) (b : List ℕ) (told : Fault) →
+      (faults.AllPass count (faults.kind_steps b) ↔ faults.AllPass count
+      (kind_list b))
+      × (faults.IsFirstFault count (faults.kind_steps b) told ↔ faults.IsFirstFault count
+      (kind_list b) told)
+  pub size_steps : (count : ℕ) (b : List ℕ) (told : Fault) →
+      (faults.AllPass count (faults.size_steps b) ↔ faults.AllPass count
+      (size_list 4 5 (slice_index b 3) (slice_index b 4)))
+      × (faults.IsFirstFault count (faults.size_steps b) told ↔ faults.IsFirstFault count
+      (size_list 4 5 (slice_index b 3) (slice_index b 4)) told)
   pub IsFlag : (longs flag : ℕ) → faults.IsFlag longs flag
       ↔ ((flag ≡ 0) ⊎ ((longs ≡ 3) × (flag ≡ 1)))
   pub flag_step : (count : ℕ) (b : List ℕ) →
@@ -170,51 +201,39 @@ pub record Faults : Type 0 where
       × (slice_index b 5 ≡ 0 → faults.count_number b ≡ 0)))
       × ((faults.count_step b).fault ≡ fault.UnknownCount)
       × ((faults.count_step b).needs ≡ 8 * slice_index b 0)
-  pub number_steps : (count : ℕ) (b : List ℕ) →
-      (faults.AllPass count (faults.number_steps b)
-      ↔ faults.AllPass count (faults.flag_step b ∷ faults.seed_step ∷ faults.count_step b ∷ []))
-      × (faults_of (faults.number_steps b)
-      ≡ fault.Reserved ∷ fault.HeaderEnds ∷ fault.UnknownCount ∷ [])
-      × (needs_of (faults.number_steps b) ≡ 8 ∷ 16 ∷ 8 * slice_index b 0 ∷ [])
-  pub header_steps : (count : ℕ) (b : List ℕ) →
+  pub number_steps : (count : ℕ) (b : List ℕ) (told : Fault) →
+      (faults.AllPass count (faults.number_steps b) ↔ faults.AllPass count
+      (faults.flag_step b ∷ faults.seed_step ∷ faults.count_step b ∷ []))
+      × (faults.IsFirstFault count (faults.number_steps b) told ↔ faults.IsFirstFault count
+      (faults.flag_step b ∷ faults.seed_step ∷ faults.count_step b ∷ []) told)
+  pub header_steps : (count : ℕ) (b : List ℕ) (told : Fault) →
       (faults.AllPass count (faults.header_steps b) ↔ faults.AllPass count
       (faults.kind_steps b ++ (faults.size_steps b ++ faults.number_steps b)))
-      × (faults_of (faults.header_steps b) ≡ faults_of (faults.kind_steps b)
-      ++ (faults_of (faults.size_steps b) ++ faults_of (faults.number_steps b)))
-      × (needs_of (faults.header_steps b)
-      ≡ 1 ∷ 2 ∷ 3 ∷ 4 ∷ 5 ∷ 8 ∷ 16 ∷ 8 * slice_index b 0 ∷ [])
-  pub bits_steps : (count start need : ℕ) (b : List ℕ) →
+      × (faults.IsFirstFault count (faults.header_steps b) told ↔ faults.IsFirstFault count
+      (faults.kind_steps b ++ (faults.size_steps b ++ faults.number_steps b)) told)
+  pub bits_steps : (count start need : ℕ) (b : List ℕ) (told : Fault) →
       (faults.AllPass count (faults.bits_steps b start need)
-      ↔ (((start ≤ count) × (need ≤ length b - start))
-      × (((start ≤ count) × (length b - start ≤ need)) × Unit {0})))
-      × (faults_of (faults.bits_steps b start need)
-      ≡ fault.MissingBits need (length b - start)
-      ∷ fault.TrailingBytes (length b - start - need) ∷ [])
-      × (needs_of (faults.bits_steps b start need) ≡ start ∷ start ∷ [])
-  pub steps : (count : ℕ) (b : List ℕ) →
-      (faults.AllPass count (faults.steps b) ↔ faults.AllPass count (faults.header_steps b
-      ++ faults.bits_steps b (8 * slice_index b 0) (2 ^ slice_index b 3 / 8)))
-      × (faults_of (faults.steps b) ≡ faults_of (faults.header_steps b)
-      ++ faults_of (faults.bits_steps b (8 * slice_index b 0) (2 ^ slice_index b 3 / 8)))
-      × (needs_of (faults.steps b) ≡ 1 ∷ 2 ∷ 3 ∷ 4 ∷ 5 ∷ 8 ∷ 16
-      ∷ 8 * slice_index b 0 ∷ 8 * slice_index b 0 ∷ 8 * slice_index b 0 ∷ [])
+      ↔ faults.AllPass count (bits_list start need (length b - start)))
+      × (faults.IsFirstFault count (faults.bits_steps b start need) told
+      ↔ faults.IsFirstFault count (bits_list start need (length b - start)) told)
+  pub steps : (count : ℕ) (b : List ℕ) (told : Fault) →
+      (faults.AllPass count (faults.steps b) ↔ faults.AllPass count (whole_list b))
+      × (faults.IsFirstFault count (faults.steps b) told
+      ↔ faults.IsFirstFault count (whole_list b) told)
   pub version_step : (count : ℕ) (b : List ℕ) →
       (faults.Passes count (faults.version_step b)
       ↔ ((1 ≤ count) × (slice_index b 0 ≡ 3)))
       × ((faults.version_step b).fault ≡ fault.Version1) × ((faults.version_step b).needs ≡ 1)
-  pub view_steps : (count : ℕ) (b : List ℕ) →
-      (faults.AllPass count (faults.view_steps b)
-      ↔ faults.AllPass count (faults.steps b ++ faults.version_step b ∷ []))
-      × (faults_of (faults.view_steps b) ≡ faults_of (faults.steps b) ++ fault.Version1 ∷ [])
-      × (needs_of (faults.view_steps b) ≡ needs_of (faults.steps b) ++ 1 ∷ [])
-  pub init_steps : (count log2_bits hashes : ℕ) (b : List ℕ) →
+  pub view_steps : (count : ℕ) (b : List ℕ) (told : Fault) →
+      (faults.AllPass count (faults.view_steps b) ↔ faults.AllPass count
+      (faults.steps b ++ faults.version_step b ∷ []))
+      × (faults.IsFirstFault count (faults.view_steps b) told ↔ faults.IsFirstFault count
+      (faults.steps b ++ faults.version_step b ∷ []) told)
+  pub init_steps : (count log2_bits hashes : ℕ) (b : List ℕ) (told : Fault) →
       (faults.AllPass count (faults.init_steps log2_bits hashes b)
-      ↔ (((0 ≤ count) × limits.IsLog2Bits log2_bits) × (((0 ≤ count) × limits.IsHashes hashes)
-      × faults.AllPass count (faults.bits_steps b 24 (2 ^ log2_bits / 8)))))
-      × (faults_of (faults.init_steps log2_bits hashes b)
-      ≡ fault.Log2Bits log2_bits ∷ fault.Hashes hashes
-      ∷ faults_of (faults.bits_steps b 24 (2 ^ log2_bits / 8)))
-      × (needs_of (faults.init_steps log2_bits hashes b) ≡ 0 ∷ 0 ∷ 24 ∷ 24 ∷ [])
+      ↔ faults.AllPass count (init_list log2_bits hashes b))
+      × (faults.IsFirstFault count (faults.init_steps log2_bits hashes b) told
+      ↔ faults.IsFirstFault count (init_list log2_bits hashes b) told)
 
 pub record Places : Type 0 where
   pub Becomes : (fed old new : List ℕ) → places.Becomes (tables.Inserts fed) old new

@@ -4,9 +4,11 @@ ghost use Rattle.std.specs.Prelude.{◌≡◌, ◌↔◌, ◌⊎◌, ℕ, List, 
 ghost use Rattle.std.specs.IoError.{error_kind};
 ghost use Rattle.std.specs.List.{All};
 ghost use Rattle.std.specs.declared.io.ErrorKind.TheVariants.{UnexpectedEof};
-ghost use Rattle.datasketches.specs.Bytes.{AreBytes};
+ghost use Rattle.datasketches.specs.Bytes.{AreBytes, le, low_bytes};
 ghost use Rattle.datasketches.specs.ItemLaws.{Holds};
 ghost use Rattle.datasketches.specs.Items.{InType, item_kind, spell, spell_all, unspell, unspell_all, width, widths};
+ghost use Rattle.datasketches.specs.Reading.{Reads};
+ghost use Rattle.datasketches.specs.Writing.{Writes};
 
 use datasketches::codec::{Item, Kind, Short, SketchBytes, SketchSlice, Stopped};
 use datasketches::laws;
@@ -164,6 +166,28 @@ pub fn read_both_ways(reader: &mut SketchSlice) -> io::Result<(u32, u32)>
 {
     let first = reader.read_u32_be()?;
     Ok((first, reader.read_u32_le()?))
+}
+
+/// Reads a number of 16 bits, the lowest byte first.
+///
+/// # Errors
+///
+/// Where fewer than two bytes remain: `UnexpectedEof`. Nothing remains then.
+pub fn read_short(reader: &mut SketchSlice) -> io::Result<u16>
+    ensures { Reads 2 le reader.old result reader.new }
+{
+    reader.read_u16_le()
+}
+
+/// Writes a number of 16 bits, the lowest byte first.
+///
+/// # Errors
+///
+/// Where memory runs out. The bytes are then as they were.
+pub fn write_short(writer: &mut SketchBytes, n: u16) -> Result<(), AllocError>
+    ensures { Writes (low_bytes 2 n) writer.old result writer.new }
+{
+    writer.write_u16_le(n)
 }
 
 /// Fills a buffer from a reader. The bytes after those remain.

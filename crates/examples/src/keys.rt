@@ -10,9 +10,9 @@ ghost use Rattle.datasketches.specs.Xxh64.{xxh64};
 
 use datasketches::hash::value::natural_extend::NaturalExtend;
 use datasketches::hash::value::{
-    HashStrategy, calculate_hash, natural_extend, raw_bytes, sign_extend,
+    HashStrategy, Value, calculate_hash, natural_extend, raw_bytes, sign_extend,
 };
-use datasketches::hash::{Hash, MurmurHash3X64128};
+use datasketches::hash::{Hash, Hasher, MurmurHash3X64128};
 use datasketches::laws;
 use std::ops::DerefMut;
 
@@ -159,6 +159,41 @@ pub fn next_key(key: &mut NaturalExtend<u32>)
     ensures { key.new ≡ key.old + 1 }
 {
     **key += 1;
+}
+
+/// The value inside of a wrapped one, of any type.
+pub fn inner_of<T, S>(value: &Value<T, S>) -> &T
+    ensures { result.now ≡ value.now }
+{
+    &**value
+}
+
+/// A value that is unwrapped and wrapped again, of any type.
+pub fn wrapped_again<T, S>(value: Value<T, S>) -> Value<T, S>
+    ensures { result ≡ value }
+{
+    Value::new(value.into_inner())
+}
+
+/// Feeds a wrapped value, of any type and strategy.
+pub fn feed_wrapped<T: Eq, S: HashStrategy<T>, H: Hasher>(value: &Value<T, S>, hasher: &mut H)
+    ensures { hasher.new ≡ H.after hasher.old (S.fed value.now) }
+{
+    value.hash(hasher);
+}
+
+/// A copy of a wrapped key.
+pub fn copy_of_key(key: &NaturalExtend<u32>) -> NaturalExtend<u32>
+    ensures { result ≡ key.now }
+{
+    *key
+}
+
+/// The text that is wrapped: the same one, not a copy.
+pub fn wrapped_text(text: &str) -> &str
+    ensures { result ≡ text.entry }
+{
+    raw_bytes::from_str(text).into_inner()
 }
 
 // What any lender of a number shows.

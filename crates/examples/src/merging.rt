@@ -53,6 +53,21 @@ pub fn merge_worker(
     Ok(())
 }
 
+/// Merges two tables. All three, before and after, are tables, whatever comes of it.
+///
+/// # Errors
+///
+/// As of [`merge_worker`].
+pub fn merge_tables(
+    alloc: Global,
+    table: &mut MemberTable,
+    other: &MemberTable,
+) -> Result<(), Error>
+    ensures { IsTable table.old × IsTable other.now × IsTable table.new }
+{
+    table.merge(alloc, other)
+}
+
 /// Merges `second` and then `third` into `table`; and `third` into `second`, and that into `twin`.
 /// Both end as the same table, which contains what any of the three did.
 ///

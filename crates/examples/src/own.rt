@@ -5,7 +5,7 @@ ghost use Rattle.std.proofs.Common.{rules};
 ghost use Rattle.datasketches.specs.Bytes.{low_bytes, modulo};
 
 use datasketches::hash::value::{HashStrategy, Value};
-use datasketches::hash::{Hash, Hasher, Offset};
+use datasketches::hash::{Hash, Hasher, Offset, XxHash64};
 
 /// A point of a grid, which feeds its two numbers one after the other.
 #[derive(Clone, Copy, Debug, PartialEq, Eq)]
@@ -25,6 +25,22 @@ impl Hash for Point {
     }
 }
 
+/// A word of 64 bits, which is hashed in one call.
+#[derive(Clone, Copy, Debug, PartialEq, Eq)]
+pub struct Word(pub u64);
+
+impl Hash for Word {
+    ghost fed = { λ word. low_bytes 8 word.0 };
+
+    fn hash<H: Hasher>(&self, state: &mut H) {
+        state.write_u64(self.0);
+    }
+
+    fn xxh64(&self, seed: u64) -> u64 {
+        XxHash64::hash(&self.0.to_le_bytes(), seed)
+    }
+}
+
 /// A key of 64 bits that is fed with its highest byte first.
 pub type BigEndian = Value<u64, BigEndianStrategy>;
 
@@ -36,6 +52,10 @@ impl HashStrategy<u64> for BigEndianStrategy {
 
     fn hash<H: Hasher>(value: &u64, state: &mut H) {
         state.write(&value.to_be_bytes());
+    }
+
+    fn xxh64(value: &u64, seed: u64) -> u64 {
+        XxHash64::hash(&value.to_be_bytes(), seed)
     }
 
     ghost respects_eq = { Prim.search rules };

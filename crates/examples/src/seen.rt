@@ -206,10 +206,22 @@ pub fn family_of_tables() -> (u8, &'static str, u8, u8)
     )
 }
 
+/// What is wrong with bytes whose preamble longs are those of a table, but are of another version.
+pub fn other_version(bytes: &[u8]) -> Option<Fault>
+    requires header { 2 ≤ length bytes.now }
+    requires longs { (slice_index bytes.now 0 ≡ 2) ⊎ (slice_index bytes.now 0 ≡ 3) }
+    requires other { slice_index bytes.now 1 ≢ slice_index bytes.now 0 - 1 }
+    ensures { result ≡ Some (Fault.SerialVersion (slice_index bytes.now 0 - 1)
+        (slice_index bytes.now 1)) }
+{
+    TableView::new(bytes).err()
+}
+
 /// What is wrong with bytes that begin as a table does, but are of another family.
 pub fn other_family(bytes: &[u8]) -> Option<Fault>
     requires header { 3 ≤ length bytes.now }
-    requires table { (slice_index bytes.now 0 ≡ 3) × (slice_index bytes.now 1 ≡ 2) }
+    requires table { ((slice_index bytes.now 0 ≡ 3) × (slice_index bytes.now 1 ≡ 2))
+        ⊎ ((slice_index bytes.now 0 ≡ 2) × (slice_index bytes.now 1 ≡ 1)) }
     requires other { slice_index bytes.now 2 ≢ 200 }
     ensures { result ≡ Some (Fault.Family (slice_index bytes.now 2)) }
 {
@@ -228,8 +240,9 @@ pub fn other_longs(bytes: &[u8]) -> Option<Fault>
 /// What is wrong with bytes that begin as a table does, but are of a size outside its limits.
 pub fn other_size(bytes: &[u8]) -> Option<Fault>
     requires header { 5 ≤ length bytes.now }
-    requires kind { (slice_index bytes.now 0 ≡ 3) × (slice_index bytes.now 1 ≡ 2)
-        × (slice_index bytes.now 2 ≡ 200) }
+    requires version { ((slice_index bytes.now 0 ≡ 3) × (slice_index bytes.now 1 ≡ 2))
+        ⊎ ((slice_index bytes.now 0 ≡ 2) × (slice_index bytes.now 1 ≡ 1)) }
+    requires family { slice_index bytes.now 2 ≡ 200 }
     ensures log2_bits { (IsLog2Bits (slice_index bytes.now 3) → ⊥) →
         result ≡ Some (Fault.Log2Bits (slice_index bytes.now 3)) }
     ensures hashes { IsLog2Bits (slice_index bytes.now 3) →

@@ -3,6 +3,7 @@ ghost use Rattle.std.specs.Prelude.{IsTrue};
 mod calls;
 mod damage;
 mod merging;
+mod public;
 mod refusals;
 
 use datasketches::error::{Error, ErrorKind};

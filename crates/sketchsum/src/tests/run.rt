@@ -11,6 +11,7 @@ use crate::ending::{Outcome, RunFault, ending};
 use crate::read_ahead::ReadAhead;
 use crate::run::{run, run_bounded};
 use crate::streams::{BoundedReader, CheckedWriter};
+use std::fmt::Debug;
 use std::io::{self, ErrorKind, Read, Write};
 
 #[test]
@@ -190,18 +191,25 @@ fn run_or_nothing<R: Read, W: Write>(
 }
 
 // Whether `turns` turns were enough, and how many are left: none, if they were not.
-fn are_enough(turns: u64, input: &mut &[u8], output: &mut Vec<u8>) -> (bool, u64)
+fn are_enough(
+    algorithm: Algorithm,
+    turns: u64,
+    input: &mut &[u8],
+    output: &mut Vec<u8>,
+) -> (bool, u64)
     ensures { result.0 ≡ false → result.1 ≡ 0 }
 {
     let mut reader = BoundedReader::new(input, turns);
     let mut writer = CheckedWriter::new(output);
-    let answer = write_digest(Algorithm::Xx, 0, &mut reader, &mut writer);
+    let answer = write_digest(algorithm, 0, &mut reader, &mut writer);
     (answer != Err(RunFault::TooLong), reader.turns_left())
 }
 
 // Writes the line of what a reader has left, where no call failed before. A line that is done is
-// flushed, and no call failed; a fault that is told has happened.
+// flushed, and no call failed; a fault that is told has happened, and no other.
 fn write_rest<R: Read, W: Write>(
+    algorithm: Algorithm,
+    seed: u64,
     reader: &mut BoundedReader<'_, R>,
     writer: &mut CheckedWriter<'_, W>,
 ) -> Result<(), RunFault>
@@ -210,10 +218,13 @@ fn write_rest<R: Read, W: Write>(
     ensures flushed { OnOk result (writer.new.is_flushed ≡ true) }
     ensures read { result ≢ Err RunFault.Read → reader.new.has_failed ≡ false }
     ensures written { OnOk result (writer.new.has_failed ≡ false) }
-    ensures read_fault { result ≡ Err RunFault.Read → reader.new.has_failed ≡ true }
+    ensures read_fault { result ≡ Err RunFault.Read →
+        (reader.new.has_failed ≡ true) × (writer.new.has_failed ≡ false) }
+    ensures too_long { result ≡ Err RunFault.TooLong →
+        (reader.new.turns_left ≡ 0) × (writer.new.has_failed ≡ false) }
     ensures write_fault { result ≡ Err RunFault.Write → writer.new.has_failed ≡ true }
 {
-    write_digest(Algorithm::Xx, 0, reader, writer)
+    write_digest(algorithm, seed, reader, writer)
 }
 
 // A writer to which a word is written, and then one that is new: it has nothing to be flushed.
@@ -237,6 +248,9 @@ fn is_same_outcome(one: Outcome, other: Outcome) -> bool
     one == other
 }
 
+// A type whose values are copied, compared and shown.
+fn is_value<T: Copy + Eq + Debug>() {}
+
 // A reader of which nothing was read ahead, and the line of the usage.
 fn fresh(input: &[u8]) -> (ReadAhead<&[u8]>, &'static str)
     ensures reader { result.0.reader.now ≡ input.now }
@@ -254,8 +268,14 @@ fn a_run_stops_at_the_first_empty_read(rt: HostRuntime) {
         (2, (true, 0)),
         (3, (true, 1)),
     ] {
-        let mut written = Vec::new(rt.alloc());
-        assert_same(&rt, are_enough(turns, &mut FOX, &mut written), answer);
+        for algorithm in [Algorithm::Murmur, Algorithm::Xx] {
+            let mut written = Vec::new(rt.alloc());
+            assert_same(
+                &rt,
+                are_enough(algorithm, turns, &mut FOX, &mut written),
+                answer,
+            );
+        }
     }
     let mut written = Vec::new(rt.alloc());
     let answer = run_or_nothing(Algorithm::Xx, 0, &mut FOX, &mut written);
@@ -264,11 +284,14 @@ fn a_run_stops_at_the_first_empty_read(rt: HostRuntime) {
     assert_same(&rt, answer, Ok(()));
     definitions::values();
     definitions::relations();
+    is_value::<Algorithm>();
+    is_value::<RunFault>();
+    is_value::<Outcome>();
     let (mut reader, line) = fresh(FOX);
     let mut input = BoundedReader::new(&mut reader, 2);
     let mut checked = new_writer(&mut written);
     assert!(rt; write_word(&mut checked).is_ok());
-    let answer = write_rest(&mut input, &mut new_writer(&mut written));
+    let answer = write_rest(Algorithm::Xx, 0, &mut input, &mut new_writer(&mut written));
     assert_same(&rt, answer, Ok(()));
     assert!(rt; !is_same_outcome(Outcome::Usage, Outcome::NoMemory));
     assert_same(&rt, line, "usage: sketchsum murmur|xx SEED");

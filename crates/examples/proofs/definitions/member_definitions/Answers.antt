@@ -65,19 +65,19 @@ returns-clause-faults c = record {
   FirstFault = λ count b error. same;
   header_length = λ b. refl;
   count_number = λ b. refl;
-  kind_steps = λ count b. (same, refl, refl);
-  size_steps = λ count b. (same, refl, refl);
+  kind_steps = λ count b told. (same, same);
+  size_steps = λ count b told. (same, same);
   IsFlag = λ longs flag. same;
   flag_step = λ count b. (same, refl, refl);
   seed_step = λ count. (same, refl, refl);
   count_step = λ count b. (same, refl, refl);
-  number_steps = λ count b. (same, refl, refl);
-  header_steps = λ count b. (same, refl, refl);
-  bits_steps = λ count start need b. (same, refl, refl);
-  steps = λ count b. (same, refl, refl);
+  number_steps = λ count b told. (same, same);
+  header_steps = λ count b told. (same, same);
+  bits_steps = λ count start need b told. (same, same);
+  steps = λ count b told. (same, same);
   version_step = λ count b. (same, refl, refl);
-  view_steps = λ count b. (same, refl, refl);
-  init_steps = λ count log2_bits hashes b. (same, refl, refl);
+  view_steps = λ count b told. (same, same);
+  init_steps = λ count log2_bits hashes b told. (same, same);
 }
 
 pub returns-clause-places : goal.returns-clause-places
