@@ -192,6 +192,17 @@ pub fn faults_are_told()
         (needs ≤ count) × (x ≡ y) × AllPass count (view_steps bytes) }
 {}
 
+/// The bytes of a table, or the error that memory for them ran out. It is a table in either case.
+///
+/// # Errors
+///
+/// Where memory runs out.
+pub fn save_any(alloc: Global, seen: &MemberTable) -> Result<Vec<u8>, AllocError>
+    ensures { IsTable seen.now }
+{
+    seen.to_bytes(alloc)
+}
+
 /// The family of the tables, whose number stands in byte 2: its number and name, and the fewest and
 /// the most preamble longs.
 pub fn family_of_tables() -> (u8, &'static str, u8, u8)

@@ -69,20 +69,23 @@ fn clear_buffers(x: &mut XxHash64State, m: &mut MurmurState, seed: u64)
     sketch_murmur3_x64_128_reset(m, seed);
 }
 
-/// XXH64 of what a state of any origin holds, and of more.
-fn xxh64_of_more(state: &mut XxHash64State, bytes: &[u8]) -> u64
-    ensures { result ≡ xxh64_answer (xxh64_after (xxh64_held state.old) bytes.now) }
+/// XXH64 of what a state of any origin holds, and of more in two pieces.
+fn xxh64_of_more(state: &mut XxHash64State, front: &[u8], back: &[u8]) -> u64
+    ensures { result
+        ≡ xxh64_answer (xxh64_after (xxh64_after (xxh64_held state.old) front.now) back.now) }
 {
-    sketch_xxh64_update(state, bytes);
+    sketch_xxh64_update(state, front);
+    sketch_xxh64_update(state, back);
     sketch_xxh64_digest(state)
 }
 
-/// MurmurHash3 x64 128 of what a state of any origin holds, and of more.
-fn murmur_of_more(state: &mut MurmurState, bytes: &[u8]) -> Murmur128
-    ensures { (result.h1, result.h2)
-        ≡ murmur_answer (murmur_after (murmur_held state.old) bytes.now) }
+/// MurmurHash3 x64 128 of what a state of any origin holds, and of more in two pieces.
+fn murmur_of_more(state: &mut MurmurState, front: &[u8], back: &[u8]) -> Murmur128
+    ensures { (result.h1, result.h2) ≡ murmur_answer
+        (murmur_after (murmur_after (murmur_held state.old) front.now) back.now) }
 {
-    sketch_murmur3_x64_128_update(state, bytes);
+    sketch_murmur3_x64_128_update(state, front);
+    sketch_murmur3_x64_128_update(state, back);
     sketch_murmur3_x64_128_digest(state)
 }
 
@@ -164,10 +167,18 @@ fn is_this_version() -> bool
 #[test]
 fn states_go_on(rt: HostRuntime) {
     let mut x = XxHash64::with_seed(7).state();
-    assert_same(&rt, xxh64_of_more(&mut x, b"fo"), sketch_xxh64(b"fo", 7));
-    assert_same(&rt, xxh64_of_more(&mut x, b"x"), sketch_xxh64(b"fox", 7));
+    assert_same(
+        &rt,
+        xxh64_of_more(&mut x, b"f", b"o"),
+        sketch_xxh64(b"fo", 7),
+    );
+    assert_same(
+        &rt,
+        xxh64_of_more(&mut x, b"", b"x"),
+        sketch_xxh64(b"fox", 7),
+    );
     let mut m = MurmurHash3X64128::with_seed(7).state();
-    let pair = murmur_of_more(&mut m, b"fox");
+    let pair = murmur_of_more(&mut m, b"fo", b"x");
     let whole = copy_of(&sketch_murmur3_x64_128(b"fox", 7));
     assert_same(&rt, pair.h1, whole.h1);
     clear_buffers(&mut x, &mut m, 8);

@@ -1,4 +1,5 @@
 ghost use Rattle.std.specs.Prelude.{ℕ, ◌≡◌, ◌≢◌, ◌↔◌, ◌+◌, ◌*◌, ◌≤◌, [], ◌++◌, codes, false, true, length, Err, IsTrue, OnOk};
+ghost use Rattle.std.specs.Io.KnownBytes.{Keeps};
 ghost use Rattle.datasketches.specs.Murmur.{murmur};
 ghost use Rattle.datasketches.specs.Xxh64.{xxh64};
 ghost use Rattle.sketchsum.specs.Digest.{digest_line, hex_word};
@@ -248,6 +249,14 @@ fn is_same_outcome(one: Outcome, other: Outcome) -> bool
     one == other
 }
 
+// Flushes: whatever comes of it, what was written stays as it was.
+fn flush_and_keep<W: Write>(writer: &mut CheckedWriter<'_, W>) -> io::Result<()>
+    requires { writer.old.has_failed ≡ false }
+    ensures { Keeps (W.contents writer.old.writer.now) (W.contents writer.new.writer.now) }
+{
+    writer.flush()
+}
+
 // A type whose values are copied, compared and shown.
 fn is_value<T: Copy + Eq + Debug>() {}
 
@@ -291,6 +300,7 @@ fn a_run_stops_at_the_first_empty_read(rt: HostRuntime) {
     let mut input = BoundedReader::new(&mut reader, 2);
     let mut checked = new_writer(&mut written);
     assert!(rt; write_word(&mut checked).is_ok());
+    assert!(rt; flush_and_keep(&mut checked).is_ok());
     let answer = write_rest(Algorithm::Xx, 0, &mut input, &mut new_writer(&mut written));
     assert_same(&rt, answer, Ok(()));
     assert!(rt; !is_same_outcome(Outcome::Usage, Outcome::NoMemory));
