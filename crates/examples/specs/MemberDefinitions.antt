@@ -101,13 +101,17 @@ kind_list b =
     ∷ []
 
 abbrev pub size_list : ℕ → ℕ → ℕ → ℕ → List Step
-size_list before last log2_bits hashes =
+size_list log2_bits_needs hashes_needs log2_bits hashes =
     record {
-      needs = before;
+      needs = log2_bits_needs;
       Holds = (6 ≤ log2_bits) × (log2_bits ≤ 20);
       fault = fault.Log2Bits log2_bits;
     }
-    ∷ record { needs = last; Holds = (1 ≤ hashes) × (hashes ≤ 16); fault = fault.Hashes hashes }
+    ∷ record {
+      needs = hashes_needs;
+      Holds = (1 ≤ hashes) × (hashes ≤ 16);
+      fault = fault.Hashes hashes;
+    }
     ∷ []
 
 abbrev pub bits_list : ℕ → ℕ → ℕ → List Step

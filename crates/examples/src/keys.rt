@@ -1,6 +1,6 @@
 //! A distinct counter that knows integer keys by their Murmur pair.
 
-ghost use Rattle.std.specs.Prelude.{◌≡◌, ◌≢◌, ◌↔◌, ◌+◌, ◌<◌, [], ◌∷◌, IsTrue, pos};
+ghost use Rattle.std.specs.Prelude.{◌≡◌, ◌≢◌, ◌↔◌, ◌+◌, ◌<◌, [], ◌∷◌, IfSome, IsTrue, pos};
 ghost use Rattle.std.specs.List.{All};
 ghost use Rattle.std.specs.String.{string_bytes};
 ghost use Rattle.datasketches.specs.Bytes.{low_bytes, modulo};
@@ -37,6 +37,20 @@ pub fn hash_by_strategy<T: Eq, S: HashStrategy<T>>(seed: u64, value: &T) -> u64
     ensures { result ≡ xxh64 seed (S.fed value.now) }
 {
     S::xxh64(value, seed)
+}
+
+/// The number whose eight bytes a value of any type feeds, where the value answers one.
+pub fn word_of_any<T: Hash>(value: &T) -> Option<u64>
+    ensures { IfSome result (λ n. T.fed value.now ≡ low_bytes 8 n) }
+{
+    value.word()
+}
+
+/// The same of a value that is fed by a strategy.
+pub fn word_by_strategy<T: Eq, S: HashStrategy<T>>(value: &T) -> Option<u64>
+    ensures { IfSome result (λ n. S.fed value.now ≡ low_bytes 8 n) }
+{
+    S::word(value)
 }
 
 /// The Murmur pair by which a distinct counter knows an integer key.

@@ -53,7 +53,8 @@ pub fn merge_worker(
     Ok(())
 }
 
-/// Merges two tables. All three, before and after, are tables, whatever comes of it.
+/// Merges two tables. Both are tables before, and the merged one is a table after, also where the
+/// merge is refused.
 ///
 /// # Errors
 ///

@@ -25,7 +25,7 @@ impl Hash for Point {
     }
 }
 
-/// A word of 64 bits, which is hashed in one call.
+/// A word of 64 bits, which is read once for many hashes.
 #[derive(Clone, Copy, Debug, PartialEq, Eq)]
 pub struct Word(pub u64);
 
@@ -36,8 +36,8 @@ impl Hash for Word {
         state.write_u64(self.0);
     }
 
-    fn xxh64(&self, seed: u64) -> u64 {
-        XxHash64::hash(&self.0.to_le_bytes(), seed)
+    fn word(&self) -> Option<u64> {
+        Some(self.0)
     }
 }
 

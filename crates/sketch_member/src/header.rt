@@ -1,6 +1,8 @@
 //! A table's header, and what is done with a header and the bits that belong to it.
 
-ghost use Rattle.std.specs.Prelude.{◌≡◌, ◌⊎◌, ℕ, ◌<◌, ◌^◌, ◌↔◌, List, slice_index, IsTrue, MatchOption, MatchResult, Some};
+ghost use Rattle.std.specs.Prelude.{◌≡◌, ◌⊎◌, ℕ, ◌<◌, ◌^◌, ◌↔◌, List, slice_index, IfSome, IsTrue, MatchOption, MatchResult, Some};
+ghost use Rattle.datasketches.specs.Bytes.{eight};
+ghost use Rattle.datasketches.specs.Xxh64.{xxh64};
 ghost use Rattle.sketch_member.specs.Header.{table_of};
 ghost use Rattle.sketch_member.specs.Limits.{IsHashes, IsLog2Bits};
 ghost use Rattle.sketch_member.specs.Merge.{AreAlike, IsFirstDifference, Merges, part_name, sum_of_counts};
@@ -9,7 +11,7 @@ ghost use Rattle.sketch_member.specs.Table.{Inserts, IsIndex, IsMember, IsSet, I
 use crate::bits::{is_set, set, set_all};
 use crate::fault::Fault;
 use crate::limits::{ensure_hashes, ensure_log2_bits};
-use datasketches::hash::Hash;
+use datasketches::hash::{Hash, XxHash64};
 use std::fmt;
 
 /// All of a table but its bits.
@@ -86,8 +88,9 @@ impl Header {
         requires { IsTable (table_of self.now bits.now) }
         ensures { IsTrue result ↔ IsMember (table_of self.now bits.now) (T.fed value.now) }
     {
+        let word = value.word();
         for j in 0..self.hashes {
-            if !is_set(bits, self.index(value, j)) {
+            if !is_set(bits, self.index(value, word, j)) {
                 return false;
             }
         }
@@ -125,26 +128,41 @@ impl Header {
         None
     }
 
-    // Sets the bits at the value's indexes.
+    // Sets the bits at the indexes. The word is read before: LLVM does not know that the bits lie
+    // elsewhere than the value, and would read it and multiply it again for each index.
     fn set_bits<T: Hash>(&self, bits: &mut [u8], value: &T)
         requires { IsTable (table_of self.now bits.old) }
         ensures bits { (i : ℕ) → IsSet bits.new i
             ↔ (IsSet bits.old i ⊎ IsIndex (table_of self.now bits.old) (T.fed value.now) i) }
         ensures bytes { (k : ℕ) → slice_index bits.new k < 256 }
     {
+        let word = value.word();
         for j in 0..self.hashes {
-            set(bits, self.index(value, j));
+            set(bits, self.index(value, word, j));
         }
     }
 
-    // The value's index of number `j`.
-    fn index<T: Hash>(&self, value: &T, j: u8) -> usize
-        requires { IsLog2Bits self.now.log2_bits }
+    // The value's index of number `j`, by the word that the value feeds, if it answers one.
+    fn index<T: Hash>(&self, value: &T, word: Option<u64>, j: u8) -> usize
+        requires word { IfSome word (λ n. T.fed value.now ≡ eight n) }
+        requires size { IsLog2Bits self.now.log2_bits }
         ensures index { result ≡ index self.now.seed self.now.log2_bits (T.fed value.now) j }
         ensures inside { result < 2 ^ self.now.log2_bits }
     {
         let seed = self.seed.wrapping_add(u64::from(j));
-        (value.xxh64(seed) & ((1 << self.log2_bits) - 1)) as usize
+        (hash_under(seed, value, word) & ((1 << self.log2_bits) - 1)) as usize
+    }
+}
+
+// The hash of a value under a seed, by its word, if it answers one.
+#[inline(always)]
+fn hash_under<T: Hash>(seed: u64, value: &T, word: Option<u64>) -> u64
+    requires { IfSome word (λ n. T.fed value.now ≡ eight n) }
+    ensures { result ≡ xxh64 seed (T.fed value.now) }
+{
+    match word {
+        Some(n) => XxHash64::hash_u64(n, seed),
+        None => value.xxh64(seed),
     }
 }
 

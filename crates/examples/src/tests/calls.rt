@@ -6,16 +6,17 @@ use super::{
 };
 use crate::columns::{hash_keys, hash_numbers, hash_texts, pairs_of_keys};
 use crate::items::{
-    are_same_items, read_both_ways, skip, there_and_back, write_both_ways, write_if_it_fits,
+    are_same_items, read_both_ways, read_short, skip, there_and_back, write_both_ways,
+    write_if_it_fits, write_short,
 };
 use crate::keys::{
     hash_by_strategy, hash_of_any, hash_of_text, hash_of_value, is_new_key, is_same_key,
-    is_same_word, pair_of,
+    is_same_word, pair_of, word_by_strategy, word_of_any,
 };
-use crate::own::{BigEndian, BigEndianStrategy, Point, Row};
+use crate::own::{BigEndian, BigEndianStrategy, Point, Row, Word};
 use crate::seen::{
-    family_of_tables, insert_in_either_order, is_found, is_value_seen, see_key_in, see_saved_key,
-    see_value, see_value_in, start_keys,
+    family_of_tables, insert_in_either_order, is_found, is_value_seen, save_any, see_key_in,
+    see_saved_key, see_value, see_value_in, start_keys,
 };
 use crate::sentence::hash_of_the_sentence;
 use crate::sketch::{at_place, read_sketch};
@@ -26,7 +27,7 @@ use crate::streams::{
 use datasketches::codec::{Item, Kind, SketchBytes, SketchSlice};
 use datasketches::error::Error;
 use datasketches::hash::value::{calculate_hash, raw_bytes};
-use datasketches::hash::{Hasher, MurmurHash3X64128, XxHash64};
+use datasketches::hash::{Hash, Hasher, MurmurHash3X64128, XxHash64};
 use sketch_member::{Fault, MemberTable, TableView, in_place};
 use std::alloc::{AllocError, Global};
 use std::test::Fail;
@@ -140,6 +141,15 @@ fn own_types_feed_their_bytes(rt: HostRuntime) {
         calculate_hash(BigEndian::new(258)),
         calculate_hash(raw_bytes::from_slice(&key)),
     );
+    let word = Word(0x0201_0000_0000_0000);
+    assert_same(&rt, word.xxh64(5), raw_bytes::from_slice(&key).xxh64(5));
+    let of_number = word_by_strategy::<u64, BigEndianStrategy>(&7);
+    assert_same(&rt, (word_of_any(&word), of_number), (Some(word.0), None));
+    assert_same(
+        &rt,
+        calculate_hash(word),
+        calculate_hash(raw_bytes::from_slice(&key)),
+    );
 }
 
 #[test]
@@ -177,10 +187,17 @@ fn bytes_are_written_if_they_fit(rt: HostRuntime) -> Result<(), AllocError> {
     assert_same(&rt, writer.into_bytes().as_slice(), &[1, 2, 3]);
     let mut writer = SketchBytes::with_capacity(rt.alloc(), 0)?;
     write_both_ways(&mut writer, 0x0102_0304)?;
+    write_short(&mut writer, 0x0506)?;
     let bytes = writer.into_bytes();
-    assert_same(&rt, bytes.as_slice(), [1, 2, 3, 4, 4, 3, 2, 1].as_slice());
-    let read = read_both_ways(&mut SketchSlice::new(&bytes));
+    assert_same(
+        &rt,
+        bytes.as_slice(),
+        [1, 2, 3, 4, 4, 3, 2, 1, 6, 5].as_slice(),
+    );
+    let mut reader = SketchSlice::new(&bytes);
+    let read = read_both_ways(&mut reader);
     assert_same(&rt, read.ok(), Some((0x0102_0304, 0x0102_0304)));
+    assert_same(&rt, read_short(&mut reader).ok(), Some(0x0506));
     Ok(())
 }
 
@@ -252,10 +269,12 @@ fn keys_are_seen_once_saved(rt: HostRuntime) -> Result<(), Fail> {
     assert!(rt; !was_seen);
     let (was_seen, saved) = see_saved_key(rt.alloc(), &saved, b"a")?;
     assert!(rt; was_seen);
+    let seen = MemberTable::from_bytes(rt.alloc(), &saved)?;
+    assert_same(&rt, seen.count(), Some(3));
     assert_same(
         &rt,
-        MemberTable::from_bytes(rt.alloc(), &saved)?.count(),
-        Some(3),
+        save_any(rt.alloc(), &seen)?.as_slice(),
+        saved.as_slice(),
     );
     let mut one = start_keys(rt.alloc(), 0, 10, 7)?;
     let mut other = start_keys(rt.alloc(), 0, 10, 7)?;

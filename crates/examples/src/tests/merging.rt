@@ -3,7 +3,7 @@
 use super::{assert_refused, assert_same, assert_same_for};
 use crate::merging::{
     copy_of_fault, is_same_fault, merge_as_a_tree, merge_either_way, merge_nothing, merge_streams,
-    merge_twin, merge_worker,
+    merge_tables, merge_twin, merge_worker,
 };
 use crate::seen::are_same_tables;
 use datasketches::error::Error;
@@ -35,7 +35,8 @@ fn workers_are_merged_in_each_way(rt: HostRuntime) -> Result<(), Fail> {
     }
     merge_nothing(alloc, &mut table, 0, 10, 7)?;
     merge_worker(alloc, &mut table, &third)?;
-    assert_same(&rt, table.count(), Some(3));
+    merge_tables(alloc, &mut table, &twin)?;
+    assert_same(&rt, table.count(), Some(5));
     Ok(())
 }
 

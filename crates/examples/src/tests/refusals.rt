@@ -1,7 +1,10 @@
 //! What refusals and wrapped keys say.
 
 use super::{assert_refused, assert_same, prints};
-use crate::keys::{inner_key, key_through_any, next_key};
+use crate::keys::{
+    copy_of_key, feed_wrapped, inner_key, inner_of, key_through_any, next_key, wrapped_again,
+    wrapped_text,
+};
 use crate::merging::{merge_saved, merge_saved_twin};
 use crate::refusals::{
     check_seed, check_version, ends_at_any, ends_early, in_context_of, name_in_width, name_of_kind,
@@ -10,11 +13,12 @@ use crate::refusals::{
 };
 use crate::seen::{
     count_saved, insert_in, is_saved, load_again, other_length, other_longs, other_size,
-    other_sizes, see_keys_twice,
+    other_sizes, other_version, see_keys_twice,
 };
 use datasketches::codec::{Short, Stopped};
 use datasketches::error::{Error, ErrorKind};
 use datasketches::hash::value::{Value, natural_extend, raw_bytes};
+use datasketches::hash::{Hasher, XxHash64};
 use sketch_member::{Fault, MemberTable, MergeFault};
 use std::alloc::AllocError;
 use std::error;
@@ -87,6 +91,10 @@ fn wrapped_keys_are_read_and_changed(rt: HostRuntime) -> Result<(), Fail> {
     next_key(&mut key);
     assert_same(&rt, (inner_key(&key), key_through_any(&mut key)), (8, 8));
     assert_same(&rt, text_of_key(rt.alloc(), &key)?.as_str(), "8");
+    let mut hasher = XxHash64::default();
+    feed_wrapped(&wrapped_again(copy_of_key(&key)), &mut hasher);
+    assert_same(&rt, hasher.finish64(), XxHash64::hash_u64(8, 0));
+    assert_same(&rt, (*inner_of(&key), wrapped_text("fox")), (8, "fox"));
     Ok(())
 }
 
@@ -106,6 +114,9 @@ fn bytes_of_a_table_are_made_twice(rt: HostRuntime) -> Result<(), Fail> {
     let missing = Fault::MissingBits { need: 128, have: 6 };
     assert_same(&rt, other_length(&bytes[..30]), Some(missing));
     assert_same(&rt, other_longs(&[4]), Some(Fault::PreambleLongs(4)));
+    let (expected, actual) = (2, 1);
+    let fault = Fault::SerialVersion { expected, actual };
+    assert_same(&rt, other_version(&[3, 1]), Some(fault));
     let fault = other_size(&[3, 2, 200, 5, 7]);
     assert_same(&rt, fault, Some(Fault::Log2Bits(5)));
     let fault = other_sizes(&mut bytes, 0, 21, 7);

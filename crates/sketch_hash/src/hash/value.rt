@@ -9,9 +9,9 @@ pub mod natural_extend;
 pub mod raw_bytes;
 pub mod sign_extend;
 
-ghost use Rattle.std.specs.Prelude.{◌≡◌, ℕ, List, ◌++◌, IsTrue};
+ghost use Rattle.std.specs.Prelude.{◌≡◌, ℕ, List, ◌++◌, IfSome, IsTrue};
 ghost use Rattle.std.specs.List.{flat_map};
-ghost use Rattle.sketch_base.specs.Bytes.{low_bytes, modulo};
+ghost use Rattle.sketch_base.specs.Bytes.{eight, low_bytes, modulo};
 ghost use Rattle.sketch_hash.specs.Murmur.{murmur};
 ghost use Rattle.sketch_hash.specs.Xxh64.{xxh64};
 
@@ -30,6 +30,15 @@ pub trait Hash {
     fn hash<H: Hasher>(&self, state: &mut H)
         ensures { state.new ≡ H.after state.old (fed self.now) };
 
+    /// The number whose eight bytes the value feeds, the lowest first, for a type that answers it.
+    /// Who hashes the value under many seeds reads it once.
+    #[inline(always)]
+    fn word(&self) -> Option<u64>
+        ensures { IfSome result (λ n. fed self.now ≡ eight n) }
+    {
+        None
+    }
+
     /// XXH64 of the value's bytes under a seed. A type whose bytes lie in one place can answer it
     /// by [`XxHash64::hash`], which takes less time than a hasher.
     #[inline(always)]
@@ -37,6 +46,9 @@ pub trait Hash {
     fn xxh64(&self, seed: u64) -> u64
         ensures { result ≡ xxh64 seed (fed self.now) }
     {
+        if let Some(n) = self.word() {
+            return XxHash64::hash_u64(n, seed);
+        }
         let mut hasher = XxHash64::with_seed(seed);
         self.hash(&mut hasher);
         hasher.finish64()
@@ -51,12 +63,23 @@ pub trait HashStrategy<T: Eq> {
     fn hash<H: Hasher>(value: &T, state: &mut H)
         ensures { state.new ≡ H.after state.old (fed value.now) };
 
+    /// The number whose eight bytes the value feeds, the lowest first, for a type that answers it.
+    #[inline(always)]
+    fn word(value: &T) -> Option<u64>
+        ensures { IfSome result (λ n. fed value.now ≡ eight n) }
+    {
+        None
+    }
+
     /// XXH64 of the value's bytes under a seed.
     #[inline(always)]
     #[tactic(auto, using(crate::proofs::Xxh64Lemmas::of_one_write))]
     fn xxh64(value: &T, seed: u64) -> u64
         ensures { result ≡ xxh64 seed (fed value.now) }
     {
+        if let Some(n) = Self::word(value) {
+            return XxHash64::hash_u64(n, seed);
+        }
         let mut hasher = XxHash64::with_seed(seed);
         Self::hash(value, &mut hasher);
         hasher.finish64()
@@ -151,6 +174,11 @@ impl<T: Eq, S: HashStrategy<T>> Hash for Value<T, S> {
     }
 
     #[inline(always)]
+    fn word(&self) -> Option<u64> {
+        S::word(&self.value)
+    }
+
+    #[inline(always)]
     fn xxh64(&self, seed: u64) -> u64 {
         S::xxh64(&self.value, seed)
     }
@@ -237,6 +265,11 @@ impl Hash for u64 {
     fn hash<H: Hasher>(&self, state: &mut H) {
         state.write_u64(*self);
     }
+
+    #[inline(always)]
+    fn word(&self) -> Option<u64> {
+        Some(*self)
+    }
 }
 
 impl Hash for i64 {
@@ -244,5 +277,10 @@ impl Hash for i64 {
 
     fn hash<H: Hasher>(&self, state: &mut H) {
         state.write_i64(*self);
+    }
+
+    #[inline(always)]
+    fn word(&self) -> Option<u64> {
+        Some(self.cast_unsigned())
     }
 }

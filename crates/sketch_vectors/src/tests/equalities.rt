@@ -1,6 +1,7 @@
 //! Equalities of hashes: those that the original documents, and similar ones of the other types.
 
 use crate::tests::{assert_same, assert_same_for};
+use datasketches::hash::Hash;
 use datasketches::hash::value::{calculate_hash, natural_extend, raw_bytes, sign_extend};
 use std::alloc::{AllocError, Global};
 
@@ -89,13 +90,18 @@ fn numbers_of_64_bits_meet_the_short_ones(rt: HostRuntime) {
     );
 }
 
+// XXH64 of a value under the seed 7, and its Murmur word.
+fn both<T: Hash + Drop>(value: T) -> (u64, u64) {
+    (value.xxh64(7), calculate_hash(value))
+}
+
 // The hashes of one text, by each of the four ways to wrap it.
-fn hashes_of_text(alloc: Global, text: &str) -> Result<[u64; 4], AllocError> {
+fn hashes_of_text(alloc: Global, text: &str) -> Result<[(u64, u64); 4], AllocError> {
     Ok([
-        calculate_hash(raw_bytes::from_vec(Vec::from_slice(alloc, text.as_bytes())?)),
-        calculate_hash(raw_bytes::from_slice(text.as_bytes())),
-        calculate_hash(raw_bytes::from_string(String::from_str(alloc, text)?)),
-        calculate_hash(raw_bytes::from_str(text)),
+        both(raw_bytes::from_vec(Vec::from_slice(alloc, text.as_bytes())?)),
+        both(raw_bytes::from_slice(text.as_bytes())),
+        both(raw_bytes::from_string(String::from_str(alloc, text)?)),
+        both(raw_bytes::from_str(text)),
     ])
 }
 

@@ -220,6 +220,56 @@ fn plain_numbers(rt: HostRuntime) {
     );
 }
 
+// Numbers that feed eight bytes answer them as a word, and others none.
+#[test]
+fn words_are_the_numbers_that_are_fed(rt: HostRuntime) {
+    assert_same(
+        &rt,
+        [
+            natural_extend::from_u8(255).word(),
+            natural_extend::from_i8(-1).word(),
+            natural_extend::from_u16(65535).word(),
+            natural_extend::from_i16(-2).word(),
+            natural_extend::from_u32(4294967295).word(),
+            natural_extend::from_i32(-3).word(),
+            natural_extend::from_u64(u64::MAX).word(),
+            natural_extend::from_i64(i64::MIN).word(),
+            sign_extend::from_u8(255).word(),
+            sign_extend::from_i8(127).word(),
+            sign_extend::from_u16(65534).word(),
+            sign_extend::from_i16(-2).word(),
+            sign_extend::from_u32(4294967293).word(),
+            sign_extend::from_i32(-3).word(),
+            sign_extend::from_u64(1 << 63).word(),
+            sign_extend::from_i64(i64::MIN).word(),
+            7u64.word(),
+            (-7i64).word(),
+        ],
+        [
+            Some(255),
+            Some(u64::MAX),
+            Some(65535),
+            Some(u64::MAX - 1),
+            Some(4294967295),
+            Some(u64::MAX - 2),
+            Some(u64::MAX),
+            Some(1 << 63),
+            Some(u64::MAX),
+            Some(127),
+            Some(u64::MAX - 1),
+            Some(u64::MAX - 1),
+            Some(u64::MAX - 2),
+            Some(u64::MAX - 2),
+            Some(1 << 63),
+            Some(1 << 63),
+            Some(7),
+            Some(u64::MAX - 6),
+        ],
+    );
+    let text = raw_bytes::from_str("8 letter");
+    assert_same(&rt, [7u32.word(), (-7i8).word(), text.word()], [None; 3]);
+}
+
 #[test]
 fn bytes_and_texts(rt: HostRuntime) -> Result<(), AllocError> {
     let bytes = Vec::from_slice(rt.alloc(), &[1, 2, 0xff])?;

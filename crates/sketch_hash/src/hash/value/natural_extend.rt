@@ -79,6 +79,11 @@ impl HashStrategy<i8> for NaturalExtendStrategy {
         state.write_i64(i64::from(*value));
     }
 
+    #[inline(always)]
+    fn word(value: &i8) -> Option<u64> {
+        Some(i64::from(*value).cast_unsigned())
+    }
+
     ghost respects_eq = { Prim.search rules };
 }
 
@@ -87,6 +92,11 @@ impl HashStrategy<u8> for NaturalExtendStrategy {
 
     fn hash<H: Hasher>(value: &u8, state: &mut H) {
         state.write_u64(u64::from(*value));
+    }
+
+    #[inline(always)]
+    fn word(value: &u8) -> Option<u64> {
+        Some(u64::from(*value))
     }
 
     ghost respects_eq = { Prim.search rules };
@@ -99,6 +109,11 @@ impl HashStrategy<i16> for NaturalExtendStrategy {
         state.write_i64(i64::from(*value));
     }
 
+    #[inline(always)]
+    fn word(value: &i16) -> Option<u64> {
+        Some(i64::from(*value).cast_unsigned())
+    }
+
     ghost respects_eq = { Prim.search rules };
 }
 
@@ -107,6 +122,11 @@ impl HashStrategy<u16> for NaturalExtendStrategy {
 
     fn hash<H: Hasher>(value: &u16, state: &mut H) {
         state.write_u64(u64::from(*value));
+    }
+
+    #[inline(always)]
+    fn word(value: &u16) -> Option<u64> {
+        Some(u64::from(*value))
     }
 
     ghost respects_eq = { Prim.search rules };
@@ -119,6 +139,11 @@ impl HashStrategy<i32> for NaturalExtendStrategy {
         state.write_i64(i64::from(*value));
     }
 
+    #[inline(always)]
+    fn word(value: &i32) -> Option<u64> {
+        Some(i64::from(*value).cast_unsigned())
+    }
+
     ghost respects_eq = { Prim.search rules };
 }
 
@@ -127,6 +152,11 @@ impl HashStrategy<u32> for NaturalExtendStrategy {
 
     fn hash<H: Hasher>(value: &u32, state: &mut H) {
         state.write_u64(u64::from(*value));
+    }
+
+    #[inline(always)]
+    fn word(value: &u32) -> Option<u64> {
+        Some(u64::from(*value))
     }
 
     ghost respects_eq = { Prim.search rules };
@@ -139,6 +169,11 @@ impl HashStrategy<i64> for NaturalExtendStrategy {
         state.write_i64(*value);
     }
 
+    #[inline(always)]
+    fn word(value: &i64) -> Option<u64> {
+        Some(value.cast_unsigned())
+    }
+
     ghost respects_eq = { Prim.search rules };
 }
 
@@ -147,6 +182,11 @@ impl HashStrategy<u64> for NaturalExtendStrategy {
 
     fn hash<H: Hasher>(value: &u64, state: &mut H) {
         state.write_u64(*value);
+    }
+
+    #[inline(always)]
+    fn word(value: &u64) -> Option<u64> {
+        Some(*value)
     }
 
     ghost respects_eq = { Prim.search rules };

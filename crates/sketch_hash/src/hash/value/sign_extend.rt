@@ -80,6 +80,11 @@ impl HashStrategy<i8> for SignExtendStrategy {
         state.write_i64(i64::from(*value));
     }
 
+    #[inline(always)]
+    fn word(value: &i8) -> Option<u64> {
+        Some(i64::from(*value).cast_unsigned())
+    }
+
     ghost respects_eq = { Prim.search rules };
 }
 
@@ -88,6 +93,11 @@ impl HashStrategy<u8> for SignExtendStrategy {
 
     fn hash<H: Hasher>(value: &u8, state: &mut H) {
         state.write_i64(i64::from(value.cast_signed()));
+    }
+
+    #[inline(always)]
+    fn word(value: &u8) -> Option<u64> {
+        Some(i64::from(value.cast_signed()).cast_unsigned())
     }
 
     ghost respects_eq = { Prim.search rules };
@@ -100,6 +110,11 @@ impl HashStrategy<i16> for SignExtendStrategy {
         state.write_i64(i64::from(*value));
     }
 
+    #[inline(always)]
+    fn word(value: &i16) -> Option<u64> {
+        Some(i64::from(*value).cast_unsigned())
+    }
+
     ghost respects_eq = { Prim.search rules };
 }
 
@@ -108,6 +123,11 @@ impl HashStrategy<u16> for SignExtendStrategy {
 
     fn hash<H: Hasher>(value: &u16, state: &mut H) {
         state.write_i64(i64::from(value.cast_signed()));
+    }
+
+    #[inline(always)]
+    fn word(value: &u16) -> Option<u64> {
+        Some(i64::from(value.cast_signed()).cast_unsigned())
     }
 
     ghost respects_eq = { Prim.search rules };
@@ -120,6 +140,11 @@ impl HashStrategy<i32> for SignExtendStrategy {
         state.write_i64(i64::from(*value));
     }
 
+    #[inline(always)]
+    fn word(value: &i32) -> Option<u64> {
+        Some(i64::from(*value).cast_unsigned())
+    }
+
     ghost respects_eq = { Prim.search rules };
 }
 
@@ -128,6 +153,11 @@ impl HashStrategy<u32> for SignExtendStrategy {
 
     fn hash<H: Hasher>(value: &u32, state: &mut H) {
         state.write_i64(i64::from(value.cast_signed()));
+    }
+
+    #[inline(always)]
+    fn word(value: &u32) -> Option<u64> {
+        Some(i64::from(value.cast_signed()).cast_unsigned())
     }
 
     ghost respects_eq = { Prim.search rules };
@@ -140,6 +170,11 @@ impl HashStrategy<i64> for SignExtendStrategy {
         state.write_i64(*value);
     }
 
+    #[inline(always)]
+    fn word(value: &i64) -> Option<u64> {
+        Some(value.cast_unsigned())
+    }
+
     ghost respects_eq = { Prim.search rules };
 }
 
@@ -148,6 +183,11 @@ impl HashStrategy<u64> for SignExtendStrategy {
 
     fn hash<H: Hasher>(value: &u64, state: &mut H) {
         state.write_i64(value.cast_signed());
+    }
+
+    #[inline(always)]
+    fn word(value: &u64) -> Option<u64> {
+        Some(*value)
     }
 
     ghost respects_eq = { Prim.search rules };

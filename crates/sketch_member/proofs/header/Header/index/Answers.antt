@@ -8,8 +8,8 @@ unfolding index
 returns-clause-index g c =
     rw (
       one_shl c.args.self.now.log2_bits 64 (omega arith),
-      and_mask c.xxh64.result c.args.self.now.log2_bits,
-      c.xxh64.ensures,
+      and_mask c.hash_under.result c.args.self.now.log2_bits,
+      c.hash_under.ensures,
       c.from.ensures,
     )
     refl
