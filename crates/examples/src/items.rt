@@ -212,6 +212,13 @@ pub fn skip(reader: &mut SketchSlice, n: u64)
     reader.advance(n);
 }
 
+/// The form of an item.
+pub fn form_of(item: &Item) -> Kind
+    ensures { result ≡ item_kind item.now }
+{
+    item.kind()
+}
+
 /// The number of bytes in which an item stands.
 pub fn count_bytes(item: &Item) -> usize
     ensures { result ≡ width (item_kind item.now) }

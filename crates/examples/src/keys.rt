@@ -203,6 +203,23 @@ pub fn copy_of_key(key: &NaturalExtend<u32>) -> NaturalExtend<u32>
     *key
 }
 
+/// The bytes that are wrapped: the same ones, not a copy.
+pub fn wrapped_bytes(bytes: &[u8]) -> &[u8]
+    ensures { result ≡ bytes.entry }
+{
+    raw_bytes::from_slice(bytes).into_inner()
+}
+
+/// Bytes and a text that are wrapped and taken out again: what they were, with their memory.
+pub fn wrapped_lists(bytes: Vec<u8>, text: String) -> (Vec<u8>, String)
+    ensures { result ≡ (bytes, text) }
+{
+    (
+        raw_bytes::from_vec(bytes).into_inner(),
+        raw_bytes::from_string(text).into_inner(),
+    )
+}
+
 /// The text that is wrapped: the same one, not a copy.
 pub fn wrapped_text(text: &str) -> &str
     ensures { result ≡ text.entry }

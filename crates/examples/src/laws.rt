@@ -107,6 +107,22 @@ pub fn is_same_but_for_a_block(seed: u64, a: &[u8], b: &[u8], i: usize) -> bool
     is_same_pair(first, second)
 }
 
+/// The Murmur pairs and the XXH64 hashes of any two streams under any two seeds.
+pub fn hashes_of_both(
+    seed_a: u64,
+    a: &[u8],
+    seed_b: u64,
+    b: &[u8],
+) -> (((u64, u64), (u64, u64)), (u64, u64))
+    ensures pairs { result.0 ≡ (murmur seed_a a.now, murmur seed_b b.now) }
+    ensures hashes { result.1 ≡ (xxh64 seed_a a.now, xxh64 seed_b b.now) }
+{
+    (
+        laws::murmur_both(seed_a, a, seed_b, b),
+        laws::xx_both(seed_a, a, seed_b, b),
+    )
+}
+
 /// Every pair of words is that of one block, and a block gives one, at any aligned place of a
 /// stream of any length.
 pub fn every_pair_is_of_one_block(seed: u64, first: u64, second: u64)

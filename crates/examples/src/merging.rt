@@ -53,8 +53,8 @@ pub fn merge_worker(
     Ok(())
 }
 
-/// Merges two tables. Both are tables before, and the merged one is a table after, also where the
-/// merge is refused.
+/// Merges two tables. Both are tables before, and the merged one is a table after. A merge that is
+/// refused changes nothing.
 ///
 /// # Errors
 ///
@@ -64,7 +64,10 @@ pub fn merge_tables(
     table: &mut MemberTable,
     other: &MemberTable,
 ) -> Result<(), Error>
-    ensures { IsTable table.old × IsTable other.now × IsTable table.new }
+    ensures tables { IsTable table.old × IsTable other.now × IsTable table.new }
+    ensures merged { IfOk result (λ _. Merges other.now table.old table.new) }
+    ensures refused { IfErr result (λ _.
+        (AreAlike table.old other.now → ⊥) × (table.new ≡ table.old)) }
 {
     table.merge(alloc, other)
 }

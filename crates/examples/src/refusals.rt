@@ -4,7 +4,7 @@ ghost use Rattle.std.specs.Prelude.{◌≡◌, ◌≢◌, ◌⊎◌, ◌++◌, �
 ghost use Rattle.std.specs.Fmt.{decimal};
 ghost use Rattle.std.specs.List.{flat_map};
 ghost use Rattle.datasketches.specs.ErrorValue.{add_context, debug_text, error_kind_name, error_of, line, memory_error};
-ghost use Rattle.datasketches.specs.Refusals.{Refuses};
+ghost use Rattle.datasketches.specs.Refusals.{Prints, Refuses};
 ghost use Rattle.datasketches.specs.SeedHash.{seed_hash};
 
 use datasketches::codec::assert::ensure_serial_version_is;
@@ -61,6 +61,13 @@ pub fn refusal(alloc: Global, kind: ErrorKind, words: Result<String, AllocError>
     Error::from_text(alloc, kind, words)
 }
 
+/// An error of any kind and message.
+pub fn error_of_any(kind: ErrorKind, message: String) -> Error
+    ensures { result ≡ error_of kind (string_bytes message) }
+{
+    Error::new(kind, message)
+}
+
 /// The error in one more context, of a value of any type; or as it was, where there is no text.
 ///
 /// # Errors
@@ -73,7 +80,8 @@ pub fn in_context_of<V: Display + Drop>(
     value: V,
 ) -> Result<Error, Error>
     ensures { MatchResult result
-        (λ added. (text : List ℕ) × (added ≡ add_context error key.entry.now text))
+        (λ added. (text : List ℕ) × Prints (V.output value) text
+        × (added ≡ add_context error key.entry.now text))
         (λ refused. refused ≡ error) }
 {
     error.with_context(alloc, key, value)
@@ -81,8 +89,8 @@ pub fn in_context_of<V: Display + Drop>(
 
 /// Data ends too early, as a value of any type says.
 pub fn ends_at_any<V: Display + Drop>(alloc: Global, value: V) -> Error
-    ensures { (text : List ℕ) × Refuses ErrorKind.InvalidData
-        (codes "insufficient data: " ++ text) result }
+    ensures { (text : List ℕ) × Prints (V.output value) text
+        × Refuses ErrorKind.InvalidData (codes "insufficient data: " ++ text) result }
 {
     Error::insufficient_data(alloc, value)
 }

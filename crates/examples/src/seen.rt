@@ -198,7 +198,8 @@ pub fn faults_are_told()
 ///
 /// Where memory runs out.
 pub fn save_any(alloc: Global, seen: &MemberTable) -> Result<Vec<u8>, AllocError>
-    ensures { IsTable seen.now }
+    ensures table { IsTable seen.now }
+    ensures saved { IfOk result (λ bytes. bytes.items ≡ form2 seen.now) }
 {
     seen.to_bytes(alloc)
 }

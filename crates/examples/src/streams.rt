@@ -80,6 +80,18 @@ pub fn answer_of<H: Hasher>(hasher: &mut H, bytes: &[u8]) -> u64
     hasher.finish()
 }
 
+/// The first Murmur word and the XXH64 hash of bytes under any seed, as any hasher answers them.
+pub fn answers_under(seed: u64, bytes: &[u8]) -> (u64, u64)
+    ensures murmur { result.0 ≡ (murmur seed bytes.now).0 }
+    ensures xxh64 { result.1 ≡ xxh64 seed bytes.now }
+{
+    let mut first = MurmurHash3X64128::with_seed(seed);
+    let mut second = XxHash64::with_seed(seed);
+    first.write(bytes);
+    second.write(bytes);
+    (first.finish(), second.finish())
+}
+
 /// A checkpoint of a stream: what the hasher of its first bytes holds.
 pub fn checkpoint(seed: u64, front: &[u8]) -> XxHash64State
     ensures { Xxh64Holds result seed front.now }

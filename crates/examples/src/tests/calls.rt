@@ -6,13 +6,14 @@ use super::{
 };
 use crate::columns::{hash_keys, hash_numbers, hash_texts, pairs_of_keys};
 use crate::items::{
-    are_same_items, read_both_ways, read_short, skip, there_and_back, write_both_ways,
+    are_same_items, form_of, read_both_ways, read_short, skip, there_and_back, write_both_ways,
     write_if_it_fits, write_short,
 };
 use crate::keys::{
     hash_by_strategy, hash_of_any, hash_of_text, hash_of_value, is_new_key, is_same_key,
     is_same_word, pair_of, word_by_strategy, word_of_any,
 };
+use crate::laws::hashes_of_both;
 use crate::own::{BigEndian, BigEndianStrategy, Point, Row, Word};
 use crate::seen::{
     family_of_tables, insert_in_either_order, is_found, is_value_seen, save_any, see_key_in,
@@ -21,8 +22,8 @@ use crate::seen::{
 use crate::sentence::hash_of_the_sentence;
 use crate::sketch::{at_place, read_sketch};
 use crate::streams::{
-    answer_of, checkpoint, keep_murmur_again, murmur_checkpoint, murmur_from, murmur_of_pieces,
-    usual_hashes, write_record, xxh64_from, xxh64_of_pieces,
+    answer_of, answers_under, checkpoint, keep_murmur_again, murmur_checkpoint, murmur_from,
+    murmur_of_pieces, usual_hashes, write_record, xxh64_from, xxh64_of_pieces,
 };
 use datasketches::codec::{Item, Kind, SketchBytes, SketchSlice};
 use datasketches::error::Error;
@@ -163,6 +164,7 @@ fn items_are_read_back(rt: HostRuntime) {
         (rest.ok().as_deref(), places),
         (Some([7, 8].as_slice()), items),
     );
+    assert_same(&rt, form_of(&items[1]), Kind::U32Be);
     let mut reader = SketchSlice::new(&[7, 8]);
     skip(&mut reader, 1);
     assert_same(&rt, reader.remaining(), [8].as_slice());
@@ -254,6 +256,9 @@ fn the_sentence_has_its_hash(rt: HostRuntime) {
     );
     assert_same(&rt, first, calculate_hash(whole));
     assert_same(&rt, usual_hashes(b"fox").0, hash_of_text("fox"));
+    let hashes = answers_under(7, b"fox");
+    let both = hashes_of_both(7, b"fox", 7, b"fox");
+    assert_same(&rt, hashes, (both.0.1.0, both.1.1));
     assert_same(
         &rt,
         hash_of_any(raw_bytes::from_str("fox")),

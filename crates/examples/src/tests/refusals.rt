@@ -1,15 +1,19 @@
 //! What refusals and wrapped keys say.
 
+ghost use Rattle.std.specs.Prelude.{Some};
+ghost use Rattle.datasketches.specs.ErrorValue.{error_kind_name};
+ghost use Rattle.sketch_member.specs.Merge.{part_name};
+
 use super::{assert_refused, assert_same, prints};
 use crate::keys::{
     copy_of_key, feed_wrapped, inner_key, inner_of, key_through_any, next_key, wrapped_again,
-    wrapped_text,
+    wrapped_bytes, wrapped_lists, wrapped_text,
 };
 use crate::merging::{merge_saved, merge_saved_twin};
 use crate::refusals::{
-    check_seed, check_version, ends_at_any, ends_early, in_context_of, name_in_width, name_of_kind,
-    refusal, text_of_fault, text_of_key, text_of_short, text_of_stopped, texts_of_error,
-    wrong_family, wrong_longs,
+    check_seed, check_version, ends_at_any, ends_early, error_of_any, in_context_of, name_in_width,
+    name_of_kind, refusal, text_of_fault, text_of_key, text_of_short, text_of_stopped,
+    texts_of_error, wrong_family, wrong_longs,
 };
 use crate::seen::{
     count_saved, insert_in, is_saved, load_again, other_length, other_longs, other_size,
@@ -19,10 +23,39 @@ use datasketches::codec::{Short, Stopped};
 use datasketches::error::{Error, ErrorKind};
 use datasketches::hash::value::{Value, natural_extend, raw_bytes};
 use datasketches::hash::{Hasher, XxHash64};
-use sketch_member::{Fault, MemberTable, MergeFault};
+use sketch_member::{Difference, Fault, MemberTable, MergeFault};
 use std::alloc::AllocError;
 use std::error;
+use std::fmt::{self, Display};
 use std::test::Fail;
+
+// A kind of errors, which prints its name at any width.
+#[derive(Drop)]
+struct KindName(ErrorKind);
+
+impl Display for KindName {
+    ghost output = { λ name. Some (error_kind_name name.0) };
+
+    ghost styled_output = { λ name _. Some (error_kind_name name.0) };
+
+    fn fmt<W: fmt::Write>(&self, f: &mut fmt::Formatter<W>) -> fmt::Result {
+        self.0.fmt(f)
+    }
+}
+
+// What two tables differ in, which prints its name at any width.
+#[derive(Drop)]
+struct PartName(Difference);
+
+impl Display for PartName {
+    ghost output = { λ name. Some (part_name name.0) };
+
+    ghost styled_output = { λ name _. Some (part_name name.0) };
+
+    fn fmt<W: fmt::Write>(&self, f: &mut fmt::Formatter<W>) -> fmt::Result {
+        self.0.fmt(f)
+    }
+}
 
 #[test]
 fn refusals_say_what_is_wrong(rt: HostRuntime) -> Result<(), Fail> {
@@ -67,6 +100,12 @@ fn refusals_say_what_is_wrong(rt: HostRuntime) -> Result<(), Fail> {
     assert_same(&rt, prints(&error, line), true);
     let name = name_in_width(alloc, &Value::new(ErrorKind::InvalidData))?;
     assert_same(&rt, name.as_str(), "InvalidData");
+    let (kind, part) = (KindName(ErrorKind::InvalidData), PartName(Difference::Seed));
+    let names = format!(in alloc; "{kind:5} {part:>9}")?;
+    assert_same(&rt, names.as_str(), "InvalidData seed");
+    let message = String::from_str(alloc, "no sketch")?;
+    let error = error_of_any(ErrorKind::InvalidData, message);
+    assert_same(&rt, prints(&error, "InvalidData => no sketch"), true);
     Ok(())
 }
 
@@ -95,6 +134,13 @@ fn wrapped_keys_are_read_and_changed(rt: HostRuntime) -> Result<(), Fail> {
     feed_wrapped(&wrapped_again(copy_of_key(&key)), &mut hasher);
     assert_same(&rt, hasher.finish64(), XxHash64::hash_u64(8, 0));
     assert_same(&rt, (*inner_of(&key), wrapped_text("fox")), (8, "fox"));
+    assert_same(&rt, wrapped_bytes(b"fox"), b"fox");
+    let alloc = rt.alloc();
+    let lists = wrapped_lists(
+        Vec::from_slice(alloc, b"fox")?,
+        String::from_str(alloc, "dog")?,
+    );
+    assert_same(&rt, (lists.0.as_slice(), lists.1.as_str()), (b"fox", "dog"));
     Ok(())
 }
 

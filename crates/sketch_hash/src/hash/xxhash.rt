@@ -310,6 +310,7 @@ fn hash_stripes(bytes: &[u8], seed: u64) -> u64
     ensures { result ≡ xxh64 seed bytes.now }
 {
     let (stripes, last) = split_pieces::<STRIPE>(bytes);
+    // The first one. `min` is for the prover, to which nobody says that there is one.
     let (first, others) = stripes.split_at(stripes.len().min(1));
     let mut lanes = ScalarLanes::start(seed);
     fold_stripes(&mut lanes, first);
