@@ -178,6 +178,18 @@ def test_seeds():
         assert (status, output) == (2, b"") and b"seed" in complaint
 
 
+def test_names_and_options_in_any_order():
+    line = xxhash.xxh64_hexdigest(FOX, 16).encode() + b"  %s\n"
+    assert run("fox", "-s", "16", "fox") == (0, line % b"fox" * 2, b"")
+    lines = line % b"fox"
+    assert run("--check", "-", "-q", "-", "-s", "16", input=lines) == (0, b"", b"")
+    # After '--' each word is a name.
+    for name in ("-c", "--", "-s"):
+        os.link("fox", name)
+    assert run("fox", "-s", "16", "--", "-c", "--") == (0, line % b"fox" + line % b"-c" + line % b"--", b"")
+    assert run("--", "-s")[1] == XXH64 + b"  -s\n"
+
+
 def test_a_file_that_cannot_be_read():
     status, output, complaint = run("missing", "fox", ".")
     assert (status, output) == (1, XXH64 + b"  fox\n")
@@ -185,6 +197,8 @@ def test_a_file_that_cannot_be_read():
         b"sketch_hash: missing: No such file or directory\nsketch_hash: .: Is a directory\n"
     )
     assert run("missing", "fox")[0] == run(".", "fox")[0] == run(*["missing"] * 256)[0] == 1
+    # A name in no encoding is told by its bytes.
+    assert run(b"\xff-none")[2] == b"sketch_hash: \xff-none: No such file or directory\n"
 
 
 @pytest.mark.parametrize("algorithm", ["xxh64", "murmur3_x64_128"])

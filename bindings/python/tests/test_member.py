@@ -82,6 +82,20 @@ def test_keys_before_a_list_that_fails_stay_inserted():
     assert b"fox" in table and table.count == 1
 
 
+def test_keys_may_wait_for_a_thread_that_uses_the_table():
+    table = filled(keys=[])
+
+    def keys():
+        yield b"one"
+        other = threading.Thread(target=table.insert, args=(b"two",), daemon=True)
+        other.start()
+        other.join(5)
+        assert not other.is_alive()
+
+    table.update(keys())
+    assert table.to_bytes() == model(10, 3, [b"one", b"two"])
+
+
 def test_a_table_without_keys_contains_none():
     table = MemberTable(17, 7)
     assert not any(bytes(length) in table for length in range(200))

@@ -39,6 +39,12 @@ def is_of_its_kind(stub, call):
     return marks == [name for name, kind in kinds.items() if isinstance(call, kind)]
 
 
+def kind_of(value):
+    """A value's kind, as stubs name it."""
+    within = {type(it).__name__ for it in value} if isinstance(value, (list, set)) else ()
+    return type(value).__name__ + "".join(f"[{name}]" for name in within)
+
+
 def test_the_stubs_fit_the_module():
     folder = os.path.dirname(sketch_hash.__file__)
     assert os.path.exists(os.path.join(folder, "py.typed"))
@@ -46,6 +52,9 @@ def test_the_stubs_fit_the_module():
         stubs = ast.parse(file.read()).body
     named = {it.name: it for it in stubs if isinstance(it, (ast.ClassDef, ast.FunctionDef))}
     assert {*named, "algorithms_available"} == {*sketch_hash.__all__, "_Hash"}
+    values = {it.target.id: ast.unparse(it.annotation) for it in stubs if isinstance(it, ast.AnnAssign)}
+    assert {*values} == {"__version__", "__all__", "algorithms_available"}
+    assert values == {name: kind_of(getattr(sketch_hash, name)) for name in values}
     for name, it in named.items():
         if isinstance(it, ast.FunctionDef):
             assert takes_the_same(it, getattr(sketch_hash, name))
@@ -58,6 +67,8 @@ def test_the_stubs_fit_the_module():
             call = inspect.getattr_static(kind, word)
             if isinstance(it, ast.FunctionDef):
                 assert takes_the_same(it, getattr(call, "fget", call)) and is_of_its_kind(it, call)
+            else:
+                assert ast.unparse(it.annotation) == f"ClassVar[{kind_of(call)}]"
     stub = {it.name: it for it in named["MemberTable"].body}
     public = {word for word in vars(sketch_hash.MemberTable) if not word.startswith("_")}
     assert {*stub} == {*public, "__init__", "__contains__", "__eq__", "__ior__", "__or__"}

@@ -20,8 +20,11 @@ def main():
     words.add_argument("-s", "--seed", type=whole_number, default=0, help="0 if left out; --check wants it too")
     words.add_argument("-c", "--check", action="store_true", help="reads hashes from FILE")
     words.add_argument("-q", "--quiet", action="store_true", help="with --check, prints no OK")
-    given = words.parse_args()
-    files = given.files or ["-"]
+    # Names and options may take turns; what follows a '--' is a name.
+    said = sys.argv[1:]
+    end = said.index("--") if "--" in said else len(said)
+    given = words.parse_intermixed_args(said[:end])
+    files = given.files + said[end + 1 :] or ["-"]
     if given.check:
         return check(files, given.seed, given.quiet)
     faults = 0
