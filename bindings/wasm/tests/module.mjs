@@ -106,6 +106,11 @@ for (const offsets of [[0, 3], ...others, new DataView(all.buffer), null, undefi
     assert.throws(() => xxh64Each(all, offsets), TypeError);
     assert.throws(() => xxh64EachU64(offsets), TypeError);
 }
+// A class of one's own is a column too.
+class Own extends BigUint64Array {}
+class OwnOffsets extends Uint32Array {}
+assert.deepEqual([...xxh64EachU64(Own.of(5n))], [xxh64(BigUint64Array.of(5n))]);
+assert.deepEqual(xxh64Each(all, OwnOffsets.from(narrow), last), xxh64Each(all, narrow, last));
 assert.throws(() => xxh64EachU64(ends), /the column must be one of BigUint64Array, BigInt64Array$/);
 assert.throws(() => murmur3X64_128Each('fox', ends), /TextEncoder/);
 // A refused seed does not let the memory grow.

@@ -252,8 +252,10 @@ def test_files_that_are_dropped(page):
         for (const name of ['first', 'second']) dropped.items.add(new File([name], name));
         dropped.items.add(new File([], 'empty'));
         const isOver = () => document.getElementById('drop').classList.contains('over');
-        for (const [type, over] of [['dragover', true], ['dragleave', false]]) {
-            document.body.dispatchEvent(new DragEvent(type, { dataTransfer: dropped, bubbles: true, cancelable: true }));
+        // To another place of the page, and out of it.
+        const [body, none] = [document.body, null];
+        for (const [type, relatedTarget, over] of [['dragover', none, true], ['dragleave', body, true], ['dragleave', none, false]]) {
+            body.dispatchEvent(new DragEvent(type, { dataTransfer: dropped, relatedTarget, bubbles: true, cancelable: true }));
             if (isOver() !== over) throw new Error(type);
         }
         for (const type of ['dragover', 'drop']) {
