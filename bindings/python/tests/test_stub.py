@@ -61,8 +61,9 @@ def test_the_stubs_fit_the_module():
         else:
             bases = getattr(sketch_hash, name).__bases__
             assert [base.id for base in it.bases] == [base.__name__ for base in bases if base is not object]
-    for it in named["_Hash"].body:
-        word = it.name if isinstance(it, ast.FunctionDef) else it.target.id
+    words = {it.name if isinstance(it, ast.FunctionDef) else it.target.id: it for it in named["_Hash"].body}
+    assert {*words} == {"__init__", *(word for word in dir(sketch_hash.xxh64) if not word.startswith("_"))}
+    for word, it in words.items():
         for kind in (sketch_hash.xxh64, sketch_hash.murmur3_x64_128):
             call = inspect.getattr_static(kind, word)
             if isinstance(it, ast.FunctionDef):
