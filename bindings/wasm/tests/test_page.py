@@ -253,9 +253,10 @@ def test_files_that_are_dropped(page):
         dropped.items.add(new File([], 'empty'));
         const isOver = () => document.getElementById('drop').classList.contains('over');
         // To another place of the page, and out of it.
-        const [body, none] = [document.body, null];
-        for (const [type, relatedTarget, over] of [['dragover', none, true], ['dragleave', body, true], ['dragleave', none, false]]) {
-            body.dispatchEvent(new DragEvent(type, { dataTransfer: dropped, relatedTarget, bubbles: true, cancelable: true }));
+        const moves = [['dragover', null, true], ['dragleave', document.body, true], ['dragleave', null, false]];
+        for (const [type, relatedTarget, over] of moves) {
+            const how = { dataTransfer: dropped, relatedTarget, bubbles: true, cancelable: true };
+            document.body.dispatchEvent(new DragEvent(type, how));
             if (isOver() !== over) throw new Error(type);
         }
         for (const type of ['dragover', 'drop']) {
