@@ -173,7 +173,7 @@ pub fn read_both_ways(reader: &mut SketchSlice) -> io::Result<(u32, u32)>
 /// # Errors
 ///
 /// Where fewer than two bytes remain: `UnexpectedEof`. Nothing remains then.
-pub fn read_short(reader: &mut SketchSlice) -> io::Result<u16>
+pub fn read_16_bits(reader: &mut SketchSlice) -> io::Result<u16>
     ensures { Reads 2 le reader.old result reader.new }
 {
     reader.read_u16_le()
@@ -184,7 +184,7 @@ pub fn read_short(reader: &mut SketchSlice) -> io::Result<u16>
 /// # Errors
 ///
 /// Where memory runs out. The bytes are then as they were.
-pub fn write_short(writer: &mut SketchBytes, n: u16) -> Result<(), AllocError>
+pub fn write_16_bits(writer: &mut SketchBytes, n: u16) -> Result<(), AllocError>
     ensures { Writes (low_bytes 2 n) writer.old result writer.new }
 {
     writer.write_u16_le(n)

@@ -113,7 +113,7 @@ pub fn pairs_of_text(seed: u64, owned: String, borrowed: &str, bytes: Vec<u8>) -
     ]
 }
 
-/// The values that each strategy's functions wrap.
+/// The values that the functions of both extending strategies wrap.
 pub fn wrapped_values(
     unsigned: (u8, u16, u32, u64),
     signed: (i8, i16, i32, i64),

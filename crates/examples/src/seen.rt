@@ -146,7 +146,7 @@ pub fn is_value_seen<T: Hash>(seen: &TableView<'_>, value: &T) -> bool
 /// # Errors
 ///
 /// Where the bytes are no table of version 2: the first fault in them. They are unchanged.
-pub fn see_value_in<T: Hash>(bytes: &mut [u8], value: &T) -> Result<(), Fault>
+pub fn insert_value_in<T: Hash>(bytes: &mut [u8], value: &T) -> Result<(), Fault>
     ensures { MatchResult result
         (λ _. Becomes (Inserts (T.fed value.now)) bytes.old bytes.new)
         (λ fault. (bytes.new ≡ bytes.old)
@@ -389,7 +389,7 @@ pub fn see_keys_twice<T: Hash>(
     insert_both(alloc, bytes, seed, log2_bits, hashes, keys)
 }
 
-/// How many keys were seen, each as often as it was, where that is known.
+/// How many inserts were counted, where that is known.
 pub fn count_seen(seen: &MemberTable) -> Option<u64>
     ensures { result ≡ seen.now.count }
 {

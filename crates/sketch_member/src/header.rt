@@ -24,7 +24,7 @@ pub(crate) struct Header {
     pub(crate) count: Option<u64>,
 }
 
-/// A part of the header in which two tables differ that have to be alike.
+/// A part of the header that has to be the same in two tables, and is not.
 #[derive(Clone, Copy, Debug, PartialEq, Eq)]
 pub enum Difference {
     /// The seeds differ.
@@ -110,7 +110,7 @@ impl Header {
         self.count = sum_of_counts(self.count, other.count);
     }
 
-    // The first part in which two headers differ that have to be alike.
+    // The first part that has to be the same in two headers, and is not.
     pub(crate) fn difference(&self, other: &Header) -> Option<Difference>
         ensures { (bits : List ℕ) (others : List ℕ) →
             MatchOption result (AreAlike (table_of self.now bits) (table_of other.now others))
@@ -142,7 +142,7 @@ impl Header {
         }
     }
 
-    // The value's index of number `j`, by the word that the value feeds, if it answers one.
+    // The value's index of number `j`, by the word that it feeds, if the value answers one.
     fn index<T: Hash>(&self, value: &T, word: Option<u64>, j: u8) -> usize
         requires word { IfSome word (λ n. T.fed value.now ≡ eight n) }
         requires size { IsLog2Bits self.now.log2_bits }
@@ -154,7 +154,7 @@ impl Header {
     }
 }
 
-// The hash of a value under a seed, by its word, if it answers one.
+// The hash of a value under a seed, by its word, if the value answers one.
 #[inline(always)]
 fn hash_under<T: Hash>(seed: u64, value: &T, word: Option<u64>) -> u64
     requires { IfSome word (λ n. T.fed value.now ≡ eight n) }

@@ -6,8 +6,8 @@ use super::{
 };
 use crate::columns::{hash_keys, hash_numbers, hash_texts, pairs_of_keys};
 use crate::items::{
-    are_same_items, form_of, read_both_ways, read_short, skip, there_and_back, write_both_ways,
-    write_if_it_fits, write_short,
+    are_same_items, form_of, read_16_bits, read_both_ways, skip, there_and_back, write_16_bits,
+    write_both_ways, write_if_it_fits,
 };
 use crate::keys::{
     hash_by_strategy, hash_of_any, hash_of_text, hash_of_value, is_new_key, is_same_key,
@@ -16,8 +16,8 @@ use crate::keys::{
 use crate::laws::hashes_of_both;
 use crate::own::{BigEndian, BigEndianStrategy, Point, Row, Word};
 use crate::seen::{
-    family_of_tables, insert_in_either_order, is_found, is_value_seen, save_any, see_key_in,
-    see_saved_key, see_value, see_value_in, start_keys,
+    family_of_tables, insert_in_either_order, insert_value_in, is_found, is_value_seen, save_any,
+    see_key_in, see_saved_key, see_value, start_keys,
 };
 use crate::sentence::hash_of_the_sentence;
 use crate::sketch::{at_place, read_sketch};
@@ -189,7 +189,7 @@ fn bytes_are_written_if_they_fit(rt: HostRuntime) -> Result<(), AllocError> {
     assert_same(&rt, writer.into_bytes().as_slice(), &[1, 2, 3]);
     let mut writer = SketchBytes::with_capacity(rt.alloc(), 0)?;
     write_both_ways(&mut writer, 0x0102_0304)?;
-    write_short(&mut writer, 0x0506)?;
+    write_16_bits(&mut writer, 0x0506)?;
     let bytes = writer.into_bytes();
     assert_same(
         &rt,
@@ -199,7 +199,7 @@ fn bytes_are_written_if_they_fit(rt: HostRuntime) -> Result<(), AllocError> {
     let mut reader = SketchSlice::new(&bytes);
     let read = read_both_ways(&mut reader);
     assert_same(&rt, read.ok(), Some((0x0102_0304, 0x0102_0304)));
-    assert_same(&rt, read_short(&mut reader).ok(), Some(0x0506));
+    assert_same(&rt, read_16_bits(&mut reader).ok(), Some(0x0506));
     Ok(())
 }
 
@@ -311,7 +311,7 @@ fn keys_are_seen_in_place_no_memory(rt: HostRuntime) {
     assert_same(&rt, see_key_in(&mut bytes, b"b"), Ok(false));
     assert_same(&rt, see_key_in(&mut bytes, b"a"), Ok(true));
     let point = Point { x: 1, y: -1 };
-    assert_same(&rt, see_value_in(&mut bytes, &point), Ok(()));
+    assert_same(&rt, insert_value_in(&mut bytes, &point), Ok(()));
     let seen = TableView::new(&bytes);
     assert!(rt; seen.is_ok_and(|seen| is_value_seen(&seen, &point)));
     assert_same(&rt, family_of_tables(), (200, "MEMBER", 2, 3));

@@ -7,7 +7,7 @@ ghost use Rattle.sketch_hash.specs.Xxh64.{xxh64};
 use super::murmurhash::MurmurHash3X64128;
 use super::xxhash::{XxHash64, hash_one_of_many};
 
-/// An offset into the bytes of a column: `u32` or `u64`.
+/// An offset into the bytes of a column: `u32`, `u64`, or a type of one's own.
 pub trait Offset: Copy {
     ghost place: { Self → ℕ };
 

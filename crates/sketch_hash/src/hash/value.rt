@@ -31,7 +31,7 @@ pub trait Hash {
         ensures { state.new ≡ H.after state.old (fed self.now) };
 
     /// The number whose eight bytes the value feeds, the lowest first, for a type that answers it.
-    /// Who hashes the value under many seeds reads it once.
+    /// A caller that hashes the value under many seeds reads it once.
     #[inline(always)]
     fn word(&self) -> Option<u64>
         ensures { IfSome result (λ n. fed self.now ≡ eight n) }
@@ -88,8 +88,8 @@ pub trait HashStrategy<T: Eq> {
     ghost respects_eq: { (x y : T) → IsTrue (T.eq x y) → fed x ≡ fed y };
 }
 
-/// A value that is fed to hashers by the strategy `S`. It compares, clones, prints and dereferences
-/// as the value itself.
+/// A value that is fed to hashers by the strategy `S`. It compares, clones and prints as the value
+/// itself, and dereferences to it.
 #[derive(Drop)]
 #[derive_where(Clone, Copy, PartialEq, Eq, PartialOrd, Ord; T)]
 pub struct Value<T, S> {

@@ -24,7 +24,6 @@ use std::fmt;
 use std::marker::Model;
 use std::simd::prelude::*;
 
-// How many bytes a stripe has.
 const STRIPE: usize = 32;
 
 const TWO_STRIPES: usize = 2 * STRIPE;
@@ -121,7 +120,7 @@ impl XxHash64 {
         }
     }
 
-    // Whether the hash starts from the seed alone: where less than a stripe was counted.
+    // Whether the hash starts from the seed alone.
     #[inline(always)]
     fn is_short(&self) -> bool
         ensures { result ≡ nat_lt self.now.total 32 }
@@ -310,7 +309,7 @@ fn hash_stripes(bytes: &[u8], seed: u64) -> u64
     ensures { result ≡ xxh64 seed bytes.now }
 {
     let (stripes, last) = split_pieces::<STRIPE>(bytes);
-    // The first one. `min` is for the prover, to which nobody says that there is one.
+    // There are two or more. `min` is there since the prover does not see it.
     let (first, others) = stripes.split_at(stripes.len().min(1));
     let mut lanes = ScalarLanes::start(seed);
     fold_stripes(&mut lanes, first);
@@ -489,7 +488,6 @@ fn byte_step(hash: u64, byte: u8) -> u64
     rotate::<11>(hash ^ u64::from(byte).wrapping_mul(PRIME5)).wrapping_mul(PRIME1)
 }
 
-// The last mixing.
 #[inline(always)]
 #[tactic(auto, unfolding(crate::specs::Xxh64::avalanche))]
 fn avalanche(hash: u64) -> u64
