@@ -97,7 +97,9 @@ def test_columns_of_many_keys():
 
 
 def test_columns_of_no_keys():
-    assert xxh64_each(numpy.zeros(0, "uint64")).tolist() == []
+    # The place of an array without numbers tells nothing.
+    for numbers in (numpy.zeros(0, "uint64"), array.array("Q")):
+        assert xxh64_each(numbers).tolist() == MemberTable(6, 1).contains_each(numbers).tolist() == []
     for each in EACH:
         assert each((b"", array.array("I", [0]))).tolist() == []
     nothing = murmur3_x64_128_each((b"", array.array("I", [0])))
@@ -116,8 +118,9 @@ def test_wrong_offsets(dtype, each):
                 each((DATA, wrong))
     with pytest.raises(ValueError, match="the offset at 2 is"):
         each((DATA, offsets[[0, 9, 8]]))
-    with pytest.raises(ValueError, match="the offset at 0 is"):
-        each((DATA, offsets[:0]))
+    for nothing in (offsets[:0], array.array("I"), array.array("Q")):
+        with pytest.raises(ValueError, match="the offset at 0 is"):
+            each((DATA, nothing))
 
 
 REFUSED = [
@@ -156,8 +159,9 @@ def test_what_is_refused_is_told():
     ):
         with pytest.raises(TypeError, match=f"^{text}$"):
             xxh64_each(keys)
-    with pytest.raises(TypeError, match="^a column of bytes is a pair of bytes and offsets$"):
-        murmur3_x64_128_each(numpy.zeros(4, "u8"))
+    for keys in (numpy.zeros(4, "u8"), (DATA,), (DATA, OFFSETS, 0)):
+        with pytest.raises(TypeError, match="^a column of bytes is a pair of bytes and offsets$"):
+            murmur3_x64_128_each(keys)
     text = "a column of numbers has to lie at a multiple of their width"
     for keys in (memoryview(bytearray(20))[4:12].cast("Q"), (b"", memoryview(bytearray(20))[2:10].cast("I"))):
         with pytest.raises(ValueError, match=f"^{text}$"):

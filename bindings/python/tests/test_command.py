@@ -155,7 +155,7 @@ def test_help():
     assert (status, complaint) == (0, b"") and words.startswith(b"usage: python3 -m sketch_hash ")
     for text in (
         "'-', or none, is standard input", "reads hashes from FILE", "with --check, prints no OK", "xxh64 if left out", "--check wants it too",
-        "Prints the hashes of files, or checks them: python3 -m sketch_hash --help",
+        "Prints the hashes of files, or checks them.",
     ):
         assert text.encode() in words
 

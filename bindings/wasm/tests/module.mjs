@@ -111,7 +111,7 @@ class Own extends BigUint64Array {}
 class OwnOffsets extends Uint32Array {}
 assert.deepEqual([...xxh64EachU64(Own.of(5n))], [xxh64(BigUint64Array.of(5n))]);
 assert.deepEqual(xxh64Each(all, OwnOffsets.from(narrow), last), xxh64Each(all, narrow, last));
-assert.throws(() => xxh64EachU64(ends), /the column must be one of BigUint64Array, BigInt64Array$/);
+assert.throws(() => xxh64EachU64(ends), /numbers or offsets must be one of BigUint64Array, BigInt64Array$/);
 assert.throws(() => murmur3X64_128Each('fox', ends), /TextEncoder/);
 // A refused seed does not let the memory grow.
 const { grow } = WebAssembly.Memory.prototype;

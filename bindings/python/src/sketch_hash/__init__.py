@@ -193,14 +193,14 @@ def _words(buffer, widths):
         hint = "" if 4 in widths else "; texts are a pair of bytes and offsets"
         raise TypeError(f"a column is one row of whole numbers of {bits} bits in the machine's byte order{hint}")
     words = _memory_of(f"uint{8 * view.itemsize}_t[]", buffer)
-    if int(_ffi.cast("uintptr_t", words)) % view.itemsize:
+    if len(words) and int(_ffi.cast("uintptr_t", words)) % view.itemsize:
         raise ValueError("a column of numbers has to lie at a multiple of their width")
     return words, view.itemsize
 
 
 def _pair(keys):
     """The bytes and the offsets of a column, as cffi sees them, and the offsets' width in bytes."""
-    if not isinstance(keys, tuple):
+    if not isinstance(keys, tuple) or len(keys) != 2:
         raise TypeError("a column of bytes is a pair of bytes and offsets")
     data, offsets = keys
     return (_memory(data), *_words(offsets, (4, 8)))

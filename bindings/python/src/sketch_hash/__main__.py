@@ -1,4 +1,4 @@
-"""Prints the hashes of files, or checks them: python3 -m sketch_hash --help"""
+"""Prints the hashes of files, or checks them."""
 import argparse
 import errno
 import os
