@@ -182,6 +182,13 @@ pub fn inner_of<T, S>(value: &Value<T, S>) -> &T
     &**value
 }
 
+/// The same, to be changed.
+pub fn inner_mut_of<T, S>(value: &mut Value<T, S>) -> &mut T
+    ensures { result.now ≡ value.old }
+{
+    &mut **value
+}
+
 /// A value that is unwrapped and wrapped again, of any type.
 pub fn wrapped_again<T, S>(value: Value<T, S>) -> Value<T, S>
     ensures { result ≡ value }

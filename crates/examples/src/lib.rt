@@ -1,6 +1,7 @@
 //! Callers of the library, each proved from its public contracts alone, to be copied and changed.
 #![tactic(auto)]
 
+pub mod clones;
 pub mod columns;
 pub mod definitions;
 pub mod items;

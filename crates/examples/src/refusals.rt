@@ -1,13 +1,15 @@
 //! What refusals say, and how a text is made of what is printed.
 
-ghost use Rattle.std.specs.Prelude.{◌≡◌, ◌≢◌, ◌⊎◌, ◌++◌, ◌∷◌, [], ℕ, List, codes, IfErr, IfOk, MatchResult, string_bytes};
+ghost use Rattle.std.specs.Prelude.{◌≡◌, ◌≢◌, ◌⊎◌, ◌++◌, ◌∷◌, [], ℕ, List, codes, IfErr, IfOk, IsTrue, MatchResult, string_bytes};
 ghost use Rattle.std.specs.Fmt.{decimal};
 ghost use Rattle.std.specs.List.{flat_map};
+ghost use Rattle.datasketches.specs.Checks.{AcceptsExactly, range};
 ghost use Rattle.datasketches.specs.ErrorValue.{add_context, debug_text, error_kind_name, error_of, line, memory_error};
-ghost use Rattle.datasketches.specs.Refusals.{Prints, Refuses};
+ghost use Rattle.datasketches.specs.Refusals.{Prints, Refuses, preamble_longs_out_of_range_text};
 ghost use Rattle.datasketches.specs.SeedHash.{seed_hash};
 
-use datasketches::codec::assert::ensure_serial_version_is;
+use datasketches::codec::assert::{ensure_preamble_longs_in_range, ensure_serial_version_is};
+use datasketches::codec::family::Family;
 use datasketches::codec::{Short, Stopped};
 use datasketches::error::{Error, ErrorKind};
 use datasketches::hash::value::natural_extend::NaturalExtend;
@@ -15,6 +17,7 @@ use datasketches::hash::{check_seed_hash, compute_seed_hash};
 use sketch_member::Fault;
 use std::alloc::{AllocError, Global};
 use std::fmt::Display;
+use std::ops::Bound;
 
 /// Accepts serial version 3.
 ///
@@ -31,6 +34,82 @@ pub fn check_version(alloc: Global, version: u8) -> Result<(), Error>
         ⊎ (error ≡ memory_error))) }
 {
     ensure_serial_version_is(alloc, 3, version)
+}
+
+/// Accepts the expected version, whichever it is.
+///
+/// # Errors
+///
+/// At any other: `InvalidData`, or `OutOfMemory` where memory for the text runs out.
+pub fn check_any_version(alloc: Global, expected: u8, actual: u8) -> Result<(), Error>
+    ensures { AcceptsExactly (actual ≡ expected)
+        (codes "unsupported serial version: expected " ++ (decimal expected
+        ++ (codes ", got " ++ decimal actual))) result }
+{
+    ensure_serial_version_is(alloc, expected, actual)
+}
+
+/// Accepts the numbers of preamble longs between any two ends.
+///
+/// # Errors
+///
+/// At any other: `InvalidData`, or `OutOfMemory` where memory for the text runs out.
+pub fn check_longs_between(
+    alloc: Global,
+    start: Bound<u8>,
+    end: Bound<u8>,
+    actual: u8,
+) -> Result<(), Error>
+    ensures { AcceptsExactly (IsTrue ((range start end).has actual))
+        (preamble_longs_out_of_range_text (range start end).text actual) result }
+{
+    ensure_preamble_longs_in_range(alloc, start, end, actual)
+}
+
+/// Accepts the number of any family.
+///
+/// # Errors
+///
+/// At any other: `InvalidData`, or `OutOfMemory` where memory for the text runs out.
+pub fn check_family(alloc: Global, family: &Family, id: u8) -> Result<(), Error>
+    ensures { AcceptsExactly (id ≡ family.now.id)
+        (codes "invalid family: expected " ++ (decimal family.now.id ++ (codes " ("
+        ++ (family.now.name.now ++ (codes "), got " ++ decimal id))))) result }
+{
+    family.validate_id(alloc, id)
+}
+
+/// The seed hash of a seed that can be used, and a refusal of any kind for another seed.
+///
+/// # Errors
+///
+/// Where the seed hash is 0: of the kind, or `OutOfMemory` where memory for the text runs out.
+pub fn hash_of_seed(alloc: Global, seed: u64, kind: ErrorKind) -> Result<u16, Error>
+    ensures { MatchResult result (λ hash. (hash ≡ seed_hash seed) × (hash ≢ 0))
+        (λ error. (seed_hash seed ≡ 0) × Refuses kind (codes "seed " ++ decimal seed
+        ++ codes " produces a seed hash of zero; choose a different seed") error) }
+{
+    compute_seed_hash(alloc, seed, kind)
+}
+
+/// Accepts the expected seed hash, and refuses another with any name and kind.
+///
+/// # Errors
+///
+/// At any other: of the kind, or `OutOfMemory` where memory for the text runs out.
+pub fn check_any_seed_hash(
+    alloc: Global,
+    expected: u16,
+    actual: u16,
+    name: &'static str,
+    kind: ErrorKind,
+) -> Result<(), Error>
+    ensures { MatchResult result (λ _. actual ≡ expected)
+        (λ error. (actual ≢ expected) × Refuses kind (codes "incompatible seed hash of "
+        ++ name.entry.now ++ codes ": expected " ++ decimal expected
+        ++ codes ", got " ++ decimal actual) error) }
+{
+    check_seed_hash(alloc, expected, actual, name, kind)
 }
 
 /// Accepts the seed hash of a seed that can be used.
@@ -93,6 +172,14 @@ pub fn ends_at_any<V: Display + Drop>(alloc: Global, value: V) -> Error
         × Refuses ErrorKind.InvalidData (codes "insufficient data: " ++ text) result }
 {
     Error::insufficient_data(alloc, value)
+}
+
+/// Data ends too early in the part of this name, as a value of any type says.
+pub fn part_ends_at_any<V: Display + Drop>(alloc: Global, part: &'static str, value: V) -> Error
+    ensures { (text : List ℕ) × Prints (V.output value) text × Refuses ErrorKind.InvalidData
+        (codes "insufficient data (" ++ (part.entry.now ++ (codes "): " ++ text))) result }
+{
+    Error::insufficient_data_of(alloc, part, value)
 }
 
 /// A wrapped value prints at any width as its inner value does.

@@ -4,6 +4,7 @@ use super::{
     FOX_MURMUR, FOX_XXH64, assert_out_of_memory, assert_refused, assert_same, assert_same_for,
     prints,
 };
+use crate::clones::{clones_of_codec, clones_of_states};
 use crate::columns::{hash_keys, hash_numbers, hash_texts, pairs_of_keys};
 use crate::items::{
     are_same_items, form_of, read_16_bits, read_both_ways, skip, there_and_back, write_16_bits,
@@ -25,8 +26,8 @@ use crate::streams::{
     answer_of, answers_under, checkpoint, keep_murmur_again, murmur_checkpoint, murmur_from,
     murmur_of_pieces, usual_hashes, write_record, xxh64_from, xxh64_of_pieces,
 };
-use datasketches::codec::{Item, Kind, SketchBytes, SketchSlice};
-use datasketches::error::Error;
+use datasketches::codec::{Item, Kind, Short, SketchBytes, SketchSlice, Stopped};
+use datasketches::error::{Error, ErrorKind};
 use datasketches::hash::value::{calculate_hash, raw_bytes};
 use datasketches::hash::{Hash, Hasher, MurmurHash3X64128, XxHash64};
 use sketch_member::{Fault, MemberTable, TableView, in_place};
@@ -110,6 +111,13 @@ fn a_stream_goes_on_from_a_checkpoint(rt: HostRuntime) {
     let state = murmur_checkpoint(0, b"The quick brown fox jumps over the");
     let state = keep_murmur_again(&state);
     assert_same(&rt, murmur_from(&state, b" lazy dog"), FOX_MURMUR);
+    let (of_murmur, of_xxh64) = clones_of_states(&state, &checkpoint(0, b"The quick"));
+    assert_same(&rt, murmur_from(&of_murmur, b" lazy dog"), FOX_MURMUR);
+    assert_same(
+        &rt,
+        xxh64_from(&of_xxh64, b" brown fox jumps over the lazy dog"),
+        FOX_XXH64,
+    );
     let mut hasher = XxHash64::with_seed(0);
     hasher.write(b"The quick brown fox jumps over the");
     assert_same(&rt, answer_of(&mut hasher, b" lazy dog"), FOX_XXH64);
@@ -165,6 +173,16 @@ fn items_are_read_back(rt: HostRuntime) {
         (Some([7, 8].as_slice()), items),
     );
     assert_same(&rt, form_of(&items[1]), Kind::U32Be);
+    let (short, stopped) = (Short { read: 1 }, Stopped { accepted: 2 });
+    let clones = clones_of_codec(
+        &items[1],
+        &kinds[0],
+        &short,
+        &stopped,
+        &ErrorKind::InvalidData,
+    );
+    let expected = (items[1], kinds[0], short, stopped, ErrorKind::InvalidData);
+    assert_same(&rt, clones, expected);
     let mut reader = SketchSlice::new(&[7, 8]);
     skip(&mut reader, 1);
     assert_same(&rt, reader.remaining(), [8].as_slice());

@@ -1,6 +1,7 @@
 //! Tables of several workers, merged in each way.
 
 use super::{assert_refused, assert_same, assert_same_for};
+use crate::clones::clones_of_faults;
 use crate::merging::{
     copy_of_fault, is_same_fault, merge_as_a_tree, merge_either_way, merge_nothing, merge_streams,
     merge_tables, merge_twin, merge_worker,
@@ -66,6 +67,9 @@ fn faults_of_merges_are_told_apart(rt: HostRuntime) {
         MergeFault::From(Fault::Family(7)),
         MergeFault::Unlike(Difference::Seed),
     ];
+    let part = Difference::Hashes;
+    let clones = clones_of_faults(&Fault::Family(7), &faults[1], &part);
+    assert_same(&rt, clones, (Fault::Family(7), faults[1], part));
     for (i, one) in faults.iter().enumerate() {
         for (j, other) in faults.iter().enumerate() {
             assert_same(&rt, is_same_fault(&copy_of_fault(one), other), i == j);

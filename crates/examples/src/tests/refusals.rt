@@ -6,19 +6,21 @@ ghost use Rattle.sketch_member.specs.Merge.{part_name};
 
 use super::{assert_refused, assert_same, prints};
 use crate::keys::{
-    copy_of_key, feed_wrapped, inner_key, inner_of, key_through_any, next_key, wrapped_again,
-    wrapped_bytes, wrapped_lists, wrapped_text,
+    copy_of_key, feed_wrapped, inner_key, inner_mut_of, inner_of, key_through_any, next_key,
+    wrapped_again, wrapped_bytes, wrapped_lists, wrapped_text,
 };
 use crate::merging::{merge_saved, merge_saved_twin};
 use crate::refusals::{
-    check_seed, check_version, ends_at_any, ends_early, error_of_any, in_context_of, name_in_width,
-    name_of_kind, refusal, text_of_fault, text_of_key, text_of_short, text_of_stopped,
-    texts_of_error, wrong_family, wrong_longs,
+    check_any_seed_hash, check_any_version, check_family, check_longs_between, check_seed,
+    check_version, ends_at_any, ends_early, error_of_any, hash_of_seed, in_context_of,
+    name_in_width, name_of_kind, part_ends_at_any, refusal, text_of_fault, text_of_key,
+    text_of_short, text_of_stopped, texts_of_error, wrong_family, wrong_longs,
 };
 use crate::seen::{
     count_saved, insert_in, is_saved, load_again, other_length, other_longs, other_size,
     other_sizes, other_version, see_keys_twice,
 };
+use datasketches::codec::family::Family;
 use datasketches::codec::{Short, Stopped};
 use datasketches::error::{Error, ErrorKind};
 use datasketches::hash::value::{Value, natural_extend, raw_bytes};
@@ -27,6 +29,7 @@ use sketch_member::{Difference, Fault, MemberTable, MergeFault};
 use std::alloc::AllocError;
 use std::error;
 use std::fmt::{self, Display};
+use std::ops::Bound;
 use std::test::Fail;
 
 // A kind of errors, which prints its name at any width.
@@ -103,6 +106,27 @@ fn refusals_say_what_is_wrong(rt: HostRuntime) -> Result<(), Fail> {
     let (kind, part) = (KindName(ErrorKind::InvalidData), PartName(Difference::Seed));
     let names = format!(in alloc; "{kind:5} {part:>9}")?;
     assert_same(&rt, names.as_str(), "InvalidData seed");
+    let line = "InvalidData => unsupported serial version: expected 7, got 2";
+    assert_refused(&rt, check_any_version(alloc, 7, 2), line);
+    let line = "InvalidData => invalid preamble longs: expected greater than 7, got 2";
+    let answer = check_longs_between(alloc, Bound::Excluded(7), Bound::Unbounded, 2);
+    assert_refused(&rt, answer, line);
+    let line = "InvalidData => invalid family: expected 21 (BLOOMFILTER), got 2";
+    assert_refused(&rt, check_family(alloc, &Family::BLOOMFILTER, 2), line);
+    assert_same(
+        &rt,
+        hash_of_seed(alloc, 9001, ErrorKind::InvalidData).ok(),
+        Some(37836),
+    );
+    let line = "InvalidArgument => incompatible seed hash of hll: expected 1, got 2";
+    let answer = check_any_seed_hash(alloc, 1, 2, "hll", ErrorKind::InvalidArgument);
+    assert_refused(&rt, answer, line);
+    let line = "InvalidData => insufficient data (head): 7";
+    assert_same(
+        &rt,
+        prints(&part_ends_at_any(alloc, "head", 7u64), line),
+        true,
+    );
     let message = String::from_str(alloc, "no sketch")?;
     let error = error_of_any(ErrorKind::InvalidData, message);
     assert_same(&rt, prints(&error, "InvalidData => no sketch"), true);
@@ -129,6 +153,7 @@ fn wrapped_keys_are_read_and_changed(rt: HostRuntime) -> Result<(), Fail> {
     let mut key = natural_extend::from_u32(7);
     next_key(&mut key);
     assert_same(&rt, (inner_key(&key), key_through_any(&mut key)), (8, 8));
+    assert_same(&rt, *inner_mut_of(&mut key), 8);
     assert_same(&rt, text_of_key(rt.alloc(), &key)?.as_str(), "8");
     let mut hasher = XxHash64::default();
     feed_wrapped(&wrapped_again(copy_of_key(&key)), &mut hasher);

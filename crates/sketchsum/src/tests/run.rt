@@ -1,8 +1,9 @@
-ghost use Rattle.std.specs.Prelude.{ℕ, ◌≡◌, ◌≢◌, ◌↔◌, ◌+◌, ◌*◌, ◌≤◌, [], ◌++◌, codes, false, true, length, Err, IsTrue, OnOk};
+ghost use Rattle.std.specs.Prelude.{ℕ, ◌≡◌, ◌≢◌, ◌↔◌, ◌+◌, ◌*◌, ◌≤◌, [], ◌++◌, codes, false, true, length, Err, IsTrue, OnErr, OnOk};
 ghost use Rattle.std.specs.Io.KnownBytes.{Keeps};
 ghost use Rattle.datasketches.specs.Murmur.{murmur};
 ghost use Rattle.datasketches.specs.Xxh64.{xxh64};
 ghost use Rattle.sketchsum.specs.Digest.{digest_line, hex_word};
+ghost use Rattle.sketchsum.specs.Running.{Runs};
 
 use super::fakes::{Full, KINDS, NarrowWriter, SlowReader};
 use super::{FOX, FOX_LINE, assert_same, definitions};
@@ -174,6 +175,8 @@ fn run_over_any<R: Read, W: Write>(
 ) -> Result<(), RunFault>
     ensures read { result ≡ Err RunFault.Read → writer.new ≡ writer.old }
     ensures too_long { result ≡ Err RunFault.TooLong → writer.new ≡ writer.old }
+    ensures runs { Runs algorithm seed turns result (R.remaining reader.old)
+        (R.remaining reader.new) (W.contents writer.old) (W.contents writer.new) }
 {
     run_bounded(algorithm, seed, turns, reader, writer)
 }
@@ -224,6 +227,7 @@ fn write_rest<R: Read, W: Write>(
     ensures too_long { result ≡ Err RunFault.TooLong →
         (reader.new.turns_left ≡ 0) × (writer.new.has_failed ≡ false) }
     ensures write_fault { result ≡ Err RunFault.Write → writer.new.has_failed ≡ true }
+    ensures silent { OnErr result (result ≢ Err RunFault.Write → writer.new ≡ writer.old) }
 {
     write_digest(algorithm, seed, reader, writer)
 }
