@@ -102,7 +102,7 @@ sketch_murmur3_x64_128_digest(const sketch_murmur3_x64_128_state_t *state);
  *
  * Key i is the bytes of `input` from offsets[i] up to offsets[i + 1], and its hash goes to out[i], for
  * each i below `count`. `offsets` has count + 1 offsets, one if there are no keys. `offset_count` says
- * how many may be read; those beyond are not.
+ * how many may be read; those beyond are not. Arrow's own are signed: cast their pointer.
  *
  * A call returns 0 when all is done. Otherwise it has written nothing, and returns 1 + the index of
  * the first offset that is missing, is above `length`, or is below the offset before it. */

@@ -56,7 +56,7 @@ const OFFSETS = [Uint32Array, Int32Array, ...NUMBERS];
 
 function checkedColumn(column, kinds) {
     if (kinds.some((kind) => column instanceof kind)) return column;
-    throw new TypeError(`the column must be one of ${kinds.map(({ name }) => name).join(', ')}`);
+    throw new TypeError(`numbers or offsets must be one of ${kinds.map(({ name }) => name).join(', ')}`);
 }
 
 function library(calls) {
