@@ -1,6 +1,6 @@
 -- What the states hold: how many bytes wait, and the waiting bytes of a number.
-use Rattle.std.proofs.Common.{◌≡◌, ℕ, zero, suc, ◌+◌, ◌%◌, ◌/◌, ◌^◌, ◌<◌, ◌≤◌, List, [], ◌∷◌, length, take, drop, refl, sym, ap, ◌∙◌, arith, ◌++◌, length-append}
-use Rattle.std.proofs.Math.Nat.{mod-add-mod, mod-eq_of_lt, suc-add, mod-eq-sub-div-mul}
+use Rattle.std.proofs.Common.{◌≡◌, ℕ, zero, suc, ◌+◌, ◌%◌, ◌/◌, ◌^◌, ◌<◌, ◌≤◌, List, ◌∷◌, length, take, drop, refl, sym, ap, ◌∙◌, ◌++◌}
+use Rattle.std.proofs.Math.Nat.{mod-add-mod, mod-eq_of_lt, suc-add}
 use Rattle.std.proofs.lemmas.List.{length-take-le}
 use Rattle.std.proofs.lemmas.List.Elements.{All-take}
 use Rattle.sketch_base.specs.Bytes.{AreBytes, le, low_bytes}
@@ -10,35 +10,9 @@ use Rattle.sketch_hash.specs.MurmurWriteLemmas.{murmur_stands_after}
 use Rattle.sketch_hash.specs.declared.hash.xxhash.state.XxHash64State.{XxHash64State}
 use Rattle.sketch_hash.specs.Xxh64WriteLemmas.{xxh64_stands_after}
 use Rattle.sketch_hash.specs.Held.{murmur_held, xxh64_held, MurmurHolds, Xxh64Holds}
-use Rattle.sketch_hash.specs.Pieces.{State, absorb, state_after}
 use Rattle.sketch_hash.specs.Murmur.{murmur_after}
-use Rattle.sketch_hash.specs.Xxh64.{Lanes, xxh64_after}
+use Rattle.sketch_hash.specs.Xxh64.{xxh64_after}
 use Rattle.sketch_hash.proofs.CopyLemmas.{copy_taken}
-use Rattle.sketch_hash.proofs.PiecesLemmas.{length_rest}
-
--- where as many bytes wait as the total has beyond the full pieces, it is so after a write
-counts-after : {P R : Type 0} (w : ℕ) (read : List ℕ → R) (f : P → R → P) (state : State P) (bytes : List ℕ) →
-    0 < w → ((n : ℕ) → n % 2 ^ 64 % w ≡ n % w) → length state.waiting ≡ state.total % w →
-    let after = state_after w read f state bytes in
-    length after.waiting ≡ after.total % w
-unfolding absorb
-counts-after w read f state [] p h e = e
-counts-after w read f state (b ∷ bytes) p h e =
-    let n : ℕ = length (b ∷ bytes) in
-    let all : List ℕ = state.waiting ++ b ∷ bytes in
-    length_rest w all ∙ sym (mod-eq-sub-div-mul (length all) w)
-    ∙ ap (λ k. k % w) (length-append state.waiting (b ∷ bytes) ∙ ap (λ k. k + n) e)
-    ∙ mod-add-mod state.total w n ∙ sym (h (state.total + n))
-
-pub murmur-counts : (state : State (ℕ × ℕ)) (bytes : List ℕ) → length state.waiting ≡ state.total % 16 →
-    length (murmur_after state bytes).waiting ≡ (murmur_after state bytes).total % 16
-unfolding murmur_after
-murmur-counts state bytes = counts-after 16 _ _ state bytes (omega arith) (λ n. omega arith)
-
-pub xxh64-counts : (state : State (ℕ × Lanes)) (bytes : List ℕ) → length state.waiting ≡ state.total % 32 →
-    length (xxh64_after state bytes).waiting ≡ (xxh64_after state bytes).total % 32
-unfolding xxh64_after
-xxh64-counts state bytes = counts-after 32 _ _ state bytes (omega arith) (λ n. omega arith)
 
 -- bytes that fill no piece, put behind the waiting ones, wait with them
 pub held-waits : (w total : ℕ) (buffer bytes : List ℕ) → ((n : ℕ) → n % 2 ^ 64 % w ≡ n % w) →
