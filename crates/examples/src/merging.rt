@@ -7,7 +7,7 @@ ghost use Rattle.sketch_member.specs.Form.{form2};
 ghost use Rattle.sketch_member.specs.InPlace.{Becomes, IsMergeFault};
 ghost use Rattle.sketch_member.specs.Laws.{IsMadeOf, StandsFor, count_after};
 ghost use Rattle.sketch_member.specs.Limits.{IsHashes, IsLog2Bits};
-ghost use Rattle.sketch_member.specs.Merge.{AreAlike, Merges};
+ghost use Rattle.sketch_member.specs.Merge.{AreAlike, Merges, sum_of_counts};
 ghost use Rattle.sketch_member.specs.Table.{Table, IsMember, IsTable, empty_table};
 
 use datasketches::error::{Error, ErrorKind};
@@ -224,10 +224,13 @@ pub fn merge_nothing(
     Ok(())
 }
 
-/// Merges a table that is the same, which changes nothing but the count. It never fails.
+/// Merges a table that is the same, which doubles the count and changes nothing else. It never
+/// fails.
 pub fn merge_twin(alloc: Global, table: &mut MemberTable, twin: &MemberTable) -> Result<(), Error>
     requires { twin.now ≡ table.old }
-    ensures { IsOk result × (table.new ≡ record table.old { count = table.new.count }) }
+    ensures { IsOk result × (table.new ≡ record table.old {
+      count = sum_of_counts table.old.count table.old.count;
+    }) }
 {
     merge_law();
     table.merge(alloc, twin)
