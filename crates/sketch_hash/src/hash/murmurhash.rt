@@ -276,8 +276,8 @@ fn fmix(word: u64) -> u64
     xor_shift(twice, 33)
 }
 
-// The same, with a test that LLVM does not put into vectors. Without it a caller's loop over keys of
-// one length becomes vector code, in which each multiplication of 64 bits is three.
+// The same, with a test that LLVM does not put into vectors. Without it, a caller's loop over keys
+// of one length becomes vector code, in which each multiplication of 64 bits is three.
 #[inline(always)]
 #[tactic(auto, using(crate::proofs::MurmurLemmas::fmix_zero))]
 fn fmix_unless_zero(word: u64) -> u64
