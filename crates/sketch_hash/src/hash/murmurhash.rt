@@ -4,7 +4,7 @@ ghost use Rattle.std.specs.Prelude.{◌≡◌, ℕ, ◌+◌, ◌-◌, ◌*◌, �
 ghost use Rattle.std.specs.List.{fold};
 ghost use Rattle.sketch_base.specs.Bytes.{le, low_bytes};
 ghost use Rattle.sketch_hash.specs.Pieces.{State};
-ghost use Rattle.sketch_hash.specs.Murmur.{mix1, mix2, fmix, step, with_tail, finalize, block_words, murmur, murmur_after, murmur_answer, MurmurStands};
+ghost use Rattle.sketch_hash.specs.Murmur.{mix1, mix2, fmix, cross, step, with_tail, finalize, block_words, murmur, murmur_after, murmur_answer, MurmurStands};
 ghost use Rattle.sketch_hash.specs.MurmurWriteLemmas.{murmur_after-append, murmur_after-empty};
 
 mod state;
@@ -75,7 +75,7 @@ impl MurmurHash3X64128 {
         ensures stands { (seed : ℕ) (bytes : List ℕ) → MurmurStands self.now seed bytes →
             result ≡ murmur seed bytes }
     {
-        finalize(
+        finalize_hasher(
             self.h1 ^ mix1(self.low),
             self.h2 ^ mix2(self.high),
             self.total,
@@ -276,8 +276,7 @@ fn fmix(word: u64) -> u64
     xor_shift(twice, 33)
 }
 
-// The same, with a test that LLVM does not put into vectors. Without it, a caller's loop over keys
-// of one length becomes vector code, in which each multiplication of 64 bits is three.
+// The same, with a test that LLVM does not put into vectors.
 #[inline(always)]
 #[tactic(auto, using(crate::proofs::MurmurLemmas::fmix_zero))]
 fn fmix_unless_zero(word: u64) -> u64
@@ -289,18 +288,30 @@ fn fmix_unless_zero(word: u64) -> u64
     fmix(word)
 }
 
+// The first word takes the sum of both, and then the second does.
+#[inline(always)]
+fn cross(h1: u64, h2: u64) -> (u64, u64)
+    ensures { result ≡ cross (h1, h2) }
+{
+    let h1 = h1.wrapping_add(h2);
+    (h1, h2.wrapping_add(h1))
+}
+
 // The hash of `total` bytes, from the pair that their blocks and their tail left.
 #[inline(always)]
 fn finalize(h1: u64, h2: u64, total: u64) -> (u64, u64)
     ensures { result ≡ finalize (h1, h2) total }
 {
-    let h1 = h1 ^ total;
-    let h2 = h2 ^ total;
-    let h1 = h1.wrapping_add(h2);
-    let h2 = h2.wrapping_add(h1);
-    let h1 = fmix_unless_zero(h1);
-    let h2 = fmix(h2);
-    let h1 = h1.wrapping_add(h2);
-    let h2 = h2.wrapping_add(h1);
-    (h1, h2)
+    let (h1, h2) = cross(h1 ^ total, h2 ^ total);
+    cross(fmix(h1), fmix(h2))
+}
+
+// The same for a hasher. Without the test, a caller's loop over keys of one length becomes vector
+// code, in which each multiplication of 64 bits is three. A key in one call is faster without it.
+#[inline(always)]
+fn finalize_hasher(h1: u64, h2: u64, total: u64) -> (u64, u64)
+    ensures { result ≡ finalize (h1, h2) total }
+{
+    let (h1, h2) = cross(h1 ^ total, h2 ^ total);
+    cross(fmix_unless_zero(h1), fmix(h2))
 }

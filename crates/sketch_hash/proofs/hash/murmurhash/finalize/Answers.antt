@@ -8,4 +8,4 @@ unfolding finalize
 returns c =
     let first = xor-is c.args.h1 c.args.total c.ranges.h1.fits c.ranges.total.fits in
     let second = xor-is c.args.h2 c.args.total c.ranges.h2.fits c.ranges.total.fits in
-    rw (first, second, c.fmix_unless_zero-h1.ensures, c.fmix-h2.ensures) refl
+    rw (first, second, c.cross.ensures, c.fmix.ensures, c.fmix-2.ensures, c.cross-h1.ensures) refl

@@ -5,9 +5,9 @@ use Rattle.sketch_hash.proofs.WordsLemmas.{xor-is}
 use Rattle.sketch_hash.proofs.MurmurLemmas.{murmur_answer-stands}
 use Rattle.sketch_hash.proofs.NumberLemmas.{padded_words, number-lt, number-words}
 use Rattle.sketch_hash.proofs.hash.murmurhash.MurmurHash3X64128.finish128.Goals as goal
-use Rattle.sketch_hash.proofs.hash.murmurhash.MurmurHash3X64128.finish128.Goals.{After-finalize}
+use Rattle.sketch_hash.proofs.hash.murmurhash.MurmurHash3X64128.finish128.Goals.{After-finalize_hasher}
 
-finished : (c : After-finalize) → c.finalize.result ≡ murmur_answer c.args.self.now
+finished : (c : After-finalize_hasher) → c.finalize_hasher.result ≡ murmur_answer c.args.self.now
 unfolding murmur_answer with_tail
 finished c =
     let i = c.self.inside in
@@ -22,7 +22,7 @@ finished c =
     let parts = number-words i.low i.high low in
     rw (
       ← c.self.view_is,
-      c.finalize.ensures,
+      c.finalize_hasher.ensures,
       ← first,
       ← second,
       c.mix1.ensures,

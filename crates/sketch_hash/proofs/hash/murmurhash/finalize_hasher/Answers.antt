@@ -1,0 +1,11 @@
+use Rattle.std.proofs.Common.{refl}
+use Rattle.sketch_hash.specs.Murmur.{finalize}
+use Rattle.sketch_hash.proofs.WordsLemmas.{xor-is}
+use Rattle.sketch_hash.proofs.hash.murmurhash.finalize_hasher.Goals as goal
+
+pub returns : goal.returns
+unfolding finalize
+returns c =
+    let first = xor-is c.args.h1 c.args.total c.ranges.h1.fits c.ranges.total.fits in
+    let second = xor-is c.args.h2 c.args.total c.ranges.h2.fits c.ranges.total.fits in
+    rw (first, second, c.cross.ensures, c.fmix_unless_zero.ensures, c.fmix.ensures, c.cross-h1.ensures) refl
