@@ -1,5 +1,5 @@
-ghost use Rattle.std.specs.Prelude.{ℕ, ◌≡◌, ◌≢◌, ◌↔◌, ◌+◌, ◌*◌, ◌≤◌, [], ◌++◌, codes, false, true, length, Err, IsTrue, OnErr, OnOk};
-ghost use Rattle.std.specs.Io.KnownBytes.{Keeps};
+ghost use Rattle.std.specs.Prelude.{ℕ, ◌≡◌, ◌≢◌, ◌↔◌, ◌+◌, ◌*◌, ◌<◌, ◌≤◌, [], ◌++◌, codes, false, true, length, Err, IfSome, IsTrue, OnErr, OnOk};
+ghost use Rattle.std.specs.Io.KnownBytes.{Appends, Keeps};
 ghost use Rattle.datasketches.specs.Murmur.{murmur};
 ghost use Rattle.datasketches.specs.Xxh64.{xxh64};
 ghost use Rattle.sketchsum.specs.Digest.{digest_line, hex_word};
@@ -12,8 +12,8 @@ use crate::digest::write_digest;
 use crate::ending::{Outcome, RunFault, ending};
 use crate::read_ahead::ReadAhead;
 use crate::run::{run, run_bounded};
-use crate::streams::{BoundedReader, CheckedWriter};
-use std::fmt::Debug;
+use crate::streams::{BoundedReader, CheckedWriter, PIECE_BYTES};
+use std::fmt::{Debug, Display};
 use std::io::{self, ErrorKind, Read, Write};
 
 #[test]
@@ -134,12 +134,19 @@ fn a_read_ahead_of_any_length_is_hashed(rt: HostRuntime) {
     }
 }
 
-// What a caller's proof knows of a run that reads ahead, as `main` does.
+// What a caller's proof knows of any reader that is to be read ahead: nothing was read of it.
+fn ahead_of<R: Read>(reader: R) -> ReadAhead<R>
+    ensures { (result.reader ≡ reader) × (result.unread ≡ []) }
+{
+    ReadAhead::new(reader)
+}
+
+// It knows of a run that reads ahead, as `main` does.
 fn run_ahead(input: &[u8], output: &mut Vec<u8>) -> Result<(), RunFault>
     ensures { OnOk result (output.new.items
         ≡ output.old.items ++ digest_line Algorithm.Xx 0 input.now) }
 {
-    run(Algorithm::Xx, 0, &mut ReadAhead::new(input), output)
+    run(Algorithm::Xx, 0, &mut ahead_of(input), output)
 }
 
 // What a caller's proof knows of a run over bytes.
@@ -194,6 +201,25 @@ fn run_or_nothing<R: Read, W: Write>(
     run(algorithm, seed, reader, writer)
 }
 
+// A read takes one turn, whatever comes of it.
+fn read_once<R: Read>(
+    reader: &mut BoundedReader<'_, R>,
+    piece: &mut [u8; PIECE_BYTES],
+) -> io::Result<usize>
+    requires turn_left { 0 < reader.old.turns_left }
+    requires unfailed { reader.old.has_failed ≡ false }
+    ensures { reader.new.turns_left + 1 ≡ reader.old.turns_left }
+{
+    reader.read(piece)
+}
+
+// How many turns a reader has left, whatever became of it.
+fn turns_of<R: Read>(reader: &BoundedReader<'_, R>) -> u64
+    ensures { result ≡ reader.now.turns_left }
+{
+    reader.turns_left()
+}
+
 // Whether `turns` turns were enough, and how many are left: none, if they were not.
 fn are_enough(
     algorithm: Algorithm,
@@ -206,7 +232,7 @@ fn are_enough(
     let mut reader = BoundedReader::new(input, turns);
     let mut writer = CheckedWriter::new(output);
     let answer = write_digest(algorithm, 0, &mut reader, &mut writer);
-    (answer != Err(RunFault::TooLong), reader.turns_left())
+    (answer != Err(RunFault::TooLong), turns_of(&reader))
 }
 
 // Writes the line of what a reader has left, where no call failed before. A line that is done is
@@ -232,12 +258,19 @@ fn write_rest<R: Read, W: Write>(
     write_digest(algorithm, seed, reader, writer)
 }
 
-// A writer to which a word is written, and then one that is new: it has nothing to be flushed.
-fn write_word<W: Write>(writer: &mut CheckedWriter<'_, W>) -> io::Result<()>
+// A writer to which a line is written, whatever prints it, and then one that is new: it has nothing
+// to be flushed.
+fn write_any<W: Write, D: Display + Drop>(
+    writer: &mut CheckedWriter<'_, W>,
+    line: D,
+) -> io::Result<()>
     requires { writer.old.has_failed ≡ false }
-    ensures { writer.new.is_flushed ≡ false }
+    ensures flushed { writer.new.is_flushed ≡ false }
+    ensures bytes { OnOk result (IfSome (D.output line) (λ text.
+        Appends (W.contents writer.old.writer.now) (W.contents writer.new.writer.now)
+        (text ++ codes "\n"))) }
 {
-    writer.writeln("word")
+    writer.writeln(line)
 }
 
 fn new_writer<W: Write>(writer: &mut W) -> CheckedWriter<'_, W>
@@ -300,10 +333,13 @@ fn a_run_stops_at_the_first_empty_read(rt: HostRuntime) {
     is_value::<Algorithm>();
     is_value::<RunFault>();
     is_value::<Outcome>();
+    let mut piece = [0; PIECE_BYTES];
+    let read = read_once(&mut BoundedReader::new(&mut FOX, 1), &mut piece);
+    assert_same(&rt, read.ok(), Some(FOX.len()));
     let (mut reader, line) = fresh(FOX);
     let mut input = BoundedReader::new(&mut reader, 2);
     let mut checked = new_writer(&mut written);
-    assert!(rt; write_word(&mut checked).is_ok());
+    assert!(rt; write_any(&mut checked, "word").is_ok());
     assert!(rt; flush_and_keep(&mut new_writer(&mut written)).is_ok());
     let answer = write_rest(Algorithm::Xx, 0, &mut input, &mut new_writer(&mut written));
     assert_same(&rt, answer, Ok(()));
