@@ -92,8 +92,9 @@ pub fn nothing_remains_after(bytes: &[u8], kinds: &[Kind], places: &mut [Item]) 
     reader.remaining().is_empty()
 }
 
-/// Writes as many items as there is room for: the answer is how many.
+/// Writes as many items as there is room for: the answer is how many. The room never shrinks.
 pub fn write_what_fits(writer: &mut SketchBytes, items: &[Item]) -> usize
+    ensures grows { writer.old.room ≤ writer.new.room }
     ensures at_most { result ≤ length items.now }
     ensures written { writer.new.bytes ≡ writer.old.bytes ++ spell_all (take result items.now) }
     ensures in_type { All InType (take result items.now) }

@@ -1,6 +1,7 @@
 //! Tables of several workers that become one, in whatever order.
 
 ghost use Rattle.std.specs.Prelude.{◌≡◌, ◌≢◌, ◌⊎◌, ◌↔◌, ℕ, ◌+◌, List, ◌++◌, codes, map, Err, IfErr, IfOk, IsOk, IsTrue};
+ghost use Rattle.std.specs.Fmt.{decimal};
 ghost use Rattle.datasketches.specs.ErrorValue.{memory_error};
 ghost use Rattle.datasketches.specs.Refusals.{Refuses};
 ghost use Rattle.sketch_member.specs.Form.{form2};
@@ -158,8 +159,12 @@ pub fn merge_streams<T: Hash>(
         × AreAlike (empty_table seed log2_bits hashes) whole
         × IsMadeOf (map T.fed first.now ++ map T.fed second.now) whole
         × (both.1.items ≡ form2 whole)) }
-    ensures refused { IfErr result (λ error. (error ≡ memory_error)
-        ⊎ (IsLog2Bits log2_bits × IsHashes hashes → ⊥)) }
+    ensures refused { IfErr result (λ error.
+        ((IsLog2Bits log2_bits → ⊥) × Refuses ErrorKind.InvalidArgument
+        (codes "invalid log2 bits: expected 6 to 20, got " ++ decimal log2_bits) error)
+        ⊎ ((IsLog2Bits log2_bits × (IsHashes hashes → ⊥) × Refuses ErrorKind.InvalidArgument
+        (codes "invalid hashes: expected 1 to 16, got " ++ decimal hashes) error)
+        ⊎ (IsLog2Bits log2_bits × IsHashes hashes × (error ≡ memory_error)))) }
 {
     merge_both(alloc, seed, log2_bits, hashes, first, second)
 }

@@ -332,6 +332,8 @@ pub fn count_saved(alloc: Global, saved: &[u8]) -> Result<Option<u64>, Error>
         IfOk result (λ count. count ≡ None) }
     ensures counted { (table : Table) → IsTable table → IsForm table saved.now →
         IfOk result (λ count. count ≡ table.count) }
+    ensures read { IfOk result (λ count. (table : Table)
+        × IsTable table × IsForm table saved.now × (count ≡ table.count)) }
     ensures refused { IfErr result (λ error. FirstFault (length saved.now) (steps saved.now) error
         ⊎ (AllPass (length saved.now) (steps saved.now) × (error ≡ memory_error))) }
 {
