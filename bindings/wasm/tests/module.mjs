@@ -141,6 +141,26 @@ for (const [more, pages] of [[page - 1, 1], [page, 2], [3 * page, 4], [4 * page 
     assert.equal(memory.buffer.byteLength, byteLength + page * pages);
 }
 
+// Each call is handed places as C wants them: at multiples of 8, behind the module's data the hash, the state and the
+// input.
+const { instantiate } = WebAssembly;
+const handed = new Map();
+WebAssembly.instantiate = async (...words) => {
+    const { exports } = (await instantiate(...words)).instance;
+    handed.set('data', exports.__heap_base.value);
+    const noted = (name, call) => (...places) => { handed.set(name, places); return call(...places); };
+    const calls = Object.entries(exports).map(([name, it]) => [name, typeof it === 'function' ? noted(name, it) : it]);
+    return { instance: { exports: Object.fromEntries(calls) } };
+};
+answer(await load(), [{ seed: '0', pieces: ['00', '0000', '00'] }]);
+WebAssembly.instantiate = instantiate;
+const [place, state] = handed.get('sketch_murmur3_x64_128_digest');
+const [stateOfXxh64, input] = handed.get('sketch_xxh64_update');
+const [, , offsets32, , , hashes32] = handed.get('sketch_xxh64_each32');
+const [, , offsets64, , , hashes64] = handed.get('sketch_murmur3_x64_128_each64');
+for (const it of [place, state, stateOfXxh64, input, offsets32, hashes32, offsets64, hashes64]) assert.equal(it % 8n, 0n);
+assert.ok(handed.get('data') <= place && place + 16n <= state && stateOfXxh64 + 80n <= input);
+
 // Engines that count pages by BigInts alone or by numbers alone, and one that has no room.
 for (const type of ['bigint', 'number']) {
     WebAssembly.Memory.prototype.grow = function (pages) {
