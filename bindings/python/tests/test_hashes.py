@@ -1,5 +1,6 @@
 """Both hashes beside python3-xxhash, a plain Murmur and known answers."""
 import array
+import ast
 import doctest
 import importlib.metadata
 import mmap
@@ -99,6 +100,10 @@ def test_what_they_are_called():
     assert sketch_hash.algorithms_available == {"xxh64", "murmur3_x64_128"}
     about = importlib.metadata.metadata("sketch-hash")
     assert about["Version"] == sketch_hash.__version__
+    assert about["Requires-Python"] == ">=3.8"
+    for name in ("__init__.py", "__main__.py"):
+        with open(os.path.join(os.path.dirname(sketch_hash.__file__), name)) as file:
+            ast.parse(file.read(), feature_version=(3, 8))
     assert [it.replace(" (", "").rstrip(")") for it in about.get_all("Requires-Dist")] == ["cffi>=1.15"]
     assert about.get_all("License-File") == ["LICENSE", "NOTICE"]
     with open(os.path.join(os.path.dirname(__file__), "..", "pyproject.toml")) as file:
