@@ -47,6 +47,11 @@ def test_tables_of_all_sizes_have_the_bytes_of_the_model(log2_bits):
         assert all(key in table for key in KEYS)
         assert table.to_bytes() == model(log2_bits, hashes, KEYS)
         assert MemberTable.from_bytes(table.to_bytes()).to_bytes() == table.to_bytes()
+        # Each of its bytes is compared and merged.
+        *others, last = table.to_bytes()
+        assert MemberTable.from_bytes(bytes([*others, last ^ 1])) != table
+        full = table.to_bytes()[:24] + b"\xff" * (2**log2_bits // 8)
+        assert (table | MemberTable.from_bytes(full)).to_bytes()[24:] == full[24:]
 
 
 def test_sizes_are_whole_numbers_of_any_class():
@@ -272,8 +277,9 @@ def test_each_key_of_a_column_is_contained_or_not():
     expected = [key in table for key in KEYS]
     assert all(expected[:30]) and 0 < expected.count(False)
     for offsets in (whole, whole.astype("u4")):
-        found = table.contains_each((COLUMN, offsets))
+        found, others = [it.contains_each((COLUMN, offsets)) for it in (table, MemberTable(8, 3))]
         assert found.tolist() == expected and numpy.asarray(found).dtype == bool
+        assert not any(others)
     numbers = numpy.arange(1000, dtype="uint64")
     table = MemberTable(8, 3, SEED)
     table.insert_each(numbers[::100].copy())
