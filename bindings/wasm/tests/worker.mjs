@@ -69,7 +69,9 @@ assert.deepEqual(reads.map(({ id }) => id).sort(), [0, 1, 2, 3].flatMap((id) => 
 for (const id of [5, 4, 0, 'none']) tell({ stop: id });
 assert.deepEqual(said.splice(0), [5, 4, 0].map((id) => ({ id, stopped: true })));
 await endReads();
-const answers = said.splice(0).filter((it) => !('done' in it));
+const later = said.splice(0);
+assert.ok(later.every(({ id }) => id !== 0)); // nor how far it is read
+const answers = later.filter((it) => !('done' in it));
 assert.deepEqual(answers, [1, 2, 3, 6, 7].map((id) => told(id, new Uint8Array(6 * piece))));
 
 // How far a file is, is told ten times a second at most.
