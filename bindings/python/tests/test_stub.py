@@ -1,6 +1,7 @@
 """The type stubs name what the module has."""
 import array
 import ast
+import builtins
 import inspect
 import os
 
@@ -25,10 +26,12 @@ def takes_the_same(stub, call):
     for place, value in enumerate(reversed(stub.args.defaults), 1):
         values[-place] = ast.literal_eval(value)
     assert dict(zip(names, values)) == {name: it.default for name, it in found.items()}
+    # What answers an object of its own class has that class.
+    own = ast.unparse(stub.returns) if ast.unparse(stub.returns).startswith("_") else None
+    taken = {**TAKEN, "self": own, "cls": f"type[{own}]"}
     for word in stub.args.args:
-        if word.arg not in ("self", "cls"):
-            wanted = TAKEN.get(f"{stub.name}.{word.arg}", TAKEN[word.arg])
-            assert ast.unparse(word.annotation) == wanted
+        wanted = taken.get(f"{stub.name}.{word.arg}", taken[word.arg])
+        assert (word.annotation and ast.unparse(word.annotation)) == wanted
     return True
 
 
@@ -49,7 +52,12 @@ def test_the_stubs_fit_the_module():
     folder = os.path.dirname(sketch_hash.__file__)
     assert os.path.exists(os.path.join(folder, "py.typed"))
     with open(os.path.join(folder, "__init__.pyi")) as file:
-        stubs = ast.parse(file.read()).body
+        tree = ast.parse(file.read())
+    stubs = tree.body
+    used = [it for it in ast.walk(tree) if isinstance(it, ast.Name)]
+    known = {it.name for it in ast.walk(tree) if isinstance(it, (ast.alias, ast.ClassDef))} | {*dir(builtins)}
+    known |= {it.id for it in used if isinstance(it.ctx, ast.Store)}
+    assert {it.id for it in used} <= known
     named = {it.name: it for it in stubs if isinstance(it, (ast.ClassDef, ast.FunctionDef))}
     assert {*named, "algorithms_available"} == {*sketch_hash.__all__, "_Hash"}
     values = {it.target.id: ast.unparse(it.annotation) for it in stubs if isinstance(it, ast.AnnAssign)}
