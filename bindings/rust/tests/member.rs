@@ -151,8 +151,10 @@ fn counts_may_be_unknown_and_end_at_the_greatest() {
     );
     assert_eq!(with_count(0, 1), Err(TableError::UnknownCount));
     let powers = (0..64).map(|place| 1 << place);
+    // A seed too.
     for count in powers.flat_map(|power: u64| [power - 1, power, power + 1]) {
         assert_eq!(with_count(1, count).unwrap().count(), Some(count));
+        assert_eq!(MemberTable::new(count, 6, 1).unwrap().seed(), count);
     }
 }
 
