@@ -39,18 +39,24 @@ assert.equal(y.digest(), xxh64(long, 5n));
 assert.equal(m.digest(), murmur3X64_128(long, 5n));
 assert.equal(y.digest(), 0x63eae01c6d8c0aecn);
 assert.equal(m.digest(), 0xd7dc1f3ffb35a07a5dcc3f369c04fb0en);
-assert.equal(y.reset(7n).update(fox).digest(), xxh64(fox, 7n));
-assert.equal(y.seed, 7n);
-assert.equal(y.copy().reset().update(fox).digest(), xxh64(fox, 7n));
+// What is copied at a time may have a byte more or less.
+for (let size = 4 * 65_536 - 2; size < 4 * 65_536 + 3; size += 1) {
+    const [front, back] = [long.subarray(0, 9), long.subarray(9, size)];
+    assert.equal(xxh64(long.subarray(0, size)), new Xxh64().update(front).update(back).digest());
+}
+const large = last - 7n;
+assert.equal(y.reset(large).update(fox).digest(), xxh64(fox, large));
+assert.equal(y.seed, large);
+assert.equal(y.copy().reset().update(fox).digest(), xxh64(fox, large));
 assert.equal(y.copy().reset(0n).update(fox).digest(), xxh64(fox));
 // A refused call leaves the stream, its seed and its input.
 for (const refused of [() => y.reset(-1n), () => y.reset(last + 1n), () => y.reset(1), () => y.update('fox')]) {
     assert.throws(refused, /is a BigInt|is from 0n|encode a string/);
-    assert.equal(y.seed, 7n);
-    assert.equal(y.digest(), xxh64(fox, 7n));
-    assert.equal(y.copy().digest(), xxh64(fox, 7n));
+    assert.equal(y.seed, large);
+    assert.equal(y.digest(), xxh64(fox, large));
+    assert.equal(y.copy().digest(), xxh64(fox, large));
 }
-assert.equal(y.reset().update(fox).digest(), xxh64(fox, 7n));
+assert.equal(y.reset().update(fox).digest(), xxh64(fox, large));
 
 // Lengths past 2^31. The zeros are never written, so they take no memory.
 {
@@ -58,6 +64,7 @@ assert.equal(y.reset().update(fox).digest(), xxh64(fox, 7n));
     assert.equal(xxh64(zeros, last), 0x432e09613d34362en);
     assert.equal(murmur3X64_128(zeros, last), 0x01cfde68872ce8d84a9cf110ff9205c1n);
     assert.equal(new Xxh64(last).update(zeros).digest(), 0x432e09613d34362en);
+    assert.equal(xxh64(zeros.subarray(2 ** 31), last), xxh64(new Uint8Array(5), last));
 }
 
 // Columns: of offsets of each kind, of none, and one that the module's memory has to grow for.
