@@ -372,6 +372,19 @@ def test_places_and_lengths_past_32_bits():
         (far, far, header_ends),
     ):
         assert lib.member_insert(at(2 * far), 0, at(place), length) == status
+    new = _calls.ffi.new
+    for each, offset, kind in (
+        (lib.xxh64_each32, "uint32_t", "uint64_t"),
+        (lib.xxh64_each64, "uint64_t", "uint64_t"),
+        (lib.murmur_each32, "uint32_t", "sketch_murmur3_x64_128_hash_t"),
+        (lib.murmur_each64, "uint64_t", "sketch_murmur3_x64_128_hash_t"),
+    ):
+        offsets, out = new(f"{offset}[2]"), new(f"{kind}[1]")
+        assert each(b"", 0, offsets, far + 1, 0, out, 1) == 0
+        assert each(b"", 0, offsets, 1, 0, out, far) == 2
+    numbers, out = new("uint64_t[1]"), new("uint64_t[1]")
+    assert lib.xxh64_each_u64(numbers, far, 0, out, 1) == 0
+    assert lib.xxh64_each_u64(numbers, 1, 0, out, far) == 2
     null = _calls.ffi.NULL
     for column, status in (
         ((at(far), far + 8, null, 8, 1), in_table),
