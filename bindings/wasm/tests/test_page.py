@@ -292,7 +292,9 @@ def test_copy(page, files):
 
 @pytest.mark.parametrize("copies, status", [("false", "selected, to be copied"), ("true", "copied")])
 def test_copy_where_the_clipboard_is_refused(page, files, copies, status):
-    refuse = f"navigator.clipboard.writeText = () => Promise.reject(); document.execCommand = () => {copies}"
+    refuse = f"navigator.clipboard.writeText = () => Promise.reject(); document.execCommand = () => {copies};"
+    # What was selected before is no more.
+    refuse += "addEventListener('click', () => getSelection().selectAllChildren(document.querySelector('h1')), true)"
     copy_fox(page, files, refuse, status)
     assert page.text("fox", "td.status") == status
     selected = page.chromium.execute_script("return getSelection().toString()")
