@@ -213,6 +213,9 @@ def test_what_is_printed_is_read_back(algorithm):
     assert (status, complaint) == (0, b"")
     assert output == b"".join(name + b": OK\n" for name in NAMES)
     assert run("--check", "--quiet", "--seed", seed, input=lines) == (0, b"", b"")
+    # Also where names are ASCII.
+    ascii = {**os.environ, "LC_ALL": "C", "PYTHONUTF8": "0", "PYTHONCOERCECLOCALE": "0"}
+    assert run("--check", "--seed", seed, input=lines, env=ascii) == (0, output, b"")
     for other in ("7", "8"):
         assert run("--check", "--seed", other, input=lines)[0] == 1
 

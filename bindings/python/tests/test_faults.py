@@ -21,15 +21,18 @@ WAYS = [copy.copy, copy.deepcopy, lambda it: it.copy(), lambda it: pickle.loads(
 @pytest.mark.parametrize("kind", KINDS)
 @pytest.mark.parametrize("way", WAYS)
 def test_a_copy_goes_its_own_way(kind, way):
-    first = kind(b"one " * 20, seed=9001)
-    second = way(first)
-    first.update(b"first")
-    second.update(b"second")
-    assert first.digest() == kind(b"one " * 20 + b"first", 9001).digest()
-    assert second.digest() == kind(b"one " * 20 + b"second", 9001).digest()
-    assert second.seed == 9001 and type(second) is kind
-    second.reset()
-    assert second.digest() == kind(seed=9001).digest()
+    # However many bytes are buffered, and also under the greatest seed.
+    for count in range(70):
+        data, seed = bytes(range(1, count + 1)), 2**64 - 1 if count % 2 else 9001
+        first = kind(data, seed=seed)
+        second = way(first)
+        first.update(b"first")
+        second.update(b"second")
+        assert first.digest() == kind(data + b"first", seed).digest()
+        assert second.digest() == kind(data + b"second", seed).digest()
+        assert second.seed == seed and type(second) is kind
+        second.reset()
+        assert second.digest() == kind(seed=seed).digest()
 
 
 class NamedXxh64(xxh64):

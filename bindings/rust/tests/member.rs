@@ -56,10 +56,12 @@ fn tables_of_all_sizes_have_the_bytes_of_the_model() {
 
 #[test]
 fn other_sizes_are_refused() {
-    for log2_bits in [0, 5, 21, 255, 256 + 10, u32::MAX] {
+    // Also those of which the lowest bits are a size.
+    let beyond = |size: u32| (8..32).map(move |power| (1 << power) + size);
+    for log2_bits in [0, 5, 21, 255, u32::MAX].into_iter().chain(beyond(10)) {
         assert_eq!(MemberTable::new(0, log2_bits, 0), Err(TableError::Log2Bits));
     }
-    for hashes in [0, 17, 255, 256 + 7, u32::MAX] {
+    for hashes in [0, 17, 255, u32::MAX].into_iter().chain(beyond(7)) {
         assert_eq!(MemberTable::new(0, 10, hashes), Err(TableError::Hashes));
     }
 }
