@@ -45,7 +45,8 @@ TELLING = "|".join([
 
 CALLS = re.compile(
     rf"{HANDED}|(?:\.(?=\w+(?:\(|::))|::)({'|'.join(ASKING)})\b\(?(?:alloc\b)?|"
-    rf"\b(alloc)\b|({TELLING})|\b(writer\.write(?:_\w+)?)\b(?=\()"
+    rf"\b(alloc)\b|({TELLING})|\b(writer\.write(?:_\w+)?)\b(?=\()|"
+    r"\b(?!(?:first|hasher|second|self|state|writer)\.)\w+\.(write(?:ln)?)\b(?=\()"
 )
 
 
@@ -132,9 +133,9 @@ def requests(path, text):
     for _, name, body in FUNCTIONS.findall(text):
         start = re.search(r"^ *\{$|\{$", body, re.M)
         called = body[start.end():] if start else ""
-        # There `self` is a writer, whose writes let a list grow.
+        # There what is written to is a writer, under whatever name, whose writes let a list grow.
         if path.endswith("/codec/encode.rt"):
-            called = called.replace("self.write", "writer.write")
+            called = re.sub(r"\b\w+\.write(?!ln)", "writer.write", called)
         calls = requests_of(called)
         if calls:
             rows.append(f"| `{path[7:]}` | `{name}` | {', '.join(f'`{call}`' for call in calls)} |")
@@ -181,6 +182,9 @@ HIDING = re.compile("|".join([
     r"^.*\b(?!alloc\b)\w+: &?(?:mut )?(?:Global|impl Alloc)\b.*",
     rf"^(?! *{HEAD}fn \w)[^\"\n]*\bfn \w+\s*[<(].*",
 ]), re.M)
+
+# What makes a list of bytes or a text a writer, which asks for memory by any write. The program alone writes to others.
+WRITING = re.compile(r"^.*\bWrite\b.*$", re.M)
 
 # Text in which code would be taken for a text or a comment: a text before two slashes, a line that goes on; and
 # blanks that are none.

@@ -130,7 +130,7 @@ size_t sketch_xxh64_each_u64(const uint64_t *values, size_t value_count, uint64_
  *
  * A table is its bytes, which any machine reads and writes alike. They lie where the caller wants,
  * as in a file that is mapped. Each call checks the header, 24 bytes, and makes no pass over the
- * bits to do so. What a call refuses it leaves as it was. */
+ * bits to do so. A call that fails changes nothing. */
 
 /* What a call returns: the first fault in this order, or -1 where the header ends before it. */
 enum sketch_member_status {

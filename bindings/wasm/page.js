@@ -145,7 +145,7 @@ at('text').oninput = hashText;
 at('seed').oninput = () => {
     const isBad = seed() === null;
     at('seed').setAttribute('aria-invalid', isBad);
-    at('seed-fault').textContent = isBad ? 'A seed is a whole number from 0 to 18446744073709551615.' : '';
+    at('seed-fault').textContent = isBad ? 'A seed is a whole number from 0 to 18446744073709551615, or hexadecimal digits after 0x.' : '';
     hashText();
     [...rows.values()].forEach(start);
 };

@@ -16,7 +16,7 @@ export interface Stream {
     digest(): bigint;
     /** The digest in lower-case hexadecimal, 16 or 32 digits, the highest first. */
     hexdigest(): string;
-    /** A stream that goes on from here by itself. */
+    /** A stream of the same bytes so far, which goes on independently. */
     copy(): this;
     /** Drops all bytes, and keeps the seed where none is given. */
     reset(seed?: bigint): this;

@@ -3,9 +3,10 @@
 //
 //     import { load } from './sketch_hash.mjs';
 //     const { xxh64, Xxh64, xxh64Each } = await load();
-//     xxh64(new TextEncoder().encode('fox'), 0n);          // a BigInt: .toString(16).padStart(16, '0')
-//     new Xxh64(0n).update(first).update(second).hexdigest();
-//     xxh64Each(bytes, Uint32Array.of(0, 3, 6));           // a BigUint64Array: the hash of each key
+//     const foxes = new TextEncoder().encode('foxes');
+//     xxh64(foxes, 0n).toString(16).padStart(16, '0');     // the hash is a BigInt
+//     new Xxh64(0n).update(foxes).update(foxes).hexdigest();
+//     xxh64Each(foxes, Uint32Array.of(0, 3, 5));           // a BigUint64Array: the hashes of fox and es
 //
 // Input is an ArrayBuffer or a view of one; a string is refused. A seed is a BigInt from 0n to
 // 2n ** 64n - 1n, and 0n if left out. sketch_hash.d.mts has the types.

@@ -35,6 +35,20 @@ def test_each_key(dtype):
         assert some.tolist() == expected(KEYS[begin:600], 0)
 
 
+def test_each_number_of_keys():
+    words, pairs = xxh64_each(PAIR, 3).tolist(), murmur3_x64_128_each(PAIR, 3).tolist()
+    numbers = numpy.arange(1, 1001, dtype="u8") * numpy.uint64(0x9E3779B97F4A7C15)
+    of_numbers = xxh64_each(numbers, 3).tolist()
+    for code in "IQ":
+        offsets = array.array(code, OFFSETS)
+        for count in range(len(KEYS) + 1):
+            some = DATA, offsets[: count + 1]
+            assert xxh64_each(some, 3).tolist() == words[:count]
+            assert murmur3_x64_128_each(some, 3).tolist() == pairs[: 2 * count]
+    for count in range(len(numbers) + 1):
+        assert xxh64_each(numbers[:count], 3).tolist() == of_numbers[:count]
+
+
 def test_offsets_of_ctypes():
     for kind in (ctypes.c_uint32, ctypes.c_uint64):
         assert xxh64_each((DATA, (kind * len(OFFSETS))(*OFFSETS)), 9).tolist() == expected(KEYS, 9)

@@ -131,7 +131,13 @@ def test_an_interrupt_ends_it_without_a_word():
 
 
 def test_streams_that_are_closed():
+    """What comes after a complaint that nobody can read is done as after any other."""
+    with open("list", "wb") as file:
+        file.write(b"no line\n" + XXH64 + b"  missing\n" + XXH64 + b"  fox\n")
+    lines = b"missing: FAILED to open or read\nfox: OK\n"
     for words, answer in [
+        ("missing fox 2>&-", (1, XXH64 + b"  fox\n", b"")),
+        ("--check missing list 2>&-", (1, lines, b"")),
         ("fox 2>&-", (0, XXH64 + b"  fox\n", b"")),
         ("fox >&-", (1, b"", b"sketch_hash: standard output: Bad file descriptor\n")),
         ("missing 2>&-", (1, b"", b"")),

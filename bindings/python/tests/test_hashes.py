@@ -133,6 +133,22 @@ def test_long_pieces_of_random_data(kind):
 
 
 @pytest.mark.parametrize("kind", KINDS)
+def test_each_length(kind):
+    """A stream that grows by a byte, one update, what an object begins with and one call agree."""
+    data, seed = memoryview(random.Random(4).randbytes(70_000)), 1 << 63 | 5
+    one_call = getattr(sketch_hash, f"{kind.__name__}_intdigest")
+    stream = kind(seed=seed)
+    for length in range(len(data) + 1):
+        answer = stream.intdigest()
+        hasher = kind(seed=seed)
+        hasher.update(data[:length])
+        assert hasher.intdigest() == one_call(data[:length], seed) == kind(data[:length], seed).intdigest() == answer
+        if length % 1000 < 3:
+            assert answer == PEERS[kind](bytes(data[:length]), seed)
+        stream.update(data[length : length + 1])
+
+
+@pytest.mark.parametrize("kind", KINDS)
 def test_lengths_past_32_bits(kind):
     """The zeros are never written, so they take no memory."""
     reserved = 0x4000  # Linux's MAP_NORESERVE

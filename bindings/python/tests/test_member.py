@@ -69,6 +69,31 @@ def test_what_was_inserted_is_contained():
     assert sum(b"key %d" % n in table for n in range(10_000, 20_000)) < 100
 
 
+def test_keys_of_each_length():
+    data, table = memoryview(random.Random(5).randbytes(70_000)), MemberTable(20, 1, SEED)
+    for length in range(len(data) + 1):
+        table.insert(data[:length])
+        assert data[:length] in table
+    assert table.to_bytes() == model(20, 1, [data[:length] for length in range(len(data) + 1)])
+
+
+def test_columns_of_each_number_of_keys():
+    keys = [b"%d" % n for n in range(600)]
+    data, ends = b"".join(keys), [0, *itertools.accumulate(map(len, keys))]
+    numbers = numpy.arange(600, dtype="u8")
+    for code in "IQ":
+        offsets = array.array(code, ends)
+        for count in range(len(keys) + 1):
+            table, of_numbers = MemberTable(14, 2, SEED), MemberTable(14, 2, SEED)
+            table.insert_each((data, offsets[: count + 1]))
+            assert table.to_bytes() == model(14, 2, keys[:count])
+            assert table.contains_each((data, offsets[: count + 1])).tolist() == [True] * count
+            of_numbers.insert_each(numbers[:count])
+            assert of_numbers.count == count and all(of_numbers.contains_each(numbers[:count]))
+            if count:
+                assert keys[count - 1] in table and (data[-3:] in table) == (count == 600)
+
+
 def test_keys_before_one_that_is_refused_stay_inserted():
     table = filled(keys=[])
     with pytest.raises(TypeError):
@@ -605,6 +630,27 @@ def test_tables_that_are_merged_into_each_other():
         worker.join(60)
         assert not worker.is_alive()
     assert b"two" in one and b"one" in two
+
+
+class OneLock:
+    """In the place of the locks of two tables: no call takes one of them while it holds one."""
+
+    is_held = False
+
+    def __enter__(self):
+        assert not self.is_held
+        self.is_held = True
+
+    def __exit__(self, *_):
+        self.is_held = False
+
+
+def test_no_call_holds_two_locks():
+    one, two = filled(keys=[b"one"]), filled(keys=[b"two"])
+    one._lock = two._lock = OneLock()
+    for call in (one.merge, one.__ior__, one.__or__, one.__eq__, one.__ne__):
+        call(two)
+        call(one)
 
 
 def test_short_calls_keep_the_lock_of_python(ticks):  # noqa: F811

@@ -26,7 +26,7 @@ where
     usize: TryFrom<O, Error: Debug>,
 {
     let (data, offsets) = column::<O>();
-    for count in [0, 1, 2, 3, 4, 5, KEYS] {
+    for count in 0..=KEYS {
         let (mut x, mut m) = ([NOT_WRITTEN; KEYS], [[NOT_WRITTEN; 2]; KEYS]);
         let seed = SEED * (count as u64 % 2);
         xxh64_each(&data, &offsets, seed, &mut x[..count]).unwrap();

@@ -87,6 +87,33 @@ fn long_pieces_have_the_hash_of_the_whole() {
     }
 }
 
+/// A stream that grows by a byte, one update, a checkpoint and one call agree at each length.
+#[test]
+fn each_length_has_one_hash() {
+    const SEED: u64 = 1 << 63 | 5;
+    let bytes = Noise(4).bytes(70_000);
+    let (mut x, mut m) = (Xxh64::new(SEED), Murmur3X64_128::new(SEED));
+    for length in 0..=bytes.len() {
+        let so_far = &bytes[..length];
+        let (mut x_whole, mut m_whole) = (Xxh64::new(SEED), Murmur3X64_128::new(SEED));
+        x_whole.update(so_far);
+        m_whole.update(so_far);
+        assert_eq!((x_whole.digest(), xxh64(so_far, SEED)), (x.digest(), x.digest()));
+        assert_eq!((m_whole.digest(), murmur3_x64_128(so_far, SEED)), (m.digest(), m.digest()));
+        assert_eq!(Xxh64::from_bytes(&x.to_bytes()).digest(), x.digest());
+        assert_eq!(Murmur3X64_128::from_bytes(&m.to_bytes()).digest(), m.digest());
+        assert_eq!((x.clone().digest(), m.clone().digest()), (x.digest(), m.digest()));
+        if length % 1000 < 3 {
+            assert_eq!(x.digest(), plain::xxh64(so_far, SEED));
+            assert_eq!(m.digest(), plain::murmur3_x64_128(so_far, SEED));
+        }
+        if length < bytes.len() {
+            x.update(&bytes[length..length + 1]);
+            m.update(&bytes[length..length + 1]);
+        }
+    }
+}
+
 #[test]
 fn numbers_are_their_bytes() {
     let mut noise = Noise(2);

@@ -55,6 +55,21 @@ fn tables_of_all_sizes_have_the_bytes_of_the_model() {
 }
 
 #[test]
+fn keys_of_each_length() {
+    let bytes: Vec<u8> = (0..70_000_u32).map(|n| (n.wrapping_mul(2654435761) >> 24) as u8).collect();
+    let mut table = MemberTable::new(SEED, 20, 1).unwrap();
+    let mut bits = vec![0; 1 << 17];
+    for length in 0..=bytes.len() {
+        let key = &bytes[..length];
+        table.insert(key);
+        assert!(table.contains(key));
+        let i = sketch_hash::xxh64(key, SEED) as usize % (1 << 20);
+        bits[i / 8] |= 1 << (i % 8);
+    }
+    assert_eq!((table.count(), &table.as_bytes()[24..]), (Some(70_001), &bits[..]));
+}
+
+#[test]
 fn other_sizes_are_refused() {
     // Also those of which the lowest bits are a size.
     let beyond = |size: u32| (8..32).map(move |power| (1 << power) + size);

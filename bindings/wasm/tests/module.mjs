@@ -39,10 +39,18 @@ assert.equal(y.digest(), xxh64(long, 5n));
 assert.equal(m.digest(), murmur3X64_128(long, 5n));
 assert.equal(y.digest(), 0x63eae01c6d8c0aecn);
 assert.equal(m.digest(), 0xd7dc1f3ffb35a07a5dcc3f369c04fb0en);
-// What is copied at a time may have a byte more or less.
-for (let size = 4 * 65_536 - 2; size < 4 * 65_536 + 3; size += 1) {
-    const [front, back] = [long.subarray(0, 9), long.subarray(9, size)];
-    assert.equal(xxh64(long.subarray(0, size)), new Xxh64().update(front).update(back).digest());
+// A stream that grows by a byte, one update, a copy and one call agree at each length; around what is copied at a time,
+// too.
+for (const [first, end] of [[0, 10_000], [65_500, 65_600], [131_000, 131_100], [262_000, 262_300], [524_200, 524_400]]) {
+    const grown = [new Xxh64(last), new Murmur3X64_128(last)].map((stream) => stream.update(long.subarray(0, first)));
+    for (let size = first; size < end; size += 1) {
+        const bytes = long.subarray(0, size);
+        const answers = grown.map((stream) => stream.digest());
+        assert.deepEqual([xxh64(bytes, last), murmur3X64_128(bytes, last)], answers);
+        assert.deepEqual([new Xxh64(last), new Murmur3X64_128(last)].map((it) => it.update(bytes).digest()), answers);
+        assert.deepEqual(grown.map((stream) => stream.copy().digest()), answers);
+        grown.forEach((stream) => stream.update(long.subarray(size, size + 1)));
+    }
 }
 const large = last - 7n;
 assert.equal(y.reset(large).update(fox).digest(), xxh64(fox, large));
@@ -61,13 +69,16 @@ for (const refused of [() => y.reset(-1n), () => y.reset(last + 1n), () => y.res
 }
 assert.equal(y.reset().update(fox).digest(), xxh64(fox, large));
 
-// Lengths past 2^31. The zeros are never written, so they take no memory.
-{
-    const zeros = new Uint8Array(2 ** 31 + 5);
-    assert.equal(xxh64(zeros, last), 0x432e09613d34362en);
-    assert.equal(murmur3X64_128(zeros, last), 0x01cfde68872ce8d84a9cf110ff9205c1n);
-    assert.equal(new Xxh64(last).update(zeros).digest(), 0x432e09613d34362en);
-    assert.equal(xxh64(zeros.subarray(2 ** 31), last), xxh64(new Uint8Array(5), last));
+// Lengths past 2^31, and the greatest that Node 20 has. The zeros are never written, so they take no memory.
+for (const [size, hash, words] of [
+    [2 ** 31 + 5, 0x432e09613d34362en, 0x01cfde68872ce8d84a9cf110ff9205c1n],
+    [2 ** 32, 0x883c7d38001fe1ebn, 0x28e77c68462f38d6784160f44a948273n],
+]) {
+    const zeros = new Uint8Array(size);
+    assert.equal(xxh64(zeros, last), hash);
+    assert.equal(murmur3X64_128(zeros, last), words);
+    assert.equal(new Xxh64(last).update(zeros).digest(), hash);
+    assert.equal(xxh64(zeros.subarray(size - 5), last), xxh64(new Uint8Array(5), last));
 }
 
 // Columns: of offsets of each kind, of none, and one that the module's memory has to grow for.
@@ -103,6 +114,12 @@ for (const at of [0, 1, 777, 299_999]) {
     assert.deepEqual([...words.subarray(2 * at, 2 * at + 2)], pairs([key], 5n));
 }
 assert.equal(before.update(long.subarray(99)).digest(), xxh64(long, 5n));
+// Each number of keys.
+for (let count = 0; count <= 1000; count += 1) {
+    const some = ends.subarray(0, count + 1);
+    assert.deepEqual(xxh64Each(long, some, 5n), hashes.subarray(0, count));
+    assert.deepEqual(murmur3X64_128Each(long, some, 5n), words.subarray(0, 2 * count));
+}
 for (const kind of [BigUint64Array, BigInt64Array]) {
     const numbers = kind.from([0n, 1n, last, 1n << 40n]);
     const expected = Array.from(numbers, (_, at) => xxh64(numbers.subarray(at, at + 1), 9n));
@@ -215,6 +232,20 @@ assert.equal(new Xxh64().update(fox).digest(), xxh64(fox, 0n));
 assert.equal(murmur3X64_128(fox), murmur3X64_128(fox, 0n));
 for (const input of ['fox', [1, 2], 5, null, undefined, new SharedArrayBuffer(8)]) assert.throws(() => xxh64(input, 0n), TypeError);
 assert.throws(() => new Xxh64().update('fox'), /TextEncoder/);
+// Memory that was given away is no input, and no column: it is not taken for one of no bytes.
+for (const kind of [...bytewise, Uint32Array, Int32Array, BigUint64Array, BigInt64Array, DataView, Buffer]) {
+    const gone = kind === Buffer ? Buffer.alloc(65_536) : new kind(new ArrayBuffer(16));
+    const { buffer } = gone;
+    structuredClone(buffer, { transfer: [buffer] });
+    for (const input of [gone, buffer]) {
+        assert.throws(() => xxh64(input), TypeError);
+        assert.throws(() => murmur3X64_128(input), TypeError);
+        assert.throws(() => xxh64Each(input, Uint32Array.of(0, 0)), TypeError);
+    }
+    for (const call of [xxh64EachU64, (it) => xxh64Each(all, it), (it) => murmur3X64_128Each(all, it)]) {
+        assert.throws(() => call(gone), TypeError);
+    }
+}
 
 // Other sources, bytes that are no module, and an engine without 64-bit memories.
 const bytes = readFileSync(new URL('sketch_hash.wasm', dist));

@@ -229,8 +229,8 @@ pub fn merge_nothing(
     Ok(())
 }
 
-/// Merges a table that is the same, which doubles the count and changes nothing else. It never
-/// fails.
+/// Merges a table that is the same. Its count, where it is known, is added once more, up to the
+/// greatest; nothing else changes. It never fails.
 pub fn merge_twin(alloc: Global, table: &mut MemberTable, twin: &MemberTable) -> Result<(), Error>
     requires { twin.now ≡ table.old }
     ensures { IsOk result × (table.new ≡ record table.old {

@@ -32,6 +32,6 @@ xor x y = xor_below 64 x y
 unfoldable pub rotate : ℕ → ℕ → ℕ
 rotate x r = x * 2 ^ r % 2 ^ 64 + x / 2 ^ (64 - r)
 
--- a word xor itself, divided by 2 ^ k
+-- a word xor the same word divided by 2 ^ k
 abbrev pub xor_shift : ℕ → ℕ → ℕ
 xor_shift k x = xor x (x / 2 ^ k)

@@ -93,7 +93,7 @@ class _Hash:
             self._begin(self._state, self._of_reset)
 
     def copy(self):
-        """An object that goes on from here by itself."""
+        """An independent object with the same seed and data."""
         return _take_up(*self.__reduce__()[1])
 
     @property
@@ -298,7 +298,7 @@ class MemberTable:
         """The table in a writable buffer, as a file that is mapped, where it stays.
 
         Nothing else may change the buffer during a call. Two views of one buffer do not wait for
-        each other. Bytes that are no table of version 2 raise ValueError, now and in each later call.
+        each other. Bytes that are no table of version 2 raise ValueError, here and in each later call.
         """
         table = _memory_of(buffer, require_writable=True)
         _done(_lib.sketch_member_check(table, len(table)))
@@ -317,7 +317,7 @@ class MemberTable:
             _done(_lib.member_insert(self._table, len(self._table), memory, len(memory)))
 
     def update(self, keys):
-        """Inserts each of some keys. Where one is refused, those before it stay inserted."""
+        """Inserts each key of an iterable. Where one is refused, those before it stay inserted."""
         for key in keys:
             self.insert(key)
 

@@ -362,12 +362,15 @@ fn prints_fields_in_the_alternate_form(rt: HostRuntime) -> Result<(), Fail> {
     Ok(())
 }
 
-// Texts of many lengths under many keys, in errors of each kind.
+// Texts of many lengths, up to a megabyte, under many keys, in errors of each kind.
 #[test]
 fn adds_contexts_of_every_length(rt: HostRuntime) -> Result<(), Fail> {
     let alloc = rt.alloc();
     let mut text = String::new(alloc);
-    for length in 0..300 {
+    for length in (0..300).chain([1 << 12, 1 << 16, 1 << 20]) {
+        for place in text.len()..length {
+            text.push(if place % 7 == 0 { 'é' } else { 'x' })?;
+        }
         for kind in KINDS {
             let mut error = error_of(alloc, kind, "m")?;
             let mut pairs = String::new(alloc);
@@ -379,7 +382,6 @@ fn adds_contexts_of_every_length(rt: HostRuntime) -> Result<(), Fail> {
             let line = format!(in alloc; "{kind}, context: {{ {pairs} }} => m")?;
             assert_text(&rt, error.to_string(alloc), &line);
         }
-        text.push(if length % 7 == 0 { 'é' } else { 'x' })?;
     }
     Ok(())
 }

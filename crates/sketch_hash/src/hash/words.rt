@@ -48,7 +48,7 @@ pub(crate) fn read_u128_le(bytes: &[u8]) -> u128
     u128::from_le_bytes(word)
 }
 
-/// A word xor itself, shifted to the right by `places`.
+/// A word xor the same word shifted to the right by `places`.
 #[inline(always)]
 pub(crate) fn xor_shift(word: u64, places: u32) -> u64
     requires { places < 64 }

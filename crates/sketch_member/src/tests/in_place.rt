@@ -146,7 +146,8 @@ const FAULTS: [Fault; 11] = [
 #[test]
 fn faults_and_their_copies_print_and_show_their_names(rt: HostRuntime) -> Result<(), Fail> {
     let alloc = rt.alloc();
-    for n in 0..5000usize {
+    let great = (0..64u8).map(|place| 1usize << (place % 64));
+    for n in (0..5000).chain(great) {
         let fault = Fault::TrailingBytes(n);
         assert_same_for(&rt, fault.clone().ok(), Some(fault), n);
         let text = format!(in alloc; "{fault:?} {fault}")?;

@@ -287,14 +287,16 @@ fn unlike_tables_without_memory(rt: HostRuntime) {
     }
 }
 
-// Once both tables are there, merges ask for nothing.
+// Once both tables are there, of whatever size, merges ask for nothing.
 #[test]
-fn merges_make_2_requests(rt: HostRuntime) -> Result<(), Fail> {
-    let mut table = table_of(rt.alloc(), 9001, 20, 16, &FIRST)?;
-    let other = table_of(rt.alloc(), 9001, 20, 16, &SECOND)?;
-    for n in 1..=20u64 {
-        table.merge(rt.alloc(), &other)?;
-        assert_same_for(&rt, table.count(), Some(5 + 4 * n), n);
+fn merges_make_30_requests(rt: HostRuntime) -> Result<(), Fail> {
+    for log2_bits in 6..=20 {
+        let mut table = table_of(rt.alloc(), 9001, log2_bits, 16, &FIRST)?;
+        let other = table_of(rt.alloc(), 9001, log2_bits, 16, &SECOND)?;
+        for n in 1..=20u64 {
+            table.merge(rt.alloc(), &other)?;
+            assert_same_for(&rt, table.count(), Some(5 + 4 * n), (log2_bits, n));
+        }
     }
     Ok(())
 }

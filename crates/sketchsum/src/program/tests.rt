@@ -176,7 +176,11 @@ fn other_words_ask_for_nothing(rt: HostRuntime) {
         assert_status(&rt, rt.alloc(), &words, 2);
     }
     for byte in 0..=255u8 {
-        assert_status(&rt, rt.alloc(), &[b"", b"xx", b"0", &[byte]], 2);
+        for word in [[byte].as_slice(), &[byte, byte]] {
+            assert_status(&rt, rt.alloc(), &[b"", b"xx", b"0", word], 2);
+            assert_status(&rt, rt.alloc(), &[b"", b"xx", word, b"0"], 2);
+            assert_status(&rt, rt.alloc(), &[b"", word, b"xx", b"0"], 2);
+        }
     }
 }
 
@@ -213,10 +217,12 @@ fn seeds_of_every_length_are_read(rt: HostRuntime) {
     }
 }
 
-// Each seed is the one that is hashed under.
+// Each seed is the one that is hashed under, also where one bit of it is set, or all but one.
 #[test]
 fn many_seeds_are_hashed_under(rt: HostRuntime) -> Result<(), AllocError> {
-    for seed in (0..5000).chain(123_400..123_500) {
+    let bits = (0..64u8).map(|place| 1u64 << (place % 64));
+    let others = (0..64u8).map(|place| !(1u64 << (place % 64)));
+    for seed in (0..5000).chain(123_400..123_500).chain(bits).chain(others) {
         let numeral = format!(in rt.alloc(); "{seed}")?;
         let mut output = Vec::new(rt.alloc());
         let words = Arguments(&[b"", b"xx", numeral.as_bytes()]);

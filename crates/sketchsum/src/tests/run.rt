@@ -105,13 +105,16 @@ fn a_read_ahead_that_fails_is_told(rt: HostRuntime) {
     }
 }
 
-// So is one where the bytes before the fault fill the memory of the read ahead, or nearly so.
+// So is one where the bytes before the fault fill the memory of the read ahead, or nearly so. With
+// 18 bytes left they fill it, and the fault is of each kind.
 #[test]
 fn a_read_ahead_fails_after_full_reads(rt: HostRuntime) {
     let bytes = [7; 131_090];
-    for left in 0..40 {
-        for (behind, most) in [(0, 65_536), (65_536, 4096), (65_536, usize::MAX)] {
-            let fault = Some((left + behind, ErrorKind::Other));
+    let places = (0..40).map(|left| (left, ErrorKind::Other));
+    let kinds = KINDS.iter().chain(&[ErrorKind::Interrupted]);
+    for (left, kind) in places.chain(kinds.map(|kind| (18, *kind))) {
+        for (behind, most) in [(0usize, 65_536), (65_536, 4096), (65_536, usize::MAX)] {
+            let fault = Some((behind.saturating_add(left), kind));
             let mut reader = ReadAhead::new(SlowReader::new(&bytes, most, fault));
             let mut written = Vec::new(rt.alloc());
             let answer = run(Algorithm::Murmur, 0, &mut reader, &mut written);
@@ -213,6 +216,13 @@ fn read_once<R: Read>(
     reader.read(piece)
 }
 
+// A new reader has all its turns, and no read of it failed.
+fn new_reader<R: Read>(reader: &mut R, turns: u64) -> BoundedReader<'_, R>
+    ensures { (result.turns_left ≡ turns) × (result.has_failed ≡ false) }
+{
+    BoundedReader::new(reader, turns)
+}
+
 // How many turns a reader has left, whatever became of it.
 fn turns_of<R: Read>(reader: &BoundedReader<'_, R>) -> u64
     ensures { result ≡ reader.now.turns_left }
@@ -229,7 +239,7 @@ fn are_enough(
 ) -> (bool, u64)
     ensures { result.0 ≡ false → result.1 ≡ 0 }
 {
-    let mut reader = BoundedReader::new(input, turns);
+    let mut reader = new_reader(input, turns);
     let mut writer = CheckedWriter::new(output);
     let answer = write_digest(algorithm, 0, &mut reader, &mut writer);
     (answer != Err(RunFault::TooLong), turns_of(&reader))
@@ -323,6 +333,10 @@ fn a_run_stops_at_the_first_empty_read(rt: HostRuntime) {
             );
         }
     }
+}
+
+#[test]
+fn a_run_is_as_its_callers_know_it(rt: HostRuntime) {
     let mut written = Vec::new(rt.alloc());
     let answer = run_or_nothing(Algorithm::Xx, 0, &mut FOX, &mut written);
     assert_same(&rt, answer, Ok(()));
