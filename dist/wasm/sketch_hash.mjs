@@ -42,7 +42,10 @@ async function read(place) {
 /** The bytes of an input, without a copy. */
 function view(input) {
     if (input instanceof ArrayBuffer) return new Uint8Array(input);
-    if (ArrayBuffer.isView(input)) return new Uint8Array(input.buffer, input.byteOffset, input.byteLength);
+    if (ArrayBuffer.isView(input)) {
+        input.keys?.(); // refuses an array whose buffer was shrunk below it, and which then has no bytes
+        return new Uint8Array(input.buffer, input.byteOffset, input.byteLength);
+    }
     throw new TypeError('the input is an ArrayBuffer or a view of one; encode a string by TextEncoder');
 }
 

@@ -25,6 +25,7 @@ def anonymous(data):
 
 TAKEN = {
     "bytes": DATA,
+    "a kind of bytes with another length": type("Kind", (bytes,), {"__len__": lambda _: 3})(DATA),
     "bytearray": bytearray(DATA),
     "memoryview": memoryview(DATA),
     "a part": memoryview(b"other" + DATA)[5:],

@@ -217,7 +217,8 @@ def test_what_is_printed_is_read_back(algorithm):
     assert status == 0
     status, output, complaint = run("--check", "--seed", seed, "-", input=lines)
     assert (status, complaint) == (0, b"")
-    assert output == b"".join(name + b": OK\n" for name in NAMES)
+    texts = [name.replace(b"\n", rb"\n").replace(b"\r", rb"\r") for name in NAMES]
+    assert output == b"".join(b"\\" * (text != name) + text + b": OK\n" for name, text in zip(NAMES, texts))
     assert run("--check", "--quiet", "--seed", seed, input=lines) == (0, b"", b"")
     # Also where names are ASCII.
     ascii = {**os.environ, "LC_ALL": "C", "PYTHONUTF8": "0", "PYTHONCOERCECLOCALE": "0"}

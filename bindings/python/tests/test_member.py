@@ -188,6 +188,10 @@ def test_bytes_may_come_in_any_buffer():
         table = MemberTable.from_bytes(data)
         table.insert(b"fox")
         assert bytes(data) == whole != table.to_bytes()
+    for data in (list(whole), numpy.repeat(numpy.frombuffer(whole, "u1"), 2)[::2]):
+        for call in (MemberTable.from_bytes, MemberTable.view):
+            with pytest.raises((TypeError, ValueError, BufferError)):
+                call(data)
 
 
 def text_of(place, value):

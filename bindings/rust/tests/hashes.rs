@@ -283,9 +283,22 @@ fn copies_go_their_own_ways() {
     let mut few = Xxh64::new(5);
     few.update(b"fox");
     assert_eq!(format!("{few:?}"), "Xxh64 { seed: 5, length: 3 }");
-    let mut other = Xxh64::new(6);
-    other.clone_from(&few);
-    assert_eq!((other.digest(), format!("{other:?}")), (few.digest(), format!("{few:?}")));
+    // Also into a hasher that has bytes of its own.
+    for (from, into) in (0..70 * 70).map(|pair| (pair / 70, pair % 70)) {
+        let (mut x, mut m) = (Xxh64::new(5), Murmur3X64_128::new(5));
+        x.update(&vec![1; from]);
+        m.update(&vec![1; from]);
+        let (mut x2, mut m2) = (Xxh64::new(6), Murmur3X64_128::new(6));
+        x2.update(&vec![2; into]);
+        m2.update(&vec![2; into]);
+        x2.clone_from(&x);
+        m2.clone_from(&m);
+        assert_eq!((format!("{x2:?}"), format!("{m2:?}")), (format!("{x:?}"), format!("{m:?}")));
+        x2.update(FOX);
+        m2.update(FOX);
+        let whole = [&vec![1; from], FOX].concat();
+        assert_eq!((x2.digest(), m2.digest()), (xxh64(&whole, 5), murmur3_x64_128(&whole, 5)));
+    }
     let again = Xxh64::from_bytes(&few.to_bytes());
     assert_eq!(format!("{again:?}"), "Xxh64 { seed: 5, length: 3 }");
 }

@@ -56,7 +56,8 @@ fn tables_of_all_sizes_have_the_bytes_of_the_model() {
 
 #[test]
 fn keys_of_each_length() {
-    let bytes: Vec<u8> = (0..70_000_u32).map(|n| (n.wrapping_mul(2654435761) >> 24) as u8).collect();
+    let bytes: Vec<u8> =
+        (0..70_000_u32).map(|n| (n.wrapping_mul(2654435761) >> 24) as u8).collect();
     let mut table = MemberTable::new(SEED, 20, 1).unwrap();
     let mut bits = vec![0; 1 << 17];
     for length in 0..=bytes.len() {

@@ -232,18 +232,30 @@ assert.equal(new Xxh64().update(fox).digest(), xxh64(fox, 0n));
 assert.equal(murmur3X64_128(fox), murmur3X64_128(fox, 0n));
 for (const input of ['fox', [1, 2], 5, null, undefined, new SharedArrayBuffer(8)]) assert.throws(() => xxh64(input, 0n), TypeError);
 assert.throws(() => new Xxh64().update('fox'), /TextEncoder/);
-// Memory that was given away is no input, and no column: it is not taken for one of no bytes.
-for (const kind of [...bytewise, Uint32Array, Int32Array, BigUint64Array, BigInt64Array, DataView, Buffer]) {
-    const gone = kind === Buffer ? Buffer.alloc(65_536) : new kind(new ArrayBuffer(16));
-    const { buffer } = gone;
+// Memory that was given away, or that ends before a view begins, is no input and no column: it is not taken for one of
+// no bytes.
+const givenAway = (kind) => {
+    const view = kind === Buffer ? Buffer.alloc(65_536) : new kind(new ArrayBuffer(16));
+    const { buffer } = view;
     structuredClone(buffer, { transfer: [buffer] });
-    for (const input of [gone, buffer]) {
-        assert.throws(() => xxh64(input), TypeError);
-        assert.throws(() => murmur3X64_128(input), TypeError);
-        assert.throws(() => xxh64Each(input, Uint32Array.of(0, 0)), TypeError);
-    }
-    for (const call of [xxh64EachU64, (it) => xxh64Each(all, it), (it) => murmur3X64_128Each(all, it)]) {
-        assert.throws(() => call(gone), TypeError);
+    return [view, buffer];
+};
+const shrunk = (kind) => {
+    const buffer = new ArrayBuffer(16, { maxByteLength: 16 });
+    const view = kind === Buffer ? Buffer.from(buffer, 8) : new kind(buffer, 8);
+    buffer.resize(0);
+    return [view];
+};
+for (const kind of [...bytewise, Uint32Array, Int32Array, BigUint64Array, BigInt64Array, DataView, Buffer]) {
+    for (const inputs of [givenAway(kind), shrunk(kind)]) {
+        for (const input of inputs) {
+            assert.throws(() => xxh64(input), TypeError);
+            assert.throws(() => murmur3X64_128(input), TypeError);
+            assert.throws(() => xxh64Each(input, Uint32Array.of(0, 0)), TypeError);
+        }
+        for (const call of [xxh64EachU64, (it) => xxh64Each(all, it), (it) => murmur3X64_128Each(all, it)]) {
+            assert.throws(() => call(inputs[0]), TypeError);
+        }
     }
 }
 

@@ -15,6 +15,9 @@ for (const Kind of [library.Xxh64, library.Murmur3X64_128]) {
     const digest: bigint = stream.reset(stream.seed).digest();
     const digits: string = stream.hexdigest();
 }
+// A stream of one's own stays one.
+class Named extends library.Xxh64 { own = ''; }
+const own: string = new Named().update(input).copy().reset().own;
 const version: number = library.version;
 
 // @ts-expect-error: a string has no bytes until it is encoded

@@ -95,12 +95,18 @@ class Bar:
             print("\r\033[K", end="", file=sys.stderr, flush=True)
 
 
+def escaped(name):
+    """What a line begins with, a backslash where its name is escaped, as in sha256sum; and the name."""
+    text = name
+    for plain, escape in ESCAPES:
+        text = text.replace(plain, escape)
+    return "\\" if text != name else "", text
+
+
 def line(digits, name):
-    """A hash and a name. As in sha256sum, a line whose name is escaped begins with a backslash."""
-    escaped = name
-    for text, escape in ESCAPES:
-        escaped = escaped.replace(text, escape)
-    return f"{chr(92) if escaped != name else ''}{digits}  {escaped}"
+    """A hash and a name."""
+    mark, text = escaped(name)
+    return f"{mark}{digits}  {text}"
 
 
 def parts(text):
@@ -145,7 +151,9 @@ def check(lists, seed, is_quiet):
             good += is_same
             if not is_same or not is_quiet:
                 why = "OK" if is_same else "FAILED" if hasher else "FAILED to open or read"
-                say(f"{name_of}: {why}")
+                # A name that would take two lines is escaped; others stand as they are.
+                printed = "".join(escaped(name_of)) if {*name_of} & {*"\n\r"} else name_of
+                say(f"{printed}: {why}")
     for count, what in (
         (bad, "improperly formatted line(s)"),
         (unread, "file(s) could not be read"),
