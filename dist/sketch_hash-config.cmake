@@ -1,7 +1,9 @@
 # find_package(sketch_hash) gives two targets, the shared and the static library:
 # sketch_hash::sketch_hash and sketch_hash::sketch_hash_static.
 
-get_filename_component(sketch_hash_prefix "${CMAKE_CURRENT_LIST_DIR}/../../.." ABSOLUTE)
+# The folder itself, and not a link that leads to it, as /lib does to /usr/lib: beside that there is no include.
+get_filename_component(sketch_hash_prefix "${CMAKE_CURRENT_LIST_DIR}" REALPATH)
+get_filename_component(sketch_hash_prefix "${sketch_hash_prefix}/../../.." ABSOLUTE)
 
 if(NOT TARGET sketch_hash::sketch_hash)
     add_library(sketch_hash::sketch_hash SHARED IMPORTED)
