@@ -268,6 +268,37 @@ fn words_are_the_numbers_that_are_fed(rt: HostRuntime) {
     );
     let text = raw_bytes::from_str("8 letter");
     assert_same(&rt, [7u32.word(), (-7i8).word(), text.word()], [None; 3]);
+    // Each number of 8 bits, and wider ones of such bytes, also with the other highest bit.
+    for byte in 0..=u8::MAX {
+        for last in [byte, byte ^ 0x80] {
+            let of8 = byte.cast_signed();
+            let of16 = i16::from_le_bytes([byte, last]);
+            let of32 = i32::from_le_bytes([byte, byte, byte, last]);
+            let of64 = i64::from_le_bytes([byte, byte, byte, byte, byte, byte, byte, last]);
+            let words = [
+                natural_extend::from_u8(byte).word(),
+                natural_extend::from_i8(of8).word(),
+                natural_extend::from_u16(of16.cast_unsigned()).word(),
+                natural_extend::from_i16(of16).word(),
+                natural_extend::from_u32(of32.cast_unsigned()).word(),
+                natural_extend::from_i32(of32).word(),
+                natural_extend::from_u64(of64.cast_unsigned()).word(),
+                natural_extend::from_i64(of64).word(),
+                sign_extend::from_u8(byte).word(),
+                sign_extend::from_i8(of8).word(),
+                sign_extend::from_u16(of16.cast_unsigned()).word(),
+                sign_extend::from_i16(of16).word(),
+                sign_extend::from_u32(of32.cast_unsigned()).word(),
+                sign_extend::from_i32(of32).word(),
+                sign_extend::from_u64(of64.cast_unsigned()).word(),
+                sign_extend::from_i64(of64).word(),
+                of64.cast_unsigned().word(),
+                of64.word(),
+            ];
+            let none = words.iter().position(|word| word.is_none());
+            assert_same_for(&rt, none, None, (byte, last));
+        }
+    }
 }
 
 #[test]
