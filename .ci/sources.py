@@ -43,6 +43,7 @@ TELLING = "|".join([
     r"\bStopped \{(?! \.\. \}| \w+ \}\) =>)", r"\b(?:AllocFailed|SpawnError)\b", r"\bErr\((?:[^()]|\([^()]*\))*\)\?",
 ])
 
+# The last are writes to what is no hasher: hashers have these names in the sources.
 CALLS = re.compile(
     rf"{HANDED}|(?:\.(?=\w+(?:\(|::))|::)({'|'.join(ASKING)})\b\(?(?:alloc\b)?|"
     rf"\b(alloc)\b|({TELLING})|\b(writer\.write(?:_\w+)?)\b(?=\()|"
