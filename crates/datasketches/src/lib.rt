@@ -8,5 +8,3 @@ pub use sketch_hash::hash;
 
 pub mod known_answers;
 pub mod laws;
-#[cfg(test)]
-mod tests;

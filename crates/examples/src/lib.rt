@@ -15,5 +15,3 @@ pub mod seen;
 pub mod sentence;
 pub mod sketch;
 pub mod streams;
-#[cfg(test)]
-mod tests;

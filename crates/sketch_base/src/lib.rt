@@ -4,5 +4,3 @@
 
 pub mod codec;
 pub mod error;
-#[cfg(test)]
-mod tests;

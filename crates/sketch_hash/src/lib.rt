@@ -5,5 +5,3 @@
 pub mod hash;
 pub mod known_answers;
 pub mod laws;
-#[cfg(test)]
-mod tests;

@@ -13,8 +13,6 @@ pub mod laws;
 mod limits;
 mod reading;
 mod table;
-#[cfg(test)]
-mod tests;
 mod view;
 
 pub use self::fault::{Fault, MergeFault};

@@ -1,5 +1,5 @@
-//! Tests that cross the libraries: vectors, cuts, equalities and samples of hashes, and the bytes
-//! that values feed.
+//! The tests of the library, of the Bloom filter and of the callers in `examples`. A crate that has
+//! tests is proved a second time with them, so these have a crate of their own.
 //!
 //! The vectors in `tests/vectors.rt` are those of the tests of DataSketches' Rust, and one made by
 //! running xxHash 0.8.1. The samples in `tests/samples/answers.rt`, and those of single numbers in

@@ -1,19 +1,28 @@
 ghost use Rattle.std.specs.Prelude.{IsTrue};
 
+mod base;
 mod both;
+mod callers;
 mod cuts;
 mod equalities;
 mod fed;
+mod hash;
+mod laws;
+mod member;
+mod refusals;
 mod samples;
 mod vectors;
 
-use std::fmt::Debug;
+use std::fmt::{Debug, Display};
+use std::io::Write;
 use std::process::Abort;
 
 /// The sentence that hashes are shown on, and its hashes under seed 0.
 pub(crate) const FOX: &[u8] = b"The quick brown fox jumps over the lazy dog";
 
 pub(crate) const FOX_MURMUR: (u64, u64) = (0xe34b_bc7b_bc07_1b6c, 0x7a43_3ca9_c49a_9347);
+
+pub(crate) const FOX_XXH64: u64 = 0x0b24_2d36_1fda_71bc;
 
 /// Asserts that two values are equal.
 pub(crate) fn assert_same<T: PartialEq + Debug + Drop>(rt: &impl Abort, left: T, right: T)
@@ -22,7 +31,7 @@ pub(crate) fn assert_same<T: PartialEq + Debug + Drop>(rt: &impl Abort, left: T,
     assert_eq!(rt; left, right);
 }
 
-/// Asserts it of one case among several.
+/// Asserts that two values are equal, and names the case if they are not.
 pub(crate) fn assert_same_for<T: PartialEq + Debug + Drop>(
     rt: &impl Abort,
     left: T,
@@ -32,4 +41,13 @@ pub(crate) fn assert_same_for<T: PartialEq + Debug + Drop>(
     ensures { IsTrue (T.eq left right) }
 {
     assert_eq!(rt; left, right, "for {case:?}");
+}
+
+/// Whether a value prints exactly this text, of at most 256 bytes. Asks for no memory.
+pub(crate) fn prints<D: Display + Drop>(value: D, text: &str) -> bool {
+    let mut printed = [0; 256];
+    let mut rest = printed.as_mut_slice();
+    let is_whole = rest.write_fmt(value).is_ok();
+    let count = 256usize.saturating_sub(rest.len());
+    is_whole && printed.get(..count) == Some(text.as_bytes())
 }

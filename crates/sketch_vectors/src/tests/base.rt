@@ -1,0 +1,4 @@
+//! Errors and the codec: `sketch_base`.
+
+mod codec;
+mod error;
