@@ -1,4 +1,4 @@
-//! The tests of the library, of the Bloom filter and of the callers in `examples`. A crate that has
+//! The tests of the library: of `sketch_base`, `sketch_hash` and `datasketches`. A crate that has
 //! tests is proved a second time with them, so these have a crate of their own.
 //!
 //! The vectors in `tests/vectors.rt` are those of the tests of DataSketches' Rust, and one made by

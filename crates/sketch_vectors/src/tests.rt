@@ -2,13 +2,11 @@ ghost use Rattle.std.specs.Prelude.{IsTrue};
 
 mod base;
 mod both;
-mod callers;
 mod cuts;
 mod equalities;
 mod fed;
 mod hash;
 mod laws;
-mod member;
 mod refusals;
 mod samples;
 mod vectors;

@@ -1,6 +1,6 @@
 //! Refusals: the lines that they print, and `OutOfMemory` in their place.
 
-use super::{assert_same, assert_same_for, prints};
+use super::{assert_same_for, prints};
 use sketch_base::error::{Error, ErrorKind};
 use std::fmt::Debug;
 use std::io::Eprint;
@@ -40,12 +40,6 @@ pub(crate) fn assert_line_or_refusal<R: Abort + Eprint>(rt: &R, error: &Error, l
         return;
     }
     assert_same_for(rt, has_line(error, line), true, line);
-}
-
-/// Asserts that an error tells that memory ran out.
-pub(crate) fn assert_out_of_memory<R: Abort + Eprint>(rt: &R, error: &Error) {
-    tell_refusal(rt);
-    assert_same(rt, is_memory_error(error), true);
 }
 
 /// Writes the line that tells `.ci/sweep` of a refused request for memory. The sweep fails a test

@@ -1,4 +1,4 @@
-use Rattle.sketch_vectors.proofs.tests.member.merging.contain.Goals as goal
+use Rattle.user_tests.proofs.tests.member.merging.contain.Goals as goal
 
 pub returns : goal.returns
 returns c values others alike stands stands_other same =
