@@ -21,7 +21,8 @@ pub(crate) fn assert_refused<T: Drop>(rt: &impl Abort, answer: Result<T, Error>,
     assert_same_for(rt, is_told, true, line);
 }
 
-/// Asserts that an answer is a refusal that displays this line, or that memory for its text ran out.
+/// Asserts that an answer is a refusal that displays this line, or that memory for its text ran
+/// out.
 pub(crate) fn assert_refused_or_memory<R: Abort + Eprint, T: Drop>(
     rt: &R,
     answer: Result<T, Error>,

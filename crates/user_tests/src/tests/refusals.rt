@@ -5,7 +5,8 @@ use datasketches::error::{Error, ErrorKind};
 use std::io::Eprint;
 use std::process::Abort;
 
-/// Asserts that an answer is a refusal that displays this line, or that memory for its text ran out.
+/// Asserts that an answer is a refusal that displays this line, or that memory for its text ran
+/// out.
 pub(crate) fn assert_refused_or_memory<R: Abort + Eprint, T: Drop>(
     rt: &R,
     answer: Result<T, Error>,
