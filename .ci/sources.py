@@ -6,7 +6,7 @@ import re
 
 def is_source(path):
     """Whether a file is code of a crate, and no test."""
-    return bool(re.match(r"crates/(?!(?:sketch_vectors|user_tests)/)\w+/src/(?!.*\btests(?:/|\.rt$)).*\.rt$", path))
+    return bool(re.match(r"crates/(?!sketch_vectors/)\w+/src/(?!.*\btests(?:/|\.rt$)).*\.rt$", path))
 
 
 def code_of(text):
