@@ -123,5 +123,5 @@ int main(void) {
     wrong_offsets();
     numbers();
     no_keys();
-    return conclude(100000);
+    return conclude(128021);
 }

@@ -236,5 +236,5 @@ int main(int count, char **arguments) {
         for (unsigned hashes = 1; hashes <= 16; hashes++) of_size(log2_bits, hashes);
     damaged();
     other_tables();
-    return conclude(200000);
+    return conclude(328467 + 2480 * ((long)widest - 5));
 }
