@@ -75,6 +75,11 @@ class Page:
     def wait_for(self, name, status):
         self.wait(lambda: status in self.text(name, "td.status"))
 
+    def stop(self, name):
+        """By a key: a click can miss the button, since the rows of files that are read change their widths."""
+        self.row(name).find_element(By.CSS_SELECTOR, "button.stop").send_keys(Keys.ENTER)
+        self.wait_for(name, "stopped")
+
     def type(self, text):
         typed = "arguments[0].value = arguments[1]; arguments[0].dispatchEvent(new Event('input'))"
         self.chromium.execute_script(typed, self.one("textarea#text"), text)
@@ -339,8 +344,7 @@ def test_another_seed_stops_what_is_read(page, tmp_path):
         assert all(bar.get_property("value") < 1 << 30 for bar in bars)
     page.wait(lambda: all(bar.get_property("value") > 0 for bar in bars))
     for name in names:
-        page.row(name).find_element(By.CSS_SELECTOR, "button.stop").click()
-        page.wait_for(name, "stopped")
+        page.stop(name)
 
 
 def test_the_button_that_a_file_ends_under(page, tmp_path):
@@ -359,8 +363,7 @@ def test_stop_before_the_beginning(page, tmp_path, files):
         page.choose(sparse(tmp_path / name, 1 << 36))
     page.choose(*files(fox=FOX))
     for name in reversed(names):
-        page.row(name).find_element(By.CSS_SELECTOR, "button.stop").click()
-        page.wait_for(name, "stopped")
+        page.stop(name)
     page.wait_for("fox", "done")
     assert page.hashes("fox") == FOX_HASHES
 
