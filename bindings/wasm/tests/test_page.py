@@ -76,7 +76,7 @@ class Page:
         self.wait(lambda: status in self.text(name, "td.status"))
 
     def stop(self, name):
-        """By a key: a click can miss the button, since the rows of files that are read change their widths."""
+        """By a key, which needs no place: a row changes while its file is read."""
         self.row(name).find_element(By.CSS_SELECTOR, "button.stop").send_keys(Keys.ENTER)
         self.wait_for(name, "stopped")
 
