@@ -149,7 +149,10 @@ at('seed').oninput = () => {
     hashText();
     [...rows.values()].forEach(start);
 };
+// What else is dragged goes where it is dropped, as text into its field.
+const hasFiles = (event) => event.dataTransfer.types.includes('Files');
 addEventListener('dragover', (event) => {
+    if (!hasFiles(event)) return;
     event.preventDefault();
     at('drop').classList.add('over');
 });
@@ -157,6 +160,7 @@ addEventListener('dragleave', (event) => {
     if (!event.relatedTarget) at('drop').classList.remove('over');
 });
 addEventListener('drop', (event) => {
+    if (!hasFiles(event)) return;
     event.preventDefault();
     at('drop').classList.remove('over');
     [...event.dataTransfer.files].forEach(add);

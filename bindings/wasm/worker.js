@@ -86,9 +86,11 @@ async function hashFile(job) {
 // buffer of the reader's own are as fast in Chromium 156, but one in some twenty never ends.)
 async function* pieces(file) {
     const ahead = [];
-    for (let at = 0, next = 0; at < file.size; at += READ) {
-        for (; next < file.size && ahead.length < AHEAD; next += READ) {
-            const reading = file.slice(next, next + READ).arrayBuffer();
+    const end = Math.max(file.size, 1);
+    for (let at = 0, next = 0; at < end; at += READ) {
+        for (; next < end && ahead.length < AHEAD; next += READ) {
+            // A file of no bytes is read as a whole, which fails where it is gone; a part of it would not.
+            const reading = (file.size > 0 ? file.slice(next, next + READ) : file).arrayBuffer();
             reading.catch(() => {}); // told where it is awaited
             ahead.push(reading);
         }

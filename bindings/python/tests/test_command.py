@@ -176,7 +176,7 @@ def test_names_are_printed_as_sha256sum_does():
 
 
 def test_seeds():
-    assert run("--seed", "0x10", "fox") == run("--seed", "16", "fox") == run("-s", "16", "fox")
+    assert run("--seed", "0x10", "fox") == run("--seed", "16", "fox") == run("-s", "0016", "fox")
     assert run("-s", "0b10000", "fox") == run("-s", "1_6", "fox") == run("-s", "16", "fox")
     assert run("--seed", "18446744073709551615", "fox")[1] != run("fox")[1]
     for seed in ("18446744073709551616", "-1", "many", "1.5"):

@@ -75,6 +75,39 @@ def test_a_checkpoint_of_another_length_is_refused():
 
 
 @pytest.mark.parametrize("kind", KINDS)
+def test_pickles_of_1_1_0_are_read(kind):
+    """Which name what takes up a checkpoint, the kind, a seed and the checkpoint."""
+    hasher = kind(bytes(35), 7)
+    checkpoint = hasher.__reduce__()[1][2]
+    old = b"\x80\x03csketch_hash\n_take_up\n(csketch_hash\n%b\nK\x07C%c%btR."
+    read = pickle.loads(old % (kind.__name__.encode(), len(checkpoint), checkpoint))
+    assert read.digest() == hasher.digest() and read.seed == 7
+
+
+def test_threads_with_inputs_of_their_own():
+    """Long enough for each call to give up Python's lock."""
+    table, wrong, inputs = MemberTable(10, 3), [], [bytes([n]) * 70_000 for n in range(4)]
+    table.insert(inputs[0])
+    calls = [
+        *ONE_CALL,
+        *(lambda data, kind=kind: kind(data).digest() for kind in KINDS),
+        table.__contains__,
+        *(lambda data, each=each: each((data, ends)).tolist() for each in (xxh64_each, murmur3_x64_128_each)),
+    ]
+    ends = array.array("Q", [0, 70_000])
+
+    def work(data, answers):
+        wrong.extend(n for n in range(300) if [call(data) for call in calls] != answers)
+
+    workers = [threading.Thread(target=work, args=(data, [call(data) for call in calls])) for data in inputs]
+    for worker in workers:
+        worker.start()
+    for worker in workers:
+        worker.join()
+    assert wrong == []
+
+
+@pytest.mark.parametrize("kind", KINDS)
 def test_threads_that_share_an_object(kind):
     """Each appends whole periods of 256 bytes, so every order of the updates gives one hash."""
     piece, rounds, threads = bytes(range(256)) * 4096, 40, 4

@@ -689,7 +689,7 @@ def test_offsets_that_change_during_a_call():
 
 def test_long_calls_give_up_the_lock_of_python(ticks):  # noqa: F811
     """The other thread may be late on a busy machine, so it is given ten seconds."""
-    key, table, edge = bytes(1 << 24), MemberTable(20, 1), MemberTable(19, 1)
+    key, short, table, edge = bytes(1 << 24), bytes(65536), MemberTable(20, 1), MemberTable(19, 1)
     offsets, ends = numpy.zeros(1 << 20, "u4"), numpy.array([0, len(key)])
     calls = [
         lambda: table.insert(key),
@@ -699,6 +699,8 @@ def test_long_calls_give_up_the_lock_of_python(ticks):  # noqa: F811
         lambda: table.contains_each((key, ends)),
         lambda: table.contains_each((b"", offsets)),
         lambda: key in table,
+        lambda: table.insert(short),
+        lambda: short in table,
         lambda: table.merge(table),
         lambda: edge.merge(edge),
     ]

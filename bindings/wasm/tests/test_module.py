@@ -74,3 +74,12 @@ def test_in_chromium(cases, chromium, server):
         cases,
     )
     check(cases, answers)
+
+
+def test_past_4_gibibytes_in_chromium(chromium, server):
+    chromium.get(server.replace("index.html", "sketch_hash.mjs"))
+    script = """
+        const ask = (library) => library.xxh64(new Uint8Array(2 ** 32 + 37), 2n ** 64n - 1n).toString(16);
+        import('/sketch_hash.mjs').then(({ load }) => load()).then(ask).catch(String).then(arguments[0]);
+    """
+    assert chromium.execute_async_script(script) == "9ae583956774714e"

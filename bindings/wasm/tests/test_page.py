@@ -280,6 +280,27 @@ def test_files_that_are_dropped(page):
     assert [it.text for it in names] == ["first", "second", "empty"]
 
 
+def test_text_that_is_dropped_goes_into_its_field(page):
+    script = """
+        const dropped = new DataTransfer();
+        dropped.setData('text/plain', 'fox');
+        return ['dragover', 'drop'].map((type) => document.querySelector('#text').dispatchEvent(
+            new DragEvent(type, { dataTransfer: dropped, bubbles: true, cancelable: true })));
+    """
+    assert page.chromium.execute_script(script) == [True, True]
+    assert "over" not in page.one("#drop").get_attribute("class").split()
+
+
+def test_an_empty_file_that_vanishes(page, files):
+    page.set_seed("many")
+    (empty,) = files(empty=b"")
+    page.choose(empty)
+    empty.unlink()
+    page.set_seed("0")
+    page.wait_for("empty", "cannot be read: ")
+    assert page.hashes("empty") == ("", "")
+
+
 def copy_fox(page, files, script, status):
     page.chromium.execute_script(script)
     page.choose(*files(fox=FOX))
@@ -448,6 +469,20 @@ def test_what_a_screen_reader_is_told(page, files):
     assert [it.get_attribute("scope") for it in page.chromium.find_elements(By.CSS_SELECTOR, "thead th")] == ["col"] * 6
 
 
+def test_hashes_stand_under_their_names(page, files):
+    page.choose(*files(fox=FOX))
+
+    def all_of(selector, what="textContent"):
+        return [it.get_property(what) for it in page.chromium.find_elements(By.CSS_SELECTOR, selector)]
+
+    assert all_of("thead th") == ["File", "Size", "XXH64", "MurmurHash3 x64 128", "State", ""]
+    assert all_of("tr[data-name] > *", "className") == ["name", "size", "xxh64 hash", "murmur3 hash", "status", ""]
+    label = "return [...document.querySelectorAll('tr[data-name] td')].map((it) => it.dataset.label || '')"
+    assert page.chromium.execute_script(label) == ["Size:", "XXH64:", "MurmurHash3:", "", ""]
+    assert all_of("dl > *", "id") == ["", "text-xxh64", "", "text-murmur3"]
+    assert all_of("dt") == ["XXH64 of the text", "MurmurHash3 x64 128"]
+
+
 def test_the_contract_of_each_call_is_shown(page):
     """Also to who comes by the link."""
     assert not page.one("#contract pre").is_displayed()
@@ -455,7 +490,7 @@ def test_the_contract_of_each_call_is_shown(page):
     shown = page.one("#contract pre").text
     for call in ("xxh64", "xxh64_u64", "xxh64_update", "murmur3_x64_128_digest", "xxh64_each32", "murmur3_x64_128_each64"):
         assert f"fn sketch_{call}(" in shown
-    assert shown.count("ensures") >= shown.count("fn sketch_") == 14
+    assert (shown.count("fn sketch_"), shown.count("ensures")) == (14, 20)
 
 
 def test_the_page_may_ask_nobody(page):

@@ -47,7 +47,7 @@ type Each<T> = { [K in keyof T]: T[K] };
 const same: [
     Same<Each<Library>, Whole>,
     Same<Each<Stream>, OfStream>,
-    Same<typeof load, (source?: URL | string | BufferSource) => Promise<Library>>,
+    Same<typeof load, (source?: URL | string | Input) => Promise<Library>>,
     Same<Input, ArrayBuffer | ArrayBufferView>,
     Same<Offsets, Uint32Array | Int32Array | BigUint64Array | BigInt64Array>,
 ] = [true, true, true, true, true];

@@ -33,7 +33,8 @@ function slow(id, size) {
     const reading = (from, to) => new Promise((resolve, reject) => {
         reads.push({ id, reject, end: () => resolve(new ArrayBuffer(Math.min(to, size) - from)) });
     });
-    return { id, seed: 7n, file: { size, slice: (from, to) => ({ arrayBuffer: () => reading(from, to) }) } };
+    const part = (from, to) => ({ arrayBuffer: () => reading(from, to) });
+    return { id, seed: 7n, file: { size, slice: part, ...part(0, size) } };
 }
 
 async function endReads() {
@@ -52,7 +53,7 @@ await endReads();
 assert.deepEqual(said.splice(0), [{ unable: 'no memory' }]);
 globalThis.load = async (wasm) => wasm === module && library;
 await tell({ wasm: module });
-assert.deepEqual(reads.map(({ id }) => id), [2, 4]);
+assert.deepEqual(reads.map(({ id }) => id), [2, 3, 4]);
 await endReads();
 const early = said.splice(0).filter((it) => !('done' in it));
 assert.deepEqual(early.shift(), { ready: true });
@@ -98,7 +99,7 @@ function hash(size, count) {
     const id = waiting.size;
     return new Promise((resolve) => {
         waiting.set(id, resolve);
-        tell({ id, file: { size, slice }, seed: 7n });
+        tell({ id, file: { size, slice, ...slice(0, size) }, seed: 7n });
     });
 }
 

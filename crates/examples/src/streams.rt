@@ -37,6 +37,13 @@ pub fn feed_more<T: Hash>(hasher: &mut XxHash64, values: &[T])
     feed_all(values, hasher);
 }
 
+/// Feeds values to a hasher of any kind, also of one that cannot be dropped.
+pub fn feed_any<T: Hash, H: Hasher>(hasher: &mut H, values: &[T])
+    ensures { hasher.new ≡ H.after hasher.old (flat_map T.fed values.now) }
+{
+    feed_all(values, hasher);
+}
+
 /// Both hashes of bytes under the usual seeds, as `Hasher` answers them: the first word of Murmur,
 /// and XXH64.
 pub fn usual_hashes(bytes: &[u8]) -> (u64, u64)

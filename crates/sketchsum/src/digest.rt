@@ -18,7 +18,8 @@ use std::io::{Read, Write};
 /// # Errors
 ///
 /// As those of [`crate::run::run_bounded`]. Reader and writer remember that a call failed, and are
-/// not called again then. So a fault is answered where a call fails, and nowhere else.
+/// not called again then. So a fault is answered where a call fails, and nowhere else. Nor is the
+/// reader called again after its end.
 pub fn write_digest<R: Read, W: Write>(
     algorithm: Algorithm,
     seed: u64,
@@ -26,6 +27,7 @@ pub fn write_digest<R: Read, W: Write>(
     writer: &mut CheckedWriter<'_, W>,
 ) -> Result<(), RunFault>
     requires reader { reader.old.has_failed ≡ false }
+    requires unended { reader.old.is_at_end ≡ false }
     requires writer { writer.old.has_failed ≡ false }
     ensures same_reader { reader.new.reader.ghost_name ≡ reader.old.reader.ghost_name }
     ensures same_writer { writer.new.writer.ghost_name ≡ writer.old.writer.ghost_name }
@@ -33,7 +35,7 @@ pub fn write_digest<R: Read, W: Write>(
         (R.remaining reader.old.reader.now) (R.remaining reader.new.reader.now)
         (W.contents writer.old.writer.now) (W.contents writer.new.writer.now) }
     ensures silent { OnErr result (result ≢ Err RunFault.Write → writer.new ≡ writer.old) }
-    ensures done { OnOk result ((reader.new.has_failed ≡ false)
+    ensures done { OnOk result ((reader.new.has_failed ≡ false) × (reader.new.is_at_end ≡ true)
         × (writer.new.has_failed ≡ false) × (writer.new.is_flushed ≡ true)) }
     ensures read { result ≡ Err RunFault.Read → reader.new.has_failed ≡ true }
     ensures too_long { result ≡ Err RunFault.TooLong →
@@ -61,13 +63,14 @@ fn read_into<H: Hasher, R: Read>(
     hasher: &mut H,
     reader: &mut BoundedReader<'_, R>,
 ) -> Result<(), RunFault>
-    requires { reader.old.has_failed ≡ false }
+    requires unfailed { reader.old.has_failed ≡ false }
+    requires unended { reader.old.is_at_end ≡ false }
     ensures same_reader { reader.new.reader.ghost_name ≡ reader.old.reader.ghost_name }
     ensures pieces { HasRead (R.remaining reader.old.reader.now) (R.remaining reader.new.reader.now)
         (λ bytes. (hasher.new ≡ H.after hasher.old bytes)
         × (length bytes ≤ 4096 * reader.old.turns_left)
         × (result ≡ Err RunFault.TooLong → reader.old.turns_left ≤ length bytes)) }
-    ensures whole { OnOk result ((reader.new.has_failed ≡ false)
+    ensures whole { OnOk result ((reader.new.has_failed ≡ false) × (reader.new.is_at_end ≡ true)
         × IsAtEnd (R.remaining reader.new.reader.now)) }
     ensures read { result ≡ Err RunFault.Read → reader.new.has_failed ≡ true }
     ensures too_long { result ≡ Err RunFault.TooLong →

@@ -1,6 +1,6 @@
 //! The streams of a run: what may be read of its input, and what became of its output.
 
-ghost use Rattle.std.specs.Prelude.{◌≡◌, ◌+◌, ◌<◌, ◌++◌, true, false, IfSome, OnOk, OnErr};
+ghost use Rattle.std.specs.Prelude.{◌≡◌, ◌↔◌, ◌+◌, ◌<◌, ◌++◌, true, false, IfOk, IfSome, OnOk, OnErr};
 ghost use Rattle.std.specs.Io.{ReadsAtMost};
 ghost use Rattle.std.specs.Io.KnownBytes.{ReadConsumes, Appends, Keeps};
 ghost use Rattle.sketchsum.specs.Digest.{newline};
@@ -11,12 +11,14 @@ use std::io::{self, Read, Write};
 /// The most bytes that a run takes in a turn.
 pub const PIECE_BYTES: usize = 4096;
 
-/// A reader that may be read a limited number of times, and not again after a read that failed.
+/// A reader that may be read a limited number of times, and not again after a read that failed or
+/// gave no bytes.
 #[derive(Drop)]
 pub struct BoundedReader<'a, R> {
     reader: &'a mut R,
     turns_left: u64,
     has_failed: bool,
+    is_at_end: bool,
 }
 
 impl<'a, R: Read> BoundedReader<'a, R> {
@@ -26,11 +28,13 @@ impl<'a, R: Read> BoundedReader<'a, R> {
         ensures reader { result.reader.now ≡ reader.old }
         ensures turns { result.turns_left ≡ turns }
         ensures failed { result.has_failed ≡ false }
+        ensures end { result.is_at_end ≡ false }
     {
         BoundedReader {
             reader,
             turns_left: turns,
             has_failed: false,
+            is_at_end: false,
         }
     }
 
@@ -45,10 +49,12 @@ impl<'a, R: Read> BoundedReader<'a, R> {
     pub fn read(&mut self, piece: &mut [u8; PIECE_BYTES]) -> io::Result<usize>
         requires turn_left { 0 < self.old.turns_left }
         requires unfailed { self.old.has_failed ≡ false }
+        requires unended { self.old.is_at_end ≡ false }
         ensures same_reference { self.new.reader.ghost_name ≡ self.old.reader.ghost_name }
         ensures turn { self.new.turns_left + 1 ≡ self.old.turns_left }
         ensures ok { OnOk result (self.new.has_failed ≡ false) }
         ensures err { OnErr result (self.new.has_failed ≡ true) }
+        ensures end { IfOk result (λ count. count ≡ 0 ↔ self.new.is_at_end ≡ true) }
         ensures bound { ReadsAtMost result piece.new }
         ensures bytes { ReadConsumes (R.remaining self.old.reader.now)
             (R.remaining self.new.reader.now) result piece.new }
@@ -56,6 +62,7 @@ impl<'a, R: Read> BoundedReader<'a, R> {
         self.turns_left -= 1;
         let result = self.reader.read(piece);
         self.has_failed = result.is_err();
+        self.is_at_end = matches!(result, Ok(0));
         result
     }
 }

@@ -38,7 +38,7 @@ def main():
 
 def whole_number(text):
     try:
-        return _seed(int(text, 0))
+        return _seed(int(text, 10 if text.isdecimal() else 0))
     except OverflowError as error:
         raise argparse.ArgumentTypeError(error) from None
     except ValueError:

@@ -1,4 +1,4 @@
-ghost use Rattle.std.specs.Prelude.{ℕ, ◌≡◌, ◌≢◌, ◌↔◌, ◌+◌, ◌*◌, ◌<◌, ◌≤◌, [], ◌++◌, codes, false, true, length, Err, IfSome, IsTrue, OnErr, OnOk};
+ghost use Rattle.std.specs.Prelude.{ℕ, ◌≡◌, ◌≢◌, ◌↔◌, ◌+◌, ◌*◌, ◌<◌, ◌≤◌, [], ◌++◌, codes, false, true, length, Err, IfOk, IfSome, IsTrue, OnErr, OnOk};
 ghost use Rattle.std.specs.Io.KnownBytes.{Appends, Keeps};
 ghost use Rattle.datasketches.specs.Murmur.{murmur};
 ghost use Rattle.datasketches.specs.Xxh64.{xxh64};
@@ -61,19 +61,18 @@ fn five_million_bytes_become_their_line(rt: HostRuntime) {
 
 #[test]
 fn slow_readers_and_writers_change_nothing(rt: HostRuntime) {
-    let mut reader = SlowReader::new(FOX, 7, None);
-    let mut writer = NarrowWriter::new(rt.alloc(), 33, Full::TakesNone, None);
-    assert_same(
-        &rt,
-        run(Algorithm::Murmur, 0, &mut reader, &mut writer),
-        Ok(()),
-    );
-    assert_same(&rt, writer.taken.as_slice(), FOX_LINE.as_bytes());
-    assert_same(
-        &rt,
-        (writer.flushed, reader.reads, reader.room),
-        (33, 8, 4096),
-    );
+    for (algorithm, line) in [
+        (Algorithm::Murmur, FOX_LINE),
+        (Algorithm::Xx, "0b242d361fda71bc\n"),
+    ] {
+        let mut reader = SlowReader::new(FOX, 7, None);
+        let mut writer = NarrowWriter::new(rt.alloc(), line.len(), Full::TakesNone, None);
+        let answer = run(algorithm, 0, &mut reader, &mut writer);
+        assert_same(&rt, answer, Ok(()));
+        assert_same(&rt, writer.taken.as_slice(), line.as_bytes());
+        let calls = (writer.flushed, reader.reads, reader.room);
+        assert_same(&rt, calls, (line.len(), 8, 4096));
+    }
 }
 
 // A reader that fails once and would then go on is not asked again, whatever kind its fault has.
@@ -204,21 +203,24 @@ fn run_or_nothing<R: Read, W: Write>(
     run(algorithm, seed, reader, writer)
 }
 
-// A read takes one turn, whatever comes of it.
+// A read takes one turn, whatever comes of it, and there may be another one where it gave bytes.
 fn read_once<R: Read>(
     reader: &mut BoundedReader<'_, R>,
     piece: &mut [u8; PIECE_BYTES],
 ) -> io::Result<usize>
     requires turn_left { 0 < reader.old.turns_left }
     requires unfailed { reader.old.has_failed ≡ false }
-    ensures { reader.new.turns_left + 1 ≡ reader.old.turns_left }
+    requires unended { reader.old.is_at_end ≡ false }
+    ensures turn { reader.new.turns_left + 1 ≡ reader.old.turns_left }
+    ensures goes_on { IfOk result (λ count. 0 < count → reader.new.is_at_end ≡ false) }
 {
     reader.read(piece)
 }
 
-// A new reader has all its turns, and no read of it failed.
+// A new reader has all its turns: no read of it failed, or was the end.
 fn new_reader<R: Read>(reader: &mut R, turns: u64) -> BoundedReader<'_, R>
-    ensures { (result.turns_left ≡ turns) × (result.has_failed ≡ false) }
+    ensures turns { result.turns_left ≡ turns }
+    ensures first { (result.has_failed ≡ false) × (result.is_at_end ≡ false) }
 {
     BoundedReader::new(reader, turns)
 }
@@ -246,7 +248,8 @@ fn are_enough(
 }
 
 // Writes the line of what a reader has left, where no call failed before. A line that is done is
-// flushed, and no call failed; a fault that is told has happened, and no other.
+// flushed, the reader is at its end, and no call failed; a fault that is told has happened, and no
+// other.
 fn write_rest<R: Read, W: Write>(
     algorithm: Algorithm,
     seed: u64,
@@ -254,8 +257,10 @@ fn write_rest<R: Read, W: Write>(
     writer: &mut CheckedWriter<'_, W>,
 ) -> Result<(), RunFault>
     requires reader { reader.old.has_failed ≡ false }
+    requires unended { reader.old.is_at_end ≡ false }
     requires writer { writer.old.has_failed ≡ false }
     ensures flushed { OnOk result (writer.new.is_flushed ≡ true) }
+    ensures end { OnOk result (reader.new.is_at_end ≡ true) }
     ensures read { result ≢ Err RunFault.Read → reader.new.has_failed ≡ false }
     ensures written { OnOk result (writer.new.has_failed ≡ false) }
     ensures read_fault { result ≡ Err RunFault.Read →

@@ -310,6 +310,27 @@ fn prints_lines_and_debug_texts(rt: HostRuntime) -> Result<(), Fail> {
     Ok(())
 }
 
+// Asserts that an error has these contexts: by its line, its debug text and its fields.
+fn assert_contexts(
+    rt: &impl Abort,
+    alloc: Global,
+    error: &Error,
+    pairs: &str,
+    lines: &str,
+    fields: &str,
+) -> Result<(), AllocError> {
+    let line = format!(in alloc; "InvalidData, context: {{ {pairs} }} => m")?;
+    assert_text(rt, error.to_string(alloc), &line);
+    let debug = format!(in alloc; "InvalidData => m\n\nContext:\n{lines}")?;
+    assert_text(rt, format!(in alloc; "{error:?}"), &debug);
+    let whole = format!(in alloc;
+        "Error {{\n    kind: InvalidData,\n    message: \"m\",\n    context: [\n{fields}    \
+         ],\n}}"
+    )?;
+    assert_text(rt, format!(in alloc; "{error:#?}"), &whole);
+    Ok(())
+}
+
 #[test]
 fn prints_each_of_two_hundred_contexts(rt: HostRuntime) -> Result<(), Fail> {
     let alloc = rt.alloc();
@@ -326,15 +347,7 @@ fn prints_each_of_two_hundred_contexts(rt: HostRuntime) -> Result<(), Fail> {
         fields = format!(in alloc;
             "{fields}        (\n            \"n\",\n            \"{n}\",\n        ),\n"
         )?;
-        let line = format!(in alloc; "InvalidData, context: {{ {pairs} }} => m")?;
-        assert_text(&rt, error.to_string(alloc), &line);
-        let debug = format!(in alloc; "InvalidData => m\n\nContext:\n{lines}")?;
-        assert_text(&rt, format!(in alloc; "{error:?}"), &debug);
-        let whole = format!(in alloc;
-            "Error {{\n    kind: InvalidData,\n    message: \"m\",\n    context: [\n{fields}    \
-             ],\n}}"
-        )?;
-        assert_text(&rt, format!(in alloc; "{error:#?}"), &whole);
+        assert_contexts(&rt, alloc, &error, &pairs, &lines, &fields)?;
     }
     Ok(())
 }

@@ -59,35 +59,42 @@ fn reading_a_sketch_takes_no_memory(rt: HostRuntime) {
     assert_same(&rt, item.ok(), Some(Item::U64Le(258)));
 }
 
-// One more place is wrong each time, and its fault is told before those after it.
+// One more place is wrong each time, and its fault is told before those after it, also where the
+// bytes end there.
 #[test]
 fn other_bytes_are_refused(rt: HostRuntime) {
     let alloc = rt.alloc();
     let mut other = SKETCH;
-    for (place, byte, line) in [
+    for (place, end, byte, line) in [
         (
             3,
+            5,
             0xcd,
             "InvalidData => incompatible seed hash of hll: expected 37836, got 37837",
         ),
         (
             2,
             3,
+            3,
             "InvalidData => invalid family: expected 7 (HLL), got 3",
         ),
         (
             1,
             2,
+            2,
             "InvalidData => unsupported serial version: expected 3, got 2",
         ),
         (
             0,
+            1,
             2,
             "InvalidData => invalid preamble longs: expected one of [1], got 2",
         ),
     ] {
         other[place] = byte;
         assert_refused_or_memory(&rt, read(alloc, &other, 9001, Kind::U64Le), line);
+        let answer = read(alloc, &other[..end], 9001, Kind::U64Le);
+        assert_refused_or_memory(&rt, answer, line);
     }
 }
 

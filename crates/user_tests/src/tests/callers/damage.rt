@@ -48,6 +48,14 @@ fn every_beginning_of_a_sketch_is_refused(rt: HostRuntime) -> Result<(), Fail> {
             assert!(rt; is_short, "{count} bytes of {item:?}");
         }
     }
+    // A seed without a seed hash is told where there is one to compare with.
+    for count in 0..5 {
+        let refused = read(alloc, &SKETCH[..count], 50541, Kind::U64Le).err();
+        assert!(rt;
+            refused.is_some_and(|error| is_short_sketch(&error)),
+            "{count} bytes"
+        );
+    }
     Ok(())
 }
 

@@ -62,28 +62,72 @@ impl Display for PartName {
 }
 
 #[test]
-fn refusals_say_what_is_wrong(rt: HostRuntime) -> Result<(), Fail> {
+fn checks_say_what_is_wrong(rt: HostRuntime) {
     let alloc = rt.alloc();
     assert_same(&rt, check_version(alloc, 3).is_ok(), true);
     let line = "InvalidData => unsupported serial version: expected 3, got 2";
     assert_refused_or_memory(&rt, check_version(alloc, 2), line);
+    let line = "InvalidData => unsupported serial version: expected 7, got 2";
+    assert_refused_or_memory(&rt, check_any_version(alloc, 7, 2), line);
+    let line = "InvalidData => invalid preamble longs: expected greater than 7, got 2";
+    let answer = check_longs_between(alloc, Bound::Excluded(7), Bound::Unbounded, 2);
+    assert_refused_or_memory(&rt, answer, line);
+    let line = "InvalidData => invalid family: expected 21 (BLOOMFILTER), got 2";
+    assert_refused_or_memory(&rt, check_family(alloc, &Family::BLOOMFILTER, 2), line);
+}
+
+#[test]
+fn checks_of_seeds_say_what_is_wrong(rt: HostRuntime) {
+    let alloc = rt.alloc();
     assert_same(&rt, check_seed(alloc, 9001, 37836).is_ok(), true);
     let line = "InvalidData => incompatible seed hash of sketch: expected 37836, got 0";
     assert_refused_or_memory(&rt, check_seed(alloc, 9001, 0), line);
     let line =
         "InvalidArgument => seed 50541 produces a seed hash of zero; choose a different seed";
     assert_refused_or_memory(&rt, check_seed(alloc, 50541, 0), line);
-    let error = refusal(
-        alloc,
-        ErrorKind::InvalidArgument,
-        format!(in alloc; "no sketch"),
-    );
+    let line = "InvalidArgument => incompatible seed hash of hll: expected 1, got 2";
+    let answer = check_any_seed_hash(alloc, 1, 2, "hll", ErrorKind::InvalidArgument);
+    assert_refused_or_memory(&rt, answer, line);
+    let hash = hash_of_seed(alloc, 9001, ErrorKind::InvalidData);
+    assert_same(&rt, hash.ok(), Some(37836));
+}
+
+#[test]
+fn errors_say_what_is_wrong(rt: HostRuntime) -> Result<(), Fail> {
+    let alloc = rt.alloc();
+    let error = ends_early(alloc, "no sketch");
+    assert_same(&rt, error.message(), "insufficient data: no sketch");
+    let line = "InvalidData, context: { place: 7 } => insufficient data: no sketch";
+    let error = in_context_of(alloc, ends_at_any(alloc, "no sketch"), "place", 7u64)?;
+    assert_same(&rt, prints(&error, line), true);
+    let line = "InvalidData => insufficient data (head): 7";
+    let error = part_ends_at_any(alloc, "head", 7u64);
+    assert_same(&rt, prints(&error, line), true);
+    let line = "InvalidData => invalid family: expected 7 (HLL), got 3";
+    assert_same(&rt, prints(&wrong_family(alloc, 7, 3, "HLL"), line), true);
+    let line = "InvalidData => invalid preamble longs: expected one of [1, 2], got 3";
+    assert_same(&rt, prints(&wrong_longs(alloc, &[1, 2], 3), line), true);
+    let message = String::from_str(alloc, "no sketch")?;
+    let error = error_of_any(ErrorKind::InvalidData, message);
+    assert_same(&rt, prints(&error, "InvalidData => no sketch"), true);
+    Ok(())
+}
+
+#[test]
+fn texts_of_an_error_are_its_lines(rt: HostRuntime) -> Result<(), Fail> {
+    let alloc = rt.alloc();
+    let message = format!(in alloc; "no sketch");
+    let error = refusal(alloc, ErrorKind::InvalidArgument, message);
     assert_same(&rt, prints(&error, "InvalidArgument => no sketch"), true);
     let texts = texts_of_error(alloc, &error)?;
     assert_same(&rt, texts.0.as_str(), "InvalidArgument => no sketch");
     assert_same(&rt, texts.1.as_str(), "InvalidArgument => no sketch\n");
-    let error = ends_early(alloc, "no sketch");
-    assert_same(&rt, error.message(), "insufficient data: no sketch");
+    Ok(())
+}
+
+#[test]
+fn faults_and_counts_say_what_is_wrong(rt: HostRuntime) -> Result<(), Fail> {
+    let alloc = rt.alloc();
     let text = text_of_short(alloc, &Short { read: 3 })?;
     assert_same(&rt, text.as_str(), "insufficient data after 3 items");
     let text = text_of_stopped(alloc, &Stopped { accepted: 3 })?;
@@ -93,44 +137,19 @@ fn refusals_say_what_is_wrong(rt: HostRuntime) -> Result<(), Fail> {
     let text = text_of_fault(alloc, &Fault::MissingBits { need: 8, have: 7 })?;
     let line = "insufficient data (member bits): expected 8, got 7";
     assert_same(&rt, text.as_str(), line);
-    let line = "InvalidData => invalid family: expected 7 (HLL), got 3";
-    assert_same(&rt, prints(&wrong_family(alloc, 7, 3, "HLL"), line), true);
-    let line = "InvalidData => invalid preamble longs: expected one of [1, 2], got 3";
-    assert_same(&rt, prints(&wrong_longs(alloc, &[1, 2], 3), line), true);
+    Ok(())
+}
+
+#[test]
+fn names_have_no_width(rt: HostRuntime) -> Result<(), Fail> {
+    let alloc = rt.alloc();
     let name = name_of_kind(ErrorKind::InvalidArgument);
     assert_same(&rt, name, "InvalidArgument");
-    let line = "InvalidData, context: { place: 7 } => insufficient data: no sketch";
-    let error = in_context_of(alloc, ends_at_any(alloc, "no sketch"), "place", 7u64)?;
-    assert_same(&rt, prints(&error, line), true);
     let name = name_in_width(alloc, &Value::new(ErrorKind::InvalidData))?;
     assert_same(&rt, name.as_str(), "InvalidData");
     let (kind, part) = (KindName(ErrorKind::InvalidData), PartName(Difference::Seed));
     let names = format!(in alloc; "{kind:5} {part:>9}")?;
     assert_same(&rt, names.as_str(), "InvalidData seed");
-    let line = "InvalidData => unsupported serial version: expected 7, got 2";
-    assert_refused_or_memory(&rt, check_any_version(alloc, 7, 2), line);
-    let line = "InvalidData => invalid preamble longs: expected greater than 7, got 2";
-    let answer = check_longs_between(alloc, Bound::Excluded(7), Bound::Unbounded, 2);
-    assert_refused_or_memory(&rt, answer, line);
-    let line = "InvalidData => invalid family: expected 21 (BLOOMFILTER), got 2";
-    assert_refused_or_memory(&rt, check_family(alloc, &Family::BLOOMFILTER, 2), line);
-    assert_same(
-        &rt,
-        hash_of_seed(alloc, 9001, ErrorKind::InvalidData).ok(),
-        Some(37836),
-    );
-    let line = "InvalidArgument => incompatible seed hash of hll: expected 1, got 2";
-    let answer = check_any_seed_hash(alloc, 1, 2, "hll", ErrorKind::InvalidArgument);
-    assert_refused_or_memory(&rt, answer, line);
-    let line = "InvalidData => insufficient data (head): 7";
-    assert_same(
-        &rt,
-        prints(&part_ends_at_any(alloc, "head", 7u64), line),
-        true,
-    );
-    let message = String::from_str(alloc, "no sketch")?;
-    let error = error_of_any(ErrorKind::InvalidData, message);
-    assert_same(&rt, prints(&error, "InvalidData => no sketch"), true);
     Ok(())
 }
 
