@@ -97,7 +97,8 @@ def test_threads_with_inputs_of_their_own():
     ends = array.array("Q", [0, 70_000])
 
     def work(data, answers):
-        wrong.extend(n for n in range(300) if [call(data) for call in calls] != answers)
+        for call, answer in zip(calls, answers):
+            wrong.extend(n for n in range(300) if call(data) != answer)
 
     workers = [threading.Thread(target=work, args=(data, [call(data) for call in calls])) for data in inputs]
     for worker in workers:
