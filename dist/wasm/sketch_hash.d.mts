@@ -65,4 +65,4 @@ export interface Library {
  *
  * @throws {Error} where the engine lacks 64-bit memories, or the module cannot be read, or is none
  */
-export function load(source?: URL | string | BufferSource): Promise<Library>;
+export function load(source?: URL | string | Input): Promise<Library>;
