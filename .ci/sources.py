@@ -246,7 +246,7 @@ def heads(text):
                 continue
             start = re.match(
                 r" *(pub(?:\([^)]*\))? |unsafe |extern \"C\" |final |const (?=fn)|ghost (?=use\b))*"
-                r"(fn|ghost|impl|trait|struct|enum|const|(?<=ghost )use|(?<=pub )(?:mod|use|type)|(?<=\) )(?:mod|use|type))\b",
+                r"(fn|ghost|impl|trait|struct|enum|union|const|static|(?<=ghost )use|(?<=pub )(?:mod|use|type)|(?<=\) )(?:mod|use|type))\b",
                 line,
             )
             if not start:
@@ -258,12 +258,12 @@ def heads(text):
                 continue
             depth = 0
         depth += line.count("{") - line.count("}")
-        if kind in ("const", "use"):
+        if kind in ("const", "static", "use"):
             depth += line.count("[") - line.count("]")
         if line.strip() not in ("{", "{}"):
             found.append(line)
         # Here a body begins, or there is none.
-        if kind in ("struct", "enum", "const", "mod", "use", "type"):
+        if kind in ("struct", "enum", "union", "const", "static", "mod", "use", "type"):
             is_whole = depth == 0 and line.endswith(("}", ";"))
         else:
             is_whole = depth == 1 and line.endswith("{") or depth == 0 and line.endswith(("{}", ";"))
