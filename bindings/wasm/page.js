@@ -149,10 +149,10 @@ at('seed').oninput = () => {
     hashText();
     [...rows.values()].forEach(start);
 };
-// What else is dragged goes where it is dropped, as text into its field.
-const hasFiles = (event) => event.dataTransfer.types.includes('Files');
+// Text goes into a field on which it is dropped. Anything else, as a link, the browser would open in place of the page.
+const isText = ({ dataTransfer, target }) => !dataTransfer.types.includes('Files') && target.matches?.('input, textarea');
 addEventListener('dragover', (event) => {
-    if (!hasFiles(event)) return;
+    if (isText(event)) return;
     event.preventDefault();
     at('drop').classList.add('over');
 });
@@ -160,7 +160,7 @@ addEventListener('dragleave', (event) => {
     if (!event.relatedTarget) at('drop').classList.remove('over');
 });
 addEventListener('drop', (event) => {
-    if (!hasFiles(event)) return;
+    if (isText(event)) return;
     event.preventDefault();
     at('drop').classList.remove('over');
     [...event.dataTransfer.files].forEach(add);

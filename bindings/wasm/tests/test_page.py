@@ -283,11 +283,14 @@ def test_files_that_are_dropped(page):
 def test_text_that_is_dropped_goes_into_its_field(page):
     script = """
         const dropped = new DataTransfer();
-        dropped.setData('text/plain', 'fox');
-        return ['dragover', 'drop'].map((type) => document.querySelector('#text').dispatchEvent(
+        dropped.setData('text/uri-list', 'https://localhost/');
+        return ['dragover', 'drop'].map((type) => document.querySelector(arguments[0]).dispatchEvent(
             new DragEvent(type, { dataTransfer: dropped, bubbles: true, cancelable: true })));
     """
-    assert page.chromium.execute_script(script) == [True, True]
+    assert page.chromium.execute_script(script, "#text") == [True, True]
+    # Elsewhere a link would be followed, and the page be gone.
+    for place in ("body", "#drop"):
+        assert page.chromium.execute_script(script, place) == [False, False]
     assert "over" not in page.one("#drop").get_attribute("class").split()
 
 
