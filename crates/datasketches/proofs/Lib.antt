@@ -8,4 +8,3 @@ pub mod StrategyLemmas
 -- lemmas of the crates below, for the crates above
 pub use Rattle.sketch_base.proofs.BytesLemmas
 pub use Rattle.sketch_base.proofs.ItemLemmas
-pub use Rattle.sketch_base.proofs.ItemLawLemmas

@@ -1,9 +1,9 @@
 -- What the definitions of bytes and numbers give: the first byte apart, bounds, there and back, and the
 -- library's `to_le_bytes`.
-use Rattle.std.proofs.Common.{◌≡◌, ℕ, zero, suc, ◌+◌, ◌*◌, ◌/◌, ◌%◌, ◌^◌, ◌<◌, List, [], ◌∷◌, length, get_or, Fits, w8, refl, sym, ap, ◌∙◌, arith, add-one}
-use Rattle.std.proofs.Math.Nat.{pow-suc, div-div-eq-div-mul, one-le-pow}
+use Rattle.std.proofs.Common.{◌≡◌, ℕ, zero, suc, ◌+◌, ◌*◌, ◌/◌, ◌%◌, ◌^◌, ◌<◌, ◌≤◌, List, [], ◌∷◌, length, take, get_or, Fits, w8, refl, sym, ap, ◌∙◌, arith, add-one, length-take-le}
+use Rattle.std.proofs.Math.Nat.{pow-suc, div-div-eq-div-mul, one-le-pow, mod-eq_of_lt}
 use Rattle.std.proofs.Math.Arith.{mod-mul}
-use Rattle.std.proofs.lemmas.List.Elements.{All-nil, All-cons, All-head, All-tail, All-from_get_or}
+use Rattle.std.proofs.lemmas.List.Elements.{All-nil, All-cons, All-head, All-tail, All-take, All-from_get_or}
 use Rattle.std.specs.Int.{byte_at, bytes_low_first, to_le_bytes, Width, byte_len}
 use Rattle.sketch_base.specs.Bytes.{AreBytes, weighted_from, le, low_bytes}
 
@@ -48,7 +48,7 @@ low_bytes-are (suc count) n =
     All-cons IsByte (n % 256) (low_bytes count (n / 256)) (omega arith) others
 
 -- the number of a number's lowest bytes
-pub le-low_bytes : (count n : ℕ) → le (low_bytes count n) ≡ n % 256 ^ count
+le-low_bytes : (count n : ℕ) → le (low_bytes count n) ≡ n % 256 ^ count
 le-low_bytes zero n = omega arith
 le-low_bytes (suc count) n =
     let others = le-low_bytes count (n / 256) in
@@ -58,6 +58,10 @@ le-low_bytes (suc count) n =
   where
     swap-sum : (a b : ℕ) → a + 256 * b ≡ b * 256 + a
     swap-sum a b = omega arith
+
+-- a number below 256 ^ n has n bytes that give it back
+pub le-back : (count n : ℕ) → n < 256 ^ count → le (low_bytes count n) ≡ n
+le-back count n small = le-low_bytes count n ∙ mod-eq_of_lt small
 
 pub length-low_bytes : (count n : ℕ) → length (low_bytes count n) ≡ count
 length-low_bytes zero n = refl
@@ -72,6 +76,17 @@ low_bytes-le (b ∷ bytes) h =
     let low : (b + 256 * le bytes) % 256 ≡ b = omega arith in
     let high : (b + 256 * le bytes) / 256 ≡ le bytes = omega arith in
     rw (le-cons b bytes, low, high, others) refl
+
+-- the same, where its length is known
+pub le-again : (count : ℕ) (bytes : List ℕ) → AreBytes bytes → length bytes ≡ count →
+    low_bytes count (le bytes) ≡ bytes
+le-again count bytes h is = ap (λ n. low_bytes n (le bytes)) (sym is) ∙ low_bytes-le bytes h
+
+-- the first bytes, as the lowest of their number
+pub low_bytes-take : (count : ℕ) (bytes : List ℕ) → AreBytes bytes → count ≤ length bytes →
+    low_bytes count (le (take count bytes)) ≡ take count bytes
+low_bytes-take count bytes b h =
+    le-again count (take count bytes) (All-take IsByte count bytes b) (length-take-le count bytes h)
 
 -- the library's bytes of a number, from any place on
 bytes_low_first-is : (i count n : ℕ) → bytes_low_first i count n ≡ low_bytes count (n / 256 ^ i)

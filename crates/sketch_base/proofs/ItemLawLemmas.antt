@@ -16,12 +16,9 @@ use Rattle.sketch_base.specs.Items.{InType, item_kind, width, widths, spell, spe
 use Rattle.sketch_base.specs.ItemLaws.{Holds, ItemLaw}
 use Rattle.std.proofs.Math.Seq.{take-append_seam, drop-append_seam}
 use Rattle.sketch_base.specs.Bytes.{AreBytes, le, be, low_bytes, twos_complement, modulo}
-use Rattle.sketch_base.proofs.BytesLemmas.{low_bytes-are, le-low_bytes, le-lt, low_bytes-le, length-low_bytes, IsByte}
+use Rattle.sketch_base.proofs.BytesLemmas.{low_bytes-are, le-back, le-again, le-lt, length-low_bytes, IsByte}
 
--- a number below 256 ^ n has n bytes that give it back, in either order
-le-back : (count n : ℕ) → n < 256 ^ count → le (low_bytes count n) ≡ n
-le-back count n small = le-low_bytes count n ∙ mod-eq_of_lt small
-
+-- a number below 256 ^ n has n bytes that give it back, the highest first
 be-back : (count n : ℕ) → n < 256 ^ count → be (reverse (low_bytes count n)) ≡ n
 be-back count n small = ap le (reverse-reverse (low_bytes count n)) ∙ le-back count n small
 
@@ -136,11 +133,7 @@ spell_holds (item.I64Be n) h =
     high-holds (item.I64Be n) 8 (modulo 64 n) refl (ap item.I64Be (signed_be-back 64
     (2 ^ 63) 8 n refl refl refl h.sfits))
 
--- bytes are the lowest bytes of their number
-le-again : (count : ℕ) (bytes : List ℕ) → AreBytes bytes → length bytes ≡ count →
-    low_bytes count (le bytes) ≡ bytes
-le-again count bytes h is = ap (λ n. low_bytes n (le bytes)) (sym is) ∙ low_bytes-le bytes h
-
+-- bytes are the lowest bytes of their number, the highest first
 be-again : (count : ℕ) (bytes : List ℕ) → AreBytes bytes → length bytes ≡ count →
     reverse (low_bytes count (be bytes)) ≡ bytes
 be-again count bytes h is =

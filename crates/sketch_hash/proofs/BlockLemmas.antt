@@ -1,9 +1,9 @@
 -- Bytes as words: sixteen bytes and two words stand for each other.
-use Rattle.std.proofs.Common.{◌≡◌, ℕ, ◌^◌, ◌<◌, List, ◌++◌, length, take, drop, refl, sym, ap, ◌∙◌, arith, subst, mod-eq_of_lt}
+use Rattle.std.proofs.Common.{◌≡◌, ℕ, ◌^◌, ◌<◌, List, ◌++◌, length, take, drop, refl, sym, ap, ◌∙◌, arith, subst}
 use Rattle.std.proofs.lemmas.List.{take_all, length-take-le, length-drop, take-append-drop, take_at, drop_at}
 use Rattle.std.proofs.lemmas.List.Elements.{All-take, All-drop, All-append}
-use Rattle.sketch_base.specs.Bytes.{le, low_bytes, eight}
-use Rattle.sketch_base.proofs.BytesLemmas.{le-lt, low_bytes-are, le-low_bytes, length-low_bytes, low_bytes-le, IsByte}
+use Rattle.sketch_base.specs.Bytes.{le, eight}
+use Rattle.sketch_base.proofs.BytesLemmas.{le-lt, low_bytes-are, le-back, le-again, length-low_bytes, IsByte}
 use Rattle.sketch_hash.specs.Words.{IsWord}
 use Rattle.sketch_hash.specs.Pieces.{word_at}
 use Rattle.sketch_hash.specs.Murmur.{block_words}
@@ -17,8 +17,8 @@ pub word_of_bytes : Undoes (IsPiece 8) IsWord le eight
 word_of_bytes = record {
   lands = λ bytes h. subst (λ n. le bytes < 256 ^ n) h.1 (le-lt bytes h.0);
   comes = λ n h. (low_bytes-are 8 n, length-low_bytes 8 n);
-  back = λ bytes h. ap (λ n. low_bytes n (le bytes)) (sym h.1) ∙ low_bytes-le bytes h.0;
-  forth = λ n h. le-low_bytes 8 n ∙ mod-eq_of_lt h;
+  back = λ bytes h. le-again 8 bytes h.0 h.1;
+  forth = le-back 8;
 }
 
 -- the first eight of a block's bytes, and the last

@@ -1,15 +1,13 @@
 -- What the states hold: how many bytes wait, and the waiting bytes of a number.
-use Rattle.std.proofs.Common.{◌≡◌, ℕ, zero, suc, ◌+◌, ◌%◌, ◌/◌, ◌^◌, ◌<◌, ◌≤◌, List, ◌∷◌, length, take, drop, refl, sym, ap, ◌∙◌, ◌++◌}
-use Rattle.std.proofs.Math.Nat.{mod-add-mod, mod-eq_of_lt, suc-add}
-use Rattle.std.proofs.lemmas.List.{length-take-le}
-use Rattle.std.proofs.lemmas.List.Elements.{All-take}
-use Rattle.sketch_base.specs.Bytes.{AreBytes, le, low_bytes}
-use Rattle.sketch_base.proofs.BytesLemmas.{low_bytes-le, IsByte}
+use Rattle.std.proofs.Common.{◌≡◌, ℕ, zero, suc, ◌+◌, ◌%◌, ◌/◌, ◌^◌, ◌<◌, ◌≤◌, List, [], ◌∷◌, length, take, drop, refl, sym, ap, ◌∙◌, ◌++◌}
+use Rattle.std.proofs.Math.Nat.{mod-add-mod, mod-eq_of_lt, suc-add, zero-mod}
+use Rattle.sketch_base.specs.Bytes.{low_bytes}
 use Rattle.sketch_hash.specs.declared.hash.murmurhash.state.MurmurState.{MurmurState}
 use Rattle.sketch_hash.specs.MurmurWriteLemmas.{murmur_stands_after}
 use Rattle.sketch_hash.specs.declared.hash.xxhash.state.XxHash64State.{XxHash64State}
 use Rattle.sketch_hash.specs.Xxh64WriteLemmas.{xxh64_stands_after}
 use Rattle.sketch_hash.specs.Held.{murmur_held, xxh64_held, MurmurHolds, Xxh64Holds}
+use Rattle.sketch_hash.specs.Pieces.{State}
 use Rattle.sketch_hash.specs.Murmur.{murmur_after}
 use Rattle.sketch_hash.specs.Xxh64.{xxh64_after}
 use Rattle.sketch_hash.proofs.CopyLemmas.{copy_taken}
@@ -24,20 +22,19 @@ held-waits w total buffer bytes h few within =
     let count = h (total + length bytes) ∙ sym (mod-add-mod total w (length bytes)) ∙ mod-eq_of_lt few in
     rw count (copy_taken buffer bytes (total % w) within)
 
+-- where the total is 0, no byte of the buffer is part of the state
+pub none_waits : {P : Type 0} (w : ℕ) (start folded : P) (total : ℕ) (buffer : List ℕ) →
+    folded ≡ start → total ≡ 0 →
+    ◌≡◌ {A = State P} (record { folded = folded; total = total; waiting = take (total % w) buffer })
+    (record { folded = start; total = 0; waiting = [] })
+none_waits w start folded total buffer same none = rw (same, none, zero-mod w) refl
+
 -- the first of a number's lowest bytes
 pub take-low_bytes : (count k n : ℕ) → take count (low_bytes (count + k) n) ≡ low_bytes count n
 take-low_bytes zero k n = refl
 take-low_bytes (suc count) k n =
     ap (λ m. take (suc count) (low_bytes m n)) (suc-add count k)
     ∙ ap (λ t. n % 256 ∷ t) (take-low_bytes count k (n / 256))
-
--- the first bytes, as the lowest of their number
-pub low_bytes-take : (count : ℕ) (bytes : List ℕ) → AreBytes bytes → count ≤ length bytes →
-    low_bytes count (le (take count bytes)) ≡ take count bytes
-low_bytes-take count bytes b h =
-    let front : List ℕ = take count bytes in
-    ap (λ k. low_bytes k (le front)) (sym (length-take-le count bytes h))
-    ∙ low_bytes-le front (All-take IsByte count bytes b)
 
 -- what a write makes of a state that stands for bytes
 pub murmur_holds_after : (state next : MurmurState) (bytes : List ℕ) →

@@ -1,14 +1,14 @@
 -- Numbers of lists of bytes: joined, cut, and as a block's two words.
-use Rattle.std.proofs.Common.{◌≡◌, ℕ, zero, suc, ◌+◌, ◌-◌, ◌*◌, ◌/◌, ◌%◌, ◌^◌, ◌<◌, ◌≤◌, List, [], ◌∷◌, ◌++◌, length, take, drop, replicate, refl, sym, ap, ◌∙◌, arith, subst, length-append, length-drop, zero-add, lt_of_lt_of_le, one-mul, min, inl, inr, add_comm, get_or, w8, Fits}
+use Rattle.std.proofs.Common.{◌≡◌, ℕ, zero, suc, ◌+◌, ◌-◌, ◌*◌, ◌/◌, ◌%◌, ◌^◌, ◌<◌, ◌≤◌, List, [], ◌∷◌, ◌++◌, length, take, drop, replicate, refl, sym, ap, ap₂, ◌∙◌, arith, subst, length-append, length-drop, zero-add, lt_of_lt_of_le, one-mul, min, inl, inr, add_comm, sub-add_cancel, get_or, w8, Fits}
 use Rattle.std.proofs.Math.Nat.{pow-suc, mod-eq_of_lt, div-eq_of_lt, add-mod-mod, add-mul-mod_self_right, add-mul-div_right, one-le-pow, pow-le-pow_right, min-eq_left, min-eq_right}
 use Rattle.std.proofs.Math.Pow.{pow-lt}
 use Rattle.std.proofs.lemmas.Bool.{cases_lt}
 use Rattle.std.proofs.lemmas.Nat.{pow-add, shl_whole, shr_le}
 use Rattle.std.specs.Int.Bits.{bit_or, or_shifted_r}
-use Rattle.std.proofs.lemmas.List.{length-take, length-take-le, take-append-drop, drop-drop, take-take, length-replicate, take_all}
+use Rattle.std.proofs.lemmas.List.{length-take, length-take-le, take-append-drop, drop-drop, take-take, length-replicate, take_rest}
 use Rattle.std.proofs.lemmas.List.Elements.{All-append, All-take, All-drop, All-replicate}
 use Rattle.sketch_base.specs.Bytes.{AreBytes, le, low_bytes}
-use Rattle.sketch_base.proofs.BytesLemmas.{le-cons, le-lt, low_bytes-are, le-low_bytes, length-low_bytes, low_bytes-le, bytes_known, IsByte}
+use Rattle.sketch_base.proofs.BytesLemmas.{le-cons, le-lt, low_bytes-are, le-back, le-again, length-low_bytes, low_bytes-le, bytes_known, IsByte}
 use Rattle.sketch_hash.specs.Murmur.{block_words}
 use Rattle.sketch_hash.proofs.BlockLemmas.{halves}
 
@@ -18,9 +18,6 @@ pow_eight zero = refl
 pow_eight (suc n) =
     let e : 8 * suc n ≡ 8 * n + 8 = omega arith in
     ap (λ k. 2 ^ k) e ∙ pow-add 2 (8 * n) 8 ∙ ap (λ p. p * 256) (pow_eight n) ∙ sym (pow-suc 256 n)
-
-pow_256 : (n : ℕ) → 0 < 256 ^ n
-pow_256 n = one-le-pow n 256 (omega arith)
 
 -- the number of joined bytes
 le-append : (xs ys : List ℕ) → le (xs ++ ys) ≡ le xs + le ys * 256 ^ length xs
@@ -50,7 +47,7 @@ pub le-drop : (n : ℕ) (bytes : List ℕ) → AreBytes bytes → n ≤ length b
 le-drop n bytes b h =
     let small = div-eq_of_lt (le_take-lt n bytes b h) in
     sym (ap (λ v. v / 256 ^ n) (le-cut n bytes h)
-    ∙ add-mul-div_right (le (take n bytes)) (le (drop n bytes)) (pow_256 n)
+    ∙ add-mul-div_right (le (take n bytes)) (le (drop n bytes)) (one-le-pow n 256 (omega arith))
     ∙ ap (λ v. v + le (drop n bytes)) small ∙ zero-add (le (drop n bytes)))
 
 le-take : (n : ℕ) (bytes : List ℕ) → AreBytes bytes → n ≤ length bytes →
@@ -101,6 +98,11 @@ combined w count first last shift narrow low high is =
     rw (is, whole, or_shifted_r behind (8 * w) first below)
     (joined ∙ ap (λ p. first + last / p * 256 ^ w) (pow_eight s))
 
+-- the words of the number that two words make are those two
+pub number-words : (low high : ℕ) → low < 2 ^ 64 →
+    ((low + high * 2 ^ 64) % 2 ^ 64 ≡ low) × ((low + high * 2 ^ 64) / 2 ^ 64 ≡ high)
+number-words low high p = (omega arith, omega arith)
+
 -- of more than eight bytes, the number of those behind the first eight, from that of the last eight
 le-last : (bytes : List ℕ) → AreBytes bytes → 8 < length bytes → length bytes < 16 →
     ◌≡◌ {A = ℕ × ℕ}
@@ -113,15 +115,9 @@ le-last bytes b low high =
     let below : first < 2 ^ 64 = le_take-lt 8 bytes b (omega arith) in
     let behind : ℕ = last / 256 ^ (8 + 8 - n) in
     let all : first + behind * 2 ^ 64 ≡ le bytes = le-ends 8 bytes b (omega arith) (omega arith) in
-    ap (λ p. (first, last / p)) (pow_eight (16 - n))
-    ∙ sym (ap (λ v. (v % 2 ^ 64, v / 2 ^ 64)) (sym all) ∙ parts first behind below)
-  where
-    parts : (a b : ℕ) → a < 2 ^ 64 →
-        ◌≡◌ {A = ℕ × ℕ} ((a + b * 2 ^ 64) % 2 ^ 64, (a + b * 2 ^ 64) / 2 ^ 64) (a, b)
-    parts a b p =
-        let low : (a + b * 2 ^ 64) % 2 ^ 64 ≡ a = omega arith in
-        let high : (a + b * 2 ^ 64) / 2 ^ 64 ≡ b = omega arith in
-        rw (low, high) refl
+    let words = number-words first behind below in
+    ap (λ p. (first, last / p)) (pow_eight (16 - n)) ∙ ap₂ (λ x y. (x, y)) (sym words.0) (sym words.1)
+    ∙ ap (λ v. (v % 2 ^ 64, v / 2 ^ 64)) all
 
 -- at most eight bytes are a word
 pub le-word : (bytes : List ℕ) → AreBytes bytes → length bytes ≤ 8 → le bytes < 2 ^ 64
@@ -146,17 +142,14 @@ pub last_le : (bytes : List ℕ) → ((i : ℕ) → Fits w8 (get_or bytes i 0)) 
           / 2 ^ (8 * (16 - length bytes)),
     )
 last_le bytes known low high =
-    let back : length (drop (length bytes - 8) bytes) ≤ length bytes - (length bytes - 8) =
-    rw (length-drop (length bytes - 8) bytes) (omega arith) in
-    rw (take_all (length bytes - (length bytes - 8)) (drop (length bytes - 8) bytes) back)
-    (sym (le-last bytes (bytes_known bytes known) low high))
+    rw (take_rest bytes (length bytes - 8)) (sym (le-last bytes (bytes_known bytes known) low high))
 
 -- a number's lowest bytes, and bytes joined behind them
 le-joined : (count n : ℕ) (bytes : List ℕ) → n < 256 ^ count →
     le (low_bytes count n ++ bytes) ≡ n + le bytes * 256 ^ count
 le-joined count n bytes h =
     le-append (low_bytes count n) bytes
-    ∙ ap (λ v. v + le bytes * 256 ^ length (low_bytes count n)) (le-low_bytes count n ∙ mod-eq_of_lt h)
+    ∙ ap (λ v. v + le bytes * 256 ^ length (low_bytes count n)) (le-back count n h)
     ∙ ap (λ k. n + le bytes * 256 ^ k) (length-low_bytes count n)
 
 joined-are : (count n : ℕ) (bytes : List ℕ) → AreBytes bytes → AreBytes (low_bytes count n ++ bytes)
@@ -169,9 +162,8 @@ joined-length count n bytes = length-append (low_bytes count n) bytes
 pub low_bytes-joined : (count n : ℕ) (bytes : List ℕ) → AreBytes bytes → n < 256 ^ count →
     low_bytes (count + length bytes) (n + le bytes * 256 ^ count) ≡ low_bytes count n ++ bytes
 low_bytes-joined count n bytes b h =
-    ap (λ k. low_bytes k (n + le bytes * 256 ^ count)) (sym (joined-length count n bytes))
-    ∙ ap (low_bytes (length (low_bytes count n ++ bytes))) (sym (le-joined count n bytes h))
-    ∙ low_bytes-le (low_bytes count n ++ bytes) (joined-are count n bytes b)
+    ap (low_bytes (count + length bytes)) (sym (le-joined count n bytes h))
+    ∙ le-again _ (low_bytes count n ++ bytes) (joined-are count n bytes b) (joined-length count n bytes)
 
 pub joined-lt : (count n : ℕ) (bytes : List ℕ) → AreBytes bytes → n < 256 ^ count →
     n + le bytes * 256 ^ count < 256 ^ (count + length bytes)
@@ -196,7 +188,7 @@ le-block count n bytes b h low high =
     le-cut missing wide within
     ∙ ap (λ t. le t + behind * 256 ^ missing) (take-take missing 16 bytes (omega arith)) in
     let all : 256 ^ missing * 256 ^ count ≡ 2 ^ 128 =
-    sym (pow-add 256 missing count) ∙ ap (λ k. 256 ^ k) (whole count low) in
+    sym (pow-add 256 missing count) ∙ ap (λ k. 256 ^ k) (sub-add_cancel low) in
     let block : List ℕ = low_bytes count n ++ front in
     let front_are : AreBytes front = All-take IsByte missing bytes b in
     let size : length block ≡ 16 = joined-length count n front ∙ omega (arith, missing_len) in
@@ -210,9 +202,6 @@ le-block count n bytes b h low high =
     ∙ ap (λ v. v + behind * 2 ^ 128) (sym (le-joined count n front h)))
     ∙ add-mul-mod_self_right (le block) behind (2 ^ 128) ∙ mod-eq_of_lt below
   where
-    whole : (count : ℕ) → count ≤ 16 → (16 - count) + count ≡ 16
-    whole count h = omega arith
-
     spread : (n a b p q : ℕ) → n + (a + b * p) * q ≡ n + a * q + b * (p * q)
     spread n a b p q = omega arith
 
@@ -253,7 +242,7 @@ padded_words count n low h =
     let whole : length (low_bytes count n ++ zeros) ≡ 16 =
     joined-length count n zeros ∙ omega (arith, size, count_len) in
     let number : le (low_bytes count n ++ zeros) ≡ n =
-    le-padded (16 - length (low_bytes count n)) (low_bytes count n) ∙ le-low_bytes count n ∙ mod-eq_of_lt h in
+    le-padded (16 - length (low_bytes count n)) (low_bytes count n) ∙ le-back count n h in
     block_words-le (low_bytes count n ++ zeros) (joined-are count n zeros are) whole
     ∙ ap (λ v. (v % 2 ^ 64, v / 2 ^ 64)) number
 
@@ -308,10 +297,6 @@ joined-is count n bytes b h short =
 
 pub words-number : (n : ℕ) → n % 2 ^ 64 + n / 2 ^ 64 * 2 ^ 64 ≡ n
 words-number n = omega arith
-
-pub number-words : (low high : ℕ) → low < 2 ^ 64 →
-    ((low + high * 2 ^ 64) % 2 ^ 64 ≡ low) × ((low + high * 2 ^ 64) / 2 ^ 64 ≡ high)
-number-words low high p = (omega arith, omega arith)
 
 -- the second word is what is beyond eight bytes
 beyond_eight : (count : ℕ) → 8 ≤ count → 256 ^ count ≡ 256 ^ (count - 8) * 2 ^ 64

@@ -1,26 +1,19 @@
 -- The steps of XXH64's tail: their numbers are words, and their widths follow from the tail's length.
-use Rattle.std.proofs.Common.{◌≡◌, ℕ, zero, suc, ◌/◌, ◌^◌, ◌<◌, ◌≤◌, List, ◌∷◌, ◌++◌, length, drop, replicate, map, refl, sym, ap, ◌∙◌, arith, subst, lt_of_lt_of_le}
+use Rattle.std.proofs.Common.{◌≡◌, ℕ, zero, suc, ◌/◌, ◌≤◌, List, ◌∷◌, ◌++◌, length, drop, replicate, map, refl, sym, ap, ◌∙◌, arith}
 use Rattle.std.specs.List.{All}
-use Rattle.std.proofs.Math.Nat.{pow-le-pow_right}
 use Rattle.std.proofs.lemmas.List.{map-append}
 use Rattle.std.proofs.lemmas.List.Elements.{All-map, All-weaker, All-append}
 use Rattle.sketch_base.specs.Bytes.{AreBytes, le}
-use Rattle.sketch_base.proofs.BytesLemmas.{le-lt}
 use Rattle.sketch_hash.specs.Words.{IsWord}
 use Rattle.sketch_hash.specs.Pieces.{first_pieces, pieces, rest}
 use Rattle.sketch_hash.specs.Xxh64.{steps_of, steps}
 use Rattle.sketch_hash.specs.Laws.{IsStep, step_widths}
 use Rattle.sketch_hash.proofs.PiecesLemmas.{IsPiece, pieces-are, rest-are, length_rest_same}
-
--- the number of at most eight bytes is a word
-piece-word : (w : ℕ) → w ≤ 8 → (piece : List ℕ) → IsPiece w piece → IsWord (le piece)
-piece-word w m piece h =
-    let below = subst (λ n. le piece < 256 ^ n) h.1 (le-lt piece h.0) in
-    lt_of_lt_of_le below (pow-le-pow_right {n = 256} (omega arith) m)
+use Rattle.sketch_hash.proofs.NumberLemmas.{le-word}
 
 steps_of-are : (w : ℕ) (bytes : List ℕ) → w ≤ 8 → AreBytes bytes → All IsStep (steps_of w bytes)
 steps_of-are w bytes m h =
-    let read = All-weaker (IsPiece w) (λ piece. IsWord (le piece)) (piece-word w m) in
+    let read = All-weaker (IsPiece w) (λ piece. IsWord (le piece)) (λ t h. le-word t h.0 (rw h.1 m)) in
     All-map IsStep (λ piece. (w, le piece)) (pieces w bytes) (read (pieces w bytes) (pieces-are w bytes h))
 
 pub steps-are : (waiting : List ℕ) → AreBytes waiting → All IsStep (steps waiting)

@@ -1,5 +1,5 @@
 -- The steps on words that the hashes are made of: each takes every word exactly once, and another undoes it.
-use Rattle.std.proofs.Common.{◌≡◌, ℕ, ◌+◌, ◌-◌, ◌*◌, ◌/◌, ◌%◌, ◌^◌, ◌<◌, ◌≤◌, refl, sym, ap, ◌∙◌, arith, subst, lt_of_lt_of_le}
+use Rattle.std.proofs.Common.{◌≡◌, ℕ, ◌+◌, ◌-◌, ◌*◌, ◌/◌, ◌%◌, ◌^◌, ◌<◌, ◌≤◌, refl, sym, ap, ◌∙◌, arith, subst, lt_of_lt_of_le, mul_assoc, mul_comm}
 use Rattle.std.specs.Prelude.{bit_xor}
 use Rattle.std.specs.Int.Bits.{xor_assoc, xor_self, xor_zero_r, xor_shr}
 use Rattle.std.proofs.Math.Nat.{div-eq_of_lt, pow-le-pow_right}
@@ -31,18 +31,12 @@ times-undone c d e = record {
   lands = λ x h. times-lt x c;
   comes = λ y h. times-lt y d;
   back = λ x h. undone c d e x h;
-  forth = λ y h. undone d c (ap (λ n. n % 2 ^ 64) (turned d c) ∙ e) y h;
+  forth = λ y h. undone d c (ap (λ n. n % 2 ^ 64) (mul_comm d c) ∙ e) y h;
 }
   where
-    turned : (c d : ℕ) → c * d ≡ d * c
-    turned c d = omega arith
-
-    grouped : (x c d : ℕ) → x * c * d ≡ x * (c * d)
-    grouped x c d = omega arith
-
     undone : (c d : ℕ) → times c d ≡ 1 → (x : ℕ) → IsWord x → times (times x c) d ≡ x
     undone c d e x h =
-        mul-mod_first (x * c) d (2 ^ 64) ∙ ap (λ n. n % 2 ^ 64) (grouped x c d)
+        mul-mod_first (x * c) d (2 ^ 64) ∙ ap (λ n. n % 2 ^ 64) (mul_assoc x c d)
         ∙ sym (mul-mod_second x (c * d) (2 ^ 64)) ∙ ap (λ n. x * n % 2 ^ 64) e ∙ omega arith
 
 pub times-once : (c d : ℕ) → times c d ≡ 1 → OneToOne IsWord IsWord (λ x. times x c)

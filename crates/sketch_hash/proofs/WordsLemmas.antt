@@ -1,5 +1,5 @@
 -- The arithmetic of words beside the library's operations: `bit_xor` and `rotate_left`.
-use Rattle.std.proofs.Common.{◌≡◌, ℕ, zero, suc, ◌+◌, ◌-◌, ◌*◌, ◌/◌, ◌%◌, ◌^◌, ◌<◌, sym, ap, ◌∙◌, arith, cond, subst}
+use Rattle.std.proofs.Common.{◌≡◌, ℕ, zero, suc, ◌+◌, ◌-◌, ◌*◌, ◌/◌, ◌%◌, ◌^◌, ◌<◌, sym, ap, ◌∙◌, arith, cond, subst, add_comm}
 use Rattle.std.specs.Prelude.{◌==◌, bit_xor, bit_or}
 use Rattle.std.specs.Int.{bit_at, rotate_left, w64}
 use Rattle.std.proofs.lemmas.Bool.{cond_both, eqb-true, eqb-false}
@@ -16,13 +16,10 @@ xor_below-is (suc i) x y =
     ap (λ v. v + cond (digit x i == digit y i) 0 (2 ^ i)) (xor_below-is i x y)
     ∙ ap (λ v. bit_xor x y % 2 ^ i + v) (worth (digit x i) (digit y i) (2 ^ i) (bit_at-lt x i) (bit_at-lt y i)
     ∙ ap (λ v. v * 2 ^ i) (sym (bit_at_xor x y i)))
-    ∙ turned (bit_xor x y % 2 ^ i) (bit_at (bit_xor x y) i * 2 ^ i)
+    ∙ add_comm (bit_xor x y % 2 ^ i) (bit_at (bit_xor x y) i * 2 ^ i)
     ∙ sym (mod-pow-add (bit_xor x y) 1 i)
     ∙ ap (λ n. bit_xor x y % 2 ^ n) (omega arith)
   where
-    turned : (a b : ℕ) → a + b ≡ b + a
-    turned a b = omega arith
-
     worth : (a b p : ℕ) → a < 2 → b < 2 → cond (a == b) 0 p ≡ (a + b) % 2 * p
     worth a b p h k = cond_both (a == b) 0 p (λ v. v ≡ (a + b) % 2 * p)
         (λ e. let same = eqb-true a b e in let even : (a + b) % 2 ≡ 0 = omega arith in rw even (omega arith))
@@ -41,19 +38,16 @@ xor_shift-is k x p = let less = shr_le x k in xor-is x (x / 2 ^ k) p (omega arit
 -- the digits that a rotation moves up: in two numbers whose sum is 64, the lower `right` digits
 pub rotated_up : (x left right : ℕ) → left + right ≡ 64 → x * 2 ^ left % 2 ^ 64 ≡ x % 2 ^ right * 2 ^ left
 rotated_up x left right e =
-    let whole : 2 ^ 64 ≡ 2 ^ right * 2 ^ left = ap (λ n. 2 ^ n) (sym e ∙ turned left right)
+    let whole : 2 ^ 64 ≡ 2 ^ right * 2 ^ left = ap (λ n. 2 ^ n) (sym e ∙ add_comm left right)
     ∙ pow-add 2 right left in
     let low : x % 2 ^ right * 2 ^ left < 2 ^ 64 =
-    subst (λ n. x % 2 ^ right * 2 ^ left < 2 ^ n) (turned right left
+    subst (λ n. x % 2 ^ right * 2 ^ left < 2 ^ n) (add_comm right left
     ∙ e) (shl_below (x % 2 ^ right) right left (mod_below x (2 ^ right) (pow_pos right))) in
     ap (λ v. v * 2 ^ left % 2 ^ 64) (sym (shr_split x right))
     ∙ ap (λ v. v % 2 ^ 64) (spread (x / 2 ^ right) (2 ^ right) (x % 2 ^ right) (2 ^ left)
     ∙ ap (λ v. x / 2 ^ right * v + x % 2 ^ right * 2 ^ left) (sym whole))
     ∙ mod_low (x / 2 ^ right) 64 (x % 2 ^ right * 2 ^ left) low
   where
-    turned : (a b : ℕ) → a + b ≡ b + a
-    turned a b = omega arith
-
     spread : (a p r q : ℕ) → (a * p + r) * q ≡ a * (p * q) + r * q
     spread a p r q = omega arith
 

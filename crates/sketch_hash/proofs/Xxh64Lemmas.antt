@@ -6,7 +6,7 @@ use Rattle.std.proofs.lemmas.List.{nil_from_length, map-id}
 use Rattle.std.proofs.lemmas.Bool.{lt-ltb, le-ltb}
 use Rattle.std.proofs.lemmas.List.Folds.{fold-map}
 use Rattle.sketch_base.specs.Bytes.{le, eight}
-use Rattle.sketch_base.proofs.BytesLemmas.{le-low_bytes}
+use Rattle.sketch_base.proofs.BytesLemmas.{le-back}
 use Rattle.sketch_hash.specs.Pieces.{pieces, rest, State, absorb}
 use Rattle.sketch_hash.specs.Xxh64.{Lanes, prime5, lanes_start, lanes, merge, steps_of, steps, tail_step, eight_step, four_step, byte_step, avalanche, finalize, xxh64, xxh64_start, xxh64_after, xxh64_answer, Xxh64Stands, each_lane}
 use Rattle.sketch_hash.specs.Xxh64WriteLemmas.{xxh64_stands_after}
@@ -130,5 +130,4 @@ no_steps hash tail none = rw (nil_from_length tail none) refl
 pub xxh64-eight : (seed x : ℕ) → IsWord x →
     xxh64 seed (eight x) ≡ avalanche (eight_step (plus (plus seed prime5) 8) x)
 unfolding xxh64 finalize lanes lanes_start pieces rest steps tail_step
-xxh64-eight seed x p = ap (λ word. avalanche (eight_step (plus (plus seed prime5) 8) word))
-    (le-low_bytes 8 x ∙ mod-eq_of_lt p)
+xxh64-eight seed x p = ap (λ word. avalanche (eight_step (plus (plus seed prime5) 8) word)) (le-back 8 x p)

@@ -1,5 +1,5 @@
 -- Steps of a reading, and the answers that come of them.
-use Rattle.std.proofs.Common.{◌≡◌, ◌<◌, ◌≤◌, ℕ, ◌-◌, List, [], ◌∷◌, ◌++◌, length, arith, Result, Ok, Err, IsErrAnd, MatchResult, inl, inr, refl, subst, sym}
+use Rattle.std.proofs.Common.{◌≡◌, ℕ, ◌-◌, List, [], ◌∷◌, ◌++◌, length, arith, Result, Ok, Err, IsErrAnd, MatchResult, inl, inr, refl, subst, sym, not-le_of_lt}
 use Rattle.std.specs.Prelude.{Contains, ⊤}
 use Rattle.sketch_member.specs.declared.fault.Fault.{Fault}
 use Rattle.sketch_member.specs.Faults.{Step, AllPass, Fails, IsFirstFault, flag_step, header_steps, kind_steps, number_steps, size_steps}
@@ -86,11 +86,8 @@ pub no_fault : (count : ℕ) (steps : List Step) (fault : Fault) → AllPass cou
 no_fault count [] fault pass first = first
 no_fault count (step ∷ steps) fault pass first = elim first [
   | inl here ↦ elim here [
-    | inl few ↦ less _ _ few.0 pass.0.0
+    | inl few ↦ not-le_of_lt few.0 pass.0.0
     | inr wrong ↦ wrong.1 pass.0.1
   ]
   | inr later ↦ no_fault count steps fault pass.1 later.1
 ]
-  where
-    less : (m n : ℕ) → m < n → n ≤ m → ⊥
-    less m n l h = omega arith

@@ -1,10 +1,10 @@
 -- Bytes that pass all steps of the reading are the form of a table.
-use Rattle.std.proofs.Common.{◌≡◌, ◌⊎◌, ℕ, ◌+◌, ◌-◌, ◌*◌, ◌<◌, ◌≤◌, List, [], ◌∷◌, ◌++◌, length, get_or, take, drop, refl, sym, ap, ◌∙◌, inl, inr, arith, length-take-le, length-drop, Fits, w8}
-use Rattle.std.specs.Prelude.{Contains, Option, None, Some, IfSome}
+use Rattle.std.proofs.Common.{◌≡◌, ◌⊎◌, ℕ, ◌+◌, ◌-◌, ◌*◌, ◌<◌, ◌≤◌, List, [], ◌∷◌, ◌++◌, length, get_or, take, drop, sym, ap, ◌∙◌, inl, inr, arith, length-drop, Fits, w8, zero, suc, not-le_of_lt}
+use Rattle.std.specs.Prelude.{Contains, Option, IfSome}
 use Rattle.std.proofs.lemmas.List.{take-append-drop, drop-drop, get_or-drop}
-use Rattle.std.proofs.lemmas.List.Elements.{All-from_get_or, All-take, All-drop, Contains-push_cases}
+use Rattle.std.proofs.lemmas.List.Elements.{All-drop}
 use Rattle.datasketches.specs.Bytes.{AreBytes, le, eight}
-use Rattle.datasketches.proofs.BytesLemmas.{low_bytes-le}
+use Rattle.datasketches.proofs.BytesLemmas.{bytes_known, low_bytes-take}
 use Rattle.sketch_member.specs.declared.fault.Fault.{Fault}
 use Rattle.sketch_member.specs.declared.fault.Fault.TheVariants.{MissingBits, TrailingBytes}
 use Rattle.sketch_member.specs.Faults.{IsFirstFault, IsFlag, bits_steps, header_length, header_steps, steps}
@@ -14,36 +14,20 @@ use Rattle.sketch_member.proofs.SizeLemmas.{whole_bytes}
 use Rattle.datasketches.specs.Words.{IsWord}
 use Rattle.sketch_member.specs.Form.{IsForm, flag_of, form1, form2, number_of}
 use Rattle.sketch_member.proofs.FaultLemmas.{fault-later}
-use Rattle.sketch_member.proofs.LawLemmas.{header_passes}
+use Rattle.sketch_member.proofs.LawLemmas.{header_passes, unknown_count}
 
 -- one of the two numbers of a list
 either : (m n x : ℕ) → Contains (m ∷ n ∷ []) x → (x ≡ m) ⊎ (x ≡ n)
-either m n x is = elim (Contains-push_cases (m ∷ []) n x is) [
-  | inl in_front ↦ elim (Contains-push_cases [] m x in_front) [
-    | inl in_none ↦ absurd (nothing in_none.0 in_none.1)
-    | inr first ↦ inl (sym first)
-  ]
-  | inr second ↦ inr (sym second)
-]
-  where
-    nothing : (k : ℕ) → k < 0 → ⊥
-    nothing k h = omega arith
+either m n x (zero, within, is) = inl (sym is)
+either m n x (suc zero, within, is) = inr (sym is)
+either m n x (suc (suc k), within, is) = absurd (omega arith)
 
 -- eight bytes from a place on are those of their number
-eight_count : (bytes : List ℕ) (place : ℕ) → place + 8 ≤ length bytes →
-    length (take 8 (drop place bytes)) ≡ 8
-eight_count bytes place there =
-    length-take-le 8 (drop place bytes) (omega (arith, length-drop place bytes))
-
-eight_are : (bytes : List ℕ) (place : ℕ) → AreBytes bytes → AreBytes (take 8 (drop place bytes))
-eight_are bytes place are =
-    All-take (λ b. b < 256) 8 (drop place bytes) (All-drop (λ b. b < 256) place bytes are)
-
 eight_back : (bytes : List ℕ) (place : ℕ) → AreBytes bytes → place + 8 ≤ length bytes →
     eight (le (take 8 (drop place bytes))) ≡ take 8 (drop place bytes)
 eight_back bytes place are there =
-    rw (eight_count bytes place there)
-    at (low_bytes-le (take 8 (drop place bytes)) (eight_are bytes place are))
+    low_bytes-take 8 (drop place bytes) (All-drop (λ b. b < 256) place bytes are)
+    (omega (arith, length-drop place bytes))
 
 -- a list from a place on is those eight bytes and what is behind them
 eight_split : (bytes : List ℕ) (place : ℕ) → AreBytes bytes → place + 8 ≤ length bytes →
@@ -81,14 +65,14 @@ header_form longs seed log2_bits hashes flag count bytes rest after bits whole v
     let front = eight_split rest 0 are there in
     rw (is_bits, is_after) (elim (either 2 3 longs version) [
       | inl two ↦
-          let zero : flag ≡ 0 = elim is_flag [
-            | inl zero ↦ zero
+          let unset : flag ≡ 0 = elim is_flag [
+            | inl unset ↦ unset
             | inr one ↦ absurd (omega (arith, two, one.0))
           ] in
           let one : longs - 1 ≡ 1 = ap (λ n. n - 1) two in
           let behind : drop (8 * longs - 16) (drop 8 rest) ≡ drop 8 rest =
           ap (λ n. drop (8 * n - 16) (drop 8 rest)) two in
-          inl (none count (known ∙ zero), cc)
+          inl (unknown_count count (known ∙ unset), cc)
       | inr three ↦
           let long : 8 + 8 ≤ length rest = omega (arith, length-drop 8 rest, three, more) in
           let back = eight_split rest 8 are long in
@@ -99,10 +83,6 @@ header_form longs seed log2_bits hashes flag count bytes rest after bits whole v
           number ∙ ap (λ n. le (take (8 * n - 16) (drop 8 rest))) three in
           inr cc
     ])
-  where
-    none : (count : Option ℕ) → flag_of count ≡ 0 → count ≡ None
-    none None zero = refl
-    none (Some n) one = cc
 
 -- where the bits of a table stand in its bytes
 form_bits : (table : Table) (bytes : List ℕ) → IsForm table bytes →
@@ -137,7 +117,7 @@ pub table_read : (table : Table) (bytes bits : List ℕ) → ((k : ℕ) → Fits
     length bits ≡ byte_count table.log2_bits →
     IsTable (record table { bits = bits }) × IsForm (record table { bits = bits }) bytes
 table_read table bytes bits fit seed log2_bits hashes count form is_bits need =
-    let is = form (All-from_get_or (λ b. b < 256) bytes 0 (λ i l. (fit i).fits)) in
+    let is = form (bytes_known bytes fit) in
     let start = length bytes - length table.bits in
     let same : bits ≡ table.bits = is_bits ∙ (form_bits table bytes is).2 in (
       record {
@@ -161,7 +141,7 @@ pub bits_fault : (table : Table) (bytes : List ℕ) (fault : Fault) →
     ⊎ ((need < have) × (fault ≡ TrailingBytes (have - need))) →
     IsFirstFault (length bytes) (steps bytes) fault
 bits_fault table bytes fault fit log2_bits hashes count form told =
-    let is = form (All-from_get_or (λ b. b < 256) bytes 0 (λ i l. (fit i).fits)) in
+    let is = form (bytes_known bytes fit) in
     let places = form_bits table bytes is in
     let rest = length bytes - header_length bytes in
     let have : length (drop (length bytes - length table.bits) bytes) ≡ rest =
@@ -172,13 +152,10 @@ bits_fault table bytes fault fit log2_bits hashes count form told =
     fault-later (length bytes) (header_steps bytes)
     (bits_steps bytes (header_length bytes) (byte_count (get_or bytes 3 0))) fault
     (header_passes table bytes log2_bits hashes count is) (elim (rw (have, need) at told) [
-      | inl few ↦ inl (inr (there, (λ enough. below_not _ _ few.0 enough), few.1))
+      | inl few ↦ inl (inr (there, not-le_of_lt few.0, few.1))
       | inr many ↦
           inr (
             (there, omega (arith, many.0)),
-            inl (inr (there, (λ enough. below_not _ _ many.0 enough), many.1)),
+            inl (inr (there, not-le_of_lt many.0, many.1)),
           )
     ])
-  where
-    below_not : (m n : ℕ) → m < n → n ≤ m → ⊥
-    below_not m n l h = omega arith

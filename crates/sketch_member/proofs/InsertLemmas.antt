@@ -1,5 +1,5 @@
 -- The law of inserts.
-use Rattle.std.proofs.Common.{◌≡◌, ◌↔◌, ℕ, ◌+◌, ◌*◌, ◌/◌, ◌%◌, ◌^◌, ◌<◌, List, [], ◌∷◌, ◌++◌, length, get_or, sym, ap, subst, ◌∙◌, arith, inl, inr}
+use Rattle.std.proofs.Common.{◌≡◌, ◌↔◌, ℕ, ◌+◌, ◌*◌, ◌/◌, ◌%◌, ◌^◌, ◌<◌, List, [], ◌∷◌, ◌++◌, length, get_or, sym, ap, subst, ◌∙◌, arith, inl, inr, not-suc-le-zero}
 use Rattle.std.specs.Prelude.{◌-◌, Contains, Some, min}
 use Rattle.std.proofs.lemmas.List.{ext_get_or}
 use Rattle.std.proofs.lemmas.List.Elements.{Contains-append_left, Contains-push, Contains-push_cases}
@@ -10,11 +10,7 @@ use Rattle.sketch_member.specs.Laws.{InsertLaw, StandsFor, count_after}
 use Rattle.sketch_member.specs.Table.{Table, IsTable, IsSet, IsIndex, IsMember, Inserts, index, one_more}
 
 none : (table : Table) → ((i : ℕ) → IsSet table.bits i → ⊥) → StandsFor table []
-none table empty i =
-    ((λ is. absurd (empty i is)), (λ of. absurd (nothing of.1.0 of.1.1)))
-  where
-    nothing : (k : ℕ) → k < 0 → ⊥
-    nothing k h = omega arith
+none table empty i = ((λ is. absurd (empty i is)), (λ of. absurd (not-suc-le-zero of.1.1)))
 
 -- tables of one seed and sizes give a value the same indexes
 pub same_index : (table other : Table) (fed : List ℕ) (i : ℕ) → table.seed ≡ other.seed →

@@ -1,9 +1,9 @@
 -- The law of tables and their bytes.
-use Rattle.std.proofs.Common.{◌≡◌, ℕ, ◌%◌, ◌^◌, ◌<◌, List, [], ◌∷◌, length, get_or, take, drop, refl, sym, ap, subst, ◌∙◌, arith, inl, inr}
+use Rattle.std.proofs.Common.{◌≡◌, ℕ, List, [], ◌∷◌, length, get_or, take, drop, refl, sym, ap, subst, ◌∙◌, arith, inl, inr}
 use Rattle.std.specs.Prelude.{Option, None, Some, IfSome}
 use Rattle.datasketches.specs.Bytes.{le, eight}
 use Rattle.datasketches.specs.Words.{IsWord}
-use Rattle.datasketches.proofs.BytesLemmas.{le-low_bytes}
+use Rattle.datasketches.proofs.BytesLemmas.{le-back}
 use Rattle.sketch_member.proofs.FaultLemmas.{all_pass-append, header_pass}
 use Rattle.sketch_member.specs.Faults.{AllPass, IsFlag, bits_steps, count_number, header_length, header_steps, steps, version_step, view_steps}
 use Rattle.sketch_member.specs.Form.{IsForm, flag_of, form1, form2, number_of}
@@ -11,28 +11,18 @@ use Rattle.sketch_member.specs.Laws.{FormLaw}
 use Rattle.sketch_member.specs.Limits.{IsHashes, IsLog2Bits}
 use Rattle.sketch_member.specs.Table.{Table, IsTable, byte_count}
 
--- a word is the number of its eight bytes
-word_back : (n : ℕ) → IsWord n → le (eight n) ≡ n
-word_back n word = le-low_bytes 8 n ∙ below n word
-  where
-    below : (n : ℕ) → n < 2 ^ 64 → n % 2 ^ 64 ≡ n
-    below n h = omega arith
-
 number_word : (count : Option ℕ) → IfSome count IsWord → IsWord (number_of count)
 number_word None word = omega arith
 number_word (Some n) word = word
 
--- the flag of a count, and an unknown count's number
+-- the flag of a count, and the count of the flag 0
 flag_is : (count : Option ℕ) → IsFlag 3 (flag_of count)
 flag_is None = inl refl
 flag_is (Some n) = inr (refl, refl)
 
-unknown_zero : (count : Option ℕ) → flag_of count ≡ 0 → number_of count ≡ 0
-unknown_zero None e = refl
-unknown_zero (Some n) e = absurd (different e)
-  where
-    different : ◌≡◌ {A = ℕ} 1 0 → ⊥
-    different h = omega (arith, h)
+pub unknown_count : (count : Option ℕ) → flag_of count ≡ 0 → count ≡ None
+unknown_count None e = refl
+unknown_count (Some n) e = cc
 
 -- the bytes of a table pass, first the steps of the header
 pub header_passes : (table : Table) (bytes : List ℕ) → IsLog2Bits table.log2_bits →
@@ -46,9 +36,9 @@ header_passes table bytes log2_bits hashes count form =
           ((omega arith, log2_bits), ((omega arith, hashes), tt))
           ((omega arith, (inl refl, refl, refl)), ((omega arith, tt), ((omega arith, (λ _. refl)), tt))))
       | inr second ↦
-          let back = word_back (number_of table.count) (number_word table.count count) in
+          let back = le-back 8 (number_of table.count) (number_word table.count count) in
           let zero : flag_of table.count ≡ 0 → le (eight (number_of table.count)) ≡ 0 =
-          λ zero. back ∙ unknown_zero table.count zero in
+          λ zero. back ∙ ap number_of (unknown_count table.count zero) in
           subst P (sym second) (header_pass (form2 table)
           ((omega arith, (1, omega arith, refl)), ((omega arith, refl), ((omega arith, refl), tt)))
           ((omega arith, log2_bits), ((omega arith, hashes), tt))
@@ -102,7 +92,7 @@ record Places (table : Table) (bytes : List ℕ) : Type 0 where
 
 places1 : (table : Table) → IsTable table → table.count ≡ None → Places table (form1 table)
 places1 table is unknown = record {
-  seed = sym (word_back table.seed is.seed);
+  seed = sym (le-back 8 table.seed is.seed);
   log2_bits = refl;
   hashes = refl;
   flag = ap flag_of unknown;
@@ -112,11 +102,11 @@ places1 table is unknown = record {
 
 places2 : (table : Table) → IsTable table → Places table (form2 table)
 places2 table is = record {
-  seed = sym (word_back table.seed is.seed);
+  seed = sym (le-back 8 table.seed is.seed);
   log2_bits = refl;
   hashes = refl;
   flag = refl;
-  number = sym (word_back (number_of table.count) (number_word table.count is.count));
+  number = sym (le-back 8 (number_of table.count) (number_word table.count is.count));
   bits = refl;
 }
 
@@ -129,14 +119,8 @@ places table bytes is form = elim form [
 -- a count is known by its flag and its number
 same_count : (a b : Option ℕ) → flag_of a ≡ flag_of b → number_of a ≡ number_of b → a ≡ b
 same_count None None e f = refl
-same_count None (Some n) e f = absurd (different e)
-  where
-    different : ◌≡◌ {A = ℕ} 0 1 → ⊥
-    different h = omega (arith, h)
-same_count (Some m) None e f = absurd (different e)
-  where
-    different : ◌≡◌ {A = ℕ} 1 0 → ⊥
-    different h = omega (arith, h)
+same_count None (Some n) e f = cc
+same_count (Some m) None e f = cc
 same_count (Some m) (Some n) e f = ap (λ k. Some k) f
 
 once : (table other : Table) (bytes : List ℕ) → IsTable table → IsTable other →

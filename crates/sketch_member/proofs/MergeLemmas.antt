@@ -1,7 +1,8 @@
 -- The law of merges.
-use Rattle.std.proofs.Common.{◌≡◌, ◌↔◌, ◌⊎◌, ℕ, ◌+◌, ◌-◌, ◌/◌, ◌%◌, ◌^◌, ◌<◌, List, [], ◌∷◌, ◌++◌, length, get_or, map, take, replicate, suc, refl, sym, ap, subst, ◌∙◌, arith, inl, inr}
+use Rattle.std.proofs.Common.{◌≡◌, ◌↔◌, ◌⊎◌, ℕ, ◌+◌, ◌-◌, ◌/◌, ◌%◌, ◌^◌, ◌<◌, List, [], ◌∷◌, ◌++◌, length, get_or, map, take, replicate, suc, refl, sym, ap, subst, ◌∙◌, arith, inl, inr, add-zero, zero-add, add_comm, suc-ne-zero}
 use Rattle.std.specs.Prelude.{Option, None, Some, IfSome, min}
 use Rattle.std.specs.Int.{bit_at}
+use Rattle.std.proofs.Math.Logic.{⊎_swap}
 use Rattle.std.proofs.lemmas.List.{append-nil, append_assoc, length-append, map-append, take_more}
 use Rattle.std.proofs.lemmas.List.Elements.{Contains-append_cases, Contains-append_left, Contains-append_right}
 use Rattle.std.proofs.lemmas.Nat.Bits.{bit_at-zero}
@@ -17,6 +18,13 @@ use Rattle.sketch_member.specs.Merge.{AreAlike, IsFirstDifference, Merges, sum_o
 use Rattle.sketch_member.specs.Table.{Table, IsTable, IsSet, IsIndex, IsMember, Inserts, byte_count, empty_table}
 
 -- ---- tables that are alike
+
+alike_if_same : {a b : Table} → a ≡ b → AreAlike a b
+alike_if_same e = record {
+  seed = ap (λ t. t.seed) e;
+  log2_bits = ap (λ t. t.log2_bits) e;
+  hashes = ap (λ t. t.hashes) e;
+}
 
 turned : (a b : Table) → AreAlike a b → AreAlike b a
 turned a b alike = record {
@@ -100,11 +108,7 @@ counted before other after m n merges count count_other =
 -- inserts leave the seed and the sizes
 pub all_alike : (values : List (List ℕ)) (before after : Table) → InsertsAll values before after →
     AreAlike before after
-all_alike [] before after all = record {
-  seed = ap (λ t. t.seed) (sym all);
-  log2_bits = ap (λ t. t.log2_bits) (sym all);
-  hashes = ap (λ t. t.hashes) (sym all);
-}
+all_alike [] before after all = alike_if_same (sym all)
 all_alike (fed ∷ values) before after (next, inserts, rest) =
     let first : AreAlike before next = record {
       seed = sym inserts.seed;
@@ -122,17 +126,10 @@ pub no_difference : (seed log2_bits hashes : ℕ) (values others : List (List �
 no_difference seed log2_bits hashes values others start table start_other other is_empty all is_empty_other
     all_other part differ =
     let back = turned start table (all_alike values start table all) in
-    let one_start = same (is_empty ∙ sym is_empty_other) in
+    let one_start = alike_if_same (is_empty ∙ sym is_empty_other) in
     let onward = chained start start_other other one_start (all_alike others start_other other all_other) in
     refuted part differ (chained table start other back onward)
   where
-    same : {a b : Table} → a ≡ b → AreAlike a b
-    same e = record {
-      seed = ap (λ t. t.seed) e;
-      log2_bits = ap (λ t. t.log2_bits) e;
-      hashes = ap (λ t. t.hashes) e;
-    }
-
     refuted : (part : Difference) → IsFirstDifference table other part → AreAlike table other → ⊥
     refuted Seed differ alike = differ alike.seed
     refuted Log2Bits differ alike = differ.1 alike.log2_bits
@@ -198,11 +195,8 @@ all_inserted : (values earlier : List (List ℕ)) (n : ℕ) (before after : Tabl
 all_inserted [] earlier n before after all stands count = (
   subst (λ t. StandsFor t (earlier ++ [])) (sym all)
       (subst (StandsFor before) (sym (append-nil earlier)) stands),
-  ap (λ t. t.count) all ∙ count ∙ ap count_after (none n),
+  ap (λ t. t.count) all ∙ count ∙ ap count_after (sym (add-zero n)),
 )
-  where
-    none : (n : ℕ) → n ≡ n + 0
-    none n = omega arith
 all_inserted (fed ∷ values) earlier n before after (next, inserts, rest) stands count =
     let stands_next = insert_law.one_more before next fed earlier inserts stands in
     let count_next = insert_law.one_counted before next fed n inserts count in
@@ -220,10 +214,7 @@ no_bits : (seed log2_bits hashes i : ℕ) → IsSet (empty_table seed log2_bits 
 no_bits seed log2_bits hashes i is =
     let zero : bit_at (get_or (replicate {A = ℕ} (byte_count log2_bits) 0) (i / 8) 0) (i % 8) ≡ 0 =
     ap (λ b. bit_at b (i % 8)) (zeros-get (byte_count log2_bits) (i / 8)) ∙ bit_at-zero (i % 8) in
-    apart _ zero is
-  where
-    apart : (n : ℕ) → n ≡ 0 → n ≡ 1 → ⊥
-    apart n e f = omega (arith, e, f)
+    suc-ne-zero 0 (sym is ∙ zero)
 
 made : (values : List (List ℕ)) (table : Table) → IsMadeOf values table →
     StandsFor table values × (table.count ≡ count_after (length values))
@@ -231,10 +222,7 @@ made values table all =
     let empty = empty_table table.seed table.log2_bits table.hashes in
     let stands = insert_law.none empty (no_bits table.seed table.log2_bits table.hashes) in
     let done = all_inserted values [] 0 empty table all stands refl in
-    (done.0, done.1 ∙ ap count_after (none (length values)))
-  where
-    none : (n : ℕ) → 0 + n ≡ n
-    none n = omega arith
+    (done.0, done.1 ∙ ap count_after (zero-add (length values)))
 
 streams : (before other after whole : Table) (first second : List (List ℕ)) →
     IsTable after → IsTable whole → AreAlike before whole → Merges other before after →
@@ -316,10 +304,7 @@ sum_turned : (a b : Option ℕ) → sum_of_counts a b ≡ sum_of_counts b a
 sum_turned None None = refl
 sum_turned None (Some n) = refl
 sum_turned (Some m) None = refl
-sum_turned (Some m) (Some n) = ap (λ k. Some k) (least m n)
-  where
-    least : (m n : ℕ) → min (m + n) (2 ^ 64 - 1) ≡ min (n + m) (2 ^ 64 - 1)
-    least m n = omega arith
+sum_turned (Some m) (Some n) = ap (λ k. Some (min k (2 ^ 64 - 1))) (add_comm m n)
 
 commutes : (table other after back : Table) → IsTable after → IsTable back →
     Merges other table after → Merges table other back → after ≡ back
@@ -328,12 +313,9 @@ commutes table other after back is_after is_back merges merges_back =
     (chained after table back (turned table after merges.kept)
     (chained table other back merges.alike merges_back.kept))
     (merges.count ∙ sum_turned table.count other.count ∙ sym merges_back.count) (λ i. (
-      (λ is. (merges_back.bits i).1 (swap ((merges.bits i).0 is))),
-      (λ is. (merges.bits i).1 (swap ((merges_back.bits i).0 is))),
+      (λ is. (merges_back.bits i).1 (⊎_swap ((merges.bits i).0 is))),
+      (λ is. (merges.bits i).1 (⊎_swap ((merges_back.bits i).0 is))),
     ))
-  where
-    swap : {A B : Type 0} → A ⊎ B → B ⊎ A
-    swap x = elim x [ inl a ↦ inr a | inr b ↦ inl b ]
 
 sum_joined : (a b c : Option ℕ) →
     sum_of_counts (sum_of_counts a b) c ≡ sum_of_counts a (sum_of_counts b c)

@@ -1,5 +1,5 @@
-use Rattle.std.proofs.Common.{◌≡◌, ◌+◌, ◌-◌, ◌≤◌, length, take, drop, ◌∙◌, arith, length-drop}
-use Rattle.std.proofs.lemmas.List.{take_all}
+use Rattle.std.proofs.Common.{◌≡◌, ◌+◌, ◌-◌, ◌≤◌, length, take, drop, ◌∙◌}
+use Rattle.std.proofs.lemmas.List.{take_rest}
 use Rattle.sketch_hash.proofs.CopyLemmas.{copy_overlapping-is}
 use Rattle.sketch_hash.proofs.hash.copy.copy_overlapping.Goals as goal
 
@@ -7,11 +7,8 @@ pub returns : goal.returns
 returns g c =
     let n = length c.args.bytes.now in
     let front : c.copy_array.new.place ≡ take g.row.K c.args.bytes.now = c.copy_array.ensures in
-    let short : length (drop (n - g.row.K) c.args.bytes.now) ≤ n - (n - g.row.K) =
-    rw (length-drop (n - g.row.K) c.args.bytes.now) (omega arith) in
     let back : c.copy_array-2.new.place ≡ drop (n - g.row.K) c.args.bytes.now =
-    c.copy_array-2.ensures
-    ∙ take_all (n - (n - g.row.K)) (drop (n - g.row.K) c.args.bytes.now) short in
+    c.copy_array-2.ensures ∙ take_rest c.args.bytes.now (n - g.row.K) in
     let within : c.args.at + n ≤ length c.args.buffer.now = c.requires.within in
     copy_overlapping-is c.args.buffer.now c.args.bytes.now c.copy_array.new.place
     c.copy_array-2.new.place c.args.at g.row.K c.requires.low c.requires.high within front back

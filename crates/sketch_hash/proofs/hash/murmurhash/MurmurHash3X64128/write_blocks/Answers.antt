@@ -1,5 +1,5 @@
 use Rattle.std.proofs.Common.{rules, ◌≡◌, ℕ, ◌+◌, ◌-◌, ◌*◌, ◌/◌, ◌<◌, ◌≤◌, ◌^◌, ◌++◌, List, length, take, drop, refl, sym, ap, ◌∙◌, arith, subst, length-append, length-drop}
-use Rattle.std.proofs.lemmas.List.{take_all, length-take-le}
+use Rattle.std.proofs.lemmas.List.{take_rest, length-take-le}
 use Rattle.std.proofs.lemmas.List.Elements.{All-drop}
 use Rattle.sketch_base.specs.Bytes.{AreBytes, le, low_bytes}
 use Rattle.sketch_hash.specs.Pieces.{State, pieces, rest}
@@ -18,8 +18,7 @@ invariant_of-self c =
     let last : List ℕ = c.split_pieces.result.1.now in
     let bytes_are : AreBytes bytes = bytes_known bytes c.type_inv.bytes in
     let behind : List ℕ = drop missing bytes in
-    let long : length behind ≤ length bytes - missing = rw (length-drop missing bytes) (omega arith) in
-    let cut : take (length bytes - missing) behind ≡ behind = take_all (length bytes - missing) behind long in
+    let cut = take_rest bytes missing in
     let waits : last ≡ rest 16 behind = c.split_pieces.ensures.rest ∙ ap (rest 16) cut in
     let are : AreBytes last = subst AreBytes (sym waits)
     (All-drop (λ x. x < 256) _ behind (All-drop (λ x. x < 256) missing bytes bytes_are)) in
@@ -43,8 +42,7 @@ returns c =
     let s : State (ℕ × ℕ) = record { folded = (i.h1, i.h2); total = i.total; waiting = held } in
     let front : List ℕ = take missing bytes in
     let behind : List ℕ = drop missing bytes in
-    let long : length behind ≤ length bytes - missing = rw (length-drop missing bytes) (omega arith) in
-    let cut : take (length bytes - missing) behind ≡ behind = take_all (length bytes - missing) behind long in
+    let cut = take_rest bytes missing in
     let blocks : c.split_pieces.result.0.now ≡ pieces 16 behind =
     c.split_pieces.ensures.whole ∙ ap (pieces 16) cut in
     let waits : last ≡ rest 16 behind = c.split_pieces.ensures.rest ∙ ap (rest 16) cut in

@@ -4,7 +4,7 @@ use Rattle.std.proofs.lemmas.List.Elements.{All-drop}
 use Rattle.sketch_base.specs.Bytes.{AreBytes, le, low_bytes}
 use Rattle.sketch_hash.specs.Pieces.{State}
 use Rattle.sketch_hash.specs.Murmur.{murmur_after, step, block_words}
-use Rattle.sketch_base.proofs.BytesLemmas.{length-low_bytes, le-lt, low_bytes-le, bytes_known}
+use Rattle.sketch_base.proofs.BytesLemmas.{length-low_bytes, le-lt, le-again, bytes_known}
 use Rattle.sketch_hash.proofs.PiecesLemmas.{pieces_short, rest_short}
 use Rattle.sketch_hash.proofs.StateLemmas.{state_after-waits, state_after-through}
 use Rattle.sketch_hash.proofs.NumberLemmas.{pow_eight, joined-is, joined-lt, low_bytes-joined, le-drop, block_words-filled, number-lt, words-lt, words-number}
@@ -105,7 +105,7 @@ returns-else-count-lt-BLOCK c =
     let number : le bytes / 2 ^ (8 * missing) ≡ le behind =
     ap (λ p. le bytes / p) (pow_eight missing) ∙ sym (le-drop missing bytes are within) in
     let waits : low_bytes (i.count + length bytes - 16) (le behind) ≡ behind =
-    ap (λ n. low_bytes n (le behind)) (sym size) ∙ low_bytes-le behind behind_are in
+    le-again _ behind behind_are size in
     let all : take 16 bytes ≡ bytes = take_all 16 bytes (omega (arith, c.requires)) in
     let read = block_words-filled i.count n bytes are below low enough in
     let through =

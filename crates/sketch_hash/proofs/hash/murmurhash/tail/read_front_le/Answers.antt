@@ -1,8 +1,7 @@
 use Rattle.std.proofs.Common.{rules, ◌≡◌, ◌%◌, ◌*◌, ◌^◌, ◌≤◌, length, take, arith}
 use Rattle.sketch_base.specs.Bytes.{AreBytes, le}
-use Rattle.sketch_base.proofs.BytesLemmas.{bytes_known}
+use Rattle.sketch_base.proofs.BytesLemmas.{bytes_known, low_bytes-take}
 use Rattle.sketch_hash.proofs.NumberLemmas.{le-front, le_take-lt}
-use Rattle.sketch_hash.proofs.HeldLemmas.{low_bytes-take}
 use Rattle.sketch_hash.proofs.hash.murmurhash.tail.read_front_le.Goals as goal
 
 known : (c : goal.After-read_u128_le) → AreBytes c.args.block.now × (c.args.count ≤ length c.args.block.now)
