@@ -78,7 +78,7 @@ function show(job, { done, xxh64, murmur3, fault, stopped }) {
         end(job, 'stopped');
     } else {
         progress(job, done);
-        status(job, `${Math.floor((100 * done) / job.file.size)} %`);
+        status(job, `${Math.floor(100 * done / (job.file.size || 1))} %`);
     }
 }
 
@@ -123,7 +123,8 @@ function size(bytes) {
     let unit = 0;
     let number = bytes;
     for (; number >= 1024 && unit < 4; unit++) number /= 1024;
-    return unit === 0 ? `${bytes} bytes` : `${number.toFixed(1)} ${['', 'KiB', 'MiB', 'GiB', 'TiB'][unit]}`;
+    if (unit === 0) return bytes === 1 ? '1 byte' : `${bytes} bytes`;
+    return `${number.toFixed(1)} ${['', 'KiB', 'MiB', 'GiB', 'TiB'][unit]}`;
 }
 
 function hashText() {

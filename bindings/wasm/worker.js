@@ -3,9 +3,9 @@
 // It takes {wasm}, once; {id, file, seed} or {id, text, seed}; and {stop: id}. It answers {ready} or
 // {unable}, and of an id {done} bytes, {xxh64, murmur3}, {fault} or {stopped}.
 
-const READ = 4 << 20; // bytes that are read at a time
+const READ = 4 << 20; // bytes read at a time
 const AHEAD = 4; // reads of one file at the same time
-const AT_ONCE = 4; // files that are read at the same time
+const AT_ONCE = 4; // files read at the same time
 
 const waiting = [];
 const running = new Map();
@@ -82,8 +82,8 @@ async function hashFile(job) {
     return hashers.answer();
 }
 
-// The bytes of a file, some pieces of which are being read while one is hashed. (Byte streams with a
-// buffer of the reader's own are as fast in Chromium 156, but one in some twenty never ends.)
+// The bytes of a file, some pieces of which are read while one is hashed. (Byte streams are as fast in
+// Chromium 156, but one in twenty never ends.)
 async function* pieces(file) {
     const ahead = [];
     const end = Math.max(file.size, 1);

@@ -7,6 +7,7 @@ import random
 import numpy
 import peers
 import pytest
+import sketch_hash
 import xxhash
 from sketch_hash import MemberTable, murmur3_x64_128_each, xxh64_each
 
@@ -166,15 +167,24 @@ def test_refused(keys):
 
 
 def test_what_is_refused_is_told():
-    for keys, text in (
-        (numpy.zeros(4, "u4"), "a column is one row of whole numbers of 64 bits in the machine's byte order; texts are a pair of bytes and offsets"),
-        (numpy.array(5, "u8"), "a column is one row of whole numbers of 64 bits in the machine's byte order; texts are a pair of bytes and offsets"),
-        (numpy.zeros(4, ">u8"), "a column is one row of whole numbers of 64 bits in the machine's byte order; texts are a pair of bytes and offsets"),
-        ((DATA, DATA), "a column is one row of whole numbers of 32 or 64 bits in the machine's byte order"),
-        ((DATA, numpy.array(5, "u8")), "a column is one row of whole numbers of 32 or 64 bits in the machine's byte order"),
-    ):
-        with pytest.raises(TypeError, match=f"^{text}$"):
+    row = "one row of whole numbers of {} bits in the machine's byte order, as array.array has$"
+    column = "^a column is a pair of bytes and offsets, or " + row.format("64")
+    for keys in (numpy.zeros(4, "u4"), numpy.array(5, "u8"), numpy.zeros(4, ">u8"), [1, 2], [b"fox"], "fox", 5, None):
+        with pytest.raises(TypeError, match=column):
             xxh64_each(keys)
+    offsets = "^offsets are " + row.format("32 or 64")
+    for keys in ((DATA, DATA), (DATA, numpy.array(5, "u8")), (DATA, [0, 3]), (b"fox", b"dog")):
+        for each in EACH:
+            with pytest.raises(TypeError, match=offsets):
+                each(keys)
+    objects = numpy.array(["fox", "dog"], dtype=object)
+    for call in (
+        sketch_hash.xxh64, sketch_hash.murmur3_x64_128_digest, MemberTable(10, 7).insert,
+        lambda keys: xxh64_each((keys, [0, 8])), lambda keys: MemberTable(10, 7).insert_each((keys, [0, 8])),
+    ):
+        for keys in (objects, numpy.zeros(2, [("text", object), ("number", "u8")])):
+            with pytest.raises(TypeError, match="^an array of Python objects holds their addresses: encode each"):
+                call(keys)
     for keys in (numpy.zeros(4, "u8"), (DATA,), (DATA, OFFSETS, 0)):
         with pytest.raises(TypeError, match="^a column of bytes is a pair of bytes and offsets$"):
             murmur3_x64_128_each(keys)

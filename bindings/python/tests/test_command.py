@@ -1,4 +1,5 @@
 """The program: python3 -m sketch_hash."""
+import io
 import os
 import pty
 import random
@@ -138,6 +139,9 @@ def test_streams_that_are_closed():
     for words, answer in [
         ("missing fox 2>&-", (1, XXH64 + b"  fox\n", b"")),
         ("--check missing list 2>&-", (1, lines, b"")),
+        ("missing fox 2>/dev/full", (1, XXH64 + b"  fox\n", b"")),
+        ("--check missing list 2>/dev/full", (1, lines, b"")),
+        ("missing 2>/dev/full", (1, b"", b"")),
         ("fox 2>&-", (0, XXH64 + b"  fox\n", b"")),
         ("fox >&-", (1, b"", b"sketch_hash: standard output: Bad file descriptor\n")),
         ("missing 2>&-", (1, b"", b"")),
@@ -343,6 +347,21 @@ def test_a_bar_is_as_long_as_what_is_read(capsys, monkeypatch):
                 whole = re.sub(r"(.)\{(\d+)\}", lambda it: it[1] * int(it[2]), text)
                 assert capsys.readouterr().err == f"\r{whole}\033[K"
         assert capsys.readouterr().err == "\r\033[K"
+
+
+def test_a_bar_whose_terminal_is_gone_is_no_fault_of_the_file(monkeypatch):
+    class Gone(io.StringIO):
+        def isatty(self):
+            return True
+
+        def write(self, text):
+            raise OSError
+
+    monkeypatch.setattr(sys, "stderr", Gone())
+    with Bar("fox", 9) as bar:
+        bar.next = 0
+        bar.add(9)
+    assert bar.is_drawn
 
 
 def test_a_bar_is_drawn_from_half_a_second_on_ten_times_a_second(capsys, monkeypatch):

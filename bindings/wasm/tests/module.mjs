@@ -1,6 +1,7 @@
 // The module under Node: answers the cases on standard input, after trying its other calls.
 import assert from 'node:assert/strict';
 import { readFileSync } from 'node:fs';
+import { runInNewContext } from 'node:vm';
 import { answer } from './answer.mjs';
 
 const dist = new URL(`file://${process.env.DIST}/wasm/`);
@@ -138,6 +139,15 @@ class Own extends BigUint64Array {}
 class OwnOffsets extends Uint32Array {}
 assert.deepEqual([...xxh64EachU64(Own.of(5n))], [xxh64(BigUint64Array.of(5n))]);
 assert.deepEqual(xxh64Each(all, OwnOffsets.from(narrow), last), xxh64Each(all, narrow, last));
+// So are inputs and columns that another frame has made; what only calls itself so is none.
+const elsewhere = (text) => runInNewContext(text);
+assert.equal(xxh64(elsewhere('Uint8Array.of(0, 1, 2).buffer'), last), xxh64(all.subarray(0, 3), last));
+assert.equal(xxh64(elsewhere('Uint8Array.of(0, 1, 2)'), last), xxh64(all.subarray(0, 3), last));
+assert.deepEqual([...xxh64EachU64(elsewhere('BigUint64Array.of(5n)'))], [xxh64(BigUint64Array.of(5n))]);
+assert.deepEqual(xxh64Each(all, elsewhere('Uint32Array.of(4, 4, 10)'), last), xxh64Each(all, narrow, last));
+const called = (name) => ({ [Symbol.toStringTag]: name, byteLength: 8, length: 1 });
+assert.throws(() => xxh64(called('ArrayBuffer')), TypeError);
+assert.throws(() => xxh64EachU64(called('BigUint64Array')), TypeError);
 assert.throws(() => xxh64EachU64(ends), /numbers or offsets must be one of BigUint64Array, BigInt64Array$/);
 assert.throws(() => murmur3X64_128Each('fox', ends), /TextEncoder/);
 // A refused seed does not let the memory grow.

@@ -125,6 +125,8 @@ def test_an_empty_file(page, files):
     assert page.hashes("empty") == ("ef46db3751d8e999", "0" * 32)
     bar = page.row("empty").find_element(By.TAG_NAME, "progress")
     assert bar.get_property("value") == bar.get_property("max")
+    page.chromium.execute_script("for (const job of rows.values()) show(job, { done: 0 })")
+    assert page.text("empty", ".status") == "0 %"
 
 
 def test_64_mebibytes(page, files):
@@ -393,9 +395,9 @@ def test_stop_before_the_beginning(page, tmp_path, files):
 
 
 def test_sizes(page):
-    sizes = "return [0, 1023, 1024, 1536, 1048575, 1048576, 1 << 30, 2 ** 50].map(size)"
+    sizes = "return [0, 1, 1023, 1024, 1536, 1048575, 1048576, 1 << 30, 2 ** 50].map(size)"
     assert page.chromium.execute_script(sizes) == [
-        "0 bytes", "1023 bytes", "1.0 KiB", "1.5 KiB", "1024.0 KiB", "1.0 MiB", "1.0 GiB", "1024.0 TiB"
+        "0 bytes", "1 byte", "1023 bytes", "1.0 KiB", "1.5 KiB", "1024.0 KiB", "1.0 MiB", "1.0 GiB", "1024.0 TiB"
     ]
 
 

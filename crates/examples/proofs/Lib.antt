@@ -1,2 +1,3 @@
 pub mod SeenLemmas
+pub mod SketchLemmas
 pub mod DefinitionLemmas

@@ -124,8 +124,9 @@ pub fn write_if_it_fits(writer: &mut SketchBytes, bytes: &[u8]) -> bool
 ///
 /// # Errors
 ///
-/// Where memory runs out.
+/// Where memory runs out; a copy of no bytes takes none.
 pub fn copy_into_room(alloc: Global, bytes: &[u8]) -> Result<(Vec<u8>, bool), AllocError>
+    ensures nothing { bytes.now ≡ [] → IsOk result }
     ensures copied { IfOk result (λ made. made.0.items ≡ bytes.now) }
     ensures written { IfOk result (λ made. IsTrue made.1) }
 {

@@ -7,8 +7,8 @@ ghost use Rattle.datasketches.specs.Refusals.{Refuses};
 ghost use Rattle.sketch_member.specs.Form.{form2};
 ghost use Rattle.sketch_member.specs.InPlace.{Becomes, IsMergeFault};
 ghost use Rattle.sketch_member.specs.Laws.{IsMadeOf, StandsFor, count_after};
-ghost use Rattle.sketch_member.specs.Limits.{IsHashes, IsLog2Bits};
-ghost use Rattle.sketch_member.specs.Merge.{AreAlike, Merges, sum_of_counts};
+ghost use Rattle.sketch_member.specs.Limits.{IsHashes, IsLog2Bits, IsNewError};
+ghost use Rattle.sketch_member.specs.Merge.{AreAlike, FirstDifference, Merges, sum_of_counts};
 ghost use Rattle.sketch_member.specs.Table.{Table, IsMember, IsTable, empty_table};
 
 use datasketches::error::{Error, ErrorKind};
@@ -67,8 +67,9 @@ pub fn merge_tables(
 ) -> Result<(), Error>
     ensures tables { IsTable table.old × IsTable other.now × IsTable table.new }
     ensures merged { IfOk result (λ _. Merges other.now table.old table.new) }
-    ensures refused { IfErr result (λ _.
-        (AreAlike table.old other.now → ⊥) × (table.new ≡ table.old)) }
+    ensures refused { IfErr result (λ error.
+        FirstDifference table.old other.now error × (table.new ≡ table.old)) }
+    ensures unlike { IfErr result (λ _. AreAlike table.old other.now → ⊥) }
 {
     table.merge(alloc, other)
 }
@@ -78,8 +79,8 @@ pub fn merge_tables(
 ///
 /// # Errors
 ///
-/// Where two of them are not alike. `table` may have taken `second` by then; the others are
-/// unchanged.
+/// As of [`merge_worker`], where `second` or `third` is not alike with `table`, which may have
+/// taken `second` by then; the others are unchanged.
 pub fn merge_as_a_tree(
     alloc: Global,
     table: &mut MemberTable,
@@ -94,8 +95,9 @@ pub fn merge_as_a_tree(
         IsMember table.new fed) }
     ensures accepted { AreAlike table.old second.old → AreAlike table.old third.now → IsOk result }
     ensures refused { IfErr result (λ _. (second.new ≡ second.old) × (twin.new ≡ twin.old)) }
-    ensures left { IfErr result (λ _.
-        (table.new ≡ table.old) ⊎ Merges second.old table.old table.new) }
+    ensures left { IfErr result (λ error.
+        ((table.new ≡ table.old) × FirstDifference table.old second.old error)
+        ⊎ (Merges second.old table.old table.new × FirstDifference table.old third.now error)) }
 {
     merge_law();
     table.merge(alloc, second)?;
@@ -187,7 +189,7 @@ pub fn copy_of_fault(fault: &MergeFault) -> MergeFault
 ///
 /// # Errors
 ///
-/// Where the two are not alike. Both are unchanged.
+/// As of [`merge_worker`]. Both are unchanged.
 pub fn merge_either_way(
     alloc: Global,
     one: &mut MemberTable,
@@ -197,7 +199,8 @@ pub fn merge_either_way(
     requires { twin.now ≡ one.old }
     ensures same { IfOk result (λ _. one.new ≡ other.new) }
     ensures accepted { AreAlike one.old other.old → IsOk result }
-    ensures refused { IfErr result (λ _. (one.new ≡ one.old) × (other.new ≡ other.old)) }
+    ensures refused { IfErr result (λ error. FirstDifference one.old other.old error
+        × (one.new ≡ one.old) × (other.new ≡ other.old)) }
 {
     merge_law();
     one.merge(alloc, other)?;
@@ -208,8 +211,8 @@ pub fn merge_either_way(
 ///
 /// # Errors
 ///
-/// Where there is no such table, or it is not alike: `InvalidArgument`. Where memory runs out:
-/// `OutOfMemory`, with no message.
+/// Where there is no such table: as of `MemberTable::new`. Where it is not alike: as of
+/// [`merge_worker`].
 pub fn merge_nothing(
     alloc: Global,
     table: &mut MemberTable,
@@ -219,9 +222,8 @@ pub fn merge_nothing(
 ) -> Result<(), Error>
     ensures same { table.new ≡ table.old }
     ensures merged { IfOk result (λ _. AreAlike table.old (empty_table seed log2_bits hashes)) }
-    ensures refused { IfErr result (λ error. (error ≡ memory_error)
-        ⊎ ((IsLog2Bits log2_bits × IsHashes hashes → ⊥)
-        ⊎ (AreAlike table.old (empty_table seed log2_bits hashes) → ⊥))) }
+    ensures refused { IfErr result (λ error. IsNewError log2_bits hashes error
+        ⊎ FirstDifference table.old (empty_table seed log2_bits hashes) error) }
 {
     merge_law();
     let empty = MemberTable::new(alloc, seed, log2_bits, hashes)?;

@@ -8,7 +8,7 @@ ghost use Rattle.datasketches.specs.ErrorValue.{add_context, error_of, memory_er
 ghost use Rattle.datasketches.specs.Refusals.{Refuses, insufficient_data_of_text, invalid_preamble_ints_text, invalid_preamble_longs_text, preamble_longs_out_of_range_text};
 ghost use Rattle.datasketches.specs.SeedHash.{seed_hash, zero_seed_hash_text};
 ghost use Rattle.datasketches.specs.Items.{spell_all, unspell_all};
-ghost use Rattle.examples.specs.Sketches.{HasPreamble, IsSketch};
+ghost use Rattle.examples.specs.Sketches.{HasPreamble, IsReadError, IsSketch};
 
 use datasketches::codec::assert::{
     ensure_preamble_longs_in, ensure_preamble_longs_in_range, ensure_serial_version_is,
@@ -21,6 +21,7 @@ use datasketches::hash::{check_seed_hash, compute_seed_hash};
 use std::alloc::{AllocError, Global};
 use std::ops::Bound;
 
+#[tactic(auto, using(crate::proofs::SketchLemmas::of_bytes, crate::proofs::SketchLemmas::of_seed))]
 /// Checks the preamble of a serialized HLL sketch that was made with the seed: preamble longs,
 /// serial version, family and seed hash.
 ///
@@ -29,8 +30,9 @@ use std::ops::Bound;
 /// At the first that is wrong or missing: `InvalidData`. Where the seed's own hash is zero:
 /// `InvalidArgument`. Where memory for the text runs out: `OutOfMemory`, with no message.
 pub fn check_preamble(alloc: Global, bytes: &[u8], seed: u64) -> Result<(), Error>
-    ensures { MatchResult result
+    ensures checked { MatchResult result
         (λ _. HasPreamble seed bytes.now) (λ _. HasPreamble seed bytes.now → ⊥) }
+    ensures told { IfErr result (IsReadError seed) }
 {
     let mut reader = SketchSlice::new(bytes);
     let short = |error| insufficient_data(alloc, "hll sketch", error);
@@ -101,6 +103,7 @@ pub fn at_place(alloc: Global, error: Error, place: u64) -> Error
     }
 }
 
+#[tactic(auto, using(crate::proofs::SketchLemmas::of_bytes))]
 /// Reads the items of such a sketch, one of each kind, into as many places.
 ///
 /// # Errors
@@ -122,6 +125,7 @@ pub fn read_sketch(
     ensures short { IfErr result (λ error. HasPreamble seed bytes.now →
         Refuses ErrorKind.InvalidData
         (insufficient_data_of_text (codes "hll sketch") (codes "items")) error) }
+    ensures told { IfErr result (IsReadError seed) }
 {
     check_preamble(alloc, bytes, seed)?;
     let mut reader = SketchSlice::new(bytes);

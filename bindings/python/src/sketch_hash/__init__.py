@@ -43,6 +43,8 @@ algorithms_available = {"xxh64", "murmur3_x64_128"}
 def _memory(data):
     if type(data) is bytes:
         return data
+    if getattr(getattr(data, "dtype", None), "hasobject", False):
+        raise TypeError("an array of Python objects holds their addresses: encode each, and pass its bytes")
     try:
         return _memory_of(data)
     except TypeError:
@@ -98,6 +100,7 @@ class _Hash:
 
     @property
     def seed(self):
+        """The seed."""
         return self._of_reset
 
     def __reduce__(self):
@@ -186,12 +189,15 @@ def murmur3_x64_128_hexdigest(data, seed=0):
 
 def _words(buffer, widths):
     """The whole numbers of a buffer, as cffi sees them, and their width in bytes."""
-    view = memoryview(buffer)
+    try:
+        view = memoryview(buffer)
+    except TypeError:
+        view = memoryview(b"")
     is_whole = view.format.lstrip("@=<") in set("iIlLqQ")
     if not is_whole or view.ndim != 1 or view.itemsize not in widths:
         bits = " or ".join(str(8 * width) for width in widths)
-        hint = "" if 4 in widths else "; texts are a pair of bytes and offsets"
-        raise TypeError(f"a column is one row of whole numbers of {bits} bits in the machine's byte order{hint}")
+        what = "offsets are" if 4 in widths else "a column is a pair of bytes and offsets, or"
+        raise TypeError(f"{what} one row of whole numbers of {bits} bits in the machine's byte order, as array.array has")
     words = _memory_of(f"uint{8 * view.itemsize}_t[]", buffer)
     if len(words) and int(_ffi.cast("uintptr_t", words)) % view.itemsize:
         raise ValueError("a column of numbers has to lie at a multiple of their width")
@@ -347,6 +353,7 @@ class MemberTable:
         return memoryview(found).cast("?")
 
     def __contains__(self, key):
+        """Whether all bits of a key are set; of an inserted one they are."""
         memory = _memory(key)
         with self._lock:
             status = _lib.member_contains(self._table, len(self._table), memory, len(memory))

@@ -1,5 +1,6 @@
 """Prints the hashes of files, or checks them."""
 import argparse
+import contextlib
 import errno
 import os
 import signal
@@ -87,12 +88,16 @@ class Bar:
             self.is_drawn = True
             part = min(self.done / self.size, 1) if self.size else 0
             bar = "#" * int(30 * part)
-            text = f"[{bar:<30}] {part:4.0%} {self.done >> 20} MiB  {self.name}"
-            print(f"\r{text}\033[K", end="", file=sys.stderr, flush=True)
+            draw(f"[{bar:<30}] {part:4.0%} {self.done >> 20} MiB  {self.name}")
 
     def __exit__(self, *_):
         if self.is_drawn:
-            print("\r\033[K", end="", file=sys.stderr, flush=True)
+            draw("")
+
+
+def draw(text):
+    with contextlib.suppress(OSError):  # the terminal may be gone, and the files are there
+        print(f"\r{text}\033[K", end="", file=sys.stderr, flush=True)
 
 
 def escaped(name):
@@ -176,8 +181,9 @@ def say(text):
 def complain(text):
     if not sys.stderr:
         return
-    sys.stderr.buffer.write(b"sketch_hash: " + os.fsencode(text) + b"\n")
-    sys.stderr.flush()
+    with contextlib.suppress(OSError):  # what comes after is done also where nobody reads this
+        sys.stderr.buffer.write(b"sketch_hash: " + os.fsencode(text) + b"\n")
+        sys.stderr.flush()
 
 
 if __name__ == "__main__":
@@ -187,7 +193,8 @@ if __name__ == "__main__":
     if signal.getsignal(signal.SIGINT) is not signal.SIG_IGN:
         signal.signal(signal.SIGINT, signal.SIG_DFL)
     try:
-        sys.exit(main())
+        status = int(main())
     except OSError as error:
         complain(f"standard output: {error.strerror}")
-        os._exit(1)  # what could not be written is not tried again
+        status = 1
+    os._exit(status)  # what could not be written is not tried again

@@ -1,6 +1,6 @@
 //! Writing numbers into bytes.
 
-ghost use Rattle.std.specs.Prelude.{◌≡◌, [], IfOk, Some, reverse};
+ghost use Rattle.std.specs.Prelude.{◌≡◌, [], IfOk, IsOk, Some, reverse};
 ghost use Rattle.sketch_base.specs.Bytes.{low_bytes, modulo};
 ghost use Rattle.sketch_base.specs.Items.{InType, spell};
 ghost use Rattle.sketch_base.specs.Writing.{Writes, WritesItems, stopped_text};
@@ -50,9 +50,10 @@ impl SketchBytes {
     ///
     /// # Errors
     ///
-    /// Where memory runs out.
+    /// Where memory runs out; never for a capacity of 0, which takes none.
     pub fn with_capacity(alloc: Global, capacity: usize) -> Result<SketchBytes, AllocError>
-        ensures { IfOk result (λ writer. writer ≡ record { bytes = []; room = capacity }) }
+        ensures empty { capacity ≡ 0 → IsOk result }
+        ensures room { IfOk result (λ writer. writer ≡ record { bytes = []; room = capacity }) }
     {
         let bytes = Vec::with_capacity(alloc, capacity)?;
         Ok(SketchBytes { bytes })

@@ -19,7 +19,7 @@ pub unreachable-requires : goal.unreachable-requires
 unreachable-requires c =
     let short = c.in-Err-read_items.ensures in
     let whole = bytes_read _ _ _ _ _ (ap (λ
-    (writer : WriterValue). writer.bytes) c.in_ok-writer.ensures) c.in_default.ensures.written
+    (writer : WriterValue). writer.bytes) c.in_ok-writer.ensures.room) c.in_default.ensures.written
     (c.new-reader.ensures ∙ c.deref.ensures.value ∙ c.in_ok-extend_from_slice.ensures.items
     ∙ ap (λ bytes. bytes ++ c.args.rest.now) c.into_bytes-bytes.ensures) in
     let fits = c.items_law.ensures.count c.args.items.now c.in_default.ensures.in_type in
@@ -35,7 +35,7 @@ unreachable-requires c =
 pub returns-clause-items : goal.returns-clause-items
 returns-clause-items c =
     let whole = bytes_read _ _ _ _ _ (ap (λ
-    (writer : WriterValue). writer.bytes) c.in_ok-writer.ensures) c.in_default.ensures.written
+    (writer : WriterValue). writer.bytes) c.in_ok-writer.ensures.room) c.in_default.ensures.written
     (c.new-reader.ensures ∙ c.deref.ensures.value ∙ c.in_ok-extend_from_slice.ensures.items
     ∙ ap (λ bytes. bytes ++ c.args.rest.now) c.into_bytes-bytes.ensures) in
     let same : c.read_items.new.out ≡ c.args.items.now =
@@ -49,7 +49,7 @@ returns-clause-items c =
 pub returns-clause-rest : goal.returns-clause-rest
 returns-clause-rest c =
     let whole = bytes_read _ _ _ _ _ (ap (λ
-    (writer : WriterValue). writer.bytes) c.in_ok-writer.ensures) c.in_default.ensures.written
+    (writer : WriterValue). writer.bytes) c.in_ok-writer.ensures.room) c.in_default.ensures.written
     (c.new-reader.ensures ∙ c.deref.ensures.value ∙ c.in_ok-extend_from_slice.ensures.items
     ∙ ap (λ bytes. bytes ++ c.args.rest.now) c.into_bytes-bytes.ensures) in
     let left : c.remaining.result.now ≡ c.args.rest.now =

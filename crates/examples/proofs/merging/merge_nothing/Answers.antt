@@ -1,4 +1,4 @@
-use Rattle.std.proofs.Common.{◌≡◌, ℕ, ◌∙◌, refl, subst}
+use Rattle.std.proofs.Common.{◌≡◌, ℕ, ◌∙◌, refl, rules, subst}
 use Rattle.sketch_member.specs.Laws.{MergeLaw}
 use Rattle.sketch_member.specs.Merge.{AreAlike, Merges}
 use Rattle.sketch_member.specs.Table.{Table, IsTable, empty_table}
@@ -21,3 +21,9 @@ returns-clause-same c =
     let merge = c.in_ok-merge.ensures in
     nothing c.merge_law.ensures c.args.seed c.args.log2_bits c.args.hashes _ _ _ merge.are_tables.0
     merge.are_tables.2 c.in_ok-empty.ensures.answer.2 merge.merges
+
+pub returns-in_err-merge-clause-refused : goal.returns-in_err-merge-clause-refused
+returns-in_err-merge-clause-refused c =
+    let is = c.in_ok-empty.ensures.answer.2 in
+    let differ = rw is at c.in_err-merge.ensures.merges.1 in
+    search rules
