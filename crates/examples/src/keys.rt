@@ -14,6 +14,7 @@ use datasketches::hash::value::{
 };
 use datasketches::hash::{Hash, Hasher, MurmurHash3X64128};
 use datasketches::laws;
+use std::mem;
 use std::ops::DerefMut;
 
 /// The Murmur pair of any value.
@@ -248,11 +249,12 @@ pub fn key_through_any(key: &mut NaturalExtend<u32>) -> u32
     shown_by(key)
 }
 
-/// Replaces a wrapped key, through the wrapper.
-pub fn replace_key(key: &mut NaturalExtend<u32>, other: u32)
-    ensures { key.new ≡ other }
+/// Replaces the value inside of a wrapped one, of any type, and answers the one that was there.
+pub fn replace_inner<T, S>(value: &mut Value<T, S>, other: T) -> T
+    ensures new { value.new ≡ other }
+    ensures old { result ≡ value.old }
 {
-    **key = other;
+    mem::replace(&mut **value, other)
 }
 
 /// The Murmur pairs of plain integers: each feeds its own bytes, the lowest first.

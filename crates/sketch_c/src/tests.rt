@@ -69,9 +69,11 @@ fn clear_buffers(x: &mut XxHash64State, m: &mut MurmurState, seed: u64)
     sketch_murmur3_x64_128_reset(m, seed);
 }
 
-/// XXH64 of what a state of any origin holds, and of more in two pieces.
+/// XXH64 of what a state of any origin holds, and of more in two pieces; the state holds all.
 fn xxh64_of_more(state: &mut XxHash64State, front: &[u8], back: &[u8]) -> u64
-    ensures { result
+    ensures held { xxh64_held state.new
+        ≡ xxh64_after (xxh64_after (xxh64_held state.old) front.now) back.now }
+    ensures answer { result
         ≡ xxh64_answer (xxh64_after (xxh64_after (xxh64_held state.old) front.now) back.now) }
 {
     sketch_xxh64_update(state, front);
@@ -79,9 +81,12 @@ fn xxh64_of_more(state: &mut XxHash64State, front: &[u8], back: &[u8]) -> u64
     sketch_xxh64_digest(state)
 }
 
-/// MurmurHash3 x64 128 of what a state of any origin holds, and of more in two pieces.
+/// MurmurHash3 x64 128 of what a state of any origin holds, and of more in two pieces; the state
+/// holds all.
 fn murmur_of_more(state: &mut MurmurState, front: &[u8], back: &[u8]) -> Murmur128
-    ensures { (result.h1, result.h2) ≡ murmur_answer
+    ensures held { murmur_held state.new
+        ≡ murmur_after (murmur_after (murmur_held state.old) front.now) back.now }
+    ensures answer { (result.h1, result.h2) ≡ murmur_answer
         (murmur_after (murmur_after (murmur_held state.old) front.now) back.now) }
 {
     sketch_murmur3_x64_128_update(state, front);

@@ -5,21 +5,20 @@ use Rattle.std.proofs.lemmas.List.{take_all, drop_all, length-take-le, take-appe
 use Rattle.std.proofs.lemmas.Slice.{put_mid-paste, drop-put_mid}
 use borrow.Rule.Slice.PartMut.{put_mid, post_of}
 
-pub copy_overlapping-is : (buffer bytes front back : List ℕ) (at k : ℕ) →
+pub copy_overlapping-is : (buffer bytes front back : List ℕ) (at k m : ℕ) → m ≡ at + length bytes - k →
     k ≤ length bytes → length bytes ≤ k + k → at + length bytes ≤ length buffer →
     front ≡ take k bytes → back ≡ drop (length bytes - k) bytes →
-    put_mid (at + length bytes - k) (at + length bytes - (at + length bytes - k))
+    put_mid m (at + length bytes - m)
     (put_mid at (at + k - at) buffer front) back
     ≡ take at buffer ++ bytes ++ drop (at + length bytes) buffer
-copy_overlapping-is buffer bytes front back at k low high within f b =
+copy_overlapping-is buffer bytes front back at k m place low high within f b =
     let n : ℕ = length bytes in
-    let m : ℕ = at + n - k in
     let one : List ℕ = put_mid at (at + k - at) buffer front in
     let front_len : length front ≡ k = ap length f ∙ length-take-le k bytes low in
     let back_long : length (drop (n - k) bytes) ≡ n - (n - k) = length-drop (n - k) bytes in
     let back_len : length back ≡ k = ap length b ∙ back_long ∙ omega arith in
     let at_len : length (take at buffer) ≡ at = length-take-le at buffer (omega arith) in
-    let seam : m ≡ length (take at buffer) + (n - k) = omega (arith, at_len) in
+    let seam : m ≡ length (take at buffer) + (n - k) = omega (arith, place, low, at_len) in
     let short : n - k ≤ length front = omega (arith, front_len) in
     let shorter : n - k ≤ length (take k bytes) = rw (length-take-le k bytes low) (omega arith) in
     let early : take m one ≡ take at buffer ++ take (n - k) bytes =
@@ -31,8 +30,8 @@ copy_overlapping-is buffer bytes front back at k low high within f b =
     let width : length front ≡ at + k - at = omega (arith, front_len) in
     let late : drop (at + n) one ≡ drop (at + n) buffer =
     drop-put_mid at (at + k - at) buffer front (at + n) (omega arith) (omega arith) width in
-    let last : k ≡ at + n - m = omega arith in
-    let all : m + k ≡ at + n = omega arith in
+    let last : k ≡ at + n - m = omega (arith, place, low) in
+    let all : m + k ≡ at + n = omega (arith, place, low) in
     let pasted : put_mid m (at + n - m) one back ≡ take m one ++ take k back ++ drop (m + k) one =
     put_mid-paste m (at + n - m) one back back k refl last (sym back_len) in
     let whole : take k back ≡ drop (n - k) bytes = take_all k back (omega (arith, back_len)) ∙ b in

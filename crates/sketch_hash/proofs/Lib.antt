@@ -1,5 +1,6 @@
 pub mod KnownAnswerLemmas
 pub mod WordsLemmas
+pub mod Xor
 pub mod PiecesLemmas
 pub mod StateLemmas
 pub mod MurmurLemmas

@@ -80,6 +80,15 @@ le-ends w bytes b low high =
     let quotient = le-drop (w + w - n) back (All-drop IsByte (n - w) bytes b) within in
     ap (λ v. le (take w bytes) + v * 256 ^ w) (sym quotient ∙ ap le behind) ∙ sym (le-cut w bytes low)
 
+-- the same of four bytes each, as slices
+pub fours_le : (bytes : List ℕ) → ((i : ℕ) → Fits w8 (get_or bytes i 0)) → 4 ≤ length bytes →
+    length bytes < 8 →
+    le (take 4 bytes) + le (take (length bytes - (length bytes - 4)) (drop (length bytes - 4) bytes))
+    / 256 ^ (4 + 4 - length bytes) * 256 ^ 4 ≡ le bytes
+fours_le bytes known low high =
+    let all = le-ends 4 bytes (bytes_known bytes known) low (omega (arith, high)) in
+    rw (take_rest bytes (length bytes - 4)) all
+
 -- the same by shifts
 pub combined : (w count first last shift : ℕ) → w ≤ 4 → first < 256 ^ w → last < 2 ^ 32 →
     shift ≡ 8 * (w + w - count) →

@@ -252,6 +252,7 @@ fn fold_blocks(h1: u64, h2: u64, blocks: &[[u8; BLOCK]]) -> (u64, u64)
 
 // The pair after the tail. A word of it that has no bytes would change nothing.
 #[inline(always)]
+#[tactic(auto, using(crate::proofs::MurmurLemmas::tails))]
 fn mix_tail(h1: u64, h2: u64, tail: &[u8]) -> (u64, u64)
     requires { length tail.now < 16 }
     ensures { result ≡ with_tail (h1, h2) tail.now }
@@ -299,6 +300,7 @@ fn cross(h1: u64, h2: u64) -> (u64, u64)
 
 // The hash of `total` bytes, from the pair that their blocks and their tail left.
 #[inline(always)]
+#[tactic(auto, unfolding(crate::specs::Murmur::finalize), using(crate::proofs::Xor::of_words))]
 fn finalize(h1: u64, h2: u64, total: u64) -> (u64, u64)
     ensures { result ≡ finalize (h1, h2) total }
 {
@@ -309,6 +311,7 @@ fn finalize(h1: u64, h2: u64, total: u64) -> (u64, u64)
 // The same for a hasher. Without the test, a caller's loop over keys of one length becomes vector
 // code, in which each multiplication of 64 bits is three. A key in one call is faster without it.
 #[inline(always)]
+#[tactic(auto, unfolding(crate::specs::Murmur::finalize), using(crate::proofs::Xor::of_words))]
 fn finalize_hasher(h1: u64, h2: u64, total: u64) -> (u64, u64)
     ensures { result ≡ finalize (h1, h2) total }
 {

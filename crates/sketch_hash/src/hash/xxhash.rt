@@ -358,6 +358,7 @@ fn merge(words: ScalarLanes) -> u64
 }
 
 #[inline(always)]
+#[tactic(auto, unfolding(crate::specs::Xxh64::merge_round), using(crate::proofs::Xor::of_words))]
 fn merge_round(hash: u64, lane: u64) -> u64
     ensures { result ≡ merge_round hash lane }
 {
@@ -377,6 +378,7 @@ fn fold_tail(hash: u64, tail: &[u8]) -> u64
 
 // The hash after the tail's words of eight bytes, and the bytes after these.
 #[inline(always)]
+#[tactic(auto, using(crate::proofs::Xxh64Lemmas::fold_eight))]
 fn fold_words(mut hash: u64, tail: &[u8]) -> (u64, &[u8])
     ensures same { fold tail_step result.0 (steps result.1.now)
         ≡ fold tail_step hash (steps tail.now) }
@@ -464,6 +466,7 @@ fn fold_few(hash: u64, bytes: &[u8]) -> u64
 }
 
 #[inline(always)]
+#[tactic(auto, unfolding(crate::specs::Xxh64::eight_step), using(crate::proofs::Xor::of_words))]
 fn eight_step(hash: u64, word: u64) -> u64
     ensures { result ≡ eight_step hash word }
 {
@@ -473,6 +476,7 @@ fn eight_step(hash: u64, word: u64) -> u64
 }
 
 #[inline(always)]
+#[tactic(auto, unfolding(crate::specs::Xxh64::four_step), using(crate::proofs::Xor::of_words))]
 fn four_step(hash: u64, word: u32) -> u64
     ensures { result ≡ four_step hash word }
 {
@@ -482,6 +486,7 @@ fn four_step(hash: u64, word: u32) -> u64
 }
 
 #[inline(always)]
+#[tactic(auto, unfolding(crate::specs::Xxh64::byte_step), using(crate::proofs::Xor::of_words))]
 fn byte_step(hash: u64, byte: u8) -> u64
     ensures { result ≡ byte_step hash byte }
 {

@@ -247,9 +247,9 @@ fn are_enough(
     (answer != Err(RunFault::TooLong), turns_of(&reader))
 }
 
-// Writes the line of what a reader has left, where no call failed before. A line that is done is
-// flushed, the reader is at its end, and no call failed; a fault that is told has happened, and no
-// other.
+// Writes the line of what a reader has left, where no call failed before, also where the writer was
+// flushed. A line that is done is flushed, the reader is at its end, and no call failed; a fault
+// that is told has happened, and no other.
 fn write_rest<R: Read, W: Write>(
     algorithm: Algorithm,
     seed: u64,
@@ -259,6 +259,11 @@ fn write_rest<R: Read, W: Write>(
     requires reader { reader.old.has_failed ≡ false }
     requires unended { reader.old.is_at_end ≡ false }
     requires writer { writer.old.has_failed ≡ false }
+    ensures runs { Runs algorithm seed reader.old.turns_left result
+        (R.remaining reader.old.reader.now) (R.remaining reader.new.reader.now)
+        (W.contents writer.old.writer.now) (W.contents writer.new.writer.now) }
+    ensures same_reader { reader.new.reader.ghost_name ≡ reader.old.reader.ghost_name }
+    ensures same_writer { writer.new.writer.ghost_name ≡ writer.old.writer.ghost_name }
     ensures flushed { OnOk result (writer.new.is_flushed ≡ true) }
     ensures end { OnOk result (reader.new.is_at_end ≡ true) }
     ensures read { result ≢ Err RunFault.Read → reader.new.has_failed ≡ false }
@@ -301,10 +306,14 @@ fn is_same_outcome(one: Outcome, other: Outcome) -> bool
     one == other
 }
 
-// Flushes: whatever comes of it, what was written stays as it was.
+// Flushes, also what was flushed: whatever comes of it, what was written stays as it was.
 fn flush_and_keep<W: Write>(writer: &mut CheckedWriter<'_, W>) -> io::Result<()>
     requires { writer.old.has_failed ≡ false }
-    ensures { Keeps (W.contents writer.old.writer.now) (W.contents writer.new.writer.now) }
+    ensures keeps { Keeps (W.contents writer.old.writer.now) (W.contents writer.new.writer.now) }
+    ensures done { OnOk result
+        ((writer.new.is_flushed ≡ true) × (writer.new.has_failed ≡ false)) }
+    ensures failed { OnErr result (writer.new.has_failed ≡ true) }
+    ensures same_writer { writer.new.writer.ghost_name ≡ writer.old.writer.ghost_name }
 {
     writer.flush()
 }

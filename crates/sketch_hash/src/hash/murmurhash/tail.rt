@@ -36,6 +36,7 @@ pub(super) fn read_partial_words(bytes: &[u8]) -> (u64, u64)
 
 // The little-endian number of fewer than eight bytes.
 #[inline(always)]
+#[tactic(auto, using(crate::proofs::NumberLemmas::fours_le))]
 fn read_word_le(bytes: &[u8]) -> u64
     requires { length bytes.now < 8 }
     ensures { result ≡ le bytes.now }
@@ -59,6 +60,7 @@ fn read_word_le(bytes: &[u8]) -> u64
 
 // The number of `count` bytes, from the numbers of their first and of their last `width` bytes.
 #[inline(always)]
+#[tactic(auto, using(crate::proofs::NumberLemmas::combined))]
 fn combine_overlapping(first: u32, last: u32, width: usize, count: usize) -> u64
     requires width { width ≤ 4 }
     requires low { width ≤ count }

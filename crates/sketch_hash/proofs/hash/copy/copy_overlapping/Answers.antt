@@ -1,4 +1,4 @@
-use Rattle.std.proofs.Common.{◌≡◌, ◌+◌, ◌-◌, ◌≤◌, length, take, drop, ◌∙◌}
+use Rattle.std.proofs.Common.{◌≡◌, ◌+◌, ◌-◌, ◌≤◌, length, take, drop, ◌∙◌, arith}
 use Rattle.std.proofs.lemmas.List.{take_rest}
 use Rattle.sketch_hash.proofs.CopyLemmas.{copy_overlapping-is}
 use Rattle.sketch_hash.proofs.hash.copy.copy_overlapping.Goals as goal
@@ -11,4 +11,5 @@ returns g c =
     c.copy_array-2.ensures ∙ take_rest c.args.bytes.now (n - g.row.K) in
     let within : c.args.at + n ≤ length c.args.buffer.now = c.requires.within in
     copy_overlapping-is c.args.buffer.now c.args.bytes.now c.copy_array.new.place
-    c.copy_array-2.new.place c.args.at g.row.K c.requires.low c.requires.high within front back
+    c.copy_array-2.new.place c.args.at g.row.K _ (omega (arith, c.requires.low)) c.requires.low
+    c.requires.high within front back

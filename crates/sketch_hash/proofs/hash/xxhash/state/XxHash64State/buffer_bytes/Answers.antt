@@ -1,4 +1,4 @@
-use Rattle.std.proofs.Common.{rules, ℕ, ◌+◌, ◌%◌, ◌<◌, ◌≤◌, ◌^◌, ◌++◌, List, length, take, sym, length-append, arith}
+use Rattle.std.proofs.Common.{rules, ◌≡◌, ℕ, ◌+◌, ◌%◌, ◌<◌, ◌≤◌, ◌^◌, ◌++◌, List, length, take, sym, length-append, arith}
 use Rattle.std.proofs.lemmas.List.{length-take-le}
 use Rattle.sketch_hash.specs.Held.{xxh64_held}
 use Rattle.sketch_hash.specs.Xxh64.{xxh64_after, seeded_step}
@@ -18,5 +18,6 @@ returns c =
     rw (length-append held bytes, length-take-le _ s.waiting low) c.requires in
     let total : s.total < 2 ^ 64 = search rules in
     let joined = held-waits 32 s.total s.waiting bytes (λ n. omega arith) c.requires within in
-    rw (c.copy_small.ensures, c.waiting_count-count.ensures, joined)
+    let told : (count : ℕ) × (count ≡ s.total % 32) = search rules in
+    rw (c.copy_small.ensures, told.1, joined)
     (sym (state_after-waits 32 (λ stripe. stripe) seeded_step (xxh64_held s) bytes total short))

@@ -1,0 +1,8 @@
+-- The library's exclusive or of words is that of the definitions; for `using`.
+use Rattle.std.proofs.Common.{◌≡◌, ℕ, sym}
+use Rattle.std.specs.Prelude.{bit_xor}
+use Rattle.sketch_hash.specs.Words.{IsWord, xor}
+use Rattle.sketch_hash.proofs.WordsLemmas.{xor-is}
+
+pub of_words : (x y : ℕ) → IsWord x → IsWord y → bit_xor x y ≡ xor x y
+of_words x y p q = sym (xor-is x y p q)
