@@ -17,12 +17,13 @@
  *     which nothing else changes during the call, and overlap nothing that the call writes. They
  *     may be NULL only if the length is 0. A length is below 2^63.
  *   - The same holds of each array that is passed with a count of its elements, which is below 2^60;
- *     it is aligned for its type. `out` is writable, and overlaps nothing else that is passed.
+ *     it is aligned for its type, unless its count is 0. `out` is writable, and overlaps nothing else
+ *     that is passed.
  *   - The bytes of a table that a call changes are writable too.
  *
- * A state or a table owns nothing: declare it, copy it by assignment, write it to a file (a state,
- * for the same kind of machine), forget it. Threads may share the library, and each state and each
- * table that is changed needs one owner at a time.
+ * A state or a table owns nothing: declare it, copy it, write it to a file (a state, for the same
+ * kind of machine), forget it. Threads may share the library, and each state and each table that is
+ * changed needs one owner at a time.
  *
  * Licence: Apache-2.0.
  */

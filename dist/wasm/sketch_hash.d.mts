@@ -6,7 +6,10 @@ export type Input = ArrayBuffer | ArrayBufferView;
 /** Where each key of a column begins, and then where the last one ends: one more than keys. */
 export type Offsets = Uint32Array | Int32Array | BigUint64Array | BigInt64Array;
 
-/** A stream that comes in pieces. Splitting the input into several updates gives the same hash. */
+/**
+ * A stream that comes in pieces. Splitting the input into several updates gives the same hash. A file in
+ * a browser: `for await (const piece of file.stream()) stream.update(piece);`
+ */
 export interface Stream {
     /** The seed of the last reset, from 0n to 2n ** 64n - 1n. */
     readonly seed: bigint;
@@ -61,7 +64,9 @@ export interface Library {
 }
 
 /**
- * Loads the module: from sketch_hash.wasm beside this file, or from another URL or its bytes.
+ * Loads the module: from sketch_hash.wasm beside this file, or from another URL, which is relative to
+ * this file, or from its bytes. A page with a content security policy needs `script-src
+ * 'wasm-unsafe-eval'`, and `connect-src` for where the module lies.
  *
  * @throws {Error} where the engine lacks 64-bit memories, or the module cannot be read, or is none
  */

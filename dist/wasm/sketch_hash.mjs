@@ -12,7 +12,7 @@
 // 2n ** 64n - 1n, and 0n if left out. sketch_hash.d.mts has the types.
 
 const PAGE = 65536;
-const PIECE = 4 * PAGE; // of the input that is copied into the module's memory at a time
+const PIECE = 4 * PAGE; // of the input, copied into the module's memory at a time
 
 const UNABLE = 'This engine lacks WebAssembly with 64-bit memories. Chrome and Edge have them from 133 on, '
     + 'Firefox from 134 on, Node from 24 on, and Node 20 under --experimental-wasm-memory64.';
@@ -39,13 +39,16 @@ async function read(place) {
     return response.arrayBuffer();
 }
 
+// A built-in object's type, also where it is another frame's.
+const typeOf = (value) => Object.prototype.toString.call(value).slice(8, -1);
+
 /** The bytes of an input, without a copy. */
 function view(input) {
-    if (input instanceof ArrayBuffer) return new Uint8Array(input);
     if (ArrayBuffer.isView(input)) {
         input.keys?.(); // refuses an array whose buffer was shrunk below it, and which then has no bytes
         return new Uint8Array(input.buffer, input.byteOffset, input.byteLength);
     }
+    if (typeOf(input) === 'ArrayBuffer') return view(new DataView(input));
     throw new TypeError('the input is an ArrayBuffer or a view of one; encode a string by TextEncoder');
 }
 
@@ -55,12 +58,12 @@ function checked(seed) {
     return seed;
 }
 
-const NUMBERS = [BigUint64Array, BigInt64Array];
-const OFFSETS = [Uint32Array, Int32Array, ...NUMBERS];
+const NUMBERS = ['BigUint64Array', 'BigInt64Array'];
+const OFFSETS = ['Uint32Array', 'Int32Array', ...NUMBERS];
 
-function checkedColumn(column, kinds) {
-    if (kinds.some((kind) => column instanceof kind)) return column;
-    throw new TypeError(`numbers or offsets must be one of ${kinds.map(({ name }) => name).join(', ')}`);
+function checkedColumn(column, types) {
+    if (ArrayBuffer.isView(column) && types.includes(typeOf(column))) return column;
+    throw new TypeError(`numbers or offsets must be one of ${types.join(', ')}`);
 }
 
 function library(calls) {
@@ -93,8 +96,8 @@ function library(calls) {
         return h1 << 64n | h2;
     }
 
-    // Runs a call over columns. The hashes lie from the place of the input on, and after them the
-    // columns from the last to the first: offsets before the bytes, as they lie at multiples of their width.
+    // Runs a call over columns. The hashes lie where the input does, and after them the columns, the last
+    // one first: offsets before bytes, so that they lie at multiples of their width.
     function each(call, columns, seed, count, size) {
         checked(seed); // first, since the memory never shrinks
         makeRoom(columns.reduce((sum, { byteLength }) => sum + byteLength, count * size));
