@@ -22,7 +22,7 @@ HANDED = r"(?:(Err\()(?:\w+\.)?)?([\w:]+!?)[(\[]\s*(?:in )?alloc\b"
 # Calls that can ask for memory without it, as methods or by their paths.
 ASKING = [
     r"append", r"clone\w*", r"collect", r"concat", r"drain", r"extend", r"extend_from\w*", r"extend_with\w*",
-    r"insert", r"insert_\w+", r"into_owned", r"join", r"push\w*", r"repeat", r"replace\w*", r"reserve\w*",
+    r"insert", r"insert_\w+", r"into_owned", r"join", r"push\w*", r"repeat", r"(?<!\bmem::)replace\w*", r"reserve\w*",
     r"resize\w*", r"shrink\w*", r"sort\w*", r"splice", r"split_off", r"to_mut", r"to_owned", r"to_vec", r"try_\w+",
     r"write_all", r"write_fmt", r"write_str", r"(?<=::)write\w*", r"read_line", r"read_to_\w+", r"read_until",
     r"with_capacity\w*", r"from_iter", r"allocate\w*", r"make_mut", r"unwrap_or_clone", r"(?<=Rc::)from_\w+",
