@@ -1,7 +1,7 @@
 -- Bytes that are put at a place by two copies, which may overlap.
-use Rattle.std.proofs.Common.{◌≡◌, ℕ, ◌+◌, ◌-◌, ◌≤◌, List, ◌++◌, length, take, drop, refl, sym, ap, ◌∙◌, arith, append_assoc, append-nil, length-append, length-drop}
+use Rattle.std.proofs.Common.{◌≡◌, ℕ, ◌+◌, ◌-◌, ◌<◌, ◌≤◌, List, ◌++◌, length, take, drop, refl, sym, ap, ◌∙◌, arith, append_assoc, append-nil, length-append, length-drop}
 use Rattle.std.proofs.Math.Seq.{take-append-add, take-append_seam}
-use Rattle.std.proofs.lemmas.List.{take_all, drop_all, length-take-le, take-append-drop, take-append-le}
+use Rattle.std.proofs.lemmas.List.{take_all, drop_all, length-take, length-take-le, take_rest, take-append-drop, take-append-le}
 use Rattle.std.proofs.lemmas.Slice.{put_mid-paste, drop-put_mid}
 use borrow.Rule.Slice.PartMut.{put_mid, post_of}
 
@@ -56,8 +56,28 @@ copy_taken buffer bytes at h =
     ∙ take-append_seam (take at buffer ++ bytes) (drop (at + length bytes) buffer)
 
 -- bytes up to the end
-pub copy_full : (buffer bytes : List ℕ) (at : ℕ) → length buffer ≤ at + length bytes →
+pub copy_whole : (buffer bytes : List ℕ) (at : ℕ) → length (take at buffer) + length bytes ≡ length buffer →
     take at buffer ++ bytes ++ drop (at + length bytes) buffer ≡ take at buffer ++ bytes
-copy_full buffer bytes at h =
-    ap (λ t. take at buffer ++ bytes ++ t) (drop_all (at + length bytes) buffer h)
+copy_whole buffer bytes at h =
+    let at_len = length-take at buffer in
+    ap (λ t. take at buffer ++ bytes ++ t) (drop_all (at + length bytes) buffer (omega (arith, h, at_len)))
     ∙ append-nil (take at buffer ++ bytes)
+
+-- bytes in front of others, as search finds them: the first part says nothing, and shows the call to
+-- look for
+pub copy_starts : (buffer bytes : List ℕ) (at : ℕ) → length (take at buffer) + length bytes < length buffer →
+    (take at buffer ++ bytes ++ drop (at + length bytes) buffer
+    ≡ take at buffer ++ bytes ++ drop (at + length bytes) buffer)
+    × (take (at + length bytes) (take at buffer ++ bytes ++ drop (at + length bytes) buffer)
+    ≡ take at buffer ++ bytes)
+copy_starts buffer bytes at h =
+    let at_len = length-take at buffer in
+    (refl, copy_taken buffer bytes at (omega (arith, h, at_len)))
+
+-- bytes at the front
+pub copy_at_start : (bytes behind : List ℕ) →
+    (bytes ++ behind ≡ bytes ++ behind) × (take (length bytes) (bytes ++ behind) ≡ bytes)
+copy_at_start bytes behind = (refl, take-append_seam bytes behind)
+
+-- the second copy may also be cut by a range
+pub ruleset overlapped = (copy_overlapping-is, take_rest)

@@ -1,7 +1,12 @@
 -- What the states hold: how many bytes wait, and the waiting bytes of a number.
-use Rattle.std.proofs.Common.{◌≡◌, ℕ, zero, suc, ◌+◌, ◌%◌, ◌/◌, ◌^◌, ◌<◌, ◌≤◌, List, [], ◌∷◌, length, take, drop, refl, sym, ap, ◌∙◌, ◌++◌}
+use Rattle.std.proofs.Common.{arith, ◌-◌, ◌*◌, min, length-append, ◌≡◌, ℕ, zero, suc, ◌+◌, ◌%◌, ◌/◌, ◌^◌, ◌<◌, ◌≤◌, List, [], ◌∷◌, length, take, drop, refl, sym, ap, ◌∙◌, ◌++◌}
 use Rattle.std.proofs.Math.Nat.{mod-add-mod, mod-eq_of_lt, suc-add, zero-mod}
+use Rattle.std.specs.Int.{w128, to_le_bytes}
+use Rattle.std.proofs.lemmas.List.{length-take, length-take-le}
 use Rattle.sketch_base.specs.Bytes.{low_bytes}
+use Rattle.sketch_base.proofs.BytesLemmas.{to_le_bytes-is}
+use Rattle.sketch_hash.proofs.NumberLemmas.{words-lt, words-number}
+use Rattle.sketch_hash.proofs.MurmurWrites.{after_waits}
 use Rattle.sketch_hash.specs.declared.hash.murmurhash.state.MurmurState.{MurmurState}
 use Rattle.sketch_hash.specs.MurmurWriteLemmas.{murmur_stands_after}
 use Rattle.sketch_hash.specs.declared.hash.xxhash.state.XxHash64State.{XxHash64State}
@@ -48,3 +53,51 @@ pub xxh64_holds_after : (state next : XxHash64State) (bytes : List ℕ) →
     (seed : ℕ) (before : List ℕ) → Xxh64Holds state seed before → Xxh64Holds next seed (before ++ bytes)
 xxh64_holds_after state next bytes written seed before holds =
     xxh64_stands_after (xxh64_held state) (xxh64_held next) bytes written seed before holds
+
+-- ---- Murmur's
+
+-- a write that fills no block
+pub murmur_copied : (total : ℕ) (buffer bytes : List ℕ) → total % 16 + length bytes < 16 →
+    length buffer ≡ 16 →
+    (take (total % 16) buffer ++ bytes ++ drop (total % 16 + length bytes) buffer
+    ≡ take (total % 16) buffer ++ bytes ++ drop (total % 16 + length bytes) buffer)
+    × (take ((total + length bytes) % 2 ^ 64 % 16)
+    (take (total % 16) buffer ++ bytes ++ drop (total % 16 + length bytes) buffer)
+    ≡ take (total % 16) buffer ++ bytes)
+murmur_copied total buffer bytes few size =
+    let within : total % 16 + length bytes ≤ length buffer = omega arith in
+    (refl, held-waits 16 total buffer bytes (λ n. omega arith) few within)
+
+pub ruleset held = (after_waits, murmur_copied, length-take)
+
+-- a state that is taken up: the words of the waiting bytes' number, and how large they are
+words_sized : (n count : ℕ) (k : ℕ × ℕ) → n < 256 ^ count → k ≡ (n % 2 ^ 64, n / 2 ^ 64) →
+    (k.0 < 256 ^ min count 8) × (k.1 < 256 ^ (count - 8))
+words_sized n count k h words = rw words (words-lt count n h)
+
+pub words_joined : (n : ℕ) (k : ℕ × ℕ) → k ≡ (n % 2 ^ 64, n / 2 ^ 64) → k.0 + k.1 * 2 ^ 64 ≡ n
+words_joined n k words = rw words (words-number n)
+
+pub first_sized : (n count : ℕ) (k : ℕ × ℕ) → n < 256 ^ count → k ≡ (n % 2 ^ 64, n / 2 ^ 64) →
+    k.0 < 256 ^ min count 8
+first_sized n count k h words = (words_sized n count k h words).0
+
+pub second_sized : (n count : ℕ) (k : ℕ × ℕ) → n < 256 ^ count → k ≡ (n % 2 ^ 64, n / 2 ^ 64) →
+    k.1 < 256 ^ (count - 8)
+second_sized n count k h words = (words_sized n count k h words).1
+
+pub ruleset resumed = (first_sized, second_sized, words_joined)
+
+-- a hasher's state: its buffer has the bytes of that number
+number_held : (n count : ℕ) → count < 16 → take count (low_bytes 16 n) ≡ low_bytes count n
+number_held n count few =
+    let all : count + (16 - count) ≡ 16 = omega arith in
+    ap (λ k. take count (low_bytes k n)) (sym all) ∙ take-low_bytes count (16 - count) n
+
+pub bytes_held : (n total count : ℕ) (bytes : List ℕ) → bytes ≡ to_le_bytes w128 n → count ≡ total % 16 →
+    take (total % 16) bytes ≡ low_bytes count n
+bytes_held n total count bytes is at =
+    let few : count < 16 = omega (arith, at) in
+    ap (take (total % 16)) (is ∙ to_le_bytes-is w128 n) ∙ rw (← at) (number_held n count few)
+
+pub ruleset stated = (bytes_held)

@@ -14,5 +14,7 @@ pub mod TailSteps
 pub mod LanesLemmas
 pub mod CopyLemmas
 pub mod NumberLemmas
+pub mod MurmurWrites
 pub mod HeldLemmas
 pub mod WriteLemmas
+pub mod ValueLemmas

@@ -1,16 +1,18 @@
 -- What a hasher in a state answers, where the state is that of a seed and bytes.
-use Rattle.std.proofs.Common.{◌≡◌, ℕ, ◌%◌, ◌/◌, ◌^◌, ◌<◌, ◌≤◌, List, [], ◌∷◌, length, get_or, Fits, w8, refl, ap, ◌∙◌, arith, zero-add}
+use Rattle.std.proofs.Common.{◌≡◌, ℕ, ◌+◌, ◌-◌, ◌*◌, min, ◌%◌, ◌/◌, ◌^◌, ◌<◌, ◌≤◌, List, [], ◌∷◌, ◌++◌, sym, length, get_or, Fits, w8, refl, ap, ◌∙◌, arith, zero-add}
 use Rattle.std.specs.Prelude.{bit_xor}
 use Rattle.std.specs.Int.Bits.{xor_zero_r}
-use Rattle.sketch_hash.specs.Words.{IsWord, xor, xor_below, rotate}
+use Rattle.sketch_hash.specs.Words.{IsWord, plus, times, xor, xor_below, rotate}
+use Rattle.sketch_hash.specs.MurmurWriteLemmas.{murmur_after-append}
 use Rattle.std.proofs.Math.Nat.{div-eq_of_lt}
 use Rattle.std.proofs.lemmas.List.{nil_from_length}
-use Rattle.sketch_base.specs.Bytes.{le}
+use Rattle.sketch_base.specs.Bytes.{le, low_bytes}
 use Rattle.sketch_base.proofs.BytesLemmas.{bytes_known}
-use Rattle.sketch_hash.proofs.WordsLemmas.{xor-is}
-use Rattle.sketch_hash.proofs.NumberLemmas.{le-word, tail_words}
+use Rattle.sketch_hash.proofs.WordsLemmas.{xor-is, five_times}
+use Rattle.sketch_hash.proofs.Xor.{of_words, of_swapped_words}
+use Rattle.sketch_hash.proofs.NumberLemmas.{le-word, tail_words, padded_words, number-lt, number-words}
 use Rattle.sketch_hash.specs.Pieces.{State, absorb, pieces, rest}
-use Rattle.sketch_hash.specs.Murmur.{fmix, mix1, mix2, with_tail, murmur, murmur_start, murmur_after, murmur_answer, MurmurStands}
+use Rattle.sketch_hash.specs.Murmur.{fmix, mix1, mix2, step, step1, step2, finalize, with_tail, murmur, murmur_start, murmur_after, murmur_answer, MurmurStands}
 
 -- the definition of the whole bytes
 pub murmur_answer-after : (seed : ℕ) (bytes : List ℕ) →
@@ -82,3 +84,39 @@ short_tail_mixed h1 h2 m1 k tail known short f1 f2 g1 words one =
     ) refl
 
 pub ruleset tails = (no_tail, short_tail_mixed, tail_mixed)
+
+-- the words of the waiting bytes enter as a tail
+pub held_mixed : (h1 h2 low high count : ℕ) → count < 16 →
+    low < 256 ^ min count 8 → high < 256 ^ (count - 8) → low < 2 ^ 64 →
+    with_tail (h1, h2) (low_bytes count (low + high * 2 ^ 64)) ≡ (xor h1 (mix1 low), xor h2 (mix2 high))
+unfolding with_tail
+held_mixed h1 h2 low high count few p q word =
+    let words = padded_words count (low + high * 2 ^ 64) few (number-lt count low high p q) in
+    let parts = number-words low high word in
+    rw (ap (λ k. k.0) words, ap (λ k. k.1) words, parts.0, parts.1) refl
+
+pub answer_is : (state : State (ℕ × ℕ)) →
+    murmur_answer state ≡ finalize (with_tail state.folded state.waiting) state.total
+unfolding murmur_answer
+answer_is state = refl
+
+pub answer_stands : (state : State (ℕ × ℕ)) (answer : ℕ × ℕ) → answer ≡ murmur_answer state →
+    (seed : ℕ) (bytes : List ℕ) → MurmurStands state seed bytes → answer ≡ murmur seed bytes
+answer_stands state answer answered seed bytes stands =
+    answered ∙ murmur_answer-stands seed bytes state stands
+
+pub ruleset answered = (held_mixed, answer_is, answer_stands, of_words, of_swapped_words)
+
+-- what was written after other bytes
+pub written_after : (state : State (ℕ × ℕ)) (before bytes : List ℕ) →
+    murmur_after state (before ++ bytes) ≡ murmur_after (murmur_after state before) bytes
+written_after state before bytes = sym (murmur_after-append state before bytes)
+
+-- a step, with all that it takes
+pub step_is : (h1 h2 k1 k2 : ℕ) →
+    let first = plus (times (plus (rotate (xor h1 (mix1 k1)) 27) h2) 5) 0x52dce729 in
+    step (h1, h2) (k1, k2) ≡ (first, plus (times (plus (rotate (xor h2 (mix2 k2)) 31) first) 5) 0x38495ab5)
+unfolding step step1 step2
+step_is h1 h2 k1 k2 = refl
+
+pub ruleset stepped = (step_is, of_words, of_swapped_words, five_times)

@@ -1,6 +1,6 @@
 -- Numbers of lists of bytes: joined, cut, and as a block's two words.
 use Rattle.std.proofs.Common.{◌≡◌, ℕ, zero, suc, ◌+◌, ◌-◌, ◌*◌, ◌/◌, ◌%◌, ◌^◌, ◌<◌, ◌≤◌, List, [], ◌∷◌, ◌++◌, length, take, drop, replicate, refl, sym, ap, ap₂, ◌∙◌, arith, subst, length-append, length-drop, zero-add, lt_of_lt_of_le, one-mul, min, inl, inr, add_comm, sub-add_cancel, get_or, w8, Fits}
-use Rattle.std.proofs.Math.Nat.{pow-suc, mod-eq_of_lt, div-eq_of_lt, add-mod-mod, add-mul-mod_self_right, add-mul-div_right, one-le-pow, pow-le-pow_right, min-eq_left, min-eq_right}
+use Rattle.std.proofs.Math.Nat.{pow-suc, mod-eq_of_lt, div-eq_of_lt, add-mul-mod_self_right, add-mul-div_right, one-le-pow, pow-le-pow_right, min-eq_left, min-eq_right}
 use Rattle.std.proofs.Math.Pow.{pow-lt}
 use Rattle.std.proofs.lemmas.Bool.{cases_lt}
 use Rattle.std.proofs.lemmas.Nat.{pow-add, shl_whole, shr_le}
@@ -8,7 +8,7 @@ use Rattle.std.specs.Int.Bits.{bit_or, or_shifted_r}
 use Rattle.std.proofs.lemmas.List.{length-take, length-take-le, take-append-drop, drop-drop, take-take, length-replicate, take_rest}
 use Rattle.std.proofs.lemmas.List.Elements.{All-append, All-take, All-drop, All-replicate}
 use Rattle.sketch_base.specs.Bytes.{AreBytes, le, low_bytes}
-use Rattle.sketch_base.proofs.BytesLemmas.{le-cons, le-lt, low_bytes-are, le-back, le-again, length-low_bytes, low_bytes-le, bytes_known, IsByte}
+use Rattle.sketch_base.proofs.BytesLemmas.{le-cons, le-lt, low_bytes-are, le-back, le-again, length-low_bytes, low_bytes-le, low_bytes-take, bytes_known, IsByte}
 use Rattle.sketch_hash.specs.Murmur.{block_words}
 use Rattle.sketch_hash.proofs.BlockLemmas.{halves}
 
@@ -65,6 +65,24 @@ le-front n bytes b low h =
     let below : 1 * 2 ^ (8 * n) < 2 ^ 128 = rw (one-mul (2 ^ (8 * n))) (pow-lt less) in
     ap (λ m. le bytes % m) (mod-eq_of_lt below ∙ one-mul (2 ^ (8 * n)) ∙ pow_eight n)
     ∙ sym (le-take n bytes b h)
+
+-- a block's first bytes, from the remainder of its number
+pub front_below : (n number : ℕ) (block : List ℕ) → ((i : ℕ) → Fits w8 (get_or block i 0)) → n < 16 →
+    length block ≡ 16 → number ≡ le block → number % (1 * 2 ^ (8 * n) % 2 ^ 128) < 256 ^ n
+front_below n number block known low size is =
+    let are = bytes_known block known in
+    let within : n ≤ length block = omega (arith, size, low) in
+    rw (is, le-front n block are low within) (le_take-lt n block are within)
+
+pub front_bytes : (n number : ℕ) (block : List ℕ) → ((i : ℕ) → Fits w8 (get_or block i 0)) → n < 16 →
+    length block ≡ 16 → number ≡ le block →
+    low_bytes n (number % (1 * 2 ^ (8 * n) % 2 ^ 128)) ≡ take n block
+front_bytes n number block known low size is =
+    let are = bytes_known block known in
+    let within : n ≤ length block = omega (arith, size, low) in
+    rw (is, le-front n block are low within) (low_bytes-take n block are within)
+
+pub ruleset front = (front_below, front_bytes)
 
 -- the number of bytes, from those of their first and of their last w bytes, which may overlap
 pub le-ends : (w : ℕ) (bytes : List ℕ) → AreBytes bytes → w ≤ length bytes → length bytes ≤ w + w →
@@ -184,8 +202,7 @@ joined-lt count n bytes b h =
 -- of bytes behind those of a number, what goes beyond 16 in all falls out
 le-block : (count n : ℕ) (bytes : List ℕ) → AreBytes bytes → n < 256 ^ count → count ≤ 16 →
     16 ≤ count + length bytes →
-    (n + le (take 16 bytes) * 2 ^ (8 * count) % 2 ^ 128) % 2 ^ 128
-    ≡ le (low_bytes count n ++ take (16 - count) bytes)
+    (n + le (take 16 bytes) * 256 ^ count) % 2 ^ 128 ≡ le (low_bytes count n ++ take (16 - count) bytes)
 le-block count n bytes b h low high =
     let missing : ℕ = 16 - count in
     let front : List ℕ = take missing bytes in
@@ -203,9 +220,7 @@ le-block count n bytes b h low high =
     let size : length block ≡ 16 = joined-length count n front ∙ omega (arith, missing_len) in
     let below : le block < 2 ^ 128 =
     subst (λ k. le block < 256 ^ k) size (le-lt block (joined-are count n front front_are)) in
-    ap (λ p. (n + le wide * p % 2 ^ 128) % 2 ^ 128) (pow_eight count)
-    ∙ add-mod-mod n (le wide * 256 ^ count) (2 ^ 128)
-    ∙ ap (λ v. (n + v * 256 ^ count) % 2 ^ 128) cut
+    ap (λ v. (n + v * 256 ^ count) % 2 ^ 128) cut
     ∙ ap (λ v. v % 2 ^ 128) (spread n (le front) behind (256 ^ missing) (256 ^ count)
     ∙ ap (λ p. n + le front * 256 ^ count + behind * p) all
     ∙ ap (λ v. v + behind * 2 ^ 128) (sym (le-joined count n front h)))
@@ -263,7 +278,7 @@ tail_words bytes b h =
     ∙ padded_words (length bytes) (le bytes) h (le-lt bytes b)
 
 -- bytes behind those of a number, where all are fewer than 16
-kept-lt : (count n : ℕ) (bytes : List ℕ) → AreBytes bytes → n < 256 ^ count → count + length bytes < 16 →
+pub kept-lt : (count n : ℕ) (bytes : List ℕ) → AreBytes bytes → n < 256 ^ count → count + length bytes < 16 →
     n + le bytes * 256 ^ count < 2 ^ 128
 kept-lt count n bytes b h short =
     let within : count + length bytes ≤ 16 = omega arith in
@@ -284,8 +299,8 @@ pub block_words-filled : (count n : ℕ) (bytes : List ℕ) → AreBytes bytes �
     16 ≤ count + length bytes →
     block_words (low_bytes count n ++ take (16 - count) bytes)
     ≡ (
-      (n + le (take 16 bytes) * 2 ^ (8 * count) % 2 ^ 128) % 2 ^ 128 % 2 ^ 64,
-      (n + le (take 16 bytes) * 2 ^ (8 * count) % 2 ^ 128) % 2 ^ 128 / 2 ^ 64,
+      (n + le (take 16 bytes) * 256 ^ count) % 2 ^ 128 % 2 ^ 64,
+      (n + le (take 16 bytes) * 256 ^ count) % 2 ^ 128 / 2 ^ 64,
     )
 block_words-filled count n bytes b h low high =
     let front : List ℕ = take (16 - count) bytes in

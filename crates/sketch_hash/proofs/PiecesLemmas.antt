@@ -3,7 +3,7 @@ use Rattle.std.proofs.Common.{◌≡◌, ℕ, zero, suc, ◌+◌, ◌-◌, ◌*�
 use Rattle.std.proofs.Math.Nat.{div-eq_of_lt, div_self, zero-mul}
 use Rattle.std.specs.List.{All}
 use Rattle.std.specs.Simd.{first_chunks}
-use Rattle.std.proofs.lemmas.List.{take_all, drop_all, length-take-le, length-drop, take-append-drop}
+use Rattle.std.proofs.lemmas.List.{take_all, drop_all, length-take-le, length-drop, length-append, take-append-drop}
 use Rattle.std.proofs.lemmas.List.Elements.{All-nil, All-cons, All-take, All-drop}
 use Rattle.sketch_base.specs.Bytes.{AreBytes}
 use Rattle.sketch_base.proofs.BytesLemmas.{IsByte}
@@ -102,3 +102,26 @@ rest-lt w bytes p = rw (length_rest w bytes) (omega arith)
 pub chunks_are : (n w : ℕ) (bytes : List ℕ) → first_chunks w n bytes ≡ first_pieces n w bytes
 chunks_are zero w bytes = refl
 chunks_are (suc n) w bytes = ap (λ t. take w bytes ∷ t) (chunks_are n w (drop w bytes))
+
+-- and what is left behind them is its rest
+pub chunks_cut : (w : ℕ) (bytes : List ℕ) → first_chunks w (length bytes / w) bytes ≡ pieces w bytes
+unfolding pieces
+chunks_cut w bytes = chunks_are (length bytes / w) w bytes
+
+pub rest_cut : (w : ℕ) (bytes : List ℕ) → 0 < w →
+    (drop (length bytes / w * w) bytes ≡ rest w bytes) × (length (drop (length bytes / w * w) bytes) < w)
+unfolding rest
+rest_cut w bytes p = (refl, rest-lt w bytes p)
+
+pub ruleset cut = (chunks_cut, rest_cut)
+
+-- what is as long as a piece, or shorter, in two parts
+pub joined_piece : (w : ℕ) (held front : List ℕ) → 0 < w → length held + length front ≡ w →
+    pieces w (held ++ front) ≡ (held ++ front) ∷ []
+joined_piece w held front p h = pieces_one w (held ++ front) p (length-append held front ∙ h)
+
+pub no_piece : (w : ℕ) (held front : List ℕ) → length held + length front < w →
+    pieces w (held ++ front) ≡ []
+no_piece w held front h =
+    let short : length (held ++ front) < w = rw (length-append held front) h in
+    pieces_short w (held ++ front) short

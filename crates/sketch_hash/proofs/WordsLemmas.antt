@@ -76,3 +76,5 @@ times-lt x y = mod_below (x * y) (2 ^ 64) (omega arith)
 pub five_times : (r x a b : ℕ) →
     plus (times (plus r x) 5) (5 * a + b) ≡ plus (times (plus r (plus x a)) 5) b
 five_times r x a b = omega arith
+
+pub ruleset rotation = (rotate-is)

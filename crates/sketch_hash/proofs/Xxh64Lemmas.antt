@@ -1,15 +1,15 @@
 -- XXH64's definition as the code meets it: stripe by stripe, and the tail step by step.
-use Rattle.std.proofs.Common.{◌≡◌, ℕ, ◌%◌, ◌^◌, ◌<◌, ◌≤◌, List, [], ◌∷◌, length, take, drop, refl, ap, ◌∙◌, arith, map, length-drop, zero-add}
+use Rattle.std.proofs.Common.{◌≡◌, ℕ, ◌-◌, ◌%◌, ◌^◌, ◌<◌, ◌≤◌, List, [], ◌∷◌, ◌++◌, length, take, drop, nat_lt, if◌then◌else◌, refl, sym, ap, ◌∙◌, arith, map, length-drop, zero-add}
 use Rattle.std.specs.List.{fold}
 use Rattle.std.proofs.Math.Nat.{mod-eq_of_lt}
-use Rattle.std.proofs.lemmas.List.{nil_from_length, map-id}
+use Rattle.std.proofs.lemmas.List.{nil_from_length, map-id, take_rest}
 use Rattle.std.proofs.lemmas.Bool.{lt-ltb, le-ltb}
 use Rattle.std.proofs.lemmas.List.Folds.{fold-map}
 use Rattle.sketch_base.specs.Bytes.{le, eight}
 use Rattle.sketch_base.proofs.BytesLemmas.{le-back}
 use Rattle.sketch_hash.specs.Pieces.{pieces, rest, State, absorb}
 use Rattle.sketch_hash.specs.Xxh64.{Lanes, prime5, lanes_start, lanes, merge, steps_of, steps, tail_step, eight_step, four_step, byte_step, avalanche, finalize, xxh64, xxh64_start, xxh64_after, xxh64_answer, Xxh64Stands, each_lane}
-use Rattle.sketch_hash.specs.Xxh64WriteLemmas.{xxh64_stands_after}
+use Rattle.sketch_hash.specs.Xxh64WriteLemmas.{xxh64_after-append, xxh64_stands_after}
 use Rattle.sketch_hash.specs.Words.{IsWord, plus}
 use Rattle.sketch_hash.proofs.LanesLemmas.{fold-seeded}
 use Rattle.sketch_hash.proofs.PiecesLemmas.{pieces_short, rest_short, pieces-first, rest-first}
@@ -77,6 +77,26 @@ fold_few hash bytes h =
     let singles = steps_of_one bytes in
     rw (no_eight, all, no_four, behind, singles) (fold-map tail_step (λ b. (1, b)) hash bytes)
 
+-- no bytes are no step of the tail
+pub no_steps : (hash : ℕ) (tail : List ℕ) → length tail ≡ 0 → fold tail_step hash (steps tail) ≡ hash
+unfolding pieces rest steps
+no_steps hash tail none = rw (nil_from_length tail none) refl
+
+-- the same where the tail is cut by ranges
+pub fold_eight_cut : (hash : ℕ) (bytes : List ℕ) → 8 ≤ length bytes →
+    fold tail_step hash (steps bytes) ≡ fold tail_step (eight_step hash (le (take 8 bytes)))
+    (steps (take (length bytes - 8) (drop 8 bytes)))
+fold_eight_cut hash bytes h = rw (take_rest bytes 8) (fold_eight hash bytes h)
+
+pub fold_word_cut : (hash : ℕ) (bytes : List ℕ) → 4 ≤ length bytes → length bytes < 8 →
+    fold tail_step hash (steps bytes)
+    ≡ fold byte_step (four_step hash (le (take 4 bytes))) (take (length bytes - 4) (drop 4 bytes))
+fold_word_cut hash bytes low high = rw (take_rest bytes 4) (fold_word hash bytes low high)
+
+pub ruleset eights = (fold_eight, fold_eight_cut)
+
+pub ruleset below_8 = (fold_word, fold_word_cut, fold_few)
+
 -- ---- the whole
 
 -- the definition of the whole bytes
@@ -89,7 +109,7 @@ xxh64_answer-after seed (b ∷ bytes) =
     let by_lane = fold-seeded (pieces 32 (b ∷ bytes)) seed (lanes_start seed) in
     rw (zero-add, all, by_lane) refl
 
-pub xxh64_answer-stands : (seed : ℕ) (bytes : List ℕ) (state : State (ℕ × Lanes)) →
+xxh64_answer-stands : (seed : ℕ) (bytes : List ℕ) (state : State (ℕ × Lanes)) →
     Xxh64Stands state seed bytes → xxh64_answer state ≡ xxh64 seed bytes
 xxh64_answer-stands seed bytes state stands = ap xxh64_answer stands ∙ xxh64_answer-after seed bytes
 
@@ -121,13 +141,30 @@ of_long seed bytes h w =
     let long = le-ltb (length bytes) 32 h in
     rw (count, long) refl
 
--- no bytes are no step of the tail
-pub no_steps : (hash : ℕ) (tail : List ℕ) → length tail ≡ 0 → fold tail_step hash (steps tail) ≡ hash
-unfolding pieces rest steps
-no_steps hash tail none = rw (nil_from_length tail none) refl
-
 -- eight bytes are one step of the tail
 pub xxh64-eight : (seed x : ℕ) → IsWord x →
     xxh64 seed (eight x) ≡ avalanche (eight_step (plus (plus seed prime5) 8) x)
 unfolding xxh64 finalize lanes lanes_start pieces rest steps tail_step
 xxh64-eight seed x p = ap (λ word. avalanche (eight_step (plus (plus seed prime5) 8) word)) (le-back 8 x p)
+
+-- what a hasher answers, and what that is where its state is that of a seed and bytes
+pub answer_is : (state : State (ℕ × Lanes)) →
+    xxh64_answer state ≡ avalanche (fold tail_step
+    (plus (if nat_lt state.total 32 then plus state.folded.0 prime5 else merge state.folded.1) state.total)
+    (steps state.waiting))
+unfolding xxh64_answer finalize
+answer_is state = refl
+
+pub answer_stands : (state : State (ℕ × Lanes)) (answer : ℕ) → answer ≡ xxh64_answer state →
+    (seed : ℕ) (bytes : List ℕ) → Xxh64Stands state seed bytes → answer ≡ xxh64 seed bytes
+answer_stands state answer answered seed bytes stands =
+    answered ∙ xxh64_answer-stands seed bytes state stands
+
+pub ruleset answers = (answer_is, answer_stands)
+
+-- what was written after other bytes
+pub written_after : (state : State (ℕ × Lanes)) (before bytes : List ℕ) →
+    xxh64_after state (before ++ bytes) ≡ xxh64_after (xxh64_after state before) bytes
+written_after state before bytes = sym (xxh64_after-append state before bytes)
+
+pub ruleset eight_bytes = (xxh64-eight)

@@ -1,6 +1,6 @@
 //! MurmurHash3 x64 128, after Austin Appleby's MurmurHash3_x64_128.
 
-ghost use Rattle.std.specs.Prelude.{◌≡◌, ℕ, ◌+◌, ◌-◌, ◌*◌, ◌%◌, ◌^◌, ◌<◌, ◌≤◌, List, [], ◌++◌, length, map, min};
+ghost use Rattle.std.specs.Prelude.{◌≡◌, ℕ, ◌+◌, ◌-◌, ◌*◌, ◌/◌, ◌%◌, ◌^◌, ◌<◌, ◌≤◌, List, [], ◌++◌, length, take, drop, map, min};
 ghost use Rattle.std.specs.List.{fold};
 ghost use Rattle.sketch_base.specs.Bytes.{le, low_bytes};
 ghost use Rattle.sketch_hash.specs.Pieces.{State};
@@ -70,6 +70,7 @@ impl MurmurHash3X64128 {
 
     /// The 128-bit hash of all bytes so far, as its first and its second word.
     #[inline(always)]
+    #[tactic(auto, using(crate::proofs::MurmurLemmas::answered))]
     pub fn finish128(&self) -> (u64, u64)
         ensures answer { result ≡ murmur_answer self.now }
         ensures stands { (seed : ℕ) (bytes : List ℕ) → MurmurStands self.now seed bytes →
@@ -107,41 +108,76 @@ impl MurmurHash3X64128 {
 
     // Takes fewer bytes than a block has.
     #[inline(always)]
+    #[tactic(auto, using(crate::proofs::MurmurWrites::partial))]
     fn write_partial(&mut self, bytes: &[u8])
         requires { length bytes.now < 16 }
         ensures { self.new ≡ murmur_after self.old bytes.now }
     {
-        self.total = self.total.wrapping_add(bytes.len() as u64);
         let number = read_partial_le(bytes);
-        let waiting = join_words(self.low, self.high);
-        let (k1, k2) = split_words(waiting.wrapping_add(number << (8 * self.count)));
-        let count = self.count + bytes.len();
-        if count < BLOCK {
-            (self.low, self.high) = (k1, k2);
-            self.count = count;
+        if self.count + bytes.len() < BLOCK {
+            self.buffer_bytes(bytes, number);
         } else {
-            (self.h1, self.h2) = step(self.h1, self.h2, k1, k2);
-            // The bytes that did not fit into the block.
-            (self.low, self.high) = split_words(number >> (8 * (BLOCK - self.count)));
-            self.count = count - BLOCK;
+            self.complete_block(bytes, number);
         }
+    }
+
+    // Takes bytes that fill no block, and their number.
+    #[inline(always)]
+    #[tactic(auto, using(crate::proofs::MurmurWrites::buffered))]
+    fn buffer_bytes(&mut self, bytes: &[u8], number: u128)
+        requires number { number ≡ le bytes.now }
+        requires few { length self.old.waiting + length bytes.now < 16 }
+        ensures { self.new ≡ murmur_after self.old bytes.now }
+    {
+        (self.low, self.high) = self.words_with(number);
+        self.total = self.total.wrapping_add(bytes.len() as u64);
+        self.count += bytes.len();
+    }
+
+    // Takes fewer bytes than a block has, and their number, which fill the block that is begun.
+    #[inline(always)]
+    #[tactic(auto, using(crate::proofs::MurmurWrites::completed))]
+    fn complete_block(&mut self, bytes: &[u8], number: u128)
+        requires number { number ≡ le bytes.now }
+        requires few { length bytes.now < 16 }
+        requires enough { 16 ≤ length self.old.waiting + length bytes.now }
+        ensures { self.new ≡ murmur_after self.old bytes.now }
+    {
+        let (k1, k2) = self.words_with(number);
+        (self.h1, self.h2) = step(self.h1, self.h2, k1, k2);
+        // The bytes that did not fit into the block.
+        (self.low, self.high) = split_words(number >> (8 * (BLOCK - self.count)));
+        self.total = self.total.wrapping_add(bytes.len() as u64);
+        self.count = self.count + bytes.len() - BLOCK;
+    }
+
+    // The words of the waiting bytes with a number behind them. What goes beyond a block falls out.
+    #[inline(always)]
+    #[tactic(auto, using(crate::proofs::MurmurWrites::words_with))]
+    fn words_with(&self, number: u128) -> (u64, u64)
+        ensures { result ≡ (
+          (le self.now.waiting + number * 256 ^ length self.now.waiting) % 2 ^ 64,
+          (le self.now.waiting + number * 256 ^ length self.now.waiting) % 2 ^ 128 / 2 ^ 64,
+        ) }
+    {
+        let waiting = join_words(self.low, self.high);
+        split_words(waiting.wrapping_add(number << (8 * self.count)))
     }
 
     // Takes at least as many bytes as a block has: all blocks but the first straight from the
     // slice.
     #[inline(always)]
+    #[tactic(auto, using(crate::proofs::MurmurWrites::in_blocks))]
     fn write_blocks(&mut self, bytes: &[u8])
         requires { 16 ≤ length bytes.now }
         ensures { self.new ≡ murmur_after self.old bytes.now }
     {
-        self.total = self.total.wrapping_add(bytes.len() as u64);
-        // The shift drops those of the first 16 bytes that do not fit into the block.
-        let first = read_u128_le(&bytes[..BLOCK]) << (8 * self.count);
-        let (k1, k2) = split_words(join_words(self.low, self.high).wrapping_add(first));
+        let (k1, k2) = self.words_with(read_u128_le(&bytes[..BLOCK]));
         let (h1, h2) = step(self.h1, self.h2, k1, k2);
         let (blocks, last) = split_pieces::<BLOCK>(&bytes[BLOCK - self.count..]);
         (self.h1, self.h2) = fold_blocks(h1, h2, blocks);
         (self.low, self.high) = split_words(read_partial_le(last));
+        self.total = self.total.wrapping_add(bytes.len() as u64);
         self.count = last.len();
     }
 }
@@ -172,6 +208,7 @@ impl Hasher for MurmurHash3X64128 {
     ghost answer = { λ h. (murmur_answer h).0 };
 
     #[inline(always)]
+    #[tactic(auto, using(crate::proofs::MurmurLemmas::written_after))]
     fn write(&mut self, bytes: &[u8])
         ensures after { self.new ≡ murmur_after self.old bytes.now }
         ensures stands { (seed : ℕ) (before : List ℕ) → MurmurStands self.old seed before →
@@ -229,6 +266,7 @@ fn block_word(bytes: &[u8]) -> u64
 // The second word is made from the first one. It takes the constant of that one at the end, five
 // times as large, and so does not wait for that sum.
 #[inline(always)]
+#[tactic(auto, using(crate::proofs::MurmurLemmas::stepped))]
 fn step(h1: u64, h2: u64, k1: u64, k2: u64) -> (u64, u64)
     ensures { result ≡ step (h1, h2) (k1, k2) }
 {
@@ -300,7 +338,7 @@ fn cross(h1: u64, h2: u64) -> (u64, u64)
 
 // The hash of `total` bytes, from the pair that their blocks and their tail left.
 #[inline(always)]
-#[tactic(auto, unfolding(crate::specs::Murmur::finalize), using(crate::proofs::Xor::of_words))]
+#[tactic(auto, unfolding(crate::specs::Murmur::finalize), using(crate::proofs::Xor::words))]
 fn finalize(h1: u64, h2: u64, total: u64) -> (u64, u64)
     ensures { result ≡ finalize (h1, h2) total }
 {
@@ -311,7 +349,7 @@ fn finalize(h1: u64, h2: u64, total: u64) -> (u64, u64)
 // The same for a hasher. Without the test, a caller's loop over keys of one length becomes vector
 // code, in which each multiplication of 64 bits is three. A key in one call is faster without it.
 #[inline(always)]
-#[tactic(auto, unfolding(crate::specs::Murmur::finalize), using(crate::proofs::Xor::of_words))]
+#[tactic(auto, unfolding(crate::specs::Murmur::finalize), using(crate::proofs::Xor::words))]
 fn finalize_hasher(h1: u64, h2: u64, total: u64) -> (u64, u64)
     ensures { result ≡ finalize (h1, h2) total }
 {

@@ -50,6 +50,7 @@ pub(crate) fn read_u128_le(bytes: &[u8]) -> u128
 
 /// A word xor the same word shifted to the right by `places`.
 #[inline(always)]
+#[tactic(auto, using(crate::proofs::Xor::words))]
 pub(crate) fn xor_shift(word: u64, places: u32) -> u64
     requires { places < 64 }
     ensures { result ≡ xor_shift places word }
@@ -61,6 +62,7 @@ pub(crate) fn xor_shift(word: u64, places: u32) -> u64
 ///
 /// Next to a multiplication LLVM turns a shift of the rotation into a second multiplication. In a
 /// function of its own, and with a constant number of places, it sees the rotation first.
+#[tactic(auto, using(crate::proofs::WordsLemmas::rotation))]
 pub(crate) fn rotate<const PLACES: u32>(word: u64) -> u64
     requires above { 0 < PLACES }
     requires below { PLACES < 64 }
@@ -71,6 +73,7 @@ pub(crate) fn rotate<const PLACES: u32>(word: u64) -> u64
 
 /// The whole pieces of `WIDTH` bytes, and the bytes after them.
 #[inline(always)]
+#[tactic(auto, using(crate::proofs::PiecesLemmas::cut))]
 pub(super) fn split_pieces<const WIDTH: usize>(bytes: &[u8]) -> (&[[u8; WIDTH]], &[u8])
     requires { 0 < WIDTH }
     ensures whole { result.0.now ≡ pieces WIDTH bytes.now }

@@ -72,6 +72,7 @@ impl XxHash64 {
 
     /// The 64-bit hash of all bytes so far.
     #[inline(always)]
+    #[tactic(auto, using(crate::proofs::Xxh64Lemmas::answers))]
     pub fn finish64(&self) -> u64
         ensures answer { result ≡ xxh64_answer self.now }
         ensures stands { (seed : ℕ) (bytes : List ℕ) → Xxh64Stands self.now seed bytes →
@@ -100,6 +101,7 @@ impl XxHash64 {
 
     /// The 64-bit hash of the eight little-endian bytes of `input`, under a seed.
     #[inline(always)]
+    #[tactic(auto, using(crate::proofs::Xxh64Lemmas::eight_bytes))]
     pub fn hash_u64(input: u64, seed: u64) -> u64
         ensures { result ≡ xxh64 seed (eight input) }
     {
@@ -163,6 +165,7 @@ impl XxHash64 {
     // Takes bytes that fill no stripe. The fields are set after the copy: what was set before it
     // LLVM would read again from memory, since it does not know where the copy goes.
     #[inline(always)]
+    #[tactic(auto, using(crate::proofs::WriteLemmas::buffered))]
     fn buffer_bytes(&mut self, bytes: &[u8])
         requires { length self.old.waiting + length bytes.now < 32 }
         ensures { self.new ≡ xxh64_after self.old bytes.now }
@@ -176,6 +179,7 @@ impl XxHash64 {
 
     // Takes the bytes that fill the stripe that is begun.
     #[inline(always)]
+    #[tactic(auto, using(crate::proofs::WriteLemmas::completed))]
     fn complete_stripe(&mut self, bytes: &[u8])
         requires short { length self.old.waiting < 32 }
         requires fills { length self.old.waiting + length bytes.now ≡ 32 }
@@ -193,6 +197,7 @@ impl XxHash64 {
     // Takes whole stripes straight from the slice, and then the bytes after them, where no byte
     // waits. Here too the fields are set after the copy.
     #[inline(always)]
+    #[tactic(auto, using(crate::proofs::WriteLemmas::fresh))]
     fn consume_stripes(&mut self, bytes: &[u8])
         requires { length self.old.waiting ≡ 0 }
         ensures { self.new ≡ xxh64_after self.old bytes.now }
@@ -248,6 +253,7 @@ impl Hasher for XxHash64 {
     ghost answer = { xxh64_answer };
 
     #[inline(always)]
+    #[tactic(auto, using(crate::proofs::Xxh64Lemmas::written_after))]
     fn write(&mut self, bytes: &[u8])
         ensures after { self.new ≡ xxh64_after self.old bytes.now }
         ensures stands { (seed : ℕ) (before : List ℕ) → Xxh64Stands self.old seed before →
@@ -358,7 +364,7 @@ fn merge(words: ScalarLanes) -> u64
 }
 
 #[inline(always)]
-#[tactic(auto, unfolding(crate::specs::Xxh64::merge_round), using(crate::proofs::Xor::of_words))]
+#[tactic(auto, unfolding(crate::specs::Xxh64::merge_round), using(crate::proofs::Xor::words))]
 fn merge_round(hash: u64, lane: u64) -> u64
     ensures { result ≡ merge_round hash lane }
 {
@@ -378,19 +384,18 @@ fn fold_tail(hash: u64, tail: &[u8]) -> u64
 
 // The hash after the tail's words of eight bytes, and the bytes after these.
 #[inline(always)]
-#[tactic(auto, using(crate::proofs::Xxh64Lemmas::fold_eight))]
-fn fold_words(mut hash: u64, tail: &[u8]) -> (u64, &[u8])
+#[tactic(auto, using(crate::proofs::Xxh64Lemmas::eights))]
+fn fold_words(mut hash: u64, mut tail: &[u8]) -> (u64, &[u8])
     ensures same { fold tail_step result.0 (steps result.1.now)
         ≡ fold tail_step hash (steps tail.now) }
     ensures short { length result.1.now < 8 }
 {
-    let mut rest = tail;
-    while rest.len() >= 8 {
-        let (word, behind) = rest.split_at(8);
+    'words: while tail.len() >= 8 {
+        let (word, behind) = tail.split_at(8);
         hash = eight_step(hash, read_u64_le(word));
-        rest = behind;
+        tail = behind;
     }
-    (hash, rest)
+    (hash, tail)
 }
 
 // The hash after a tail of 16 bytes and more. The forms without a loop are faster for one key, but
@@ -433,7 +438,7 @@ fn fold_below_16(mut hash: u64, tail: &[u8]) -> u64
 
 // The same of fewer than 8 bytes.
 #[inline(always)]
-#[tactic(auto, using(crate::proofs::Xxh64Lemmas::fold_word, crate::proofs::Xxh64Lemmas::fold_few))]
+#[tactic(auto, using(crate::proofs::Xxh64Lemmas::below_8))]
 fn fold_below_8(hash: u64, tail: &[u8]) -> u64
     requires { length tail.now < 8 }
     ensures { result ≡ fold tail_step hash (steps tail.now) }
@@ -466,7 +471,7 @@ fn fold_few(hash: u64, bytes: &[u8]) -> u64
 }
 
 #[inline(always)]
-#[tactic(auto, unfolding(crate::specs::Xxh64::eight_step), using(crate::proofs::Xor::of_words))]
+#[tactic(auto, unfolding(crate::specs::Xxh64::eight_step), using(crate::proofs::Xor::words))]
 fn eight_step(hash: u64, word: u64) -> u64
     ensures { result ≡ eight_step hash word }
 {
@@ -476,7 +481,7 @@ fn eight_step(hash: u64, word: u64) -> u64
 }
 
 #[inline(always)]
-#[tactic(auto, unfolding(crate::specs::Xxh64::four_step), using(crate::proofs::Xor::of_words))]
+#[tactic(auto, unfolding(crate::specs::Xxh64::four_step), using(crate::proofs::Xor::words))]
 fn four_step(hash: u64, word: u32) -> u64
     ensures { result ≡ four_step hash word }
 {
@@ -486,7 +491,7 @@ fn four_step(hash: u64, word: u32) -> u64
 }
 
 #[inline(always)]
-#[tactic(auto, unfolding(crate::specs::Xxh64::byte_step), using(crate::proofs::Xor::of_words))]
+#[tactic(auto, unfolding(crate::specs::Xxh64::byte_step), using(crate::proofs::Xor::words))]
 fn byte_step(hash: u64, byte: u8) -> u64
     ensures { result ≡ byte_step hash byte }
 {

@@ -51,6 +51,7 @@ impl MurmurState {
 
     // Takes bytes that fill no block, in place.
     #[inline(always)]
+    #[tactic(auto, using(crate::proofs::HeldLemmas::held))]
     fn buffer_bytes(&mut self, bytes: &[u8])
         requires { self.old.total % 16 + length bytes.now < 16 }
         ensures { murmur_held self.new ≡ murmur_after (murmur_held self.old) bytes.now }
@@ -61,6 +62,7 @@ impl MurmurState {
     }
 
     #[inline(always)]
+    #[tactic(auto, using(crate::proofs::MurmurWrites::partial))]
     fn consume_blocks(&mut self, bytes: &[u8])
         ensures { murmur_held self.new ≡ murmur_after (murmur_held self.old) bytes.now }
     {
@@ -73,6 +75,7 @@ impl MurmurState {
 impl MurmurHash3X64128 {
     /// A hasher that goes on from a state.
     #[inline(always)]
+    #[tactic(auto, using(crate::proofs::HeldLemmas::resumed))]
     pub fn resume(state: &MurmurState) -> Self
         ensures held { result ≡ murmur_held state.now }
         ensures stands { (seed : ℕ) (bytes : List ℕ) → MurmurHolds state.now seed bytes →
@@ -92,6 +95,7 @@ impl MurmurHash3X64128 {
 
     /// The state of this hasher.
     #[inline(always)]
+    #[tactic(auto, using(crate::proofs::HeldLemmas::stated))]
     pub fn state(&self) -> MurmurState
         ensures held { murmur_held result ≡ self.now }
         ensures holds { (seed : ℕ) (bytes : List ℕ) → MurmurStands self.now seed bytes →

@@ -92,6 +92,7 @@ pub(super) fn split_words(number: u128) -> (u64, u64)
 
 /// The little-endian number of the first `count` bytes of a block, for a `count` below 16.
 #[inline(always)]
+#[tactic(auto, using(crate::proofs::NumberLemmas::front))]
 pub(super) fn read_front_le(block: &[u8; 16], count: usize) -> u128
     requires { count < 16 }
     ensures below { result < 256 ^ count }

@@ -1,6 +1,7 @@
 //! XXH64's four lanes, and how stripes of 32 bytes change them.
 
-ghost use Rattle.std.specs.Prelude.{◌≡◌, ℕ, ◌+◌, ◌-◌, ◌%◌, ◌^◌, ◌<◌, ◌≤◌, length, take};
+ghost use Rattle.std.specs.Prelude.{◌≡◌, ℕ, ◌+◌, ◌-◌, ◌%◌, ◌^◌, ◌<◌, ◌≤◌, ◌++◌, length, take};
+ghost use Rattle.sketch_hash.specs.Pieces.{pieces};
 ghost use Rattle.sketch_hash.specs.Xxh64.{Lanes, lanes_start, round, stripe_step, xxh64_after, each_lane};
 ghost use Rattle.sketch_hash.specs.ScalarLanes.{lanes_of_scalars, state_of_scalars};
 ghost use Rattle.sketch_hash.specs.Lanes.{lanes_of, stripe_words};
@@ -91,8 +92,9 @@ impl StripeRound for ScalarLanes {
 /// The last bytes are stored before the run of stripes: the next write reads them, and a processor
 /// is slow to read what it has just stored.
 #[inline(always)]
+#[tactic(auto, using(crate::proofs::WriteLemmas::through))]
 pub(super) fn consume(
-    mut lanes: ScalarLanes,
+    lanes: ScalarLanes,
     buffer: &mut [u8; 32],
     count: usize,
     bytes: &[u8],
@@ -106,13 +108,31 @@ pub(super) fn consume(
 {
     let missing = (32 - count) % 32;
     let (front, behind) = bytes.split_at(missing);
-    if missing > 0 {
-        copy_small(buffer, count, front);
-        lanes.stripe_round(buffer);
-    }
+    let mut lanes = complete(lanes, buffer, count, front);
     let (stripes, last) = split_pieces::<32>(behind);
     copy_small(buffer, 0, last);
     fold_stripes(&mut lanes, stripes);
+    lanes
+}
+
+// The lanes after the stripe that `front` fills, where one is begun.
+#[inline(always)]
+#[tactic(auto, using(crate::proofs::WriteLemmas::first_stripe))]
+fn complete(
+    mut lanes: ScalarLanes,
+    buffer: &mut [u8; 32],
+    count: usize,
+    front: &[u8],
+) -> ScalarLanes
+    requires short { count < 32 }
+    requires fills { length front.now ≡ (32 - count) % 32 }
+    ensures { lanes_of_scalars result
+        ≡ each_lane (lanes_of_scalars lanes) (pieces 32 (take count buffer.old ++ front.now)) }
+{
+    if !front.is_empty() {
+        copy_small(buffer, count, front);
+        lanes.stripe_round(buffer);
+    }
     lanes
 }
 
@@ -139,6 +159,7 @@ fn fold_long<L: StripeRound>(mut lanes: L, stripes: &[[u8; 32]]) -> L
 
 /// Folds stripes into the lanes, one after another.
 #[inline(always)]
+#[tactic(auto, using(crate::proofs::LanesLemmas::each_more))]
 pub(super) fn fold_stripes<L: StripeRound>(lanes: &mut L, stripes: &[[u8; 32]])
     ensures { L.lanes lanes.new ≡ each_lane (L.lanes lanes.old) stripes.now }
 {
@@ -149,6 +170,7 @@ pub(super) fn fold_stripes<L: StripeRound>(lanes: &mut L, stripes: &[[u8; 32]])
 
 // All four lanes at once.
 #[inline(always)]
+#[tactic(auto, using(crate::proofs::LanesLemmas::vectors))]
 fn vector_round(lanes: u64x4, stripe: &[u8; 32]) -> u64x4
     ensures { lanes_of result ≡ stripe_step (lanes_of lanes) stripe.now }
 {

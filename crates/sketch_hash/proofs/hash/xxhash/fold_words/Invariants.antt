@@ -3,9 +3,9 @@ use Rattle.std.specs.List.{fold}
 use Rattle.sketch_hash.specs.Xxh64.{tail_step, steps}
 use Rattle.sketch_hash.proofs.hash.xxhash.fold_words.Given as goal
 
-abbrev pub invariant-loop-rest : goal.invariant-loop-rest
-invariant-loop-rest l =
-    fold tail_step l.hash (steps l.rest) ≡ fold tail_step l.initial.hash (steps l.initial.rest)
+abbrev pub invariant-words : goal.invariant-words
+invariant-words l =
+    fold tail_step l.hash (steps l.tail) ≡ fold tail_step l.initial.hash (steps l.initial.tail)
 
-abbrev pub decreases-loop-rest : goal.decreases-loop-rest
-decreases-loop-rest l = length l.rest
+abbrev pub decreases-words : goal.decreases-words
+decreases-words l = length l.tail
