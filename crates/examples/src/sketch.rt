@@ -17,7 +17,8 @@ use datasketches::codec::assert::{
 use datasketches::codec::family::Family;
 use datasketches::codec::{Item, Kind, Short, SketchBytes, SketchSlice, Stopped};
 use datasketches::error::{Error, ErrorKind};
-use datasketches::hash::{check_seed_hash, compute_seed_hash};
+use datasketches::hash::{DEFAULT_UPDATE_SEED, check_seed_hash, compute_seed_hash};
+use sketch_hash::known_answers::value_answers;
 use std::alloc::{AllocError, Global};
 use std::ops::Bound;
 
@@ -46,6 +47,19 @@ pub fn check_preamble(alloc: Global, bytes: &[u8], seed: u64) -> Result<(), Erro
     let expected = compute_seed_hash(alloc, seed, ErrorKind::InvalidArgument)?;
     check_seed_hash(alloc, expected, actual, "hll", ErrorKind::InvalidData)?;
     Ok(())
+}
+
+/// The same for the seed of sketch updates, whose hash is not zero: the bytes are wrong, or memory
+/// ran out.
+#[tactic(auto, using(crate::proofs::SketchLemmas::of_usual_seed))]
+pub fn check_usual_preamble(alloc: Global, bytes: &[u8]) -> Result<(), Error>
+    ensures checked { MatchResult result
+        (λ _. HasPreamble 9001 bytes.now) (λ _. HasPreamble 9001 bytes.now → ⊥) }
+    ensures told { IfErr result (λ error.
+        (error.kind ≡ ErrorKind.InvalidData) ⊎ (error ≡ memory_error)) }
+{
+    value_answers();
+    check_preamble(alloc, bytes, DEFAULT_UPDATE_SEED)
 }
 
 /// Accepts two to four preamble longs.

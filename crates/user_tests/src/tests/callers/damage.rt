@@ -5,7 +5,7 @@ use crate::tests::assert_same;
 use crate::tests::refusals::{assert_refused_or_memory, tell_refusal};
 use datasketches::codec::{Item, Kind};
 use datasketches::error::{Error, ErrorKind};
-use examples::sketch::write_sketch;
+use examples::sketch::{check_usual_preamble, write_sketch};
 use std::alloc::{AllocError, Global};
 use std::test::Fail;
 
@@ -121,6 +121,8 @@ fn sketches_without_memory(rt: HostRuntime) {
     let answer = read(alloc, &other, SEED, item.kind());
     let line = "InvalidData => incompatible seed hash of hll: expected 37836, got 204";
     assert_refused_or_memory(&rt, answer, line);
+    assert_refused_or_memory(&rt, check_usual_preamble(alloc, &other), line);
+    assert_same(&rt, check_usual_preamble(alloc, &SKETCH).is_ok(), true);
     let answer = read(alloc, &SKETCH, 50541, item.kind());
     let line =
         "InvalidArgument => seed 50541 produces a seed hash of zero; choose a different seed";

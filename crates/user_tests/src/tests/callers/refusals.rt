@@ -13,7 +13,7 @@ use datasketches::hash::value::{Value, natural_extend, raw_bytes};
 use datasketches::hash::{Hasher, XxHash64};
 use examples::keys::{
     copy_of_key, feed_wrapped, inner_key, inner_mut_of, inner_of, key_through_any, next_key,
-    wrapped_again, wrapped_bytes, wrapped_lists, wrapped_text,
+    replace_inner, wrapped_again, wrapped_bytes, wrapped_lists, wrapped_text,
 };
 use examples::merging::{merge_saved, merge_saved_twin};
 use examples::refusals::{
@@ -174,6 +174,11 @@ fn wrapped_keys_are_read_and_changed(rt: HostRuntime) -> Result<(), Fail> {
     next_key(&mut key);
     assert_same(&rt, (inner_key(&key), key_through_any(&mut key)), (8, 8));
     assert_same(&rt, *inner_mut_of(&mut key), 8);
+    assert_same(
+        &rt,
+        (replace_inner(&mut key, 9), replace_inner(&mut key, 8)),
+        (8, 9),
+    );
     assert_same(&rt, text_of_key(rt.alloc(), &key)?.as_str(), "8");
     let mut hasher = XxHash64::default();
     feed_wrapped(&wrapped_again(copy_of_key(&key)), &mut hasher);
