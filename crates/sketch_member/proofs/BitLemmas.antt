@@ -1,8 +1,8 @@
 -- Bits packed into bytes.
-use Rattle.std.proofs.Common.{◌≡◌, ◌≢◌, ◌↔◌, ◌⊎◌, ℕ, ◌*◌, ◌/◌, ◌%◌, ◌^◌, ◌<◌, max, List, length, set, get_or, replicate, refl, sym, ap, subst, ◌∙◌, inl, inr, arith, bit_or, Fits}
+use Rattle.std.proofs.Common.{◌≡◌, ◌≢◌, ◌↔◌, ◌⊎◌, ℕ, ◌*◌, ◌/◌, ◌%◌, ◌^◌, ◌<◌, max, List, length, bit_and, ◌+◌, ◌≤◌, set, get_or, replicate, refl, sym, ap, subst, ◌∙◌, inl, inr, arith, bit_or, Fits}
 use Rattle.std.specs.Int.{w8, bit_at}
-use Rattle.std.proofs.lemmas.List.{get_or-set_same, get_or-set_other, get_or-replicate, get_or_past, length-replicate}
-use Rattle.std.proofs.lemmas.Nat.{or_of_8}
+use Rattle.std.proofs.lemmas.List.{ext_get_or, get_or-set_same, get_or-set_other, get_or-replicate, get_or_past, length-replicate}
+use Rattle.std.proofs.lemmas.Nat.{or_of_8, and_mask}
 use Rattle.std.proofs.lemmas.Nat.Bits.{bit_at-lt, bit_at_or, bit_at_set_same, bit_at_set_other}
 use Rattle.std.proofs.lemmas.Bool.{cases_eq, cases_lt}
 use Rattle.datasketches.specs.Words.{IsWord}
@@ -63,6 +63,27 @@ set_bit_bytes xs i place low within bytes k = rw low (elim (cases_eq k (i / 8)) 
   | inr other ↦ rw (get_or-set_other xs (i / 8) k (byte_with xs i) 0 other) (bytes k).fits
 ])
 
+-- what search takes for that, where the place in the byte is a number of its own
+pub low_three : (i : ℕ) → bit_and i 7 ≡ i % 8
+low_three i = and_mask i 3
+
+pub set_only : (xs : List ℕ) (i k place : ℕ) → place ≡ i % 8 → i < length xs * 8 →
+    IsSet (set xs (i / 8) (bit_or (get_or xs (i / 8) 0) (1 * 2 ^ place % 2 ^ 8))) k →
+    IsSet xs k ⊎ (k ≡ i)
+set_only xs i k place low within = (set_bit xs i k place low (omega (arith, within))).0
+
+pub set_too : (xs : List ℕ) (i k place : ℕ) → place ≡ i % 8 → i < length xs * 8 →
+    IsSet xs k ⊎ (k ≡ i) →
+    IsSet (set xs (i / 8) (bit_or (get_or xs (i / 8) 0) (1 * 2 ^ place % 2 ^ 8))) k
+set_too xs i k place low within = (set_bit xs i k place low (omega (arith, within))).1
+
+pub set_bytes : (xs : List ℕ) (i k place : ℕ) → place ≡ i % 8 → i < length xs * 8 →
+    ((k : ℕ) → Fits w8 (get_or xs k 0)) →
+    get_or (set xs (i / 8) (bit_or (get_or xs (i / 8) 0) (1 * 2 ^ place % 2 ^ 8))) k 0 < 256
+set_bytes xs i k place low within bytes = set_bit_bytes xs i place low (omega (arith, within)) bytes k
+
+pub ruleset one_set = (low_three, set_only, set_too, set_bytes)
+
 -- no bit is set in zeros
 pub zeros-get : (n k : ℕ) → get_or (replicate {A = ℕ} n 0) k 0 ≡ 0
 zeros-get n k =
@@ -72,6 +93,19 @@ zeros-get n k =
       | inl within ↦ get_or-replicate n k 0 0 within
       | inr past ↦ get_or_past zeros k 0 (omega (arith, count))
     ]
+
+-- a list that is zero from both ends to the middle is zeros
+pub zeros_met : (bits : List ℕ) (count place : ℕ) → length bits ≡ count → count ≤ place + place →
+    ((j : ℕ) → j < place → get_or bits j 0 ≡ 0) →
+    ((j : ℕ) → length bits ≤ j + place → get_or bits j 0 ≡ 0) → bits ≡ replicate count 0
+zeros_met bits count place size met low high =
+    ext_get_or 0 bits (replicate count 0) (size ∙ sym (length-replicate count 0)) (λ j within.
+    elim (cases_lt j place) [
+      | inl before ↦ low j before ∙ sym (zeros-get count j)
+      | inr behind ↦ high j (omega (arith, behind, met, size)) ∙ sym (zeros-get count j)
+    ])
+
+pub ruleset cleared = (zeros_met)
 
 -- a table of no bits and no inserts is one
 pub empty_is_table : (seed log2_bits hashes : ℕ) → IsWord seed → IsLog2Bits log2_bits → IsHashes hashes →
@@ -120,3 +154,19 @@ joined_bits xs ys zs count counts joined i =
           let f = get_or_past ys k 0 (omega (arith, counts, past)) in
           get_or_past zs k 0 (omega (arith, count, past)) ∙ sym (rw (e, f) refl)
     ]
+
+-- what search takes for that
+pub past_end : (xs : List ℕ) (k : ℕ) → length xs ≤ k → get_or xs k 0 ≡ 0
+past_end xs k past = get_or_past xs k 0 past
+
+pub or_of_zeros : bit_or 0 0 ≡ 0
+or_of_zeros = refl
+
+-- a digit of two bytes together
+pub or_only : (a b j : ℕ) → bit_at (bit_or a b) j ≡ 1 → (bit_at a j ≡ 1) ⊎ (bit_at b j ≡ 1)
+or_only a b j is = (max_of_digits _ _ (bit_at-lt a j) (bit_at-lt b j)).0 (sym (bit_at_or a b j) ∙ is)
+
+pub or_too : (a b j : ℕ) → (bit_at a j ≡ 1) ⊎ (bit_at b j ≡ 1) → bit_at (bit_or a b) j ≡ 1
+or_too a b j one = bit_at_or a b j ∙ (max_of_digits _ _ (bit_at-lt a j) (bit_at-lt b j)).1 one
+
+pub ruleset all_joined = (past_end, or_of_zeros, or_only, or_too)

@@ -6,3 +6,5 @@ pub mod KnownAnswerLemmas
 pub mod LawLemmas
 pub mod MergeLemmas
 pub mod SizeLemmas
+pub mod TableLemmas
+pub mod WordLemmas

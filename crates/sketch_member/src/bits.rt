@@ -12,6 +12,7 @@ pub(crate) fn is_set(bits: &[u8], i: usize) -> bool
 }
 
 // Sets bit `i`.
+#[tactic(auto, using(crate::proofs::BitLemmas::one_set))]
 pub(crate) fn set(bits: &mut [u8], i: usize)
     requires { i < length bits.old * 8 }
     ensures bits { (k : ℕ) → IsSet bits.new k ↔ (IsSet bits.old k ⊎ (k ≡ i)) }
@@ -21,6 +22,7 @@ pub(crate) fn set(bits: &mut [u8], i: usize)
 }
 
 // Sets the bits that are set in another list of as many.
+#[tactic(auto, using(crate::proofs::BitLemmas::all_joined))]
 pub(crate) fn set_all(bits: &mut [u8], other: &[u8])
     requires { length bits.old ≡ length other.now }
     ensures bits { (i : ℕ) → IsSet bits.new i ↔ (IsSet bits.old i ⊎ IsSet other.now i) }
@@ -34,6 +36,7 @@ pub(crate) fn set_all(bits: &mut [u8], other: &[u8])
 // Clears all bits. The loop goes from both ends: one that goes from one end LLVM turns into a call
 // of `memset`, and nothing else here needs the C library. The bytes may be of memory that was never
 // written, so they are not read.
+#[tactic(auto, using(crate::proofs::BitLemmas::cleared))]
 pub(crate) fn clear(bits: &mut [u8])
     ensures { bits.new ≡ replicate (length bits.old) 0 }
 {

@@ -143,6 +143,7 @@ impl Header {
     }
 
     // The value's index of number `j`, by the word that it feeds, if the value answers one.
+    #[tactic(auto, unfolding(crate::specs::Table::index), using(crate::proofs::WordLemmas::masked))]
     fn index<T: Hash>(&self, value: &T, word: Option<u64>, j: u8) -> usize
         requires word { IfSome word (λ n. T.fed value.now ≡ eight n) }
         requires size { IsLog2Bits self.now.log2_bits }

@@ -42,6 +42,7 @@ impl Model for MemberTable {
 }
 
 impl MemberTable {
+    #[tactic(auto, using(crate::proofs::TableLemmas::made))]
     /// A table with no bit set, of no inserts.
     ///
     /// # Errors

@@ -1,6 +1,7 @@
 //! A table in bytes, and what sets the versions of its form apart.
 
 ghost use Rattle.std.specs.Prelude.{◌≡◌, ◌-◌, ◌≤◌, ◌↔◌, [], IfOk, IsTrue};
+ghost use Rattle.datasketches.specs.Bytes.{eight};
 ghost use Rattle.sketch_member.specs.Form.{flag_of, form2, number_of};
 ghost use Rattle.sketch_member.specs.Header.{table_of};
 ghost use Rattle.sketch_member.specs.Table.{IsTable};
@@ -60,10 +61,19 @@ impl Header {
             self.hashes,
             flag,
         ]);
-        bytes[8..16].copy_from_slice(&self.seed.to_le_bytes());
-        bytes[16..].copy_from_slice(&number.to_le_bytes());
+        bytes[8..16].copy_from_slice(&eight_bytes(self.seed));
+        bytes[16..].copy_from_slice(&eight_bytes(number));
         bytes
     }
+}
+
+// The bytes of a word, the lowest first.
+#[inline(always)]
+#[tactic(auto, using(crate::proofs::WordLemmas::in_bytes))]
+fn eight_bytes(word: u64) -> [u8; 8]
+    ensures { result ≡ eight word }
+{
+    word.to_le_bytes()
 }
 
 // Whether the count is known, and the number that stands for it.
