@@ -182,9 +182,12 @@ def test_what_is_refused_is_told():
         sketch_hash.xxh64, sketch_hash.murmur3_x64_128_digest, MemberTable(10, 7).insert,
         lambda keys: xxh64_each((keys, [0, 8])), lambda keys: MemberTable(10, 7).insert_each((keys, [0, 8])),
     ):
-        for keys in (objects, numpy.zeros(2, [("text", object), ("number", "u8")])):
-            with pytest.raises(TypeError, match="^an array of Python objects holds their addresses: encode each"):
-                call(keys)
+        for array in (objects, numpy.zeros(2, [("text", object), ("number", "u8")])):
+            for keys in (array, memoryview(array)):
+                with pytest.raises(TypeError, match="^an array of Python objects holds their addresses: encode each"):
+                    call(keys)
+    others = numpy.zeros(2, [("O", "S3"), ("number", "u8")])
+    assert sketch_hash.xxh64_digest(memoryview(others)) == sketch_hash.xxh64_digest(others.tobytes())
     for keys in (numpy.zeros(4, "u8"), (DATA,), (DATA, OFFSETS, 0)):
         with pytest.raises(TypeError, match="^a column of bytes is a pair of bytes and offsets$"):
             murmur3_x64_128_each(keys)

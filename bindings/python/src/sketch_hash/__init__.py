@@ -40,10 +40,17 @@ __all__ = [
 algorithms_available = {"xxh64", "murmur3_x64_128"}
 
 
+def _has_objects(data):
+    if isinstance(data, memoryview):
+        # The names of fields stand between colons.
+        return any("O" in items for items in data.format.split(":")[::2])
+    return getattr(getattr(data, "dtype", None), "hasobject", False)
+
+
 def _memory(data):
     if type(data) is bytes:
         return data
-    if getattr(getattr(data, "dtype", None), "hasobject", False):
+    if _has_objects(data):
         raise TypeError("an array of Python objects holds their addresses: encode each, and pass its bytes")
     try:
         return _memory_of(data)
