@@ -144,7 +144,7 @@ def requests(path, text):
     return rows
 
 
-# Traits that a compiler can derive, and the types that have one by hand: no clause speaks of them.
+# Traits that a compiler can derive, and the types that implement one by hand.
 DERIVED = ("Clone", "Copy", "Debug", "Default", "Drop", "Eq", "Hash", "Ord", "PartialEq", "PartialOrd")
 BY_HAND = {
     ("Debug", "Error"), ("Debug", "MurmurHash3X64128"), ("Debug", "Value<T, S>"), ("Debug", "XxHash64"),

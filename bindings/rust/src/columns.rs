@@ -148,7 +148,7 @@ pub fn murmur3_x64_128_each<O: Offset>(
 mod tests {
     use super::*;
 
-    /// No test has as many offsets.
+    /// A column of that many offsets would take gigabytes.
     #[test]
     fn an_index_past_32_bits_is_told() {
         for index in [0, (1 << 32) - 1, 1 << 32, (1 << 32) + 7, usize::MAX - 1] {

@@ -50,8 +50,9 @@ impl MemberTable {
     ///
     /// # Errors
     ///
-    /// The first fault in the order of the bytes, where they are no table. Without memory as for
-    /// [`new`](Self::new).
+    /// The first fault, in the order of [`TableError`], where the bytes are no table of version 2;
+    /// [`HeaderEnds`](TableError::HeaderEnds) where the header ends before it. Without memory as
+    /// for [`new`](Self::new).
     pub fn from_bytes(bytes: &[u8]) -> Result<Self, TableError> {
         // SAFETY: a slice is readable for its length, which is below 2^63, and does not change while
         // it is borrowed. This holds in the calls below too.

@@ -402,7 +402,7 @@ def test_sizes(page):
 
 
 def test_the_page_does_not_stand_still(page, tmp_path):
-    """While a file is hashed, the longest time between two frames or timers."""
+    """While a file is hashed, the longest time between two timers."""
     page.choose(sparse(tmp_path / "endless", 1 << 36))
     bar = page.row("endless").find_element(By.TAG_NAME, "progress")
     page.wait(lambda: bar.get_property("value") > 0)

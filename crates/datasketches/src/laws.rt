@@ -1,5 +1,5 @@
-//! The laws: of collisions and of extended integers, which stand on those of single steps, the
-//! module `laws` of `sketch_hash`; and of items and their bytes.
+//! Laws of collisions, of extended integers, and of items and their bytes. Those of collisions use
+//! the laws of single steps in `sketch_hash::laws`.
 //!
 //! The functions with no parameters do nothing but call the laws that they stand on: the contract
 //! of each is a fact about the definitions.

@@ -7,8 +7,11 @@ ghost use Rattle.sketch_hash.specs.Columns.{HashesEach, murmur_words};
 
 use datasketches::hash::{MurmurHash3X64128, Offset, XxHash64};
 
-/// The XXH64 of each text of a column, under the seed 9001; or the index of the first offset that
-/// does not fit; then nothing is written.
+/// The XXH64 of each text of a column, under the seed 9001.
+///
+/// # Errors
+///
+/// The index of the first offset that does not fit; then nothing is written.
 pub fn hash_texts(texts: &[u8], offsets: &[u64], out: &mut [u64]) -> Result<(), usize>
     ensures hashed { IfOk result (λ _. (i : ℕ) → i < length out.new →
         slice_index out.new i ≡ xxh64 9001 (take
@@ -63,8 +66,11 @@ pub fn pairs_of_keys<O: Offset>(
     MurmurHash3X64128::hash_each(bytes, offsets, seed, out)
 }
 
-/// The XXH64 of each number, under the seed 9001; or how many numbers there are, where they are
-/// fewer than the places, and nothing is written.
+/// The XXH64 of each number, under the seed 9001.
+///
+/// # Errors
+///
+/// How many numbers there are, where they are fewer than the places; then nothing is written.
 pub fn hash_numbers(numbers: &[u64], out: &mut [u64]) -> Result<(), usize>
     ensures hashed { IfOk result (λ _. (i : ℕ) → i < length out.new →
         slice_index out.new i ≡ xxh64 9001 (eight (slice_index numbers.now i))) }

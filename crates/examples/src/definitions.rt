@@ -1,6 +1,6 @@
-//! Every definition of the contracts once more, written out: none changes together with the code
-//! that it describes, in however rare a case, unless it changes here too. The functions do nothing.
-//! Their contracts are computed from the definitions.
+//! Every definition of the contracts once more, written out: if one is changed together with the
+//! code that it describes, the proof here fails, in however rare a case, until it is changed here
+//! too. The functions do nothing. Their contracts are computed from the definitions.
 
 ghost use Rattle.examples.specs.BaseDefinitions.{Bytes, Checks, Errors, Items, Reading, Refusals, Writing};
 ghost use Rattle.examples.specs.HashDefinitions.{Columns, Held, Murmur, Pieces, Seeds, StepLaws, Values, Words, Xxh64};

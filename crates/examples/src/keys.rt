@@ -1,4 +1,4 @@
-//! A distinct counter that knows integer keys by their Murmur pair.
+//! Hashes of keys: of integers, of text, of any value; and wrapped keys.
 
 ghost use Rattle.std.specs.Prelude.{◌≡◌, ◌≢◌, ◌↔◌, ◌+◌, ◌<◌, [], ◌∷◌, IfSome, IsTrue, pos};
 ghost use Rattle.std.specs.List.{All};
@@ -161,7 +161,7 @@ pub fn hash_of_text(key: &str) -> u64
     calculate_hash(raw_bytes::from_str(key))
 }
 
-/// A wrapped key.
+/// The key inside a wrapper.
 pub fn inner_key(key: &NaturalExtend<u32>) -> u32
     ensures { result ≡ key.now }
 {

@@ -66,7 +66,7 @@ pub fn check_longs_between(
     ensure_preamble_longs_in_range(alloc, start, end, actual)
 }
 
-/// Accepts the number of any family.
+/// Accepts just the number of `family`, whichever family it is.
 ///
 /// # Errors
 ///

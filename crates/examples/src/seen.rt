@@ -49,7 +49,8 @@ pub fn load_keys(alloc: Global, saved: &[u8]) -> Result<MemberTable, Error>
 /// Where a size is outside its limits: `InvalidArgument`. Where memory runs out: `OutOfMemory`,
 /// with no message.
 pub fn start_keys(alloc: Global, seed: u64, log2_bits: u8, hashes: u8) -> Result<MemberTable, Error>
-    ensures made { IfOk result (λ seen. seen ≡ empty_table seed log2_bits hashes) }
+    ensures made { IfOk result (λ seen. IsLog2Bits log2_bits × IsHashes hashes
+        × (seen ≡ empty_table seed log2_bits hashes)) }
     ensures empty { IfOk result (λ seen. (i : ℕ) → IsSet seen.bits i → ⊥) }
     ensures refused { IfErr result (λ error.
         ((IsLog2Bits log2_bits → ⊥) × Refuses ErrorKind.InvalidArgument
@@ -61,11 +62,12 @@ pub fn start_keys(alloc: Global, seed: u64, log2_bits: u8, hashes: u8) -> Result
     MemberTable::new(alloc, seed, log2_bits, hashes)
 }
 
-/// Makes bytes a table of no keys, where they lie: whether its sizes lie in their limits, and the
-/// bytes are as many as it has. Else they are unchanged.
+/// Makes bytes a table of no keys, where they lie, and answers whether it did: it does where the
+/// sizes lie in their limits and the bytes are as many as such a table has. Else they are as they
+/// were.
 pub fn start_keys_in(bytes: &mut [u8], seed: u64, log2_bits: u8, hashes: u8) -> bool
-    ensures starts { IsLog2Bits log2_bits → IsHashes hashes →
-        length bytes.old ≡ 24 + byte_count log2_bits → IsTrue result }
+    ensures starts { IsTrue result ↔ (IsLog2Bits log2_bits × IsHashes hashes
+        × (length bytes.old ≡ 24 + byte_count log2_bits)) }
     ensures made { IsTrue result → bytes.new ≡ form2 (empty_table seed log2_bits hashes) }
     ensures refused { ¬ (IsTrue result) → bytes.new ≡ bytes.old }
 {
@@ -171,9 +173,9 @@ pub fn insert_in(bytes: &mut [u8], key: &[u8]) -> Result<(), Fault>
     in_place::insert(bytes, &raw_bytes::from_slice(key))
 }
 
-/// What a fault says of a step, whose condition is here that two numbers are equal: bytes that end
-/// before it are told so, and others by the step's own fault. It is the first one where the steps
-/// before it pass.
+/// What follows from a fault, of a step that needs two numbers to be equal. Where the bytes end
+/// before it, the fault is `HeaderEnds`; where the numbers differ, it is the step's own. The first
+/// fault is that of this step, or the step passes and it is that of a later one.
 pub fn faults_are_told()
     ensures early { (count needs x y : ℕ) (own told : Fault) → count < needs →
         Fails count (record { needs = needs; Holds = x ≡ y; fault = own }) told →
@@ -264,11 +266,14 @@ pub fn other_size(bytes: &[u8]) -> Option<Fault>
     TableView::new(bytes).err()
 }
 
-/// What is wrong with sizes of which bytes cannot be made a table.
+/// Makes bytes a table of no keys, where they lie, or answers what is wrong: first a size outside
+/// its limits, then the number of bytes. They are then unchanged.
 pub fn other_sizes(bytes: &mut [u8], seed: u64, log2_bits: u8, hashes: u8) -> Option<Fault>
     ensures log2_bits { (IsLog2Bits log2_bits → ⊥) → result ≡ Some (Fault.Log2Bits log2_bits) }
     ensures hashes { IsLog2Bits log2_bits → (IsHashes hashes → ⊥) →
         result ≡ Some (Fault.Hashes hashes) }
+    ensures made { result ≡ None → bytes.new ≡ form2 (empty_table seed log2_bits hashes) }
+    ensures left { result ≢ None → bytes.new ≡ bytes.old }
 {
     in_place::init(bytes, seed, log2_bits, hashes).err()
 }

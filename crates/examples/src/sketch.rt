@@ -49,8 +49,12 @@ pub fn check_preamble(alloc: Global, bytes: &[u8], seed: u64) -> Result<(), Erro
     Ok(())
 }
 
-/// The same for the seed of sketch updates, whose hash is not zero: the bytes are wrong, or memory
-/// ran out.
+/// The same for the seed of sketch updates, whose hash is not zero.
+///
+/// # Errors
+///
+/// `InvalidData` where the bytes are wrong; `OutOfMemory`, with no message, where memory for the
+/// text runs out.
 #[tactic(auto, using(crate::proofs::SketchLemmas::of_usual_seed))]
 pub fn check_usual_preamble(alloc: Global, bytes: &[u8]) -> Result<(), Error>
     ensures checked { MatchResult result
@@ -58,11 +62,16 @@ pub fn check_usual_preamble(alloc: Global, bytes: &[u8]) -> Result<(), Error>
     ensures told { IfErr result (λ error.
         (error.kind ≡ ErrorKind.InvalidData) ⊎ (error ≡ memory_error)) }
 {
-    value_answers();
+    value_answers(); // for what it promises of this seed's hash
     check_preamble(alloc, bytes, DEFAULT_UPDATE_SEED)
 }
 
 /// Accepts two to four preamble longs.
+///
+/// # Errors
+///
+/// At any other: `InvalidData`, or `OutOfMemory` with no message where memory for the text runs
+/// out.
 pub fn check_longs(alloc: Global, longs: u8) -> Result<(), Error>
     ensures accepted { IfOk result (λ _. (2 ≤ longs) × (longs < 5)) }
     ensures refused { IfErr result (λ error. Refuses ErrorKind.InvalidData
@@ -75,6 +84,11 @@ pub fn check_longs(alloc: Global, longs: u8) -> Result<(), Error>
 }
 
 /// Accepts the listed numbers of preamble longs.
+///
+/// # Errors
+///
+/// At any other: `InvalidData`, or `OutOfMemory` with no message where memory for the text runs
+/// out.
 pub fn check_longs_in(alloc: Global, expected: &[u8], longs: u8) -> Result<(), Error>
     ensures { MatchResult result
         (λ _. Contains expected.now longs)
@@ -86,6 +100,11 @@ pub fn check_longs_in(alloc: Global, expected: &[u8], longs: u8) -> Result<(), E
 }
 
 /// Accepts ten preamble ints.
+///
+/// # Errors
+///
+/// At any other: `InvalidData`, or `OutOfMemory` with no message where memory for the text runs
+/// out.
 pub fn check_ints(alloc: Global, ints: u8) -> Result<(), Error>
     ensures { AcceptsExactly (ints ≡ 10) (invalid_preamble_ints_text 10 ints) result }
 {
@@ -122,8 +141,8 @@ pub fn at_place(alloc: Global, error: Error, place: u64) -> Error
 ///
 /// # Errors
 ///
-/// As those of [`check_preamble`]; and `InvalidData` where bytes are missing, when the first places
-/// may have been written to.
+/// As those of [`check_preamble`], and the places are then unchanged. `InvalidData` where bytes of
+/// items are missing; then the first places may have been written to.
 pub fn read_sketch(
     alloc: Global,
     bytes: &[u8],
@@ -136,6 +155,7 @@ pub fn read_sketch(
         (λ _. IsSketch seed kinds.now bytes.now
         × (places.new ≡ unspell_all kinds.now (drop 5 bytes.now)))
         (λ _. IsSketch seed kinds.now bytes.now → ⊥) }
+    ensures left { IfErr result (λ _. (HasPreamble seed bytes.now → ⊥) → places.new ≡ places.old) }
     ensures short { IfErr result (λ error. HasPreamble seed bytes.now →
         Refuses ErrorKind.InvalidData
         (insufficient_data_of_text (codes "hll sketch") (codes "items")) error) }

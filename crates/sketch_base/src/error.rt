@@ -150,8 +150,8 @@ impl Error {
         }
     }
 
-    /// The error with a text that was just made, or the one in place of a refusal that found no
-    /// memory for its text: of kind `OutOfMemory`, with no message.
+    /// An error of this kind with the text as its message; or, where memory for the text ran out,
+    /// one of kind `OutOfMemory`, with no message.
     #[tactic(auto, unfolding(crate::specs::Refusals::Refuses))]
     pub fn from_text(alloc: Global, kind: ErrorKind, text: Result<String, AllocError>) -> Error
         ensures error { MatchResult text
@@ -166,21 +166,21 @@ impl Error {
         }
     }
 
-    /// An argument is invalid, as the message says.
+    /// An error of kind `InvalidArgument` with this message.
     pub fn invalid_argument(message: String) -> Error
         ensures { result ≡ error_of ErrorKind.InvalidArgument (string_bytes message) }
     {
         Error::new(ErrorKind::InvalidArgument, message)
     }
 
-    /// Serialized data is malformed, as the message says.
+    /// An error of kind `InvalidData` with this message: serialized data is malformed.
     pub fn deserial(message: String) -> Error
         ensures { result ≡ error_of ErrorKind.InvalidData (string_bytes message) }
     {
         Error::new(ErrorKind::InvalidData, message)
     }
 
-    /// Serialized data ended too early, as the value says.
+    /// Serialized data ended too early. Kind `InvalidData`: `insufficient data: VALUE`.
     ///
     /// Where memory runs out or `value` fails to print, the error is of kind `OutOfMemory`, with no
     /// message.
@@ -195,7 +195,7 @@ impl Error {
         Error::refusal(alloc, text)
     }
 
-    /// Serialized data ended too early in the part that `context` names, as the value says.
+    /// Serialized data ended too early. Kind `InvalidData`: `insufficient data (CONTEXT): VALUE`.
     ///
     /// Where memory runs out or `value` fails to print, the error is of kind `OutOfMemory`, with no
     /// message.
@@ -215,7 +215,8 @@ impl Error {
         Error::refusal(alloc, text)
     }
 
-    /// Serialized data is of another family than the expected one, which has this name.
+    /// Serialized data is of another family than the expected one. Kind `InvalidData`:
+    /// `invalid family: expected ID (NAME), got ID`.
     ///
     /// Where memory for the text runs out, the error is of kind `OutOfMemory`, with no message.
     pub fn invalid_family(alloc: Global, expected: u8, actual: u8, name: &'static str) -> Error
@@ -228,7 +229,8 @@ impl Error {
         )
     }
 
-    /// A number of preamble longs is none of the expected ones.
+    /// A number of preamble longs is none of the expected ones. Kind `InvalidData`:
+    /// `invalid preamble longs: expected one of [1, 2], got 3`.
     ///
     /// Where memory for the text runs out, the error is of kind `OutOfMemory`, with no message.
     pub fn invalid_preamble_longs(alloc: Global, expected: &[u8], actual: u8) -> Error
@@ -241,7 +243,8 @@ impl Error {
         )
     }
 
-    /// A number of preamble ints is not the expected one.
+    /// A number of preamble ints is not the expected one. Kind `InvalidData`:
+    /// `invalid preamble ints: expected 10, got 2`.
     ///
     /// Where memory for the text runs out, the error is of kind `OutOfMemory`, with no message.
     pub fn invalid_preamble_ints(alloc: Global, expected: u8, actual: u8) -> Error

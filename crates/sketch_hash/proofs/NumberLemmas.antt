@@ -311,12 +311,6 @@ block_words-filled count n bytes b h low high =
     block_words-le (low_bytes count n ++ front) (joined-are count n front front_are) size
     ∙ ap (λ v. (v % 2 ^ 64, v / 2 ^ 64)) (sym (le-block count n bytes b h (omega arith) high))
 
-pub joined-is : (count n : ℕ) (bytes : List ℕ) → AreBytes bytes → n < 256 ^ count →
-    count + length bytes < 16 →
-    (n + le bytes * 2 ^ (8 * count) % 2 ^ 128) % 2 ^ 128 ≡ n + le bytes * 256 ^ count
-joined-is count n bytes b h short =
-    ap (λ v. v % 2 ^ 128) (kept-is count n bytes b h short) ∙ mod-eq_of_lt (kept-lt count n bytes b h short)
-
 -- ---- two words of waiting bytes, and their number
 
 pub words-number : (n : ℕ) → n % 2 ^ 64 + n / 2 ^ 64 * 2 ^ 64 ≡ n

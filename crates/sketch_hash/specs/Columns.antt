@@ -22,7 +22,7 @@ IsBound bytes offsets i =
 abbrev pub AreBounds : List ℕ → List ℕ → ℕ → Type 0
 AreBounds bytes offsets n = (i : ℕ) → i ≤ n → IsBound bytes offsets i
 
--- the first place of these at which no bound is
+-- i is the first place, of 0 to n, whose offset is no bound
 abbrev pub IsFirstWrongOffset : List ℕ → List ℕ → ℕ → ℕ → Type 0
 IsFirstWrongOffset bytes offsets n i =
     (i ≤ n)

@@ -63,8 +63,8 @@ pub record MurmurStepLaws : Type 0 where
       length a ≡ length b → length a < 16 → with_tail h a ≡ with_tail h b → a ≡ b
   pub finalize_of_pair : (n : ℕ) → IsWord n → OneToOne AreWords AreWords (λ h. finalize h n)
 
--- XXH64: for each number that it reads, a step of the tail is a bijection of words; and for each
--- word and width, it is one of the numbers that it reads, as words. So is the last mixing.
+-- XXH64: for each number that it reads, a step of the tail is one-to-one on words; for each word
+-- and width, it is one-to-one on the numbers of that width. The last mixing is one-to-one too.
 pub record Xxh64StepLaws : Type 0 where
   pub step_of_word : (s : ℕ × ℕ) → IsStep s → OneToOne IsWord IsWord (λ h. tail_step h s)
   pub step_of_number : (width h : ℕ) → IsWord h →

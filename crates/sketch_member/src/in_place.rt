@@ -39,6 +39,7 @@ pub fn size(log2_bits: u8) -> Option<usize>
 /// [`Fault::Log2Bits`] where `log2_bits` is not 6 to 20, and then [`Fault::Hashes`] where `hashes`
 /// is not 1 to 16. Then, by the number of bytes, [`Fault::HeaderEnds`] below 24,
 /// [`Fault::MissingBits`] below the size of such a table, and [`Fault::TrailingBytes`] above it.
+/// The bytes are then unchanged.
 pub fn init(bytes: &mut [u8], seed: u64, log2_bits: u8, hashes: u8) -> Result<(), Fault>
     ensures { MatchResult result
         (λ _. IsLog2Bits log2_bits × IsHashes hashes
@@ -63,7 +64,7 @@ pub fn init(bytes: &mut [u8], seed: u64, log2_bits: u8, hashes: u8) -> Result<()
 ///
 /// # Errors
 ///
-/// As those of [`TableView::new`](crate::TableView::new).
+/// As those of [`TableView::new`](crate::TableView::new). The bytes are then unchanged.
 pub fn insert<T: Hash>(bytes: &mut [u8], value: &T) -> Result<(), Fault>
     ensures { MatchResult result
         (λ _. Becomes (Inserts (T.fed value.now)) bytes.old bytes.new)
@@ -85,7 +86,7 @@ pub fn insert<T: Hash>(bytes: &mut [u8], value: &T) -> Result<(), Fault>
 ///
 /// [`MergeFault::Into`] where `into` is not a table, and then [`MergeFault::From`] where `from` is
 /// not, with the fault that [`TableView::new`](crate::TableView::new) answers. Then
-/// [`MergeFault::Unlike`] where seed or sizes differ.
+/// [`MergeFault::Unlike`] where seed or sizes differ. `into` is then unchanged.
 pub fn merge(into: &mut [u8], from: &[u8]) -> Result<(), MergeFault>
     ensures { MatchResult result
         (λ _. (other : Table) × IsTable other × (from.now ≡ form2 other)

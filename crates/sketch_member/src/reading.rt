@@ -105,8 +105,8 @@ fn read_flag(reader: &mut SketchSlice, longs: u8) -> Result<u8, Fault>
     Ok(flag)
 }
 
-// Whether the bytes after the sizes are what they may be: the flag tells of a count, where there
-// is one, and the others are zero.
+// Whether the bytes after the sizes are allowed: the flag is 0, or 1 in version 2, which has a
+// count; the other two are 0.
 fn are_reserved(longs: u8, flag: u8, second: u8, third: u8) -> bool
     ensures { IsTrue result ↔ (IsFlag longs flag × (second ≡ 0) × (third ≡ 0)) }
 {

@@ -35,7 +35,8 @@ impl Termination for ProgramEnd {
     }
 }
 
-/// Does what the words of `env` ask for. Where these cannot be had, nothing is read or written.
+/// Does what the words of `env` ask for. Where these cannot be had, nothing is read or written. No
+/// clause says which words these are; that is tested.
 pub fn program<V: Env, R: Read, W: Write>(
     env: &V,
     alloc: Global,

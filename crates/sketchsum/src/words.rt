@@ -8,7 +8,8 @@ use std::env::{self, FillError};
 use std::io::ErrorKind;
 use std::rt::Env;
 
-// An environment without the program's name, which need not be text: its words come first.
+// The environment without the program's name, which need not be UTF-8: argument 0 is the first word
+// after it.
 #[derive(Drop)]
 struct Nameless<'a, V>(&'a V);
 
@@ -28,7 +29,7 @@ impl<V: Env> Env for Nameless<'_, V> {
 }
 
 /// The words after the program's name, or how the program ends without them: memory ran out, or one
-/// is not UTF-8.
+/// is not UTF-8. No clause says which words these are; that is tested.
 pub fn words_of<V: Env>(env: &V, alloc: Global) -> Result<Vec<String>, Outcome>
     ensures { IfErr result (λ end. (end ≡ Outcome.NoMemory) ⊎ (end ≡ Outcome.Usage)) }
 {

@@ -447,7 +447,7 @@ class MemberTable:
 
 
 def _small(number):
-    """A number for the header, or 0, which is refused as all are that a byte cannot hold."""
+    """The number, or 0 if a byte cannot hold it: the library refuses 0."""
     number = _index(number)
     return number if 0 <= number < 256 else 0
 

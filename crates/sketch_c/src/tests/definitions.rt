@@ -1,5 +1,6 @@
-//! The definitions of the answers to C once more, written out: none changes together with the code
-//! that it describes, in however rare a case, unless it changes here too.
+//! The definitions of the answers to C once more, written out: if one is changed together with the
+//! code that it describes, the proof here fails, in however rare a case, until it is changed here
+//! too.
 
 ghost use Rattle.std.specs.Prelude.{ℕ, ◌≡◌, ◌↔◌, pos, ◌-ℤ◌, List, [], ◌∷◌, length, map, suc, Ok, Err, ℤ};
 ghost use Rattle.sketch_c.specs.Outcome.{outcome};

@@ -263,8 +263,8 @@ fn block_word(bytes: &[u8]) -> u64
 
 // The pair after one block of the words `k1` and `k2`.
 //
-// The second word is made from the first one. It takes the constant of that one at the end, five
-// times as large, and so does not wait for that sum.
+// The second word needs the first, whose last step adds a constant. It takes the first from before
+// that sum, and adds five times the constant at its own end, so it need not wait for the sum.
 #[inline(always)]
 #[tactic(auto, using(crate::proofs::MurmurLemmas::stepped))]
 fn step(h1: u64, h2: u64, k1: u64, k2: u64) -> (u64, u64)
@@ -315,7 +315,7 @@ fn fmix(word: u64) -> u64
     xor_shift(twice, 33)
 }
 
-// The same, with a test that LLVM does not put into vectors.
+// `fmix` with a test: LLVM makes no vector code of a loop that has it.
 #[inline(always)]
 #[tactic(auto, using(crate::proofs::MurmurLemmas::fmix_zero))]
 fn fmix_unless_zero(word: u64) -> u64
@@ -346,8 +346,9 @@ fn finalize(h1: u64, h2: u64, total: u64) -> (u64, u64)
     cross(fmix(h1), fmix(h2))
 }
 
-// The same for a hasher. Without the test, a caller's loop over keys of one length becomes vector
-// code, in which each multiplication of 64 bits is three. A key in one call is faster without it.
+// `finalize` for a hasher, with that test of the first word. Without it, a caller's loop over keys
+// of one length becomes vector code, in which a multiplication of 64 bits is three. A key in one
+// call is faster without the test.
 #[inline(always)]
 #[tactic(auto, unfolding(crate::specs::Murmur::finalize), using(crate::proofs::Xor::words))]
 fn finalize_hasher(h1: u64, h2: u64, total: u64) -> (u64, u64)

@@ -30,8 +30,8 @@ pub trait Hash {
     fn hash<H: Hasher>(&self, state: &mut H)
         ensures { state.new ≡ H.after state.old (fed self.now) };
 
-    /// The number whose eight bytes the value feeds, the lowest first, for a type that answers it.
-    /// A caller that hashes the value under many seeds reads it once.
+    /// `Some(n)` where the value feeds just the eight bytes of `n`, the lowest first; a type may
+    /// always return `None`. So a caller that hashes the value under many seeds reads it once.
     #[inline(always)]
     fn word(&self) -> Option<u64>
         ensures { IfSome result (λ n. fed self.now ≡ eight n) }
@@ -63,7 +63,8 @@ pub trait HashStrategy<T: Eq> {
     fn hash<H: Hasher>(value: &T, state: &mut H)
         ensures { state.new ≡ H.after state.old (fed value.now) };
 
-    /// The number whose eight bytes the value feeds, the lowest first, for a type that answers it.
+    /// `Some(n)` where the value feeds just the eight bytes of `n`, the lowest first; a strategy
+    /// may always return `None`.
     #[inline(always)]
     fn word(value: &T) -> Option<u64>
         ensures { IfSome result (λ n. fed value.now ≡ eight n) }

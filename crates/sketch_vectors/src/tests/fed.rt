@@ -268,7 +268,7 @@ fn words_are_the_numbers_that_are_fed(rt: HostRuntime) {
     );
     let text = raw_bytes::from_str("8 letter");
     assert_same(&rt, [7u32.word(), (-7i8).word(), text.word()], [None; 3]);
-    // Each number of 8 bits, and wider ones of such bytes, also with the other highest bit.
+    // Each number of 8 bits, and wider ones that repeat its byte, also with the highest bit turned.
     for byte in 0..=u8::MAX {
         for last in [byte, byte ^ 0x80] {
             let of8 = byte.cast_signed();

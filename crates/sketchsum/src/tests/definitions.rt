@@ -1,5 +1,5 @@
-//! The definitions of the program once more, written out: none changes together with the code that
-//! it describes, in however rare a case, unless it changes here too.
+//! The definitions of the program once more, written out: if one is changed together with the code
+//! that it describes, the proof here fails, in however rare a case, until it is changed here too.
 
 ghost use Rattle.std.specs.Prelude.{ℕ, ◌≡◌, ◌↔◌, ◌+◌, ◌-◌, ◌*◌, ◌/◌, ◌%◌, ◌^◌, ◌<◌, ◌≤◌, List, [], ◌∷◌, ◌++◌, nat_lt, if◌then◌else◌, codes, length, Ok, Err};
 ghost use Rattle.std.specs.Char.{IsAsciiDigit};

@@ -52,8 +52,8 @@ pub const KINDS: [ErrorKind; 41] = [
     ErrorKind::Uncategorized,
 ];
 
-/// Gives at most `most` bytes at a read. Where it has a fault, it fails once, when the number of
-/// bytes beside it is left, and then goes on.
+/// Gives at most `most` bytes at a read. With a fault, it fails once, when as many bytes are left
+/// as stand beside the fault, and then goes on.
 #[derive(Drop)]
 pub struct SlowReader<'a> {
     bytes: &'a [u8],

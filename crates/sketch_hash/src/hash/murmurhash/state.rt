@@ -11,7 +11,8 @@ use crate::hash::hasher::Hasher;
 
 /// What a [`MurmurHash3X64128`] holds: a checkpoint of a stream, to be copied, kept and resumed.
 ///
-/// Of `waiting` the first `total % 16` bytes count. Every value can be resumed.
+/// Of `waiting` the first `total % 16` bytes count; the others may be anything, such as earlier
+/// input. Every value can be resumed.
 #[repr(C)]
 #[derive(Clone, Copy)]
 pub struct MurmurState {
@@ -21,7 +22,7 @@ pub struct MurmurState {
     pub h2: u64,
     /// The number of bytes so far, modulo 2^64.
     pub total: u64,
-    /// The bytes after the last whole block.
+    /// First the bytes after the last whole block.
     pub waiting: [u8; 16],
 }
 

@@ -11,7 +11,8 @@ use std::simd::prelude::*;
 
 /// What an [`XxHash64`] holds: a checkpoint of a stream, to be copied, kept and resumed.
 ///
-/// Of `waiting` the first `total % 32` bytes count. Every value can be resumed.
+/// Of `waiting` the first `total % 32` bytes count; the others may be anything, such as earlier
+/// input. Every value can be resumed.
 #[repr(C)]
 #[derive(Clone, Copy)]
 pub struct XxHash64State {
@@ -27,7 +28,7 @@ pub struct XxHash64State {
     pub v4: u64,
     /// The number of bytes so far, modulo 2^64.
     pub total: u64,
-    /// The bytes after the last whole stripe.
+    /// First the bytes after the last whole stripe.
     pub waiting: [u8; 32],
 }
 

@@ -152,7 +152,7 @@ fn tells_items_and_kinds_apart(rt: HostRuntime) {
         for (j, b) in APART.iter().enumerate() {
             assert_same(&rt, (is_same_item(a, b), *a != *b), (i == j, i != j));
             let (k, l) = (a.kind(), b.kind());
-            let same = i == j || i + j == 1;
+            let same = i == j || i + j == 1; // the first two are of one kind
             assert_same(&rt, (is_same_kind(&k, &l), k != l), (same, !same));
         }
     }
@@ -244,7 +244,7 @@ fn shows_items_kinds_and_counts(rt: HostRuntime) -> Result<(), Fail> {
 }
 
 #[test]
-fn writes_no_bytes_at_any_room(rt: HostRuntime) -> Result<(), Fail> {
+fn a_write_of_no_bytes_needs_no_room(rt: HostRuntime) -> Result<(), Fail> {
     let mut writer = SketchBytes::with_capacity(rt.alloc(), 0)?;
     write_no_bytes(&mut writer);
     assert!(rt; writer.into_bytes().is_empty());

@@ -106,7 +106,7 @@ fn two_writes_leave_what_one_leaves(rt: HostRuntime) {
     );
 }
 
-// 65600 zeros: more than 16 bits count.
+// 65600 zeros: more than 16 bits count. libmurmurhash and xxHash answer the same.
 #[test]
 fn a_long_stream_is_counted_whole(rt: HostRuntime) {
     let mut murmur = MurmurHash3X64128::with_seed(0);
@@ -225,9 +225,9 @@ fn xxh64_text(alloc: Global, hasher: &XxHash64) -> Option<String>
     format!(in alloc; "{hasher:?}").ok()
 }
 
-// The texts are the same with each field on a line.
+// `{:#?}` prints the same text as `{:?}`.
 #[test]
-fn debug_texts_begin_with_the_name(rt: HostRuntime) {
+fn debug_texts_are_the_name_and_two_dots(rt: HostRuntime) {
     let alloc = rt.alloc();
     let mut murmur = MurmurHash3X64128::with_seed(1);
     murmur.write(FOX);

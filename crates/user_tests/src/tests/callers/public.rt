@@ -18,6 +18,7 @@ fn is_key<T: Copy + Ord + Debug>() {}
 
 fn is_copied<T: Copy>() {}
 
+// Without one of these traits it does not compile.
 #[test]
 fn types_have_their_traits() {
     is_value::<ErrorKind>();

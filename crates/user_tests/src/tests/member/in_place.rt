@@ -127,21 +127,27 @@ fn views_of_every_size_are_those_of_tables(rt: HostRuntime) -> Result<(), Fail> 
     Ok(())
 }
 
-const FAULTS: [Fault; 11] = [
-    Fault::HeaderEnds,
-    Fault::PreambleLongs(4),
-    Fault::SerialVersion {
-        expected: 2,
-        actual: 1,
-    },
-    Fault::Family(21),
-    Fault::Log2Bits(5),
-    Fault::Hashes(17),
-    Fault::Reserved,
-    Fault::UnknownCount,
-    Fault::MissingBits { need: 8, have: 7 },
-    Fault::TrailingBytes(1),
-    Fault::Version1,
+const FAULTS: [(Fault, &str); 11] = [
+    (Fault::HeaderEnds, "HeaderEnds"),
+    (Fault::PreambleLongs(4), "PreambleLongs(4)"),
+    (
+        Fault::SerialVersion {
+            expected: 2,
+            actual: 1,
+        },
+        "SerialVersion { expected: 2, actual: 1 }",
+    ),
+    (Fault::Family(21), "Family(21)"),
+    (Fault::Log2Bits(5), "Log2Bits(5)"),
+    (Fault::Hashes(17), "Hashes(17)"),
+    (Fault::Reserved, "Reserved"),
+    (Fault::UnknownCount, "UnknownCount"),
+    (
+        Fault::MissingBits { need: 8, have: 7 },
+        "MissingBits { need: 8, have: 7 }",
+    ),
+    (Fault::TrailingBytes(1), "TrailingBytes(1)"),
+    (Fault::Version1, "Version1"),
 ];
 
 #[test]
@@ -200,7 +206,9 @@ fn faults_and_their_copies_print_and_show_their_names(rt: HostRuntime) -> Result
             );
         }
     }
-    for fault in FAULTS {
+    for (fault, shown) in FAULTS {
+        let debug = format!(in alloc; "{fault:?}")?;
+        assert_same(&rt, debug.as_str(), shown);
         let into = format!(in alloc; "table merged into: {fault}")?;
         assert_same(&rt, text_of_into(alloc, fault), Some(into));
         let from = format!(in alloc; "table merged from: {fault}")?;

@@ -1,14 +1,12 @@
 //! The Bloom filter: its bits, its bytes and its refusals.
 
-ghost use Rattle.std.specs.Prelude.{◌≡◌, ◌↔◌, ◌⊎◌, ◌++◌, ℕ, List, None, codes, length, IfOk, MatchResult};
-ghost use Rattle.std.specs.Fmt.{decimal};
+ghost use Rattle.std.specs.Prelude.{◌≡◌, ◌↔◌, ◌⊎◌, ℕ, List, None, length, IfOk, MatchResult};
 ghost use Rattle.datasketches.specs.ErrorValue.{memory_error};
 ghost use Rattle.datasketches.specs.Refusals.{Refuses};
 ghost use Rattle.sketch_member.specs.declared.fault.Fault.{Fault};
 ghost use Rattle.sketch_member.specs.Faults.{AllPass, IsFirstFault, fault_text, steps};
 ghost use Rattle.sketch_member.specs.Form.{IsForm, form1};
-ghost use Rattle.sketch_member.specs.Limits.{IsHashes, IsLog2Bits};
-ghost use Rattle.sketch_member.specs.Table.{IsMember, IsTable, Table, empty_table};
+ghost use Rattle.sketch_member.specs.Table.{IsMember, IsTable, Table};
 
 use super::{ONE_VALUE_1, ONE_VALUE_2, UNKNOWN_COUNT};
 use crate::tests::refusals::assert_refused_or_memory;
@@ -20,20 +18,7 @@ use sketch_member::laws::{read_again, read_back};
 use std::alloc::{AllocError, Global};
 use std::test::Fail;
 
-// A caller's proof knows which sizes are refused, which bytes are, and what each refusal says.
-fn new_table(alloc: Global, seed: u64, log2_bits: u8, hashes: u8) -> Result<MemberTable, Error>
-    ensures { MatchResult result
-        (λ table. IsLog2Bits log2_bits × IsHashes hashes
-        × (table ≡ empty_table seed log2_bits hashes))
-        (λ error. ((IsLog2Bits log2_bits → ⊥) × Refuses ErrorKind.InvalidArgument
-        (codes "invalid log2 bits: expected 6 to 20, got " ++ decimal log2_bits) error)
-        ⊎ ((IsLog2Bits log2_bits × (IsHashes hashes → ⊥) × Refuses ErrorKind.InvalidArgument
-        (codes "invalid hashes: expected 1 to 16, got " ++ decimal hashes) error)
-        ⊎ (IsLog2Bits log2_bits × IsHashes hashes × (error ≡ memory_error)))) }
-{
-    MemberTable::new(alloc, seed, log2_bits, hashes)
-}
-
+// A caller's proof knows which bytes are refused, and what each refusal says.
 fn read_table(alloc: Global, bytes: &[u8]) -> Result<MemberTable, Error>
     ensures { MatchResult result
         (λ table. IsTable table × IsForm table bytes.now)
