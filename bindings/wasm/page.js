@@ -22,6 +22,7 @@ worker.postMessage({ wasm });
 function unable(why) {
     at('unable').textContent = why;
     at('unable').hidden = false;
+    for (const job of rows.values()) end(job, 'cannot be hashed here');
 }
 
 // The seed as a BigInt, or null.
@@ -58,6 +59,7 @@ function start(job) {
     rows.set(job.id, job);
     fill(job, '', '');
     job.row.querySelector('.copy').disabled = true;
+    if (!at('unable').hidden) return end(job, 'cannot be hashed here');
     if (seed() === null) return end(job, 'no hash without a seed');
     job.row.querySelector('.stop').disabled = false;
     progress(job, 0);

@@ -59,11 +59,16 @@ function next() {
         const job = waiting.shift();
         const tell = (answer) => job.isStopped || postMessage({ id: job.id, ...answer });
         running.set(job.id, job);
-        hashFile(job).then(tell, (error) => tell({ fault: error.message || String(error) })).finally(() => {
+        hashFile(job).then(tell, (error) => tell({ fault: fault(error) })).finally(() => {
             running.delete(job.id);
             next();
         });
     }
+}
+
+// Browsers say of a file that has changed that it may not be read.
+function fault(error) {
+    return error.name === 'NotReadableError' ? 'it has changed, or may not be read' : error.message || String(error);
 }
 
 async function hashFile(job) {
@@ -78,12 +83,12 @@ async function hashFile(job) {
             postMessage({ id: job.id, done });
         }
     }
-    if (done !== job.file.size) throw new Error('the file has changed');
+    if (done !== job.file.size) throw new Error('it has changed');
     return hashers.answer();
 }
 
-// The bytes of a file, some pieces of which are read while one is hashed. (Byte streams are as fast in
-// Chromium 156, but one in twenty never ends.)
+// The bytes of a file, some pieces of which are read while one is hashed. (A reader with mode 'byob' is
+// as fast in Chromium 156, but one in twenty never ends.)
 async function* pieces(file) {
     const ahead = [];
     const end = Math.max(file.size, 1);

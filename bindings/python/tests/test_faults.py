@@ -204,6 +204,12 @@ def test_long_calls_give_up_the_lock_of_python(ticks):
             assert len(ticks) > before
 
 
+def test_a_seed_of_more_digits_than_python_prints_is_refused():
+    for call in KINDS:
+        with pytest.raises(OverflowError, match="a seed is from 0 to"):
+            call(seed=1 << 20_000)
+
+
 @pytest.mark.parametrize("seed", [-1, 2**64, 2**64 + 7, 2**70, -(2**64)])
 def test_a_seed_outside_of_64_bits_is_refused(seed):
     for call in KINDS:

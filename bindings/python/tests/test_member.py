@@ -296,7 +296,7 @@ def test_columns_of_numbers():
         table.insert_each(column)
         assert table.to_bytes() == model(13, 3, words)
         table.insert_each(column[:0])
-        table.update(numbers)
+        table.update(words)
         assert table.to_bytes() == model(13, 3, words, 2 * len(words))
 
 
@@ -539,6 +539,40 @@ def test_a_view_holds_its_buffer():
         buffer.append(1)
     del view
     buffer.append(1)
+    buffer.pop()
+    with pytest.raises(TypeError), MemberTable.view(buffer) as view:
+        view.insert(b"fox")
+        view.insert("fox")
+    buffer.append(1)
+    assert buffer[:-1] == model(10, 3, [b"fox"]) and view.to_bytes() == b""
+    view.release()  # as often as one likes
+    for call in (
+        lambda: view.insert(b"fox"), lambda: view.insert_each((b"", array.array("Q", [0]))), lambda: b"fox" in view,
+        lambda: view.contains_each((b"", array.array("Q", [0]))), lambda: view.count, lambda: view.seed,
+        lambda: view.log2_bits, lambda: view.hashes, lambda: view.merge(filled()), lambda: filled().merge(view),
+        lambda: view.copy(), lambda: view | filled(), lambda: MemberTable.view(buffer[:0]),
+    ):
+        with pytest.raises(ValueError, match="^the header is truncated$"):
+            call()
+
+
+def test_update_takes_neither_one_key_nor_a_column():
+    offsets = array.array("Q", [0, 3, 6])
+    table = filled()
+    for keys in (
+        b"fox", b"", bytearray(b"fox"), memoryview(b"fox"), numpy.frombuffer(b"fox", "u1"), array.array("d", [1]),
+        offsets, numpy.array([1], "i8"), (b"foxdog", offsets), (b"foxdog", numpy.array([0, 3, 6], "u4")),
+    ):
+        with pytest.raises(TypeError, match="insert takes one key, and insert_each a column$"):
+            table.update(keys)
+    assert table == filled()
+    for keys in (
+        (b"dog", b"cow"), [b"dog", b"cow"], iter([b"dog", b"cow"]), numpy.array([b"dog", b"cow"]),
+        numpy.array([b"dog", b"cow"], object), (bytearray(b"dog"), memoryview(b"cow")),
+    ):
+        table = MemberTable(10, 3, SEED)
+        table.update(keys)
+        assert table == filled(keys=[b"dog", b"cow"])
 
 
 def test_a_key_that_lies_in_the_table_is_refused():

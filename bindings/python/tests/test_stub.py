@@ -15,6 +15,7 @@ TAKEN = {
     "murmur3_x64_128_each.keys": "tuple[ReadableBuffer, ReadableBuffer]",
     "keys": "Union[ReadableBuffer, tuple[ReadableBuffer, ReadableBuffer]]",
     "other": "MemberTable", "__eq__.other": "object",
+    "kind": "object", "value": "object", "traceback": "object",
 }
 
 
@@ -83,7 +84,7 @@ def test_the_stubs_fit_the_module():
     assert values == ["__hash__: ClassVar[None]"] and sketch_hash.MemberTable.__hash__ is None
     stub = {it.name: it for it in named["MemberTable"].body if isinstance(it, ast.FunctionDef)}
     public = {word for word in vars(sketch_hash.MemberTable) if not word.startswith("_")}
-    assert {*stub} == {*public, "__init__", "__contains__", "__eq__", "__ior__", "__or__"}
+    assert {*stub} == {*public, "__init__", "__contains__", "__enter__", "__eq__", "__exit__", "__ior__", "__or__"}
     for word, it in stub.items():
         call = inspect.getattr_static(sketch_hash.MemberTable, word)
         assert is_of_its_kind(it, call)
@@ -101,6 +102,8 @@ ANSWERS = [
     *((f"_Hash.{name}", getattr(sketch_hash.xxh64(), name)()) for name in ("digest", "hexdigest", "intdigest", "reset")),
     ("_Hash.update", sketch_hash.xxh64().update(b"")),
     ("_Hash.seed", sketch_hash.xxh64().seed),
+    ("MemberTable.release", TABLE.copy().release()),
+    ("MemberTable.__exit__", TABLE.copy().__exit__(None, None, None)),
     ("MemberTable.insert", TABLE.insert(b"fox")),
     ("MemberTable.update", TABLE.update([])),
     ("MemberTable.insert_each", TABLE.insert_each(COLUMN)),
@@ -126,5 +129,5 @@ def test_the_stubs_say_what_is_returned():
     for name, answer in ANSWERS:
         found.setdefault(name, set()).add("None" if answer is None else type(answer).__name__)
     others = {name: words for name, words in said.items() if name not in found}
-    assert {*others.values()} == {"None", "_Self", "_Table"} and len(others) == 8
+    assert {*others.values()} == {"None", "_Self", "_Table"} and len(others) == 9
     assert {name: {*said[name].split(" | ")} for name in found} == found

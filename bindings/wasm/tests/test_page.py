@@ -338,6 +338,18 @@ def sparse(path, size):
     return path
 
 
+def test_a_file_that_changes(page, tmp_path):
+    """The browser calls it not readable, and not changed."""
+    endless = sparse(tmp_path / "endless", 1 << 36)
+    page.choose(endless)
+    bar = page.row("endless").find_element(By.TAG_NAME, "progress")
+    page.wait(lambda: bar.get_property("value") > 0)
+    with open(endless, "ab") as file:
+        file.write(b"more")
+    page.wait_for("endless", "cannot be read: it has changed, or may not be read")
+    assert page.hashes("endless") == ("", "")
+
+
 def test_stop_in_the_middle(page, tmp_path, files):
     page.choose(sparse(tmp_path / "endless", 1 << 36))
     page.choose(*files(fox=FOX))
@@ -528,10 +540,16 @@ def changed_page(chromium, tmp_path, old, new):
     return Page(chromium)
 
 
-def test_an_engine_without_64_bit_memories(chromium, tmp_path):
-    """With a kind of memory that no engine knows in its question, the page says that the engine lacks it."""
+def test_an_engine_without_64_bit_memories(chromium, tmp_path, files):
+    """With a kind of memory that no engine knows in its question, the page says that the engine lacks it. A file that
+    waits has no hash then, and one that comes later has none."""
     page = changed_page(chromium, tmp_path, "5, 3, 1, 4, 0)", "5, 3, 1, 99, 0)")
+    page.choose(*files(early=FOX))
     page.wait(lambda: "Firefox from 134" in page.one("#unable").text)
+    page.choose(*files(late=FOX))
+    for name in ("early", "late"):
+        page.wait_for(name, "cannot be hashed here")
+        assert page.row(name).find_elements(By.CSS_SELECTOR, "button:enabled") == []
 
 
 def test_an_error_without_a_message(chromium, tmp_path, files):

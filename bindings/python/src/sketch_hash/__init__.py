@@ -64,7 +64,7 @@ def _seed(seed):
     if type(seed) is not int:
         seed = _index(seed)
     if not 0 <= seed < 0x1_0000_0000_0000_0000:
-        raise OverflowError(f"a seed is from 0 to 2**64 - 1, and not {seed}")
+        raise OverflowError("a seed is from 0 to 2**64 - 1")
     return seed
 
 
@@ -312,6 +312,8 @@ class MemberTable:
 
         Nothing else may change the buffer during a call. Two views of one buffer do not wait for
         each other. Bytes that are no table of version 2 raise ValueError, here and in each later call.
+        The buffer keeps its length until the view is released: by release, at the end of a with
+        block, or with the view itself.
         """
         table = _memory_of(buffer, require_writable=True)
         _done(_lib.sketch_member_check(table, len(table)))
@@ -319,6 +321,17 @@ class MemberTable:
         it._lock = _Lock()
         it._table = table
         return it
+
+    def release(self):
+        """Lets go of the memory. It has no bytes from then on: calls but to_bytes and == raise ValueError."""
+        with self._lock:
+            self._table = _memory_of(b"")
+
+    def __enter__(self):
+        return self
+
+    def __exit__(self, kind, value, traceback):
+        self.release()
 
     def insert(self, key):
         """Inserts a key. A known count grows by one and stays at 2**64 - 1.
@@ -330,7 +343,12 @@ class MemberTable:
             _done(_lib.member_insert(self._table, len(self._table), memory, len(memory)))
 
     def update(self, keys):
-        """Inserts each key of an iterable. Where one is refused, those before it stay inserted."""
+        """Inserts each key of an iterable. Where one is refused, those before it stay inserted.
+
+        One key and a column raise TypeError: insert takes one, and insert_each a column.
+        """
+        if _item_size(keys) or isinstance(keys, tuple) and len(keys) == 2 and _item_size(keys[1]) > 1:
+            raise TypeError("update takes an iterable of keys: insert takes one key, and insert_each a column")
         for key in keys:
             self.insert(key)
 
@@ -444,6 +462,15 @@ class MemberTable:
 
     def __reduce__(self):
         return type(self).from_bytes, (self.to_bytes(),)
+
+
+def _item_size(data):
+    """How many bytes each number of a buffer has; 0 for what is no buffer of numbers."""
+    try:
+        with memoryview(data) as memory:
+            return memory.itemsize if memory.format[-1] in "?cbBhHiIlLqQnNefdg" else 0
+    except (BufferError, TypeError, ValueError):
+        return 0
 
 
 def _small(number):
