@@ -130,8 +130,8 @@ size_t sketch_xxh64_each_u64(const uint64_t *values, size_t value_count, uint64_
  * for each key, and 1 in 1000 where it has 15.
  *
  * A table is its bytes, which any machine reads and writes alike. They lie where the caller wants,
- * as in a file that is mapped. Each call checks the header, 24 bytes, and makes no pass over the
- * bits to do so. A call that fails changes nothing. */
+ * as in a file that is mapped. Each call but sketch_member_size and sketch_member_init checks the
+ * header, 24 bytes, and makes no pass over the bits to do so. A call that fails changes nothing. */
 
 /* What a call returns: the first fault in this order, or -1 where the header ends before it. */
 enum sketch_member_status {
