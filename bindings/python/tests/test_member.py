@@ -540,8 +540,9 @@ def test_a_view_holds_its_buffer():
     del view
     buffer.append(1)
     buffer.pop()
-    with pytest.raises(TypeError), MemberTable.view(buffer) as view:
+    with MemberTable.view(buffer) as view:
         view.insert(b"fox")
+    with pytest.raises(TypeError), MemberTable.view(buffer) as view:
         view.insert("fox")
     buffer.append(1)
     assert buffer[:-1] == model(10, 3, [b"fox"]) and view.to_bytes() == b""

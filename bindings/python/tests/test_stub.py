@@ -43,6 +43,20 @@ def is_of_its_kind(stub, call):
     return marks == [name for name, kind in kinds.items() if isinstance(call, kind)]
 
 
+def test_each_refusal_is_of_one_statement():
+    """A block ends at its first error, so what comes after it would not be looked at."""
+    count = 0
+    for name in os.listdir(os.path.dirname(__file__)):
+        if name.endswith(".py"):
+            with open(os.path.join(os.path.dirname(__file__), name)) as file:
+                blocks = [it for it in ast.walk(ast.parse(file.read())) if isinstance(it, ast.With)]
+            for block in blocks:
+                if any("raises" in ast.unparse(it.context_expr) for it in block.items):
+                    count += 1
+                    assert len(block.body) == 1 and not isinstance(block.body[0], (ast.For, ast.While, ast.With))
+    assert count > 50
+
+
 def kind_of(value):
     """A value's kind, as stubs name it."""
     within = {type(it).__name__ for it in value} if isinstance(value, (list, set)) else ()
