@@ -85,12 +85,15 @@ assert.deepEqual(said.splice(0, 3), [1, 3, 5].map((count) => ({ id: 8, done: cou
 assert.deepEqual(said.splice(0), [told(8, new Uint8Array(6 * piece))]);
 
 // A read that fails is told, and those after it are let go.
-for (const error of [new Error('gone'), 'gone']) {
+const unreadable = Object.assign(new Error('gone'), { name: 'NotReadableError' });
+for (const [error, why] of [
+    [new Error('gone'), 'gone'], ['gone', 'gone'], [unreadable, 'it has changed, or may not be read'],
+]) {
     tell(slow(9, 3 * piece));
     await soon();
     reads.splice(0).forEach(({ reject }) => reject(error));
     await soon();
-    assert.deepEqual(said.splice(0), [{ id: 9, fault: 'gone' }]);
+    assert.deepEqual(said.splice(0), [{ id: 9, fault: why }]);
 }
 
 // What the worker says of a file that tells a size and has `count` bytes, all zero.
@@ -105,11 +108,11 @@ function hash(size, count) {
 
 for (const size of [10, piece, 3 * piece + 1]) {
     assert.equal((await hash(size, size)).xxh64, library.xxh64(new Uint8Array(size), 7n).toString(16).padStart(16, '0'));
-    assert.equal((await hash(size, size - 1)).fault, 'the file has changed');
+    assert.equal((await hash(size, size - 1)).fault, 'it has changed');
 }
-assert.equal((await hash(10, 11)).fault, 'the file has changed');
+assert.equal((await hash(10, 11)).fault, 'it has changed');
 // As many files that fail as are read at the same time keep no place, and the next one is read.
-for (let n = 0; n < 4; n += 1) assert.equal((await hash(10, 9)).fault, 'the file has changed');
+for (let n = 0; n < 4; n += 1) assert.equal((await hash(10, 9)).fault, 'it has changed');
 assert.equal((await hash(0, 0)).xxh64, library.xxh64(new Uint8Array(0), 7n).toString(16).padStart(16, '0'));
 
 // A file past 2^32 bytes is read from each of its places. These pieces are empty.
@@ -121,5 +124,5 @@ const slice = (from, to) => {
     return { arrayBuffer: async () => new ArrayBuffer(0) };
 };
 tell({ id: 'long', file: { size: long, slice }, seed: 7n });
-assert.equal((await fault).fault, 'the file has changed');
+assert.equal((await fault).fault, 'it has changed');
 assert.deepEqual(places, Array.from({ length: Math.ceil(long / piece) }, (_, at) => [at * piece, (at + 1) * piece]));

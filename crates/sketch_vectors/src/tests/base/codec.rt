@@ -193,7 +193,7 @@ fn tells_counts_apart(rt: HostRuntime) {
 fn prints_how_far_a_list_came(rt: HostRuntime) -> Result<(), Fail> {
     for n in 0..1000 {
         let (short, stopped) = (Short { read: n }, Stopped { accepted: n });
-        let text = format!(in rt.alloc(); "{short}; {stopped}")?;
+        let text = format!(in rt.alloc(); "{short:60}; {stopped:60}")?; // a width changes nothing
         let told = format!(in rt.alloc();
             "insufficient data after {n} items; out of memory after {n} items"
         )?;

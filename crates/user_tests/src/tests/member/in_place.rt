@@ -188,7 +188,7 @@ fn faults_and_their_copies_print_and_show_their_names(rt: HostRuntime) -> Result
             "table merged from: unsupported serial version: expected 2, got 1",
         ),
     ] {
-        let text = format!(in alloc; "{fault:?} {fault}")?;
+        let text = format!(in alloc; "{fault:?} {fault:60}")?; // a width changes nothing
         let wanted = format!(in alloc; "{shown} {printed}")?;
         assert_same(&rt, text.as_str(), wanted.as_str());
         let told = match fault {
@@ -209,7 +209,7 @@ fn faults_and_their_copies_print_and_show_their_names(rt: HostRuntime) -> Result
     for (fault, shown) in FAULTS {
         let debug = format!(in alloc; "{fault:?}")?;
         assert_same(&rt, debug.as_str(), shown);
-        let into = format!(in alloc; "table merged into: {fault}")?;
+        let into = format!(in alloc; "table merged into: {fault:60}")?;
         assert_same(&rt, text_of_into(alloc, fault), Some(into));
         let from = format!(in alloc; "table merged from: {fault}")?;
         assert_same(&rt, text_of_from(alloc, fault), Some(from));

@@ -272,6 +272,9 @@ fn tells_why_a_read_was_refused(rt: HostRuntime) -> Result<(), Fail> {
         let error = tell_part(alloc, "tag", io::Error::from(kind));
         assert_same(&rt, error.message(), text.as_str());
     }
+    let error = tell_part(alloc, "tag", io::Error::other("a disk on fire"));
+    let text = "insufficient data (tag): a disk on fire";
+    assert_same(&rt, error.message(), text);
     Ok(())
 }
 
