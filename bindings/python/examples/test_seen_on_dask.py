@@ -6,11 +6,15 @@ import subprocess
 import sys
 import time
 
-import numpy
 import pytest
-import xxhash
+
+numpy = pytest.importorskip("numpy")
+xxhash = pytest.importorskip("xxhash")
+pytest.importorskip("distributed")
 from distributed import LocalCluster
 from seen_on_dask import column, main, merged, table_of
+
+pytestmark = pytest.mark.xdist_group("dask")
 
 EXAMPLE = os.path.join(os.path.dirname(os.path.abspath(__file__)), "seen_on_dask.py")
 SIZES = 20, 7, 9

@@ -3,10 +3,11 @@ import array
 import ctypes
 import mmap
 
-import numpy
 import pytest
 import sketch_hash
 from sketch_hash import murmur3_x64_128, xxh64
+
+numpy = pytest.importorskip("numpy")
 
 DATA = bytes(range(240))
 KINDS = [xxh64, murmur3_x64_128]

@@ -4,12 +4,13 @@ import ctypes
 import itertools
 import random
 
-import numpy
 import peers
 import pytest
 import sketch_hash
-import xxhash
 from sketch_hash import MemberTable, murmur3_x64_128_each, xxh64_each
+
+numpy = pytest.importorskip("numpy")
+xxhash = pytest.importorskip("xxhash")
 
 KEYS = [random.Random(7).randbytes(length % 101) for length in range(1000)]
 DATA = b"".join(KEYS)

@@ -10,8 +10,9 @@ import subprocess
 import sys
 
 import pytest
-import xxhash
 from sketch_hash.__main__ import Bar
+
+xxhash = pytest.importorskip("xxhash")
 
 FOX = b"The quick brown fox jumps over the lazy dog"
 XXH64, MURMUR = b"0b242d361fda71bc", b"e34bbc7bbc071b6c7a433ca9c49a9347"

@@ -10,10 +10,11 @@ import sys
 import threading
 import time
 
-import numpy
 import pytest
 from sketch_hash import MemberTable, murmur3_x64_128, murmur3_x64_128_each, xxh64, xxh64_each
 from test_buffers import KINDS, ONE_CALL
+
+numpy = pytest.importorskip("numpy")
 
 WAYS = [copy.copy, copy.deepcopy, lambda it: it.copy(), lambda it: pickle.loads(pickle.dumps(it))]
 

@@ -10,10 +10,11 @@ import random
 import peers
 import pytest
 import sketch_hash
-import xxhash
 from sketch_hash import murmur3_x64_128, xxh64
 from test_buffers import KINDS
 from watched import WatchedLock
+
+xxhash = pytest.importorskip("xxhash")
 
 FOX = b"The quick brown fox jumps over the lazy dog"
 

@@ -7,13 +7,14 @@ import struct
 import threading
 import time
 
-import numpy
 import pytest
-import xxhash
 from sketch_hash import MemberTable, _calls
 from test_buffers import DATA, REFUSED, TAKEN
 from test_faults import WAYS, ticks  # noqa: F401
 from watched import WatchedLock
+
+numpy = pytest.importorskip("numpy")
+xxhash = pytest.importorskip("xxhash")
 
 SEED = 2**64 - 5
 KEYS = [b"", bytes(1000), *[b"key %d" % n for n in range(50)]]

@@ -1,4 +1,4 @@
-"""A headless Chromium, and a server of dist/wasm."""
+"""A headless Chromium, and a server of dist/wasm. Both are for one worker of pytest alone."""
 import functools
 import http.server
 import os
@@ -6,7 +6,15 @@ import pathlib
 import threading
 
 import pytest
-from selenium import webdriver
+
+DIST = pathlib.Path(__file__).resolve().parents[3] / "dist"
+os.environ["DIST"] = str(DIST)  # for Node's part of the tests
+
+
+def pytest_collection_modifyitems(items):
+    for it in items:
+        if "chromium" in getattr(it, "fixturenames", ()):
+            it.add_marker(pytest.mark.xdist_group("browser"))
 
 
 class Quiet(http.server.SimpleHTTPRequestHandler):
@@ -16,8 +24,7 @@ class Quiet(http.server.SimpleHTTPRequestHandler):
 
 @pytest.fixture(scope="session")
 def server():
-    folder = pathlib.Path(os.environ["DIST"]) / "wasm"
-    serve = functools.partial(Quiet, directory=folder)
+    serve = functools.partial(Quiet, directory=DIST / "wasm")
     with http.server.ThreadingHTTPServer(("127.0.0.1", 0), serve) as it:
         threading.Thread(target=it.serve_forever, daemon=True).start()
         yield f"http://127.0.0.1:{it.server_port}/index.html"
@@ -25,7 +32,10 @@ def server():
 
 
 @pytest.fixture(scope="session")
-def chromium():
+def chromium(need):
+    need("chromium", "chromedriver")
+    from selenium import webdriver
+
     options = webdriver.ChromeOptions()
     for word in ("--headless=new", "--no-sandbox", "--disable-gpu", "--disable-dev-shm-usage"):
         options.add_argument(word)

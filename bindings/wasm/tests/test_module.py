@@ -1,20 +1,18 @@
 """The module under Node and in Chromium: 20,000 random inputs, seeds and cuts beside libxxhash, by
 python3-xxhash, and a plain Murmur."""
 import json
-import os
 import pathlib
 import random
 import subprocess
 import sys
 
 import pytest
-import xxhash
 
-HERE = pathlib.Path(__file__).parent
+xxhash = pytest.importorskip("xxhash")
+HERE = pathlib.Path(__file__).resolve().parent
+DIST = HERE.parents[2] / "dist"
 sys.path.append(str(HERE.parent.parent / "python/tests"))
 import peers
-
-DIST = pathlib.Path(os.environ["DIST"])
 
 
 def case(noise, longest):
@@ -42,23 +40,38 @@ def check(cases, answers):
         assert answer == [*both(b"".join(keys), seed) * 2, *of_keys]
 
 
-def node_words():
+@pytest.fixture
+def node(need):
     """Node 20 has 64-bit memories under a flag, which later ones do not know."""
+    need("node 20")
     flag = "--experimental-wasm-memory64"
     takes = subprocess.run(["node", flag, "-e", "0"], capture_output=True).returncode == 0
     return ["node", *([flag] if takes else [])]
 
 
-def test_under_node(cases):
-    said = subprocess.run(
-        [*node_words(), HERE / "module.mjs"], input=json.dumps(cases), stdout=subprocess.PIPE,
-        text=True, check=True,
-    )
+def test_under_node(cases, node):
+    said = subprocess.run([*node, HERE / "module.mjs"], input=json.dumps(cases), stdout=subprocess.PIPE, text=True, check=True)
     check(cases, json.loads(said.stdout))
 
 
-def test_the_worker_under_node():
-    subprocess.run([*node_words(), HERE / "worker.mjs"], check=True)
+def test_the_worker_under_node(node):
+    subprocess.run([*node, HERE / "worker.mjs"], check=True)
+
+
+@pytest.mark.parametrize("old, new, error", [
+    ("", "", ""),
+    ("xxh64(bytes: Input", "xxh64(bytes: Input | string", "TS2578"),
+    ("offsets: Offsets, seed?: bigint", "offsets: Offsets, seed?: number", "TS2322"),
+], ids=["as they are", "a text is no input", "a number is no seed"])
+def test_types_take_what_they_say(old, new, error, need, tmp_path):
+    """types.mts uses each type, and marks what must not compile."""
+    need("tsc")
+    types = (DIST / "wasm/sketch_hash.d.mts").read_text()
+    (tmp_path / "sketch_hash.d.mts").write_text(types.replace(old, new) if old else types)
+    (tmp_path / "types.mts").write_text((HERE / "types.mts").read_text())
+    words = "--noEmit --strict --target es2022 --lib es2022,dom --module nodenext --moduleResolution nodenext types.mts"
+    said = subprocess.run(["tsc", *words.split()], cwd=tmp_path, capture_output=True, text=True)
+    assert error in said.stdout and (said.returncode == 0) == (not error), said.stdout
 
 
 def test_in_chromium(cases, chromium, server):

@@ -1,8 +1,5 @@
-"""The page in headless Chromium, from file:// and from a server.
-
-The hashes are compared with libxxhash, by python3-xxhash, and with the shared library of dist/; that
-of a file of 64 MiB with sketchsum too, where the environment's SKETCHSUM names it.
-"""
+"""The page in headless Chromium, from file:// and from a server. The hashes are compared with libxxhash, by
+python3-xxhash, and with the shared library of dist/; those of a file of 64 MiB with sketchsum too."""
 import ctypes
 import os
 import pathlib
@@ -10,13 +7,15 @@ import random
 import subprocess
 
 import pytest
-import xxhash
+
+xxhash = pytest.importorskip("xxhash")
+pytest.importorskip("selenium")
 from selenium.webdriver.common.by import By
 from selenium.webdriver.common.keys import Keys
 from selenium.webdriver.support.ui import WebDriverWait
 
-DIST = pathlib.Path(os.environ["DIST"])
-PATIENCE = float(os.environ.get("PATIENCE", "60"))  # seconds
+DIST = pathlib.Path(__file__).resolve().parents[3] / "dist"
+PATIENCE = 60  # seconds
 FOX = b"The quick brown fox jumps over the lazy dog"
 FOX_HASHES = ("0b242d361fda71bc", "e34bbc7bbc071b6c7a433ca9c49a9347")
 
@@ -135,11 +134,16 @@ def test_64_mebibytes(page, files):
     page.choose(path)
     page.wait_for("large", "done")
     assert page.hashes("large") == hashes(data)
-    if "SKETCHSUM" in os.environ:
-        for words, answer in zip((["xx", "0"], ["murmur", "0"]), page.hashes("large")):
-            with open(path, "rb") as file:
-                said = subprocess.check_output([os.environ["SKETCHSUM"], *words], stdin=file)
-            assert said.decode() == f"{answer}\n"
+
+
+def test_answers_as_the_program(page, files, proved):
+    data = random.Random(2).randbytes(1 << 20)
+    (path,) = files(file=data)
+    page.choose(path)
+    page.wait_for("file", "done")
+    for words, hash in zip(("xx 0", "murmur 0"), page.hashes("file")):
+        said = subprocess.check_output([proved / "sketchsum/out/sketchsum", *words.split()], input=data)
+        assert said.decode() == f"{hash}\n"
 
 
 def test_a_file_past_4_gibibytes(chromium, tmp_path):

@@ -7,7 +7,20 @@ _Self = TypeVar("_Self", bound="_Hash")
 _Table = TypeVar("_Table", bound="MemberTable")
 
 __version__: str
-__all__: list[str]
+__all__ = [
+    "MemberTable",
+    "algorithms_available",
+    "murmur3_x64_128",
+    "murmur3_x64_128_digest",
+    "murmur3_x64_128_each",
+    "murmur3_x64_128_hexdigest",
+    "murmur3_x64_128_intdigest",
+    "xxh64",
+    "xxh64_digest",
+    "xxh64_each",
+    "xxh64_hexdigest",
+    "xxh64_intdigest",
+]
 algorithms_available: set[str]
 
 class _Hash:

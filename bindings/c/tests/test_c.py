@@ -1,0 +1,117 @@
+"""The library for C: its header under each compiler, its calls beside peers, its names and instructions."""
+import pathlib
+import re
+import subprocess
+
+import pytest
+
+HERE = pathlib.Path(__file__).resolve().parent
+DIST = HERE.parents[2] / "dist"
+HEADER = (DIST / "sketch_hash.h").read_text()
+CALLS = sorted(set(re.findall(r"\b(sketch_\w+)\(", HEADER)))
+STRICT = ["-Wall", "-Wextra", "-Wpedantic", "-Werror"]
+
+
+def output(*command):
+    return subprocess.run(command, check=True, stdout=subprocess.PIPE, text=True, timeout=300).stdout
+
+
+# ---- the header
+
+STANDARDS = [
+    *((compiler, it) for compiler in ("gcc", "clang") for it in ("c90", "c99", "c11", "c17", "c2x")),
+    *((compiler, it) for compiler in ("g++", "clang++") for it in ("c++98", "c++11", "c++17", "c++20", "c++2b")),
+]
+
+
+@pytest.mark.parametrize("compiler, standard", STANDARDS)
+def test_header_is_taken_by(compiler, standard, need, tmp_path):
+    need(compiler)
+    language = ["-xc++", "-Wold-style-cast"] if "++" in compiler else ["-xc"]
+    command = [compiler, f"-std={standard}", "-pedantic-errors", *STRICT, "-I", DIST, "-o", tmp_path / "alone"]
+    output(*command, *language, HERE / "alone.c", "-xnone", DIST / "libsketch_hash.a")
+    output(tmp_path / "alone")
+
+
+@pytest.mark.parametrize("old, new", [(r"waiting\[32\]", "waiting[40]"), (r"waiting\[16\]", "waiting[24]"), ("uint64_t seed, v1", "unsigned char c; uint64_t seed, v1")])
+def test_header_refuses_a_state_laid_out_otherwise(old, new, need, tmp_path):
+    need("gcc")
+    (tmp_path / "other.h").write_text(re.sub(old, new, HEADER, count=1))
+    said = subprocess.run(["gcc", "-fsyntax-only", "-xc", tmp_path / "other.h"], stderr=subprocess.PIPE, text=True)
+    assert said.returncode and "size of array" in said.stderr
+
+
+# ---- the calls: each program compares, and its status tells
+
+PROGRAMS = {"layout": [], "compare": ["xxhash", "murmurhash"], "long": ["xxhash"], "member": ["xxhash"], "noise": [], "each": [], "streams": []}
+
+
+@pytest.fixture
+def program(need, tmp_path):
+    def program(name):
+        need("gcc", *(f"{it}.h" for it in PROGRAMS[name]))
+        made = tmp_path / name
+        libraries = [f"-l{it}" for it in PROGRAMS[name]]
+        output("gcc", "-O2", *STRICT, "-I", DIST, "-o", made, HERE / f"{name}.c", DIST / "libsketch_hash.a", *libraries)
+        return made
+
+    return program
+
+
+@pytest.mark.parametrize("name", PROGRAMS)
+def test_calls(name, program):
+    assert output(program(name))
+
+
+@pytest.mark.parametrize("name, words", [("compare", []), ("noise", []), ("member", ["9"]), ("each", [])])
+def test_calls_read_and_write_only_what_they_are_given(name, words, program, need):
+    need("valgrind")
+    output("valgrind", "-q", "--error-exitcode=9", "--leak-check=full", program(name), *words)
+
+
+@pytest.mark.parametrize("name", ["layout", "noise", "each", "streams"])
+def test_calls_take_a_stack_of_256_kib(name, program):
+    assert output("bash", "-c", f"ulimit -s 256; exec '{program(name)}'")
+
+
+# ---- the files
+
+OF_1_0 = """sketch_hash_version sketch_xxh64 sketch_xxh64_reset sketch_xxh64_update sketch_xxh64_digest sketch_xxh64_u64
+    sketch_murmur3_x64_128 sketch_murmur3_x64_128_reset sketch_murmur3_x64_128_update sketch_murmur3_x64_128_digest""".split()
+
+
+def test_archive_has_the_calls_and_no_other_name(need):
+    need("nm")
+    names = re.findall(r"^\S* [A-TV-Za-z] (\S+)$", output("nm", "-g", DIST / "libsketch_hash.a"), re.M)
+    assert sorted(names) == CALLS
+
+
+def test_shared_library_has_the_calls_by_their_versions(need):
+    """A program that was linked with an older library asks for each name by the version that it came with."""
+    need("nm")
+    names = re.findall(r" [B-Zb-z] (\S+)$", output("nm", "-D", DIST / "libsketch_hash.so.1"), re.M)
+    assert sorted(names) == [f"{it}@@SKETCH_HASH_{'1.0' if it in OF_1_0 else '1.1'}" for it in CALLS]
+
+
+def test_shared_library_needs_no_other(need):
+    need("readelf")
+    dynamic = output("readelf", "-d", DIST / "libsketch_hash.so.1")
+    assert "[libsketch_hash.so.1]" in dynamic and "(NEEDED)" not in dynamic
+
+
+def test_shared_library_is_hardened(need):
+    need("readelf")
+    said = output("readelf", "-Wld", DIST / "libsketch_hash.so.1")
+    assert re.search(r"GNU_STACK .* RW +0", said) and "GNU_RELRO" in said and "BIND_NOW" in said
+
+
+# What every x86-64 can do: integers, and moves and sums of SSE2.
+KNOWN = r"""mov([bwlq]|abs|[sz][bw][wlq]|slq)? lea xchg push pop j\w+ call ret nop[wl]? data16 cs int3 add adc sub sbb and or xor
+    not neg inc dec imul mul sh[lr]d? sar ro[lr] bt cmp[bwlq]? test[bwlq]? set\w+ cmov\w+
+    mov[au]p[sd] movdq[au] movd x?orps pxor por pand padd[dq] psubq pshufd punpck[lh]\w+ psrlq psllq pmuludq""".split()
+
+
+def test_runs_on_each_x86_64(need):
+    need("objdump")
+    code = re.findall(r"^ *[0-9a-f]+:\t(\S+)", output("objdump", "-d", "--no-show-raw-insn", DIST / "libsketch_hash.so.1"), re.M)
+    assert len(code) > 1000 and {it for it in code if not re.fullmatch("|".join(KNOWN), it)} == set()

@@ -1,0 +1,175 @@
+"""The library for C as people install it: make, pkg-config, CMake, the man page."""
+import os
+import pathlib
+import re
+import shlex
+import shutil
+import subprocess
+
+import pytest
+
+HERE = pathlib.Path(__file__).resolve().parent
+DIST = HERE.parents[2] / "dist"
+CALLS = sorted(set(re.findall(r"\b(sketch_\w+)\(", (DIST / "sketch_hash.h").read_text())))
+MAN_PAGE = (DIST / "sketch_hash.3").read_text()
+
+INSTALLED = {
+    "include/sketch_hash.h", "lib/libsketch_hash.a", "lib/libsketch_hash.so", "lib/libsketch_hash.so.1",
+    "lib/pkgconfig/sketch_hash.pc", "lib/cmake/sketch_hash/sketch_hash-config.cmake",
+    "lib/cmake/sketch_hash/sketch_hash-config-version.cmake", "share/man/man3/sketch_hash.3",
+    *(f"share/man/man3/{it}.3" for it in CALLS),
+    *(f"share/doc/sketch_hash/{it}" for it in ("LICENSE", "NOTICE", "PROVED", "README.md")),
+}
+
+
+def make(*words, folder=DIST, **how):
+    return subprocess.run(["make", "-C", folder, *words], capture_output=True, text=True, **how)
+
+
+def files_in(folder):
+    return {str(it.relative_to(folder)) for it in folder.rglob("*") if not it.is_dir()}
+
+
+@pytest.fixture(autouse=True)
+def tools(need):
+    need("make", "gcc")
+
+
+@pytest.fixture
+def prefix(tmp_path):
+    """Where the library is installed; the path has a blank."""
+    prefix = tmp_path / "a prefix"
+    assert make("install", f"PREFIX={prefix}").returncode == 0
+    return prefix
+
+
+# ---- make
+
+@pytest.mark.parametrize("words, place", [([], "usr/local"), (["PREFIX=/usr"], "usr")])
+def test_install_goes_to_the_stage(words, place, tmp_path):
+    stage = tmp_path / "a stage"
+    assert make("install", f"DESTDIR={stage}", *words).returncode == 0
+    assert files_in(stage) == {f"{place}/{it}" for it in INSTALLED}
+
+
+def test_install_has_the_files_of_dist_for_all_to_read(tmp_path):
+    prefix = tmp_path / "prefix"
+    assert make("install", f"PREFIX={prefix}", umask=0o077).returncode == 0
+    assert files_in(prefix) == INSTALLED
+    for name in INSTALLED:
+        of_dist = DIST / ("libsketch_hash.so.1" if name.endswith(".so") else "sketch_hash.3" if name.endswith(".3") else pathlib.Path(name).name)
+        assert (prefix / name).read_bytes() == of_dist.read_bytes() and (prefix / name).stat().st_mode & 0o777 == 0o644
+    assert {it.stat().st_mode & 0o777 for it in prefix.rglob("*") if it.is_dir()} == {0o755}
+
+
+def test_an_upgrade_leaves_the_library_that_programs_run(prefix, tmp_path):
+    library = prefix / "lib/libsketch_hash.so.1"
+    os.link(library, tmp_path / "in_use")
+    assert make("install", f"PREFIX={prefix}").returncode == 0
+    assert not library.samefile(tmp_path / "in_use")
+
+
+def test_make_alone_installs_nothing_and_checks_the_sums(tmp_path):
+    copy = shutil.copytree(DIST, tmp_path / "dist")
+    assert make(f"DESTDIR={tmp_path / 'stage'}", folder=copy).returncode == 0 and not (tmp_path / "stage").exists()
+    with open(copy / "libsketch_hash.a", "ab") as archive:
+        archive.write(b"x")
+    for goal in ("all", "check", "install"):
+        said = make(goal, f"PREFIX={tmp_path / 'prefix'}", folder=copy)
+        assert said.returncode and "libsketch_hash.a" in said.stdout + said.stderr
+    sums = re.findall(r"^\w{64}  \./(.*)$", (DIST / "SHA256SUMS").read_text(), re.M)
+    assert {*sums, "SHA256SUMS"} == files_in(DIST)
+
+
+def test_a_relative_prefix_is_refused(tmp_path):
+    said = make("install", "PREFIX=here", f"DESTDIR={tmp_path}/")
+    assert said.returncode and "not an absolute path: here" in said.stderr and files_in(tmp_path) == set()
+
+
+def test_uninstall_leaves_the_files_of_others(prefix):
+    others = {"include/sketch_hash2.h", "lib/libsketch_hash.so.2", "lib/pkgconfig/other.pc", "share/man/man3/sketch_hash2.3", "share/doc/other/README"}
+    for name in others:
+        (prefix / name).parent.mkdir(parents=True, exist_ok=True)
+        (prefix / name).touch()
+    for _ in range(2):  # there may be nothing to remove
+        assert make("uninstall", f"PREFIX={prefix}").returncode == 0
+        assert files_in(prefix) == others
+    assert not (prefix / "share/doc/sketch_hash").exists() and not (prefix / "lib/cmake/sketch_hash").exists()
+
+
+# ---- the man page
+
+def section(name):
+    return re.search(rf"^\.SH {name}\n(.*?)(?=^\.SH |\Z)", MAN_PAGE, re.M | re.S)[1]
+
+
+def examples():
+    return [it.replace("\\e", "\\") for it in re.findall(r"^\.nf\n(.*?)^\.fi", section("EXAMPLES"), re.M | re.S)]
+
+
+def test_man_page_declares_what_the_header_does():
+    header = re.sub(r"\s+", " ", (DIST / "sketch_hash.h").read_text())
+    declared = re.findall(r"(?:const )?\w+ sketch_\w+\([^();]*\);", header)
+    shown = [re.sub(r'" ?(\w+) ?"', r"\1", it) for it in re.findall(r'^\.BI? "?(.*\);)$', section("SYNOPSIS"), re.M)]
+    shown = [re.sub(r'" (\w+) \);$', r"\1);", it) for it in shown]
+    assert sorted(it for it in shown if "_INIT(" not in it) == sorted(declared)
+    assert sorted(re.findall(r"\bsketch_\w+", section("NAME"))) == CALLS
+
+
+# ---- pkg-config and CMake
+
+def test_pkg_config(prefix, need, tmp_path, monkeypatch):
+    need("pkg-config")
+    monkeypatch.setenv("PKG_CONFIG_LIBDIR", str(prefix / "lib/pkgconfig"))
+    monkeypatch.setenv("LD_LIBRARY_PATH", str(prefix / "lib"))
+    (tmp_path / "table.c").write_text(examples()[1])
+    flags = shlex.split(subprocess.check_output(["pkg-config", "--cflags", "--libs", "sketch_hash"], text=True))
+    subprocess.run(["gcc", "-Wall", "-Wextra", "-Werror", "-o", tmp_path / "table", tmp_path / "table.c", *flags], check=True)
+    assert subprocess.check_output(tmp_path / "table") == b"1 0\n"
+    assert subprocess.check_output(["pkg-config", "--static", "--libs-only-l", "sketch_hash"]).split() == [b"-lsketch_hash"]
+
+
+def cmake(project, prefix, *words):
+    """Configures and builds a project that finds only what was installed in the prefix."""
+    finds = [f"-DCMAKE_PREFIX_PATH={prefix}", "-DCMAKE_FIND_USE_CMAKE_SYSTEM_PATH=OFF"]
+    said = subprocess.run(["cmake", "-S", project, "-B", project / "build", *finds, *words], capture_output=True, text=True)
+    if said.returncode == 0:
+        subprocess.run(["cmake", "--build", project / "build"], check=True)
+    return said
+
+
+@pytest.mark.parametrize("by_a_link", [False, True], ids=["by its folder", "by a link to lib"])
+def test_cmake_builds_with_both_libraries(by_a_link, prefix, need, tmp_path):
+    need("cmake")
+    project = tmp_path / "project"
+    shutil.copytree(HERE / "cmake", project)
+    (project / "sum.c").write_text(examples()[0])
+    if by_a_link:  # as /lib leads to /usr/lib: no include lies beside it
+        (tmp_path / "linked").mkdir()
+        (tmp_path / "linked/lib").symlink_to(prefix / "lib")
+    said = cmake(project, tmp_path / "linked" if by_a_link else prefix)
+    assert said.returncode == 0, said.stderr
+    for name in ("sum", "sum_static"):
+        fox = subprocess.check_output(project / "build" / name, input=b"The quick brown fox jumps over the lazy dog")
+        assert fox == b"0b242d361fda71bc\n"
+
+
+def test_cmake_finds_it_from_two_folders_of_a_project(prefix, need, tmp_path):
+    need("cmake")
+    lines = "cmake_minimum_required(VERSION 3.7)\nproject(two C)\nadd_subdirectory(one)\nadd_subdirectory(other)\n"
+    (tmp_path / "CMakeLists.txt").write_text(lines)
+    for name in ("one", "other"):
+        (tmp_path / name).mkdir()
+        (tmp_path / name / "sum.c").write_text(examples()[0])
+        words = f"find_package(sketch_hash REQUIRED)\nadd_executable({name} sum.c)\ntarget_link_libraries({name} sketch_hash::sketch_hash)\n"
+        (tmp_path / name / "CMakeLists.txt").write_text(words)
+    assert cmake(tmp_path, prefix).returncode == 0
+
+
+@pytest.mark.parametrize("words, is_found", [([], True), (["-DCMAKE_SYSTEM_NAME=Linux", "-DCMAKE_SYSTEM_PROCESSOR=aarch64"], False)])
+def test_cmake_is_told_what_the_library_runs_on(words, is_found, prefix, need, tmp_path):
+    """Also in a project that has no language yet."""
+    need("cmake")
+    (tmp_path / "CMakeLists.txt").write_text("cmake_minimum_required(VERSION 3.7)\nproject(none NONE)\nfind_package(sketch_hash REQUIRED)\n")
+    said = cmake(tmp_path, prefix, *words)
+    assert (said.returncode == 0) == is_found and is_found or "(Linux, x86-64)" in said.stderr

@@ -1,0 +1,98 @@
+"""The package as it is built and installed, its stubs, and its glue under sanitizers."""
+import os
+import pathlib
+import re
+import shutil
+import subprocess
+import sys
+
+import pytest
+
+HERE = pathlib.Path(__file__).resolve().parent
+PACKAGE = HERE.parent
+DIST = HERE.parents[2] / "dist"
+PIP = [sys.executable, "-m", "pip", "install", "--quiet", "--no-build-isolation", "--no-index", "--no-deps", "--root-user-action=ignore"]
+FOX = "import sketch_hash; print(sketch_hash.xxh64_hexdigest(b'The quick brown fox jumps over the lazy dog'))"
+
+
+@pytest.fixture
+def source(need, tmp_path):
+    """A copy of the package, which is told where the library is."""
+    need("gcc", "Python.h", "python:setuptools", "python:wheel")
+    ignored = shutil.ignore_patterns("build", "*.egg-info", "tests", "examples", "__pycache__")
+    return pathlib.Path(shutil.copytree(PACKAGE, tmp_path / "source", ignore=ignored))
+
+
+def run(command, **environment):
+    environment = {**os.environ, "SKETCH_HASH_LIB_DIR": str(DIST), **environment}
+    return subprocess.run(command, env=environment, stdout=subprocess.PIPE, stderr=subprocess.STDOUT, text=True)
+
+
+def install(source, to, **environment):
+    done = run([*PIP, "--upgrade", "--target", to, source], **environment)
+    shutil.rmtree(source / "build", ignore_errors=True)
+    return done
+
+
+def test_from_an_archive_of_its_sources(source, tmp_path):
+    said = subprocess.run([sys.executable, "setup.py", "-q", "sdist"], cwd=source, env={**os.environ, "SKETCH_HASH_LIB_DIR": str(DIST)})
+    (archive,) = (source / "dist").glob("*.tar.gz")
+    assert said.returncode == 0 and run([*PIP, "--target", tmp_path / "made", archive]).returncode == 0
+    assert run([sys.executable, "-c", FOX], PYTHONPATH=str(tmp_path / "made")).stdout == "0b242d361fda71bc\n"
+
+
+def test_a_library_that_is_upgraded_is_linked_anew(source, need, tmp_path):
+    need("make")
+    prefix = tmp_path / "a prefix"
+    subprocess.run(["make", "-s", "-C", DIST, "install", f"PREFIX={prefix}"], check=True)
+    assert install(source, tmp_path / "made", SKETCH_HASH_LIB_DIR=str(prefix / "lib")).returncode == 0
+    (prefix / "lib/libsketch_hash.a").write_text("spoiled")
+    assert "libsketch_hash.a" in install(source, tmp_path / "made", SKETCH_HASH_LIB_DIR=str(prefix / "lib")).stdout
+
+
+def test_a_folder_without_the_library_is_named(source, tmp_path):
+    done = install(source, tmp_path / "made", SKETCH_HASH_LIB_DIR=str(tmp_path))
+    assert done.returncode and f"{tmp_path}/libsketch_hash.a is missing: set SKETCH_HASH_LIB_DIR" in done.stdout
+
+
+def test_stubs_fit_the_module(need, tmp_path):
+    """Each name, argument and default of the stubs is that of the module, by mypy's own comparison."""
+    need("python:mypy", "python:sketch_hash")
+    import sketch_hash
+
+    (tmp_path / "mypy.ini").write_text("[mypy]\n[mypy-sketch_hash.__main__]\nignore_errors = True\n")  # a program, without stubs
+    (tmp_path / "allowed").write_text("sketch_hash\\.__main__\\..*\nsketch_hash\\._Hash\\.intdigest\n")
+    words = ["--mypy-config-file", tmp_path / "mypy.ini", "--allowlist", tmp_path / "allowed"]
+    folder = str(pathlib.Path(sketch_hash.__file__).parents[1])
+    done = run([sys.executable, "-m", "mypy.stubtest", "sketch_hash", *words], MYPYPATH=folder, PYTHONPATH=folder)
+    assert done.returncode == 0 and "Success: no issues found" in done.stdout, done.stdout
+
+
+def test_glue_under_sanitizers(source, tmp_path):
+    """The tests again, with glue that AddressSanitizer and UndefinedBehaviorSanitizer watch."""
+    made = tmp_path / "made"
+    flags = "-fsanitize=address,undefined -fno-sanitize-recover=all -fno-omit-frame-pointer -g"
+    assert install(source, made, CFLAGS=flags, LDFLAGS=flags).returncode == 0
+    library = subprocess.check_output(["gcc", "-print-file-name=libasan.so"], text=True).strip()
+    tests = [HERE / f"test_{it}.py" for it in ("buffers", "columns", "faults", "hashes", "member")]
+    done = run([sys.executable, "-m", "pytest", "-q", "-x", "-p", "no:cacheprovider", "-p", "no:xdist", *tests], PYTHONPATH=str(made),
+               LD_PRELOAD=library, ASAN_OPTIONS="detect_leaks=0:allocator_may_return_null=1", PYTHONMALLOC="malloc")
+    assert done.returncode == 0 and re.search(r"^\d+ passed", done.stdout, re.M), done.stdout[-5000:]
+
+
+def test_objects_give_back_their_memory():
+    """A million bytes and more would be left of these, were one not given back at each turn."""
+    code = """if True:
+        import array, resource, sketch_hash as it
+        column = b"foxdog", array.array("I", [0, 3, 6])
+        def turn():
+            table = it.MemberTable(10, 3)
+            table.insert_each(column); table.contains_each(column); table.copy().merge(table)
+            it.MemberTable.from_bytes(table.to_bytes()); it.xxh64_each(column); it.xxh64(b"fox").copy().hexdigest()
+            try: table.insert("fox")
+            except TypeError: pass
+        for _ in range(2000): turn()
+        before = resource.getrusage(resource.RUSAGE_SELF).ru_maxrss
+        for _ in range(20000): turn()
+        print(resource.getrusage(resource.RUSAGE_SELF).ru_maxrss - before)"""
+    assert int(run([sys.executable, "-c", code]).stdout) < 1000  # KiB
