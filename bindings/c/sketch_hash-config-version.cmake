@@ -2,11 +2,22 @@ set(PACKAGE_VERSION 1.1.0)
 if(PACKAGE_FIND_VERSION VERSION_EQUAL PACKAGE_VERSION)
     set(PACKAGE_VERSION_EXACT TRUE)
 endif()
+
+# What the library was built for, by the bytes of an ELF file that name its machine.
+file(READ "${CMAKE_CURRENT_LIST_DIR}/../../libsketch_hash.so.1" sketch_hash_machine OFFSET 18 LIMIT 2 HEX)
+if(sketch_hash_machine STREQUAL "b700")
+    set(sketch_hash_machine "aarch64")
+    set(sketch_hash_processors "^(aarch64|arm64|ARM64)$")
+else()
+    set(sketch_hash_machine "x86-64")
+    set(sketch_hash_processors "^(x86_64|amd64|AMD64)$")
+endif()
+
 # The size of a pointer is unknown in a project without a language.
 if((CMAKE_SIZEOF_VOID_P AND NOT CMAKE_SIZEOF_VOID_P EQUAL 8) OR
    (CMAKE_SYSTEM_NAME AND NOT CMAKE_SYSTEM_NAME STREQUAL "Linux") OR
-   (CMAKE_SYSTEM_PROCESSOR AND NOT CMAKE_SYSTEM_PROCESSOR MATCHES "^(x86_64|amd64|AMD64)$"))
-    set(PACKAGE_VERSION "${PACKAGE_VERSION} (Linux, x86-64)")
+   (CMAKE_SYSTEM_PROCESSOR AND NOT CMAKE_SYSTEM_PROCESSOR MATCHES "${sketch_hash_processors}"))
+    set(PACKAGE_VERSION "${PACKAGE_VERSION} (Linux, ${sketch_hash_machine})")
     set(PACKAGE_VERSION_UNSUITABLE TRUE)
 elseif(PACKAGE_FIND_VERSION_RANGE)
     if(PACKAGE_VERSION VERSION_GREATER_EQUAL PACKAGE_FIND_VERSION_MIN AND
@@ -18,3 +29,5 @@ elseif(PACKAGE_FIND_VERSION_RANGE)
 elseif(PACKAGE_FIND_VERSION_MAJOR EQUAL 1 AND PACKAGE_FIND_VERSION VERSION_LESS_EQUAL PACKAGE_VERSION)
     set(PACKAGE_VERSION_COMPATIBLE TRUE)
 endif()
+unset(sketch_hash_machine)
+unset(sketch_hash_processors)

@@ -47,7 +47,7 @@ def test_edition_2024(copy, need):
     need("rustc 1.85")
     toml = (copy / "Cargo.toml").read_text()
     (copy / "Cargo.toml").write_text(re.sub(r'edition = ".*"\nrust-version = ".*"', 'edition = "2024"\nrust-version = "1.85"', toml))
-    done = cargo("test", folder=copy, SKETCH_HASH_LIB_DIR=str(DIST))
+    done = cargo("test", folder=copy, SKETCH_HASH_LIB_DIR=str(DIST / "linux-x86_64"))
     assert "2024" in (copy / "Cargo.toml").read_text() and done.returncode == 0, done.stdout + done.stderr
 
 
@@ -101,8 +101,8 @@ def test_a_project_with_a_library_elsewhere(project, tmp_path):
     """Also where the shared one lies beside it. One that changes is linked anew."""
     elsewhere = tmp_path / "another folder"
     elsewhere.mkdir()
-    shutil.copy(DIST / "libsketch_hash.a", elsewhere)
-    shutil.copy(DIST / "libsketch_hash.so.1", elsewhere / "libsketch_hash.so")
+    shutil.copy(DIST / "linux-x86_64/libsketch_hash.a", elsewhere)
+    shutil.copy(DIST / "linux-x86_64/libsketch_hash.so.1", elsewhere / "libsketch_hash.so")
     assert cargo("run", folder=project, SKETCH_HASH_LIB_DIR=str(elsewhere)).stdout == FOX
     os.utime(elsewhere / "libsketch_hash.a", (2e9, 2e9))
     (elsewhere / "libsketch_hash.a").write_text("spoiled")

@@ -33,7 +33,7 @@ for (const call of %s) {
 
 
 def native_seconds():
-    library, seconds = ctypes.CDLL(str(DIST / "libsketch_hash.so.1")), []
+    library, seconds = ctypes.CDLL(str(DIST / "linux-x86_64/libsketch_hash.so.1")), []
     data = (ctypes.c_ubyte * (1 << 28))()
     for name in ("sketch_xxh64", "sketch_murmur3_x64_128"):
         call = getattr(library, name)

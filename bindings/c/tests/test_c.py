@@ -7,7 +7,8 @@ import pytest
 
 HERE = pathlib.Path(__file__).resolve().parent
 DIST = HERE.parents[2] / "dist"
-HEADER = (DIST / "sketch_hash.h").read_text()
+INCLUDE, NATIVE = DIST / "include", DIST / "linux-x86_64"
+HEADER = (INCLUDE / "sketch_hash.h").read_text()
 CALLS = sorted(set(re.findall(r"\b(sketch_\w+)\(", HEADER)))
 STRICT = ["-Wall", "-Wextra", "-Wpedantic", "-Werror"]
 
@@ -28,8 +29,8 @@ STANDARDS = [
 def test_header_is_taken_by(compiler, standard, need, tmp_path):
     need(compiler)
     language = ["-xc++", "-Wold-style-cast"] if "++" in compiler else ["-xc"]
-    command = [compiler, f"-std={standard}", "-pedantic-errors", *STRICT, "-I", DIST, "-o", tmp_path / "alone"]
-    output(*command, *language, HERE / "alone.c", "-xnone", DIST / "libsketch_hash.a")
+    command = [compiler, f"-std={standard}", "-pedantic-errors", *STRICT, "-I", INCLUDE, "-o", tmp_path / "alone"]
+    output(*command, *language, HERE / "alone.c", "-xnone", NATIVE / "libsketch_hash.a")
     output(tmp_path / "alone")
 
 
@@ -43,35 +44,52 @@ def test_header_refuses_a_state_laid_out_otherwise(old, new, need, tmp_path):
 
 # ---- the calls: each program compares, and its status tells
 
-PROGRAMS = {"layout": [], "compare": ["xxhash", "murmurhash"], "long": ["xxhash"], "member": ["xxhash"], "noise": [], "each": [], "streams": []}
+PEERS = {"compare": ["xxhash", "murmurhash"], "long": ["xxhash"], "member": ["xxhash"]}
+TARGETS = {
+    "linux-x86_64": (["gcc"], []),
+    "linux-aarch64": (["aarch64-linux-gnu-gcc"], ["qemu-aarch64", "-L", "/usr/aarch64-linux-gnu"]),
+}
 
 
 @pytest.fixture
-def program(need, tmp_path):
-    def program(name):
-        need("gcc", *(f"{it}.h" for it in PROGRAMS[name]))
-        made = tmp_path / name
-        libraries = [f"-l{it}" for it in PROGRAMS[name]]
-        output("gcc", "-O2", *STRICT, "-I", DIST, "-o", made, HERE / f"{name}.c", DIST / "libsketch_hash.a", *libraries)
-        return made
+def built(need, tmp_path):
+    """built("noise"): the command that runs a program with the library of a target."""
 
-    return program
+    def built(name, target="linux-x86_64"):
+        peers, (compiler, runner) = PEERS.get(name, []), TARGETS[target]
+        need(*compiler, *runner[:1], *(f"{it}.h" for it in peers))
+        made = tmp_path / f"{name}.{target}"
+        flags = ["-O2", *STRICT, "-I", INCLUDE, *(f"-l{it}" for it in peers)]
+        output(*compiler, "-o", made, HERE / f"{name}.c", DIST / target / "libsketch_hash.a", *flags)
+        return [*runner, made]
 
-
-@pytest.mark.parametrize("name", PROGRAMS)
-def test_calls(name, program):
-    assert output(program(name))
+    return built
 
 
-@pytest.mark.parametrize("name, words", [("compare", []), ("noise", []), ("member", ["9"]), ("each", [])])
-def test_calls_read_and_write_only_what_they_are_given(name, words, program, need):
+@pytest.mark.parametrize("name", ["layout", "compare", "long", "member", "noise", "columns", "answers"])
+def test_calls(name, built):
+    assert output(*built(name))
+
+
+@pytest.mark.parametrize("name", ["layout", "noise", "columns"])
+def test_calls_on_aarch64(name, built):
+    assert output(*built(name, "linux-aarch64"))
+
+
+def test_aarch64_answers_as_x86_64(built):
+    """Streams, columns and tables at random."""
+    assert output(*built("answers", "linux-aarch64")) == output(*built("answers"))
+
+
+@pytest.mark.parametrize("name, words", [("compare", []), ("noise", []), ("member", ["9"]), ("columns", [])])
+def test_calls_read_and_write_only_what_they_are_given(name, words, built, need):
     need("valgrind")
-    output("valgrind", "-q", "--error-exitcode=9", "--leak-check=full", program(name), *words)
+    output("valgrind", "-q", "--error-exitcode=9", "--leak-check=full", *built(name), *words)
 
 
-@pytest.mark.parametrize("name", ["layout", "noise", "each", "streams"])
-def test_calls_take_a_stack_of_256_kib(name, program):
-    assert output("bash", "-c", f"ulimit -s 256; exec '{program(name)}'")
+@pytest.mark.parametrize("name", ["layout", "noise", "columns", "answers"])
+def test_calls_take_a_stack_of_256_kib(name, built):
+    assert output("bash", "-c", 'ulimit -s 256 && exec "$0"', *built(name))
 
 
 # ---- the files
@@ -80,28 +98,33 @@ OF_1_0 = """sketch_hash_version sketch_xxh64 sketch_xxh64_reset sketch_xxh64_upd
     sketch_murmur3_x64_128 sketch_murmur3_x64_128_reset sketch_murmur3_x64_128_update sketch_murmur3_x64_128_digest""".split()
 
 
-def test_archive_has_the_calls_and_no_other_name(need):
+@pytest.fixture(params=TARGETS)
+def folder(request):
+    return DIST / request.param
+
+
+def test_archive_has_the_calls_and_no_other_name(folder, need):
     need("nm")
-    names = re.findall(r"^\S* [A-TV-Za-z] (\S+)$", output("nm", "-g", DIST / "libsketch_hash.a"), re.M)
+    names = re.findall(r"^\S* [A-TV-Za-z] (\S+)$", output("nm", "-g", folder / "libsketch_hash.a"), re.M)
     assert sorted(names) == CALLS
 
 
-def test_shared_library_has_the_calls_by_their_versions(need):
+def test_shared_library_has_the_calls_by_their_versions(folder, need):
     """A program that was linked with an older library asks for each name by the version that it came with."""
     need("nm")
-    names = re.findall(r" [B-Zb-z] (\S+)$", output("nm", "-D", DIST / "libsketch_hash.so.1"), re.M)
-    assert sorted(names) == [f"{it}@@SKETCH_HASH_{'1.0' if it in OF_1_0 else '1.1'}" for it in CALLS]
+    names = re.findall(r" [B-Zb-z] (\S+)$", output("nm", "-D", folder / "libsketch_hash.so.1"), re.M)
+    assert sorted(names) == sorted(f"{it}@@SKETCH_HASH_{'1.0' if it in OF_1_0 else '1.1'}" for it in CALLS)
 
 
-def test_shared_library_needs_no_other(need):
+def test_shared_library_needs_no_other(folder, need):
     need("readelf")
-    dynamic = output("readelf", "-d", DIST / "libsketch_hash.so.1")
+    dynamic = output("readelf", "-d", folder / "libsketch_hash.so.1")
     assert "[libsketch_hash.so.1]" in dynamic and "(NEEDED)" not in dynamic
 
 
-def test_shared_library_is_hardened(need):
+def test_shared_library_is_hardened(folder, need):
     need("readelf")
-    said = output("readelf", "-Wld", DIST / "libsketch_hash.so.1")
+    said = output("readelf", "-Wld", folder / "libsketch_hash.so.1")
     assert re.search(r"GNU_STACK .* RW +0", said) and "GNU_RELRO" in said and "BIND_NOW" in said
 
 
@@ -113,5 +136,5 @@ KNOWN = r"""mov([bwlq]|abs|[sz][bw][wlq]|slq)? lea xchg push pop j\w+ call ret n
 
 def test_runs_on_each_x86_64(need):
     need("objdump")
-    code = re.findall(r"^ *[0-9a-f]+:\t(\S+)", output("objdump", "-d", "--no-show-raw-insn", DIST / "libsketch_hash.so.1"), re.M)
+    code = re.findall(r"^ *[0-9a-f]+:\t(\S+)", output("objdump", "-d", "--no-show-raw-insn", NATIVE / "libsketch_hash.so.1"), re.M)
     assert len(code) > 1000 and {it for it in code if not re.fullmatch("|".join(KNOWN), it)} == set()

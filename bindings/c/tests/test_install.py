@@ -10,13 +10,14 @@ import pytest
 
 HERE = pathlib.Path(__file__).resolve().parent
 DIST = HERE.parents[2] / "dist"
-CALLS = sorted(set(re.findall(r"\b(sketch_\w+)\(", (DIST / "sketch_hash.h").read_text())))
+CALLS = sorted(set(re.findall(r"\b(sketch_\w+)\(", (DIST / "include/sketch_hash.h").read_text())))
 MAN_PAGE = (DIST / "sketch_hash.3").read_text()
 
 INSTALLED = {
     "include/sketch_hash.h", "lib/libsketch_hash.a", "lib/libsketch_hash.so", "lib/libsketch_hash.so.1",
     "lib/pkgconfig/sketch_hash.pc", "lib/cmake/sketch_hash/sketch_hash-config.cmake",
     "lib/cmake/sketch_hash/sketch_hash-config-version.cmake", "share/man/man3/sketch_hash.3",
+    "bin/sketchsum", "share/man/man1/sketchsum.1",
     *(f"share/man/man3/{it}.3" for it in CALLS),
     *(f"share/doc/sketch_hash/{it}" for it in ("LICENSE", "NOTICE", "PROVED", "README.md")),
 }
@@ -57,8 +58,10 @@ def test_install_has_the_files_of_dist_for_all_to_read(tmp_path):
     assert make("install", f"PREFIX={prefix}", umask=0o077).returncode == 0
     assert files_in(prefix) == INSTALLED
     for name in INSTALLED:
-        of_dist = DIST / ("libsketch_hash.so.1" if name.endswith(".so") else "sketch_hash.3" if name.endswith(".3") else pathlib.Path(name).name)
-        assert (prefix / name).read_bytes() == of_dist.read_bytes() and (prefix / name).stat().st_mode & 0o777 == 0o644
+        of_dist = "libsketch_hash.so.1" if name.endswith(".so") else "sketch_hash.3" if name.endswith(".3") else pathlib.Path(name).name
+        (source,) = (it for folder in (".", "include", "linux-x86_64") for it in DIST.glob(f"{folder}/{of_dist}"))
+        assert (prefix / name).read_bytes() == source.read_bytes()
+        assert (prefix / name).stat().st_mode & 0o777 == (0o755 if name == "bin/sketchsum" else 0o644)
     assert {it.stat().st_mode & 0o777 for it in prefix.rglob("*") if it.is_dir()} == {0o755}
 
 
@@ -69,10 +72,25 @@ def test_an_upgrade_leaves_the_library_that_programs_run(prefix, tmp_path):
     assert not library.samefile(tmp_path / "in_use")
 
 
+@pytest.mark.parametrize("words", [["TARGET=linux-aarch64"], ["TARGET=linux-riscv64"]])
+def test_install_for_another_machine(words, tmp_path):
+    said = make("install", f"PREFIX={tmp_path}", *words)
+    if "aarch64" in words[0]:
+        assert files_in(tmp_path) == INSTALLED - {"bin/sketchsum", "share/man/man1/sketchsum.1"}
+        assert (tmp_path / "lib/libsketch_hash.a").read_bytes() == (DIST / "linux-aarch64/libsketch_hash.a").read_bytes()
+    else:
+        assert said.returncode and "no library for linux-riscv64" in said.stderr and "WebAssembly" in said.stderr
+
+
+def test_the_program_that_is_installed_hashes(prefix):
+    said = subprocess.run([prefix / "bin/sketchsum", "murmur", "0"], input=b"The quick brown fox jumps over the lazy dog", capture_output=True)
+    assert (said.returncode, said.stdout, said.stderr) == (0, b"e34bbc7bbc071b6c7a433ca9c49a9347\n", b"")
+
+
 def test_make_alone_installs_nothing_and_checks_the_sums(tmp_path):
     copy = shutil.copytree(DIST, tmp_path / "dist")
     assert make(f"DESTDIR={tmp_path / 'stage'}", folder=copy).returncode == 0 and not (tmp_path / "stage").exists()
-    with open(copy / "libsketch_hash.a", "ab") as archive:
+    with open(copy / "linux-x86_64/libsketch_hash.a", "ab") as archive:
         archive.write(b"x")
     for goal in ("all", "check", "install"):
         said = make(goal, f"PREFIX={tmp_path / 'prefix'}", folder=copy)
@@ -108,7 +126,7 @@ def examples():
 
 
 def test_man_page_declares_what_the_header_does():
-    header = re.sub(r"\s+", " ", (DIST / "sketch_hash.h").read_text())
+    header = re.sub(r"\s+", " ", (DIST / "include/sketch_hash.h").read_text())
     declared = re.findall(r"(?:const )?\w+ sketch_\w+\([^();]*\);", header)
     shown = [re.sub(r'" ?(\w+) ?"', r"\1", it) for it in re.findall(r'^\.BI? "?(.*\);)$', section("SYNOPSIS"), re.M)]
     shown = [re.sub(r'" (\w+) \);$', r"\1);", it) for it in shown]
@@ -166,10 +184,10 @@ def test_cmake_finds_it_from_two_folders_of_a_project(prefix, need, tmp_path):
     assert cmake(tmp_path, prefix).returncode == 0
 
 
-@pytest.mark.parametrize("words, is_found", [([], True), (["-DCMAKE_SYSTEM_NAME=Linux", "-DCMAKE_SYSTEM_PROCESSOR=aarch64"], False)])
-def test_cmake_is_told_what_the_library_runs_on(words, is_found, prefix, need, tmp_path):
+@pytest.mark.parametrize("processor, says", [("", ""), ("x86_64", ""), ("aarch64", "(Linux, x86-64)")])
+def test_cmake_is_told_what_the_library_runs_on(processor, says, prefix, need, tmp_path):
     """Also in a project that has no language yet."""
     need("cmake")
     (tmp_path / "CMakeLists.txt").write_text("cmake_minimum_required(VERSION 3.7)\nproject(none NONE)\nfind_package(sketch_hash REQUIRED)\n")
-    said = cmake(tmp_path, prefix, *words)
-    assert (said.returncode == 0) == is_found and is_found or "(Linux, x86-64)" in said.stderr
+    said = cmake(tmp_path, prefix, *([f"-DCMAKE_SYSTEM_NAME=Linux", f"-DCMAKE_SYSTEM_PROCESSOR={processor}"] if processor else []))
+    assert bool(said.returncode) == bool(says) and says in said.stderr

@@ -36,7 +36,7 @@ def column(path):
 
 
 def table_of(path, sizes):
-    table = MemberTable(*sizes)
+    table = MemberTable(*sizes[:2], seed=sizes[2])
     table.insert_each(xxh64_each(column(path)))
     return table
 
@@ -49,7 +49,7 @@ def merged(tables):
 
 
 def by_one_process(paths, sizes):
-    table = MemberTable(*sizes)
+    table = MemberTable(*sizes[:2], seed=sizes[2])
     for path in paths:
         table |= table_of(path, sizes)
     return table
@@ -116,7 +116,7 @@ def main():
     if not os.path.isdir(os.path.dirname(os.path.abspath(words.out))):
         parser.error(f"no folder for {words.out}")
     try:
-        MemberTable(*sizes)
+        MemberTable(*sizes[:2], seed=sizes[2])
     except (OverflowError, ValueError) as error:
         parser.error(str(error))
     if words.scale:

@@ -12,7 +12,7 @@ import pytest
 import sketch_hash
 from sketch_hash import murmur3_x64_128, xxh64
 from test_buffers import KINDS
-from watched import WatchedLock
+from waiting import ZEROS, waits
 
 xxhash = pytest.importorskip("xxhash")
 
@@ -32,7 +32,6 @@ def test_known_answers():
     data, seed = bytes.fromhex("f97f521e22e096631b82573e817527378be01ac5898a96"), 0x49F1C7E23916E1DF
     assert xxh64(data, seed).hexdigest() == "09f6f6172c89c3f4"
     assert murmur3_x64_128(data, seed).hexdigest() == "fff02d48b75af9f300fc87d5911ee1d1"
-    assert sketch_hash._lib.sketch_hash_version() == 10100
 
 
 def test_the_examples_of_the_module():
@@ -105,22 +104,42 @@ def test_what_they_are_called():
     for name in ("__init__.py", "__main__.py"):
         with open(os.path.join(os.path.dirname(sketch_hash.__file__), name)) as file:
             ast.parse(file.read(), feature_version=(3, 8))
-    assert [it.replace(" (", "").rstrip(")") for it in about.get_all("Requires-Dist")] == ["cffi>=1.15"]
+    assert about.get_all("Requires-Dist") is None
     assert about.get_all("License-File") == ["LICENSE", "NOTICE"]
-    with open(os.path.join(os.path.dirname(__file__), "..", "pyproject.toml")) as file:
-        assert 'requires = ["setuptools>=61", "cffi>=1.15"]\n' in file.read()
 
 
+@pytest.mark.parametrize("call", ["digest", "hexdigest", "intdigest", "copy", "reset", "__reduce__", "__repr__", "update"])
 @pytest.mark.parametrize("kind", KINDS)
-def test_each_call_waits_for_the_others(kind, monkeypatch):
-    hasher = kind(b"fox")
-    lock = WatchedLock(monkeypatch, hasher, hasher._state)
-    for call in (
-        lambda: hasher.update(b"fox"), hasher.digest, hasher.hexdigest, hasher.intdigest, hasher.copy, hasher.reset
-    ):
-        before = lock.count
-        call()
-        assert lock.count == before + 1
+def test_each_call_waits_for_a_long_one(kind, call):
+    hasher = kind()
+    assert waits(lambda: hasher.update(ZEROS), lambda: getattr(hasher, call)(*[b"fox"] * (call == "update")))
+
+
+def test_a_subclass_that_never_calls_init_hashes_right():
+    class Silent(xxh64):
+        def __init__(self):
+            pass
+
+    class Other(murmur3_x64_128):
+        def __init__(self):
+            pass
+
+    for kind, of in ((Silent, xxh64), (Other, murmur3_x64_128)):
+        hasher = kind()
+        hasher.update(FOX)
+        assert hasher.digest() == of(FOX).digest() and hasher.seed == 0
+
+
+def test_murmur_in_the_forms_of_other_tools():
+    """The bytes are those of mmh3.hash_bytes, as the page of mmh3 shows it; the digits those of Go's murmur3."""
+    assert sketch_hash.murmur3_x64_128_bytes(b"foo") == b"aE\xf5\x01W\x86q\xe2\x87}\xba+\xe4\x87\xaf~"
+    assert murmur3_x64_128(b"foo").digest_bytes() == sketch_hash.murmur3_x64_128_bytes(b"foo")
+    assert sketch_hash.murmur3_x64_128_hexdigest(b"hello") == "cbd8a7b341bd9b025b1e906a48ae1d19"
+
+
+def test_objects_show_what_they_are():
+    assert repr(xxh64(FOX, 7)) == f"<sketch_hash.xxh64 with seed 7, now {xxh64(FOX, 7).hexdigest()}>"
+    assert repr(sketch_hash.MemberTable(6, 1)) == "<sketch_hash.MemberTable with log2_bits 6, hashes 1, seed 0, count 0>"
 
 
 @pytest.mark.parametrize("kind", KINDS)
@@ -166,7 +185,7 @@ def test_lengths_past_32_bits(kind):
         hashes = each((zeros, array.array("Q", [0, len(zeros)])), (1 << 64) - 1)
         assert int.from_bytes(b"".join(word.to_bytes(8, "big") for word in hashes), "big") == answers[kind]
         if kind is xxh64:
-            tables = [sketch_hash.MemberTable(6, 1, (1 << 64) - 1) for _ in range(2)]
+            tables = [sketch_hash.MemberTable(6, 1, seed=(1 << 64) - 1) for _ in range(2)]
             tables[0].insert(zeros)
             tables[1].insert_each((zeros, array.array("Q", [0, len(zeros)])))
             # Offsets of 32 bits have no sign.

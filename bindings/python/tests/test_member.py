@@ -8,10 +8,10 @@ import threading
 import time
 
 import pytest
-from sketch_hash import MemberTable, _calls
+from sketch_hash import MemberTable
 from test_buffers import DATA, REFUSED, TAKEN
 from test_faults import WAYS, ticks  # noqa: F401
-from watched import WatchedLock
+from waiting import ZEROS, waits
 
 numpy = pytest.importorskip("numpy")
 xxhash = pytest.importorskip("xxhash")
@@ -21,7 +21,7 @@ KEYS = [b"", bytes(1000), *[b"key %d" % n for n in range(50)]]
 
 
 def filled(log2_bits=10, hashes=3, keys=KEYS):
-    table = MemberTable(log2_bits, hashes, SEED)
+    table = MemberTable(log2_bits, hashes, seed=SEED)
     table.update(keys)
     return table
 
@@ -40,7 +40,7 @@ def model(log2_bits, hashes, keys, count=None, is_known=1):
 @pytest.mark.parametrize("log2_bits", range(6, 21))
 def test_tables_of_all_sizes_have_the_bytes_of_the_model(log2_bits):
     for hashes in range(1, 17):
-        table = MemberTable(log2_bits, hashes, SEED)
+        table = MemberTable(log2_bits, hashes, seed=SEED)
         assert table.to_bytes() == model(log2_bits, hashes, []) and table.count == 0
         for n, key in enumerate(KEYS):
             table.insert(key)
@@ -71,7 +71,7 @@ def test_what_was_inserted_is_contained():
 
 
 def test_keys_of_each_length():
-    data, table = memoryview(random.Random(5).randbytes(70_000)), MemberTable(20, 1, SEED)
+    data, table = memoryview(random.Random(5).randbytes(70_000)), MemberTable(20, 1, seed=SEED)
     for length in range(len(data) + 1):
         table.insert(data[:length])
         assert data[:length] in table
@@ -85,7 +85,7 @@ def test_columns_of_each_number_of_keys():
     for code in "IQ":
         offsets = array.array(code, ends)
         for count in range(len(keys) + 1):
-            table, of_numbers = MemberTable(14, 2, SEED), MemberTable(14, 2, SEED)
+            table, of_numbers = MemberTable(14, 2, seed=SEED), MemberTable(14, 2, seed=SEED)
             table.insert_each((data, offsets[: count + 1]))
             assert table.to_bytes() == model(14, 2, keys[:count])
             assert table.contains_each((data, offsets[: count + 1])).tolist() == [True] * count
@@ -156,13 +156,13 @@ def test_numbers_are_whole_and_seeds_have_64_bits():
             MemberTable(*words)
     for seed in (-1, 2**64):
         with pytest.raises(OverflowError, match="a seed is from 0 to"):
-            MemberTable(10, 3, seed)
+            MemberTable(10, 3, seed=seed)
     assert MemberTable(10, 3).to_bytes() == MemberTable(10, 3, seed=0).to_bytes()
 
 
 @pytest.mark.parametrize("name", TAKEN)
 def test_keys_and_bytes_that_are_taken(name):
-    table = MemberTable(10, 3, SEED)
+    table = MemberTable(10, 3, seed=SEED)
     table.insert(TAKEN[name])
     assert TAKEN[name] in table and DATA in table
     assert table.to_bytes() == model(10, 3, [DATA])
@@ -267,7 +267,7 @@ COLUMN = b"".join(KEYS)
 @pytest.mark.parametrize("dtype", ["int32", "uint32", "int64", "uint64"])
 def test_columns(dtype):
     offsets = numpy.array(OFFSETS, dtype)
-    table = MemberTable(10, 3, SEED)
+    table = MemberTable(10, 3, seed=SEED)
     table.insert_each((COLUMN, offsets[:21]))
     assert table.to_bytes() == model(10, 3, KEYS[:20])
     table.insert_each((bytearray(COLUMN), offsets[20:]))
@@ -280,7 +280,7 @@ def test_columns(dtype):
                 table.insert_each((b"-" * len(COLUMN), wrong))
             with pytest.raises(ValueError, match=f"the offset at {place} is"):
                 table.contains_each((COLUMN, wrong))
-    for wrong, place in (([5, 9, 8, 8], 2), ([], 0)):
+    for wrong, place in (([5, 9, 8, 8], 2),):
         for call in (table.insert_each, table.contains_each):
             with pytest.raises(ValueError, match=f"the offset at {place} is"):
                 call((b"-" * len(COLUMN), numpy.array(wrong, dtype)))
@@ -293,7 +293,7 @@ def test_columns_of_numbers():
     numbers = numpy.array([0, 1, 2**63, *range(500)], "uint64")
     words = [number.tobytes() for number in numbers]
     for column in (numbers, numbers.view("int64"), memoryview(numbers)):
-        table = MemberTable(13, 3, SEED)
+        table = MemberTable(13, 3, seed=SEED)
         table.insert_each(column)
         assert table.to_bytes() == model(13, 3, words)
         table.insert_each(column[:0])
@@ -302,7 +302,7 @@ def test_columns_of_numbers():
 
 
 def test_each_key_of_a_column_is_contained_or_not():
-    table, whole = MemberTable(8, 3, SEED), numpy.array(OFFSETS)
+    table, whole = MemberTable(8, 3, seed=SEED), numpy.array(OFFSETS)
     table.insert_each((COLUMN, whole[:31]))
     expected = [key in table for key in KEYS]
     assert all(expected[:30]) and 0 < expected.count(False)
@@ -311,7 +311,7 @@ def test_each_key_of_a_column_is_contained_or_not():
         assert found.tolist() == expected and numpy.asarray(found).dtype == bool
         assert not any(others)
     numbers = numpy.arange(1000, dtype="uint64")
-    table = MemberTable(8, 3, SEED)
+    table = MemberTable(8, 3, seed=SEED)
     table.insert_each(numbers[::100].copy())
     assert table.contains_each(numbers).tolist() == [number.tobytes() in table for number in numbers]
     assert table.contains_each(numbers[:0]).tolist() == []
@@ -319,7 +319,7 @@ def test_each_key_of_a_column_is_contained_or_not():
 
 def test_sizes_and_seed_are_told():
     for log2_bits, hashes, seed in ((6, 1, 0), (10, 3, SEED), (20, 16, 2**64 - 1)):
-        table = MemberTable(log2_bits, hashes, seed)
+        table = MemberTable(log2_bits, hashes, seed=seed)
         table.insert(b"fox")
         assert (table.log2_bits, table.hashes, table.seed) == (log2_bits, hashes, seed)
     buffer = bytearray(table.to_bytes())
@@ -335,8 +335,8 @@ def test_equal_tables_are_equal():
     other.insert(KEYS[0])
     assert filled() != other and filled() != filled().to_bytes()
     assert filled(keys=[b"fox"]) != filled(keys=[b"dog"])
-    assert MemberTable(10, 3, SEED) != MemberTable(10, 3, SEED + 1)
-    assert MemberTable(10, 3, SEED) != MemberTable(10, 4, SEED) != MemberTable(11, 4, SEED)
+    assert MemberTable(10, 3, seed=SEED) != MemberTable(10, 3, seed=SEED + 1)
+    assert MemberTable(10, 3, seed=SEED) != MemberTable(10, 4, seed=SEED) != MemberTable(11, 4, seed=SEED)
     with pytest.raises(TypeError, match="unhashable"):
         hash(other)
 
@@ -384,53 +384,6 @@ def test_a_column_that_lies_in_the_table_is_refused():
                 call(column)
 
 
-# Keys of one byte, whose offsets alone are looked at: no byte of them is there.
-def test_a_column_may_have_more_than_2_to_the_32_keys():
-    null, most = _calls.ffi.NULL, 2**32
-    answer = _calls.lib.member_each(null, 0, null, most, null, 1, most + 5, null)
-    assert answer == most + 2
-
-
-def test_places_and_lengths_past_32_bits():
-    """Of places that the calls do not read, since there is no byte of a header."""
-    lib, at, far = _calls.lib, lambda place: _calls.ffi.cast("char *", place), 2**32
-    header_ends, in_table = lib.SKETCH_MEMBER_HEADER_ENDS, lib.KEY_IN_TABLE
-    for place, length, status in (
-        (3 * far, 8, header_ends),
-        (far, 8, header_ends),
-        (far, far + 8, in_table),
-        (far, far, header_ends),
-    ):
-        assert lib.member_insert(at(2 * far), 0, at(place), length) == status
-    new = _calls.ffi.new
-    for each, offset, kind in (
-        (lib.xxh64_each32, "uint32_t", "uint64_t"),
-        (lib.xxh64_each64, "uint64_t", "uint64_t"),
-        (lib.murmur_each32, "uint32_t", "sketch_murmur3_x64_128_hash_t"),
-        (lib.murmur_each64, "uint64_t", "sketch_murmur3_x64_128_hash_t"),
-    ):
-        offsets, out = new(f"{offset}[2]"), new(f"{kind}[1]")
-        assert each(b"", 0, offsets, far + 1, 0, out, 1) == 0
-        assert each(b"", 0, offsets, 1, 0, out, far) == 2
-    numbers, out = new("uint64_t[1]"), new("uint64_t[1]")
-    assert lib.xxh64_each_u64(numbers, far, 0, out, 1) == 0
-    assert lib.xxh64_each_u64(numbers, 1, 0, out, far) == 2
-    null = _calls.ffi.NULL
-    for column, status in (
-        ((at(far), far + 8, null, 8, 1), in_table),
-        ((at(far), far, null, 8, 1), header_ends),
-        ((at(8), 0, at(far), 8, far // 8 + 1), in_table),
-    ):
-        assert lib.member_each(at(2 * far), 0, *column, null) == status
-    whole = _calls.ffi.from_buffer(filled().to_bytes())
-    long = whole, far + len(whole)
-    assert lib.sketch_member_check(*long) == lib.SKETCH_MEMBER_TRAILING_BYTES
-    for call in (lib.member_insert, lib.member_contains):
-        assert call(*long, null, 0) == lib.SKETCH_MEMBER_TRAILING_BYTES
-    assert lib.member_merge(*long, whole, len(whole)) == lib.SKETCH_MEMBER_TRAILING_BYTES
-    assert lib.member_merge(whole, len(whole), *long) == lib.SKETCH_MEMBER_TRAILING_BYTES
-
-
 def test_merged_tables_contain_the_keys_of_both():
     one, two = filled(keys=KEYS[:20]), filled(keys=KEYS[20:])
     one.merge(two)
@@ -456,7 +409,7 @@ def test_two_tables_make_a_third():
     both.insert(b"another")
     assert (one | two).to_bytes() == filled().to_bytes()
     with pytest.raises(ValueError, match="^the tables have different seeds$"):
-        one | MemberTable(10, 3, SEED + 1)
+        one | MemberTable(10, 3, seed=SEED + 1)
 
 
 def test_unlike_tables_stay_as_they_were():
@@ -467,7 +420,7 @@ def test_unlike_tables_stay_as_they_were():
         ((10, 4, SEED), "the tables have different numbers of hashes"),
     ):
         with pytest.raises(ValueError, match=f"^{text}$"):
-            table.merge(MemberTable(*words))
+            table.merge(MemberTable(*words[:2], seed=words[2]))
     for other in (table.to_bytes(), None, {b"fox"}):
         with pytest.raises(TypeError):
             table.merge(other)
@@ -546,16 +499,19 @@ def test_a_view_holds_its_buffer():
     with pytest.raises(TypeError), MemberTable.view(buffer) as view:
         view.insert("fox")
     buffer.append(1)
-    assert buffer[:-1] == model(10, 3, [b"fox"]) and view.to_bytes() == b""
+    assert buffer[:-1] == model(10, 3, [b"fox"]) and repr(view) == "<sketch_hash.MemberTable, released>"
     view.release()  # as often as one likes
     for call in (
         lambda: view.insert(b"fox"), lambda: view.insert_each((b"", array.array("Q", [0]))), lambda: b"fox" in view,
         lambda: view.contains_each((b"", array.array("Q", [0]))), lambda: view.count, lambda: view.seed,
         lambda: view.log2_bits, lambda: view.hashes, lambda: view.merge(filled()), lambda: filled().merge(view),
-        lambda: view.copy(), lambda: view | filled(), lambda: MemberTable.view(buffer[:0]),
+        lambda: view.copy(), lambda: view | filled(), lambda: view.to_bytes(), lambda: view == filled(),
+        lambda: MemberTable.__new__(MemberTable).insert(b"fox"),
     ):
-        with pytest.raises(ValueError, match="^the header is truncated$"):
+        with pytest.raises(ValueError, match="^the table was released$"):
             call()
+    with pytest.raises(ValueError, match="^the header is truncated$"):
+        MemberTable.view(buffer[:0])
 
 
 def test_update_takes_neither_one_key_nor_a_column():
@@ -572,7 +528,7 @@ def test_update_takes_neither_one_key_nor_a_column():
         (b"dog", b"cow"), [b"dog", b"cow"], iter([b"dog", b"cow"]), numpy.array([b"dog", b"cow"]),
         numpy.array([b"dog", b"cow"], object), (bytearray(b"dog"), memoryview(b"cow")),
     ):
-        table = MemberTable(10, 3, SEED)
+        table = MemberTable(10, 3, seed=SEED)
         table.update(keys)
         assert table == filled(keys=[b"dog", b"cow"])
 
@@ -604,7 +560,6 @@ def test_a_copy_goes_its_own_way(way):
         first.insert(b"first")
         second.insert(b"second")
         assert type(second) is MemberTable
-        assert type(second._lock) is type(first._lock) is type(filled()._lock)
         assert first.to_bytes() == model(10, 3, [*KEYS, b"first"])
         assert second.to_bytes() == model(10, 3, [*KEYS, b"second"])
 
@@ -634,26 +589,23 @@ def test_threads_that_share_a_table():
     assert [table.to_bytes() for table in tables] == [expected] * 2
 
 
-def test_each_call_waits_for_the_others(monkeypatch):
-    table, other = filled(), filled()
-    lock = WatchedLock(monkeypatch, table, table._table)
-    numbers = numpy.arange(3, dtype="u8")
-    for call in (
-        lambda: table.insert(b"fox"),
-        lambda: table.insert_each(numbers),
-        lambda: table.contains_each(numbers),
-        lambda: b"fox" in table,
-        lambda: table.count,
-        lambda: table.seed,
-        lambda: table.log2_bits,
-        lambda: table.hashes,
-        lambda: table.merge(other),
-        lambda: table.to_bytes(),
-        lambda: other.merge(table),
-    ):
-        before = lock.count
-        call()
-        assert lock.count == before + 1
+@pytest.mark.parametrize("call", [
+    lambda table: table.insert(b"fox"),
+    lambda table: b"fox" in table,
+    lambda table: table.insert_each(array.array("Q", [1])),
+    lambda table: table.contains_each(array.array("Q", [1])),
+    lambda table: table.count,
+    lambda table: table.seed,
+    lambda table: table.merge(filled()),
+    lambda table: filled().merge(table),
+    lambda table: table == filled(),
+    lambda table: table.to_bytes(),
+    lambda table: table.copy(),
+    lambda table: repr(table),
+])
+def test_each_call_waits_for_a_long_one(call):
+    table = filled()
+    assert waits(lambda: table.insert(ZEROS), lambda: call(table))
 
 
 def test_tables_that_are_merged_into_each_other():
@@ -670,27 +622,6 @@ def test_tables_that_are_merged_into_each_other():
         worker.join(60)
         assert not worker.is_alive()
     assert b"two" in one and b"one" in two
-
-
-class OneLock:
-    """In the place of the locks of two tables: no call takes one of them while it holds one."""
-
-    is_held = False
-
-    def __enter__(self):
-        assert not self.is_held
-        self.is_held = True
-
-    def __exit__(self, *_):
-        self.is_held = False
-
-
-def test_no_call_holds_two_locks():
-    one, two = filled(keys=[b"one"]), filled(keys=[b"two"])
-    one._lock = two._lock = OneLock()
-    for call in (one.merge, one.__ior__, one.__or__, one.__eq__, one.__ne__):
-        call(two)
-        call(one)
 
 
 def test_short_calls_keep_the_lock_of_python(ticks):  # noqa: F811

@@ -24,7 +24,7 @@ def source(need, tmp_path):
 
 
 def run(command, **environment):
-    environment = {**os.environ, "SKETCH_HASH_LIB_DIR": str(DIST), **environment}
+    environment = {**os.environ, "SKETCH_HASH_LIB_DIR": str(DIST / "linux-x86_64"), **environment}
     return subprocess.run(command, env=environment, stdout=subprocess.PIPE, stderr=subprocess.STDOUT, text=True)
 
 
@@ -35,7 +35,7 @@ def install(source, to, **environment):
 
 
 def test_from_an_archive_of_its_sources(source, tmp_path):
-    said = subprocess.run([sys.executable, "setup.py", "-q", "sdist"], cwd=source, env={**os.environ, "SKETCH_HASH_LIB_DIR": str(DIST)})
+    said = subprocess.run([sys.executable, "setup.py", "-q", "sdist"], cwd=source, env={**os.environ, "SKETCH_HASH_LIB_DIR": str(DIST / "linux-x86_64")})
     (archive,) = (source / "dist").glob("*.tar.gz")
     assert said.returncode == 0 and run([*PIP, "--target", tmp_path / "made", archive]).returncode == 0
     assert run([sys.executable, "-c", FOX], PYTHONPATH=str(tmp_path / "made")).stdout == "0b242d361fda71bc\n"
@@ -61,7 +61,7 @@ def test_stubs_fit_the_module(need, tmp_path):
     import sketch_hash
 
     (tmp_path / "mypy.ini").write_text("[mypy]\n[mypy-sketch_hash.__main__]\nignore_errors = True\n")  # a program, without stubs
-    (tmp_path / "allowed").write_text("sketch_hash\\.__main__\\..*\nsketch_hash\\._Hash\\.intdigest\n")
+    (tmp_path / "allowed").write_text("sketch_hash\\.__main__\\..*\n")
     words = ["--mypy-config-file", tmp_path / "mypy.ini", "--allowlist", tmp_path / "allowed"]
     folder = str(pathlib.Path(sketch_hash.__file__).parents[1])
     done = run([sys.executable, "-m", "mypy.stubtest", "sketch_hash", *words], MYPYPATH=folder, PYTHONPATH=folder)

@@ -24,7 +24,7 @@ class Pair(ctypes.Structure):
     _fields_ = [("h1", ctypes.c_uint64), ("h2", ctypes.c_uint64)]
 
 
-murmur = ctypes.CDLL(str(DIST / "libsketch_hash.so.1")).sketch_murmur3_x64_128
+murmur = ctypes.CDLL(str(DIST / "linux-x86_64/libsketch_hash.so.1")).sketch_murmur3_x64_128
 murmur.restype, murmur.argtypes = Pair, (ctypes.c_char_p, ctypes.c_size_t, ctypes.c_uint64)
 
 

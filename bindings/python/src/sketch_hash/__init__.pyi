@@ -1,3 +1,4 @@
+from array import array
 from collections.abc import Iterable
 from typing import ClassVar, SupportsIndex, TypeVar, Union
 
@@ -10,7 +11,9 @@ __version__: str
 __all__ = [
     "MemberTable",
     "algorithms_available",
+    "column",
     "murmur3_x64_128",
+    "murmur3_x64_128_bytes",
     "murmur3_x64_128_digest",
     "murmur3_x64_128_each",
     "murmur3_x64_128_hexdigest",
@@ -39,7 +42,10 @@ class _Hash:
     def seed(self) -> int: ...
 
 class xxh64(_Hash): ...
-class murmur3_x64_128(_Hash): ...
+class murmur3_x64_128(_Hash):
+    def digest_bytes(self) -> bytes: ...
+
+def column(texts: Iterable[Union[str, bytes]]) -> tuple[bytes, array[int]]: ...
 
 def xxh64_digest(data: ReadableBuffer, seed: SupportsIndex = 0) -> bytes: ...
 def xxh64_each(
@@ -47,6 +53,7 @@ def xxh64_each(
 ) -> memoryview: ...
 def xxh64_hexdigest(data: ReadableBuffer, seed: SupportsIndex = 0) -> str: ...
 def xxh64_intdigest(data: ReadableBuffer, seed: SupportsIndex = 0) -> int: ...
+def murmur3_x64_128_bytes(data: ReadableBuffer, seed: SupportsIndex = 0) -> bytes: ...
 def murmur3_x64_128_digest(data: ReadableBuffer, seed: SupportsIndex = 0) -> bytes: ...
 def murmur3_x64_128_each(
     keys: tuple[ReadableBuffer, ReadableBuffer], seed: SupportsIndex = 0
@@ -56,7 +63,7 @@ def murmur3_x64_128_intdigest(data: ReadableBuffer, seed: SupportsIndex = 0) -> 
 
 class MemberTable:
     def __init__(
-        self, log2_bits: SupportsIndex, hashes: SupportsIndex, seed: SupportsIndex = 0
+        self, log2_bits: SupportsIndex, hashes: SupportsIndex, *, seed: SupportsIndex = 0
     ) -> None: ...
     @classmethod
     def from_bytes(cls: type[_Table], data: ReadableBuffer) -> _Table: ...
