@@ -7,3 +7,5 @@ pub use sketch_base::{codec, error};
 pub use sketch_hash::hash;
 
 pub mod laws;
+#[cfg(test)]
+mod tests;
