@@ -108,17 +108,17 @@ fn preamble_longs_out_of_range(alloc: Global, start: Bound<u8>, end: Bound<u8>, 
 fn has(start: Bound<u8>, end: Bound<u8>, x: u8) -> bool
     ensures { IsTrue result ↔ IsTrue ((range start end).has x) }
 {
-    match (start, end) {
-        (Included(a), Included(b)) => a <= x && x <= b,
-        (Included(a), Excluded(b)) => a <= x && x < b,
-        (Excluded(a), Included(b)) => a < x && x <= b,
-        (Excluded(a), Excluded(b)) => a < x && x < b,
-        (Unbounded, Included(b)) => x <= b,
-        (Unbounded, Excluded(b)) => x < b,
-        (Included(a), Unbounded) => a <= x,
-        (Excluded(a), Unbounded) => a < x,
-        (Unbounded, Unbounded) => true,
-    }
+    let is_above = match start {
+        Included(a) => a <= x,
+        Excluded(a) => a < x,
+        Unbounded => true,
+    };
+    let is_below = match end {
+        Included(b) => x <= b,
+        Excluded(b) => x < b,
+        Unbounded => true,
+    };
+    is_above && is_below
 }
 
 // How the range between the two ends prints: nothing where both are open, as it has every number.
