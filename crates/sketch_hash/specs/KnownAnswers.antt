@@ -1,5 +1,5 @@
--- What the two definitions answer for inputs whose hashes are published: those of MurmurHash3 in the
--- tests of Apache DataSketches, those of XXH64 in the tests of xxHash.
+-- What the two definitions answer for inputs whose hashes are published: those of MurmurHash3 in
+-- the tests of Apache DataSketches, those of XXH64 in the tests of xxHash.
 use Rattle.std.specs.Prelude.{◌≡◌, ℕ, zero, suc, ◌/◌, ◌^◌, List, [], ◌∷◌, ◌++◌, codes}
 use Rattle.sketch_hash.specs.Words.{times}
 use Rattle.sketch_hash.specs.Murmur.{murmur}

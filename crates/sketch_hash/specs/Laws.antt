@@ -45,8 +45,8 @@ pub record PieceLaws : Type 0 where
   pub eight_are : (n : ℕ) → AreBytes (eight n)
   pub eight_read : (n : ℕ) → IsWord n → le (eight n) ≡ n
 
--- Murmur: how blocks, a tail and the end change the pair of words. The steps of a list of blocks are
--- a bijection of pairs, and for each pair one step is a bijection from blocks to pairs.
+-- Murmur: how blocks, a tail and the end change the pair of words. The steps of a list of blocks
+-- are a bijection of pairs, and for each pair one step is a bijection from blocks to pairs.
 pub record MurmurStepLaws : Type 0 where
   pub block_read : OneToOne IsBlock AreWords block_words
   pub step_of_block : (h : ℕ × ℕ) → AreWords h → OneToOne AreWords AreWords (λ k. step h k)
@@ -59,8 +59,8 @@ pub record MurmurStepLaws : Type 0 where
       length a ≡ length b → length a < 16 → with_tail h a ≡ with_tail h b → a ≡ b
   pub finalize_of_pair : (n : ℕ) → IsWord n → OneToOne AreWords AreWords (λ h. finalize h n)
 
--- XXH64: the steps of a tail are one-to-one on words. For each word and width one step is one-to-one
--- on the numbers of that width. The last mixing is one-to-one too.
+-- XXH64: the steps of a tail are one-to-one on words. For each word and width one step is
+-- one-to-one on the numbers of that width. The last mixing is one-to-one too.
 pub record Xxh64StepLaws : Type 0 where
   pub step_of_number : (width h : ℕ) → IsWord h →
       OneToOne IsWord IsWord (λ n. tail_step h (width, n))

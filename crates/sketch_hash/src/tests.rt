@@ -1,5 +1,5 @@
-//! Tests of what no clause says: worked rows, printed texts, and memory that is refused. Streams cut
-//! in every way, and answers from elsewhere, stand in `sketch_vectors`.
+//! Tests of what no clause says: worked rows, printed texts, and memory that is refused. Streams
+//! cut in every way, and answers from elsewhere, stand in `sketch_vectors`.
 
 mod columns;
 mod hashers;

@@ -1,4 +1,5 @@
-//! Checks that a reader of serialized sketches makes of their preambles.
+//! Checks that a reader of serialized sketches makes of their preambles. A check that accepts takes
+//! no memory; one that refuses asks for the text of its error.
 
 ghost use Rattle.std.specs.Prelude.{◌≡◌, ◌↔◌, ℕ, List, Contains, IsTrue, IfOk, string_bytes};
 ghost use Rattle.sketch_base.specs.Checks.{AcceptsExactly, range};
@@ -20,8 +21,7 @@ use std::ops::Bound::{Excluded, Included, Unbounded};
 /// (TAG): TEXT`, with the text that `error` prints. No clause says that the text is the error's;
 /// that is tested.
 ///
-/// Where memory runs out or `error` fails to print, the error is of kind `OutOfMemory`, with no
-/// message.
+/// As [`Error::insufficient_data_of`], it may answer `OutOfMemory` in its place.
 pub fn insufficient_data(alloc: Global, tag: &'static str, error: io::Error) -> Error
     ensures { (text : List ℕ)
         × Refuses ErrorKind.InvalidData (insufficient_data_of_text tag.entry.now text) result }

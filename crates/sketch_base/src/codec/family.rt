@@ -1,4 +1,5 @@
-//! The families of sketches, each with the byte that names it in serialized form.
+//! The families of sketches of [Apache DataSketches](https://datasketches.apache.org/), each with
+//! the byte that names it in serialized form.
 
 ghost use Rattle.std.specs.Prelude.{◌≡◌, ℕ, List, [], ◌∷◌, codes, map};
 ghost use Rattle.sketch_base.specs.Checks.{AcceptsExactly};
@@ -105,8 +106,8 @@ impl Family {
     ///
     /// # Errors
     ///
-    /// At any other id: `InvalidData`, or `OutOfMemory` with no message where the text finds no
-    /// memory.
+    /// At any other id: `InvalidData`, or `OutOfMemory` with no message if memory for the text runs
+    /// out.
     pub fn validate_id(&self, alloc: Global, family_id: u8) -> Result<(), Error>
         ensures { AcceptsExactly (family_id ≡ self.now.id)
             (invalid_family_text self.now.id family_id self.now.name.now) result }
