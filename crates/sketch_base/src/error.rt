@@ -47,8 +47,8 @@ impl fmt::Display for ErrorKind {
 ///
 /// # Memory
 ///
-/// A constructor with an allocator asks for its text, and before it for what the value prints. If
-/// one is refused, or the value fails to print, the error is of kind `OutOfMemory`, with no message.
+/// A constructor with an allocator asks for its text, and before that for what the value prints. If
+/// it is refused, or the value fails to print, the error is of kind `OutOfMemory`, with no message.
 #[derive(Drop)]
 pub struct Error {
     kind: ErrorKind,

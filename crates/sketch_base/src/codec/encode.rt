@@ -24,12 +24,14 @@ pub struct SketchBytes {
 }
 
 impl Model for SketchBytes {
-    ghost use Rattle.std.specs.Prelude.{vec_capacity};
+    ghost use Rattle.std.specs.Prelude.{◌≤◌, length, vec_capacity};
     ghost use Rattle.sketch_base.specs.WriterValue.{WriterValue};
 
     ghost Value = { WriterValue };
 
     ghost view = { λ s. record { bytes = s.bytes.items; room = vec_capacity s.bytes } };
+
+    ghost invariant = { λ s. length s.bytes.items ≤ vec_capacity s.bytes };
 }
 
 /// A list of items was written in part: for the next one there is no room, and memory ran out.
