@@ -1,10 +1,8 @@
-pub mod KnownAnswerLemmas
 pub mod AgreeLemmas
 pub mod MurmurLawLemmas
 pub mod Xxh64LawLemmas
 pub mod IntegerLemmas
 pub mod ExtendLemmas
-pub mod StrategyLemmas
 -- lemmas of the crates below, for the crates above
 pub use Rattle.sketch_base.proofs.BytesLemmas
 pub use Rattle.sketch_base.proofs.ItemLemmas

@@ -1,7 +1,6 @@
 pub mod Streams
 pub mod Laws
 pub mod Strategies
-pub mod KnownAnswers
 -- what the public contracts of the crates below speak of, for the crates above
 pub use Rattle.sketch_base.specs.Bytes
 pub use Rattle.sketch_base.specs.Checks

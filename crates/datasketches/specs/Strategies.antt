@@ -1,7 +1,6 @@
--- What the two extending strategies feed, when they feed equal bytes, and when two values collide.
+-- When the two extending strategies feed equal bytes.
 use Rattle.std.specs.Prelude.{◌≡◌, ◌↔◌, ℕ, ◌-◌, ◌^◌, ◌<◌, ℤ, pos, neg_ℤ, ◌≤ℤ◌, ◌<ℤ◌, List}
-use Rattle.sketch_base.specs.Bytes.{modulo, twos_complement}
-use Rattle.sketch_hash.specs.Words.{IsWord}
+use Rattle.sketch_base.specs.Bytes.{modulo}
 use Rattle.sketch_hash.specs.contracts.hash.value.natural_extend.NaturalExtendStrategyHashStrategyI8.TheImpl as natural_i8
 use Rattle.sketch_hash.specs.contracts.hash.value.natural_extend.NaturalExtendStrategyHashStrategyU8.TheImpl as natural_u8
 use Rattle.sketch_hash.specs.contracts.hash.value.natural_extend.NaturalExtendStrategyHashStrategyI16.TheImpl as natural_i16
@@ -53,77 +52,3 @@ pub record ExtendLaw : Type 0 where
       (sign_i32.ghosts).fed (sign_u32.ghosts).fed
   pub bits_64 : ExtendLawAt64 (natural_i64.ghosts).fed (natural_u64.ghosts).fed
       (sign_i64.ghosts).fed (sign_u64.ghosts).fed
-
--- ---- two values of any two types, under one strategy
-
--- the integer types that a strategy extends
-pub data IntegerType : Type 0 where
-  I8 : IntegerType
-  U8 : IntegerType
-  I16 : IntegerType
-  U16 : IntegerType
-  I32 : IntegerType
-  U32 : IntegerType
-  I64 : IntegerType
-  U64 : IntegerType
-
--- a signed type's values are integers, an unsigned type's are whole numbers
-abbrev pub ValueOf : IntegerType → Type 0
-ValueOf I8 = ℤ
-ValueOf U8 = ℕ
-ValueOf I16 = ℤ
-ValueOf U16 = ℕ
-ValueOf I32 = ℤ
-ValueOf U32 = ℕ
-ValueOf I64 = ℤ
-ValueOf U64 = ℕ
-
--- what each strategy declares as fed, type by type
-abbrev pub natural_fed : (t : IntegerType) → ValueOf t → List ℕ
-natural_fed I8 x = (natural_i8.ghosts).fed x
-natural_fed U8 x = (natural_u8.ghosts).fed x
-natural_fed I16 x = (natural_i16.ghosts).fed x
-natural_fed U16 x = (natural_u16.ghosts).fed x
-natural_fed I32 x = (natural_i32.ghosts).fed x
-natural_fed U32 x = (natural_u32.ghosts).fed x
-natural_fed I64 x = (natural_i64.ghosts).fed x
-natural_fed U64 x = (natural_u64.ghosts).fed x
-
-abbrev pub sign_fed : (t : IntegerType) → ValueOf t → List ℕ
-sign_fed I8 x = (sign_i8.ghosts).fed x
-sign_fed U8 x = (sign_u8.ghosts).fed x
-sign_fed I16 x = (sign_i16.ghosts).fed x
-sign_fed U16 x = (sign_u16.ghosts).fed x
-sign_fed I32 x = (sign_i32.ghosts).fed x
-sign_fed U32 x = (sign_u32.ghosts).fed x
-sign_fed I64 x = (sign_i64.ghosts).fed x
-sign_fed U64 x = (sign_u64.ghosts).fed x
-
--- the number that each strategy reads in a value
-abbrev pub natural_number : (t : IntegerType) → ValueOf t → ℤ
-natural_number I8 x = x
-natural_number U8 x = pos x
-natural_number I16 x = x
-natural_number U16 x = pos x
-natural_number I32 x = x
-natural_number U32 x = pos x
-natural_number I64 x = x
-natural_number U64 x = pos x
-
-abbrev pub sign_number : (t : IntegerType) → ValueOf t → ℤ
-sign_number I8 x = x
-sign_number U8 x = twos_complement 8 x
-sign_number I16 x = x
-sign_number U16 x = twos_complement 16 x
-sign_number I32 x = x
-sign_number U32 x = twos_complement 32 x
-sign_number I64 x = x
-sign_number U64 x = twos_complement 64 x
-
--- Under a hash, two values of any two types, each fed alone after one seed, collide exactly if the
--- numbers that the strategy reads in them agree modulo 2 ^ 64.
-abbrev pub StrategyLaw : {B : Type 0} → (ℕ → List ℕ → B) →
-    ((t : IntegerType) → ValueOf t → List ℕ) → ((t : IntegerType) → ValueOf t → ℤ) → Type 0
-StrategyLaw hash fed number =
-    (seed : ℕ) (s t : IntegerType) (x : ValueOf s) (y : ValueOf t) → IsWord seed →
-    (hash seed (fed s x) ≡ hash seed (fed t y)) ↔ (modulo 64 (number s x) ≡ modulo 64 (number t y))

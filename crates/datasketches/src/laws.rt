@@ -6,7 +6,7 @@
 
 ghost use Rattle.std.specs.Prelude.{◌≡◌, ◌≢◌, ◌<◌, length};
 ghost use Rattle.datasketches.specs.Laws.{HashU64Law, IntegerLaw, ModuloLaw, MurmurBlockLaw, MurmurSeedLaw, XxSeedLaw, XxTailLaw};
-ghost use Rattle.datasketches.specs.Strategies.{ExtendLaw, StrategyLaw, natural_fed, natural_number, sign_fed, sign_number};
+ghost use Rattle.datasketches.specs.Strategies.{ExtendLaw};
 ghost use Rattle.datasketches.specs.Streams.{DifferInOneBlock, DifferInOneTailStep};
 ghost use Rattle.sketch_base.specs.ItemLaws.{ItemLaw};
 ghost use Rattle.sketch_hash.specs.Murmur.{murmur};
@@ -96,18 +96,6 @@ pub fn integer_law()
     piece_laws();
     murmur_step_laws();
     xxh64_step_laws();
-}
-
-/// Under one strategy, two values of any two of the eight integer types, each fed alone after one
-/// seed, have equal hashes exactly if the numbers that the strategy reads in them agree modulo
-/// 2^64.
-pub fn strategy_law()
-    ensures natural_murmur { StrategyLaw murmur natural_fed natural_number }
-    ensures natural_xxh64 { StrategyLaw xxh64 natural_fed natural_number }
-    ensures sign_murmur { StrategyLaw murmur sign_fed sign_number }
-    ensures sign_xxh64 { StrategyLaw xxh64 sign_fed sign_number }
-{
-    integer_law();
 }
 
 /// For each seed, `hash_u64` of all 64-bit numbers takes each 64-bit number exactly once.

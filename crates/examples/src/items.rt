@@ -5,7 +5,7 @@ ghost use Rattle.std.specs.IoError.{error_kind};
 ghost use Rattle.std.specs.List.{All};
 ghost use Rattle.std.specs.declared.io.ErrorKind.TheVariants.{UnexpectedEof};
 ghost use Rattle.datasketches.specs.Bytes.{AreBytes, le, low_bytes};
-ghost use Rattle.datasketches.specs.ItemLaws.{Holds};
+ghost use Rattle.datasketches.specs.ItemLaws.Spells as Holds;
 ghost use Rattle.datasketches.specs.Items.{InType, item_kind, spell, spell_all, unspell, unspell_all, width, widths};
 ghost use Rattle.datasketches.specs.Reading.{Reads};
 ghost use Rattle.datasketches.specs.Writing.{Writes};

@@ -13,7 +13,7 @@ use Rattle.sketch_base.specs.declared.codec.item.Item.TheVariants as item
 use Rattle.sketch_base.specs.declared.codec.item.Kind.{Kind}
 use Rattle.sketch_base.specs.declared.codec.item.Kind.TheVariants as kind
 use Rattle.sketch_base.specs.Items.{InType, item_kind, width, widths, spell, spell_all, unspell, unspell_all}
-use Rattle.sketch_base.specs.ItemLaws.{Holds, ItemLaw}
+use Rattle.sketch_base.specs.ItemLaws.{Spells, ItemLaw}
 use Rattle.std.proofs.Math.Seq.{take-append_seam, drop-append_seam}
 use Rattle.sketch_base.specs.Bytes.{AreBytes, le, be, low_bytes, twos_complement, modulo}
 use Rattle.sketch_base.proofs.BytesLemmas.{low_bytes-are, le-back, le-again, le-lt, length-low_bytes, IsByte}
@@ -87,7 +87,7 @@ signed_be-back w half count z low whole same small =
 -- lowest bytes hold an item that its kind makes of them, in either order
 low-holds : (i : Item) (count n : ℕ) → count ≡ width (item_kind i) →
     unspell (item_kind i) (low_bytes count n) ≡ i →
-    Holds (low_bytes count n) i
+    Spells (low_bytes count n) i
 low-holds i count n is made = record {
   are_bytes = low_bytes-are count n;
   count = length-low_bytes count n ∙ is;
@@ -95,7 +95,7 @@ low-holds i count n is made = record {
 }
 
 high-holds : (i : Item) (count n : ℕ) → count ≡ width (item_kind i) →
-    unspell (item_kind i) (reverse (low_bytes count n)) ≡ i → Holds (reverse (low_bytes count n)) i
+    unspell (item_kind i) (reverse (low_bytes count n)) ≡ i → Spells (reverse (low_bytes count n)) i
 high-holds i count n is made = record {
   are_bytes = AreBytes-reverse (low_bytes count n) (low_bytes-are count n);
   count = length-reverse (low_bytes count n) ∙ length-low_bytes count n ∙ is;
@@ -103,7 +103,7 @@ high-holds i count n is made = record {
 }
 
 -- the bytes of each item hold it
-spell_holds : (i : Item) → InType i → Holds (spell i) i
+spell_holds : (i : Item) → InType i → Spells (spell i) i
 spell_holds (item.U8 n) h = low-holds (item.U8 n) 1 n refl (ap item.U8 (le-back 1 n h))
 spell_holds (item.I8 n) h =
     low-holds (item.I8 n) 1 (modulo 8 n) refl (ap item.I8 (signed_le-back 8

@@ -7,7 +7,7 @@ use Rattle.sketch_base.specs.Items.{InType, item_kind, width, widths, spell, spe
 
 -- These bytes hold the item: there are as many as its kind has, and read as that kind they give
 -- the item.
-pub record Holds (bytes : List ℕ) (i : Item) : Type 0 where
+pub record Spells (bytes : List ℕ) (i : Item) : Type 0 where
   pub are_bytes : AreBytes bytes
   pub count : length bytes ≡ width (item_kind i)
   pub item : unspell (item_kind i) bytes ≡ i
@@ -15,8 +15,8 @@ pub record Holds (bytes : List ℕ) (i : Item) : Type 0 where
 -- An item has one form in bytes, and so has a list of items of known kinds, as long as these say. A
 -- list is read back from its bytes, whatever follows them, and what follows remains.
 pub record ItemLaw : Type 0 where
-  pub spell_holds : (i : Item) → InType i → Holds (spell i) i
-  pub spell_only : (i : Item) (bytes : List ℕ) → InType i → Holds bytes i → bytes ≡ spell i
+  pub spell_holds : (i : Item) → InType i → Spells (spell i) i
+  pub spell_only : (i : Item) (bytes : List ℕ) → InType i → Spells bytes i → bytes ≡ spell i
   pub once : (xs ys : List Item) → All InType xs → All InType ys →
       map item_kind xs ≡ map item_kind ys → spell_all xs ≡ spell_all ys → xs ≡ ys
   pub count : (items : List Item) → All InType items →

@@ -9,14 +9,13 @@ use Rattle.sketch_base.specs.Items.{InType, spell_all}
 use Rattle.sketch_base.specs.WriterValue.{WriterValue}
 
 -- A write of bytes: they stand after the others; or there is no room for them, and all is as
--- before. What is written fits the room, which never shrinks.
+-- before. The room never shrinks.
 pub record Writes (bytes : List ℕ) (before : WriterValue) (result : Result (Unit {0}) AllocError)
     (after : WriterValue) : Type 0 where
   pub outcome : MatchResult result
       (λ _. after.bytes ≡ before.bytes ++ bytes)
       (λ _. (after ≡ before) × (before.room < length (before.bytes ++ bytes)))
   pub room : before.room ≤ after.room
-  pub fits : length after.bytes ≤ after.room
 
 -- the items that were written: all of them, or just the accepted ones
 abbrev pub accepted_items : List Item → Result (Unit {0}) Stopped → List Item

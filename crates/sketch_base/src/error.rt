@@ -1,4 +1,5 @@
-//! Errors of the sketches: a kind, a message, and the contexts that callers add on the way up.
+//! Errors of the sketches, as [Apache DataSketches](https://datasketches.apache.org/) words them: a
+//! kind, a message, and the contexts that callers add on the way up.
 
 ghost use Rattle.std.specs.Prelude.{◌≡◌, ℕ, List, IfOk, IfErr, map, MatchResult, Some, string_bytes};
 ghost use Rattle.std.specs.Fmt.{DisplaysOnOk};
@@ -43,6 +44,11 @@ impl fmt::Display for ErrorKind {
 }
 
 /// An error of this library.
+///
+/// # Memory
+///
+/// A constructor with an allocator asks for its text, and before that for what the value prints. If
+/// it is refused, or the value fails to print, the error is of kind `OutOfMemory`, with no message.
 #[derive(Drop)]
 pub struct Error {
     kind: ErrorKind,
@@ -79,14 +85,15 @@ impl Error {
       Refuses,
     };
 
-    /// An error with this kind and message, and no context.
+    /// An error with this kind and message, and no context. Takes no memory.
     pub fn new(kind: ErrorKind, message: String) -> Error
         ensures { result ≡ error_of kind (string_bytes message) }
     {
+        let context = Vec::new(*message.allocator());
         Error {
             kind,
             message: Some(message),
-            context: None,
+            context: Some(context),
         }
     }
 
@@ -122,7 +129,11 @@ impl Error {
     ///
     /// # Errors
     ///
-    /// Where memory runs out, or the value fails to print: the error as it was.
+    /// If memory runs out, or the value fails to print: the error as it was.
+    ///
+    /// # Memory
+    ///
+    /// The printed text, and a place in the list of contexts.
     pub fn with_context<V: fmt::Display + Drop>(
         self,
         alloc: Global,
@@ -150,8 +161,8 @@ impl Error {
         }
     }
 
-    /// An error of this kind with the text as its message; or, where memory for the text ran out,
-    /// one of kind `OutOfMemory`, with no message.
+    /// An error of this kind with the text as its message; or, if memory for the text ran out, one
+    /// of kind `OutOfMemory`, with no message.
     #[tactic(auto, unfolding(crate::specs::Refusals::Refuses))]
     pub fn from_text(alloc: Global, kind: ErrorKind, text: Result<String, AllocError>) -> Error
         ensures error { MatchResult text
@@ -181,9 +192,6 @@ impl Error {
     }
 
     /// Serialized data ended too early. Kind `InvalidData`: `insufficient data: VALUE`.
-    ///
-    /// Where memory runs out or `value` fails to print, the error is of kind `OutOfMemory`, with no
-    /// message.
     pub fn insufficient_data<V: fmt::Display + Drop>(alloc: Global, value: V) -> Error
         ensures { (text : List ℕ) × Prints (V.output value) text
             × Refuses ErrorKind.InvalidData (insufficient_data_text text) result }
@@ -196,9 +204,6 @@ impl Error {
     }
 
     /// Serialized data ended too early. Kind `InvalidData`: `insufficient data (CONTEXT): VALUE`.
-    ///
-    /// Where memory runs out or `value` fails to print, the error is of kind `OutOfMemory`, with no
-    /// message.
     pub fn insufficient_data_of<V: fmt::Display + Drop>(
         alloc: Global,
         context: &'static str,
@@ -217,8 +222,6 @@ impl Error {
 
     /// Serialized data is of another family than the expected one. Kind `InvalidData`:
     /// `invalid family: expected ID (NAME), got ID`.
-    ///
-    /// Where memory for the text runs out, the error is of kind `OutOfMemory`, with no message.
     pub fn invalid_family(alloc: Global, expected: u8, actual: u8, name: &'static str) -> Error
         ensures { Refuses ErrorKind.InvalidData
             (invalid_family_text expected actual name.entry.now) result }
@@ -231,8 +234,6 @@ impl Error {
 
     /// A number of preamble longs is none of the expected ones. Kind `InvalidData`:
     /// `invalid preamble longs: expected one of [1, 2], got 3`.
-    ///
-    /// Where memory for the text runs out, the error is of kind `OutOfMemory`, with no message.
     pub fn invalid_preamble_longs(alloc: Global, expected: &[u8], actual: u8) -> Error
         ensures { Refuses ErrorKind.InvalidData
             (invalid_preamble_longs_text expected.now actual) result }
@@ -245,8 +246,6 @@ impl Error {
 
     /// A number of preamble ints is not the expected one. Kind `InvalidData`:
     /// `invalid preamble ints: expected 10, got 2`.
-    ///
-    /// Where memory for the text runs out, the error is of kind `OutOfMemory`, with no message.
     pub fn invalid_preamble_ints(alloc: Global, expected: u8, actual: u8) -> Error
         ensures { Refuses ErrorKind.InvalidData
             (invalid_preamble_ints_text expected actual) result }

@@ -4,3 +4,5 @@
 
 pub mod codec;
 pub mod error;
+#[cfg(test)]
+mod tests;

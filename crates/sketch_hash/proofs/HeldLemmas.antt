@@ -5,7 +5,6 @@ use Rattle.std.specs.Int.{w128, to_le_bytes}
 use Rattle.std.proofs.lemmas.List.{length-take, length-take-le}
 use Rattle.sketch_base.specs.Bytes.{low_bytes}
 use Rattle.sketch_base.proofs.BytesLemmas.{to_le_bytes-is}
-use Rattle.sketch_hash.proofs.NumberLemmas.{words-lt, words-number}
 use Rattle.sketch_hash.proofs.MurmurWrites.{after_waits}
 use Rattle.sketch_hash.specs.declared.hash.murmurhash.state.MurmurState.{MurmurState}
 use Rattle.sketch_hash.specs.MurmurWriteLemmas.{murmur_stands_after}
@@ -69,24 +68,6 @@ murmur_copied total buffer bytes few size =
     (refl, held-waits 16 total buffer bytes (λ n. omega arith) few within)
 
 pub ruleset held = (after_waits, murmur_copied, length-take)
-
--- a state that is taken up: the words of the waiting bytes' number, and how large they are
-words_sized : (n count : ℕ) (k : ℕ × ℕ) → n < 256 ^ count → k ≡ (n % 2 ^ 64, n / 2 ^ 64) →
-    (k.0 < 256 ^ min count 8) × (k.1 < 256 ^ (count - 8))
-words_sized n count k h words = rw words (words-lt count n h)
-
-pub words_joined : (n : ℕ) (k : ℕ × ℕ) → k ≡ (n % 2 ^ 64, n / 2 ^ 64) → k.0 + k.1 * 2 ^ 64 ≡ n
-words_joined n k words = rw words (words-number n)
-
-pub first_sized : (n count : ℕ) (k : ℕ × ℕ) → n < 256 ^ count → k ≡ (n % 2 ^ 64, n / 2 ^ 64) →
-    k.0 < 256 ^ min count 8
-first_sized n count k h words = (words_sized n count k h words).0
-
-pub second_sized : (n count : ℕ) (k : ℕ × ℕ) → n < 256 ^ count → k ≡ (n % 2 ^ 64, n / 2 ^ 64) →
-    k.1 < 256 ^ (count - 8)
-second_sized n count k h words = (words_sized n count k h words).1
-
-pub ruleset resumed = (first_sized, second_sized, words_joined)
 
 -- a hasher's state: its buffer has the bytes of that number
 number_held : (n count : ℕ) → count < 16 → take count (low_bytes 16 n) ≡ low_bytes count n

@@ -132,11 +132,7 @@ with_tail-on_bytes h a b p q r e l t =
 
 pub murmur_step_laws : MurmurStepLaws
 murmur_step_laws = record {
-  first_word = mix1-once;
-  second_word = mix2-once;
-  finalizer = fmix-once;
   block_read = block_words-once;
-  step_of_pair = step-on_state;
   step_of_block = step-on_block;
   tail_of_pair = with_tail-on_state;
   blocks_read = blocks-are;

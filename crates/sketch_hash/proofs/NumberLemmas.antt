@@ -8,7 +8,7 @@ use Rattle.std.specs.Int.Bits.{bit_or, or_shifted_r}
 use Rattle.std.proofs.lemmas.List.{length-take, length-take-le, take-append-drop, drop-drop, take-take, length-replicate, take_rest}
 use Rattle.std.proofs.lemmas.List.Elements.{All-append, All-take, All-drop, All-replicate}
 use Rattle.sketch_base.specs.Bytes.{AreBytes, le, low_bytes}
-use Rattle.sketch_base.proofs.BytesLemmas.{le-cons, le-lt, low_bytes-are, le-back, le-again, length-low_bytes, low_bytes-le, low_bytes-take, bytes_known, IsByte}
+use Rattle.sketch_base.proofs.BytesLemmas.{le-cons, le-lt, low_bytes-are, le-back, le-again, length-low_bytes, low_bytes-le, bytes_known, IsByte}
 use Rattle.sketch_hash.specs.Murmur.{block_words}
 use Rattle.sketch_hash.proofs.BlockLemmas.{halves}
 
@@ -65,24 +65,6 @@ le-front n bytes b low h =
     let below : 1 * 2 ^ (8 * n) < 2 ^ 128 = rw (one-mul (2 ^ (8 * n))) (pow-lt less) in
     ap (λ m. le bytes % m) (mod-eq_of_lt below ∙ one-mul (2 ^ (8 * n)) ∙ pow_eight n)
     ∙ sym (le-take n bytes b h)
-
--- a block's first bytes, from the remainder of its number
-pub front_below : (n number : ℕ) (block : List ℕ) → ((i : ℕ) → Fits w8 (get_or block i 0)) → n < 16 →
-    length block ≡ 16 → number ≡ le block → number % (1 * 2 ^ (8 * n) % 2 ^ 128) < 256 ^ n
-front_below n number block known low size is =
-    let are = bytes_known block known in
-    let within : n ≤ length block = omega (arith, size, low) in
-    rw (is, le-front n block are low within) (le_take-lt n block are within)
-
-pub front_bytes : (n number : ℕ) (block : List ℕ) → ((i : ℕ) → Fits w8 (get_or block i 0)) → n < 16 →
-    length block ≡ 16 → number ≡ le block →
-    low_bytes n (number % (1 * 2 ^ (8 * n) % 2 ^ 128)) ≡ take n block
-front_bytes n number block known low size is =
-    let are = bytes_known block known in
-    let within : n ≤ length block = omega (arith, size, low) in
-    rw (is, le-front n block are low within) (low_bytes-take n block are within)
-
-pub ruleset front = (front_below, front_bytes)
 
 -- the number of bytes, from those of their first and of their last w bytes, which may overlap
 pub le-ends : (w : ℕ) (bytes : List ℕ) → AreBytes bytes → w ≤ length bytes → length bytes ≤ w + w →
@@ -283,16 +265,6 @@ pub kept-lt : (count n : ℕ) (bytes : List ℕ) → AreBytes bytes → n < 256 
 kept-lt count n bytes b h short =
     let within : count + length bytes ≤ 16 = omega arith in
     lt_of_lt_of_le (joined-lt count n bytes b h) (pow-le-pow_right {n = 256} (omega arith) within)
-
-kept-is : (count n : ℕ) (bytes : List ℕ) → AreBytes bytes → n < 256 ^ count → count + length bytes < 16 →
-    n + le bytes * 2 ^ (8 * count) % 2 ^ 128 ≡ n + le bytes * 256 ^ count
-kept-is count n bytes b h short =
-    let below = kept-lt count n bytes b h short in
-    let alone : le bytes * 256 ^ count < 2 ^ 128 = less n (le bytes * 256 ^ count) below in
-    ap (λ p. n + le bytes * p % 2 ^ 128) (pow_eight count) ∙ ap (λ v. n + v) (mod-eq_of_lt alone)
-  where
-    less : (a b : ℕ) → a + b < 2 ^ 128 → b < 2 ^ 128
-    less a b h = omega arith
 
 -- the words of the block that a number's bytes and the first bytes behind them fill
 pub block_words-filled : (count n : ℕ) (bytes : List ℕ) → AreBytes bytes → n < 256 ^ count → count < 16 →

@@ -62,7 +62,6 @@ avalanche-once =
 
 pub xxh64_step_laws : Xxh64StepLaws
 xxh64_step_laws = record {
-  step_of_word = tail_step-on_state;
   step_of_number = tail_step-on_number;
   last_mixing = avalanche-once;
   tail_read = steps-are;

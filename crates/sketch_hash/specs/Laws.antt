@@ -6,7 +6,7 @@ use Rattle.sketch_base.specs.Bytes.{AreBytes, le, eight}
 use Rattle.sketch_hash.specs.OneToOne.{OneToOne}
 use Rattle.sketch_hash.specs.Words.{IsWord, plus}
 use Rattle.sketch_hash.specs.Pieces.{pieces, rest}
-use Rattle.sketch_hash.specs.Murmur.{mix1, mix2, fmix, block_words, blocks, step, with_tail, finalize}
+use Rattle.sketch_hash.specs.Murmur.{block_words, blocks, step, with_tail, finalize}
 use Rattle.sketch_hash.specs.Xxh64.{prime5, steps, tail_step, eight_step, avalanche, xxh64}
 
 -- a pair of words
@@ -45,14 +45,10 @@ pub record PieceLaws : Type 0 where
   pub eight_are : (n : ℕ) → AreBytes (eight n)
   pub eight_read : (n : ℕ) → IsWord n → le (eight n) ≡ n
 
--- Murmur: how a word is mixed, and how a block, a tail and the end change the pair of words. For
--- each block a step is a bijection of pairs, and for each pair one from blocks to pairs.
+-- Murmur: how blocks, a tail and the end change the pair of words. The steps of a list of blocks
+-- are a bijection of pairs, and for each pair one step is a bijection from blocks to pairs.
 pub record MurmurStepLaws : Type 0 where
-  pub first_word : OneToOne IsWord IsWord mix1
-  pub second_word : OneToOne IsWord IsWord mix2
-  pub finalizer : OneToOne IsWord IsWord fmix
   pub block_read : OneToOne IsBlock AreWords block_words
-  pub step_of_pair : (k : ℕ × ℕ) → AreWords k → OneToOne AreWords AreWords (λ h. step h k)
   pub step_of_block : (h : ℕ × ℕ) → AreWords h → OneToOne AreWords AreWords (λ k. step h k)
   pub tail_of_pair : (waiting : List ℕ) → AreBytes waiting → length waiting < 16 →
       OneToOne AreWords AreWords (λ h. with_tail h waiting)
@@ -63,10 +59,9 @@ pub record MurmurStepLaws : Type 0 where
       length a ≡ length b → length a < 16 → with_tail h a ≡ with_tail h b → a ≡ b
   pub finalize_of_pair : (n : ℕ) → IsWord n → OneToOne AreWords AreWords (λ h. finalize h n)
 
--- XXH64: for each number that it reads, a step of the tail is one-to-one on words; for each word
--- and width, it is one-to-one on the numbers of that width. The last mixing is one-to-one too.
+-- XXH64: the steps of a tail are one-to-one on words. For each word and width one step is
+-- one-to-one on the numbers of that width. The last mixing is one-to-one too.
 pub record Xxh64StepLaws : Type 0 where
-  pub step_of_word : (s : ℕ × ℕ) → IsStep s → OneToOne IsWord IsWord (λ h. tail_step h s)
   pub step_of_number : (width h : ℕ) → IsWord h →
       OneToOne IsWord IsWord (λ n. tail_step h (width, n))
   pub last_mixing : OneToOne IsWord IsWord avalanche

@@ -3,6 +3,7 @@ pub mod Words
 pub mod Pieces
 pub mod Murmur
 pub mod Xxh64
+pub mod Waits
 pub mod Lanes
 pub mod ScalarLanes
 pub mod Columns

@@ -1,8 +1,8 @@
 //! Hashing for sketches: hashers, columns of keys, values and the bytes that they feed, and seed
 //! hashes.
 
+mod columns;
 mod copy;
-mod each;
 mod hasher;
 mod murmurhash;
 mod seed;
@@ -10,7 +10,7 @@ pub mod value;
 mod words;
 mod xxhash;
 
-pub use self::each::Offset;
+pub use self::columns::Offset;
 pub use self::hasher::Hasher;
 pub use self::murmurhash::{MurmurHash3X64128, MurmurState};
 pub use self::seed::{check_seed_hash, compute_seed_hash};

@@ -1,13 +1,11 @@
-//! What the definitions of both hashes give for small inputs, and values that each range and
-//! relation holds of and does not hold of.
+//! Published answers of both hashes, which the definitions give.
 //!
 //! Each function here does nothing: its contract is computed from the definitions. So a definition
-//! that answers otherwise, or that holds of nothing, is refused.
+//! that answers otherwise is refused.
 
-ghost use Rattle.std.specs.Prelude.{◌≡◌};
-ghost use Rattle.sketch_hash.specs.KnownAnswers.{Columns, MurmurAnswers, Relations, ValueAnswers, WordAnswers, Xxh64Answers, test_bytes};
+ghost use Rattle.sketch_hash.specs.KnownAnswers.{MurmurAnswers, Xxh64Answers};
 
-/// The first bytes of the buffer that xxHash's own tests use.
+/// The first bytes of the buffer that [xxHash's own tests](https://github.com/Cyan4973/xxHash) use.
 pub const TEST_BUFFER: [u8; 100] = [
     0x00, 0x52, 0x92, 0x9b, 0xb7, 0x32, 0xa3, 0x24, 0x2d, 0x00, 0xaf, 0x95, 0x0e, 0xec, 0xb8, 0x93,
     0xe3, 0xdf, 0xef, 0x93, 0xaa, 0xd6, 0xcd, 0x2a, 0x53, 0x8b, 0x5c, 0x3f, 0x54, 0x5a, 0x6f, 0xd5,
@@ -18,38 +16,12 @@ pub const TEST_BUFFER: [u8; 100] = [
     0x9d, 0x32, 0x73, 0x09,
 ];
 
-/// The table is what the buffer's generator makes.
-pub fn test_buffer_answer()
-    ensures { TEST_BUFFER ≡ test_bytes 100 }
-{}
-
-/// The definitions of words and pieces give the small answers that one can count by hand.
-pub fn word_answers()
-    ensures { WordAnswers }
-{}
-
-/// The definition of Murmur gives the answers that are known from elsewhere.
+/// The definition of MurmurHash3 gives the answers in the tests of Apache DataSketches.
 pub fn murmur_answers()
     ensures { MurmurAnswers }
 {}
 
-/// The definition of XXH64 gives the answers that are known from elsewhere.
+/// The definition of XXH64 gives the answers in xxHash's tests.
 pub fn xxh64_answers()
     ensures { Xxh64Answers }
-{}
-
-/// The definitions of seed hashes and of fed integers give the answers that are known from
-/// elsewhere.
-pub fn value_answers()
-    ensures { ValueAnswers }
-{}
-
-/// Each range and relation holds of a value at its edge, and not of one beside it.
-pub fn relations()
-    ensures { Relations }
-{}
-
-/// Columns are hashed key by key, and refused at the first wrong offset.
-pub fn columns()
-    ensures { Columns }
 {}

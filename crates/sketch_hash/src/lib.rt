@@ -5,3 +5,5 @@
 pub mod hash;
 pub mod known_answers;
 pub mod laws;
+#[cfg(test)]
+mod tests;

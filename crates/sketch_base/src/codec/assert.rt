@@ -1,4 +1,5 @@
-//! Checks that a reader of serialized sketches makes of their preambles.
+//! Checks that a reader of serialized sketches makes of their preambles. A check that accepts takes
+//! no memory; one that refuses asks for the text of its error.
 
 ghost use Rattle.std.specs.Prelude.{◌≡◌, ◌↔◌, ℕ, List, Contains, IsTrue, IfOk, string_bytes};
 ghost use Rattle.sketch_base.specs.Checks.{AcceptsExactly, range};
@@ -20,8 +21,7 @@ use std::ops::Bound::{Excluded, Included, Unbounded};
 /// (TAG): TEXT`, with the text that `error` prints. No clause says that the text is the error's;
 /// that is tested.
 ///
-/// Where memory runs out or `error` fails to print, the error is of kind `OutOfMemory`, with no
-/// message.
+/// As [`Error::insufficient_data_of`], it may answer `OutOfMemory` in its place.
 pub fn insufficient_data(alloc: Global, tag: &'static str, error: io::Error) -> Error
     ensures { (text : List ℕ)
         × Refuses ErrorKind.InvalidData (insufficient_data_of_text tag.entry.now text) result }
@@ -108,17 +108,17 @@ fn preamble_longs_out_of_range(alloc: Global, start: Bound<u8>, end: Bound<u8>, 
 fn has(start: Bound<u8>, end: Bound<u8>, x: u8) -> bool
     ensures { IsTrue result ↔ IsTrue ((range start end).has x) }
 {
-    match (start, end) {
-        (Included(a), Included(b)) => a <= x && x <= b,
-        (Included(a), Excluded(b)) => a <= x && x < b,
-        (Excluded(a), Included(b)) => a < x && x <= b,
-        (Excluded(a), Excluded(b)) => a < x && x < b,
-        (Unbounded, Included(b)) => x <= b,
-        (Unbounded, Excluded(b)) => x < b,
-        (Included(a), Unbounded) => a <= x,
-        (Excluded(a), Unbounded) => a < x,
-        (Unbounded, Unbounded) => true,
-    }
+    let is_above = match start {
+        Included(a) => a <= x,
+        Excluded(a) => a < x,
+        Unbounded => true,
+    };
+    let is_below = match end {
+        Included(b) => x <= b,
+        Excluded(b) => x < b,
+        Unbounded => true,
+    };
+    is_above && is_below
 }
 
 // How the range between the two ends prints: nothing where both are open, as it has every number.

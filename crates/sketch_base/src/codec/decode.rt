@@ -69,7 +69,7 @@ impl SketchSlice<'_> {
     ///
     /// # Errors
     ///
-    /// Where fewer bytes remain than the buffer holds: `UnexpectedEof`. The buffer is as it was,
+    /// If fewer bytes remain than the buffer holds: `UnexpectedEof`. The buffer is as it was,
     /// and nothing remains to be read.
     pub fn read_exact(&mut self, buf: &mut [u8]) -> io::Result<()>
         ensures read { Reads (length buf.old) (λ _. tt) self.old result self.new }
@@ -95,98 +95,98 @@ impl SketchSlice<'_> {
         Ok(buf)
     }
 
-    /// Reads an unsigned number of one byte. `UnexpectedEof` where none remains.
+    /// Reads an unsigned number of one byte. `UnexpectedEof` if none remains.
     pub fn read_u8(&mut self) -> io::Result<u8>
         ensures { Reads 1 le self.old result self.new }
     {
         Ok(u8::from_le_bytes(self.read_array()?))
     }
 
-    /// Reads a signed number of one byte. `UnexpectedEof` where none remains.
+    /// Reads a signed number of one byte. `UnexpectedEof` if none remains.
     pub fn read_i8(&mut self) -> io::Result<i8>
         ensures { Reads 1 (λ bytes. twos_complement 8 (le bytes)) self.old result self.new }
     {
         Ok(i8::from_le_bytes(self.read_array()?))
     }
 
-    /// Reads an unsigned number of 2 bytes, the lowest first. `UnexpectedEof` where fewer remain.
+    /// Reads an unsigned number of 2 bytes, the lowest first. `UnexpectedEof` if fewer remain.
     pub fn read_u16_le(&mut self) -> io::Result<u16>
         ensures { Reads 2 le self.old result self.new }
     {
         Ok(u16::from_le_bytes(self.read_array()?))
     }
 
-    /// Reads an unsigned number of 2 bytes, the highest first. `UnexpectedEof` where fewer remain.
+    /// Reads an unsigned number of 2 bytes, the highest first. `UnexpectedEof` if fewer remain.
     pub fn read_u16_be(&mut self) -> io::Result<u16>
         ensures { Reads 2 be self.old result self.new }
     {
         Ok(u16::from_be_bytes(self.read_array()?))
     }
 
-    /// Reads a signed number of 2 bytes, the lowest first. `UnexpectedEof` where fewer remain.
+    /// Reads a signed number of 2 bytes, the lowest first. `UnexpectedEof` if fewer remain.
     pub fn read_i16_le(&mut self) -> io::Result<i16>
         ensures { Reads 2 (λ bytes. twos_complement 16 (le bytes)) self.old result self.new }
     {
         Ok(i16::from_le_bytes(self.read_array()?))
     }
 
-    /// Reads a signed number of 2 bytes, the highest first. `UnexpectedEof` where fewer remain.
+    /// Reads a signed number of 2 bytes, the highest first. `UnexpectedEof` if fewer remain.
     pub fn read_i16_be(&mut self) -> io::Result<i16>
         ensures { Reads 2 (λ bytes. twos_complement 16 (be bytes)) self.old result self.new }
     {
         Ok(i16::from_be_bytes(self.read_array()?))
     }
 
-    /// Reads an unsigned number of 4 bytes, the lowest first. `UnexpectedEof` where fewer remain.
+    /// Reads an unsigned number of 4 bytes, the lowest first. `UnexpectedEof` if fewer remain.
     pub fn read_u32_le(&mut self) -> io::Result<u32>
         ensures { Reads 4 le self.old result self.new }
     {
         Ok(u32::from_le_bytes(self.read_array()?))
     }
 
-    /// Reads an unsigned number of 4 bytes, the highest first. `UnexpectedEof` where fewer remain.
+    /// Reads an unsigned number of 4 bytes, the highest first. `UnexpectedEof` if fewer remain.
     pub fn read_u32_be(&mut self) -> io::Result<u32>
         ensures { Reads 4 be self.old result self.new }
     {
         Ok(u32::from_be_bytes(self.read_array()?))
     }
 
-    /// Reads a signed number of 4 bytes, the lowest first. `UnexpectedEof` where fewer remain.
+    /// Reads a signed number of 4 bytes, the lowest first. `UnexpectedEof` if fewer remain.
     pub fn read_i32_le(&mut self) -> io::Result<i32>
         ensures { Reads 4 (λ bytes. twos_complement 32 (le bytes)) self.old result self.new }
     {
         Ok(i32::from_le_bytes(self.read_array()?))
     }
 
-    /// Reads a signed number of 4 bytes, the highest first. `UnexpectedEof` where fewer remain.
+    /// Reads a signed number of 4 bytes, the highest first. `UnexpectedEof` if fewer remain.
     pub fn read_i32_be(&mut self) -> io::Result<i32>
         ensures { Reads 4 (λ bytes. twos_complement 32 (be bytes)) self.old result self.new }
     {
         Ok(i32::from_be_bytes(self.read_array()?))
     }
 
-    /// Reads an unsigned number of 8 bytes, the lowest first. `UnexpectedEof` where fewer remain.
+    /// Reads an unsigned number of 8 bytes, the lowest first. `UnexpectedEof` if fewer remain.
     pub fn read_u64_le(&mut self) -> io::Result<u64>
         ensures { Reads 8 le self.old result self.new }
     {
         Ok(u64::from_le_bytes(self.read_array()?))
     }
 
-    /// Reads an unsigned number of 8 bytes, the highest first. `UnexpectedEof` where fewer remain.
+    /// Reads an unsigned number of 8 bytes, the highest first. `UnexpectedEof` if fewer remain.
     pub fn read_u64_be(&mut self) -> io::Result<u64>
         ensures { Reads 8 be self.old result self.new }
     {
         Ok(u64::from_be_bytes(self.read_array()?))
     }
 
-    /// Reads a signed number of 8 bytes, the lowest first. `UnexpectedEof` where fewer remain.
+    /// Reads a signed number of 8 bytes, the lowest first. `UnexpectedEof` if fewer remain.
     pub fn read_i64_le(&mut self) -> io::Result<i64>
         ensures { Reads 8 (λ bytes. twos_complement 64 (le bytes)) self.old result self.new }
     {
         Ok(i64::from_le_bytes(self.read_array()?))
     }
 
-    /// Reads a signed number of 8 bytes, the highest first. `UnexpectedEof` where fewer remain.
+    /// Reads a signed number of 8 bytes, the highest first. `UnexpectedEof` if fewer remain.
     pub fn read_i64_be(&mut self) -> io::Result<i64>
         ensures { Reads 8 (λ bytes. twos_complement 64 (be bytes)) self.old result self.new }
     {

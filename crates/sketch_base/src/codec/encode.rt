@@ -12,20 +12,26 @@ use std::marker::Model;
 
 /// Writes numbers into bytes that grow as they are needed.
 ///
-/// A write is refused only where there is no room and memory for more runs out. It then changes
+/// A write is refused only if there is no room and memory for more runs out. It then changes
 /// nothing; a refused [`SketchBytes::write_items`] keeps the items before the refused one.
+///
+/// # Memory
+///
+/// The bytes, in one piece. A write that goes past the room asks for a larger one.
 #[derive(Drop)]
 pub struct SketchBytes {
     bytes: Vec<u8>,
 }
 
 impl Model for SketchBytes {
-    ghost use Rattle.std.specs.Prelude.{vec_capacity};
+    ghost use Rattle.std.specs.Prelude.{◌≤◌, length, vec_capacity};
     ghost use Rattle.sketch_base.specs.WriterValue.{WriterValue};
 
     ghost Value = { WriterValue };
 
     ghost view = { λ s. record { bytes = s.bytes.items; room = vec_capacity s.bytes } };
+
+    ghost invariant = { λ s. length s.bytes.items ≤ vec_capacity s.bytes };
 }
 
 /// A list of items was written in part: for the next one there is no room, and memory ran out.
@@ -50,7 +56,11 @@ impl SketchBytes {
     ///
     /// # Errors
     ///
-    /// Where memory runs out; never for a capacity of 0, which takes none.
+    /// If memory runs out.
+    ///
+    /// # Memory
+    ///
+    /// `capacity` bytes; none for a capacity of 0.
     pub fn with_capacity(alloc: Global, capacity: usize) -> Result<SketchBytes, AllocError>
         ensures empty { capacity ≡ 0 → IsOk result }
         ensures room { IfOk result (λ writer. writer ≡ record { bytes = []; room = capacity }) }
@@ -71,7 +81,7 @@ impl SketchBytes {
     ///
     /// # Errors
     ///
-    /// Where there is no room and memory runs out, as at every write: the writer is as it was.
+    /// If there is no room and memory runs out, as at every write: the writer is as it was.
     pub fn write(&mut self, buf: &[u8]) -> Result<(), AllocError>
         ensures { Writes buf.now self.old result self.new }
     {
@@ -203,7 +213,7 @@ impl SketchBytes {
     ///
     /// # Errors
     ///
-    /// Where there is no room for an item at that moment, and memory runs out: how many items were
+    /// If there is no room for an item at that moment, and memory runs out: how many items were
     /// written before it. Nothing is written of the others.
     #[tactic(auto, using(crate::proofs::ItemLemmas::one_item_more))]
     pub fn write_items(&mut self, items: &[Item]) -> Result<(), Stopped>

@@ -1,6 +1,7 @@
-//! The families of sketches, each with the byte that names it in serialized form.
+//! The families of sketches of [Apache DataSketches](https://datasketches.apache.org/), each with
+//! the byte that names it in serialized form.
 
-ghost use Rattle.std.specs.Prelude.{◌≡◌};
+ghost use Rattle.std.specs.Prelude.{◌≡◌, ℕ, List, [], ◌∷◌, codes, map};
 ghost use Rattle.sketch_base.specs.Checks.{AcceptsExactly};
 ghost use Rattle.sketch_base.specs.Refusals.{invalid_family_text};
 
@@ -105,8 +106,8 @@ impl Family {
     ///
     /// # Errors
     ///
-    /// At any other id: `InvalidData`, or `OutOfMemory` with no message where the text finds no
-    /// memory.
+    /// At any other id: `InvalidData`, or `OutOfMemory` with no message if memory for the text runs
+    /// out.
     pub fn validate_id(&self, alloc: Global, family_id: u8) -> Result<(), Error>
         ensures { AcceptsExactly (family_id ≡ self.now.id)
             (invalid_family_text self.now.id family_id self.now.name.now) result }
@@ -117,4 +118,28 @@ impl Family {
             Err(Error::invalid_family(alloc, self.id, family_id, self.name))
         }
     }
+}
+
+// Nothing calls this. Its clause is the table of the format's families, so that the check refuses a
+// constant that departs from it.
+fn families() -> [Family; 10]
+    ensures { map {B = ℕ × List ℕ × ℕ × ℕ}
+        (λ family. (family.id, family.name.now, family.min_pre_longs, family.max_pre_longs)) result
+        ≡ (3, codes "THETA", 1, 3) ∷ (7, codes "HLL", 1, 1) ∷ (9, codes "TUPLE", 1, 3)
+        ∷ (10, codes "FREQUENCY", 1, 4) ∷ (15, codes "KLL", 1, 2) ∷ (16, codes "CPC", 1, 5)
+        ∷ (17, codes "REQ", 1, 2) ∷ (18, codes "COUNTMIN", 2, 2) ∷ (20, codes "TDIGEST", 1, 2)
+        ∷ (21, codes "BLOOMFILTER", 3, 4) ∷ [] }
+{
+    [
+        Family::THETA,
+        Family::HLL,
+        Family::TUPLE,
+        Family::FREQUENCY,
+        Family::KLL,
+        Family::CPC,
+        Family::REQ,
+        Family::COUNTMIN,
+        Family::TDIGEST,
+        Family::BLOOMFILTER,
+    ]
 }

@@ -11,7 +11,7 @@ mod state;
 mod tail;
 
 pub use self::state::MurmurState;
-use self::tail::{join_words, read_partial_le, read_partial_words, split_words};
+use self::tail::{append, complete, left_over, read_partial_le, read_partial_words};
 use super::DEFAULT_UPDATE_SEED;
 use super::hasher::Hasher;
 use super::words::{read_u128_le, rotate, split_pieces, xor_shift};
@@ -129,7 +129,7 @@ impl MurmurHash3X64128 {
         requires few { length self.old.waiting + length bytes.now < 16 }
         ensures { self.new ≡ murmur_after self.old bytes.now }
     {
-        (self.low, self.high) = self.words_with(number);
+        (self.low, self.high) = append(self.low, self.high, self.count, bytes, number);
         self.total = self.total.wrapping_add(bytes.len() as u64);
         self.count += bytes.len();
     }
@@ -143,25 +143,11 @@ impl MurmurHash3X64128 {
         requires enough { 16 ≤ length self.old.waiting + length bytes.now }
         ensures { self.new ≡ murmur_after self.old bytes.now }
     {
-        let (k1, k2) = self.words_with(number);
+        let (k1, k2) = complete(self.low, self.high, self.count, bytes, number);
         (self.h1, self.h2) = step(self.h1, self.h2, k1, k2);
-        // The bytes that did not fit into the block.
-        (self.low, self.high) = split_words(number >> (8 * (BLOCK - self.count)));
+        (self.low, self.high) = left_over(self.count, bytes, number);
         self.total = self.total.wrapping_add(bytes.len() as u64);
         self.count = self.count + bytes.len() - BLOCK;
-    }
-
-    // The words of the waiting bytes with a number behind them. What goes beyond a block falls out.
-    #[inline(always)]
-    #[tactic(auto, using(crate::proofs::MurmurWrites::words_with))]
-    fn words_with(&self, number: u128) -> (u64, u64)
-        ensures { result ≡ (
-          (le self.now.waiting + number * 256 ^ length self.now.waiting) % 2 ^ 64,
-          (le self.now.waiting + number * 256 ^ length self.now.waiting) % 2 ^ 128 / 2 ^ 64,
-        ) }
-    {
-        let waiting = join_words(self.low, self.high);
-        split_words(waiting.wrapping_add(number << (8 * self.count)))
     }
 
     // Takes at least as many bytes as a block has: all blocks but the first straight from the
@@ -172,11 +158,12 @@ impl MurmurHash3X64128 {
         requires { 16 ≤ length bytes.now }
         ensures { self.new ≡ murmur_after self.old bytes.now }
     {
-        let (k1, k2) = self.words_with(read_u128_le(&bytes[..BLOCK]));
+        let front = read_u128_le(&bytes[..BLOCK]);
+        let (k1, k2) = complete(self.low, self.high, self.count, bytes, front);
         let (h1, h2) = step(self.h1, self.h2, k1, k2);
         let (blocks, last) = split_pieces::<BLOCK>(&bytes[BLOCK - self.count..]);
         (self.h1, self.h2) = fold_blocks(h1, h2, blocks);
-        (self.low, self.high) = split_words(read_partial_le(last));
+        (self.low, self.high) = read_partial_words(last);
         self.total = self.total.wrapping_add(bytes.len() as u64);
         self.count = last.len();
     }

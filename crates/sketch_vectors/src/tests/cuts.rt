@@ -4,7 +4,6 @@ use super::both::Both;
 use crate::tests::assert_same_for;
 use datasketches::hash::value::raw_bytes;
 use datasketches::hash::{Hash, MurmurHash3X64128, XxHash64};
-use std::alloc::AllocError;
 
 const MURMUR_SEED: u64 = 42;
 
@@ -115,30 +114,4 @@ fn states_answer_as_hashers(rt: HostRuntime) {
             );
         }
     }
-}
-
-#[test]
-fn copies_of_states_answer_as_they_do(rt: HostRuntime) -> Result<(), AllocError> {
-    let all = counting_bytes();
-    for count in 0..=97 {
-        let (front, back) = all.split_at(count);
-        let mut murmur = MurmurHash3X64128::with_seed(MURMUR_SEED).state();
-        let mut xxh64 = XxHash64::with_seed(XXH64_SEED).state();
-        murmur.write(front);
-        xxh64.write(front);
-        let (mut murmur_copy, mut xxh64_copy) = (murmur.clone()?, xxh64.clone()?);
-        murmur_copy.write(back);
-        xxh64_copy.write(back);
-        let of_copies = (
-            MurmurHash3X64128::resume(&murmur_copy).finish128(),
-            XxHash64::resume(&xxh64_copy).finish64(),
-        );
-        assert_same_for(&rt, of_copies, answers(&[&all]), count);
-        let of_states = (
-            MurmurHash3X64128::resume(&murmur).finish128(),
-            XxHash64::resume(&xxh64).finish64(),
-        );
-        assert_same_for(&rt, of_states, answers(&[front]), count);
-    }
-    Ok(())
 }

@@ -113,3 +113,22 @@ fn bytes_and_texts_agree(rt: HostRuntime) -> Result<(), AllocError> {
     }
     Ok(())
 }
+
+// Whether each of the four ways to wrap a text tells through the wrapper that it is empty.
+fn empty_ones(alloc: Global, text: &str) -> Result<[bool; 4], AllocError> {
+    let bytes = raw_bytes::from_vec(Vec::from_slice(alloc, text.as_bytes())?);
+    let string = raw_bytes::from_string(String::from_str(alloc, text)?);
+    Ok([
+        bytes.is_empty(),
+        raw_bytes::from_slice(text.as_bytes()).is_empty(),
+        string.is_empty(),
+        raw_bytes::from_str(text).is_empty(),
+    ])
+}
+
+#[test]
+fn emptiness_is_seen_through_the_wrapper(rt: HostRuntime) -> Result<(), AllocError> {
+    assert_same(&rt, empty_ones(rt.alloc(), "")?, [true; 4]);
+    assert_same(&rt, empty_ones(rt.alloc(), "abc")?, [false; 4]);
+    Ok(())
+}

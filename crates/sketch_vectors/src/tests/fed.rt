@@ -1,9 +1,11 @@
 //! The bytes that values feed.
 
 use crate::first_bytes::FirstBytes;
-use crate::tests::{FOX_MURMUR, assert_same, assert_same_for};
-use datasketches::hash::value::{feed_all, natural_extend, raw_bytes, sign_extend};
-use datasketches::hash::{Hash, Hasher, MurmurHash3X64128};
+use crate::tests::{assert_same, assert_same_for};
+use datasketches::hash::value::{
+    feed_all, natural_extend as natural, raw_bytes, sign_extend as sign,
+};
+use datasketches::hash::{Hash, Hasher};
 use std::alloc::AllocError;
 use std::process::Abort;
 
@@ -21,70 +23,74 @@ fn assert_fed(rt: &impl Abort, cases: &[(FirstBytes, &[u8])]) {
     }
 }
 
+// Asserts that each hasher was fed the eight bytes of the number beside it, the lowest first.
+fn assert_words(rt: &impl Abort, cases: &[(FirstBytes, i64)]) {
+    for (row, (hasher, expected)) in cases.iter().enumerate() {
+        assert_same_for(rt, hasher.bytes(), &expected.to_le_bytes(), row);
+    }
+}
+
+const ONES: &[u8] = &[0xff; 8];
+
 #[test]
-fn unsigned_numbers_extended_by_their_value(rt: HostRuntime) {
+fn extended_numbers_byte_by_byte(rt: HostRuntime) {
+    let minus_two: &[u8] = b"\xfe\xff\xff\xff\xff\xff\xff\xff";
+    let turned: &[u8] = b"\0\x80\xff\xff\xff\xff\xff\xff";
     assert_fed(
         &rt,
         &[
-            (
-                feed(natural_extend::from_u8(127)),
-                &[0x7f, 0, 0, 0, 0, 0, 0, 0],
-            ),
-            (
-                feed(natural_extend::from_u8(128)),
-                &[0x80, 0, 0, 0, 0, 0, 0, 0],
-            ),
-            (
-                feed(natural_extend::from_u8(255)),
-                &[0xff, 0, 0, 0, 0, 0, 0, 0],
-            ),
-            (
-                feed(natural_extend::from_u16(32767)),
-                &[0xff, 0x7f, 0, 0, 0, 0, 0, 0],
-            ),
-            (
-                feed(natural_extend::from_u16(32768)),
-                &[0, 0x80, 0, 0, 0, 0, 0, 0],
-            ),
-            (
-                feed(natural_extend::from_u32(2147483648)),
-                &[0, 0, 0, 0x80, 0, 0, 0, 0],
-            ),
-            (
-                feed(natural_extend::from_u32(4294967295)),
-                &[0xff, 0xff, 0xff, 0xff, 0, 0, 0, 0],
-            ),
+            (feed(sign::from_u8(255)), ONES),
+            (feed(natural::from_u8(255)), b"\xff\0\0\0\0\0\0\0"),
+            (feed(sign::from_u16(32768)), turned),
+            (feed(natural::from_u16(32768)), b"\0\x80\0\0\0\0\0\0"),
+            (feed(sign::from_i32(-2)), minus_two),
+            (feed(natural::from_i32(-2)), minus_two),
+        ],
+    );
+}
+
+// Of 64 bits both ways feed the same: a number is its own word.
+#[test]
+fn long_numbers_byte_by_byte(rt: HostRuntime) {
+    let half: &[u8] = b"\0\0\0\0\0\0\0\x80";
+    assert_fed(
+        &rt,
+        &[
+            (feed(natural::from_i64(-1)), ONES),
+            (feed(natural::from_u64(18446744073709551615)), ONES),
+            (feed(natural::from_u64(9223372036854775808)), half),
+            (feed(sign::from_u64(9223372036854775808)), half),
+            (feed(sign::from_i64(-1)), ONES),
+        ],
+    );
+}
+
+#[test]
+fn unsigned_numbers_extended_by_their_value(rt: HostRuntime) {
+    assert_words(
+        &rt,
+        &[
+            (feed(natural::from_u8(127)), 127),
+            (feed(natural::from_u8(128)), 128),
+            (feed(natural::from_u16(32767)), 32767),
+            (feed(natural::from_u16(65535)), 65535),
+            (feed(natural::from_u32(2147483648)), 2147483648),
+            (feed(natural::from_u32(4294967295)), 4294967295),
         ],
     );
 }
 
 #[test]
 fn unsigned_numbers_extended_by_their_highest_bit(rt: HostRuntime) {
-    assert_fed(
+    assert_words(
         &rt,
         &[
-            (
-                feed(sign_extend::from_u8(127)),
-                &[0x7f, 0, 0, 0, 0, 0, 0, 0],
-            ),
-            (
-                feed(sign_extend::from_u8(128)),
-                &[0x80, 0xff, 0xff, 0xff, 0xff, 0xff, 0xff, 0xff],
-            ),
-            (feed(sign_extend::from_u8(255)), &[0xff; 8]),
-            (
-                feed(sign_extend::from_u16(32767)),
-                &[0xff, 0x7f, 0, 0, 0, 0, 0, 0],
-            ),
-            (
-                feed(sign_extend::from_u16(32768)),
-                &[0, 0x80, 0xff, 0xff, 0xff, 0xff, 0xff, 0xff],
-            ),
-            (
-                feed(sign_extend::from_u32(2147483648)),
-                &[0, 0, 0, 0x80, 0xff, 0xff, 0xff, 0xff],
-            ),
-            (feed(sign_extend::from_u32(4294967295)), &[0xff; 8]),
+            (feed(sign::from_u8(127)), 127),
+            (feed(sign::from_u8(128)), -128),
+            (feed(sign::from_u16(32767)), 32767),
+            (feed(sign::from_u16(65535)), -1),
+            (feed(sign::from_u32(2147483648)), -2147483648),
+            (feed(sign::from_u32(4294967295)), -1),
         ],
     );
 }
@@ -92,213 +98,52 @@ fn unsigned_numbers_extended_by_their_highest_bit(rt: HostRuntime) {
 // A signed number has the same bytes in both ways.
 #[test]
 fn signed_numbers_extended_in_both_ways(rt: HostRuntime) {
-    assert_fed(
+    assert_words(
         &rt,
         &[
-            (
-                feed(natural_extend::from_i8(-128)),
-                &[0x80, 0xff, 0xff, 0xff, 0xff, 0xff, 0xff, 0xff],
-            ),
-            (
-                feed(sign_extend::from_i8(-128)),
-                &[0x80, 0xff, 0xff, 0xff, 0xff, 0xff, 0xff, 0xff],
-            ),
-            (feed(natural_extend::from_i8(-1)), &[0xff; 8]),
-            (feed(sign_extend::from_i8(-1)), &[0xff; 8]),
-            (
-                feed(natural_extend::from_i8(127)),
-                &[0x7f, 0, 0, 0, 0, 0, 0, 0],
-            ),
-            (
-                feed(sign_extend::from_i8(127)),
-                &[0x7f, 0, 0, 0, 0, 0, 0, 0],
-            ),
-            (
-                feed(natural_extend::from_i16(-32768)),
-                &[0, 0x80, 0xff, 0xff, 0xff, 0xff, 0xff, 0xff],
-            ),
-            (
-                feed(sign_extend::from_i16(-32768)),
-                &[0, 0x80, 0xff, 0xff, 0xff, 0xff, 0xff, 0xff],
-            ),
-            (feed(natural_extend::from_i16(-1)), &[0xff; 8]),
-            (feed(sign_extend::from_i16(-1)), &[0xff; 8]),
-            (
-                feed(natural_extend::from_i16(32767)),
-                &[0xff, 0x7f, 0, 0, 0, 0, 0, 0],
-            ),
-            (
-                feed(sign_extend::from_i16(32767)),
-                &[0xff, 0x7f, 0, 0, 0, 0, 0, 0],
-            ),
-            (
-                feed(natural_extend::from_i32(-2147483648)),
-                &[0, 0, 0, 0x80, 0xff, 0xff, 0xff, 0xff],
-            ),
-            (
-                feed(sign_extend::from_i32(-2147483648)),
-                &[0, 0, 0, 0x80, 0xff, 0xff, 0xff, 0xff],
-            ),
-            (
-                feed(natural_extend::from_i32(-2)),
-                &[0xfe, 0xff, 0xff, 0xff, 0xff, 0xff, 0xff, 0xff],
-            ),
-            (
-                feed(sign_extend::from_i32(-2)),
-                &[0xfe, 0xff, 0xff, 0xff, 0xff, 0xff, 0xff, 0xff],
-            ),
-            (feed(natural_extend::from_i32(-1)), &[0xff; 8]),
-            (feed(sign_extend::from_i32(-1)), &[0xff; 8]),
-        ],
-    );
-}
-
-// Of 64 bits both ways feed the same: a number is its own word.
-#[test]
-fn long_numbers_extended_in_both_ways(rt: HostRuntime) {
-    let half: &[u8] = &[0, 0, 0, 0, 0, 0, 0, 0x80];
-    assert_fed(
-        &rt,
-        &[
-            (feed(natural_extend::from_i64(-1)), &[0xff; 8]),
-            (
-                feed(natural_extend::from_u64(18446744073709551615)),
-                &[0xff; 8],
-            ),
-            (feed(natural_extend::from_u64(9223372036854775808)), half),
-            (feed(sign_extend::from_u64(9223372036854775808)), half),
-            (
-                feed(sign_extend::from_i64(-2)),
-                &[0xfe, 0xff, 0xff, 0xff, 0xff, 0xff, 0xff, 0xff],
-            ),
+            (feed(natural::from_i8(-128)), -128),
+            (feed(sign::from_i8(-128)), -128),
+            (feed(natural::from_i8(127)), 127),
+            (feed(sign::from_i8(-1)), -1),
+            (feed(natural::from_i16(-32768)), -32768),
+            (feed(sign::from_i16(-32768)), -32768),
+            (feed(natural::from_i16(-1)), -1),
+            (feed(sign::from_i16(32767)), 32767),
+            (feed(natural::from_i32(-2147483648)), -2147483648),
+            (feed(sign::from_i32(-2147483648)), -2147483648),
         ],
     );
 }
 
 #[test]
 fn plain_numbers(rt: HostRuntime) {
+    let greatest: &[u8] = b"\xff\xff\xff\xff\xff\xff\xff\x7f";
     assert_fed(
         &rt,
         &[
-            (feed(127u8), &[0x7f]),
-            (feed(128u8), &[0x80]),
-            (feed(255u8), &[0xff]),
-            (feed(-128i8), &[0x80]),
-            (feed(-1i8), &[0xff]),
-            (feed(127i8), &[0x7f]),
-            (feed(258u16), &[0x02, 0x01]),
-            (feed(32767u16), &[0xff, 0x7f]),
-            (feed(32768u16), &[0x00, 0x80]),
-            (feed(-32768i16), &[0x00, 0x80]),
-            (feed(-1i16), &[0xff, 0xff]),
-            (feed(32767i16), &[0xff, 0x7f]),
-            (feed(2147483648u32), &[0x00, 0x00, 0x00, 0x80]),
-            (feed(4294967295u32), &[0xff, 0xff, 0xff, 0xff]),
-            (feed(-2147483648i32), &[0x00, 0x00, 0x00, 0x80]),
-            (feed(-1i32), &[0xff, 0xff, 0xff, 0xff]),
-            (
-                feed(9223372036854775807u64),
-                &[0xff, 0xff, 0xff, 0xff, 0xff, 0xff, 0xff, 0x7f],
-            ),
-            (
-                feed(18446744073709551615u64),
-                &[0xff, 0xff, 0xff, 0xff, 0xff, 0xff, 0xff, 0xff],
-            ),
-            (
-                feed(-9223372036854775808i64),
-                &[0x00, 0x00, 0x00, 0x00, 0x00, 0x00, 0x00, 0x80],
-            ),
-            (
-                feed(-1i64),
-                &[0xff, 0xff, 0xff, 0xff, 0xff, 0xff, 0xff, 0xff],
-            ),
-            (
-                feed(9223372036854775807i64),
-                &[0xff, 0xff, 0xff, 0xff, 0xff, 0xff, 0xff, 0x7f],
-            ),
+            (feed(127u8), b"\x7f"),
+            (feed(128u8), b"\x80"),
+            (feed(255u8), b"\xff"),
+            (feed(-128i8), b"\x80"),
+            (feed(-1i8), b"\xff"),
+            (feed(127i8), b"\x7f"),
+            (feed(258u16), b"\x02\x01"),
+            (feed(32767u16), b"\xff\x7f"),
+            (feed(32768u16), b"\0\x80"),
+            (feed(-32768i16), b"\0\x80"),
+            (feed(-1i16), b"\xff\xff"),
+            (feed(32767i16), b"\xff\x7f"),
+            (feed(2147483648u32), b"\0\0\0\x80"),
+            (feed(4294967295u32), b"\xff\xff\xff\xff"),
+            (feed(-2147483648i32), b"\0\0\0\x80"),
+            (feed(-1i32), b"\xff\xff\xff\xff"),
+            (feed(9223372036854775807u64), greatest),
+            (feed(18446744073709551615u64), ONES),
+            (feed(-9223372036854775808i64), b"\0\0\0\0\0\0\0\x80"),
+            (feed(-1i64), ONES),
+            (feed(9223372036854775807i64), greatest),
         ],
     );
-}
-
-// Numbers that feed eight bytes answer them as a word, and others none.
-#[test]
-fn words_are_the_numbers_that_are_fed(rt: HostRuntime) {
-    assert_same(
-        &rt,
-        [
-            natural_extend::from_u8(255).word(),
-            natural_extend::from_i8(-1).word(),
-            natural_extend::from_u16(65535).word(),
-            natural_extend::from_i16(-2).word(),
-            natural_extend::from_u32(4294967295).word(),
-            natural_extend::from_i32(-3).word(),
-            natural_extend::from_u64(u64::MAX).word(),
-            natural_extend::from_i64(i64::MIN).word(),
-            sign_extend::from_u8(255).word(),
-            sign_extend::from_i8(127).word(),
-            sign_extend::from_u16(65534).word(),
-            sign_extend::from_i16(-2).word(),
-            sign_extend::from_u32(4294967293).word(),
-            sign_extend::from_i32(-3).word(),
-            sign_extend::from_u64(1 << 63).word(),
-            sign_extend::from_i64(i64::MIN).word(),
-            7u64.word(),
-            (-7i64).word(),
-        ],
-        [
-            Some(255),
-            Some(u64::MAX),
-            Some(65535),
-            Some(u64::MAX - 1),
-            Some(4294967295),
-            Some(u64::MAX - 2),
-            Some(u64::MAX),
-            Some(1 << 63),
-            Some(u64::MAX),
-            Some(127),
-            Some(u64::MAX - 1),
-            Some(u64::MAX - 1),
-            Some(u64::MAX - 2),
-            Some(u64::MAX - 2),
-            Some(1 << 63),
-            Some(1 << 63),
-            Some(7),
-            Some(u64::MAX - 6),
-        ],
-    );
-    let text = raw_bytes::from_str("8 letter");
-    assert_same(&rt, [7u32.word(), (-7i8).word(), text.word()], [None; 3]);
-    // Each number of 8 bits, and wider ones that repeat its byte, also with the highest bit turned.
-    for byte in 0..=u8::MAX {
-        for last in [byte, byte ^ 0x80] {
-            let of8 = byte.cast_signed();
-            let of16 = i16::from_le_bytes([byte, last]);
-            let of32 = i32::from_le_bytes([byte, byte, byte, last]);
-            let of64 = i64::from_le_bytes([byte, byte, byte, byte, byte, byte, byte, last]);
-            let words = [
-                natural_extend::from_u8(byte).word(),
-                natural_extend::from_i8(of8).word(),
-                natural_extend::from_u16(of16.cast_unsigned()).word(),
-                natural_extend::from_i16(of16).word(),
-                natural_extend::from_u32(of32.cast_unsigned()).word(),
-                natural_extend::from_i32(of32).word(),
-                natural_extend::from_u64(of64.cast_unsigned()).word(),
-                natural_extend::from_i64(of64).word(),
-                sign_extend::from_u8(byte).word(),
-                sign_extend::from_i8(of8).word(),
-                sign_extend::from_u16(of16.cast_unsigned()).word(),
-                sign_extend::from_i16(of16).word(),
-                sign_extend::from_u32(of32.cast_unsigned()).word(),
-                sign_extend::from_i32(of32).word(),
-                sign_extend::from_u64(of64.cast_unsigned()).word(),
-                sign_extend::from_i64(of64).word(),
-                of64.cast_unsigned().word(),
-                of64.word(),
-            ];
-            let none = words.iter().position(|word| word.is_none());
-            assert_same_for(&rt, none, None, (byte, last));
-        }
-    }
 }
 
 #[test]
@@ -338,16 +183,6 @@ fn values_of_a_list_in_order(rt: HostRuntime) {
     let mut hasher = FirstBytes::new();
     feed_all(&texts, &mut hasher);
     assert_same(&rt, hasher.bytes(), b"abc".as_slice());
-
-    let pieces = [
-        raw_bytes::from_slice(b"T"),
-        raw_bytes::from_slice(b"he quick brown "),
-        raw_bytes::from_slice(b"fox jumps over t"),
-        raw_bytes::from_slice(b"he lazy dog"),
-    ];
-    let mut murmur = MurmurHash3X64128::with_seed(0);
-    feed_all(&pieces, &mut murmur);
-    assert_same(&rt, murmur.finish128(), FOX_MURMUR);
 }
 
 #[test]

@@ -4,7 +4,7 @@ ghost use Rattle.std.specs.Prelude.{◌≡◌, ℕ, ◌+◌, ◌%◌, ◌<◌, L
 ghost use Rattle.sketch_hash.specs.Held.{murmur_held, MurmurHolds};
 ghost use Rattle.sketch_hash.specs.Murmur.{murmur_after, MurmurStands};
 
-use super::tail::{join_words, read_front_le, split_words};
+use super::tail::{join_words, read_front};
 use super::{BLOCK, MurmurHash3X64128};
 use crate::hash::copy::copy_small;
 use crate::hash::hasher::Hasher;
@@ -76,14 +76,13 @@ impl MurmurState {
 impl MurmurHash3X64128 {
     /// A hasher that goes on from a state.
     #[inline(always)]
-    #[tactic(auto, using(crate::proofs::HeldLemmas::resumed))]
     pub fn resume(state: &MurmurState) -> Self
         ensures held { result ≡ murmur_held state.now }
         ensures stands { (seed : ℕ) (bytes : List ℕ) → MurmurHolds state.now seed bytes →
             MurmurStands result seed bytes }
     {
         let count = state.waiting_count();
-        let (low, high) = split_words(read_front_le(&state.waiting, count));
+        let (low, high) = read_front(&state.waiting, count);
         MurmurHash3X64128 {
             h1: state.h1,
             h2: state.h2,

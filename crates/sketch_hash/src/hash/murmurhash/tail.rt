@@ -1,8 +1,11 @@
 //! Blocks and tails as numbers and words.
 
-ghost use Rattle.std.specs.Prelude.{◌≡◌, ◌+◌, ◌-◌, ◌*◌, ◌/◌, ◌%◌, ◌^◌, ◌<◌, ◌≤◌, length, take};
+ghost use Rattle.std.specs.Prelude.{◌≡◌, ◌+◌, ◌-◌, ◌*◌, ◌/◌, ◌%◌, ◌^◌, ◌<◌, ◌≤◌, ◌++◌, length, take, drop, min};
 ghost use Rattle.sketch_base.specs.Bytes.{le, low_bytes};
+ghost use Rattle.sketch_hash.specs.Murmur.{block_words};
+ghost use Rattle.sketch_hash.specs.Waits.{Waits};
 
+use super::BLOCK;
 use crate::hash::words::{read_u16_le, read_u32_le, read_u64_le, read_u128_le};
 
 /// The little-endian number of fewer than 16 bytes.
@@ -17,8 +20,17 @@ pub(super) fn read_partial_le(bytes: &[u8]) -> u128
 
 /// The same as two words, the lower first.
 #[inline(always)]
-#[tactic(auto, using(crate::proofs::NumberLemmas::few_le, crate::proofs::NumberLemmas::last_le))]
 pub(super) fn read_partial_words(bytes: &[u8]) -> (u64, u64)
+    requires { length bytes.now < 16 }
+    ensures words { result ≡ (le bytes.now % 2 ^ 64, le bytes.now / 2 ^ 64) }
+    ensures waits { Waits (length bytes.now) result.0 result.1 bytes.now }
+{
+    read_two_words(bytes)
+}
+
+#[inline(always)]
+#[tactic(auto, using(crate::proofs::NumberLemmas::few_le, crate::proofs::NumberLemmas::last_le))]
+fn read_two_words(bytes: &[u8]) -> (u64, u64)
     requires { length bytes.now < 16 }
     ensures { result ≡ (le bytes.now % 2 ^ 64, le bytes.now / 2 ^ 64) }
 {
@@ -74,6 +86,59 @@ fn combine_overlapping(first: u32, last: u32, width: usize, count: usize) -> u64
     u64::from(first) | (behind << (8 * width))
 }
 
+/// The words of waiting bytes and of others behind them, where these fill no block. The number is
+/// that of the others.
+#[inline(always)]
+pub(super) fn append(low: u64, high: u64, count: usize, bytes: &[u8], number: u128) -> (u64, u64)
+    requires waits { (low < 256 ^ min count 8) × (high < 256 ^ (count - 8)) }
+    requires few { count + length bytes.now < 16 }
+    requires number { number ≡ le bytes.now }
+    ensures { Waits (count + length bytes.now) result.0 result.1
+        (low_bytes count (low + high * 2 ^ 64) ++ bytes.now) }
+{
+    place_behind(low, high, count, number)
+}
+
+/// The words of the block that waiting bytes and others behind them fill. The number is that of the
+/// first 16 of the others.
+#[inline(always)]
+#[tactic(auto, using(crate::proofs::MurmurWrites::filled))]
+pub(super) fn complete(low: u64, high: u64, count: usize, bytes: &[u8], number: u128) -> (u64, u64)
+    requires waits { (low < 256 ^ min count 8) × (high < 256 ^ (count - 8)) }
+    requires begun { count < 16 }
+    requires enough { 16 ≤ count + length bytes.now }
+    requires number { number ≡ le (take 16 bytes.now) }
+    ensures { result ≡ block_words
+        (low_bytes count (low + high * 2 ^ 64) ++ take (16 - count) bytes.now) }
+{
+    place_behind(low, high, count, number)
+}
+
+/// The words of those of the others that do not fit into the block. The number is that of the
+/// others.
+#[inline(always)]
+pub(super) fn left_over(count: usize, bytes: &[u8], number: u128) -> (u64, u64)
+    requires begun { count < 16 }
+    requires few { length bytes.now < 16 }
+    requires enough { 16 ≤ count + length bytes.now }
+    requires number { number ≡ le bytes.now }
+    ensures { Waits (count + length bytes.now - 16) result.0 result.1
+        (drop (16 - count) bytes.now) }
+{
+    split_words(number >> (8 * (BLOCK - count)))
+}
+
+// The words of waiting bytes with a number behind them. What goes beyond a block falls out.
+#[inline(always)]
+#[tactic(auto, using(crate::proofs::MurmurWrites::placed))]
+fn place_behind(low: u64, high: u64, count: usize, number: u128) -> (u64, u64)
+    requires { count < 16 }
+    ensures { let sum = (low + high * 2 ^ 64 + number * 256 ^ count) % 2 ^ 128 in
+        result ≡ (sum % 2 ^ 64, sum / 2 ^ 64) }
+{
+    split_words(join_words(low, high).wrapping_add(number << (8 * count)))
+}
+
 /// The number of a block, from its two words.
 #[inline(always)]
 pub(super) fn join_words(low: u64, high: u64) -> u128
@@ -84,19 +149,17 @@ pub(super) fn join_words(low: u64, high: u64) -> u128
 
 /// The two words of a block, from its number.
 #[inline(always)]
-pub(super) fn split_words(number: u128) -> (u64, u64)
+fn split_words(number: u128) -> (u64, u64)
     ensures { result ≡ (number % 2 ^ 64, number / 2 ^ 64) }
 {
     ((number % (1 << 64)) as u64, (number >> 64) as u64)
 }
 
-/// The little-endian number of the first `count` bytes of a block, for a `count` below 16.
+/// The words of the first `count` bytes of a block, for a `count` below 16.
 #[inline(always)]
-#[tactic(auto, using(crate::proofs::NumberLemmas::front))]
-pub(super) fn read_front_le(block: &[u8; 16], count: usize) -> u128
+pub(super) fn read_front(block: &[u8; 16], count: usize) -> (u64, u64)
     requires { count < 16 }
-    ensures below { result < 256 ^ count }
-    ensures bytes { low_bytes count result ≡ take count block.now }
+    ensures { Waits count result.0 result.1 (take count block.now) }
 {
-    read_u128_le(block) % (1 << (8 * count))
+    split_words(read_u128_le(block) % (1 << (8 * count)))
 }

@@ -1,0 +1,45 @@
+//! Tests of what no clause says: worked rows, printed texts, and memory that is refused.
+
+mod checks;
+mod error;
+mod items;
+mod reads;
+mod writes;
+
+use crate::error::{Error, ErrorKind};
+use std::fmt::{Debug, Display};
+use std::io::{Eprint, Write};
+use std::process::Abort;
+
+/// Asserts that two values are equal.
+fn assert_same<T: PartialEq + Debug + Drop>(rt: &impl Abort, left: T, right: T) {
+    assert_eq!(rt; left, right);
+}
+
+/// Whether a value prints exactly this text, of at most 256 bytes. Asks for no memory.
+fn prints<D: Display + Drop>(value: D, text: &str) -> bool {
+    let mut printed = [0; 256];
+    let mut rest = printed.as_mut_slice();
+    let is_whole = rest.write_fmt(value).is_ok();
+    let count = 256usize.saturating_sub(rest.len());
+    is_whole && printed.get(..count) == Some(text.as_bytes())
+}
+
+/// Asserts that an error displays this line.
+fn assert_line(rt: &impl Abort, error: Error, line: &str) {
+    assert!(rt; prints(&error, line), "not {line}");
+}
+
+/// Asserts that an error displays this line, or that memory for its text ran out.
+fn assert_line_or_refusal<R: Abort + Eprint>(rt: &R, error: Error, line: &str) {
+    if error.kind() == ErrorKind::OutOfMemory {
+        tell_refusal(rt);
+        return assert_line(rt, error, "OutOfMemory");
+    }
+    assert_line(rt, error, line);
+}
+
+/// Writes the line that tells of a refused request for memory.
+fn tell_refusal(rt: &impl Eprint) {
+    let _ = rt.eprintln("out of memory");
+}

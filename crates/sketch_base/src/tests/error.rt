@@ -1,0 +1,119 @@
+//! What errors print, and contexts for which memory runs out.
+
+use super::{assert_line, assert_line_or_refusal, assert_same, tell_refusal};
+use crate::error::Error;
+use crate::error::ErrorKind::{self, InvalidArgument, InvalidData, OutOfMemory};
+use std::alloc::{AllocError, Global};
+use std::io::Eprint;
+use std::process::Abort;
+
+fn error_of(alloc: Global, kind: ErrorKind, message: &str) -> Result<Error, AllocError> {
+    Ok(Error::new(kind, String::from_str(alloc, message)?))
+}
+
+// Asserts that a text was made, and that it is this one.
+fn assert_text(rt: &impl Abort, made: Result<String, AllocError>, text: &str) {
+    assert_same(rt, made.ok().as_deref(), Some(text));
+}
+
+const KINDS: [(ErrorKind, &'static str, &'static str); 3] = [
+    (InvalidArgument, "InvalidArgument", "InvalidArgument => m"),
+    (InvalidData, "InvalidData", "InvalidData => m"),
+    (OutOfMemory, "OutOfMemory", "OutOfMemory => m"),
+];
+
+#[test]
+fn kinds_print_their_names_at_any_width(rt: HostRuntime) -> Result<(), AllocError> {
+    for (kind, name, line) in &KINDS {
+        assert_same(&rt, kind.into_static(), *name);
+        assert_text(&rt, format!(in rt.alloc(); "{kind:20}"), name);
+        assert_text(&rt, format!(in rt.alloc(); "{kind:?}"), name);
+        assert_line(&rt, error_of(rt.alloc(), *kind, "m")?, line);
+    }
+    let bare = Error::new(OutOfMemory, String::new(rt.alloc()));
+    assert_text(&rt, format!(in rt.alloc(); "{bare:20}"), "OutOfMemory");
+    Ok(())
+}
+
+#[test]
+fn errors_show_their_contexts_line_by_line(rt: HostRuntime) -> Result<(), AllocError> {
+    let alloc = rt.alloc();
+    let error = error_of(alloc, InvalidData, "m")?;
+    assert!(rt; error.kind() == InvalidData && error.message() == "m");
+    assert_text(&rt, format!(in alloc; "{error:?}"), "InvalidData => m\n");
+    let fields = "Error {\n    kind: InvalidData,\n    message: \"m\",\n    context: [],\n}";
+    assert_text(&rt, format!(in alloc; "{error:#?}"), fields);
+    let Ok(error) = error.with_context(alloc, "a", 1u8) else {
+        return Err(AllocError);
+    };
+    let lines = "InvalidData => m\n\nContext:\n   a: 1\n";
+    assert_text(&rt, format!(in alloc; "{error:?}"), lines);
+    Ok(())
+}
+
+#[test]
+fn messages_handed_in(rt: HostRuntime) -> Result<(), AllocError> {
+    let wrong = error_of(rt.alloc(), InvalidArgument, "something went wrong")?;
+    assert_line(&rt, wrong, "InvalidArgument => something went wrong");
+    let bad = Error::invalid_argument(String::from_str(rt.alloc(), "bad input")?);
+    assert_line(&rt, bad, "InvalidArgument => bad input");
+    let bad = Error::deserial(String::from_str(rt.alloc(), "bad input")?);
+    assert_line(&rt, bad, "InvalidData => bad input");
+    assert_line(&rt, Error::from(AllocError), "OutOfMemory");
+    Ok(())
+}
+
+#[test]
+fn texts_that_are_built_without_memory(rt: HostRuntime) {
+    let alloc = rt.alloc();
+    let error = Error::insufficient_data(alloc, "x");
+    assert_line_or_refusal(&rt, error, "InvalidData => insufficient data: x");
+    let error = Error::insufficient_data_of(alloc, "header", 5u8);
+    assert_line_or_refusal(&rt, error, "InvalidData => insufficient data (header): 5");
+    let error = Error::invalid_preamble_longs(alloc, &[1, 2], 3);
+    let line = "InvalidData => invalid preamble longs: expected one of [1, 2], got 3";
+    assert_line_or_refusal(&rt, error, line);
+    let error = Error::invalid_preamble_ints(alloc, 2, 9);
+    let line = "InvalidData => invalid preamble ints: expected 2, got 9";
+    assert_line_or_refusal(&rt, error, line);
+}
+
+// The error that an attempt to add a context left, and whether it was added.
+fn after_attempt(rt: &impl Eprint, added: Result<Error, Error>) -> (Error, bool) {
+    match added {
+        Ok(error) => (error, true),
+        Err(error) => {
+            tell_refusal(rt);
+            (error, false)
+        }
+    }
+}
+
+// A context for which memory runs out leaves the error as it was.
+#[test]
+fn contexts_without_memory(rt: HostRuntime) {
+    let Ok(error) = error_of(rt.alloc(), InvalidData, "parsing failed") else {
+        return tell_refusal(&rt);
+    };
+    let added = error.with_context(rt.alloc(), "index", 42u8);
+    let (error, has_index) = after_attempt(&rt, added);
+    let added = error.with_context(rt.alloc(), "file", "foo");
+    let (error, has_file) = after_attempt(&rt, added);
+    let line = match (has_index, has_file) {
+        (true, true) => "InvalidData, context: { index: 42, file: foo } => parsing failed",
+        (true, false) => "InvalidData, context: { index: 42 } => parsing failed",
+        (false, true) => "InvalidData, context: { file: foo } => parsing failed",
+        (false, false) => "InvalidData => parsing failed",
+    };
+    assert_line(&rt, error, line);
+}
+
+#[test]
+fn a_context_and_no_message_without_memory(rt: HostRuntime) {
+    let error = Error::new(InvalidData, String::new(rt.alloc()));
+    let added = error.with_context(rt.alloc(), "a", 1u8);
+    match after_attempt(&rt, added) {
+        (error, true) => assert_line(&rt, error, "InvalidData, context: { a: 1 }"),
+        (error, false) => assert_line(&rt, error, "InvalidData"),
+    }
+}

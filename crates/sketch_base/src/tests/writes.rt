@@ -1,0 +1,136 @@
+//! Writers, with memory and without.
+
+use super::{assert_same, tell_refusal};
+use crate::codec::{Item, Kind, SketchBytes, SketchSlice, Stopped};
+use std::alloc::AllocError;
+use std::process::Abort;
+
+#[test]
+fn writes_within_room(rt: HostRuntime) -> Result<(), AllocError> {
+    assert!(rt; SketchBytes::with_capacity(rt.alloc(), usize::MAX).is_err());
+    let mut writer = SketchBytes::with_capacity(rt.alloc(), 5)?;
+    writer.write_u16_le(0x0102)?;
+    writer.write_u16_be(0x0102)?;
+    writer.write_i8(-1)?;
+    assert_same(&rt, writer.into_bytes().as_slice(), &[2, 1, 1, 2, 0xff]);
+    Ok(())
+}
+
+#[test]
+fn a_hundred_thousand_numbers(rt: HostRuntime) -> Result<(), AllocError> {
+    let mut writer = SketchBytes::with_capacity(rt.alloc(), 0)?;
+    for i in 0..100_000 {
+        writer.write_u64_le(i)?;
+    }
+    let bytes = writer.into_bytes();
+    let is_last = bytes.ends_with(&[0x9f, 0x86, 1, 0, 0, 0, 0, 0]);
+    assert_same(&rt, (bytes.len(), is_last), (800_000, true));
+    Ok(())
+}
+
+// Items of one, four and eight bytes, their kinds and their bytes.
+const LIST: [Item; 5] = [
+    Item::U8(1),
+    Item::U32Be(2),
+    Item::U64Le(3),
+    Item::U8(4),
+    Item::U8(5),
+];
+
+const KINDS: [Kind; 5] = [Kind::U8, Kind::U32Be, Kind::U64Le, Kind::U8, Kind::U8];
+
+const BYTES: [u8; 15] = [1, 0, 0, 0, 2, 3, 0, 0, 0, 0, 0, 0, 0, 4, 5];
+
+#[test]
+fn lists_are_written_into_memory_that_grows(rt: HostRuntime) -> Result<(), AllocError> {
+    let mut writer = SketchBytes::with_capacity(rt.alloc(), 0)?;
+    let answers = [writer.write_items(&[]), writer.write_items(&LIST)];
+    assert_same(&rt, answers, [Ok(()); 2]);
+    assert_same(&rt, writer.into_bytes().as_slice(), &BYTES);
+    Ok(())
+}
+
+// What was written, and two bytes after it.
+#[test]
+fn lists_are_read_back_and_take_no_memory(rt: HostRuntime) {
+    let mut reader = SketchSlice::new(b"\x01\0\0\0\x02\x03\0\0\0\0\0\0\0\x04\x05\xaa\xbb");
+    let mut places = [Item::U8(0); 5];
+    let answer = reader.read_items(&KINDS, &mut places);
+    assert_same(&rt, (answer, places), (Ok(()), LIST));
+    assert_same(&rt, reader.remaining(), &[0xaa, 0xbb]);
+}
+
+// What each of three writes adds.
+const PIECES: [&[u8]; 3] = [&[1, 0], &[2, 3, 4], &[0, 0, 0, 0, 0, 0, 0, 5]];
+
+// Writes the three, and checks that the writer has just those that were accepted, of which it
+// tells whether they are all.
+fn write_pieces(rt: &impl Abort, mut writer: SketchBytes) -> bool {
+    let accepted = [
+        writer.write_u16_le(1).is_ok(),
+        writer.write(&[2, 3, 4]).is_ok(),
+        writer.write_u64_be(5).is_ok(),
+    ];
+    let bytes = writer.into_bytes();
+    let mut rest = Some(bytes.as_slice());
+    for i in 0..3 {
+        if accepted[i] {
+            rest = rest.and_then(|rest| rest.strip_prefix(PIECES[i]));
+        }
+    }
+    assert_same(rt, rest, Some([].as_slice()));
+    accepted == [true; 3]
+}
+
+#[test]
+fn writes_are_whole_or_nothing_without_memory(rt: HostRuntime) {
+    let writer = SketchBytes::with_capacity(rt.alloc(), 0);
+    if !writer.is_ok_and(|writer| write_pieces(&rt, writer)) {
+        tell_refusal(&rt);
+    }
+}
+
+#[test]
+fn writes_within_room_without_memory(rt: HostRuntime) {
+    match SketchBytes::with_capacity(rt.alloc(), 13) {
+        Ok(writer) => assert_same(&rt, write_pieces(&rt, writer), true),
+        Err(AllocError) => tell_refusal(&rt),
+    }
+}
+
+#[test]
+fn lists_tell_what_was_written_without_memory(rt: HostRuntime) {
+    let Ok(mut writer) = SketchBytes::with_capacity(rt.alloc(), 0) else {
+        return tell_refusal(&rt);
+    };
+    let accepted = match writer.write_items(&LIST) {
+        Ok(()) => 5,
+        Err(Stopped { accepted }) => {
+            tell_refusal(&rt);
+            accepted
+        }
+    };
+    let count = [0, 1, 5, 13, 14, 15].get(accepted).copied();
+    let written = count.and_then(|count| BYTES.get(..count));
+    assert_same(&rt, Some(writer.into_bytes().as_slice()), written);
+}
+
+// The first two items fill the room of five bytes, which was the first request for memory. The
+// third item makes the second one.
+#[test]
+fn a_list_stops_where_the_second_request_is_refused(rt: HostRuntime) {
+    let Ok(mut writer) = SketchBytes::with_capacity(rt.alloc(), 5) else {
+        return tell_refusal(&rt);
+    };
+    let answer = writer.write_items(&LIST);
+    let bytes = writer.into_bytes();
+    if answer == Ok(()) {
+        return assert_same(&rt, bytes.as_slice(), &BYTES);
+    }
+    tell_refusal(&rt);
+    assert_same(&rt, answer, Err(Stopped { accepted: 2 }));
+    assert_same(&rt, bytes.as_slice(), &[1, 0, 0, 0, 2]);
+    let mut places = [Item::U8(0); 2];
+    let read = SketchSlice::new(&bytes).read_items(&[Kind::U8, Kind::U32Be], &mut places);
+    assert_same(&rt, (read, places), (Ok(()), [Item::U8(1), Item::U32Be(2)]));
+}

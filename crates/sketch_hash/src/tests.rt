@@ -1,0 +1,36 @@
+//! Tests of what no clause says: worked rows, printed texts, and memory that is refused. Streams
+//! cut in every way, and answers from elsewhere, stand in `sketch_vectors`.
+
+mod columns;
+mod hashers;
+mod seed;
+mod value;
+
+use std::fmt::Debug;
+use std::io::Eprint;
+use std::process::Abort;
+
+/// The sentence that hashes are shown on, and its hashes under seed 0.
+const FOX: &[u8] = b"The quick brown fox jumps over the lazy dog";
+
+const FOX_MURMUR: (u64, u64) = (0xe34b_bc7b_bc07_1b6c, 0x7a43_3ca9_c49a_9347);
+
+const FOX_XXH64: u64 = 0x0b24_2d36_1fda_71bc;
+
+/// The sentence in four writes.
+const FOX_PIECES: [&[u8]; 4] = [
+    b"T",
+    b"he quick brown ",
+    b"fox jumps over t",
+    b"he lazy dog",
+];
+
+/// Asserts that two values are equal.
+fn assert_same<T: PartialEq + Debug + Drop>(rt: &impl Abort, left: T, right: T) {
+    assert_eq!(rt; left, right);
+}
+
+/// Writes the line that tells of a refused request for memory.
+fn tell_refusal(rt: &impl Eprint) {
+    let _ = rt.eprintln("out of memory");
+}

@@ -1,0 +1,149 @@
+//! Both hashers by their single calls.
+
+use super::{FOX, FOX_MURMUR, FOX_PIECES, FOX_XXH64, assert_same};
+use crate::hash::{Hasher, MurmurHash3X64128, XxHash64};
+use crate::known_answers::TEST_BUFFER;
+
+// What Murmur answers under seed 0 after a write of each piece.
+const MURMUR: [(&[&[u8]], (u64, u64)); 4] = [
+    (&FOX_PIECES, FOX_MURMUR),
+    (
+        &[b"The quick brown fox jumps over the lazy1"],
+        (0xe3301a827e5cdfe3, 0xbdbf05f8da0f0392),
+    ),
+    (
+        &[b"The quick brown fox jumps over t"],
+        (0xdf6af91bb29bdacf, 0x91a341c58df1f3a6),
+    ),
+    (
+        &[b"The quick brown fox jumps over t", b""],
+        (0xdf6af91bb29bdacf, 0x91a341c58df1f3a6),
+    ),
+];
+
+fn murmur_of(seed: u64, pieces: &[&[u8]]) -> (u64, u64) {
+    let mut hasher = MurmurHash3X64128::with_seed(seed);
+    for piece in pieces {
+        hasher.write(piece);
+    }
+    hasher.finish128()
+}
+
+#[test]
+fn murmur_of_pieces(rt: HostRuntime) {
+    for (pieces, expected) in &MURMUR {
+        assert_same(&rt, murmur_of(0, pieces), *expected);
+    }
+}
+
+// What XXH64 answers: the seed, how many bytes of the test buffer, and the hash.
+const XXH64: [(u64, usize, u64); 5] = [
+    (0, 0, 0xef46_db37_51d8_e999),
+    (0x9E37_79B1, 0, 0xac75_fda2_929b_17ef),
+    (0, 32, 0x18b2_1649_2bb4_4b70),
+    (0, 33, 0x55c8_dc3e_578f_5b59),
+    (0, 100, 0x4bfe_019c_d91d_9ea4),
+];
+
+#[test]
+fn xxh64_of_the_test_buffer(rt: HostRuntime) {
+    for (seed, count, expected) in &XXH64 {
+        let mut hasher = XxHash64::with_seed(*seed);
+        hasher.write(&TEST_BUFFER[..(*count).min(100)]);
+        assert_same(&rt, hasher.finish64(), *expected);
+    }
+}
+
+#[test]
+fn xxh64_is_asked_and_goes_on(rt: HostRuntime) {
+    let mut hasher = XxHash64::with_seed(0);
+    hasher.write(&TEST_BUFFER[..32]);
+    assert_same(&rt, hasher.finish64(), 0x18b2_1649_2bb4_4b70);
+    hasher.write(&TEST_BUFFER[32..33]);
+    assert_same(&rt, hasher.finish(), 0x55c8_dc3e_578f_5b59);
+}
+
+#[test]
+fn one_call_answers_as_a_hasher(rt: HostRuntime) {
+    assert_same(&rt, MurmurHash3X64128::hash(FOX, 0), FOX_MURMUR);
+    assert_same(&rt, XxHash64::hash(FOX, 0), FOX_XXH64);
+    let mut hasher = XxHash64::with_seed(0);
+    hasher.write(&[0x7b, 0, 0, 0, 0, 0, 0, 0]);
+    assert_same(&rt, XxHash64::hash_u64(123, 0), hasher.finish64());
+}
+
+// A state is written to, taken up by a hasher, and given back.
+#[test]
+fn states_go_on(rt: HostRuntime) {
+    let (front, back) = FOX.split_at(20);
+    let mut murmur = MurmurHash3X64128::with_seed(0).state();
+    murmur.write(front);
+    let mut resumed = MurmurHash3X64128::resume(&murmur);
+    resumed.write(back);
+    assert_same(&rt, resumed.finish128(), FOX_MURMUR);
+    let mut xxh64 = XxHash64::with_seed(0).state();
+    xxh64.write(front);
+    let mut resumed = XxHash64::resume(&xxh64);
+    resumed.write(back);
+    assert_same(&rt, resumed.finish64(), FOX_XXH64);
+}
+
+// The bytes of the numbers that are written below.
+const NUMBERS: [&[u8]; 8] = [
+    b"\x01",
+    b"\xff",
+    b"\x02\x01",
+    b"\xfe\xff",
+    b"\x04\x03\x02\x01",
+    b"\xfd\xff\xff\xff",
+    b"\x08\x07\x06\x05\x04\x03\x02\x01",
+    b"\xfc\xff\xff\xff\xff\xff\xff\xff",
+];
+
+// Writes the number at this place of the list.
+fn write_number<H: Hasher>(hasher: &mut H, place: usize) {
+    match place {
+        0 => hasher.write_u8(1),
+        1 => hasher.write_i8(-1),
+        2 => hasher.write_u16(0x0102),
+        3 => hasher.write_i16(-2),
+        4 => hasher.write_u32(0x0102_0304),
+        5 => hasher.write_i32(-3),
+        6 => hasher.write_u64(0x0102_0304_0506_0708),
+        _ => hasher.write_i64(-4),
+    }
+}
+
+#[test]
+fn numbers_are_written_lowest_byte_first(rt: HostRuntime) {
+    for place in 0..8 {
+        let mut murmur = MurmurHash3X64128::with_seed(7);
+        write_number(&mut murmur, place);
+        assert_same(
+            &rt,
+            murmur.finish128(),
+            MurmurHash3X64128::hash(NUMBERS[place], 7),
+        );
+        let mut xxh64 = XxHash64::with_seed(7);
+        write_number(&mut xxh64, place);
+        assert_same(&rt, xxh64.finish64(), XxHash64::hash(NUMBERS[place], 7));
+    }
+}
+
+#[test]
+fn defaults_have_their_seeds(rt: HostRuntime) {
+    let mut murmur = MurmurHash3X64128::default();
+    murmur.write(FOX);
+    assert_same(&rt, murmur.finish128(), murmur_of(9001, &[FOX]));
+    let mut xxh64 = XxHash64::default();
+    xxh64.write(FOX);
+    assert_same(&rt, xxh64.finish64(), FOX_XXH64);
+}
+
+#[test]
+fn debug_texts_begin_with_the_name(rt: HostRuntime) {
+    let murmur = format!(in rt.alloc(); "{:?}", MurmurHash3X64128::with_seed(1)).ok();
+    assert_same(&rt, murmur.as_deref(), Some("MurmurHash3X64128 { .. }"));
+    let xxh64 = format!(in rt.alloc(); "{:?}", XxHash64::with_seed(1)).ok();
+    assert_same(&rt, xxh64.as_deref(), Some("XxHash64 { .. }"));
+}

@@ -1,4 +1,0 @@
-//! Errors and the codec: `sketch_base`.
-
-mod codec;
-mod error;

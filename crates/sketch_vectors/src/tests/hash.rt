@@ -1,6 +1,0 @@
-//! Hashers, values and seed hashes: `sketch_hash`.
-
-mod each;
-mod hashers;
-mod seed;
-mod value;
