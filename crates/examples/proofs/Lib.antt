@@ -1,3 +1,2 @@
 pub mod SeenLemmas
 pub mod SketchLemmas
-pub mod DefinitionLemmas

@@ -17,11 +17,3 @@ pub of_seed : (seed : ℕ) (text : List ℕ) (error : ErrorValue) → seed_hash 
 unfolding Refuses
 of_seed seed text error zero (inl is) = inr (inl (zero, ap (λ e. e.kind) is))
 of_seed seed text error zero (inr is) = inr (inr is)
-
--- where the seed has a hash, no error is of the seed
-pub of_usual_seed : (error : ErrorValue) → seed_hash 9001 ≡ 37836 → IsReadError 9001 error →
-    (error.kind ≡ InvalidData) ⊎ (error ≡ memory_error)
-of_usual_seed error hash (inl kind) = inl kind
-of_usual_seed error hash (inr (inl seed)) =
-    let none : 37836 ≡ 0 = sym hash ∙ seed.0 in absurd (omega (arith, none))
-of_usual_seed error hash (inr (inr memory)) = inr memory

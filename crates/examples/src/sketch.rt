@@ -17,8 +17,7 @@ use datasketches::codec::assert::{
 use datasketches::codec::family::Family;
 use datasketches::codec::{Item, Kind, Short, SketchBytes, SketchSlice, Stopped};
 use datasketches::error::{Error, ErrorKind};
-use datasketches::hash::{DEFAULT_UPDATE_SEED, check_seed_hash, compute_seed_hash};
-use sketch_hash::known_answers::value_answers;
+use datasketches::hash::{check_seed_hash, compute_seed_hash};
 use std::alloc::{AllocError, Global};
 use std::ops::Bound;
 
@@ -47,23 +46,6 @@ pub fn check_preamble(alloc: Global, bytes: &[u8], seed: u64) -> Result<(), Erro
     let expected = compute_seed_hash(alloc, seed, ErrorKind::InvalidArgument)?;
     check_seed_hash(alloc, expected, actual, "hll", ErrorKind::InvalidData)?;
     Ok(())
-}
-
-/// The same for the seed of sketch updates, whose hash is not zero.
-///
-/// # Errors
-///
-/// `InvalidData` where the bytes are wrong; `OutOfMemory`, with no message, where memory for the
-/// text runs out.
-#[tactic(auto, using(crate::proofs::SketchLemmas::of_usual_seed))]
-pub fn check_usual_preamble(alloc: Global, bytes: &[u8]) -> Result<(), Error>
-    ensures checked { MatchResult result
-        (λ _. HasPreamble 9001 bytes.now) (λ _. HasPreamble 9001 bytes.now → ⊥) }
-    ensures told { IfErr result (λ error.
-        (error.kind ≡ ErrorKind.InvalidData) ⊎ (error ≡ memory_error)) }
-{
-    value_answers(); // for what it promises of this seed's hash
-    check_preamble(alloc, bytes, DEFAULT_UPDATE_SEED)
 }
 
 /// Accepts two to four preamble longs.

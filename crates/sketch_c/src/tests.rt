@@ -7,7 +7,6 @@ ghost use Rattle.sketch_hash.specs.Held.{murmur_held, xxh64_held};
 ghost use Rattle.sketch_hash.specs.Murmur.{murmur, murmur_after, murmur_answer};
 ghost use Rattle.sketch_hash.specs.Xxh64.{xxh64, xxh64_after, xxh64_answer};
 
-mod definitions;
 mod member;
 
 use crate::{

@@ -6,4 +6,3 @@ pub mod Form
 pub mod Faults
 pub mod InPlace
 pub mod Laws
-pub mod KnownAnswers

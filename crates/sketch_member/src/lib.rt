@@ -8,7 +8,6 @@ mod bits;
 mod fault;
 mod header;
 pub mod in_place;
-pub mod known_answers;
 pub mod laws;
 mod limits;
 mod reading;

@@ -1,6 +1,5 @@
 ghost use Rattle.std.specs.Prelude.{IsTrue};
 
-mod callers;
 mod member;
 mod refusals;
 

@@ -11,7 +11,6 @@ ghost use Rattle.sketch_member.specs.Merge.{Merges};
 ghost use Rattle.sketch_member.specs.Table.{Inserts, IsMember, IsTable, Table, empty_table};
 
 use super::assert_same;
-use super::definitions::definitions;
 use crate::{
     sketch_member_check, sketch_member_contains, sketch_member_count, sketch_member_init,
     sketch_member_insert, sketch_member_merge, sketch_member_size,
@@ -163,7 +162,6 @@ fn assert_refused(rt: &impl Abort, bytes: &mut [u8; 33], length: usize, status: 
 
 #[test]
 fn each_fault_has_its_status(rt: HostRuntime) {
-    definitions();
     for (place, byte, length, status) in [
         (0, 3, 0, -1),
         (0, 3, 23, -1),
