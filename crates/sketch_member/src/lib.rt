@@ -12,6 +12,8 @@ pub mod laws;
 mod limits;
 mod reading;
 mod table;
+#[cfg(test)]
+mod tests;
 mod view;
 
 pub use self::fault::{Fault, MergeFault};
