@@ -4,9 +4,9 @@
 pub mod columns;
 pub mod items;
 pub mod keys;
-pub mod merging;
 pub mod own;
 pub mod seen;
-pub mod sentence;
 pub mod sketch;
 pub mod streams;
+#[cfg(test)]
+mod tests;

@@ -1,2 +1,0 @@
-pub mod SeenLemmas
-pub mod SketchLemmas
