@@ -1,6 +1,6 @@
 pub mod Limits
 pub mod Table
-pub mod Header
+pub mod Filter
 pub mod Merge
 pub mod Form
 pub mod Faults

@@ -1,22 +1,22 @@
-//! A table's header, and what is done with a header and the bits that belong to it.
+//! The filter: a seed, two sizes and a count, by which values are inserted into bits, looked up in
+//! them, and merged.
 
 ghost use Rattle.std.specs.Prelude.{◌≡◌, ◌⊎◌, ℕ, ◌<◌, ◌^◌, ◌↔◌, List, slice_index, IfSome, IsTrue, MatchOption, MatchResult, Some};
 ghost use Rattle.datasketches.specs.Bytes.{eight};
 ghost use Rattle.datasketches.specs.Xxh64.{xxh64};
-ghost use Rattle.sketch_member.specs.Header.{table_of};
+ghost use Rattle.sketch_member.specs.Faults.{IsFirstFault, new_steps};
+ghost use Rattle.sketch_member.specs.Filter.{table_of};
 ghost use Rattle.sketch_member.specs.Limits.{IsHashes, IsLog2Bits};
-ghost use Rattle.sketch_member.specs.Merge.{AreAlike, IsFirstDifference, Merges, part_name, sum_of_counts};
-ghost use Rattle.sketch_member.specs.Table.{Inserts, IsIndex, IsMember, IsSet, IsTable, index, one_more};
+ghost use Rattle.sketch_member.specs.Merge.{AreAlike, IsFirstDifference, Merges, sum_of_counts};
+ghost use Rattle.sketch_member.specs.Table.{Inserts, IsIndex, IsMember, IsSet, IsTable, byte_count, index, one_more};
 
 use crate::bits::{is_set, set, set_all};
-use crate::fault::Fault;
-use crate::limits::{ensure_hashes, ensure_log2_bits};
+use crate::fault::{Difference, Fault};
 use datasketches::hash::{Hash, XxHash64};
-use std::fmt;
 
 /// All of a table but its bits.
 #[derive(Clone, Copy)]
-pub(crate) struct Header {
+pub(crate) struct Filter {
     pub(crate) seed: u64,
     pub(crate) log2_bits: u8,
     pub(crate) hashes: u8,
@@ -24,47 +24,51 @@ pub(crate) struct Header {
     pub(crate) count: Option<u64>,
 }
 
-/// A part of the header that has to be the same in two tables, and is not.
-#[derive(Clone, Copy, Debug, PartialEq, Eq)]
-pub enum Difference {
-    /// The seeds differ.
-    Seed,
-    /// The sizes `log2_bits` differ.
-    Log2Bits,
-    /// The numbers `hashes` differ.
-    Hashes,
-}
-
-impl fmt::Display for Difference {
-    ghost output = { λ part. Some (part_name part) };
-
-    ghost styled_output = { λ part _. Some (part_name part) };
-
-    fn fmt<W: fmt::Write>(&self, f: &mut fmt::Formatter<W>) -> fmt::Result {
-        f.write_str(match self {
-            Difference::Seed => "seed",
-            Difference::Log2Bits => "log2 bits",
-            Difference::Hashes => "hashes",
-        })
+// Accepts exactly 6 to 20.
+pub(crate) fn ensure_log2_bits(n: u8) -> Result<(), Fault>
+    ensures { MatchResult result (λ _. IsLog2Bits n)
+        (λ fault. (IsLog2Bits n → ⊥) × (fault ≡ Fault.Log2Bits n)) }
+{
+    if 6 <= n && n <= 20 {
+        return Ok(());
     }
+    Err(Fault::Log2Bits(n))
 }
 
-impl Header {
-    // The header of a table of no inserts.
-    pub(crate) fn new(seed: u64, log2_bits: u8, hashes: u8) -> Result<Header, Fault>
+// Accepts exactly 1 to 16.
+pub(crate) fn ensure_hashes(n: u8) -> Result<(), Fault>
+    ensures { MatchResult result (λ _. IsHashes n)
+        (λ fault. (IsHashes n → ⊥) × (fault ≡ Fault.Hashes n)) }
+{
+    if 1 <= n && n <= 16 {
+        return Ok(());
+    }
+    Err(Fault::Hashes(n))
+}
+
+// How many bytes the bits of a table fill.
+pub(crate) fn byte_count(log2_bits: u8) -> usize
+    requires { IsLog2Bits log2_bits }
+    ensures { result ≡ byte_count log2_bits }
+{
+    (1 << log2_bits) / 8
+}
+
+impl Filter {
+    // The filter of a table of no inserts.
+    pub(crate) fn new(seed: u64, log2_bits: u8, hashes: u8) -> Result<Filter, Fault>
         ensures { MatchResult result
-            (λ header. IsLog2Bits log2_bits × IsHashes hashes × (header ≡ record {
+            (λ filter. IsLog2Bits log2_bits × IsHashes hashes × (filter ≡ record {
               seed = seed;
               log2_bits = log2_bits;
               hashes = hashes;
               count = Some 0;
             }))
-            (λ fault. ((IsLog2Bits log2_bits → ⊥) × (fault ≡ Fault.Log2Bits log2_bits))
-            ⊎ (IsLog2Bits log2_bits × (IsHashes hashes → ⊥) × (fault ≡ Fault.Hashes hashes))) }
+            (λ fault. IsFirstFault 0 (new_steps log2_bits hashes) fault) }
     {
         ensure_log2_bits(log2_bits)?;
         ensure_hashes(hashes)?;
-        Ok(Header {
+        Ok(Filter {
             seed,
             log2_bits,
             hashes,
@@ -98,7 +102,7 @@ impl Header {
     }
 
     // Merges another table, which is alike, into the one with these bits.
-    pub(crate) fn merge(&mut self, bits: &mut [u8], other: &Header, other_bits: &[u8])
+    pub(crate) fn merge(&mut self, bits: &mut [u8], other: &Filter, other_bits: &[u8])
         requires is_table { IsTable (table_of self.old bits.old) }
         requires other { IsTable (table_of other.now other_bits.now) }
         requires alike { AreAlike (table_of self.old bits.old) (table_of other.now other_bits.now) }
@@ -110,8 +114,8 @@ impl Header {
         self.count = sum_of_counts(self.count, other.count);
     }
 
-    // The first part that has to be the same in two headers, and is not.
-    pub(crate) fn difference(&self, other: &Header) -> Option<Difference>
+    // The first part that has to be the same in two filters, and is not.
+    pub(crate) fn difference(&self, other: &Filter) -> Option<Difference>
         ensures { (bits : List ℕ) (others : List ℕ) →
             MatchOption result (AreAlike (table_of self.now bits) (table_of other.now others))
             (λ part. IsFirstDifference (table_of self.now bits) (table_of other.now others) part) }
