@@ -10,7 +10,6 @@ ghost use Rattle.sketch_member.specs.Table.{IsTable};
 
 use crate::fault::Fault;
 use crate::filter::{Filter, byte_count, ensure_hashes, ensure_log2_bits};
-use datasketches::codec::SketchSlice;
 use datasketches::codec::family::Family;
 
 /// The family of these tables. Their format is this crate's own, and not that of `BLOOMFILTER`.
@@ -23,8 +22,7 @@ pub const MEMBER: Family = Family {
 
 const _: () = prove!(MEMBER.id == 200 && MEMBER.min_pre_longs == 2 && MEMBER.max_pre_longs == 3);
 
-// The preamble longs of version 1, and of version 2, which has the count and tells whether it is
-// known.
+// The preamble longs of version 1, and of version 2, which has the count. The version is one less.
 const LONGS_1: u8 = 2;
 
 const LONGS_2: u8 = 3;
@@ -41,7 +39,7 @@ impl Filter {
         let mut bytes = [0; HEADER_BYTES];
         bytes[..6].copy_from_slice(&[
             LONGS_2,
-            serial_version(LONGS_2),
+            LONGS_2 - 1,
             MEMBER.id,
             self.log2_bits,
             self.hashes,
@@ -101,7 +99,7 @@ fn read_kind(bytes: &[u8]) -> Result<u8, Fault>
         return Err(Fault::PreambleLongs(longs));
     }
     let actual = byte(bytes, 1)?;
-    let expected = serial_version(longs);
+    let expected = longs - 1;
     if actual != expected {
         return Err(Fault::SerialVersion { expected, actual });
     }
@@ -153,6 +151,7 @@ fn read_numbers(bytes: &[u8], longs: u8) -> Result<(u64, Option<u64>), Fault>
 }
 
 // The number that stands for the count. Version 1 has none.
+#[inline(always)]
 fn read_count_number(bytes: &[u8], longs: u8) -> Result<u64, Fault>
     requires place { longs ≡ slice_index bytes.now 0 }
     requires version { Contains (2 ∷ 3 ∷ []) longs }
@@ -161,7 +160,7 @@ fn read_count_number(bytes: &[u8], longs: u8) -> Result<u64, Fault>
         (λ n. (header_length bytes.now ≤ length bytes.now) × (n ≡ count_number bytes.now))
         (λ fault. (length bytes.now < header_length bytes.now) × (fault ≡ Fault.HeaderEnds)) }
 {
-    if has_count(longs) {
+    if longs == LONGS_2 {
         return long(bytes, 16);
     }
     Ok(0)
@@ -172,7 +171,7 @@ fn read_count_number(bytes: &[u8], longs: u8) -> Result<u64, Fault>
 fn are_reserved(longs: u8, flag: u8, second: u8, third: u8) -> bool
     ensures { IsTrue result ↔ (IsFlag longs flag × (second ≡ 0) × (third ≡ 0)) }
 {
-    (flag == 0 || (has_count(longs) && flag == 1)) && second == 0 && third == 0
+    (flag == 0 || (longs == LONGS_2 && flag == 1)) && second == 0 && third == 0
 }
 
 // Accepts exactly as many bytes of bits as are needed.
@@ -200,29 +199,20 @@ fn byte(bytes: &[u8], place: usize) -> Result<u8, Fault>
 }
 
 // The number in the eight bytes of the header from a place on.
-fn long(bytes: &[u8], place: u64) -> Result<u64, Fault>
+#[inline(always)]
+fn long(bytes: &[u8], place: usize) -> Result<u64, Fault>
+    requires { place ≤ 16 }
     ensures { MatchResult result
         (λ n. (place + 8 ≤ length bytes.now) × (n ≡ le (take 8 (drop place bytes.now))))
         (λ fault. (length bytes.now < place + 8) × (fault ≡ Fault.HeaderEnds)) }
 {
-    let mut reader = SketchSlice::new(bytes);
-    reader.advance(place);
-    reader.read_u64_le().map_err(|_| Fault::HeaderEnds)
-}
-
-// The serial version under this number of preamble longs.
-fn serial_version(longs: u8) -> u8
-    requires { 1 ≤ longs }
-    ensures { result ≡ longs - 1 }
-{
-    longs - 1
-}
-
-// Whether a header of this number of preamble longs has a count.
-fn has_count(longs: u8) -> bool
-    ensures { IsTrue result ↔ (longs ≡ 3) }
-{
-    longs == LONGS_2
+    let Some(long) = bytes.get(place..place + 8) else {
+        return Err(Fault::HeaderEnds);
+    };
+    match long.as_array::<8>() {
+        Some(long) => Ok(u64::from_le_bytes(*long)),
+        None => Err(Fault::HeaderEnds),
+    }
 }
 
 // Whether the count is known, and the number that stands for it.

@@ -46,13 +46,13 @@ pub fn read_back(alloc: Global, table: &MemberTable) -> Result<MemberTable, Erro
     MemberTable::from_bytes(alloc, &bytes)
 }
 
-/// Reads a table from bytes, writes it, and reads it again. This gives the table that was in the
-/// bytes; of bytes of version 1 without a count.
+/// Reads a table from bytes, writes it in version 2, and reads it again. This gives the table that
+/// was in the bytes; of bytes of version 1 without a count.
 ///
 /// # Errors
 ///
 /// As those of [`MemberTable::from_bytes`]; memory may run out in the writing too.
-pub fn read_again(alloc: Global, bytes: &[u8]) -> Result<MemberTable, Error>
+pub fn read_upgraded(alloc: Global, bytes: &[u8]) -> Result<MemberTable, Error>
     ensures same { MatchResult result
         (λ again. IsTable again × IsForm again bytes.now)
         (IsStepsError ErrorKind.InvalidData (length bytes.now) (steps bytes.now)) }

@@ -5,6 +5,22 @@ use std::alloc::Global;
 use std::process::Abort;
 use std::test::Fail;
 
+const SIZES: [(u8, u8, &'static str); 5] = [
+    (5, 0, "invalid log2 bits: expected 6 to 20, got 5"),
+    (21, 16, "invalid log2 bits: expected 6 to 20, got 21"),
+    (255, 1, "invalid log2 bits: expected 6 to 20, got 255"),
+    (6, 0, "invalid hashes: expected 1 to 16, got 0"),
+    (20, 17, "invalid hashes: expected 1 to 16, got 17"),
+];
+
+fn try_sizes(rt: &impl Abort, alloc: Global) -> Result<(), Error> {
+    for (log2_bits, hashes, message) in SIZES {
+        let answer = MemberTable::new(alloc, 0, log2_bits, hashes);
+        refuse(rt, answer, ErrorKind::InvalidArgument, message)?;
+    }
+    Ok(())
+}
+
 // A place in the bytes of a table, another byte there, and how that is refused.
 type Change = (usize, u8, &'static str);
 
@@ -53,16 +69,6 @@ fn try_changes(rt: &impl Abort, alloc: Global) -> Result<(), Error> {
     Ok(())
 }
 
-#[test]
-fn the_first_fault_is_told(rt: HostRuntime) -> Result<(), Fail> {
-    Ok(try_changes(&rt, rt.alloc())?)
-}
-
-#[test]
-fn wrong_bytes_without_memory(rt: HostRuntime) {
-    assert_done_or_no_memory(&rt, try_changes(&rt, rt.alloc()));
-}
-
 // How a table of eight bytes of bits is refused of which only 0 to 7 are there.
 const MISSING_BITS: [&'static str; 8] = [
     "insufficient data (member bits): expected 8, got 0",
@@ -93,22 +99,30 @@ fn try_beginnings(
     Ok(())
 }
 
-#[test]
-fn beginnings_and_longer_bytes_are_refused(rt: HostRuntime) -> Result<(), Fail> {
-    let (alloc, mut longer) = (rt.alloc(), [0; 34]);
-    try_beginnings(&rt, alloc, &ONE_VALUE_1, 16)?;
-    try_beginnings(&rt, alloc, &ONE_VALUE_2, 24)?;
+fn try_longer(rt: &impl Abort, alloc: Global) -> Result<(), Error> {
+    let mut longer = [0; 34];
     longer[..24].copy_from_slice(&ONE_VALUE_1);
-    refuse_bytes(&rt, alloc, &longer[..25], "trailing bytes: 1")?;
+    refuse_bytes(rt, alloc, &longer[..25], "trailing bytes: 1")?;
     longer[..32].copy_from_slice(&ONE_VALUE_2);
-    refuse_bytes(&rt, alloc, &longer, "trailing bytes: 2")?;
-    Ok(())
+    refuse_bytes(rt, alloc, &longer, "trailing bytes: 2")
 }
 
 #[test]
-fn beginnings_without_memory(rt: HostRuntime) {
+fn the_first_fault_is_told(rt: HostRuntime) -> Result<(), Fail> {
+    try_sizes(&rt, rt.alloc())?;
+    try_changes(&rt, rt.alloc())?;
+    try_beginnings(&rt, rt.alloc(), &ONE_VALUE_1, 16)?;
+    try_beginnings(&rt, rt.alloc(), &ONE_VALUE_2, 24)?;
+    Ok(try_longer(&rt, rt.alloc())?)
+}
+
+#[test]
+fn refusals_without_memory(rt: HostRuntime) {
+    assert_done_or_no_memory(&rt, try_sizes(&rt, rt.alloc()));
+    assert_done_or_no_memory(&rt, try_changes(&rt, rt.alloc()));
     assert_done_or_no_memory(&rt, try_beginnings(&rt, rt.alloc(), &ONE_VALUE_1, 16));
     assert_done_or_no_memory(&rt, try_beginnings(&rt, rt.alloc(), &ONE_VALUE_2, 24));
+    assert_done_or_no_memory(&rt, try_longer(&rt, rt.alloc()));
 }
 
 // An error prints its kind and its message.

@@ -1,7 +1,7 @@
-use super::{ONE_VALUE_1, ONE_VALUE_2, UNKNOWN_COUNT, assert_done_or_no_memory, refuse};
+use super::{ONE_VALUE_1, ONE_VALUE_2, UNKNOWN_COUNT, assert_done_or_no_memory};
 use crate::MemberTable;
-use crate::laws::{read_again, read_back};
-use datasketches::error::{Error, ErrorKind};
+use crate::laws::{read_back, read_upgraded};
+use datasketches::error::Error;
 use datasketches::hash::value::raw_bytes;
 use std::alloc::Global;
 use std::process::Abort;
@@ -82,12 +82,23 @@ fn try_widest(rt: &impl Abort, alloc: Global) -> Result<(), Error> {
     Ok(())
 }
 
+const GREATEST_COUNT: [u8; 32] = [
+    3, 2, 200, 6, 1, 1, 0, 0, 0, 0, 0, 0, 0, 0, 0, 0, 255, 255, 255, 255, 255, 255, 255, 255, 0, 0,
+    0, 2, 0, 0, 0, 0,
+];
+
 // Bytes, the count of the table that is read from them, before and after one insert of the value
 // that it contains, and the bytes in which it is written before.
-const READ: [(&[u8], Option<u64>, Option<u64>, &[u8]); 3] = [
+const READ: [(&[u8], Option<u64>, Option<u64>, &[u8]); 4] = [
     (&ONE_VALUE_1, None, None, &UNKNOWN_COUNT),
     (&UNKNOWN_COUNT, None, None, &UNKNOWN_COUNT),
     (&ONE_VALUE_2, Some(1), Some(2), &ONE_VALUE_2),
+    (
+        &GREATEST_COUNT,
+        Some(u64::MAX),
+        Some(u64::MAX),
+        &GREATEST_COUNT,
+    ),
 ];
 
 fn try_read(rt: &impl Abort, alloc: Global) -> Result<(), Error> {
@@ -99,21 +110,8 @@ fn try_read(rt: &impl Abort, alloc: Global) -> Result<(), Error> {
         assert_eq!(rt; table.to_bytes(alloc)?.as_slice(), written);
         table.insert(&value);
         assert_eq!(rt; table.count(), next_count);
-        assert_eq!(rt; read_again(alloc, bytes)?.count(), count);
+        assert_eq!(rt; read_upgraded(alloc, bytes)?.count(), count);
     }
-    Ok(())
-}
-
-fn try_greatest_count(rt: &impl Abort, alloc: Global) -> Result<(), Error> {
-    let mut bytes = ONE_VALUE_2;
-    bytes[16..24].copy_from_slice(&[0xff; 8]);
-    let mut table = MemberTable::from_bytes(alloc, &bytes)?;
-    assert_eq!(rt; table.count(), Some(u64::MAX));
-    table.insert(&7u8);
-    assert_eq!(rt;
-        (table.contains(&7u8), table.count()),
-        (true, Some(u64::MAX))
-    );
     Ok(())
 }
 
@@ -130,8 +128,7 @@ fn tables_are_written_and_read(rt: HostRuntime) -> Result<(), Fail> {
     try_one_value(&rt, rt.alloc())?;
     try_tables(&rt, rt.alloc())?;
     try_widest(&rt, rt.alloc())?;
-    try_read(&rt, rt.alloc())?;
-    Ok(try_greatest_count(&rt, rt.alloc())?)
+    Ok(try_read(&rt, rt.alloc())?)
 }
 
 #[test]
@@ -140,33 +137,6 @@ fn tables_without_memory(rt: HostRuntime) {
     assert_done_or_no_memory(&rt, try_tables(&rt, rt.alloc()));
     assert_done_or_no_memory(&rt, try_widest(&rt, rt.alloc()));
     assert_done_or_no_memory(&rt, try_read(&rt, rt.alloc()));
-    assert_done_or_no_memory(&rt, try_greatest_count(&rt, rt.alloc()));
-}
-
-const SIZES: [(u8, u8, &'static str); 5] = [
-    (5, 0, "invalid log2 bits: expected 6 to 20, got 5"),
-    (21, 16, "invalid log2 bits: expected 6 to 20, got 21"),
-    (255, 1, "invalid log2 bits: expected 6 to 20, got 255"),
-    (6, 0, "invalid hashes: expected 1 to 16, got 0"),
-    (20, 17, "invalid hashes: expected 1 to 16, got 17"),
-];
-
-fn try_sizes(rt: &impl Abort, alloc: Global) -> Result<(), Error> {
-    for (log2_bits, hashes, message) in SIZES {
-        let answer = MemberTable::new(alloc, 0, log2_bits, hashes);
-        refuse(rt, answer, ErrorKind::InvalidArgument, message)?;
-    }
-    Ok(())
-}
-
-#[test]
-fn sizes_are_refused(rt: HostRuntime) -> Result<(), Fail> {
-    Ok(try_sizes(&rt, rt.alloc())?)
-}
-
-#[test]
-fn sizes_are_refused_without_memory(rt: HostRuntime) {
-    assert_done_or_no_memory(&rt, try_sizes(&rt, rt.alloc()));
 }
 
 // Of every size: one request for the bits, none for inserts and questions.

@@ -4,10 +4,10 @@
 
 ghost use Rattle.std.specs.Prelude.{◌≡◌, ◌<◌, MatchResult};
 ghost use Rattle.sketch_c.specs.Outcome.{outcome};
-ghost use Rattle.sketch_hash.specs.Columns.{HashesEach, HashesEachNumber, murmur_words};
-ghost use Rattle.sketch_hash.specs.Xxh64.{xxh64};
+ghost use Rattle.datasketches.specs.Columns.{HashesEach, HashesEachNumber, murmur_words};
+ghost use Rattle.datasketches.specs.Xxh64.{xxh64};
 
-use sketch_hash::hash::{MurmurHash3X64128, XxHash64};
+use datasketches::hash::{MurmurHash3X64128, XxHash64};
 
 /// XXH64 of each key of a column with offsets of 32 bits, for as many keys as `out` has places.
 #[unsafe(no_mangle)]
