@@ -1,6 +1,1 @@
 pub mod Sketches
-pub mod KnownAnswers
-pub mod BaseDefinitions
-pub mod HashDefinitions
-pub mod LawDefinitions
-pub mod MemberDefinitions

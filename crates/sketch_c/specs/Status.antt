@@ -4,8 +4,8 @@ use Rattle.sketch_member.specs.declared.fault.Fault.{Fault}
 use Rattle.sketch_member.specs.declared.fault.Fault.TheVariants.{HeaderEnds, PreambleLongs, SerialVersion, Family, Log2Bits, Hashes, Reserved, UnknownCount, MissingBits, TrailingBytes, Version1}
 use Rattle.sketch_member.specs.declared.fault.MergeFault.{MergeFault}
 use Rattle.sketch_member.specs.declared.fault.MergeFault.TheVariants.{Into, From, Unlike}
-use Rattle.sketch_member.specs.declared.header.Difference.{Difference}
-use Rattle.sketch_member.specs.declared.header.Difference.TheVariants as part
+use Rattle.sketch_member.specs.declared.fault.Difference.{Difference}
+use Rattle.sketch_member.specs.declared.fault.Difference.TheVariants as part
 use Rattle.sketch_member.specs.Faults.{IsFirstFault, view_steps}
 use Rattle.sketch_member.specs.Form.{form2}
 use Rattle.sketch_member.specs.Table.{Table, IsTable}

@@ -5,7 +5,7 @@
 //! allocates, and wrong offsets are reported, so no call requires more than its types say.
 #![tactic(auto)]
 
-mod each;
+mod columns;
 mod member;
 mod murmur;
 #[cfg(test)]
@@ -13,7 +13,7 @@ mod tests;
 mod version;
 mod xxh64;
 
-pub use self::each::{
+pub use self::columns::{
     sketch_murmur3_x64_128_each32, sketch_murmur3_x64_128_each64, sketch_xxh64_each_u64,
     sketch_xxh64_each32, sketch_xxh64_each64,
 };

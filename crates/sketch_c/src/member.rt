@@ -13,7 +13,7 @@ ghost use Rattle.sketch_member.specs.Limits.{IsHashes, IsLog2Bits};
 ghost use Rattle.sketch_member.specs.Merge.{Merges};
 ghost use Rattle.sketch_member.specs.Table.{Inserts, IsMember, Table, byte_count, empty_table};
 
-use sketch_hash::hash::value::raw_bytes;
+use datasketches::hash::value::raw_bytes;
 use sketch_member::{Difference, Fault, MergeFault, TableView, in_place};
 
 /// How many bytes a table of 2^`log2_bits` bits has: 24 more than its bits fill. 0 where

@@ -1,10 +1,10 @@
 //! MurmurHash3 x64 128: in one call, or by a state that takes a stream in pieces.
 
-ghost use Rattle.std.specs.Prelude.{◌≡◌, ℕ, List, [], ◌++◌, replicate};
-ghost use Rattle.sketch_hash.specs.Held.{murmur_held, MurmurHolds};
-ghost use Rattle.sketch_hash.specs.Murmur.{murmur, murmur_after, murmur_answer};
+ghost use Rattle.std.specs.Prelude.{◌≡◌, ℕ, List, [], ◌++◌};
+ghost use Rattle.datasketches.specs.Held.{murmur_held, MurmurHolds};
+ghost use Rattle.datasketches.specs.Murmur.{murmur, murmur_after, murmur_answer};
 
-use sketch_hash::hash::{Hasher, MurmurHash3X64128, MurmurState};
+use datasketches::hash::{Hasher, MurmurHash3X64128, MurmurState};
 
 /// A hash of 128 bits: its first and its second word.
 #[repr(C)]
@@ -27,12 +27,9 @@ pub extern "C" fn sketch_murmur3_x64_128(input: &[u8], seed: u64) -> Murmur128
 /// them.
 #[unsafe(no_mangle)]
 pub extern "C" fn sketch_murmur3_x64_128_reset(state: &mut MurmurState, seed: u64)
-    ensures holds { MurmurHolds state.new seed [] }
-    ensures zeros { state.new.waiting ≡ replicate 16 0 }
+    ensures { MurmurHolds state.new seed [] }
 {
     *state = MurmurHash3X64128::with_seed(seed).state();
-    // So they are already, but no clause of `state` says it.
-    state.waiting = [0; 16];
 }
 
 /// Adds bytes to the stream.

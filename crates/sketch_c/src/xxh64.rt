@@ -1,11 +1,11 @@
 //! XXH64: in one call, of bytes or of a number, or by a state that takes a stream in pieces.
 
-ghost use Rattle.std.specs.Prelude.{◌≡◌, ℕ, List, [], ◌++◌, replicate};
-ghost use Rattle.sketch_base.specs.Bytes.{eight};
-ghost use Rattle.sketch_hash.specs.Held.{xxh64_held, Xxh64Holds};
-ghost use Rattle.sketch_hash.specs.Xxh64.{xxh64, xxh64_after, xxh64_answer};
+ghost use Rattle.std.specs.Prelude.{◌≡◌, ℕ, List, [], ◌++◌};
+ghost use Rattle.datasketches.specs.Bytes.{eight};
+ghost use Rattle.datasketches.specs.Held.{xxh64_held, Xxh64Holds};
+ghost use Rattle.datasketches.specs.Xxh64.{xxh64, xxh64_after, xxh64_answer};
 
-use sketch_hash::hash::{Hasher, XxHash64, XxHash64State};
+use datasketches::hash::{Hasher, XxHash64, XxHash64State};
 
 /// XXH64 of `input` under a seed.
 #[unsafe(no_mangle)]
@@ -27,12 +27,9 @@ pub extern "C" fn sketch_xxh64_u64(value: u64, seed: u64) -> u64
 /// them.
 #[unsafe(no_mangle)]
 pub extern "C" fn sketch_xxh64_reset(state: &mut XxHash64State, seed: u64)
-    ensures holds { Xxh64Holds state.new seed [] }
-    ensures zeros { state.new.waiting ≡ replicate 32 0 }
+    ensures { Xxh64Holds state.new seed [] }
 {
     *state = XxHash64::with_seed(seed).state();
-    // So they are already, but no clause of `state` says it.
-    state.waiting = [0; 32];
 }
 
 /// Adds bytes to the stream.

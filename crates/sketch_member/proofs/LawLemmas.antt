@@ -4,11 +4,10 @@ use Rattle.std.specs.Prelude.{Option, None, Some, IfSome}
 use Rattle.datasketches.specs.Bytes.{le, eight}
 use Rattle.datasketches.specs.Words.{IsWord}
 use Rattle.datasketches.proofs.BytesLemmas.{le-back}
-use Rattle.sketch_member.proofs.FaultLemmas.{all_pass-append, header_pass}
-use Rattle.sketch_member.specs.Faults.{AllPass, IsFlag, bits_steps, count_number, header_length, header_steps, steps, version_step, view_steps}
+use Rattle.sketch_member.proofs.FaultLemmas.{all_pass-append}
+use Rattle.sketch_member.specs.Faults.{AllPass, IsFlag, count_number, header_length, steps, version_step, view_steps}
 use Rattle.sketch_member.specs.Form.{IsForm, flag_of, form1, form2, number_of}
 use Rattle.sketch_member.specs.Laws.{FormLaw}
-use Rattle.sketch_member.specs.Limits.{IsHashes, IsLog2Bits}
 use Rattle.sketch_member.specs.Table.{Table, IsTable, byte_count}
 
 number_word : (count : Option ℕ) → IfSome count IsWord → IsWord (number_of count)
@@ -24,46 +23,68 @@ pub unknown_count : (count : Option ℕ) → flag_of count ≡ 0 → count ≡ N
 unknown_count None e = refl
 unknown_count (Some n) e = cc
 
--- the bytes of a table pass, first the steps of the header
-pub header_passes : (table : Table) (bytes : List ℕ) → IsLog2Bits table.log2_bits →
-    IsHashes table.hashes → IfSome table.count IsWord → IsForm table bytes →
-    AllPass (length bytes) (header_steps bytes)
-header_passes table bytes log2_bits hashes count form =
-    let P : List ℕ → Type 0 = λ b. AllPass (length b) (header_steps b) in
-    elim form [
-      | inl first ↦ subst P (sym first.1) (header_pass (form1 table)
-          ((omega arith, (0, omega arith, refl)), ((omega arith, refl), ((omega arith, refl), tt)))
-          ((omega arith, log2_bits), ((omega arith, hashes), tt))
-          ((omega arith, (inl refl, refl, refl)), ((omega arith, tt), ((omega arith, (λ _. refl)), tt))))
-      | inr second ↦
-          let back = le-back 8 (number_of table.count) (number_word table.count count) in
-          let zero : flag_of table.count ≡ 0 → le (eight (number_of table.count)) ≡ 0 =
-          λ zero. back ∙ ap number_of (unknown_count table.count zero) in
-          subst P (sym second) (header_pass (form2 table)
-          ((omega arith, (1, omega arith, refl)), ((omega arith, refl), ((omega arith, refl), tt)))
-          ((omega arith, log2_bits), ((omega arith, hashes), tt))
-          ((omega arith, (flag_is table.count, refl, refl)), ((omega arith, tt), ((omega arith, zero), tt))))
-    ]
-
-bits_pass : (table : Table) (bytes : List ℕ) → IsTable table → IsForm table bytes →
-    AllPass (length bytes) (bits_steps bytes (header_length bytes) (byte_count (get_or bytes 3 0)))
-bits_pass table bytes is form =
-    let full : byte_count table.log2_bits ≡ length table.bits = omega (arith, is.bits) in
-    let P : List ℕ → Type 0 =
-    λ b. AllPass (length b) (bits_steps b (header_length b) (byte_count (get_or b 3 0))) in
-    elim form [
-      | inl first ↦ subst P (sym first.1)
-          ((omega arith, omega (arith, full)), ((omega arith, omega (arith, full)), tt))
-      | inr second ↦ subst P (sym second)
-          ((omega arith, omega (arith, full)), ((omega arith, omega (arith, full)), tt))
-    ]
-
-pub passes : (table : Table) (bytes : List ℕ) → IsTable table → IsForm table bytes →
+-- the bytes of a table pass
+passes : (table : Table) (bytes : List ℕ) → IsTable table → IsForm table bytes →
     AllPass (length bytes) (steps bytes)
 passes table bytes is form =
-    all_pass-append (length bytes) (header_steps bytes)
-    (bits_steps bytes (header_length bytes) (byte_count (get_or bytes 3 0)))
-    (header_passes table bytes is.log2_bits is.hashes is.count form) (bits_pass table bytes is form)
+    let full : byte_count table.log2_bits ≡ length table.bits = omega (arith, is.bits) in
+    let P : List ℕ → Type 0 = λ b. AllPass (length b) (steps b) in
+    elim form [
+      | inl first ↦ subst P (sym first.1) (
+        (omega arith, (0, omega arith, refl)),
+        (
+          (omega arith, refl),
+          (
+            (omega arith, refl),
+            (
+              (omega arith, is.log2_bits),
+              (
+                (omega arith, is.hashes),
+                (
+                  (omega arith, (inl refl, refl, refl)),
+                  (
+                    (omega arith, tt),
+                    (
+                      (omega arith, (λ _. refl)),
+                      ((omega arith, omega (arith, full)), ((omega arith, omega (arith, full)), tt)),
+                    ),
+                  ),
+                ),
+              ),
+            ),
+          ),
+        ),
+      )
+      | inr second ↦
+          let back = le-back 8 (number_of table.count) (number_word table.count is.count) in
+          let zero : flag_of table.count ≡ 0 → le (eight (number_of table.count)) ≡ 0 =
+          λ zero. back ∙ ap number_of (unknown_count table.count zero) in
+          subst P (sym second) (
+            (omega arith, (1, omega arith, refl)),
+            (
+              (omega arith, refl),
+              (
+                (omega arith, refl),
+                (
+                  (omega arith, is.log2_bits),
+                  (
+                    (omega arith, is.hashes),
+                    (
+                      (omega arith, (flag_is table.count, refl, refl)),
+                      (
+                        (omega arith, tt),
+                        (
+                          (omega arith, zero),
+                          ((omega arith, omega (arith, full)), ((omega arith, omega (arith, full)), tt)),
+                        ),
+                      ),
+                    ),
+                  ),
+                ),
+              ),
+            ),
+          )
+    ]
 
 viewed : (table : Table) (bytes : List ℕ) → IsTable table → bytes ≡ form2 table →
     AllPass (length bytes) (view_steps bytes)
@@ -82,13 +103,13 @@ pub same_table : (s l h s' l' h' : ℕ) (c c' : Option ℕ) (b b' : List ℕ) �
 same_table s l h s' l' h' c c' b b' e f g k m = rw (e, f, g, k, m) refl
 
 -- a table by its bytes
-record Places (table : Table) (bytes : List ℕ) : Type 0 where
-  seed : table.seed ≡ le (take 8 (drop 8 bytes))
-  log2_bits : table.log2_bits ≡ get_or bytes 3 0
-  hashes : table.hashes ≡ get_or bytes 4 0
-  flag : flag_of table.count ≡ get_or bytes 5 0
-  number : number_of table.count ≡ count_number bytes
-  bits : table.bits ≡ drop (header_length bytes) bytes
+pub record Places (table : Table) (bytes : List ℕ) : Type 0 where
+  pub seed : table.seed ≡ le (take 8 (drop 8 bytes))
+  pub log2_bits : table.log2_bits ≡ get_or bytes 3 0
+  pub hashes : table.hashes ≡ get_or bytes 4 0
+  pub flag : flag_of table.count ≡ get_or bytes 5 0
+  pub number : number_of table.count ≡ count_number bytes
+  pub bits : table.bits ≡ drop (header_length bytes) bytes
 
 places1 : (table : Table) → IsTable table → table.count ≡ None → Places table (form1 table)
 places1 table is unknown = record {

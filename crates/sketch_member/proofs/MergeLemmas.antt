@@ -12,8 +12,8 @@ use Rattle.sketch_member.proofs.InsertLemmas.{insert_law, same_index, same_table
 use Rattle.sketch_member.proofs.LawLemmas.{form_law, same_table}
 use Rattle.sketch_member.specs.Form.{form2}
 use Rattle.sketch_member.specs.Laws.{InsertsAll, IsMadeOf, MergeLaw, StandsFor, count_after}
-use Rattle.sketch_member.specs.declared.header.Difference.{Difference}
-use Rattle.sketch_member.specs.declared.header.Difference.TheVariants.{Seed, Log2Bits, Hashes}
+use Rattle.sketch_member.specs.declared.fault.Difference.{Difference}
+use Rattle.sketch_member.specs.declared.fault.Difference.TheVariants.{Seed, Log2Bits, Hashes}
 use Rattle.sketch_member.specs.Merge.{AreAlike, IsFirstDifference, Merges, sum_of_counts}
 use Rattle.sketch_member.specs.Table.{Table, IsTable, IsSet, IsIndex, IsMember, Inserts, byte_count, empty_table}
 

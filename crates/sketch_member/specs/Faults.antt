@@ -2,12 +2,13 @@
 use Rattle.std.specs.Prelude.{◌≡◌, ◌⊎◌, ℕ, ◌-◌, ◌*◌, ◌<◌, ◌≤◌, List, [], ◌∷◌, ◌++◌, codes, length, take, drop, slice_index, Contains}
 use Rattle.std.specs.Fmt.{decimal}
 use Rattle.datasketches.specs.Bytes.{le}
-use Rattle.datasketches.specs.declared.error.ErrorKind.TheVariants.{InvalidData}
-use Rattle.datasketches.specs.ErrorValue.{ErrorValue}
+use Rattle.datasketches.specs.declared.error.ErrorKind.{ErrorKind}
+use Rattle.datasketches.specs.declared.error.ErrorKind.TheVariants.{InvalidArgument}
+use Rattle.datasketches.specs.ErrorValue.{ErrorValue, memory_error}
 use Rattle.datasketches.specs.Refusals.{Refuses, insufficient_data_of_text, invalid_family_text, unsupported_serial_version_text}
 use Rattle.sketch_member.specs.declared.fault.Fault.{Fault}
 use Rattle.sketch_member.specs.declared.fault.Fault.TheVariants.{HeaderEnds, PreambleLongs, SerialVersion, Family, Log2Bits, Hashes, Reserved, UnknownCount, MissingBits, TrailingBytes, Version1}
-use Rattle.sketch_member.specs.Limits.{IsHashes, IsLog2Bits, invalid_hashes_text, invalid_log2_bits_text}
+use Rattle.sketch_member.specs.Limits.{IsHashes, IsLog2Bits}
 use Rattle.sketch_member.specs.Table.{byte_count}
 
 -- what is said of a fault
@@ -18,8 +19,8 @@ fault_text (PreambleLongs n) =
     codes "invalid preamble longs: expected one of [2, 3], got " ++ decimal n
 fault_text (SerialVersion expected actual) = unsupported_serial_version_text expected actual
 fault_text (Family n) = invalid_family_text 200 n (codes "MEMBER")
-fault_text (Log2Bits n) = invalid_log2_bits_text n
-fault_text (Hashes n) = invalid_hashes_text n
+fault_text (Log2Bits n) = codes "invalid log2 bits: expected 6 to 20, got " ++ decimal n
+fault_text (Hashes n) = codes "invalid hashes: expected 1 to 16, got " ++ decimal n
 fault_text Reserved = codes "reserved bytes are not zero"
 fault_text UnknownCount = codes "unknown count is not zero"
 fault_text (MissingBits need have) = insufficient_data_of_text (codes "member bits")
@@ -27,21 +28,21 @@ fault_text (MissingBits need have) = insufficient_data_of_text (codes "member bi
 fault_text (TrailingBytes n) = codes "trailing bytes: " ++ decimal n
 fault_text Version1 = codes "unsupported serial version: expected 2, got 1"
 
--- A step: how many bytes it needs, what has to hold, and the fault where it does not.
+-- A step: how many bytes it needs, its condition, and the fault if that does not hold.
 pub record Step : Type 1 where
   pub needs : ℕ
-  pub Holds : Type 0
+  pub Condition : Type 0
   pub fault : Fault
 
 -- with this number of bytes the step passes
 abbrev pub Passes : ℕ → Step → Type 0
-Passes count step = (step.needs ≤ count) × step.Holds
+Passes count step = (step.needs ≤ count) × step.Condition
 
 -- With this number of bytes the step fails by this fault: there are fewer bytes than it needs, or
--- what has to hold does not.
+-- its condition does not hold.
 abbrev pub Fails : ℕ → Step → Fault → Type 0
 Fails count step fault = ((count < step.needs) × (fault ≡ HeaderEnds))
-    ⊎ ((step.needs ≤ count) × (step.Holds → ⊥) × (fault ≡ step.fault))
+    ⊎ ((step.needs ≤ count) × (step.Condition → ⊥) × (fault ≡ step.fault))
 
 abbrev pub AllPass : ℕ → List Step → Type 0
 AllPass count [] = Unit {0}
@@ -53,10 +54,16 @@ IsFirstFault count [] fault = ⊥
 IsFirstFault count (step ∷ steps) fault =
     Fails count step fault ⊎ (Passes count step × IsFirstFault count steps fault)
 
--- the error tells of the first fault
-abbrev pub FirstFault : ℕ → List Step → ErrorValue → Type 0
-FirstFault count steps error =
-    (fault : Fault) × IsFirstFault count steps fault × Refuses InvalidData (fault_text fault) error
+-- the error is of this kind and tells of the first fault
+abbrev pub FirstFault : ErrorKind → ℕ → List Step → ErrorValue → Type 0
+FirstFault kind count steps error =
+    (fault : Fault) × IsFirstFault count steps fault × Refuses kind (fault_text fault) error
+
+-- the error of a call that takes these steps: it tells of the first fault, or they all pass and
+-- memory ran out
+abbrev pub IsStepsError : ErrorKind → ℕ → List Step → ErrorValue → Type 0
+IsStepsError kind count steps error = FirstFault kind count steps error
+    ⊎ (AllPass count steps × (error ≡ memory_error))
 
 -- ---- the steps of the reading, in order
 
@@ -74,17 +81,17 @@ abbrev pub kind_steps : List ℕ → List Step
 kind_steps bytes =
     record {
       needs = 1;
-      Holds = Contains (2 ∷ 3 ∷ []) (slice_index bytes 0);
+      Condition = Contains (2 ∷ 3 ∷ []) (slice_index bytes 0);
       fault = PreambleLongs (slice_index bytes 0);
     }
     ∷ record {
       needs = 2;
-      Holds = slice_index bytes 1 ≡ slice_index bytes 0 - 1;
+      Condition = slice_index bytes 1 ≡ slice_index bytes 0 - 1;
       fault = SerialVersion (slice_index bytes 0 - 1) (slice_index bytes 1);
     }
     ∷ record {
       needs = 3;
-      Holds = slice_index bytes 2 ≡ 200;
+      Condition = slice_index bytes 2 ≡ 200;
       fault = Family (slice_index bytes 2);
     }
     ∷ []
@@ -94,12 +101,12 @@ abbrev pub size_steps : List ℕ → List Step
 size_steps bytes =
     record {
       needs = 4;
-      Holds = IsLog2Bits (slice_index bytes 3);
+      Condition = IsLog2Bits (slice_index bytes 3);
       fault = Log2Bits (slice_index bytes 3);
     }
     ∷ record {
       needs = 5;
-      Holds = IsHashes (slice_index bytes 4);
+      Condition = IsHashes (slice_index bytes 4);
       fault = Hashes (slice_index bytes 4);
     }
     ∷ []
@@ -112,47 +119,44 @@ IsFlag longs flag = (flag ≡ 0) ⊎ ((longs ≡ 3) × (flag ≡ 1))
 abbrev pub flag_step : List ℕ → Step
 flag_step bytes = record {
   needs = 8;
-  Holds = IsFlag (slice_index bytes 0) (slice_index bytes 5)
+  Condition = IsFlag (slice_index bytes 0) (slice_index bytes 5)
       × (slice_index bytes 6 ≡ 0) × (slice_index bytes 7 ≡ 0);
   fault = Reserved;
 }
 
 -- that the seed is there
 abbrev pub seed_step : Step
-seed_step = record { needs = 16; Holds = Unit {0}; fault = HeaderEnds }
+seed_step = record { needs = 16; Condition = Unit {0}; fault = HeaderEnds }
 
 -- that the header is there, and a count that is not known is zero
 abbrev pub count_step : List ℕ → Step
 count_step bytes = record {
   needs = header_length bytes;
-  Holds = slice_index bytes 5 ≡ 0 → count_number bytes ≡ 0;
+  Condition = slice_index bytes 5 ≡ 0 → count_number bytes ≡ 0;
   fault = UnknownCount;
 }
 
 abbrev pub number_steps : List ℕ → List Step
 number_steps bytes = flag_step bytes ∷ seed_step ∷ count_step bytes ∷ []
 
-abbrev pub header_steps : List ℕ → List Step
-header_steps bytes = kind_steps bytes ++ (size_steps bytes ++ number_steps bytes)
-
 -- that as many bytes are left from `start` on as the bits need, and no more
 abbrev pub bits_steps : List ℕ → ℕ → ℕ → List Step
 bits_steps bytes start need =
     record {
       needs = start;
-      Holds = need ≤ length bytes - start;
+      Condition = need ≤ length bytes - start;
       fault = MissingBits need (length bytes - start);
     }
     ∷ record {
       needs = start;
-      Holds = length bytes - start ≤ need;
+      Condition = length bytes - start ≤ need;
       fault = TrailingBytes (length bytes - start - need);
     }
     ∷ []
 
 abbrev pub steps : List ℕ → List Step
-steps bytes = header_steps bytes
-    ++ bits_steps bytes (header_length bytes) (byte_count (slice_index bytes 3))
+steps bytes = kind_steps bytes ++ (size_steps bytes ++ (number_steps bytes
+    ++ bits_steps bytes (header_length bytes) (byte_count (slice_index bytes 3))))
 
 -- ---- the steps of other calls
 
@@ -160,7 +164,7 @@ steps bytes = header_steps bytes
 abbrev pub version_step : List ℕ → Step
 version_step bytes = record {
   needs = 1;
-  Holds = slice_index bytes 0 ≡ 3;
+  Condition = slice_index bytes 0 ≡ 3;
   fault = Version1;
 }
 
@@ -168,9 +172,17 @@ version_step bytes = record {
 abbrev pub view_steps : List ℕ → List Step
 view_steps bytes = steps bytes ++ version_step bytes ∷ []
 
--- that the sizes of a new table lie in their limits, and the bytes are as many as it has
+-- that the sizes of a new table lie in their limits
+abbrev pub new_steps : ℕ → ℕ → List Step
+new_steps log2_bits hashes =
+    record { needs = 0; Condition = IsLog2Bits log2_bits; fault = Log2Bits log2_bits }
+    ∷ record { needs = 0; Condition = IsHashes hashes; fault = Hashes hashes } ∷ []
+
+-- the error of a call that makes a table of these sizes
+abbrev pub IsNewError : ℕ → ℕ → ErrorValue → Type 0
+IsNewError log2_bits hashes = IsStepsError InvalidArgument 0 (new_steps log2_bits hashes)
+
+-- that the sizes lie in their limits, and the bytes are as many as such a table has
 abbrev pub init_steps : ℕ → ℕ → List ℕ → List Step
 init_steps log2_bits hashes bytes =
-    record { needs = 0; Holds = IsLog2Bits log2_bits; fault = Log2Bits log2_bits }
-    ∷ record { needs = 0; Holds = IsHashes hashes; fault = Hashes hashes }
-    ∷ bits_steps bytes 24 (byte_count log2_bits)
+    new_steps log2_bits hashes ++ bits_steps bytes 24 (byte_count log2_bits)

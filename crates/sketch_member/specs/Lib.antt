@@ -1,9 +1,8 @@
 pub mod Limits
 pub mod Table
-pub mod Header
+pub mod Filter
 pub mod Merge
 pub mod Form
 pub mod Faults
 pub mod InPlace
 pub mod Laws
-pub mod KnownAnswers

@@ -3,8 +3,8 @@ use Rattle.std.specs.Prelude.{◌≡◌, ◌≢◌, ◌↔◌, ◌⊎◌, ℕ, �
 use Rattle.datasketches.specs.declared.error.ErrorKind.TheVariants.{InvalidArgument}
 use Rattle.datasketches.specs.ErrorValue.{ErrorValue}
 use Rattle.datasketches.specs.Refusals.{Refuses}
-use Rattle.sketch_member.specs.declared.header.Difference.{Difference}
-use Rattle.sketch_member.specs.declared.header.Difference.TheVariants.{Seed, Log2Bits, Hashes}
+use Rattle.sketch_member.specs.declared.fault.Difference.{Difference}
+use Rattle.sketch_member.specs.declared.fault.Difference.TheVariants.{Seed, Log2Bits, Hashes}
 use Rattle.sketch_member.specs.Table.{Table, IsSet}
 
 -- the tables have one seed and the same sizes

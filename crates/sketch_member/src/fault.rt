@@ -1,12 +1,12 @@
-//! What can be wrong with bytes that are to be a table.
+//! What can be wrong with bytes that are to be a table, and with two tables that are to be merged.
 
 ghost use Rattle.std.specs.Prelude.{Some};
 ghost use Rattle.datasketches.specs.Refusals.{Refuses};
 ghost use Rattle.sketch_member.specs.Faults.{fault_text};
 ghost use Rattle.sketch_member.specs.InPlace.{merge_fault_text};
+ghost use Rattle.sketch_member.specs.Merge.{part_name};
 
-use crate::header::Difference;
-use crate::table::MEMBER;
+use crate::format::MEMBER;
 use datasketches::error::{Error, ErrorKind};
 use std::alloc::Global;
 use std::fmt;
@@ -59,6 +59,17 @@ pub enum MergeFault {
     Unlike(Difference),
 }
 
+/// A part that has to be the same in two tables, and is not.
+#[derive(Clone, Copy, Debug, PartialEq, Eq)]
+pub enum Difference {
+    /// The seeds differ.
+    Seed,
+    /// The sizes `log2_bits` differ.
+    Log2Bits,
+    /// The numbers `hashes` differ.
+    Hashes,
+}
+
 impl fmt::Display for Fault {
     ghost output = { λ fault. Some (fault_text fault) };
 
@@ -104,6 +115,20 @@ impl fmt::Display for MergeFault {
             MergeFault::From(fault) => write!(f, "table merged from: {fault}"),
             MergeFault::Unlike(part) => write!(f, "tables differ: {part}"),
         }
+    }
+}
+
+impl fmt::Display for Difference {
+    ghost output = { λ part. Some (part_name part) };
+
+    ghost styled_output = { λ part _. Some (part_name part) };
+
+    fn fmt<W: fmt::Write>(&self, f: &mut fmt::Formatter<W>) -> fmt::Result {
+        f.write_str(match self {
+            Difference::Seed => "seed",
+            Difference::Log2Bits => "log2 bits",
+            Difference::Hashes => "hashes",
+        })
     }
 }
 

@@ -13,11 +13,8 @@ ghost use Rattle.sketch_member.specs.Table.{Inserts, IsTable, Table, byte_count,
 
 use crate::bits::clear;
 use crate::fault::{Fault, MergeFault};
-use crate::header::Header;
-use crate::limits::{byte_count, ensure_log2_bits};
-use crate::reading::ensure_bits_count;
-use crate::table::HEADER_BYTES;
-use crate::view::read_version2;
+use crate::filter::{Filter, byte_count, ensure_log2_bits};
+use crate::format::{HEADER_BYTES, ensure_bits_count, read_version2};
 use datasketches::hash::Hash;
 
 /// How many bytes a table of 2^`log2_bits` bits has: 24 more than its bits fill. None where
@@ -47,14 +44,14 @@ pub fn init(bytes: &mut [u8], seed: u64, log2_bits: u8, hashes: u8) -> Result<()
         (λ fault. (bytes.new ≡ bytes.old)
         × IsFirstFault (length bytes.old) (init_steps log2_bits hashes bytes.old) fault) }
 {
-    let header = Header::new(seed, log2_bits, hashes)?;
+    let filter = Filter::new(seed, log2_bits, hashes)?;
     let length = bytes.len();
     if length < HEADER_BYTES {
         return Err(Fault::HeaderEnds);
     }
     ensure_bits_count(byte_count(log2_bits), length - HEADER_BYTES)?;
     let (head, bits) = bytes.split_at_mut(HEADER_BYTES);
-    head.copy_from_slice(&header.to_bytes());
+    head.copy_from_slice(&filter.to_bytes());
     clear(bits);
     Ok(())
 }
@@ -71,10 +68,10 @@ pub fn insert<T: Hash>(bytes: &mut [u8], value: &T) -> Result<(), Fault>
         (λ fault. (bytes.new ≡ bytes.old)
         × IsFirstFault (length bytes.old) (view_steps bytes.old) fault) }
 {
-    let (mut header, _) = read_version2(bytes)?;
+    let (mut filter, _) = read_version2(bytes)?;
     let (head, bits) = bytes.split_at_mut(HEADER_BYTES);
-    header.insert(bits, value);
-    head.copy_from_slice(&header.to_bytes());
+    filter.insert(bits, value);
+    head.copy_from_slice(&filter.to_bytes());
     Ok(())
 }
 
@@ -93,7 +90,7 @@ pub fn merge(into: &mut [u8], from: &[u8]) -> Result<(), MergeFault>
         × Becomes (Merges other) into.old into.new)
         (λ fault. (into.new ≡ into.old) × IsMergeFault into.old from.now fault) }
 {
-    let (mut header, _) = match read_version2(into) {
+    let (mut filter, _) = match read_version2(into) {
         Ok(parts) => parts,
         Err(fault) => return Err(MergeFault::Into(fault)),
     };
@@ -101,11 +98,11 @@ pub fn merge(into: &mut [u8], from: &[u8]) -> Result<(), MergeFault>
         Ok(parts) => parts,
         Err(fault) => return Err(MergeFault::From(fault)),
     };
-    if let Some(part) = header.difference(&other) {
+    if let Some(part) = filter.difference(&other) {
         return Err(MergeFault::Unlike(part));
     }
     let (head, bits) = into.split_at_mut(HEADER_BYTES);
-    header.merge(bits, &other, other_bits);
-    head.copy_from_slice(&header.to_bytes());
+    filter.merge(bits, &other, other_bits);
+    head.copy_from_slice(&filter.to_bytes());
     Ok(())
 }

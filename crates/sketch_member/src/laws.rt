@@ -2,14 +2,13 @@
 
 ghost use Rattle.std.specs.Prelude.{◌≡◌, ◌↔◌, ◌⊎◌, ◌++◌, ℕ, List, None, length, map, IfErr, IfOk, MatchResult};
 ghost use Rattle.datasketches.specs.ErrorValue.{memory_error};
-ghost use Rattle.datasketches.specs.Refusals.{Refuses};
-ghost use Rattle.sketch_member.specs.Faults.{AllPass, FirstFault, IsFirstFault, fault_text, init_steps, steps};
+ghost use Rattle.sketch_member.specs.Faults.{FirstFault, IsNewError, IsStepsError, IsFirstFault, init_steps, steps};
 ghost use Rattle.sketch_member.specs.Form.{IsForm, form1, form2};
-ghost use Rattle.sketch_member.specs.Limits.{IsNewError};
 ghost use Rattle.sketch_member.specs.Merge.{AreAlike};
 ghost use Rattle.sketch_member.specs.Table.{IsMember, IsTable, Table, empty_table};
 ghost use Rattle.sketch_member.specs.Laws.{FormLaw, InsertLaw, InsertsAll, IsMadeOf, MergeLaw};
 
+pub use crate::table::table_law;
 use crate::{Fault, MemberTable, in_place};
 use datasketches::error::{Error, ErrorKind};
 use datasketches::hash::Hash;
@@ -42,21 +41,21 @@ pub fn read_back(alloc: Global, table: &MemberTable) -> Result<MemberTable, Erro
     ensures { MatchResult result (λ read. read ≡ table.now) (λ error. error ≡ memory_error) }
 {
     form_law();
+    table_law(table);
     let bytes = table.to_bytes(alloc)?;
     MemberTable::from_bytes(alloc, &bytes)
 }
 
-/// Reads a table from bytes, writes it, and reads it again. This gives the table that was in the
-/// bytes; of bytes of version 1 without a count.
+/// Reads a table from bytes, writes it in version 2, and reads it again. This gives the table that
+/// was in the bytes; of bytes of version 1 without a count.
 ///
 /// # Errors
 ///
 /// As those of [`MemberTable::from_bytes`]; memory may run out in the writing too.
-pub fn read_again(alloc: Global, bytes: &[u8]) -> Result<MemberTable, Error>
+pub fn read_upgraded(alloc: Global, bytes: &[u8]) -> Result<MemberTable, Error>
     ensures same { MatchResult result
         (λ again. IsTable again × IsForm again bytes.now)
-        (λ error. FirstFault (length bytes.now) (steps bytes.now) error
-        ⊎ (AllPass (length bytes.now) (steps bytes.now) × (error ≡ memory_error))) }
+        (IsStepsError ErrorKind.InvalidData (length bytes.now) (steps bytes.now)) }
     ensures version1 { (table : Table) → IsTable table → bytes.now ≡ form1 table →
         IfOk result (λ again. (again.count ≡ None)
         × ((fed : List ℕ) → IsMember again fed ↔ IsMember table fed)) }
@@ -97,6 +96,8 @@ pub fn merge_both<T: Hash>(
     let mut whole = MemberTable::new(alloc, seed, log2_bits, hashes)?;
     insert_all(&mut whole, first);
     insert_all(&mut whole, second);
+    table_law(&merged);
+    table_law(&whole);
     Ok((merged.to_bytes(alloc)?, whole.to_bytes(alloc)?))
 }
 
@@ -129,9 +130,9 @@ pub fn insert_both<T: Hash>(
         × AreAlike (empty_table seed log2_bits hashes) whole
         × IsMadeOf (map T.fed values.now) whole
         × (made.items ≡ form2 whole)) }
-    ensures refused { IfErr result (λ error. ((bytes.new ≡ bytes.old) × (fault : Fault)
-        × IsFirstFault (length bytes.old) (init_steps log2_bits hashes bytes.old) fault
-        × Refuses ErrorKind.InvalidArgument (fault_text fault) error)
+    ensures refused { IfErr result (λ error. ((bytes.new ≡ bytes.old)
+        × FirstFault ErrorKind.InvalidArgument (length bytes.old)
+        (init_steps log2_bits hashes bytes.old) error)
         ⊎ (error ≡ memory_error)) }
     ensures left { IfErr result (λ _. (bytes.new ≡ bytes.old) ⊎ (whole : Table)
         × AreAlike (empty_table seed log2_bits hashes) whole
@@ -143,6 +144,7 @@ pub fn insert_both<T: Hash>(
     }
     let mut table = MemberTable::new(alloc, seed, log2_bits, hashes)?;
     insert_all(&mut table, values);
+    table_law(&table);
     Ok(table.to_bytes(alloc)?)
 }
 

@@ -6,16 +6,16 @@
 
 mod bits;
 mod fault;
-mod header;
+mod filter;
+mod format;
 pub mod in_place;
-pub mod known_answers;
 pub mod laws;
-mod limits;
-mod reading;
 mod table;
+#[cfg(test)]
+mod tests;
 mod view;
 
-pub use self::fault::{Fault, MergeFault};
-pub use self::header::Difference;
-pub use self::table::{MEMBER, MemberTable};
+pub use self::fault::{Difference, Fault, MergeFault};
+pub use self::format::MEMBER;
+pub use self::table::MemberTable;
 pub use self::view::TableView;

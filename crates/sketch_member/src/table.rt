@@ -1,49 +1,58 @@
-//! The table, what is inserted into it, and what it contains.
+//! The table that a caller owns.
 
 ghost use Rattle.std.specs.Prelude.{◌≡◌, ◌⊎◌, ℕ, ◌↔◌, length, IfOk, IsTrue, MatchResult};
-ghost use Rattle.datasketches.specs.ErrorValue.{memory_error};
-ghost use Rattle.sketch_member.specs.Faults.{AllPass, FirstFault, steps};
-ghost use Rattle.sketch_member.specs.Form.{IsForm};
-ghost use Rattle.sketch_member.specs.Header.{table_of};
-ghost use Rattle.sketch_member.specs.Limits.{IsHashes, IsLog2Bits, IsNewError};
+ghost use Rattle.datasketches.specs.Refusals.{Refuses};
+ghost use Rattle.sketch_member.specs.Faults.{IsNewError, IsStepsError, steps};
+ghost use Rattle.sketch_member.specs.Form.{IsForm, form2};
+ghost use Rattle.sketch_member.specs.Filter.{table_of};
+ghost use Rattle.sketch_member.specs.Limits.{IsHashes, IsLog2Bits};
+ghost use Rattle.sketch_member.specs.Merge.{FirstDifference, Merges, part_name, tables_differ_text};
 ghost use Rattle.sketch_member.specs.Table.{Table, IsTable, empty_table, Inserts, IsMember, IsSet};
 
-use crate::header::Header;
-use crate::limits::byte_count;
-use crate::reading::read;
+use crate::fault::Difference;
+use crate::filter::{Filter, byte_count};
+use crate::format::{HEADER_BYTES, read};
+use datasketches::codec::SketchBytes;
 use datasketches::error::{Error, ErrorKind};
 use datasketches::hash::Hash;
-use std::alloc::Global;
+use std::alloc::{AllocError, Global};
 use std::marker::Model;
 
-mod form;
-mod merging;
-
-pub use self::form::MEMBER;
-pub(crate) use self::form::{HEADER_BYTES, LONGS_1, LONGS_2, has_count, serial_version};
-
-/// A Bloom filter of 2^`log2_bits` bits, for a `log2_bits` of 6 to 20.
+/// A Bloom filter: a set of values that keeps some bits of each value, and no value.
 ///
-/// Each value has `hashes` indexes, 1 to 16. Index j is the low `log2_bits` bits of the XXH64 of
-/// the bytes that the value feeds, under the seed plus j modulo 2^64. A value is inserted by
-/// setting the bits at its indexes, and contained where all of them are set. Inserts are counted.
+/// It has 2^`log2_bits` bits, for a `log2_bits` of 6 to 20: at least 64 bits in 8 bytes, and at
+/// most 1,048,576 bits in 131,072 bytes. Each value has `hashes` indexes, 1 to 16. Index j is the
+/// low `log2_bits` bits of the XXH64 of the bytes that the value feeds, under the seed plus j
+/// modulo 2^64. An insert sets the bits at the value's indexes, and is counted.
+///
+/// There are no false negatives: a value that was inserted is contained. There may be false
+/// positives: after inserts of n values, some (1 - e^(-hashes * n / bits))^hashes of the other
+/// values are contained, too. With 7 hashes and 2^20 bits that is one in a hundred at 110,000
+/// values. No proof covers this rate.
+///
+/// Tables in bytes have a format of their own ([`MEMBER`](crate::MEMBER)). It is not that of the
+/// Bloom filters of [Apache DataSketches](https://datasketches.apache.org/), and neither can be
+/// read as the other.
 #[derive(Drop)]
 pub struct MemberTable {
-    header: Header,
+    filter: Filter,
     bits: Vec<u8>,
 }
 
 impl Model for MemberTable {
     ghost Value = { Table };
 
-    ghost view = { λ t. table_of t.header t.bits.items };
+    ghost view = { λ t. table_of t.filter t.bits.items };
 
-    ghost invariant = { λ t. IsTable (table_of t.header t.bits.items) };
+    ghost invariant = { λ t. IsTable (table_of t.filter t.bits.items) };
 }
 
 impl MemberTable {
-    #[tactic(auto, using(crate::proofs::TableLemmas::made))]
     /// A table with no bit set, of no inserts.
+    ///
+    /// # Memory
+    ///
+    /// One request, for the 2^`log2_bits` / 8 bytes of the bits.
     ///
     /// # Errors
     ///
@@ -57,15 +66,19 @@ impl MemberTable {
             (IsNewError log2_bits hashes) }
         ensures empty { IfOk result (λ table. (i : ℕ) → IsSet table.bits i → ⊥) }
     {
-        let header = match Header::new(seed, log2_bits, hashes) {
-            Ok(header) => header,
+        let filter = match Filter::new(seed, log2_bits, hashes) {
+            Ok(filter) => filter,
             Err(fault) => return Err(fault.into_error(alloc, ErrorKind::InvalidArgument)),
         };
         let bits = vec![in alloc; 0; byte_count(log2_bits)]?;
-        Ok(MemberTable { header, bits })
+        Ok(MemberTable { filter, bits })
     }
 
     /// The table that the bytes are, in version 1 or 2. In version 1 its count is unknown.
+    ///
+    /// # Memory
+    ///
+    /// One request, for the bits. It is made once all bytes are checked.
     ///
     /// # Errors
     ///
@@ -75,15 +88,14 @@ impl MemberTable {
     pub fn from_bytes(alloc: Global, bytes: &[u8]) -> Result<MemberTable, Error>
         ensures { MatchResult result
             (λ table. IsTable table × IsForm table bytes.now)
-            (λ error. FirstFault (length bytes.now) (steps bytes.now) error
-            ⊎ (AllPass (length bytes.now) (steps bytes.now) × (error ≡ memory_error))) }
+            (IsStepsError ErrorKind.InvalidData (length bytes.now) (steps bytes.now)) }
     {
-        let (header, bits) = match read(bytes) {
+        let (filter, bits) = match read(bytes) {
             Ok(parts) => parts,
             Err(fault) => return Err(fault.into_error(alloc, ErrorKind::InvalidData)),
         };
         Ok(MemberTable {
-            header,
+            filter,
             bits: bits.to_vec(alloc)?,
         })
     }
@@ -93,15 +105,14 @@ impl MemberTable {
     pub fn insert<T: Hash>(&mut self, value: &T)
         ensures { Inserts (T.fed value.now) self.old self.new }
     {
-        self.header.insert(&mut self.bits, value);
+        self.filter.insert(&mut self.bits, value);
     }
 
     /// Whether all bits at the value's indexes are set, as they are once it was inserted.
     pub fn contains<T: Hash>(&self, value: &T) -> bool
-        ensures is_member { IsTrue result ↔ IsMember self.now (T.fed value.now) }
-        ensures is_table { IsTable self.now }
+        ensures { IsTrue result ↔ IsMember self.now (T.fed value.now) }
     {
-        self.header.contains(&self.bits, value)
+        self.filter.contains(&self.bits, value)
     }
 
     /// How many inserts were counted. `None` if that is unknown: this table, or one that was merged
@@ -109,6 +120,61 @@ impl MemberTable {
     pub fn count(&self) -> Option<u64>
         ensures { result ≡ self.now.count }
     {
-        self.header.count
+        self.filter.count
     }
+
+    /// Merges another table of the same seed and sizes into this one, which then contains what
+    /// either did.
+    ///
+    /// Known counts add and stay at the greatest `u64`; an unknown one makes the sum unknown.
+    ///
+    /// # Memory
+    ///
+    /// None, but for the text of a refusal.
+    ///
+    /// # Errors
+    ///
+    /// Where the seed, `log2_bits` or `hashes` differ: `InvalidArgument`, which names the first of
+    /// them that does. Where memory for that text runs out: `OutOfMemory`, with no message. The
+    /// table is then as it was.
+    pub fn merge(&mut self, alloc: Global, other: &MemberTable) -> Result<(), Error>
+        ensures { MatchResult result (λ _. Merges other.now self.old self.new)
+            (λ error. (self.new ≡ self.old) × FirstDifference self.old other.now error) }
+    {
+        if let Some(part) = self.filter.difference(&other.filter) {
+            return Err(tables_differ(alloc, part));
+        }
+        self.filter
+            .merge(&mut self.bits, &other.filter, &other.bits);
+        Ok(())
+    }
+
+    /// The table in bytes of version 2: a header of 24 bytes, and then the bits.
+    ///
+    /// # Memory
+    ///
+    /// One request, for all bytes. If it is refused, the call is.
+    pub fn to_bytes(&self, alloc: Global) -> Result<Vec<u8>, AllocError>
+        ensures { IfOk result (λ bytes. bytes.items ≡ form2 self.now) }
+    {
+        let mut writer = SketchBytes::with_capacity(alloc, HEADER_BYTES + self.bits.len())?;
+        writer.write(&self.filter.to_bytes())?;
+        writer.write(&self.bits)?;
+        Ok(writer.into_bytes())
+    }
+}
+
+/// What is true of every table, for a caller's proof: its numbers lie in their limits, and its bits
+/// fill their bytes. It does nothing.
+pub fn table_law(table: &MemberTable)
+    ensures { IsTable table.now }
+{
+    let _filter = &table.filter;
+}
+
+fn tables_differ(alloc: Global, part: Difference) -> Error
+    ensures { Refuses ErrorKind.InvalidArgument (tables_differ_text (part_name part)) result }
+{
+    let text = format!(in alloc; "tables differ: {part}");
+    Error::from_text(alloc, ErrorKind::InvalidArgument, text)
 }

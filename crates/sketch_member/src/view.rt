@@ -3,13 +3,12 @@
 ghost use Rattle.std.specs.Prelude.{◌≡◌, ◌↔◌, length, IsTrue, MatchResult};
 ghost use Rattle.sketch_member.specs.Faults.{IsFirstFault, view_steps};
 ghost use Rattle.sketch_member.specs.Form.{form2};
-ghost use Rattle.sketch_member.specs.Header.{table_of};
+ghost use Rattle.sketch_member.specs.Filter.{table_of};
 ghost use Rattle.sketch_member.specs.Table.{IsMember, IsTable, Table};
 
 use crate::fault::Fault;
-use crate::header::Header;
-use crate::reading::read;
-use crate::table::LONGS_1;
+use crate::filter::Filter;
+use crate::format::read_version2;
 use datasketches::hash::Hash;
 use std::marker::Model;
 
@@ -18,16 +17,16 @@ use std::marker::Model;
 /// The functions of [`in_place`](crate::in_place) change such bytes.
 #[derive(Drop)]
 pub struct TableView<'a> {
-    header: Header,
+    filter: Filter,
     bits: &'a [u8],
 }
 
 impl<'a> Model for TableView<'a> {
     ghost Value = { Table };
 
-    ghost view = { λ v. table_of v.header v.bits.now };
+    ghost view = { λ v. table_of v.filter v.bits.now };
 
-    ghost invariant = { λ v. IsTable (table_of v.header v.bits.now) };
+    ghost invariant = { λ v. IsTable (table_of v.filter v.bits.now) };
 }
 
 impl TableView<'_> {
@@ -41,35 +40,21 @@ impl TableView<'_> {
         ensures { MatchResult result (λ view. IsTable view × (bytes.now ≡ form2 view))
             (λ fault. IsFirstFault (length bytes.now) (view_steps bytes.now) fault) }
     {
-        let (header, bits) = read_version2(bytes)?;
-        Ok(TableView { header, bits })
+        let (filter, bits) = read_version2(bytes)?;
+        Ok(TableView { filter, bits })
     }
 
     /// Whether all bits at the value's indexes are set, as they are once it was inserted.
     pub fn contains<T: Hash>(&self, value: &T) -> bool
         ensures { IsTrue result ↔ IsMember self.now (T.fed value.now) }
     {
-        self.header.contains(self.bits, value)
+        self.filter.contains(self.bits, value)
     }
 
     /// How many inserts were counted; None where that is unknown.
     pub fn count(&self) -> Option<u64>
         ensures { result ≡ self.now.count }
     {
-        self.header.count
+        self.filter.count
     }
-}
-
-// The header and the bits of the table that the bytes are, in version 2.
-pub(crate) fn read_version2(bytes: &[u8]) -> Result<(Header, &[u8]), Fault>
-    ensures { MatchResult result
-        (λ parts. IsTable (table_of parts.0 parts.1.now)
-        × (bytes.now ≡ form2 (table_of parts.0 parts.1.now)))
-        (λ fault. IsFirstFault (length bytes.now) (view_steps bytes.now) fault) }
-{
-    let (header, bits) = read(bytes)?;
-    if bytes.first() == Some(&LONGS_1) {
-        return Err(Fault::Version1);
-    }
-    Ok((header, bits))
 }

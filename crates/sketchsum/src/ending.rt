@@ -21,7 +21,7 @@ pub enum Outcome {
     Done,
     /// The run stopped at a fault.
     Fault(RunFault),
-    /// Memory for the words of the call ran out.
+    /// Memory for the words of the call, or for the read buffer, ran out.
     NoMemory,
     /// The words of the call are not what the program takes.
     Usage,

@@ -4,22 +4,73 @@
 mod arguments;
 mod digest;
 mod ending;
-mod program;
-mod read_ahead;
 mod run;
-mod streams;
 #[cfg(test)]
 mod tests;
-mod words;
 
-use self::program::{ProgramEnd, program};
-use self::read_ahead::ReadAhead;
+use self::arguments::parse;
+use self::ending::{Outcome, ending};
+use self::run::run;
+use std::env::{self, FillError};
+use std::io::{BufReader, ErrorKind};
+use std::process::ExitCode;
+use std::rt::Env;
 
-fn main(rt: HostRuntime) -> ProgramEnd {
-    program(
-        &rt,
-        rt.alloc(),
-        &mut ReadAhead::new(rt.stdin()),
-        &mut rt.stdout(),
-    )
+/// The size of the read buffer. With one of 4096 bytes, the system calls would take as long as the
+/// hash.
+const BUFFER_BYTES: usize = 65_536;
+
+fn main(rt: HostRuntime) -> ExitCode {
+    let outcome = match call(&rt) {
+        Ok(()) => Outcome::Done,
+        Err(outcome) => outcome,
+    };
+    let (status, line) = ending(outcome);
+    if !line.is_empty() {
+        // The status tells the same if standard error is closed.
+        let _ = rt.eprintln(line);
+    }
+    ExitCode::from(status)
+}
+
+// Reads the words, then parses them, then runs.
+fn call(rt: &HostRuntime) -> Result<(), Outcome> {
+    let words = words(rt)?;
+    let Some((algorithm, seed)) = parse(&words) else {
+        return Err(Outcome::Usage);
+    };
+    let Ok(mut input) = BufReader::with_capacity(rt.alloc(), BUFFER_BYTES, rt.stdin()) else {
+        return Err(Outcome::NoMemory);
+    };
+    run(algorithm, seed, &mut input, &mut rt.stdout()).map_err(Outcome::Fault)
+}
+
+// The words after the program's name. Fails if memory runs out, or if one is not UTF-8.
+fn words(rt: &HostRuntime) -> Result<Vec<String>, Outcome> {
+    let words = match env::args(&(Nameless(rt), rt.alloc())) {
+        Ok(words) => words,
+        Err(error) if error.kind() == ErrorKind::OutOfMemory => return Err(Outcome::NoMemory),
+        Err(_) => return Err(Outcome::Usage),
+    };
+    words.collect(rt.alloc()).map_err(|_| Outcome::NoMemory)
+}
+
+// The environment without the program's name, which need not be UTF-8: argument 0 is the first word
+// after it.
+#[derive(Drop)]
+struct Nameless<'a>(&'a HostRuntime);
+
+impl Env for Nameless<'_> {
+    fn arg(&self, i: usize, buf: &mut [u8]) -> Result<usize, FillError> {
+        let place = i.checked_add(1).ok_or(FillError::NotPresent)?;
+        self.0.arg(place, buf)
+    }
+
+    fn var(&self, name: &str, buf: &mut [u8]) -> Result<usize, FillError> {
+        self.0.var(name, buf)
+    }
+
+    fn var_at(&self, i: usize, buf: &mut [u8]) -> Result<usize, FillError> {
+        self.0.var_at(i, buf)
+    }
 }

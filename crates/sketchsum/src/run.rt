@@ -1,18 +1,21 @@
-//! The hash of an input, written as a line.
+//! The hash of an input, from its reader to its writer.
 
-ghost use Rattle.std.specs.Prelude.{◌≡◌, ◌≢◌, ◌^◌, OnErr, Err};
+ghost use Rattle.std.specs.Prelude.{◌≡◌, ◌≢◌, ◌*◌, ◌^◌, ◌≤◌, length, OnOk, OnErr, Err};
+ghost use Rattle.std.specs.Io.KnownBytes.{IsAtEnd};
+ghost use Rattle.sketchsum.specs.Reading.{HasRead};
 ghost use Rattle.sketchsum.specs.Running.{Runs};
 
 use crate::arguments::Algorithm;
-use crate::digest::write_digest;
+use crate::digest::{HexWord, write_line};
 use crate::ending::RunFault;
-use crate::streams::{BoundedReader, CheckedWriter, PIECE_BYTES};
+use datasketches::hash::{Hasher, MurmurHash3X64128, XxHash64};
 use std::io::{Read, Write};
+
+/// The most bytes of a read.
+const PIECE_BYTES: usize = 4096;
 
 /// The most reads of a run: 16 TiB at most.
 const MAX_TURNS: u64 = 1 << 32;
-
-const _: () = prove!(MAX_TURNS * PIECE_BYTES as u64 == 17_592_186_044_416);
 
 /// Writes the hash of what `reader` gives until its end, as [`run_bounded`] with 2^32 reads.
 pub fn run<R: Read, W: Write>(
@@ -33,8 +36,9 @@ pub fn run<R: Read, W: Write>(
 ///
 /// # Errors
 ///
-/// [`RunFault::Read`] where a read fails, [`RunFault::TooLong`] where `turns` reads were made and
-/// none was the end: nothing is written then. [`RunFault::Write`] where a write or the flush fails.
+/// - [`RunFault::Read`] if a read fails, of whatever kind the error is. Nothing is written.
+/// - [`RunFault::TooLong`] if `turns` reads found no end. Nothing is written.
+/// - [`RunFault::Write`] if a write or the flush fails.
 pub fn run_bounded<R: Read, W: Write>(
     algorithm: Algorithm,
     seed: u64,
@@ -46,7 +50,38 @@ pub fn run_bounded<R: Read, W: Write>(
         (R.remaining reader.new) (W.contents writer.old) (W.contents writer.new) }
     ensures silent { OnErr result (result ≢ Err RunFault.Write → writer.new ≡ writer.old) }
 {
-    let mut input = BoundedReader::new(reader, turns);
-    let mut output = CheckedWriter::new(writer);
-    write_digest(algorithm, seed, &mut input, &mut output)
+    match algorithm {
+        Algorithm::Murmur => {
+            let mut hasher = MurmurHash3X64128::with_seed(seed);
+            read_into(&mut hasher, turns, reader)?;
+            let (h1, h2) = hasher.finish128();
+            write_line(writer, format_args!("{}{}", HexWord(h1), HexWord(h2)))
+        }
+        Algorithm::Xx => {
+            let mut hasher = XxHash64::with_seed(seed);
+            read_into(&mut hasher, turns, reader)?;
+            write_line(writer, HexWord(hasher.finish64()))
+        }
+    }
+}
+
+// Feeds all that the reader gives to the hasher.
+fn read_into<H: Hasher, R: Read>(hasher: &mut H, turns: u64, reader: &mut R) -> Result<(), RunFault>
+    ensures pieces { HasRead (R.remaining reader.old) (R.remaining reader.new)
+        (λ bytes. (hasher.new ≡ H.after hasher.old bytes) × (length bytes ≤ 4096 * turns)
+        × (result ≡ Err RunFault.TooLong → turns ≤ length bytes)) }
+    ensures whole { OnOk result (IsAtEnd (R.remaining reader.new)) }
+    ensures no_write { result ≢ Err RunFault.Write }
+{
+    let mut piece = [0; PIECE_BYTES];
+    for turn in 0..turns {
+        let Ok(count) = reader.read(&mut piece) else {
+            return Err(RunFault::Read);
+        };
+        if count == 0 {
+            return Ok(());
+        }
+        hasher.write(&piece[..count]);
+    }
+    Err(RunFault::TooLong)
 }

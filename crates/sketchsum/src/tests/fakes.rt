@@ -1,67 +1,18 @@
-//! A reader, a writer, an environment and a screen as a test wants them.
+//! A slow reader and a slow writer, which may fail.
 
 use std::alloc::Global;
-use std::cell::RefCell;
-use std::env::FillError;
-use std::fmt::Display;
-use std::io::{self, Eprint, ErrorKind, Read, Write};
-use std::rt::Env;
+use std::io::{self, ErrorKind, Read, Write};
 
-/// Every kind of fault that a reader or a writer may have, but `Interrupted`.
-pub const KINDS: [ErrorKind; 41] = [
-    ErrorKind::NotFound,
-    ErrorKind::PermissionDenied,
-    ErrorKind::ConnectionRefused,
-    ErrorKind::ConnectionReset,
-    ErrorKind::HostUnreachable,
-    ErrorKind::NetworkUnreachable,
-    ErrorKind::ConnectionAborted,
-    ErrorKind::NotConnected,
-    ErrorKind::AddrInUse,
-    ErrorKind::AddrNotAvailable,
-    ErrorKind::NetworkDown,
-    ErrorKind::BrokenPipe,
-    ErrorKind::AlreadyExists,
-    ErrorKind::WouldBlock,
-    ErrorKind::NotADirectory,
-    ErrorKind::IsADirectory,
-    ErrorKind::DirectoryNotEmpty,
-    ErrorKind::ReadOnlyFilesystem,
-    ErrorKind::FilesystemLoop,
-    ErrorKind::StaleNetworkFileHandle,
-    ErrorKind::InvalidInput,
-    ErrorKind::InvalidData,
-    ErrorKind::TimedOut,
-    ErrorKind::WriteZero,
-    ErrorKind::StorageFull,
-    ErrorKind::NotSeekable,
-    ErrorKind::QuotaExceeded,
-    ErrorKind::FileTooLarge,
-    ErrorKind::ResourceBusy,
-    ErrorKind::ExecutableFileBusy,
-    ErrorKind::Deadlock,
-    ErrorKind::CrossesDevices,
-    ErrorKind::TooManyLinks,
-    ErrorKind::InvalidFilename,
-    ErrorKind::ArgumentListTooLong,
-    ErrorKind::Unsupported,
-    ErrorKind::UnexpectedEof,
-    ErrorKind::OutOfMemory,
-    ErrorKind::InProgress,
-    ErrorKind::Other,
-    ErrorKind::Uncategorized,
-];
-
-/// Gives at most `most` bytes at a read. With a fault, it fails once, when as many bytes are left
-/// as stand beside the fault, and then goes on.
+/// Gives at most `most` bytes at a read. With a fault it fails once, when as many bytes are left as
+/// stand beside the fault, and then goes on.
 #[derive(Drop)]
 pub struct SlowReader<'a> {
     bytes: &'a [u8],
     most: usize,
     fault: Option<(usize, ErrorKind)>,
-    /// The reads that were made.
+    /// How many reads were made.
     pub reads: u64,
-    /// The room that the last read was given.
+    /// The length of the last buffer.
     pub room: usize,
 }
 
@@ -97,20 +48,20 @@ impl Read for SlowReader<'_> {
     }
 }
 
-/// What a writer does that was given as many bytes as it has room for.
-#[derive(Clone, Copy)]
+/// What a writer does that has no room left.
+#[derive(Clone, Copy, Debug)]
 pub enum Full {
     /// It fails once, and then takes more.
-    Fails(ErrorKind),
+    Fails,
     TakesNone,
 }
 
-/// Takes a byte at a time.
+/// Takes one byte at a write. Its first flush fails if it cannot flush.
 #[derive(Drop)]
 pub struct NarrowWriter {
     room: usize,
     when_full: Full,
-    flush_fault: Option<ErrorKind>,
+    can_flush: bool,
     /// The bytes that were taken.
     pub taken: Vec<u8>,
     /// How many bytes the last flush handed on.
@@ -118,17 +69,11 @@ pub struct NarrowWriter {
 }
 
 impl NarrowWriter {
-    /// A writer with room for `room` bytes. Its first flush fails where it has a fault.
-    pub fn new(
-        alloc: Global,
-        room: usize,
-        when_full: Full,
-        flush_fault: Option<ErrorKind>,
-    ) -> NarrowWriter {
+    pub fn new(alloc: Global, room: usize, when_full: Full, can_flush: bool) -> NarrowWriter {
         NarrowWriter {
             room,
             when_full,
-            flush_fault,
+            can_flush,
             taken: Vec::new(alloc),
             flushed: 0,
         }
@@ -139,9 +84,9 @@ impl Write for NarrowWriter {
     fn write(&mut self, buf: &[u8]) -> io::Result<usize> {
         if self.taken.len() >= self.room {
             match self.when_full {
-                Full::Fails(kind) => {
+                Full::Fails => {
                     self.room = usize::MAX;
-                    return Err(io::Error::from(kind));
+                    return Err(io::Error::from(ErrorKind::Other));
                 }
                 Full::TakesNone => return Ok(0),
             }
@@ -154,63 +99,11 @@ impl Write for NarrowWriter {
     }
 
     fn flush(&mut self) -> io::Result<()> {
-        if let Some(kind) = self.flush_fault {
-            self.flush_fault = None;
-            return Err(io::Error::from(kind));
+        if !self.can_flush {
+            self.can_flush = true;
+            return Err(io::Error::from(ErrorKind::Other));
         }
         self.flushed = self.taken.len();
         Ok(())
-    }
-}
-
-/// An environment of these arguments, the program's name first, and no variables.
-#[derive(Drop)]
-pub struct Arguments<'a>(pub &'a [&'a [u8]]);
-
-impl Env for Arguments<'_> {
-    fn arg(&self, i: usize, buf: &mut [u8]) -> Result<usize, FillError> {
-        let word = self.0.get(i).ok_or(FillError::NotPresent)?;
-        let place = buf.get_mut(..word.len()).ok_or(FillError::TooLong)?;
-        place.copy_from_slice(word);
-        Ok(word.len())
-    }
-
-    fn var(&self, _name: &str, _buf: &mut [u8]) -> Result<usize, FillError> {
-        Err(FillError::NotPresent)
-    }
-
-    fn var_at(&self, _i: usize, _buf: &mut [u8]) -> Result<usize, FillError> {
-        Err(FillError::NotPresent)
-    }
-}
-
-/// Keeps what is written to standard error.
-#[derive(Drop)]
-pub struct Screen(RefCell<Vec<u8>>);
-
-impl Screen {
-    pub fn new(alloc: Global) -> Screen {
-        Screen(RefCell::new(Vec::new(alloc)))
-    }
-
-    /// What was written.
-    pub fn text(self) -> Vec<u8> {
-        self.0.into_inner()
-    }
-}
-
-impl Eprint for Screen {
-    fn eprint<D: Display + Drop>(&self, value: D) -> io::Result<()> {
-        match self.0.try_borrow_mut() {
-            Ok(mut text) => text.write_fmt(value),
-            Err(_) => Err(io::Error::from(ErrorKind::Other)),
-        }
-    }
-
-    fn eprintln<D: Display + Drop>(&self, value: D) -> io::Result<()> {
-        match self.0.try_borrow_mut() {
-            Ok(mut text) => text.writeln(value),
-            Err(_) => Err(io::Error::from(ErrorKind::Other)),
-        }
     }
 }

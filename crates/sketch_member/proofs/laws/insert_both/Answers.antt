@@ -1,11 +1,9 @@
-use Rattle.std.proofs.Common.{◌≡◌, ◌⊎◌, ℕ, List, inl, inr, length, map, sym, subst, rules}
+use Rattle.std.proofs.Common.{◌≡◌, ◌⊎◌, ℕ, List, arith, inl, inr, length, map, sym, subst, rules}
 use Rattle.datasketches.specs.declared.error.ErrorKind.TheVariants.{InvalidArgument}
 use Rattle.datasketches.specs.ErrorValue.{memory_error}
-use Rattle.datasketches.specs.Refusals.{Refuses}
-use Rattle.sketch_member.specs.declared.fault.Fault.{Fault}
-use Rattle.sketch_member.specs.Faults.{IsFirstFault, fault_text, init_steps}
+use Rattle.sketch_member.specs.Faults.{FirstFault, init_steps, new_steps}
 use Rattle.sketch_member.specs.Limits.{IsHashes, IsLog2Bits}
-use Rattle.sketch_member.proofs.FaultLemmas.{anyway, of_err}
+use Rattle.sketch_member.proofs.FaultLemmas.{anyway, no_fault, of_err}
 use Rattle.sketch_member.specs.Form.{form2}
 use Rattle.sketch_member.specs.Laws.{InsertsAll}
 use Rattle.sketch_member.specs.Table.{Table, IsTable, empty_table}
@@ -26,7 +24,7 @@ returns-clause-same g c =
     let empty = empty_table c.args.seed c.args.log2_bits c.args.hashes in
     let all : InsertsAll values empty table = search (rules, from_empty) in
     let same = made_once c.args.seed c.args.log2_bits c.args.hashes values lies.0 table lies.3 all
-    lies.1 c.to_bytes.ensures.is_table in
+    lies.1 c.table_law.ensures in
     same_bytes _ _ _ _ same lies.2 (search rules)
 
 pub returns-clause-whole : goal.returns-clause-whole
@@ -44,16 +42,15 @@ returns-in_err-table-clause-refused g c =
     let lies : Lies c.args.seed c.args.log2_bits c.args.hashes (map g.T.Hash.fed c.args.values.now)
     c.insert_all_in_place.new.bytes = search rules in
     let alike = all_alike (map g.T.Hash.fed c.args.values.now) _ lies.0 lies.3 in
-    of_err c.from_residual.result _ (λ error. ((c.insert_all_in_place.new.bytes ≡ c.args.bytes.now)
-    × (fault : Fault)
-    × IsFirstFault (length c.args.bytes.now) (init_steps log2_bits hashes c.args.bytes.now) fault
-    × Refuses InvalidArgument (fault_text fault) error) ⊎ (error ≡ memory_error)) _
-    c.from_residual.ensures.1 (elim c.in_err-table.ensures.answer [
-      | inl size ↦ absurd (size.0 (subst IsLog2Bits (sym alike.log2_bits) lies.1.log2_bits))
-      | inr later ↦ elim later [
-        | inl number ↦ absurd (number.1 (subst IsHashes (sym alike.hashes) lies.1.hashes))
-        | inr memory ↦ inr memory.2
-      ]
+    let bytes = c.args.bytes.now in
+    of_err c.from_residual.result _ (λ error. ((c.insert_all_in_place.new.bytes ≡ bytes)
+    × FirstFault InvalidArgument (length bytes) (init_steps log2_bits hashes bytes) error)
+    ⊎ (error ≡ memory_error)) _ c.from_residual.ensures.1 (elim c.in_err-table.ensures.answer [
+      | inl told ↦ absurd (no_fault 0 (new_steps log2_bits hashes) told.0 (
+        (omega arith, subst IsLog2Bits (sym alike.log2_bits) lies.1.log2_bits),
+        ((omega arith, subst IsHashes (sym alike.hashes) lies.1.hashes), tt),
+      ) told.1)
+      | inr memory ↦ inr memory.1
     ])
 
 pub returns-in_err-table-clause-left : goal.returns-in_err-table-clause-left

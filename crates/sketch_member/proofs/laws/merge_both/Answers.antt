@@ -15,8 +15,8 @@ returns-clause-same g c =
     let same = made_both_ways c.merge_law.ensures c.args.seed c.args.log2_bits c.args.hashes first second
     empty c.insert_all.new.table empty c.insert_all-2.new.table c.merge.new.self
     empty c.insert_all-3.new.table c.insert_all-4.new.table refl all refl all_other
-    c.in_ok-merge.ensures.merges refl all_half c.insert_all-4.ensures c.to_bytes.ensures.is_table
-    c.to_bytes-2.ensures.is_table in
+    c.in_ok-merge.ensures refl all_half c.insert_all-4.ensures c.table_law.ensures
+    c.table_law-2.ensures in
     same_bytes _ _ _ _ same (search rules) (search rules)
 
 pub returns-clause-whole : goal.returns-clause-whole
@@ -37,6 +37,6 @@ returns-in_err-merge-clause-refused g c =
     let empty = empty_table c.args.seed c.args.log2_bits c.args.hashes in
     let all : InsertsAll first empty c.insert_all.new.table = search (rules, from_empty) in
     let all_other : InsertsAll second empty c.insert_all-2.new.table = search (rules, from_empty) in
-    let refused = c.in_err-merge.ensures.merges in
+    let refused = c.in_err-merge.ensures in
     absurd (no_difference c.args.seed c.args.log2_bits c.args.hashes first second empty
     c.insert_all.new.table empty c.insert_all-2.new.table refl all refl all_other refused.1.0 refused.1.1)

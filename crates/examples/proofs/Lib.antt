@@ -1,3 +1,0 @@
-pub mod SeenLemmas
-pub mod SketchLemmas
-pub mod DefinitionLemmas

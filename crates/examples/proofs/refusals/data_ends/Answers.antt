@@ -1,7 +1,0 @@
-use Rattle.datasketches.specs.Refusals.{Refuses}
-use Rattle.examples.proofs.refusals.data_ends.Goals as goal
-
-pub returns : goal.returns
-unfolding Refuses
-returns c =
-    let told = c.insufficient_data_of.ensures in rw told.1 at told.2

@@ -1,0 +1,89 @@
+use crate::columns::hash_texts;
+use crate::items::there_and_back;
+use crate::keys::{
+    hash_of_bytes, hash_of_the_sentence, is_new_key, is_same_key, is_same_word, pair_of,
+    pair_of_value,
+};
+use crate::own::{BigEndian, Point};
+use crate::seen::{load_keys, merge_worker, see_key, see_key_in};
+use crate::sketch::{check_preamble, write_preamble};
+use crate::streams::{checkpoint, murmur_of_pieces, xxh64_from};
+use datasketches::codec::{Item, Kind};
+use datasketches::hash::value::raw_bytes;
+use sketch_member::{Fault, MemberTable};
+use std::test::Fail;
+
+#[test]
+fn keys_are_told_apart(rt: HostRuntime) {
+    assert!(rt; is_same_key(9001, -1, -1));
+    assert!(rt; !is_same_key(9001, -1, 1));
+    assert!(rt; is_new_key(9001, &[1, 2, 3], 4));
+    assert!(rt; !is_new_key(9001, &[1, 2, 3], 2));
+    assert!(rt; pair_of(0, 1) != pair_of(1, 1));
+    assert!(rt; is_same_word(9001, u64::MAX, -1));
+    assert!(rt; !is_same_word(9001, 1, -1));
+}
+
+const FOX: (u64, u64) = (0xe34b_bc7b_bc07_1b6c, 0x7a43_3ca9_c49a_9347);
+
+#[test]
+fn streams_have_the_hash_of_all_bytes(rt: HostRuntime) {
+    let pieces = [
+        raw_bytes::from_slice(b"The quick brown fox "),
+        raw_bytes::from_slice(b"jumps over the lazy dog"),
+    ];
+    assert_eq!(rt; murmur_of_pieces(0, &pieces), FOX);
+    assert_eq!(rt; murmur_of_pieces(9001, &pieces), hash_of_the_sentence());
+    let state = checkpoint(0, b"The quick brown fox jumps over the");
+    assert_eq!(rt; xxh64_from(&state, b" lazy dog"), 0x0b24_2d36_1fda_71bc);
+}
+
+#[test]
+fn own_types_feed_their_bytes(rt: HostRuntime) {
+    let bytes = raw_bytes::from_slice(&[1, 0, 0, 0, 0xff, 0xff, 0xff, 0xff]);
+    let point = Point { x: 1, y: -1 };
+    assert_eq!(rt; pair_of_value(7, &point), pair_of_value(7, &bytes));
+    let bytes = raw_bytes::from_slice(&[0, 0, 0, 0, 0, 0, 1, 2]);
+    assert_eq!(rt;
+        pair_of_value(7, &BigEndian::new(258)),
+        pair_of_value(7, &bytes)
+    );
+}
+
+#[test]
+fn a_column_is_hashed(rt: HostRuntime) {
+    let mut hashes = [7; 2];
+    assert_eq!(rt; hash_texts(b"foxes", &[0, 6, 5], &mut hashes), Err(1));
+    assert_eq!(rt; hash_texts(b"foxes", &[0, 3, 5], &mut hashes), Ok(()));
+    assert!(rt; hashes[0] != hashes[1] && hash_of_bytes(b"") == 0xef46_db37_51d8_e999);
+}
+
+#[test]
+fn items_and_a_preamble_are_read_back(rt: HostRuntime) -> Result<(), Fail> {
+    let items = [Item::U8(1), Item::U32Be(2)];
+    let mut places = [Item::U8(0); 2];
+    let kinds = [Kind::U8, Kind::U32Be];
+    let rest = there_and_back(rt.alloc(), &items, &kinds, &[7, 8], &mut places)?;
+    assert_eq!(rt; (rest.as_slice(), places), ([7, 8].as_slice(), items));
+    let preamble = write_preamble(rt.alloc(), 9001)?;
+    assert_eq!(rt; preamble.as_slice(), [1, 3, 7, 0xcc, 0x93].as_slice());
+    assert!(rt; check_preamble(rt.alloc(), &preamble, 9001).is_ok());
+    assert!(rt; check_preamble(rt.alloc(), &preamble, 9002).is_err());
+    Ok(())
+}
+
+#[test]
+fn keys_are_seen_once_saved(rt: HostRuntime) -> Result<(), Fail> {
+    let mut seen = load_keys(rt.alloc(), &[])?;
+    assert!(rt; !see_key(&mut seen, b"a"));
+    let mut saved = seen.to_bytes(rt.alloc())?;
+    assert_eq!(rt; see_key_in(&mut saved, b"a"), Ok(true));
+    assert_eq!(rt; see_key_in(&mut saved, b"b"), Ok(false));
+    assert_eq!(rt; see_key_in(&mut saved[..23], b"b"), Err(Fault::HeaderEnds));
+    merge_worker(rt.alloc(), &mut seen, &load_keys(rt.alloc(), &saved)?)?;
+    assert!(rt; see_key(&mut seen, b"b"));
+    assert_eq!(rt; seen.count(), Some(5));
+    let unlike = MemberTable::new(rt.alloc(), 1, 10, 7)?;
+    assert!(rt; merge_worker(rt.alloc(), &mut seen, &unlike).is_err());
+    Ok(())
+}

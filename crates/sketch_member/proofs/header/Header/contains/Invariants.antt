@@ -1,6 +1,0 @@
-use Rattle.sketch_member.specs.Header.{table_of}
-use Rattle.sketch_member.specs.Table.{IsMember}
-use Rattle.sketch_member.proofs.header.Header.contains.Given as goal
-
-abbrev pub invariant-loop-j : goal.invariant-loop-j
-invariant-loop-j g l = IsMember (table_of (record l.self { hashes = l.j }) l.bits) (g.T.Hash.fed l.value)

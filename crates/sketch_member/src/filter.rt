@@ -1,0 +1,192 @@
+//! The filter: a seed, two sizes and a count, by which values are inserted into bits, looked up in
+//! them, and merged.
+
+ghost use Rattle.std.specs.Prelude.{◌≡◌, ◌⊎◌, ℕ, ◌<◌, ◌^◌, ◌↔◌, List, slice_index, IfSome, IsTrue, MatchOption, MatchResult, Some};
+ghost use Rattle.datasketches.specs.Bytes.{eight};
+ghost use Rattle.datasketches.specs.Xxh64.{xxh64};
+ghost use Rattle.sketch_member.specs.Faults.{IsFirstFault, new_steps};
+ghost use Rattle.sketch_member.specs.Filter.{table_of};
+ghost use Rattle.sketch_member.specs.Limits.{IsHashes, IsLog2Bits};
+ghost use Rattle.sketch_member.specs.Merge.{AreAlike, IsFirstDifference, Merges, sum_of_counts};
+ghost use Rattle.sketch_member.specs.Table.{Inserts, IsIndex, IsMember, IsSet, IsTable, byte_count, index, one_more};
+
+use crate::bits::{is_set, set, set_all};
+use crate::fault::{Difference, Fault};
+use datasketches::hash::{Hash, XxHash64};
+
+/// All of a table but its bits.
+#[derive(Clone, Copy)]
+pub(crate) struct Filter {
+    pub(crate) seed: u64,
+    pub(crate) log2_bits: u8,
+    pub(crate) hashes: u8,
+    // None where this table, or one merged into it, was read from bytes without a count
+    pub(crate) count: Option<u64>,
+}
+
+// Accepts exactly 6 to 20.
+pub(crate) fn ensure_log2_bits(n: u8) -> Result<(), Fault>
+    ensures { MatchResult result (λ _. IsLog2Bits n)
+        (λ fault. (IsLog2Bits n → ⊥) × (fault ≡ Fault.Log2Bits n)) }
+{
+    if 6 <= n && n <= 20 {
+        return Ok(());
+    }
+    Err(Fault::Log2Bits(n))
+}
+
+// Accepts exactly 1 to 16.
+pub(crate) fn ensure_hashes(n: u8) -> Result<(), Fault>
+    ensures { MatchResult result (λ _. IsHashes n)
+        (λ fault. (IsHashes n → ⊥) × (fault ≡ Fault.Hashes n)) }
+{
+    if 1 <= n && n <= 16 {
+        return Ok(());
+    }
+    Err(Fault::Hashes(n))
+}
+
+// How many bytes the bits of a table fill.
+pub(crate) fn byte_count(log2_bits: u8) -> usize
+    requires { IsLog2Bits log2_bits }
+    ensures { result ≡ byte_count log2_bits }
+{
+    (1 << log2_bits) / 8
+}
+
+impl Filter {
+    // The filter of a table of no inserts.
+    pub(crate) fn new(seed: u64, log2_bits: u8, hashes: u8) -> Result<Filter, Fault>
+        ensures { MatchResult result
+            (λ filter. IsLog2Bits log2_bits × IsHashes hashes × (filter ≡ record {
+              seed = seed;
+              log2_bits = log2_bits;
+              hashes = hashes;
+              count = Some 0;
+            }))
+            (λ fault. IsFirstFault 0 (new_steps log2_bits hashes) fault) }
+    {
+        ensure_log2_bits(log2_bits)?;
+        ensure_hashes(hashes)?;
+        Ok(Filter {
+            seed,
+            log2_bits,
+            hashes,
+            count: Some(0),
+        })
+    }
+
+    // Inserts a value into the table with these bits.
+    pub(crate) fn insert<T: Hash>(&mut self, bits: &mut [u8], value: &T)
+        requires { IsTable (table_of self.old bits.old) }
+        ensures inserts { Inserts (T.fed value.now) (table_of self.old bits.old)
+            (table_of self.new bits.new) }
+        ensures is_table { IsTable (table_of self.new bits.new) }
+    {
+        self.set_bits(bits, value);
+        self.count = one_more(self.count);
+    }
+
+    // Whether the table with these bits contains a value.
+    pub(crate) fn contains<T: Hash>(&self, bits: &[u8], value: &T) -> bool
+        requires { IsTable (table_of self.now bits.now) }
+        ensures { IsTrue result ↔ IsMember (table_of self.now bits.now) (T.fed value.now) }
+    {
+        let word = value.word();
+        for j in 0..self.hashes {
+            if !is_set(bits, self.index(value, word, j)) {
+                return false;
+            }
+        }
+        true
+    }
+
+    // Merges another table, which is alike, into the one with these bits.
+    pub(crate) fn merge(&mut self, bits: &mut [u8], other: &Filter, other_bits: &[u8])
+        requires is_table { IsTable (table_of self.old bits.old) }
+        requires other { IsTable (table_of other.now other_bits.now) }
+        requires alike { AreAlike (table_of self.old bits.old) (table_of other.now other_bits.now) }
+        ensures merges { Merges (table_of other.now other_bits.now) (table_of self.old bits.old)
+            (table_of self.new bits.new) }
+        ensures is_table { IsTable (table_of self.new bits.new) }
+    {
+        set_all(bits, other_bits);
+        self.count = sum_of_counts(self.count, other.count);
+    }
+
+    // The first part that has to be the same in two filters, and is not.
+    pub(crate) fn difference(&self, other: &Filter) -> Option<Difference>
+        ensures { (bits : List ℕ) (others : List ℕ) →
+            MatchOption result (AreAlike (table_of self.now bits) (table_of other.now others))
+            (λ part. IsFirstDifference (table_of self.now bits) (table_of other.now others) part) }
+    {
+        if self.seed != other.seed {
+            return Some(Difference::Seed);
+        }
+        if self.log2_bits != other.log2_bits {
+            return Some(Difference::Log2Bits);
+        }
+        if self.hashes != other.hashes {
+            return Some(Difference::Hashes);
+        }
+        None
+    }
+
+    // Sets the bits at the indexes. The word is read before: LLVM does not know that the bits lie
+    // elsewhere than the value, and would read it and multiply it again for each index.
+    fn set_bits<T: Hash>(&self, bits: &mut [u8], value: &T)
+        requires { IsTable (table_of self.now bits.old) }
+        ensures bits { (i : ℕ) → IsSet bits.new i
+            ↔ (IsSet bits.old i ⊎ IsIndex (table_of self.now bits.old) (T.fed value.now) i) }
+        ensures bytes { (k : ℕ) → slice_index bits.new k < 256 }
+    {
+        let word = value.word();
+        for j in 0..self.hashes {
+            set(bits, self.index(value, word, j));
+        }
+    }
+
+    // The value's index of number `j`, by the word that it feeds, if the value answers one.
+    #[tactic(auto, unfolding(crate::specs::Table::index), using(crate::proofs::WordLemmas::masked))]
+    fn index<T: Hash>(&self, value: &T, word: Option<u64>, j: u8) -> usize
+        requires word { IfSome word (λ n. T.fed value.now ≡ eight n) }
+        requires size { IsLog2Bits self.now.log2_bits }
+        ensures index { result ≡ index self.now.seed self.now.log2_bits (T.fed value.now) j }
+        ensures inside { result < 2 ^ self.now.log2_bits }
+    {
+        let seed = self.seed.wrapping_add(u64::from(j));
+        (hash_under(seed, value, word) & ((1 << self.log2_bits) - 1)) as usize
+    }
+}
+
+// The hash of a value under a seed, by its word, if the value answers one.
+#[inline(always)]
+fn hash_under<T: Hash>(seed: u64, value: &T, word: Option<u64>) -> u64
+    requires { IfSome word (λ n. T.fed value.now ≡ eight n) }
+    ensures { result ≡ xxh64 seed (T.fed value.now) }
+{
+    match word {
+        Some(n) => XxHash64::hash_u64(n, seed),
+        None => value.xxh64(seed),
+    }
+}
+
+// The count after one more insert.
+fn one_more(count: Option<u64>) -> Option<u64>
+    ensures { result ≡ one_more count }
+{
+    match count {
+        Some(n) => Some(n.saturating_add(1)),
+        None => None,
+    }
+}
+
+// The count of two tables together.
+fn sum_of_counts(count: Option<u64>, other: Option<u64>) -> Option<u64>
+    ensures { result ≡ sum_of_counts count other }
+{
+    match (count, other) {
+        (Some(m), Some(n)) => Some(m.saturating_add(n)),
+        _ => None,
+    }
+}

@@ -1,0 +1,236 @@
+//! The format of a table in bytes, written and read by place.
+
+ghost use Rattle.std.specs.Prelude.{◌≡◌, ◌⊎◌, ◌↔◌, ◌+◌, ◌-◌, ◌<◌, ◌≤◌, [], ◌∷◌, Contains, length, take, drop, slice_index, IfSome, MatchResult, IsTrue};
+ghost use Rattle.datasketches.specs.Bytes.{eight, le};
+ghost use Rattle.datasketches.specs.Words.{IsWord};
+ghost use Rattle.sketch_member.specs.Faults.{AllPass, IsFirstFault, IsFlag, count_number, header_length, kind_steps, number_steps, size_steps, steps, view_steps};
+ghost use Rattle.sketch_member.specs.Filter.{table_of};
+ghost use Rattle.sketch_member.specs.Form.{IsForm, flag_of, form2, number_of};
+ghost use Rattle.sketch_member.specs.Table.{IsTable};
+
+use crate::fault::Fault;
+use crate::filter::{Filter, byte_count, ensure_hashes, ensure_log2_bits};
+use datasketches::codec::family::Family;
+
+/// The family of these tables. Their format is this crate's own, and not that of `BLOOMFILTER`.
+pub const MEMBER: Family = Family {
+    id: 200,
+    name: "MEMBER",
+    min_pre_longs: 2,
+    max_pre_longs: 3,
+};
+
+const _: () = prove!(MEMBER.id == 200 && MEMBER.min_pre_longs == 2 && MEMBER.max_pre_longs == 3);
+
+// The preamble longs of version 1, and of version 2, which has the count. The version is one less.
+const LONGS_1: u8 = 2;
+
+const LONGS_2: u8 = 3;
+
+// How many bytes the header of version 2 has.
+pub(crate) const HEADER_BYTES: usize = 24;
+
+impl Filter {
+    // The header in bytes of version 2.
+    pub(crate) fn to_bytes(self) -> [u8; HEADER_BYTES]
+        ensures { result ≡ form2 (table_of self []) }
+    {
+        let (flag, number) = count_parts(self.count);
+        let mut bytes = [0; HEADER_BYTES];
+        bytes[..6].copy_from_slice(&[
+            LONGS_2,
+            LONGS_2 - 1,
+            MEMBER.id,
+            self.log2_bits,
+            self.hashes,
+            flag,
+        ]);
+        bytes[8..16].copy_from_slice(&eight_bytes(self.seed));
+        bytes[16..].copy_from_slice(&eight_bytes(number));
+        bytes
+    }
+}
+
+// The filter and the bits of the table that the bytes are, in either version.
+#[tactic(auto, using(crate::proofs::FormLemmas::told))]
+pub(crate) fn read(bytes: &[u8]) -> Result<(Filter, &[u8]), Fault>
+    ensures { MatchResult result
+        (λ parts. IsTable (table_of parts.0 parts.1.now)
+        × IsForm (table_of parts.0 parts.1.now) bytes.now)
+        (λ fault. IsFirstFault (length bytes.now) (steps bytes.now) fault) }
+{
+    let longs = read_kind(bytes)?;
+    let (log2_bits, hashes) = read_sizes(bytes)?;
+    let (seed, count) = read_numbers(bytes, longs)?;
+    let (_, bits) = bytes.split_at(8 * usize::from(longs));
+    ensure_bits_count(byte_count(log2_bits), bits.len())?;
+    let filter = Filter {
+        seed,
+        log2_bits,
+        hashes,
+        count,
+    };
+    Ok((filter, bits))
+}
+
+// The filter and the bits of the table that the bytes are, in version 2.
+pub(crate) fn read_version2(bytes: &[u8]) -> Result<(Filter, &[u8]), Fault>
+    ensures { MatchResult result
+        (λ parts. IsTable (table_of parts.0 parts.1.now)
+        × (bytes.now ≡ form2 (table_of parts.0 parts.1.now)))
+        (λ fault. IsFirstFault (length bytes.now) (view_steps bytes.now) fault) }
+{
+    let (filter, bits) = read(bytes)?;
+    if bytes.first() == Some(&LONGS_1) {
+        return Err(Fault::Version1);
+    }
+    Ok((filter, bits))
+}
+
+// The preamble longs, which tell the version.
+fn read_kind(bytes: &[u8]) -> Result<u8, Fault>
+    ensures { MatchResult result
+        (λ longs. (longs ≡ slice_index bytes.now 0)
+        × AllPass (length bytes.now) (kind_steps bytes.now))
+        (λ fault. IsFirstFault (length bytes.now) (kind_steps bytes.now) fault) }
+{
+    let longs = byte(bytes, 0)?;
+    if ![LONGS_1, LONGS_2].contains(&longs) {
+        return Err(Fault::PreambleLongs(longs));
+    }
+    let actual = byte(bytes, 1)?;
+    let expected = longs - 1;
+    if actual != expected {
+        return Err(Fault::SerialVersion { expected, actual });
+    }
+    let family = byte(bytes, 2)?;
+    if family != MEMBER.id {
+        return Err(Fault::Family(family));
+    }
+    Ok(longs)
+}
+
+// The two sizes, `log2_bits` and `hashes`.
+fn read_sizes(bytes: &[u8]) -> Result<(u8, u8), Fault>
+    ensures { MatchResult result
+        (λ sizes. (sizes.0 ≡ slice_index bytes.now 3) × (sizes.1 ≡ slice_index bytes.now 4)
+        × AllPass (length bytes.now) (size_steps bytes.now))
+        (λ fault. IsFirstFault (length bytes.now) (size_steps bytes.now) fault) }
+{
+    let log2_bits = byte(bytes, 3)?;
+    ensure_log2_bits(log2_bits)?;
+    let hashes = byte(bytes, 4)?;
+    ensure_hashes(hashes)?;
+    Ok((log2_bits, hashes))
+}
+
+// The seed, and the count if it is known.
+fn read_numbers(bytes: &[u8], longs: u8) -> Result<(u64, Option<u64>), Fault>
+    requires place { longs ≡ slice_index bytes.now 0 }
+    requires version { Contains (2 ∷ 3 ∷ []) longs }
+    ensures { MatchResult result
+        (λ numbers. (numbers.0 ≡ le (take 8 (drop 8 bytes.now))) × IfSome numbers.1 IsWord
+        × (flag_of numbers.1 ≡ slice_index bytes.now 5)
+        × (number_of numbers.1 ≡ count_number bytes.now)
+        × AllPass (length bytes.now) (number_steps bytes.now))
+        (λ fault. IsFirstFault (length bytes.now) (number_steps bytes.now) fault) }
+{
+    let (flag, second, third) = (byte(bytes, 5)?, byte(bytes, 6)?, byte(bytes, 7)?);
+    if !are_reserved(longs, flag, second, third) {
+        return Err(Fault::Reserved);
+    }
+    let seed = long(bytes, 8)?;
+    let number = read_count_number(bytes, longs)?;
+    if flag == 1 {
+        return Ok((seed, Some(number)));
+    }
+    if number != 0 {
+        return Err(Fault::UnknownCount);
+    }
+    Ok((seed, None))
+}
+
+// The number that stands for the count. Version 1 has none.
+#[inline(always)]
+fn read_count_number(bytes: &[u8], longs: u8) -> Result<u64, Fault>
+    requires place { longs ≡ slice_index bytes.now 0 }
+    requires version { Contains (2 ∷ 3 ∷ []) longs }
+    requires seed { 16 ≤ length bytes.now }
+    ensures { MatchResult result
+        (λ n. (header_length bytes.now ≤ length bytes.now) × (n ≡ count_number bytes.now))
+        (λ fault. (length bytes.now < header_length bytes.now) × (fault ≡ Fault.HeaderEnds)) }
+{
+    if longs == LONGS_2 {
+        return long(bytes, 16);
+    }
+    Ok(0)
+}
+
+// Whether the bytes after the sizes are allowed: the flag is 0, or 1 in version 2, which has a
+// count; the other two are 0.
+fn are_reserved(longs: u8, flag: u8, second: u8, third: u8) -> bool
+    ensures { IsTrue result ↔ (IsFlag longs flag × (second ≡ 0) × (third ≡ 0)) }
+{
+    (flag == 0 || (longs == LONGS_2 && flag == 1)) && second == 0 && third == 0
+}
+
+// Accepts exactly as many bytes of bits as are needed.
+pub(crate) fn ensure_bits_count(need: usize, have: usize) -> Result<(), Fault>
+    ensures { MatchResult result (λ _. have ≡ need)
+        (λ fault. ((have < need) × (fault ≡ Fault.MissingBits need have))
+        ⊎ ((need < have) × (fault ≡ Fault.TrailingBytes (have - need)))) }
+{
+    if have < need {
+        return Err(Fault::MissingBits { need, have });
+    }
+    if need < have {
+        return Err(Fault::TrailingBytes(have - need));
+    }
+    Ok(())
+}
+
+// The byte of the header at a place.
+fn byte(bytes: &[u8], place: usize) -> Result<u8, Fault>
+    ensures { MatchResult result
+        (λ byte. (place < length bytes.now) × (byte ≡ slice_index bytes.now place))
+        (λ fault. (length bytes.now ≤ place) × (fault ≡ Fault.HeaderEnds)) }
+{
+    bytes.get(place).copied().ok_or(Fault::HeaderEnds)
+}
+
+// The number in the eight bytes of the header from a place on.
+#[inline(always)]
+fn long(bytes: &[u8], place: usize) -> Result<u64, Fault>
+    requires { place ≤ 16 }
+    ensures { MatchResult result
+        (λ n. (place + 8 ≤ length bytes.now) × (n ≡ le (take 8 (drop place bytes.now))))
+        (λ fault. (length bytes.now < place + 8) × (fault ≡ Fault.HeaderEnds)) }
+{
+    let Some(long) = bytes.get(place..place + 8) else {
+        return Err(Fault::HeaderEnds);
+    };
+    match long.as_array::<8>() {
+        Some(long) => Ok(u64::from_le_bytes(*long)),
+        None => Err(Fault::HeaderEnds),
+    }
+}
+
+// Whether the count is known, and the number that stands for it.
+fn count_parts(count: Option<u64>) -> (u8, u64)
+    ensures flag { result.0 ≡ flag_of count }
+    ensures number { result.1 ≡ number_of count }
+{
+    match count {
+        Some(n) => (1, n),
+        None => (0, 0),
+    }
+}
+
+// The bytes of a word, the lowest first.
+#[inline(always)]
+#[tactic(auto, using(crate::proofs::WordLemmas::in_bytes))]
+fn eight_bytes(word: u64) -> [u8; 8]
+    ensures { result ≡ eight word }
+{
+    word.to_le_bytes()
+}
