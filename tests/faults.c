@@ -43,7 +43,7 @@ void *malloc(size_t size) { return is_refused() ? NULL : __libc_malloc(size); }
 void *realloc(void *old, size_t size) { return is_refused() ? NULL : __libc_realloc(old, size); }
 void *calloc(size_t count, size_t size) { return is_refused() ? NULL : __libc_calloc(count, size); }
 
-static ssize_t move(long call, int file, const void *bytes, size_t count, char letter, int error) {
+static ssize_t move(long call, int file, void *bytes, size_t count, char letter, int error) {
     int struck = (fault == 'f' || fault == 's') && is_struck(letter);
     if (struck && fault == 'f') {
         errno = error;
@@ -55,5 +55,5 @@ static ssize_t move(long call, int file, const void *bytes, size_t count, char l
 ssize_t read(int file, void *bytes, size_t count) { return move(SYS_read, file, bytes, count, 'r', EINTR); }
 
 ssize_t write(int file, const void *bytes, size_t count) {
-    return move(SYS_write, file, bytes, count, file == 1 ? 'o' : 'e', EIO);
+    return move(SYS_write, file, (void *)bytes, count, file == 1 ? 'o' : 'e', EIO);
 }

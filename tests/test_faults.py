@@ -93,7 +93,8 @@ def test_of_a_crate_meets_the_second_refusal(program, name, under):
 
 # ---- the program
 
-PROGRAMS = [pytest.param(it, id=it) for it in ("sketchsum", "sketchsum.by-rattle")]  # as each of two compilers builds it
+# That of dist/; in the gate also as the kit's second compiler builds it.
+PROGRAMS = [ROOT / "dist/linux-x86_64/sketchsum", *([pathlib.Path(PROVED) / "sketchsum/out/sketchsum.by-rattle"] if PROVED else [])]
 CASES = {
     "murmur": ('"$0" murmur 0', 0, MURMUR, b""),
     "xx": ('"$0" xx 0', 0, XXH64, b""),
@@ -120,17 +121,24 @@ CASES = {
 
 
 @pytest.mark.parametrize("case", CASES)
-@pytest.mark.parametrize("program", PROGRAMS)
-def test_program(program, case, proved, tmp_path):
+@pytest.mark.parametrize("program", PROGRAMS, ids=lambda it: it.name)
+def test_program(program, case, tmp_path):
     line, *wanted = CASES[case]
-    assert answer(["bash", "-c", line, proved / "sketchsum/out" / program], cwd=tmp_path) == tuple(wanted)
+    assert answer(["bash", "-c", line, program], cwd=tmp_path) == tuple(wanted)
+
+
+@pytest.mark.parametrize("program", PROGRAMS, ids=lambda it: it.name)
+def test_program_gives_back_its_memory(program, need):
+    need("valgrind")
+    said = answer(["valgrind", "-q", "--leak-check=full", "--show-leak-kinds=all", "--error-exitcode=9", program, "murmur", "0"])
+    assert said == (0, MURMUR, b"")
 
 
 @pytest.mark.parametrize("words", ["murmur 0", "xx 0", "xx"])
 @pytest.mark.parametrize("fault, and_all_after", [("memory", False), ("memory", True), ("fail", False), ("short", False)])
-@pytest.mark.parametrize("program", PROGRAMS)
-def test_program_tells_each_failing_call(program, fault, and_all_after, words, proved, under):
-    command = [proved / "sketchsum/out" / program, *words.split()]
+@pytest.mark.parametrize("program", PROGRAMS, ids=lambda it: it.name)
+def test_program_tells_each_failing_call(program, fault, and_all_after, words, under):
+    command = [program, *words.split()]
     whole, calls = under(command, fault)
     assert whole == (2, b"", USAGE) if words == "xx" else whole == (0, MURMUR if "murmur" in words else XXH64, b"")
     assert calls

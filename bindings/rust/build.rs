@@ -20,8 +20,9 @@ fn main() {
 
 /// The folder of `dist/` for the target.
 fn of_target() -> PathBuf {
-    let [os, processor, endian, bits] = ["os", "arch", "endian", "pointer_width"]
-        .map(|word| env::var(format!("CARGO_CFG_TARGET_{}", word.to_uppercase())).unwrap_or_default());
+    let [os, processor, endian, bits] = ["os", "arch", "endian", "pointer_width"].map(|word| {
+        env::var(format!("CARGO_CFG_TARGET_{}", word.to_uppercase())).unwrap_or_default()
+    });
     let target = format!("{os}-{processor}");
     assert!(
         ["linux-x86_64", "linux-aarch64"].contains(&target.as_str()) && endian == "little" && bits == "64",

@@ -36,7 +36,7 @@ def copy(tmp_path):
     return pathlib.Path(shutil.copytree(HERE, tmp_path / "crate", ignore=shutil.ignore_patterns("target")))
 
 
-@pytest.mark.parametrize("words", [[], ["--release"]], ids=["debug", "release"])
+@pytest.mark.parametrize("words", [[], ["--release", "--features", "std"]], ids=["debug", "release"])
 def test_tests_of_the_crate(words):
     done = cargo("test", *words)
     assert done.returncode == 0, done.stdout + done.stderr

@@ -44,8 +44,8 @@ function add(file) {
     stop.setAttribute('aria-label', `Stop ${file.name}`);
     stop.onclick = () => worker.postMessage({ stop: job.id });
     const copy = row.querySelector('.copy');
-    copy.setAttribute('aria-label', `Copy the hashes of ${file.name}`);
-    copy.onclick = () => copyHashes(job);
+    copy.setAttribute('aria-label', `Copy the XXH64 of ${file.name}`);
+    copy.onclick = () => copyLine(job);
     at('rows').tBodies[0].append(row);
     at('rows').hidden = false;
     start(job);
@@ -106,17 +106,15 @@ function fill(job, xxh64, murmur3) {
     job.row.querySelector('.murmur3').textContent = murmur3;
 }
 
-async function copyHashes(job) {
-    const text = ['.xxh64', '.murmur3'].map((it) => `${job.row.querySelector(it).textContent}  ${job.file.name}\n`);
+// Copies a line that `xxhsum -c` reads: a name with a line break or a backslash is escaped.
+async function copyLine(job) {
+    const place = job.row.querySelector('.xxh64');
+    const name = job.file.name.replace(/\\/g, '\\\\').replace(/\n/g, '\\n').replace(/\r/g, '\\r');
     try {
-        await navigator.clipboard.writeText(text.join(''));
+        await navigator.clipboard.writeText(`${name === job.file.name ? '' : '\\'}${place.textContent}  ${name}\n`);
         status(job, 'copied');
     } catch {
-        const range = document.createRange();
-        range.setStartBefore(job.row.querySelector('.xxh64'));
-        range.setEndAfter(job.row.querySelector('.murmur3'));
-        getSelection().removeAllRanges();
-        getSelection().addRange(range);
+        getSelection().selectAllChildren(place);
         status(job, document.execCommand('copy') ? 'copied' : 'selected, to be copied');
     }
 }

@@ -163,7 +163,7 @@ def test_an_output_that_nobody_reads():
 def test_help():
     status, output, complaint = run("--help")
     words = b" ".join(output.split())
-    assert (status, complaint) == (0, b"") and words.startswith(b"usage: python3 -m sketch_hash ")
+    assert (status, complaint) == (0, b"") and words.startswith(b"usage: sketch-hash ")
     for text in (
         "'-', or none, is standard input", "reads hashes from FILE", "with --check, prints no OK", "xxh64 if left out", "--check wants it too",
         "Prints the hashes of files, or checks them.",
@@ -245,8 +245,8 @@ def test_check_tells_what_is_wrong():
         b"sketch_hash: 1 file(s) could not be read",
         b"sketch_hash: 1 computed hash(es) did not match",
     ]
-    wrong = XXH64.upper(), XXH64[1:], XXH64 + b"0", MURMUR[1:], MURMUR + b"0", b"", b"\\"
-    nameless = XXH64 + b"  ", XXH64 + b" fox", XXH64
+    wrong = XXH64[1:], XXH64 + b"0", MURMUR[1:], MURMUR + b"0", b"", b"\\"
+    nameless = XXH64 + b"  ", XXH64 + b" fox", XXH64, b"XXH64 () = " + XXH64, b"MD5 (fox) = " + XXH64 * 2
     for text in (*(digits + b"  fox" for digits in wrong), *nameless):
         status, output, complaint = run("-c", input=text + b"\n")
         assert (status, output) == (1, b"") and b"1 improperly formatted" in complaint
@@ -305,11 +305,27 @@ def test_a_list_longer_than_a_read():
     assert run("--check", input=line * count) == (0, b"fox: OK\n" * count, b"")
 
 
-def test_xxhsum_reads_the_lines_and_the_other_way_round():
-    lines = run("fox")[1]
+@pytest.mark.parametrize("words", [[], ["--tag"]])
+def test_xxhsum_reads_the_lines_and_the_other_way_round(words, need):
+    need("xxhsum")
+    lines = run(*words, "fox")[1]
     assert subprocess.run(["xxhsum", "-c"], input=lines).returncode == 0
-    lines = subprocess.run(["xxhsum", "-H1", "fox"], capture_output=True).stdout
+    assert lines == subprocess.run(["xxhsum", "-H1", *words, "fox"], capture_output=True).stdout
     assert run("--check", input=lines)[:2] == (0, b"fox: OK\n")
+
+
+def test_check_takes_other_writings_of_a_line():
+    for line in (XXH64.upper() + b"  fox", XXH64 + b" *fox", b"XXH64 (fox) = " + XXH64, b"MURMUR3_X64_128 (fox) = " + MURMUR):
+        assert run("--check", input=line + b"\n") == (0, b"fox: OK\n", b"")
+
+
+def test_the_command_that_is_installed():
+    import sketch_hash
+
+    command = os.path.join(os.path.dirname(os.path.dirname(sketch_hash.__file__)), "bin/sketch-hash")
+    said = subprocess.run([sys.executable, command, "--version"], capture_output=True)
+    assert (said.returncode, said.stdout.split()) == (0, [b"sketch-hash", sketch_hash.__version__.encode()])
+    assert subprocess.run([sys.executable, command, "fox"], capture_output=True).stdout == XXH64 + b"  fox\n"
 
 
 def test_a_bar_is_drawn_on_a_terminal_alone():
@@ -333,23 +349,6 @@ def test_a_bar_is_drawn_on_a_terminal_alone():
     feeder.wait()
 
 
-def test_a_bar_is_as_long_as_what_is_read(capsys, monkeypatch):
-    monkeypatch.setattr(sys.stderr, "isatty", lambda: True)
-    for size, pieces, texts in (
-        (3 << 20, (1 << 20, 2 << 20), ("[#{10} {20}]  33% 1 MiB  fox", "[#{30}] 100% 3 MiB  fox")),
-        (1000, (990,), ("[#{29} {1}]  99% 0 MiB  fox",)),
-        (1, (2,), ("[#{30}] 100% 0 MiB  fox",)),  # a file that has grown
-        (0, (2,), ("[ {30}]   0% 0 MiB  fox",)),
-    ):
-        with Bar("fox", size) as bar:
-            for piece, text in zip(pieces, texts):
-                bar.next = 0
-                bar.add(piece)
-                whole = re.sub(r"(.)\{(\d+)\}", lambda it: it[1] * int(it[2]), text)
-                assert capsys.readouterr().err == f"\r{whole}\033[K"
-        assert capsys.readouterr().err == "\r\033[K"
-
-
 def test_a_bar_whose_terminal_is_gone_is_no_fault_of_the_file(monkeypatch):
     class Gone(io.StringIO):
         def isatty(self):
@@ -363,18 +362,3 @@ def test_a_bar_whose_terminal_is_gone_is_no_fault_of_the_file(monkeypatch):
         bar.next = 0
         bar.add(9)
     assert bar.is_drawn
-
-
-def test_a_bar_is_drawn_from_half_a_second_on_ten_times_a_second(capsys, monkeypatch):
-    monkeypatch.setattr(sys.stderr, "isatty", lambda: True)
-    now = [100.0]
-    monkeypatch.setattr("sketch_hash.__main__.time.monotonic", lambda: now[0])
-    with Bar("fox", 1000) as bar:
-        drawn = []
-        for hundredth in range(1, 100):
-            now[0] = 100.005 + hundredth / 100
-            bar.add(1)
-            if capsys.readouterr().err:
-                drawn.append(hundredth)
-    assert bar.done == 99
-    assert drawn == [50, 60, 70, 80, 90]

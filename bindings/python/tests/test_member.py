@@ -10,7 +10,7 @@ import time
 import pytest
 from sketch_hash import MemberTable
 from test_buffers import DATA, REFUSED, TAKEN
-from test_faults import WAYS, ticks  # noqa: F401
+from test_sharing import WAYS, ticks  # noqa: F401
 from waiting import ZEROS, waits
 
 numpy = pytest.importorskip("numpy")

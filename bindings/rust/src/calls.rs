@@ -4,7 +4,7 @@
 use core::ffi::{c_int, c_uint};
 
 #[repr(C)]
-#[derive(Clone)]
+#[derive(Clone, PartialEq)]
 pub struct Xxh64State {
     pub seed: u64,
     pub v1: u64,
@@ -16,7 +16,7 @@ pub struct Xxh64State {
 }
 
 #[repr(C)]
-#[derive(Clone)]
+#[derive(Clone, PartialEq)]
 pub struct Murmur3X64_128State {
     pub h1: u64,
     pub h2: u64,

@@ -21,17 +21,25 @@ impl Offset for u64 {}
 mod sealed {
     use super::*;
 
-    pub trait Calls: Sized {
+    pub trait Calls: Copy {
+        /// The offset as an index: the greatest if it does not fit one.
+        fn at(self) -> usize;
         const XXH64: Each<Self, u64>;
         const MURMUR: Each<Self, [u64; 2]>;
     }
 
     impl Calls for u32 {
+        fn at(self) -> usize {
+            self.try_into().unwrap_or(usize::MAX)
+        }
         const XXH64: Each<u32, u64> = sketch_xxh64_each32;
         const MURMUR: Each<u32, [u64; 2]> = sketch_murmur3_x64_128_each32;
     }
 
     impl Calls for u64 {
+        fn at(self) -> usize {
+            self.try_into().unwrap_or(usize::MAX)
+        }
         const XXH64: Each<u64, u64> = sketch_xxh64_each64;
         const MURMUR: Each<u64, [u64; 2]> = sketch_murmur3_x64_128_each64;
     }
@@ -51,6 +59,18 @@ impl fmt::Display for ColumnError {
 }
 
 impl Error for ColumnError {}
+
+/// The index of the first offset that is past the end of the bytes or below the one before.
+pub(crate) fn place_of_fault<O: Offset>(input: &[u8], offsets: &[O]) -> Result<(), ColumnError> {
+    let mut before = 0;
+    for (index, offset) in offsets.iter().enumerate() {
+        if offset.at() < before || offset.at() > input.len() {
+            return Err(ColumnError { index });
+        }
+        before = offset.at();
+    }
+    Ok(())
+}
 
 fn done(fault: usize) -> Result<(), ColumnError> {
     match fault.checked_sub(1) {

@@ -4,6 +4,7 @@ use crate::calls::{
     sketch_member_check, sketch_member_contains, sketch_member_count, sketch_member_init,
     sketch_member_insert, sketch_member_merge, sketch_member_size,
 };
+use crate::columns::{place_of_fault, ColumnError, Offset};
 use crate::word;
 use alloc::vec::Vec;
 use alloc::{borrow::ToOwned, vec};
@@ -14,8 +15,9 @@ use core::fmt;
 /// A Bloom filter: a table that tells whether a key was inserted. It has no false negatives, and may
 /// have false positives.
 ///
-/// A table is its bytes, which any machine reads and writes alike. Tables are equal exactly if
-/// their bytes are.
+/// A table is its bytes, which any machine reads and writes alike: at most 2^20 bits and a header of
+/// 24 bytes, in a format that is not DataSketches'. Tables are equal exactly if their bytes are.
+/// [`MemberTable`] has bytes of its own, and a [`MemberView`] is a table where its bytes lie.
 ///
 /// ```
 /// let mut table = sketch_hash::MemberTable::new(7, 10, 3)?;
@@ -24,9 +26,36 @@ use core::fmt;
 /// # Ok::<(), sketch_hash::TableError>(())
 /// ```
 #[derive(Clone, PartialEq, Eq)]
-pub struct MemberTable {
-    // A table, as sketch_member_check tells.
-    bytes: Vec<u8>,
+pub struct Table<B> {
+    // A table, as sketch_member_check tells: a vector, or a slice that is borrowed alone.
+    bytes: B,
+}
+
+/// A Bloom filter with bytes of its own.
+pub type MemberTable = Table<Vec<u8>>;
+
+/// A Bloom filter in bytes of others, as a file that is mapped.
+///
+/// ```
+/// use sketch_hash::{MemberTable, MemberView};
+/// let mut bytes = MemberTable::new(7, 10, 3)?.into_bytes();
+/// MemberView::of(&mut bytes)?.insert(b"fox");
+/// assert!(MemberTable::from_bytes(&bytes)?.contains(b"fox"));
+/// # Ok::<(), sketch_hash::TableError>(())
+/// ```
+pub type MemberView<'a> = Table<&'a mut [u8]>;
+
+impl<'a> MemberView<'a> {
+    /// The table that lies in the bytes.
+    ///
+    /// # Errors
+    ///
+    /// As [`MemberTable::from_bytes`], but for memory, of which it needs none.
+    pub fn of(bytes: &'a mut [u8]) -> Result<Self, TableError> {
+        // SAFETY: a slice is readable for its length, and borrowed alone.
+        done(unsafe { sketch_member_check(bytes.as_ptr(), bytes.len()) })?;
+        Ok(Table { bytes })
+    }
 }
 
 impl MemberTable {
@@ -60,46 +89,53 @@ impl MemberTable {
         Ok(MemberTable { bytes: bytes.to_owned() })
     }
 
+    /// The bytes, without a copy.
+    pub fn into_bytes(self) -> Vec<u8> {
+        self.bytes
+    }
+}
+
+impl<B: AsRef<[u8]> + AsMut<[u8]>> Table<B> {
     /// Inserts a key. A known count grows by one and stays at the greatest `u64`.
     pub fn insert(&mut self, key: &[u8]) {
+        let bytes = self.bytes.as_mut();
         // SAFETY: the bytes are borrowed alone, so the key does not overlap them.
         let status = unsafe {
-            sketch_member_insert(self.bytes.as_mut_ptr(), self.bytes.len(), key.as_ptr(), key.len())
+            sketch_member_insert(bytes.as_mut_ptr(), bytes.len(), key.as_ptr(), key.len())
         };
         debug_assert_eq!(status, 0);
     }
 
     /// Whether all bits of a key are set: always where it was inserted.
     pub fn contains(&self, key: &[u8]) -> bool {
+        let bytes = self.bytes.as_ref();
         // SAFETY: both are only read.
-        let status = unsafe {
-            sketch_member_contains(self.bytes.as_ptr(), self.bytes.len(), key.as_ptr(), key.len())
-        };
+        let status =
+            unsafe { sketch_member_contains(bytes.as_ptr(), bytes.len(), key.as_ptr(), key.len()) };
         debug_assert!(status >= 0);
         status == 1
     }
 
     /// The seed.
     pub fn seed(&self) -> u64 {
-        word(&self.bytes, 1)
+        word(self.bytes.as_ref(), 1)
     }
 
     /// The table has 2 to this power bits.
     pub fn log2_bits(&self) -> u32 {
-        self.bytes[3].into()
+        self.bytes.as_ref()[3].into()
     }
 
     /// How many bits a key sets at most.
     pub fn hashes(&self) -> u32 {
-        self.bytes[4].into()
+        self.bytes.as_ref()[4].into()
     }
 
     /// How many inserts were counted, also those of one key; `None` where the table has no count.
     pub fn count(&self) -> Option<u64> {
-        let mut count = 0;
+        let (bytes, mut count) = (self.bytes.as_ref(), 0);
         // SAFETY: the count is a variable of this call.
-        let status =
-            unsafe { sketch_member_count(self.bytes.as_ptr(), self.bytes.len(), &mut count) };
+        let status = unsafe { sketch_member_count(bytes.as_ptr(), bytes.len(), &mut count) };
         debug_assert!(status >= 0);
         (status == 0).then_some(count)
     }
@@ -111,30 +147,68 @@ impl MemberTable {
     ///
     /// Where the seeds, the sizes or the numbers of hashes are different. This table is then as it
     /// was.
-    pub fn merge(&mut self, other: &MemberTable) -> Result<(), TableError> {
+    pub fn merge<O: AsRef<[u8]>>(&mut self, other: &Table<O>) -> Result<(), TableError> {
+        let (bytes, other) = (self.bytes.as_mut(), other.bytes.as_ref());
         // SAFETY: the bytes are borrowed alone, so those of the other table are elsewhere.
         done(unsafe {
-            sketch_member_merge(
-                self.bytes.as_mut_ptr(),
-                self.bytes.len(),
-                other.bytes.as_ptr(),
-                other.bytes.len(),
-            )
+            sketch_member_merge(bytes.as_mut_ptr(), bytes.len(), other.as_ptr(), other.len())
         })
+    }
+
+    /// Inserts each key of a column, laid out as for [`xxh64_each`](crate::xxh64_each).
+    ///
+    /// # Errors
+    ///
+    /// The index of the first offset that is past the end of `input`, or below the one before.
+    /// Nothing is then inserted.
+    pub fn insert_each<O: Offset>(
+        &mut self,
+        input: &[u8],
+        offsets: &[O],
+    ) -> Result<(), ColumnError> {
+        place_of_fault(input, offsets)?;
+        for ends in offsets.windows(2) {
+            self.insert(&input[ends[0].at()..ends[1].at()]);
+        }
+        Ok(())
+    }
+
+    /// Whether the table contains each key of a column: `found[i]` tells of key `i`.
+    ///
+    /// # Errors
+    ///
+    /// As [`insert_each`](Self::insert_each); and the index of the first offset that is missing, if
+    /// there are not one more than places. Nothing is then written.
+    pub fn contains_each<O: Offset>(
+        &self,
+        input: &[u8],
+        offsets: &[O],
+        found: &mut [bool],
+    ) -> Result<(), ColumnError> {
+        let needed = if found.is_empty() { 0 } else { found.len() + 1 };
+        if offsets.len() < needed {
+            return Err(ColumnError { index: offsets.len() });
+        }
+        place_of_fault(input, &offsets[..needed])?;
+        for (place, ends) in found.iter_mut().zip(offsets.windows(2)) {
+            *place = self.contains(&input[ends[0].at()..ends[1].at()]);
+        }
+        Ok(())
     }
 
     /// The bytes: 24 of a header, and the bits.
     pub fn as_bytes(&self) -> &[u8] {
-        &self.bytes
-    }
-
-    /// The bytes, without a copy.
-    pub fn into_bytes(self) -> Vec<u8> {
-        self.bytes
+        self.bytes.as_ref()
     }
 }
 
-impl fmt::Debug for MemberTable {
+impl<B: AsRef<[u8]> + AsMut<[u8]>, K: AsRef<[u8]>> Extend<K> for Table<B> {
+    fn extend<I: IntoIterator<Item = K>>(&mut self, keys: I) {
+        keys.into_iter().for_each(|key| self.insert(key.as_ref()));
+    }
+}
+
+impl<B: AsRef<[u8]> + AsMut<[u8]>> fmt::Debug for Table<B> {
     fn fmt(&self, f: &mut fmt::Formatter<'_>) -> fmt::Result {
         f.debug_struct("MemberTable")
             .field("seed", &self.seed())

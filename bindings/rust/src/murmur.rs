@@ -4,7 +4,7 @@ use crate::calls::{
     sketch_murmur3_x64_128, sketch_murmur3_x64_128_digest, sketch_murmur3_x64_128_reset,
     sketch_murmur3_x64_128_update, Murmur3X64_128State,
 };
-use crate::{join, word};
+use crate::{join, word, writes};
 use core::fmt;
 use core::hash::{BuildHasher, Hasher};
 
@@ -23,7 +23,25 @@ pub fn murmur3_x64_128(input: &[u8], seed: u64) -> (u64, u64) {
     (hash.h1, hash.h2)
 }
 
+/// MurmurHash3 x64 128 of `input` under a seed, as its 16 bytes lie in memory: each word's lowest
+/// byte first. Other tools print these.
+///
+/// ```
+/// let bytes = sketch_hash::murmur3_x64_128_bytes(b"foo", 0);
+/// assert_eq!(&bytes, b"aE\xf5\x01W\x86q\xe2\x87}\xba+\xe4\x87\xaf~");
+/// ```
+pub fn murmur3_x64_128_bytes(input: &[u8], seed: u64) -> [u8; 16] {
+    in_memory(murmur3_x64_128(input, seed))
+}
+
+fn in_memory((h1, h2): (u64, u64)) -> [u8; 16] {
+    join(&[h1, h2], &[])
+}
+
 /// MurmurHash3 x64 128 of a stream that comes in pieces.
+///
+/// Two streams are equal if they have the same words, length and bytes that wait for the rest of a
+/// block: they hash alike whatever comes.
 ///
 /// As a [`Hasher`] it hashes the bytes that it is fed, and finishes with the first of both words.
 ///
@@ -41,9 +59,8 @@ pub struct Murmur3X64_128 {
 impl Murmur3X64_128 {
     /// A stream with a seed, and no bytes.
     #[inline]
-    pub fn new(seed: u64) -> Self {
-        let mut state = Murmur3X64_128State { h1: 0, h2: 0, total: 0, waiting: [0; 16] };
-        sketch_murmur3_x64_128_reset(&mut state, seed);
+    pub const fn new(seed: u64) -> Self {
+        let state = Murmur3X64_128State { h1: seed, h2: seed, total: 0, waiting: [0; 16] };
         Murmur3X64_128 { state }
     }
 
@@ -68,6 +85,11 @@ impl Murmur3X64_128 {
         (hash.h1, hash.h2)
     }
 
+    /// The digest as its 16 bytes lie in memory: each word's lowest byte first.
+    pub fn digest_bytes(&self) -> [u8; 16] {
+        in_memory(self.digest())
+    }
+
     /// The stream as a checkpoint of 40 bytes, from which [`from_bytes`](Self::from_bytes) goes on.
     pub fn to_bytes(&self) -> [u8; 40] {
         join(&[self.state.h1, self.state.h2, self.state.total], &self.state.waiting)
@@ -81,6 +103,20 @@ impl Murmur3X64_128 {
         Murmur3X64_128 { state: Murmur3X64_128State { h1, h2, total, waiting } }
     }
 }
+
+impl PartialEq for Murmur3X64_128 {
+    fn eq(&self, other: &Self) -> bool {
+        let [mut one, mut two] = [self, other].map(|it| it.state.clone());
+        for state in [&mut one, &mut two] {
+            state.waiting[(state.total % 16) as usize..].fill(0);
+        }
+        one == two
+    }
+}
+
+impl Eq for Murmur3X64_128 {}
+
+writes!(Murmur3X64_128);
 
 impl Default for Murmur3X64_128 {
     /// A stream with the seed 0.

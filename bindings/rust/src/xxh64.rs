@@ -4,7 +4,7 @@ use crate::calls::{
     sketch_xxh64, sketch_xxh64_digest, sketch_xxh64_reset, sketch_xxh64_u64, sketch_xxh64_update,
     Xxh64State,
 };
-use crate::{join, word};
+use crate::{join, word, writes};
 use core::fmt;
 use core::hash::{BuildHasher, Hasher};
 
@@ -34,6 +34,12 @@ pub fn xxh64_u64(value: u64, seed: u64) -> u64 {
 /// As a [`Hasher`] it hashes the bytes that it is fed, numbers as their bytes with the lowest first.
 /// It keeps the first 32 bytes, and starts a state at the 33rd. Where no more than 32 come, one call
 /// hashes them all; where just eight come, as of an integer key, that is the call for one number.
+///
+/// `std`'s `Hash` feeds more than the bytes of a text: a `str` ends with a byte 0xff, so
+/// `BuildXxh64::new(0).hash_one("fox")` is not `xxh64(b"fox", 0)`.
+///
+/// Two streams are equal if they have the same seed and will hash alike whatever comes: their lanes,
+/// their lengths and the bytes that wait for the rest of a stripe are equal.
 ///
 /// ```
 /// let mut hasher = sketch_hash::Xxh64::new(7);
@@ -132,6 +138,23 @@ impl Xxh64 {
         }
     }
 }
+
+impl PartialEq for Xxh64 {
+    fn eq(&self, other: &Self) -> bool {
+        let [mut one, mut two] = [self, other].map(|it| {
+            let mut copy = it.clone();
+            copy.state().clone()
+        });
+        for state in [&mut one, &mut two] {
+            state.waiting[(state.total % 32) as usize..].fill(0);
+        }
+        one == two
+    }
+}
+
+impl Eq for Xxh64 {}
+
+writes!(Xxh64);
 
 fn feed(state: &mut Xxh64State, input: &[u8]) {
     // SAFETY: a slice is readable for its length, which is below 2^63. It does not change while it

@@ -2,7 +2,9 @@
 
 mod plain;
 
-use sketch_hash::{murmur3_x64_128, xxh64, xxh64_u64, BuildMurmur3X64_128, BuildXxh64};
+use sketch_hash::{
+    murmur3_x64_128, murmur3_x64_128_bytes, xxh64, xxh64_u64, BuildMurmur3X64_128, BuildXxh64,
+};
 use sketch_hash::{murmur3_x64_128_each, xxh64_each, MemberTable, Murmur3X64_128, Xxh64};
 use sketch_hash::{ColumnError, TableError};
 use std::collections::HashMap;
@@ -401,4 +403,44 @@ fn lengths_past_32_bits() {
 
 fn word_of(bytes: &[u8]) -> u64 {
     u64::from_le_bytes(bytes.try_into().unwrap())
+}
+
+static OF_A_CONSTANT: Murmur3X64_128 = Murmur3X64_128::new(7);
+
+#[test]
+fn streams_are_equal_if_they_will_hash_alike() {
+    let data = [5; 100];
+    for cut in 0..=100 {
+        let (mut whole, mut pieces) = (Xxh64::new(7), Xxh64::new(7));
+        whole.update(&data);
+        pieces.update(&data[..cut]);
+        assert_eq!(whole == pieces, cut == 100);
+        pieces.update(&data[cut..]);
+        assert_eq!(whole, pieces);
+        assert_ne!(whole, Xxh64::new(8));
+        let (mut whole, mut pieces) = (OF_A_CONSTANT.clone(), OF_A_CONSTANT.clone());
+        whole.update(&data);
+        pieces.update(&data[..cut]);
+        assert_eq!(whole == pieces, cut == 100);
+        pieces.update(&data[cut..]);
+        assert_eq!(whole, pieces);
+    }
+}
+
+#[test]
+fn murmur_as_its_bytes_lie_in_memory() {
+    let (h1, h2) = murmur3_x64_128(b"the fox", 7);
+    let mut hasher = Murmur3X64_128::new(7);
+    hasher.update(b"the fox");
+    assert_eq!(hasher.digest_bytes(), murmur3_x64_128_bytes(b"the fox", 7));
+    assert_eq!(hasher.digest_bytes()[..8], h1.to_le_bytes());
+    assert_eq!(hasher.digest_bytes()[8..], h2.to_le_bytes());
+}
+
+#[cfg(feature = "std")]
+#[test]
+fn streams_are_written_to() {
+    let mut hasher = Xxh64::new(7);
+    std::io::copy(&mut &b"the fox"[..], &mut hasher).unwrap();
+    assert_eq!(hasher.digest(), xxh64(b"the fox", 7));
 }

@@ -2,7 +2,7 @@
 
 mod plain;
 
-use sketch_hash::{MemberTable, TableError};
+use sketch_hash::{MemberTable, MemberView, TableError};
 
 const SEED: u64 = 0x1122_3344_5566_7788;
 
@@ -274,4 +274,38 @@ fn tables_are_equal_where_their_bytes_are() {
         }
     }
     assert_ne!(MemberTable::new(1, 10, 3), MemberTable::new(1, 10, 4));
+}
+
+#[test]
+fn columns_are_inserted_and_looked_up() {
+    let (mut table, mut other) =
+        (MemberTable::new(7, 10, 3).unwrap(), MemberTable::new(7, 10, 3).unwrap());
+    table.insert_each(b"foxdog", &[0_u32, 3, 6]).unwrap();
+    other.extend(["fox", "dog"]);
+    assert_eq!(table, other);
+    let mut found = [false; 3];
+    table.contains_each(b"foxcowdog", &[0_u64, 3, 6, 9], &mut found).unwrap();
+    assert_eq!(found, [true, false, true]);
+    table.contains_each(b"", &[] as &[u32], &mut []).unwrap();
+    for (offsets, index) in [(&[0_u32, 7][..], 1), (&[3, 2], 1), (&[9, 9], 0)] {
+        let error = table.insert_each(b"foxdog", offsets).unwrap_err();
+        assert_eq!((error.index, &table), (index, &other));
+        let error = table.contains_each(b"foxdog", offsets, &mut found[..1]).unwrap_err();
+        assert_eq!((error.index, found), (index, [true, false, true]));
+    }
+    assert_eq!(table.contains_each(b"", &[0_u32], &mut found).unwrap_err().index, 1);
+}
+
+#[test]
+fn a_view_changes_the_bytes() {
+    let mut table = MemberTable::new(7, 10, 3).unwrap();
+    let mut bytes = table.as_bytes().to_vec();
+    let mut view = MemberView::of(&mut bytes).unwrap();
+    view.insert(b"fox");
+    table.insert(b"dog");
+    view.merge(&table).unwrap();
+    assert!(view.contains(b"fox") && view.contains(b"dog") && view.count() == Some(2));
+    table.insert(b"fox");
+    assert_eq!(bytes, table.as_bytes());
+    assert_eq!(MemberView::of(&mut bytes[1..]).unwrap_err(), TableError::SerialVersion);
 }

@@ -16,6 +16,12 @@ assert.equal(library.version, 10100);
 assert.equal(xxh64(fox), 0x0b242d361fda71bcn);
 assert.equal(murmur3X64_128(fox, 0n), 0xe34bbc7bbc071b6c7a433ca9c49a9347n);
 assert.equal(xxh64(new ArrayBuffer(0), 0n), 0xef46db3751d8e999n);
+assert.equal(library.xxh64Hex(fox), '0b242d361fda71bc');
+assert.equal(library.murmur3X64_128Hex(fox, 0n), 'e34bbc7bbc071b6c7a433ca9c49a9347');
+const foo = new TextEncoder().encode('foo');
+const ofFoo = Buffer.from('6145f501578671e2877dba2be487af7e', 'hex'); // as Python's mmh3.hash_bytes has it
+assert.deepEqual(library.murmur3X64_128Bytes(foo), new Uint8Array(ofFoo));
+assert.deepEqual(new Murmur3X64_128().update(foo).digestBytes(), new Uint8Array(ofFoo));
 
 // Every view is taken, with its own bytes.
 const all = new Uint8Array(64).map((_, at) => at);

@@ -17,6 +17,8 @@ for (const Kind of [library.Xxh64, library.Murmur3X64_128]) {
 }
 // A stream of one's own stays one.
 class Named extends library.Xxh64 { own = ''; }
+const texts: string[] = [library.xxh64Hex(input), library.murmur3X64_128Hex(input, 1n)];
+const sixteen: Uint8Array[] = [library.murmur3X64_128Bytes(input), new library.Murmur3X64_128().digestBytes()];
 const own: string = new Named().update(input).copy().reset().own;
 const version: number = library.version;
 

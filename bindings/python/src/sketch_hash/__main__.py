@@ -3,11 +3,12 @@ import argparse
 import contextlib
 import errno
 import os
+import re
 import signal
 import sys
 import time
 
-from . import _seed, murmur3_x64_128, xxh64
+from . import __version__, _seed, murmur3_x64_128, xxh64
 
 HASHES = {"xxh64": xxh64, "murmur3_x64_128": murmur3_x64_128}
 PIECE = 1 << 20
@@ -15,12 +16,14 @@ ESCAPES = [("\\", "\\\\"), ("\n", "\\n"), ("\r", "\\r")]
 
 
 def main():
-    words = argparse.ArgumentParser(prog="python3 -m sketch_hash", description=__doc__)
+    words = argparse.ArgumentParser(prog="sketch-hash", description=__doc__)
     words.add_argument("files", nargs="*", metavar="FILE", help="'-', or none, is standard input")
     words.add_argument("-a", "--algorithm", choices=HASHES, default="xxh64", help="xxh64 if left out")
     words.add_argument("-s", "--seed", type=whole_number, default=0, help="0 if left out; --check wants it too")
     words.add_argument("-c", "--check", action="store_true", help="reads hashes from FILE")
     words.add_argument("-q", "--quiet", action="store_true", help="with --check, prints no OK")
+    words.add_argument("--tag", action="store_true", help="prints lines that name the hash, as xxhsum --tag does")
+    words.add_argument("--version", action="version", version=f"sketch-hash {__version__}")
     # Names and options may take turns; what follows a '--' is a name.
     said = sys.argv[1:]
     end = said.index("--") if "--" in said else len(said)
@@ -32,7 +35,7 @@ def main():
     for name in files:
         hasher = hash_file(name, HASHES[given.algorithm](seed=given.seed))
         if hasher:
-            say(line(hasher.hexdigest(), name))
+            say(line(hasher, name, given.tag))
         faults += hasher is None
     return faults > 0
 
@@ -108,27 +111,27 @@ def escaped(name):
     return "\\" if text != name else "", text
 
 
-def line(digits, name):
-    """A hash and a name."""
+def line(hasher, name, is_tagged):
     mark, text = escaped(name)
-    return f"{mark}{digits}  {text}"
+    digits = hasher.hexdigest()
+    return f"{mark}{hasher.name} ({text}) = {digits}" if is_tagged else f"{mark}{digits}  {text}"
+
+
+DIGITS = r"[0-9a-fA-F]{16}|[0-9a-fA-F]{32}"
+# A hash and a name, behind a '*' if the file was read as bytes; or with a tag. Behind a backslash the name is escaped.
+LINE = re.compile(rf"(\\?)(?:({DIGITS}) [ *](.+)|(?:XXH64|MURMUR3_X64_128) \((.+)\) = ({DIGITS}))", re.S)
 
 
 def parts(text):
     """The hash and the name of a line, or None."""
-    is_escaped = text.startswith("\\")
-    digits, gap, name = text[is_escaped:].partition("  ")
-    if not gap or not name or len(digits) not in (16, 32) or set(digits) - set("0123456789abcdef"):
+    found = LINE.fullmatch(text)
+    if not found:
         return None
-    if is_escaped:
-        back = {escape: text for text, escape in ESCAPES}
-        at, plain = 0, []
-        while at < len(name):
-            taken = 2 if name[at : at + 2] in back else 1
-            plain.append(back.get(name[at : at + 2], name[at]))
-            at += taken
-        name = "".join(plain)
-    return digits, name
+    name = found[3] or found[4]
+    if found[1]:
+        back = {escape: plain for plain, escape in ESCAPES}
+        name = re.sub(r"\\[\\nr]", lambda it: back[it[0]], name)
+    return (found[2] or found[5]).lower(), name
 
 
 def check(lists, seed, is_quiet):
@@ -186,9 +189,9 @@ def complain(text):
         sys.stderr.flush()
 
 
-if __name__ == "__main__":
-    # As other programs do, this one ends without a word where nobody reads its output, or at Ctrl-C, which it
-    # ignores where it was started so.
+def command():
+    """The program. As others do, it ends without a word if nobody reads its output, or at Ctrl-C, unless it was started
+    to ignore that."""
     signal.signal(signal.SIGPIPE, signal.SIG_DFL)
     if signal.getsignal(signal.SIGINT) is not signal.SIG_IGN:
         signal.signal(signal.SIGINT, signal.SIG_DFL)
@@ -198,3 +201,7 @@ if __name__ == "__main__":
         complain(f"standard output: {error.strerror}")
         status = 1
     os._exit(status)  # what could not be written is not tried again
+
+
+if __name__ == "__main__":
+    command()
