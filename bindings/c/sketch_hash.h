@@ -1,4 +1,4 @@
-/* sketch_hash 1.1.0: XXH64 and MurmurHash3_x64_128 of bytes, and a Bloom filter (a table, below), from
+/* sketch_hash 1.2.0: XXH64 and MurmurHash3_x64_128 of bytes, and a Bloom filter (a table, below), from
  * functions that are proved.
  *
  * Proved of the library: for every seed, and however a stream is cut into updates, a digest is the
@@ -40,8 +40,8 @@ extern "C" {
 #define SKETCH_HASH_U64(number) ((uint64_t)(number))
 #endif
 
-/* 1.1.0: major * 10000 + minor * 100 + patch. The function returns that of the library. */
-#define SKETCH_HASH_VERSION 10100
+/* 1.2.0: major * 10000 + minor * 100 + patch. The function returns that of the library. */
+#define SKETCH_HASH_VERSION 10200
 uint32_t sketch_hash_version(void);
 
 /* ---- XXH64, after Yann Collet's xxHash specification. As hexadecimal: printf("%016" PRIx64). */

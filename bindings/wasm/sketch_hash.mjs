@@ -1,4 +1,4 @@
-// sketch_hash 1.1.0: XXH64 and MurmurHash3 x64 128, from functions that are proved, for browsers and
+// sketch_hash 1.2.0: XXH64 and MurmurHash3 x64 128, from functions that are proved, for browsers and
 // Node. Licence: Apache-2.0.
 //
 //     import { load } from './sketch_hash.mjs';

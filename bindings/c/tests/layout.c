@@ -135,7 +135,7 @@ int main(void) {
     unsigned char bytes[35];
     for (size_t i = 0; i < sizeof bytes; i++) bytes[i] = (unsigned char)i;
     same("the version", sketch_hash_version(), SKETCH_HASH_VERSION);
-    same("the version", SKETCH_HASH_VERSION, 10100);
+    same("the version", SKETCH_HASH_VERSION, 10200);
     xxh64(bytes);
     murmur(bytes);
     initializers();

@@ -2,10 +2,10 @@
 
 ghost use Rattle.std.specs.Prelude.{◌≡◌};
 
-/// The version as one number, major * 10000 + minor * 100 + patch: 1.1.0.
+/// The version as one number, major * 10000 + minor * 100 + patch: 1.2.0.
 #[unsafe(no_mangle)]
 pub extern "C" fn sketch_hash_version() -> u32
-    ensures { result ≡ 10100 }
+    ensures { result ≡ 10200 }
 {
     10_100
 }

@@ -30,7 +30,7 @@ from ._core import (
     xxh64_intdigest,
 )
 
-__version__ = "1.1.0"
+__version__ = "1.2.0"
 __all__ = [
     "MemberTable",
     "algorithms_available",

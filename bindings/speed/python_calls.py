@@ -1,0 +1,36 @@
+"""Measures calls of the Python package beside python3-xxhash, by thread time, and prints lines of speed.tsv."""
+import statistics
+import time
+import timeit
+
+import sketch_hash
+import xxhash
+
+CASES = [
+    *((f"`xxh64(data).{how}()`, {length} bytes", f"module.xxh64(data).{how}()", length)
+      for how in ("intdigest", "hexdigest") for length in (8, 64, 1024)),
+    *((f"`xxh64_intdigest(data)`, {length} bytes", "module.xxh64_intdigest(data)", length) for length in (8, 64, 1024)),
+    *((f"`update(data)`, {length} bytes", "hasher.update(data)", length) for length in (8, 1024)),
+    ("`digest()`", "hasher.digest()", 16),
+    ("`copy()`", "hasher.copy()", 16),
+]
+table = sketch_hash.MemberTable(17, 7, seed=9001)
+table.insert(bytes(16))
+
+
+def timer(call, module, length):
+    data = bytes(length)
+    names = {"module": module, "data": data, "hasher": module.xxh64(data)}
+    it = timeit.Timer(call, globals=names, timer=time.thread_time)
+    return lambda: it.timeit(1000)
+
+
+for case, call, length in CASES:
+    ours, theirs = (timer(call, module, length) for module in (sketch_hash, xxhash))
+    ratios = sorted(ours() / theirs() for _ in range(101))
+    print(f"python\t{case}\tpython3-xxhash\t{statistics.median(ratios):.2f}\t{ratios[10]:.2f}\t{ratios[90]:.2f}")
+
+data = bytes(16)
+for case, call in (("insert", table.insert), ("look-up", table.__contains__)):
+    nanoseconds = sorted(timeit.timeit(lambda: call(data), timer=time.thread_time, number=10_000) / 1e-5 for _ in range(101))
+    print(f"python\t{case} of a filter, 16 bytes\tnanoseconds\t{nanoseconds[50]:.0f}\t{nanoseconds[10]:.0f}\t{nanoseconds[90]:.0f}")
