@@ -169,7 +169,8 @@ int sketch_member_check(const void *bytes, size_t length);
 /* Inserts a key. */
 int sketch_member_insert(void *bytes, size_t length, const void *key, size_t key_length);
 
-/* 1 where the table contains the key, 0 where it does not, or a negative status. */
+/* 1 where the table contains the key, 0 where it does not, or a negative status: compare with == 1, since a fault is not
+ * zero, and so `if (sketch_member_contains(..))` takes it for a yes. */
 int sketch_member_contains(const void *bytes, size_t length, const void *key, size_t key_length);
 
 /* Merges the table at `from`, of the same seed and sizes, into the one at `into`: the result is the

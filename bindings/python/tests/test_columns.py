@@ -37,20 +37,6 @@ def test_each_key(dtype):
         assert some.tolist() == expected(KEYS[begin:600], 0)
 
 
-def test_each_number_of_keys():
-    words, pairs = xxh64_each(PAIR, 3).tolist(), murmur3_x64_128_each(PAIR, 3).tolist()
-    numbers = numpy.arange(1, 1001, dtype="u8") * numpy.uint64(0x9E3779B97F4A7C15)
-    of_numbers = xxh64_each(numbers, 3).tolist()
-    for code in "IQ":
-        offsets = array.array(code, OFFSETS)
-        for count in range(len(KEYS) + 1):
-            some = DATA, offsets[: count + 1]
-            assert xxh64_each(some, 3).tolist() == words[:count]
-            assert murmur3_x64_128_each(some, 3).tolist() == pairs[: 2 * count]
-    for count in range(len(numbers) + 1):
-        assert xxh64_each(numbers[:count], 3).tolist() == of_numbers[:count]
-
-
 def test_offsets_of_ctypes():
     for kind in (ctypes.c_uint32, ctypes.c_uint64):
         assert xxh64_each((DATA, (kind * len(OFFSETS))(*OFFSETS)), 9).tolist() == expected(KEYS, 9)
@@ -85,16 +71,6 @@ def test_texts_of_one_width():
     offsets = numpy.arange(0, 8 * len(texts) + 1, 8, dtype="u8")
     padded = [bytes(text).ljust(8, b"\0") for text in texts]
     assert xxh64_each((texts.tobytes(), offsets), 3).tolist() == expected(padded, 3)
-
-
-def test_each_name_of_a_width():
-    """What C calls a number of 32 or 64 bits differs by machine: each of its names is taken."""
-    some = OFFSETS[500:601]
-    for code in "iIlLqQ":
-        offsets = array.array(code, some)
-        assert xxh64_each((DATA, offsets)).tolist() == expected(KEYS[500:600], 0)
-        if offsets.itemsize == 8:
-            assert xxh64_each(offsets).tolist() == xxh64_each(array.array("Q", some)).tolist()
 
 
 def test_columns_of_many_keys():

@@ -1,16 +1,13 @@
 """The program: python3 -m sketch_hash."""
-import io
 import os
 import pty
 import random
-import re
 import select
 import signal
 import subprocess
 import sys
 
 import pytest
-from sketch_hash.__main__ import Bar
 
 xxhash = pytest.importorskip("xxhash")
 
@@ -67,19 +64,6 @@ def test_an_input_that_breaks_off():
         assert (status, output) == (1, b"") and b"-: Input/output error\n" in complaint
 
 
-def test_an_input_that_does_not_wait():
-    """Nothing to read for now is a fault, and not the end."""
-    for words, text in (([], FOX[:9]), (["--check"], XXH64 + b"  fox\n"), (["--check"], b"")):
-        here, there = os.pipe()
-        os.set_blocking(here, False)
-        os.write(there, text)
-        status, output, complaint = run(*words, stdin=here)
-        os.close(here)
-        os.close(there)
-        assert (status, output) == (1, b"")
-        assert complaint.startswith(b"sketch_hash: -: Resource temporarily unavailable\n")
-
-
 def test_lines_come_as_soon_as_a_file_is_read():
     os.mkfifo("late")
     for words in (["fox", "late"], ["--check", "list"]):
@@ -100,16 +84,6 @@ def test_lines_come_as_soon_as_a_file_is_read():
             assert (first, lines) == (XXH64 + b"  fox\n", XXH64 + b"  fox\n" + XXH64 + b"  late\n")
         else:
             assert (first, lines) == (b"fox: OK\n", b"fox: OK\nlate: OK\n")
-
-
-def test_lists_that_cannot_be_read_are_counted():
-    with open("list", "wb") as file:
-        file.write(XXH64 + b"  fox\n")
-    assert run("--check", "none", "list", "nowhere", "list") == (
-        1, b"fox: OK\n" * 2,
-        b"sketch_hash: none: No such file or directory\nsketch_hash: nowhere: No such file or directory\n"
-        b"sketch_hash: 2 file(s) could not be read\n",
-    )
 
 
 def test_an_output_that_is_full():
@@ -275,24 +249,12 @@ def test_check_tells_what_is_wrong():
     os.symlink("far/away", "link")
     lines = XXH64 + b"  ./fox\n" + XXH64 + b"  link/../fox\n"
     assert run("-c", input=lines)[:2] == (1, b"./fox: OK\nlink/../fox: FAILED to open or read\n")
-    # What is wrong in one list stays so after another one.
-    for name, text in (("good", good), ("bad", bad + missing + b"  \n")):
-        with open(name, "wb") as file:
-            file.write(text)
-    assert run("-c", "bad", "good")[::2] == run("-c", "good", "bad")[::2] == (1, complaint_of_three)
-    # Standard input is left open.
-    assert run("-c", "-", "fox", "-", input=good) == (
-        1, b"fox: OK\n", b"sketch_hash: 1 improperly formatted line(s)\n"
-    )
     status, output, complaint = run("-c", input=b"")
     assert (status, output) == (1, b"") and b"no line with a hash" in complaint
     assert run("-c", "missing")[0] == 1
     status, output, complaint = run("-c", input=XXH64 + b"  fo\0x\n")
     assert (status, output) == (1, b"fo\0x: FAILED to open or read\n")
     assert complaint.startswith(b"sketch_hash: fo\0x: embedded null byte\n")
-    # Any number of faults is one, also where a status would have no more digits.
-    for lines in (missing * 256, bad * 256, b"no hash\n" * 256, good + bad * 256):
-        assert run("-c", input=lines)[0] == 1
     # The name of standard input is a name in a list too.
     with open("list", "wb") as file:
         file.write(XXH64 + b"  -\n")
@@ -347,18 +309,3 @@ def test_a_bar_is_drawn_on_a_terminal_alone():
     assert run(stdin=feeder.stdout) == run(input=FOX * 2)
     feeder.stdout.close()
     feeder.wait()
-
-
-def test_a_bar_whose_terminal_is_gone_is_no_fault_of_the_file(monkeypatch):
-    class Gone(io.StringIO):
-        def isatty(self):
-            return True
-
-        def write(self, text):
-            raise OSError
-
-    monkeypatch.setattr(sys, "stderr", Gone())
-    with Bar("fox", 9) as bar:
-        bar.next = 0
-        bar.add(9)
-    assert bar.is_drawn

@@ -87,14 +87,6 @@ def test_attributes():
             it.other = 8
 
 
-@pytest.mark.parametrize("kind", KINDS)
-def test_reset_keeps_the_seed(kind):
-    hasher = kind(b"other", 1 << 63)
-    hasher.reset()
-    hasher.update(FOX)
-    assert hasher.digest() == kind(FOX, seed=1 << 63).digest()
-
-
 def test_what_they_are_called():
     assert (xxh64.name, murmur3_x64_128.name) == ("XXH64", "MURMUR3_X64_128")
     assert sketch_hash.algorithms_available == {"xxh64", "murmur3_x64_128"}
@@ -140,16 +132,6 @@ def test_murmur_in_the_forms_of_other_tools():
 def test_objects_show_what_they_are():
     assert repr(xxh64(FOX, 7)) == f"<sketch_hash.xxh64 with seed 7, now {xxh64(FOX, 7).hexdigest()}>"
     assert repr(sketch_hash.MemberTable(6, 1)) == "<sketch_hash.MemberTable with log2_bits 6, hashes 1, seed 0, count 0>"
-
-
-@pytest.mark.parametrize("kind", KINDS)
-def test_long_pieces_of_random_data(kind):
-    data = random.Random(3).randbytes(300_000)
-    for begin, end in ((0, 300_000), (1, 65_537), (5, 131_077), (7, 200_000)):
-        hasher = kind(data[:begin], 9)
-        hasher.update(data[begin:end])
-        assert hasher.intdigest() == PEERS[kind](data[:end], 9)
-        assert getattr(sketch_hash, f"{kind.__name__}_intdigest")(data[:end], 9) == PEERS[kind](data[:end], 9)
 
 
 @pytest.mark.parametrize("kind", KINDS)

@@ -2,15 +2,13 @@
 import array
 import itertools
 import mmap
-import random
 import struct
 import threading
-import time
 
 import pytest
 from sketch_hash import MemberTable
 from test_buffers import DATA, REFUSED, TAKEN
-from test_sharing import WAYS, ticks  # noqa: F401
+from test_sharing import WAYS
 from waiting import ZEROS, waits
 
 numpy = pytest.importorskip("numpy")
@@ -55,44 +53,11 @@ def test_tables_of_all_sizes_have_the_bytes_of_the_model(log2_bits):
         assert (table | MemberTable.from_bytes(full)).to_bytes()[24:] == full[24:]
 
 
-def test_sizes_are_whole_numbers_of_any_class():
-    class Ten:
-        def __index__(self):
-            return 10
-
-    assert MemberTable(Ten(), Ten()).to_bytes() == MemberTable(10, 10).to_bytes()
-
-
 def test_what_was_inserted_is_contained():
     table = filled(17, 7, (b"key %d" % n for n in range(10_000)))
     assert all(b"key %d" % n in table for n in range(10_000))
     assert table.count == 10_000
     assert sum(b"key %d" % n in table for n in range(10_000, 20_000)) < 100
-
-
-def test_keys_of_each_length():
-    data, table = memoryview(random.Random(5).randbytes(70_000)), MemberTable(20, 1, seed=SEED)
-    for length in range(len(data) + 1):
-        table.insert(data[:length])
-        assert data[:length] in table
-    assert table.to_bytes() == model(20, 1, [data[:length] for length in range(len(data) + 1)])
-
-
-def test_columns_of_each_number_of_keys():
-    keys = [b"%d" % n for n in range(600)]
-    data, ends = b"".join(keys), [0, *itertools.accumulate(map(len, keys))]
-    numbers = numpy.arange(600, dtype="u8")
-    for code in "IQ":
-        offsets = array.array(code, ends)
-        for count in range(len(keys) + 1):
-            table, of_numbers = MemberTable(14, 2, seed=SEED), MemberTable(14, 2, seed=SEED)
-            table.insert_each((data, offsets[: count + 1]))
-            assert table.to_bytes() == model(14, 2, keys[:count])
-            assert table.contains_each((data, offsets[: count + 1])).tolist() == [True] * count
-            of_numbers.insert_each(numbers[:count])
-            assert of_numbers.count == count and all(of_numbers.contains_each(numbers[:count]))
-            if count:
-                assert keys[count - 1] in table and (data[-3:] in table) == (count == 600)
 
 
 def test_keys_before_one_that_is_refused_stay_inserted():
@@ -102,44 +67,10 @@ def test_keys_before_one_that_is_refused_stay_inserted():
     assert table.to_bytes() == model(10, 3, [b"fox"])
 
 
-def test_keys_before_a_list_that_fails_stay_inserted():
-    def keys():
-        yield b"fox"
-        raise KeyError
-
-    table = MemberTable(10, 3)
-    with pytest.raises(KeyError):
-        table.update(keys())
-    assert b"fox" in table and table.count == 1
-
-
-def test_keys_may_wait_for_a_thread_that_uses_the_table():
-    table = filled(keys=[])
-
-    def keys():
-        yield b"one"
-        other = threading.Thread(target=table.insert, args=(b"two",), daemon=True)
-        other.start()
-        other.join(5)
-        assert not other.is_alive()
-
-    table.update(keys())
-    assert table.to_bytes() == model(10, 3, [b"one", b"two"])
-
-
 def test_a_table_without_keys_contains_none():
     table = MemberTable(17, 7)
     assert not any(bytes(length) in table for length in range(200))
     assert not any(table.contains_each((bytes(3), array.array("I", [0, 0, 1, 3]))))
-
-
-def test_every_order_gives_the_same_bits():
-    mixed = KEYS[:]
-    random.Random(1).shuffle(mixed)
-    assert filled(keys=mixed).to_bytes() == filled().to_bytes()
-    twice = filled(keys=KEYS * 2)
-    assert twice.count == 2 * len(KEYS)
-    assert twice.to_bytes()[24:] == filled().to_bytes()[24:]
 
 
 @pytest.mark.parametrize("number", [-1, 0, 5, 21, 255, 10 - 256, 256 + 10, 2**32 + 10, -(2**70), 2**70])
@@ -181,18 +112,6 @@ def test_a_str_is_refused_with_the_reason():
     for call in (filled().insert, filled().update, filled().__contains__, MemberTable.from_bytes):
         with pytest.raises(TypeError, match="encode"):
             call("text")
-
-
-def test_bytes_may_come_in_any_buffer():
-    whole = filled().to_bytes()
-    for data in (bytearray(whole), memoryview(b"other" + whole)[5:], numpy.frombuffer(whole, "u8")):
-        table = MemberTable.from_bytes(data)
-        table.insert(b"fox")
-        assert bytes(data) == whole != table.to_bytes()
-    for data in (list(whole), numpy.repeat(numpy.frombuffer(whole, "u1"), 2)[::2]):
-        for call in (MemberTable.from_bytes, MemberTable.view):
-            with pytest.raises((TypeError, ValueError, BufferError)):
-                call(data)
 
 
 def text_of(place, value):
@@ -287,18 +206,6 @@ def test_columns(dtype):
     table.insert_each((b"", numpy.zeros(1, dtype)))
     assert table.contains_each((b"", numpy.zeros(1, dtype))).tolist() == []
     assert table.to_bytes() == model(10, 3, KEYS)
-
-
-def test_columns_of_numbers():
-    numbers = numpy.array([0, 1, 2**63, *range(500)], "uint64")
-    words = [number.tobytes() for number in numbers]
-    for column in (numbers, numbers.view("int64"), memoryview(numbers)):
-        table = MemberTable(13, 3, seed=SEED)
-        table.insert_each(column)
-        assert table.to_bytes() == model(13, 3, words)
-        table.insert_each(column[:0])
-        table.update(words)
-        assert table.to_bytes() == model(13, 3, words, 2 * len(words))
 
 
 def test_each_key_of_a_column_is_contained_or_not():
@@ -431,20 +338,6 @@ def test_unlike_tables_stay_as_they_were():
     with pytest.raises(TypeError, match="^a table is merged with a table, and not with bytes$"):
         table.merge(b"fox")
     assert table.to_bytes() == filled().to_bytes()
-
-
-def test_another_class_may_know_tables():
-    class Other:
-        def __ror__(self, table):
-            return "mine"
-
-        def __eq__(self, table):
-            return True
-
-    table = filled()
-    assert table == Other()
-    table |= Other()
-    assert table == "mine"
 
 
 def test_a_class_of_ones_own_is_a_table():
@@ -624,16 +517,6 @@ def test_tables_that_are_merged_into_each_other():
     assert b"two" in one and b"one" in two
 
 
-def test_short_calls_keep_the_lock_of_python(ticks):  # noqa: F811
-    table, key = MemberTable(18, 7), bytes(65535)
-    before = len(ticks)
-    for _ in range(200):
-        table.insert(key)
-        assert key in table
-        table.merge(table)
-    assert len(ticks) == before
-
-
 def test_offsets_that_change_during_a_call():
     """Once the first key is counted, all offsets were checked. The last one is made to lie then."""
     buffer, offsets = bytearray(MemberTable(20, 16).to_bytes()), numpy.zeros(1 << 22, "u4")
@@ -652,27 +535,3 @@ def test_offsets_that_change_during_a_call():
     offsets[-1] = 1 << 31
     worker.join()
     assert found == ["the offset at 4194303 is missing, past the end or below the one before"]
-
-
-def test_long_calls_give_up_the_lock_of_python(ticks):  # noqa: F811
-    """The other thread may be late on a busy machine, so it is given ten seconds."""
-    key, short, table, edge = bytes(1 << 24), bytes(65536), MemberTable(20, 1), MemberTable(19, 1)
-    offsets, ends = numpy.zeros(1 << 20, "u4"), numpy.array([0, len(key)])
-    calls = [
-        lambda: table.insert(key),
-        lambda: table.insert_each(memoryview(key).cast("Q")),
-        lambda: table.insert_each((b"", offsets)),
-        lambda: table.insert_each((key, ends)),
-        lambda: table.contains_each((key, ends)),
-        lambda: table.contains_each((b"", offsets)),
-        lambda: key in table,
-        lambda: table.insert(short),
-        lambda: short in table,
-        lambda: table.merge(table),
-        lambda: edge.merge(edge),
-    ]
-    for call in calls:
-        before, end = len(ticks), time.monotonic() + 10
-        while len(ticks) == before and time.monotonic() < end:
-            call()
-        assert len(ticks) > before

@@ -61,10 +61,8 @@ def test_stubs_fit_the_module(need, tmp_path):
     import sketch_hash
 
     (tmp_path / "mypy.ini").write_text("[mypy]\n[mypy-sketch_hash.__main__]\nignore_errors = True\n")  # a program, without stubs
-    (tmp_path / "allowed").write_text("sketch_hash\\.__main__\\..*\n")
-    words = ["--mypy-config-file", tmp_path / "mypy.ini", "--allowlist", tmp_path / "allowed"]
     folder = str(pathlib.Path(sketch_hash.__file__).parents[1])
-    done = run([sys.executable, "-m", "mypy.stubtest", "sketch_hash", *words], MYPYPATH=folder, PYTHONPATH=folder)
+    done = run([sys.executable, "-m", "mypy.stubtest", "sketch_hash", "--mypy-config-file", tmp_path / "mypy.ini"], MYPYPATH=folder, PYTHONPATH=folder)
     assert done.returncode == 0 and "Success: no issues found" in done.stdout, done.stdout
 
 

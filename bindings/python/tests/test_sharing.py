@@ -36,24 +36,6 @@ def test_a_copy_goes_its_own_way(kind, way):
         assert second.digest() == kind(seed=seed).digest()
 
 
-class NamedXxh64(xxh64):
-    pass
-
-
-class NamedMurmur(murmur3_x64_128):
-    pass
-
-
-class NamedTable(MemberTable):
-    pass
-
-
-@pytest.mark.parametrize("way", WAYS)
-def test_a_copy_is_of_the_same_kind(way):
-    for first in (NamedXxh64(), NamedMurmur(), NamedTable(6, 1)):
-        assert type(way(first)) is type(first)
-
-
 def test_a_checkpoint_has_its_words_in_order():
     """As the state stands in C's memory, so that other languages take it up. The words were computed
     apart."""
@@ -205,12 +187,6 @@ def test_long_calls_give_up_the_lock_of_python(ticks):
             assert len(ticks) > before
 
 
-def test_a_seed_of_more_digits_than_python_prints_is_refused():
-    for call in KINDS:
-        with pytest.raises(OverflowError, match="a seed is from 0 to"):
-            call(seed=1 << 20_000)
-
-
 @pytest.mark.parametrize("seed", [-1, 2**64, 2**64 + 7, 2**70, -(2**64)])
 def test_a_seed_outside_of_64_bits_is_refused(seed):
     for call in KINDS:
@@ -237,16 +213,3 @@ def test_a_seed_is_a_whole_number_of_any_type():
             assert kind(b"a", seed).digest() == kind(b"a", int(seed)).digest()
         for call in ONE_CALL:
             assert call(b"a", seed) == call(b"a", int(seed))
-
-
-def test_the_first_and_the_last_seed():
-    for kind in KINDS:
-        assert kind(b"a", 0).digest() == kind(b"a").digest()
-    for call in ONE_CALL:
-        assert call(b"a", 0) == call(b"a")
-    pair = b"a", array.array("I", [0, 1])
-    for each in (xxh64_each, murmur3_x64_128_each):
-        assert each(pair, 0) == each(pair)
-    assert xxh64_each(array.array("Q", [5]), 0) == xxh64_each(array.array("Q", [5]))
-    assert xxh64(b"a", True).digest() == xxh64(b"a", 1).digest()
-    assert xxh64(b"a", 2**64 - 1).digest() != xxh64(b"a", 0).digest()
