@@ -16,7 +16,7 @@ mod primes;
 mod state;
 mod tail;
 
-use self::lanes::{ScalarLanes, StripeRound, fold_stripes, merge};
+use self::lanes::{ScalarLanes, StripeRound, fold_run, fold_stripes, merge};
 use self::primes::PRIME5;
 pub use self::state::XxHash64State;
 use self::tail::{avalanche, eight_step, fold_below_16, fold_from_16, fold_tail};
@@ -111,48 +111,17 @@ impl XxHash64 {
         avalanche(eight_step(seed.wrapping_add(PRIME5).wrapping_add(8), input))
     }
 
-    // The hash before the length and the tail enter it: of the seed alone where less than a stripe
-    // was counted, and else of the four lanes.
+    // The hash before the length and the tail enter it: of the seed alone if less than a stripe was
+    // counted, and else of the four lanes.
     #[inline(always)]
     fn before_tail(&self) -> u64
         ensures { result ≡ (if nat_lt self.now.total 32
             then plus self.now.folded.0 prime5 else merge self.now.folded.1) }
     {
-        if self.is_short() {
+        if self.total < STRIPE as u64 {
             self.seed.wrapping_add(PRIME5)
         } else {
-            self.merge()
-        }
-    }
-
-    // Whether the hash starts from the seed alone.
-    #[inline(always)]
-    fn is_short(&self) -> bool
-        ensures { result ≡ nat_lt self.now.total 32 }
-    {
-        self.total < STRIPE as u64
-    }
-
-    #[inline(always)]
-    fn merge(&self) -> u64
-        ensures { result ≡ merge self.now.folded.1 }
-    {
-        merge(ScalarLanes::from_vector(&self.lanes))
-    }
-
-    #[inline(always)]
-    fn absorb(&mut self, bytes: &[u8])
-        ensures { self.new ≡ xxh64_after self.old bytes.now }
-    {
-        let missing = self.missing_bytes();
-        if bytes.len() < missing {
-            self.buffer_bytes(bytes);
-        } else if missing == STRIPE {
-            self.consume_stripes(bytes);
-        } else if bytes.len() == missing {
-            self.complete_stripe(bytes);
-        } else {
-            self.complete_and_consume(bytes);
+            merge(ScalarLanes::from_vector(&self.lanes))
         }
     }
 
@@ -207,8 +176,7 @@ impl XxHash64 {
     {
         let total = self.total.wrapping_add(bytes.len() as u64);
         let (stripes, last) = split_pieces::<STRIPE>(bytes);
-        let mut lanes = ScalarLanes::from_vector(&self.lanes);
-        fold_stripes(&mut lanes, stripes);
+        let lanes = fold_run(ScalarLanes::from_vector(&self.lanes), stripes);
         copy_small(&mut self.buffer, 0, last);
         self.count = last.len();
         self.total = total;
@@ -309,7 +277,16 @@ impl Hasher for XxHash64 {
         ensures stands { (seed : ℕ) (before : List ℕ) → Xxh64Stands self.old seed before →
             Xxh64Stands self.new seed (before ++ bytes.now) }
     {
-        self.absorb(bytes);
+        let missing = self.missing_bytes();
+        if bytes.len() < missing {
+            self.buffer_bytes(bytes);
+        } else if missing == STRIPE {
+            self.consume_stripes(bytes);
+        } else if bytes.len() == missing {
+            self.complete_stripe(bytes);
+        } else {
+            self.complete_and_consume(bytes);
+        }
     }
 
     #[inline(always)]
@@ -342,8 +319,8 @@ pub(super) fn hash_one_of_many(bytes: &[u8], seed: u64) -> u64
     avalanche(fold_tail(hash, last))
 }
 
-// The hash of 32 to 63 bytes. In a call of its own LLVM knows that there is one stripe, and makes no
-// loop, which takes a tenth less for 32 bytes.
+// The hash of 32 to 63 bytes. In a call of its own LLVM knows that there is one stripe, and makes
+// no loop, which takes a tenth less for 32 bytes.
 #[inline(never)]
 fn hash_one_stripe(bytes: &[u8], seed: u64) -> u64
     requires low { 32 ≤ length bytes.now }

@@ -80,6 +80,27 @@ impl StripeRound for ScalarLanes {
     }
 }
 
+/// The lanes after a run of stripes. Four and more are a call of their own: in line their loop takes
+/// registers from short keys, of which those of 16 and of 24 bytes then take a tenth longer.
+#[inline(always)]
+pub(super) fn fold_run(mut lanes: ScalarLanes, stripes: &[[u8; 32]]) -> ScalarLanes
+    ensures { lanes_of_scalars result ≡ each_lane (lanes_of_scalars lanes) stripes.now }
+{
+    if stripes.len() >= 4 {
+        return fold_long(lanes, stripes);
+    }
+    fold_stripes(&mut lanes, stripes);
+    lanes
+}
+
+#[inline(never)]
+fn fold_long<L: StripeRound>(mut lanes: L, stripes: &[[u8; 32]]) -> L
+    ensures { L.lanes result ≡ each_lane (L.lanes lanes) stripes.now }
+{
+    fold_stripes(&mut lanes, stripes);
+    lanes
+}
+
 /// Folds stripes into the lanes, one after another.
 #[inline(always)]
 #[tactic(auto, using(crate::proofs::LanesLemmas::each_more))]

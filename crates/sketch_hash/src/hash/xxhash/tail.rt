@@ -33,8 +33,8 @@ fn fold_words(mut hash: u64, mut tail: &[u8]) -> (u64, &[u8])
     (hash, tail)
 }
 
-/// The hash after a tail of 16 bytes and more. The forms without a loop take a tenth less for one key
-/// of whole words, but are more code where they are inlined, and slower for keys of mixed lengths.
+/// The hash after a tail of 16 bytes and more. The forms without a loop take a tenth less for one
+/// key of whole words, but are more code, and slower for keys of mixed lengths.
 #[inline(always)]
 #[tactic(auto, using(crate::proofs::Xxh64Lemmas::fold_pair, crate::proofs::Xxh64Lemmas::no_steps))]
 pub(super) fn fold_from_16(hash: u64, tail: &[u8]) -> u64
