@@ -80,8 +80,8 @@ impl StripeRound for ScalarLanes {
     }
 }
 
-/// The lanes after a run of stripes. Four and more are a call of their own: in line their loop takes
-/// registers from short keys, of which those of 16 and of 24 bytes then take a tenth longer.
+/// The lanes after a run of stripes. Four and more are a call of their own: in line, their loop
+/// takes registers from short keys, and those of 16 and of 24 bytes take a tenth longer.
 #[inline(always)]
 pub(super) fn fold_run(mut lanes: ScalarLanes, stripes: &[[u8; 32]]) -> ScalarLanes
     ensures { lanes_of_scalars result ≡ each_lane (lanes_of_scalars lanes) stripes.now }
