@@ -1,5 +1,5 @@
 -- The lanes as the code holds them follow the lanes of the definition.
-use Rattle.std.proofs.Common.{◌≡◌, ℕ, zero, suc, ◌+◌, ◌*◌, ◌^◌, ◌%◌, ◌<◌, List, [], ◌∷◌, ◌++◌, length, take, drop, get_or, replicate, w64, refl, sym, ap, ◌∙◌, arith, lit<}
+use Rattle.std.proofs.Common.{◌≡◌, ℕ, zero, suc, ◌+◌, ◌*◌, ◌^◌, ◌%◌, ◌<◌, List, [], ◌∷◌, ◌++◌, length, take, get_or, replicate, w64, refl, sym, ap, ◌∙◌, arith, lit<}
 use Rattle.std.proofs.lemmas.Nat.{mod_below}
 use Rattle.sketch_hash.proofs.WordsLemmas.{rotate-is}
 use borrow.Rule.Simd.Lanes.{act2}
@@ -8,7 +8,7 @@ use mir.Syntax.{wrap_mul, wrap_add, shl, shr, unsigned}
 use mir.Syntax as syntax
 use Rattle.std.specs.List.{fold}
 use Rattle.std.specs.Simd.Lanes.{zip2}
-use Rattle.std.proofs.lemmas.List.{take-append-drop, take_more}
+use Rattle.std.proofs.lemmas.List.{take_more}
 use Rattle.std.proofs.lemmas.List.Sums.{fold-append}
 use Rattle.sketch_hash.specs.Xxh64.{Lanes, round, prime1, prime2, stripe_step, seeded_step, each_lane}
 use Rattle.sketch_hash.specs.Lanes.{lanes_of, stripe_words}
@@ -37,17 +37,6 @@ each_lane-more v stripes s =
 pub one_stripe : (v : Lanes) (s : List ℕ) → stripe_step v s ≡ each_lane v (s ∷ [])
 unfolding stripe_step
 one_stripe v s = refl
-
--- first some stripes, and then the others
-pub in_parts : (v : Lanes) (n : ℕ) (stripes : List (List ℕ)) →
-    each_lane (each_lane v (take n stripes)) (drop n stripes) ≡ each_lane v stripes
-in_parts v n stripes =
-    let first = take n stripes in
-    let others = drop n stripes in
-    ap (λ w. each_lane w others) (sym (fold-each_lane first v))
-    ∙ sym (fold-each_lane others (fold stripe_step v first))
-    ∙ sym (fold-append stripe_step v first others)
-    ∙ ap (fold stripe_step v) (take-append-drop n stripes) ∙ fold-each_lane stripes v
 
 -- a list of four lanes and the words of a stripe, one by one
 pub one_by_one : (v : List ℕ) (stripe : List ℕ) → length v ≡ 4 →

@@ -25,7 +25,8 @@ pub placed : (number count sum v : ℕ) → count < 16 → sum ≡ v + number * 
 placed number count sum v few is =
     is' is ∙ add-mod-mod v (number * 256 ^ count) (2 ^ 128)
   where
-    is' : sum ≡ v + number * 2 ^ (8 * count) % 2 ^ 128 → sum % 2 ^ 128 ≡ (v + number * 256 ^ count % 2 ^ 128) % 2 ^ 128
+    is' : sum ≡ v + number * 2 ^ (8 * count) % 2 ^ 128 →
+        sum % 2 ^ 128 ≡ (v + number * 256 ^ count % 2 ^ 128) % 2 ^ 128
     is' e = ap (λ n. n % 2 ^ 128) e ∙ ap (λ p. (v + number * p % 2 ^ 128) % 2 ^ 128) (pow_eight count)
 
 -- a number's words are those of its bytes

@@ -1,5 +1,6 @@
 //! Hashing for sketches: hashers, columns of keys, values and the bytes that they feed, and seed
-//! hashes.
+//! hashes, as in [Apache DataSketches](https://datasketches.apache.org/). Only the text of a
+//! refused seed, and the clone of a value, take memory.
 
 mod columns;
 mod copy;

@@ -2,7 +2,8 @@
 
 ghost use Rattle.std.specs.Prelude.{◌≡◌, ◌+◌, ◌<◌, ◌≤◌, ◌++◌, length, take, drop};
 
-/// Writes bytes at a place.
+/// Writes bytes at a place. A `copy_from_slice` of any length is a call of `memcpy`, with which
+/// XXH64's writes of 1 to 100 bytes take a sixth to a third longer.
 #[inline(always)]
 pub(crate) fn copy_small(buffer: &mut [u8], at: usize, bytes: &[u8])
     requires within { at + length bytes.now ≤ length buffer.old }

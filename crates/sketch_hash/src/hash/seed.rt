@@ -17,8 +17,8 @@ use std::alloc::Global;
 ///
 /// # Errors
 ///
-/// Exactly where the seed hash is zero: of kind `error_kind`, or `OutOfMemory` with no message
-/// where memory for the text runs out.
+/// Exactly if the seed hash is zero: of kind `error_kind`, or `OutOfMemory` with no message if
+/// memory for the text runs out.
 pub fn compute_seed_hash(alloc: Global, seed: u64, error_kind: ErrorKind) -> Result<u16, Error>
     ensures { MatchResult result
         (λ hash. (hash ≡ seed_hash seed) × (hash ≢ 0))
@@ -45,7 +45,7 @@ fn zero_seed_hash(alloc: Global, seed: u64, kind: ErrorKind) -> Error
 /// # Errors
 ///
 /// At any other: of kind `kind`, with `name`, the sketch's, in its text; or `OutOfMemory` with no
-/// message where memory for the text runs out.
+/// message if memory for the text runs out.
 pub fn check_seed_hash(
     alloc: Global,
     expected: u16,

@@ -1,25 +1,28 @@
-//! XXH64, after Yann Collet's xxHash specification.
+//! XXH64, after Yann Collet's
+//! [xxHash specification](https://github.com/Cyan4973/xxHash/blob/dev/doc/xxhash_spec.md).
 
-ghost use Rattle.std.specs.Prelude.{◌≡◌, ℕ, ◌+◌, ◌-◌, ◌%◌, ◌<◌, ◌≤◌, List, [], ◌++◌, nat_lt, if◌then◌else◌, length, take};
+ghost use Rattle.std.specs.Prelude.{◌≡◌, ℕ, ◌+◌, ◌-◌, ◌%◌, ◌^◌, ◌<◌, ◌≤◌, List, [], ◌++◌, nat_lt, if◌then◌else◌, length, take};
 ghost use Rattle.std.specs.List.{fold};
 ghost use Rattle.sketch_base.specs.Bytes.{eight};
-ghost use Rattle.sketch_hash.specs.Pieces.{State};
+ghost use Rattle.sketch_hash.specs.Pieces.{State, pieces};
 ghost use Rattle.sketch_hash.specs.Words.{plus};
-ghost use Rattle.sketch_hash.specs.Xxh64.{Lanes, prime5, lanes_start, round, merge_round, merge, eight_step, four_step, byte_step, tail_step, steps, avalanche, xxh64, xxh64_after, xxh64_answer, Xxh64Stands, each_lane};
-ghost use Rattle.sketch_hash.specs.ScalarLanes.{lanes_of_scalars};
+ghost use Rattle.sketch_hash.specs.Xxh64.{Lanes, prime5, lanes_start, merge, tail_step, steps, avalanche, xxh64, xxh64_after, xxh64_answer, Xxh64Stands, each_lane};
+ghost use Rattle.sketch_hash.specs.ScalarLanes.{lanes_of_scalars, state_of_scalars};
 ghost use Rattle.sketch_hash.specs.Lanes.{lanes_of};
 ghost use Rattle.sketch_hash.specs.Xxh64WriteLemmas.{xxh64_after-append, xxh64_after-empty};
 
 mod lanes;
 mod primes;
 mod state;
+mod tail;
 
-use self::lanes::{ScalarLanes, StripeRound, consume, fold_run, fold_stripes, round};
-use self::primes::{PRIME1, PRIME2, PRIME3, PRIME4, PRIME5};
+use self::lanes::{ScalarLanes, StripeRound, fold_run, fold_stripes, merge};
+use self::primes::PRIME5;
 pub use self::state::XxHash64State;
+use self::tail::{avalanche, eight_step, fold_below_16, fold_from_16, fold_tail};
 use super::copy::copy_small;
 use super::hasher::Hasher;
-use super::words::{read_u32_le, read_u64_le, rotate, split_pieces, xor_shift};
+use super::words::split_pieces;
 use std::fmt;
 use std::marker::Model;
 use std::simd::prelude::*;
@@ -108,48 +111,17 @@ impl XxHash64 {
         avalanche(eight_step(seed.wrapping_add(PRIME5).wrapping_add(8), input))
     }
 
-    // The hash before the length and the tail enter it: of the seed alone where less than a stripe
-    // was counted, and else of the four lanes.
+    // The hash before the length and the tail enter it: of the seed alone if less than a stripe was
+    // counted, and else of the four lanes.
     #[inline(always)]
     fn before_tail(&self) -> u64
         ensures { result ≡ (if nat_lt self.now.total 32
             then plus self.now.folded.0 prime5 else merge self.now.folded.1) }
     {
-        if self.is_short() {
+        if self.total < STRIPE as u64 {
             self.seed.wrapping_add(PRIME5)
         } else {
-            self.merge()
-        }
-    }
-
-    // Whether the hash starts from the seed alone.
-    #[inline(always)]
-    fn is_short(&self) -> bool
-        ensures { result ≡ nat_lt self.now.total 32 }
-    {
-        self.total < STRIPE as u64
-    }
-
-    #[inline(always)]
-    fn merge(&self) -> u64
-        ensures { result ≡ merge self.now.folded.1 }
-    {
-        merge(ScalarLanes::from_vector(&self.lanes))
-    }
-
-    #[inline(always)]
-    fn absorb(&mut self, bytes: &[u8])
-        ensures { self.new ≡ xxh64_after self.old bytes.now }
-    {
-        let missing = self.missing_bytes();
-        if bytes.len() < missing {
-            self.buffer_bytes(bytes);
-        } else if missing == STRIPE {
-            self.consume_stripes(bytes);
-        } else if bytes.len() == missing {
-            self.complete_stripe(bytes);
-        } else {
-            self.complete_and_consume(bytes);
+            merge(ScalarLanes::from_vector(&self.lanes))
         }
     }
 
@@ -204,11 +176,11 @@ impl XxHash64 {
     {
         let total = self.total.wrapping_add(bytes.len() as u64);
         let (stripes, last) = split_pieces::<STRIPE>(bytes);
-        let lanes = fold_run(ScalarLanes::from_vector(&self.lanes), stripes).into_vector();
+        let lanes = fold_run(ScalarLanes::from_vector(&self.lanes), stripes);
         copy_small(&mut self.buffer, 0, last);
         self.count = last.len();
         self.total = total;
-        self.lanes = lanes;
+        self.lanes = lanes.into_vector();
     }
 
     // Takes bytes that go beyond the stripe that is begun. The lanes are moved from the vector to
@@ -225,6 +197,52 @@ impl XxHash64 {
         let lanes = ScalarLanes::from_vector(&self.lanes);
         self.lanes = consume(lanes, &mut self.buffer, count, bytes).into_vector();
     }
+}
+
+// Takes the lanes through bytes that come after `count` bytes of `buffer`: those that complete
+// the stripe that is begun, then whole stripes straight from the slice. The last bytes, which fill
+// no stripe, go to the front of `buffer`.
+//
+// The last bytes are stored before the run of stripes: the next write reads them, and a processor
+// is slow to read what it has just stored.
+#[inline(always)]
+#[tactic(auto, using(crate::proofs::WriteLemmas::through))]
+fn consume(lanes: ScalarLanes, buffer: &mut [u8; STRIPE], count: usize, bytes: &[u8]) -> ScalarLanes
+    requires short { count < 32 }
+    requires fills { (32 - count) % 32 ≤ length bytes.now }
+    ensures { (seed total : ℕ) → total < 2 ^ 64 →
+        xxh64_after (state_of_scalars seed lanes total (take count buffer.old)) bytes.now
+        ≡ state_of_scalars seed result ((total + length bytes.now) % 2 ^ 64)
+        (take ((count + length bytes.now) % 32) buffer.new) }
+{
+    let missing = (STRIPE - count) % STRIPE;
+    let (front, behind) = bytes.split_at(missing);
+    let mut lanes = complete(lanes, buffer, count, front);
+    let (stripes, last) = split_pieces::<STRIPE>(behind);
+    copy_small(buffer, 0, last);
+    fold_stripes(&mut lanes, stripes);
+    lanes
+}
+
+// The lanes after the stripe that `front` fills, where one is begun.
+#[inline(always)]
+#[tactic(auto, using(crate::proofs::WriteLemmas::first_stripe))]
+fn complete(
+    mut lanes: ScalarLanes,
+    buffer: &mut [u8; STRIPE],
+    count: usize,
+    front: &[u8],
+) -> ScalarLanes
+    requires short { count < 32 }
+    requires fills { length front.now ≡ (32 - count) % 32 }
+    ensures { lanes_of_scalars result
+        ≡ each_lane (lanes_of_scalars lanes) (pieces 32 (take count buffer.old ++ front.now)) }
+{
+    if !front.is_empty() {
+        copy_small(buffer, count, front);
+        lanes.stripe_round(buffer);
+    }
+    lanes
 }
 
 impl Default for XxHash64 {
@@ -259,7 +277,16 @@ impl Hasher for XxHash64 {
         ensures stands { (seed : ℕ) (before : List ℕ) → Xxh64Stands self.old seed before →
             Xxh64Stands self.new seed (before ++ bytes.now) }
     {
-        self.absorb(bytes);
+        let missing = self.missing_bytes();
+        if bytes.len() < missing {
+            self.buffer_bytes(bytes);
+        } else if missing == STRIPE {
+            self.consume_stripes(bytes);
+        } else if bytes.len() == missing {
+            self.complete_stripe(bytes);
+        } else {
+            self.complete_and_consume(bytes);
+        }
     }
 
     #[inline(always)]
@@ -277,7 +304,7 @@ impl Hasher for XxHash64 {
 }
 
 /// The hash of one key of many. Long keys are hashed in line too, and the last words go through a
-/// loop: where lengths vary, processors mispredict fewer of its branches.
+/// loop, of whose branches processors mispredict fewer: columns of mixed lengths take a tenth less.
 #[inline(always)]
 #[tactic(auto, using(crate::proofs::Xxh64Lemmas::of_short, crate::proofs::Xxh64Lemmas::of_long))]
 pub(super) fn hash_one_of_many(bytes: &[u8], seed: u64) -> u64
@@ -292,35 +319,37 @@ pub(super) fn hash_one_of_many(bytes: &[u8], seed: u64) -> u64
     avalanche(fold_tail(hash, last))
 }
 
-// The hash of 32 to 63 bytes. It is a call of its own, so that it costs short keys nothing. LLVM
-// knows here that there is one stripe, and makes no loop.
+// The hash of 32 to 63 bytes. In a call of its own LLVM knows that there is one stripe, and makes
+// no loop, which takes a tenth less for 32 bytes.
 #[inline(never)]
-#[tactic(auto, using(crate::proofs::Xxh64Lemmas::of_long))]
 fn hash_one_stripe(bytes: &[u8], seed: u64) -> u64
     requires low { 32 ≤ length bytes.now }
     requires high { length bytes.now < 64 }
     ensures { result ≡ xxh64 seed bytes.now }
 {
-    let (stripes, last) = split_pieces::<STRIPE>(bytes);
-    let hash = merge_stripes(stripes, seed).wrapping_add(bytes.len() as u64);
-    mix_rest(hash, last)
+    hash_long(bytes, seed)
 }
 
-// The hash of 64 bytes and more. The first stripe stands before the loop over the others: after a
-// loop that each key enters, LLVM would keep each lane twice.
+// The hash of 64 bytes and more.
 #[inline(never)]
-#[tactic(auto, using(crate::proofs::Xxh64Lemmas::of_long, crate::proofs::LanesLemmas::in_parts))]
 fn hash_stripes(bytes: &[u8], seed: u64) -> u64
     requires { 64 ≤ length bytes.now }
     ensures { result ≡ xxh64 seed bytes.now }
 {
+    hash_long(bytes, seed)
+}
+
+#[inline(always)]
+#[tactic(auto, using(crate::proofs::Xxh64Lemmas::of_long))]
+fn hash_long(bytes: &[u8], seed: u64) -> u64
+    requires { 32 ≤ length bytes.now }
+    ensures { result ≡ xxh64 seed bytes.now }
+{
     let (stripes, last) = split_pieces::<STRIPE>(bytes);
-    // There are two or more. `min` is there since the prover does not see it.
-    let (first, others) = stripes.split_at(stripes.len().min(1));
-    let mut lanes = ScalarLanes::start(seed);
-    fold_stripes(&mut lanes, first);
-    fold_stripes(&mut lanes, others);
-    mix_rest(merge(lanes).wrapping_add(bytes.len() as u64), last)
+    mix_rest(
+        merge_stripes(stripes, seed).wrapping_add(bytes.len() as u64),
+        last,
+    )
 }
 
 // Mixes in the tail, which is empty after whole stripes, and finishes.
@@ -345,165 +374,4 @@ fn merge_stripes(stripes: &[[u8; STRIPE]], seed: u64) -> u64
     let mut lanes = ScalarLanes::start(seed);
     fold_stripes(&mut lanes, stripes);
     merge(lanes)
-}
-
-// The four lanes as one word.
-#[inline(always)]
-#[tactic(auto, unfolding(crate::specs::Xxh64::merge))]
-fn merge(words: ScalarLanes) -> u64
-    ensures { result ≡ merge (lanes_of_scalars words) }
-{
-    let sum = rotate::<1>(words.v1)
-        .wrapping_add(rotate::<7>(words.v2))
-        .wrapping_add(rotate::<12>(words.v3))
-        .wrapping_add(rotate::<18>(words.v4));
-    let hash = merge_round(sum, words.v1);
-    let hash = merge_round(hash, words.v2);
-    let hash = merge_round(hash, words.v3);
-    merge_round(hash, words.v4)
-}
-
-#[inline(always)]
-#[tactic(auto, unfolding(crate::specs::Xxh64::merge_round), using(crate::proofs::Xor::words))]
-fn merge_round(hash: u64, lane: u64) -> u64
-    ensures { result ≡ merge_round hash lane }
-{
-    (hash ^ round(0, lane))
-        .wrapping_mul(PRIME1)
-        .wrapping_add(PRIME4)
-}
-
-// The hash after the tail.
-#[inline(always)]
-fn fold_tail(hash: u64, tail: &[u8]) -> u64
-    ensures { result ≡ fold tail_step hash (steps tail.now) }
-{
-    let (hash, rest) = fold_words(hash, tail);
-    fold_below_8(hash, rest)
-}
-
-// The hash after the tail's words of eight bytes, and the bytes after these.
-#[inline(always)]
-#[tactic(auto, using(crate::proofs::Xxh64Lemmas::eights))]
-fn fold_words(mut hash: u64, mut tail: &[u8]) -> (u64, &[u8])
-    ensures same { fold tail_step result.0 (steps result.1.now)
-        ≡ fold tail_step hash (steps tail.now) }
-    ensures short { length result.1.now < 8 }
-{
-    'words: while tail.len() >= 8 {
-        let (word, behind) = tail.split_at(8);
-        hash = eight_step(hash, read_u64_le(word));
-        tail = behind;
-    }
-    (hash, tail)
-}
-
-// The hash after a tail of 16 bytes and more. The forms without a loop are faster for one key, but
-// more code where they are inlined. They return where a word was the last: a key of whole words
-// meets no other test.
-#[inline(always)]
-#[tactic(auto, using(crate::proofs::Xxh64Lemmas::fold_pair, crate::proofs::Xxh64Lemmas::no_steps))]
-fn fold_from_16(hash: u64, tail: &[u8]) -> u64
-    requires low { 16 ≤ length tail.now }
-    requires high { length tail.now < 32 }
-    ensures { result ≡ fold tail_step hash (steps tail.now) }
-{
-    let (first, behind) = tail.split_at(8);
-    let (second, rest) = behind.split_at(8);
-    let hash = eight_step(eight_step(hash, read_u64_le(first)), read_u64_le(second));
-    if rest.is_empty() {
-        return hash;
-    }
-    fold_below_16(hash, rest)
-}
-
-// The same of fewer than 16 bytes.
-#[inline(always)]
-#[tactic(auto, using(crate::proofs::Xxh64Lemmas::fold_eight, crate::proofs::Xxh64Lemmas::no_steps))]
-fn fold_below_16(mut hash: u64, tail: &[u8]) -> u64
-    requires { length tail.now < 16 }
-    ensures { result ≡ fold tail_step hash (steps tail.now) }
-{
-    let mut rest = tail;
-    if rest.len() >= 8 {
-        let (word, behind) = rest.split_at(8);
-        hash = eight_step(hash, read_u64_le(word));
-        if behind.is_empty() {
-            return hash;
-        }
-        rest = behind;
-    }
-    fold_below_8(hash, rest)
-}
-
-// The same of fewer than 8 bytes.
-#[inline(always)]
-#[tactic(auto, using(crate::proofs::Xxh64Lemmas::below_8))]
-fn fold_below_8(hash: u64, tail: &[u8]) -> u64
-    requires { length tail.now < 8 }
-    ensures { result ≡ fold tail_step hash (steps tail.now) }
-{
-    if tail.len() >= 4 {
-        let (word, bytes) = tail.split_at(4);
-        return fold_few(four_step(hash, read_u32_le(word)), bytes);
-    }
-    fold_few(hash, tail)
-}
-
-// The hash after fewer than four single bytes.
-#[inline(always)]
-fn fold_few(hash: u64, bytes: &[u8]) -> u64
-    requires { length bytes.now < 4 }
-    ensures { result ≡ fold byte_step hash bytes.now }
-{
-    let Some((first, rest)) = bytes.split_first() else {
-        return hash;
-    };
-    let hash = byte_step(hash, *first);
-    let Some((second, rest)) = rest.split_first() else {
-        return hash;
-    };
-    let hash = byte_step(hash, *second);
-    let Some((third, _)) = rest.split_first() else {
-        return hash;
-    };
-    byte_step(hash, *third)
-}
-
-#[inline(always)]
-#[tactic(auto, unfolding(crate::specs::Xxh64::eight_step), using(crate::proofs::Xor::words))]
-fn eight_step(hash: u64, word: u64) -> u64
-    ensures { result ≡ eight_step hash word }
-{
-    rotate::<27>(hash ^ round(0, word))
-        .wrapping_mul(PRIME1)
-        .wrapping_add(PRIME4)
-}
-
-#[inline(always)]
-#[tactic(auto, unfolding(crate::specs::Xxh64::four_step), using(crate::proofs::Xor::words))]
-fn four_step(hash: u64, word: u32) -> u64
-    ensures { result ≡ four_step hash word }
-{
-    rotate::<23>(hash ^ u64::from(word).wrapping_mul(PRIME1))
-        .wrapping_mul(PRIME2)
-        .wrapping_add(PRIME3)
-}
-
-#[inline(always)]
-#[tactic(auto, unfolding(crate::specs::Xxh64::byte_step), using(crate::proofs::Xor::words))]
-fn byte_step(hash: u64, byte: u8) -> u64
-    ensures { result ≡ byte_step hash byte }
-{
-    rotate::<11>(hash ^ u64::from(byte).wrapping_mul(PRIME5)).wrapping_mul(PRIME1)
-}
-
-#[inline(always)]
-#[tactic(auto, unfolding(crate::specs::Xxh64::avalanche))]
-fn avalanche(hash: u64) -> u64
-    ensures { result ≡ avalanche hash }
-{
-    let once = xor_shift(hash, 33).wrapping_mul(PRIME2);
-    let twice = xor_shift(once, 29).wrapping_mul(PRIME3);
-    xor_shift(twice, 32)
 }

@@ -79,7 +79,6 @@ impl HashStrategy<i8> for NaturalExtendStrategy {
         state.write_i64(i64::from(*value));
     }
 
-    #[inline(always)]
     fn word(value: &i8) -> Option<u64> {
         Some(i64::from(*value).cast_unsigned())
     }
@@ -94,7 +93,6 @@ impl HashStrategy<u8> for NaturalExtendStrategy {
         state.write_u64(u64::from(*value));
     }
 
-    #[inline(always)]
     fn word(value: &u8) -> Option<u64> {
         Some(u64::from(*value))
     }
@@ -109,7 +107,6 @@ impl HashStrategy<i16> for NaturalExtendStrategy {
         state.write_i64(i64::from(*value));
     }
 
-    #[inline(always)]
     fn word(value: &i16) -> Option<u64> {
         Some(i64::from(*value).cast_unsigned())
     }
@@ -124,7 +121,6 @@ impl HashStrategy<u16> for NaturalExtendStrategy {
         state.write_u64(u64::from(*value));
     }
 
-    #[inline(always)]
     fn word(value: &u16) -> Option<u64> {
         Some(u64::from(*value))
     }
@@ -139,7 +135,6 @@ impl HashStrategy<i32> for NaturalExtendStrategy {
         state.write_i64(i64::from(*value));
     }
 
-    #[inline(always)]
     fn word(value: &i32) -> Option<u64> {
         Some(i64::from(*value).cast_unsigned())
     }
@@ -154,7 +149,6 @@ impl HashStrategy<u32> for NaturalExtendStrategy {
         state.write_u64(u64::from(*value));
     }
 
-    #[inline(always)]
     fn word(value: &u32) -> Option<u64> {
         Some(u64::from(*value))
     }
@@ -169,7 +163,6 @@ impl HashStrategy<i64> for NaturalExtendStrategy {
         state.write_i64(*value);
     }
 
-    #[inline(always)]
     fn word(value: &i64) -> Option<u64> {
         Some(value.cast_unsigned())
     }
@@ -184,7 +177,6 @@ impl HashStrategy<u64> for NaturalExtendStrategy {
         state.write_u64(*value);
     }
 
-    #[inline(always)]
     fn word(value: &u64) -> Option<u64> {
         Some(*value)
     }

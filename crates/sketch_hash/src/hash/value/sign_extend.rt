@@ -80,7 +80,6 @@ impl HashStrategy<i8> for SignExtendStrategy {
         state.write_i64(i64::from(*value));
     }
 
-    #[inline(always)]
     fn word(value: &i8) -> Option<u64> {
         Some(i64::from(*value).cast_unsigned())
     }
@@ -95,7 +94,6 @@ impl HashStrategy<u8> for SignExtendStrategy {
         state.write_i64(i64::from(value.cast_signed()));
     }
 
-    #[inline(always)]
     fn word(value: &u8) -> Option<u64> {
         Some(i64::from(value.cast_signed()).cast_unsigned())
     }
@@ -110,7 +108,6 @@ impl HashStrategy<i16> for SignExtendStrategy {
         state.write_i64(i64::from(*value));
     }
 
-    #[inline(always)]
     fn word(value: &i16) -> Option<u64> {
         Some(i64::from(*value).cast_unsigned())
     }
@@ -125,7 +122,6 @@ impl HashStrategy<u16> for SignExtendStrategy {
         state.write_i64(i64::from(value.cast_signed()));
     }
 
-    #[inline(always)]
     fn word(value: &u16) -> Option<u64> {
         Some(i64::from(value.cast_signed()).cast_unsigned())
     }
@@ -140,7 +136,6 @@ impl HashStrategy<i32> for SignExtendStrategy {
         state.write_i64(i64::from(*value));
     }
 
-    #[inline(always)]
     fn word(value: &i32) -> Option<u64> {
         Some(i64::from(*value).cast_unsigned())
     }
@@ -155,7 +150,6 @@ impl HashStrategy<u32> for SignExtendStrategy {
         state.write_i64(i64::from(value.cast_signed()));
     }
 
-    #[inline(always)]
     fn word(value: &u32) -> Option<u64> {
         Some(i64::from(value.cast_signed()).cast_unsigned())
     }
@@ -170,7 +164,6 @@ impl HashStrategy<i64> for SignExtendStrategy {
         state.write_i64(*value);
     }
 
-    #[inline(always)]
     fn word(value: &i64) -> Option<u64> {
         Some(value.cast_unsigned())
     }
@@ -185,7 +178,6 @@ impl HashStrategy<u64> for SignExtendStrategy {
         state.write_i64(value.cast_signed());
     }
 
-    #[inline(always)]
     fn word(value: &u64) -> Option<u64> {
         Some(*value)
     }

@@ -1,18 +1,13 @@
 //! XXH64's four lanes, and how stripes of 32 bytes change them.
 
-ghost use Rattle.std.specs.Prelude.{◌≡◌, ℕ, ◌+◌, ◌-◌, ◌%◌, ◌^◌, ◌<◌, ◌≤◌, ◌++◌, length, take};
-ghost use Rattle.sketch_hash.specs.Pieces.{pieces};
-ghost use Rattle.sketch_hash.specs.Xxh64.{Lanes, lanes_start, round, stripe_step, xxh64_after, each_lane};
-ghost use Rattle.sketch_hash.specs.ScalarLanes.{lanes_of_scalars, state_of_scalars};
+ghost use Rattle.std.specs.Prelude.{◌≡◌};
+ghost use Rattle.sketch_hash.specs.Xxh64.{Lanes, lanes_start, round, merge_round, merge, stripe_step, each_lane};
+ghost use Rattle.sketch_hash.specs.ScalarLanes.{lanes_of_scalars};
 ghost use Rattle.sketch_hash.specs.Lanes.{lanes_of, stripe_words};
 
-use super::primes::{PRIME1, PRIME2};
-use crate::hash::copy::copy_small;
-use crate::hash::words::{read_u64_le, rotate, split_pieces};
+use super::primes::{PRIME1, PRIME2, PRIME4};
+use crate::hash::words::{read_u64_le, rotate};
 use std::simd::prelude::*;
-
-// The fewest stripes of a run that is worth a call.
-const LONG_RUN: usize = 4;
 
 /// Four lanes that take a stripe.
 pub(super) trait StripeRound {
@@ -85,70 +80,19 @@ impl StripeRound for ScalarLanes {
     }
 }
 
-/// Takes the lanes through bytes that come after `count` bytes of `buffer`: those that complete
-/// the stripe that is begun, then whole stripes straight from the slice. The last bytes, which fill
-/// no stripe, go to the front of `buffer`.
-///
-/// The last bytes are stored before the run of stripes: the next write reads them, and a processor
-/// is slow to read what it has just stored.
-#[inline(always)]
-#[tactic(auto, using(crate::proofs::WriteLemmas::through))]
-pub(super) fn consume(
-    lanes: ScalarLanes,
-    buffer: &mut [u8; 32],
-    count: usize,
-    bytes: &[u8],
-) -> ScalarLanes
-    requires short { count < 32 }
-    requires fills { (32 - count) % 32 ≤ length bytes.now }
-    ensures { (seed total : ℕ) → total < 2 ^ 64 →
-        xxh64_after (state_of_scalars seed lanes total (take count buffer.old)) bytes.now
-        ≡ state_of_scalars seed result ((total + length bytes.now) % 2 ^ 64)
-        (take ((count + length bytes.now) % 32) buffer.new) }
-{
-    let missing = (32 - count) % 32;
-    let (front, behind) = bytes.split_at(missing);
-    let mut lanes = complete(lanes, buffer, count, front);
-    let (stripes, last) = split_pieces::<32>(behind);
-    copy_small(buffer, 0, last);
-    fold_stripes(&mut lanes, stripes);
-    lanes
-}
-
-// The lanes after the stripe that `front` fills, where one is begun.
-#[inline(always)]
-#[tactic(auto, using(crate::proofs::WriteLemmas::first_stripe))]
-fn complete(
-    mut lanes: ScalarLanes,
-    buffer: &mut [u8; 32],
-    count: usize,
-    front: &[u8],
-) -> ScalarLanes
-    requires short { count < 32 }
-    requires fills { length front.now ≡ (32 - count) % 32 }
-    ensures { lanes_of_scalars result
-        ≡ each_lane (lanes_of_scalars lanes) (pieces 32 (take count buffer.old ++ front.now)) }
-{
-    if !front.is_empty() {
-        copy_small(buffer, count, front);
-        lanes.stripe_round(buffer);
-    }
-    lanes
-}
-
-/// The lanes after a run of stripes.
+/// The lanes after a run of stripes. Four and more are a call of their own: in line, their loop
+/// takes registers from short keys, and those of 16 and of 24 bytes take a tenth longer.
 #[inline(always)]
 pub(super) fn fold_run(mut lanes: ScalarLanes, stripes: &[[u8; 32]]) -> ScalarLanes
     ensures { lanes_of_scalars result ≡ each_lane (lanes_of_scalars lanes) stripes.now }
 {
-    if stripes.len() >= LONG_RUN {
+    if stripes.len() >= 4 {
         return fold_long(lanes, stripes);
     }
     fold_stripes(&mut lanes, stripes);
     lanes
 }
 
-// In a call of its own LLVM keeps the words apart, and makes no vector of them.
 #[inline(never)]
 fn fold_long<L: StripeRound>(mut lanes: L, stripes: &[[u8; 32]]) -> L
     ensures { L.lanes result ≡ each_lane (L.lanes lanes) stripes.now }
@@ -198,4 +142,30 @@ fn stripe_words(stripe: &[u8; 32]) -> u64x4
         read_u64_le(&stripe[16..24]),
         read_u64_le(&stripe[24..32]),
     ])
+}
+
+/// The four lanes as one word.
+#[inline(always)]
+#[tactic(auto, unfolding(crate::specs::Xxh64::merge))]
+pub(super) fn merge(words: ScalarLanes) -> u64
+    ensures { result ≡ merge (lanes_of_scalars words) }
+{
+    let sum = rotate::<1>(words.v1)
+        .wrapping_add(rotate::<7>(words.v2))
+        .wrapping_add(rotate::<12>(words.v3))
+        .wrapping_add(rotate::<18>(words.v4));
+    let hash = merge_round(sum, words.v1);
+    let hash = merge_round(hash, words.v2);
+    let hash = merge_round(hash, words.v3);
+    merge_round(hash, words.v4)
+}
+
+#[inline(always)]
+#[tactic(auto, unfolding(crate::specs::Xxh64::merge_round), using(crate::proofs::Xor::words))]
+fn merge_round(hash: u64, lane: u64) -> u64
+    ensures { result ≡ merge_round hash lane }
+{
+    (hash ^ round(0, lane))
+        .wrapping_mul(PRIME1)
+        .wrapping_add(PRIME4)
 }

@@ -4,8 +4,8 @@ ghost use Rattle.std.specs.Prelude.{◌≡◌, ℕ, ◌+◌, ◌%◌, ◌<◌, �
 ghost use Rattle.sketch_hash.specs.Held.{xxh64_held, Xxh64Holds};
 ghost use Rattle.sketch_hash.specs.Xxh64.{xxh64_after, Xxh64Stands};
 
-use super::lanes::{ScalarLanes, consume};
-use super::{STRIPE, XxHash64};
+use super::lanes::ScalarLanes;
+use super::{STRIPE, XxHash64, consume};
 use crate::hash::copy::copy_small;
 use std::simd::prelude::*;
 

@@ -1,7 +1,7 @@
 use Rattle.std.proofs.Common.{◌≡◌, length}
 use Rattle.std.specs.List.{fold}
 use Rattle.sketch_hash.specs.Xxh64.{tail_step, steps}
-use Rattle.sketch_hash.proofs.hash.xxhash.fold_words.Given as goal
+use Rattle.sketch_hash.proofs.hash.xxhash.tail.fold_words.Given as goal
 
 abbrev pub invariant-words : goal.invariant-words
 invariant-words l =
