@@ -22,8 +22,8 @@ pub fn there_and_back(
 ) -> Result<Vec<u8>, AllocError>
     requires kinds { kinds.now ≡ map item_kind items.now }
     requires places { length places.old ≡ length items.now }
-    ensures items { IfOk result (λ _. places.new ≡ items.now) }
-    ensures rest { IfOk result (λ remaining. remaining.items ≡ rest.now) }
+    ensures { IfOk result (λ remaining.
+        (places.new ≡ items.now) × (remaining.items ≡ rest.now)) }
 {
     laws::items_law();
     let mut writer = SketchBytes::with_capacity(alloc, 0)?;
