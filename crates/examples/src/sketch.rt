@@ -33,8 +33,8 @@ fn read_fields(bytes: &[u8]) -> io::Result<(u8, u8, u8, u16)>
 ///
 /// # Errors
 ///
-/// Where bytes are missing, or at the first field that is wrong: `InvalidData`. Where the seed's own
-/// hash is zero: `InvalidArgument`. Where memory for the text runs out: `OutOfMemory`, with no
+/// Where bytes are missing, or at the first field that is wrong: `InvalidData`. Where the seed's
+/// own hash is zero: `InvalidArgument`. Where memory for the text runs out: `OutOfMemory`, with no
 /// message.
 pub fn check_preamble(alloc: Global, bytes: &[u8], seed: u64) -> Result<(), Error>
     ensures { MatchResult result

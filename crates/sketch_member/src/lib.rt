@@ -2,8 +2,8 @@
 //! may have false positives.
 //!
 //! Of a value it sees nothing but the bytes that the value feeds. A table is a value of its own
-//! ([`MemberTable`]), or lies in bytes that are read ([`TableView`]) or changed ([`in_place`]) where
-//! they are. [`laws`] has what follows for a caller's proof.
+//! ([`MemberTable`]), or lies in bytes that are read ([`TableView`]) or changed ([`in_place`])
+//! where they are. [`laws`] has what follows for a caller's proof.
 #![tactic(auto)]
 
 mod bits;
