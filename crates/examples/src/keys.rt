@@ -1,6 +1,6 @@
 //! Hashes of keys, and keys that are known by their hashes.
 
-ghost use Rattle.std.specs.Prelude.{◌≡◌, ◌≢◌, ◌↔◌, IsTrue, codes, pos};
+ghost use Rattle.std.specs.Prelude.{◌≡◌, ◌≢◌, ◌↔◌, IsTrue, pos};
 ghost use Rattle.std.specs.List.{All};
 ghost use Rattle.datasketches.specs.Bytes.{modulo};
 ghost use Rattle.datasketches.specs.Murmur.{murmur};
@@ -10,16 +10,6 @@ ghost use Rattle.datasketches.specs.Xxh64.{xxh64};
 use datasketches::hash::value::{natural_extend, sign_extend};
 use datasketches::hash::{Hash, Hasher, MurmurHash3X64128, XxHash64};
 use datasketches::laws;
-
-/// The Murmur pair of a sentence that comes in two pieces.
-pub fn hash_of_the_sentence() -> (u64, u64)
-    ensures { result ≡ murmur 9001 (codes "The quick brown fox jumps over the lazy dog") }
-{
-    let mut hasher = MurmurHash3X64128::with_seed(9001);
-    hasher.write(b"The quick brown fox ");
-    hasher.write(b"jumps over the lazy dog");
-    hasher.finish128()
-}
 
 /// The XXH64 hash of bytes, in one call.
 pub fn hash_of_bytes(bytes: &[u8]) -> u64

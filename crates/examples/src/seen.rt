@@ -5,7 +5,7 @@ ghost use Rattle.datasketches.specs.ErrorValue.{memory_error};
 ghost use Rattle.datasketches.specs.Refusals.{Refuses};
 ghost use Rattle.sketch_member.specs.Faults.{IsFirstFault, fault_text, steps, view_steps};
 ghost use Rattle.sketch_member.specs.Form.{IsForm};
-ghost use Rattle.sketch_member.specs.InPlace.{Becomes};
+ghost use Rattle.sketch_member.specs.InPlace.{TableChanges};
 ghost use Rattle.sketch_member.specs.Laws.{StandsFor, count_after};
 ghost use Rattle.sketch_member.specs.Table.{Inserts, IsMember, empty_table};
 
@@ -60,7 +60,7 @@ pub fn see_key(seen: &mut MemberTable, key: &[u8]) -> bool
 /// Where the bytes are no table of version 2: the first fault in them. They are unchanged.
 pub fn see_key_in(bytes: &mut [u8], key: &[u8]) -> Result<bool, Fault>
     ensures { MatchResult result
-        (λ is_seen. Becomes (λ before after. (IsTrue is_seen ↔ IsMember before key.now)
+        (λ is_seen. TableChanges (λ before after. (IsTrue is_seen ↔ IsMember before key.now)
         × Inserts key.now before after) bytes.old bytes.new)
         (λ fault. (bytes.new ≡ bytes.old)
         × IsFirstFault (length bytes.old) (view_steps bytes.old) fault) }

@@ -1,7 +1,7 @@
 //! The preamble of a serialized sketch, read and written.
 
-ghost use Rattle.std.specs.Prelude.{IfOk, MatchResult};
-ghost use Rattle.examples.specs.Sketches.{HasPreamble};
+ghost use Rattle.std.specs.Prelude.{◌≡◌, ◌<◌, ◌≤◌, length, IfOk, MatchResult};
+ghost use Rattle.examples.specs.Sketches.{HasPreamble, number_at};
 
 use datasketches::codec::assert::{
     ensure_preamble_longs_in, ensure_serial_version_is, insufficient_data,
@@ -11,30 +11,42 @@ use datasketches::codec::{SketchBytes, SketchSlice};
 use datasketches::error::{Error, ErrorKind};
 use datasketches::hash::{check_seed_hash, compute_seed_hash};
 use std::alloc::Global;
+use std::io;
+
+// The fields of a preamble: preamble longs, serial version, family and seed hash.
+fn read_fields(bytes: &[u8]) -> io::Result<(u8, u8, u8, u16)>
+    ensures { MatchResult result
+        (λ fields. (5 ≤ length bytes.now)
+        × (fields.0 ≡ number_at 0 1 bytes.now) × (fields.1 ≡ number_at 1 1 bytes.now)
+        × (fields.2 ≡ number_at 2 1 bytes.now) × (fields.3 ≡ number_at 3 2 bytes.now))
+        (λ _. length bytes.now < 5) }
+{
+    let mut reader = SketchSlice::new(bytes);
+    let longs = reader.read_u8()?;
+    let version = reader.read_u8()?;
+    let family = reader.read_u8()?;
+    Ok((longs, version, family, reader.read_u16_le()?))
+}
 
 /// Checks the preamble of a serialized HLL sketch that was made with the seed: preamble longs,
 /// serial version, family and seed hash.
 ///
 /// # Errors
 ///
-/// At the first that is wrong or missing: `InvalidData`. Where the seed's own hash is zero:
-/// `InvalidArgument`. Where memory for the text runs out: `OutOfMemory`, with no message.
+/// Where bytes are missing, or at the first field that is wrong: `InvalidData`. Where the seed's
+/// own hash is zero: `InvalidArgument`. Where memory for the text runs out: `OutOfMemory`, with no
+/// message.
 pub fn check_preamble(alloc: Global, bytes: &[u8], seed: u64) -> Result<(), Error>
     ensures { MatchResult result
         (λ _. HasPreamble seed bytes.now) (λ _. HasPreamble seed bytes.now → ⊥) }
 {
-    let mut reader = SketchSlice::new(bytes);
     let short = |error| insufficient_data(alloc, "hll sketch", error);
-    let longs = reader.read_u8().map_err(short)?;
+    let (longs, version, family, actual) = read_fields(bytes).map_err(short)?;
     ensure_preamble_longs_in(alloc, &[1], longs)?;
-    let version = reader.read_u8().map_err(short)?;
     ensure_serial_version_is(alloc, 3, version)?;
-    let family = reader.read_u8().map_err(short)?;
     Family::HLL.validate_id(alloc, family)?;
-    let actual = reader.read_u16_le().map_err(short)?;
     let expected = compute_seed_hash(alloc, seed, ErrorKind::InvalidArgument)?;
-    check_seed_hash(alloc, expected, actual, "hll", ErrorKind::InvalidData)?;
-    Ok(())
+    check_seed_hash(alloc, expected, actual, "hll", ErrorKind::InvalidData)
 }
 
 /// Writes such a preamble, to which the sketch's own bytes can be added.

@@ -1,11 +1,9 @@
 use crate::columns::hash_texts;
 use crate::items::there_and_back;
-use crate::keys::{
-    hash_of_bytes, hash_of_the_sentence, is_new_key, is_same_key, is_same_word, pair_of,
-    pair_of_value,
-};
+use crate::keys::{hash_of_bytes, is_new_key, is_same_key, is_same_word, pair_of, pair_of_value};
 use crate::own::{BigEndian, Point};
 use crate::seen::{load_keys, merge_worker, see_key, see_key_in};
+use crate::sentence::hash_of_the_sentence;
 use crate::sketch::{check_preamble, write_preamble};
 use crate::streams::{checkpoint, murmur_of_pieces, xxh64_from};
 use datasketches::codec::{Item, Kind};

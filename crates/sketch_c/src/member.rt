@@ -8,7 +8,7 @@ ghost use Rattle.std.specs.Prelude.{◌≡◌, ◌⊎◌, ◌+◌, pos, length, 
 ghost use Rattle.sketch_c.specs.Status.{IsTableIn, Refused, merge_status, status};
 ghost use Rattle.sketch_member.specs.Faults.{IsFirstFault, init_steps};
 ghost use Rattle.sketch_member.specs.Form.{form2};
-ghost use Rattle.sketch_member.specs.InPlace.{Becomes, IsMergeFault};
+ghost use Rattle.sketch_member.specs.InPlace.{TableChanges, IsMergeFault};
 ghost use Rattle.sketch_member.specs.Limits.{IsHashes, IsLog2Bits};
 ghost use Rattle.sketch_member.specs.Merge.{Merges};
 ghost use Rattle.sketch_member.specs.Table.{Inserts, IsMember, Table, byte_count, empty_table};
@@ -61,7 +61,7 @@ pub extern "C" fn sketch_member_check(bytes: &[u8]) -> i32
 /// Inserts a key.
 #[unsafe(no_mangle)]
 pub extern "C" fn sketch_member_insert(bytes: &mut [u8], key: &[u8]) -> i32
-    ensures { ((result ≡ pos 0) × Becomes (Inserts key.now) bytes.old bytes.new)
+    ensures { ((result ≡ pos 0) × TableChanges (Inserts key.now) bytes.old bytes.new)
         ⊎ ((bytes.new ≡ bytes.old) × Refused bytes.old result) }
 {
     match in_place::insert(bytes, &raw_bytes::from_slice(key)) {
@@ -95,7 +95,7 @@ pub extern "C" fn sketch_member_contains(bytes: &[u8], key: &[u8]) -> i32
 #[unsafe(no_mangle)]
 pub extern "C" fn sketch_member_merge(into: &mut [u8], from: &[u8]) -> i32
     ensures { ((result ≡ pos 0) × (other : Table) × IsTableIn from.now other
-        × Becomes (Merges other) into.old into.new)
+        × TableChanges (Merges other) into.old into.new)
         ⊎ ((into.new ≡ into.old) × (fault : MergeFault) × IsMergeFault into.old from.now fault
         × (result ≡ merge_status fault)) }
 {

@@ -113,7 +113,8 @@ table_read table bytes fit p seed count kind (log2_bits, (hashes, _)) numbers ne
     hashes = rw p.hashes hashes.1;
     count = count;
     bits = ap (λ n. n * 8) need ∙ whole_bytes table.log2_bits (omega (arith, p.log2_bits, log2_bits.1.0));
-    bytes = λ k. rw (p.bits, get_or-drop (header_length bytes) bytes k 0) (fit (header_length bytes + k)).fits;
+    bytes = λ k. let start = header_length bytes in
+        rw (p.bits, get_or-drop start bytes k 0) (fit (start + k)).fits;
   },
   form_read table bytes (bytes_known bytes fit) p kind numbers,
 )

@@ -8,8 +8,8 @@ use Rattle.sketch_member.specs.Merge.{IsFirstDifference, part_name, tables_diffe
 use Rattle.sketch_member.specs.Table.{Table, IsTable}
 
 -- the bytes of a table become those of another, and the two are in this relation
-abbrev pub Becomes : (Table → Table → Type 0) → List ℕ → List ℕ → Type 0
-Becomes Changes old new = (before : Table) × (after : Table)
+abbrev pub TableChanges : (Table → Table → Type 0) → List ℕ → List ℕ → Type 0
+TableChanges Changes old new = (before : Table) × (after : Table)
     × IsTable before × IsTable after × (old ≡ form2 before) × (new ≡ form2 after)
     × Changes before after
 

@@ -146,7 +146,8 @@ impl Filter {
         }
     }
 
-    // The value's index of number `j`, by the word that it feeds, if the value answers one.
+    // The value's index number `j`. A value that feeds the eight bytes of a number has that number
+    // as its `word`.
     #[tactic(auto, unfolding(crate::specs::Table::index), using(crate::proofs::WordLemmas::masked))]
     fn index<T: Hash>(&self, value: &T, word: Option<u64>, j: u8) -> usize
         requires word { IfSome word (λ n. T.fed value.now ≡ eight n) }
@@ -159,7 +160,7 @@ impl Filter {
     }
 }
 
-// The hash of a value under a seed, by its word, if the value answers one.
+// The hash of a value under a seed: that of its word, if it has one.
 #[inline(always)]
 fn hash_under<T: Hash>(seed: u64, value: &T, word: Option<u64>) -> u64
     requires { IfSome word (λ n. T.fed value.now ≡ eight n) }

@@ -6,7 +6,7 @@
 ghost use Rattle.std.specs.Prelude.{◌≡◌, ◌+◌, length, MatchOption, MatchResult};
 ghost use Rattle.sketch_member.specs.Faults.{IsFirstFault, init_steps, view_steps};
 ghost use Rattle.sketch_member.specs.Form.{form2};
-ghost use Rattle.sketch_member.specs.InPlace.{Becomes, IsMergeFault};
+ghost use Rattle.sketch_member.specs.InPlace.{TableChanges, IsMergeFault};
 ghost use Rattle.sketch_member.specs.Limits.{IsHashes, IsLog2Bits};
 ghost use Rattle.sketch_member.specs.Merge.{Merges};
 ghost use Rattle.sketch_member.specs.Table.{Inserts, IsTable, Table, byte_count, empty_table};
@@ -64,7 +64,7 @@ pub fn init(bytes: &mut [u8], seed: u64, log2_bits: u8, hashes: u8) -> Result<()
 /// As those of [`TableView::new`](crate::TableView::new). The bytes are then unchanged.
 pub fn insert<T: Hash>(bytes: &mut [u8], value: &T) -> Result<(), Fault>
     ensures { MatchResult result
-        (λ _. Becomes (Inserts (T.fed value.now)) bytes.old bytes.new)
+        (λ _. TableChanges (Inserts (T.fed value.now)) bytes.old bytes.new)
         (λ fault. (bytes.new ≡ bytes.old)
         × IsFirstFault (length bytes.old) (view_steps bytes.old) fault) }
 {
@@ -87,7 +87,7 @@ pub fn insert<T: Hash>(bytes: &mut [u8], value: &T) -> Result<(), Fault>
 pub fn merge(into: &mut [u8], from: &[u8]) -> Result<(), MergeFault>
     ensures { MatchResult result
         (λ _. (other : Table) × IsTable other × (from.now ≡ form2 other)
-        × Becomes (Merges other) into.old into.new)
+        × TableChanges (Merges other) into.old into.new)
         (λ fault. (into.new ≡ into.old) × IsMergeFault into.old from.now fault) }
 {
     let (mut filter, _) = match read_version2(into) {

@@ -1,7 +1,9 @@
 //! A Bloom filter: a table that tells whether a value was inserted. It has no false negatives, and
 //! may have false positives.
 //!
-//! Of a value it sees nothing but the bytes that the value feeds.
+//! Of a value it sees nothing but the bytes that the value feeds. A table is a value of its own
+//! ([`MemberTable`]), or lies in bytes that are read ([`TableView`]) or changed ([`in_place`])
+//! where they are. [`laws`] has what follows for a caller's proof.
 #![tactic(auto)]
 
 mod bits;

@@ -9,7 +9,7 @@ ghost use Rattle.sketch_member.specs.Limits.{IsHashes, IsLog2Bits};
 ghost use Rattle.sketch_member.specs.Merge.{FirstDifference, Merges, part_name, tables_differ_text};
 ghost use Rattle.sketch_member.specs.Table.{Table, IsTable, empty_table, Inserts, IsMember, IsSet};
 
-use crate::fault::Difference;
+use crate::fault::{Difference, MergeFault};
 use crate::filter::{Filter, byte_count};
 use crate::format::{HEADER_BYTES, read};
 use datasketches::codec::SketchBytes;
@@ -172,9 +172,10 @@ pub fn table_law(table: &MemberTable)
     let _filter = &table.filter;
 }
 
+// The error that tells of a difference, or that memory for its text ran out.
 fn tables_differ(alloc: Global, part: Difference) -> Error
     ensures { Refuses ErrorKind.InvalidArgument (tables_differ_text (part_name part)) result }
 {
-    let text = format!(in alloc; "tables differ: {part}");
+    let text = MergeFault::Unlike(part).to_string(alloc);
     Error::from_text(alloc, ErrorKind::InvalidArgument, text)
 }

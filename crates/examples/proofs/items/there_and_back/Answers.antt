@@ -1,58 +1,36 @@
-use Rattle.std.proofs.Common.{◌≡◌, ℕ, ◌+◌, List, ◌++◌, ◌∙◌, ap, refl, [], length, length-append, Result, Ok, Err, IfOk, arith}
-use Rattle.datasketches.specs.declared.codec.Item.{Item}
+use Rattle.std.proofs.Common.{◌≡◌, ◌+◌, ◌++◌, ◌∙◌, ap, length, length-append, Result, Ok, Err, IfOk, arith}
 use Rattle.datasketches.specs.Items.{spell_all, widths}
-use Rattle.datasketches.specs.WriterValue.{WriterValue}
 use Rattle.datasketches.proofs.ItemLemmas.{widths-take-le}
 use Rattle.examples.proofs.items.there_and_back.Goals as goal
 
--- what holds anyway holds of an Ok
-ok_of_any : {X E : Type 0} (r : Result X E) (P : Type 0) → P → IfOk r (λ _. P)
-ok_of_any (Ok x) P h = h
-ok_of_any (Err e) P h = tt
-
--- the bytes that are read are those of the items, and the others after them
-bytes_read : (empty filled : List ℕ) (items : List Item) (behind read : List ℕ) → empty ≡ [] →
-    filled ≡ empty ++ spell_all items → read ≡ filled ++ behind → read ≡ spell_all items ++ behind
-bytes_read empty filled items behind read none written is = rw (is, written, none) refl
+-- what holds anyway holds of an Ok too
+also : {X E : Type 0} (r : Result X E) (P : Type 0) (Q : X → Type 0) → P → IfOk r Q →
+    IfOk r (λ x. P × Q x)
+also (Ok x) P Q p q = (p, q)
+also (Err e) P Q p q = tt
 
 pub unreachable-requires : goal.unreachable-requires
 unreachable-requires c =
-    let short = c.in-Err-read_items.ensures in
-    let whole = bytes_read _ _ _ _ _ (ap (λ
-    (writer : WriterValue). writer.bytes) c.in_ok-writer.ensures.room) c.in_default.ensures.written
-    (c.new-reader.ensures ∙ c.deref.ensures.value ∙ c.in_ok-extend_from_slice.ensures.items
-    ∙ ap (λ bytes. bytes ++ c.args.rest.now) c.into_bytes-bytes.ensures) in
-    let fits = c.items_law.ensures.count c.args.items.now c.in_default.ensures.in_type in
+    let written = c.in_ok-bytes.ensures in
+    let whole = c.new-reader.ensures ∙ c.deref.ensures.value ∙ written.1 in
     omega (
       arith,
-      short.2,
-      widths-take-le (c.in-Err-read_items.field-0.read + 1) c.args.kinds.now,
-      fits,
+      c.in-Err.ensures.2,
+      widths-take-le (c.in-Err.field-0.read + 1) c.args.kinds.now,
+      c.items_law.ensures.count c.args.items.now written.0,
       ap widths c.requires.kinds,
       ap length whole ∙ length-append (spell_all c.args.items.now) c.args.rest.now,
     )
 
-pub returns-clause-items : goal.returns-clause-items
-returns-clause-items c =
-    let whole = bytes_read _ _ _ _ _ (ap (λ
-    (writer : WriterValue). writer.bytes) c.in_ok-writer.ensures.room) c.in_default.ensures.written
-    (c.new-reader.ensures ∙ c.deref.ensures.value ∙ c.in_ok-extend_from_slice.ensures.items
-    ∙ ap (λ bytes. bytes ++ c.args.rest.now) c.into_bytes-bytes.ensures) in
+pub returns : goal.returns
+returns c =
+    let written = c.in_ok-bytes.ensures in
+    let whole = c.new-reader.ensures ∙ c.deref.ensures.value ∙ written.1 in
+    let law = c.items_law.ensures in
+    let read = c.in_default.ensures in
     let same : c.read_items.new.out ≡ c.args.items.now =
-    rw (
-      c.in_default-read_items.ensures.1,
-      whole,
-      c.requires.kinds,
-    ) (c.items_law.ensures.read_back c.args.items.now c.args.rest.now c.in_default.ensures.in_type) in
-    ok_of_any _ _ same
-
-pub returns-clause-rest : goal.returns-clause-rest
-returns-clause-rest c =
-    let whole = bytes_read _ _ _ _ _ (ap (λ
-    (writer : WriterValue). writer.bytes) c.in_ok-writer.ensures.room) c.in_default.ensures.written
-    (c.new-reader.ensures ∙ c.deref.ensures.value ∙ c.in_ok-extend_from_slice.ensures.items
-    ∙ ap (λ bytes. bytes ++ c.args.rest.now) c.into_bytes-bytes.ensures) in
+    rw (read.1, whole, c.requires.kinds) (law.read_back c.args.items.now c.args.rest.now written.0) in
     let left : c.remaining.result.now ≡ c.args.rest.now =
-    rw (c.remaining.ensures, c.in_default-read_items.ensures.2, whole, c.requires.kinds)
-    (c.items_law.ensures.leave_rest c.args.items.now c.args.rest.now c.in_default.ensures.in_type) in
-    rw (← left) c.from_slice.ensures.items
+    rw (c.remaining.ensures, read.2, whole, c.requires.kinds)
+    (law.leave_rest c.args.items.now c.args.rest.now written.0) in
+    also c.from_slice.result _ _ same (rw (← left) c.from_slice.ensures.items)

@@ -25,7 +25,7 @@ returns-clause-same g c =
     let all : InsertsAll values empty table = search (rules, from_empty) in
     let same = made_once c.args.seed c.args.log2_bits c.args.hashes values lies.0 table lies.3 all
     lies.1 c.table_law.ensures in
-    same_bytes _ _ _ _ same lies.2 (search rules)
+    same_bytes c.insert_all_in_place.new.bytes _ lies.0 table same lies.2 (search rules)
 
 pub returns-clause-whole : goal.returns-clause-whole
 returns-clause-whole g c =
