@@ -99,10 +99,14 @@ void sketch_murmur3_x64_128_update(sketch_murmur3_x64_128_state_t *state, const 
 sketch_murmur3_x64_128_hash_t
 sketch_murmur3_x64_128_digest(const sketch_murmur3_x64_128_state_t *state);
 
+/* Writes the hash as its 16 bytes lie in memory, which other tools print: h1 and then h2, each with its lowest byte
+ * first. */
+void sketch_murmur3_x64_128_bytes(const sketch_murmur3_x64_128_hash_t *hash, unsigned char *out);
+
 /* ---- Columns of keys: one call hashes all keys of a column, as Apache Arrow lays out strings.
  *
  * Key i is the bytes of `input` from offsets[i] up to offsets[i + 1], and its hash goes to out[i], for
- * each i below `count`. `offsets` has count + 1 offsets, one if there are no keys. `offset_count` says
+ * each i below `count`. `offsets` has count + 1 offsets; one or none if there are no keys. `offset_count` says
  * how many may be read; those beyond are not. Arrow's own are signed: cast their pointer.
  *
  * A call returns 0 when all is done. Otherwise it has written nothing, and returns 1 + the index of

@@ -13,6 +13,7 @@ static void stream(const unsigned char *bytes, size_t length, uint64_t seed) {
     sketch_xxh64_state_t x = SKETCH_XXH64_INIT(seed);
     sketch_murmur3_x64_128_state_t m;
     sketch_murmur3_x64_128_hash_t pair;
+    unsigned char out[16];
     sketch_murmur3_x64_128_reset(&m, seed);
     for (size_t at = 0, n; at < length; at += n) {
         n = 1 + noise() % (1 + (noise() & 1 ? 15 : length));
@@ -25,6 +26,8 @@ static void stream(const unsigned char *bytes, size_t length, uint64_t seed) {
     add(pair.h1);
     add(pair.h2);
     pair = sketch_murmur3_x64_128(bytes, length, seed);
+    sketch_murmur3_x64_128_bytes(&pair, out);
+    add(sketch_xxh64(out, sizeof out, 0));
     add(sketch_xxh64(bytes, length, seed));
     add(pair.h1);
     add(pair.h2);

@@ -109,8 +109,13 @@ static void numbers(void) {
 
 static void no_keys(void) {
     const uint64_t offset = 0;
+    uint64_t place = 7;
+    /* `count` is what `offset_count - 1` wraps to. */
+    same("no offsets, wrapped", sketch_xxh64_each64(NULL, 0, NULL, 0, 7, &place, SIZE_MAX), 1);
+    same("no offsets, wrapped, nothing written", place, 7);
     same("no keys", sketch_xxh64_each64(NULL, 0, &offset, 1, 7, NULL, 0), 0);
-    same("no keys and no offset", sketch_xxh64_each64(NULL, 0, NULL, 0, 7, NULL, 0), 1);
+    same("no keys and no offset", sketch_xxh64_each64(NULL, 0, NULL, 0, 7, NULL, 0), 0);
+    same("no keys and no offset, Murmur", sketch_murmur3_x64_128_each32(NULL, 0, NULL, 0, 7, NULL, 0), 0);
     same("no numbers", sketch_xxh64_each_u64(NULL, 0, 7, NULL, 0), 0);
 }
 
@@ -123,5 +128,5 @@ int main(void) {
     wrong_offsets();
     numbers();
     no_keys();
-    return conclude(128021);
+    return conclude();
 }

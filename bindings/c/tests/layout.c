@@ -140,5 +140,5 @@ int main(void) {
     murmur(bytes);
     initializers();
     statuses();
-    return conclude(20425);
+    return conclude();
 }

@@ -11,8 +11,8 @@ static void same(const char *what, uint64_t answer, uint64_t expected) {
     fprintf(stderr, "%s: %016" PRIx64 ", and not %016" PRIx64 "\n", what, answer, expected);
 }
 
-/* The status of a program that makes so many comparisons: 0 where all were the same. */
-static int conclude(long expected) {
+/* The status of the program: 0 if something was compared, and all was the same. */
+static int conclude(void) {
     printf("%ld comparisons, %ld faults\n", checks, faults);
-    return faults != 0 || checks != expected;
+    return faults != 0 || checks == 0;
 }

@@ -94,6 +94,7 @@ def test_calls_take_a_stack_of_256_kib(name, built):
 
 # ---- the files
 
+OF_1_2 = ["sketch_murmur3_x64_128_bytes"]
 OF_1_0 = """sketch_hash_version sketch_xxh64 sketch_xxh64_reset sketch_xxh64_update sketch_xxh64_digest sketch_xxh64_u64
     sketch_murmur3_x64_128 sketch_murmur3_x64_128_reset sketch_murmur3_x64_128_update sketch_murmur3_x64_128_digest""".split()
 
@@ -113,7 +114,7 @@ def test_shared_library_has_the_calls_by_their_versions(folder, need):
     """A program that was linked with an older library asks for each name by the version that it came with."""
     need("nm")
     names = re.findall(r" [B-Zb-z] (\S+)$", output("nm", "-D", folder / "libsketch_hash.so.1"), re.M)
-    assert sorted(names) == sorted(f"{it}@@SKETCH_HASH_{'1.0' if it in OF_1_0 else '1.1'}" for it in CALLS)
+    assert sorted(names) == sorted(f"{it}@@SKETCH_HASH_{'1.0' if it in OF_1_0 else '1.2' if it in OF_1_2 else '1.1'}" for it in CALLS)
 
 
 def test_shared_library_needs_no_other(folder, need):

@@ -1,6 +1,7 @@
 //! MurmurHash3 x64 128: in one call, or by a state that takes a stream in pieces.
 
-ghost use Rattle.std.specs.Prelude.{◌≡◌, ℕ, List, [], ◌++◌};
+ghost use Rattle.std.specs.Prelude.{◌≡◌, ◌+◌, ◌*◌, ◌^◌, ℕ, List, [], ◌++◌};
+ghost use Rattle.datasketches.specs.Bytes.{low_bytes};
 ghost use Rattle.datasketches.specs.Held.{murmur_held, MurmurHolds};
 ghost use Rattle.datasketches.specs.Murmur.{murmur, murmur_after, murmur_answer};
 
@@ -51,4 +52,12 @@ pub extern "C" fn sketch_murmur3_x64_128_digest(state: &MurmurState) -> Murmur12
 {
     let (h1, h2) = MurmurHash3X64128::resume(state).finish128();
     Murmur128 { h1, h2 }
+}
+
+/// The hash as its 16 bytes lie in memory, which other tools print: each word's lowest byte first.
+#[unsafe(no_mangle)]
+pub extern "C" fn sketch_murmur3_x64_128_bytes(hash: &Murmur128, out: &mut [u8; 16])
+    ensures { out.new ≡ low_bytes 16 (hash.now.h1 + hash.now.h2 * 2 ^ 64) }
+{
+    *out = MurmurHash3X64128::bytes_of((hash.h1, hash.h2));
 }

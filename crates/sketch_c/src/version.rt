@@ -7,5 +7,5 @@ ghost use Rattle.std.specs.Prelude.{◌≡◌};
 pub extern "C" fn sketch_hash_version() -> u32
     ensures { result ≡ 10200 }
 {
-    10_100
+    10_200
 }

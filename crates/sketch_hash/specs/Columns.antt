@@ -1,6 +1,6 @@
 -- A column of keys: the bytes of all keys, and offsets into them. The key at place i is the bytes
 -- from the offset at i up to the offset at i + 1.
-use Rattle.std.specs.Prelude.{◌≡◌, ℕ, ◌+◌, ◌-◌, ◌<◌, ◌≤◌, List, [], ◌∷◌, length, take, drop, slice_index, slice_index_or, Result, MatchResult}
+use Rattle.std.specs.Prelude.{◌≡◌, ◌⊎◌, ℕ, ◌+◌, ◌-◌, ◌<◌, ◌≤◌, List, [], ◌∷◌, length, take, drop, slice_index, slice_index_or, Result, MatchResult}
 use Rattle.sketch_base.specs.Bytes.{eight}
 use Rattle.sketch_hash.specs.Murmur.{murmur}
 
@@ -18,14 +18,19 @@ IsBound bytes offsets i =
     × (slice_index offsets i ≤ length bytes)
     × (slice_index (0 ∷ offsets) i ≤ slice_index offsets i)
 
+-- A column of no keys may have no offsets.
+abbrev pub HasNoKeys : List ℕ → ℕ → Type 0
+HasNoKeys offsets n = (n ≡ 0) × (length offsets ≡ 0)
+
 -- the first n + 1 offsets, which bound n keys
 abbrev pub AreBounds : List ℕ → List ℕ → ℕ → Type 0
-AreBounds bytes offsets n = (i : ℕ) → i ≤ n → IsBound bytes offsets i
+AreBounds bytes offsets n = HasNoKeys offsets n ⊎ ((i : ℕ) → i ≤ n → IsBound bytes offsets i)
 
 -- i is the first place, of 0 to n, whose offset is no bound
 abbrev pub IsFirstWrongOffset : List ℕ → List ℕ → ℕ → ℕ → Type 0
 IsFirstWrongOffset bytes offsets n i =
-    (i ≤ n)
+    (HasNoKeys offsets n → ⊥)
+    × (i ≤ n)
     × (IsBound bytes offsets i → ⊥)
     × ((j : ℕ) → j < i → IsBound bytes offsets j)
 

@@ -1,6 +1,6 @@
 //! Columns of keys: a call hashes all keys of a column.
 
-ghost use Rattle.std.specs.Prelude.{◌≡◌, ℕ, ◌+◌, ◌<◌, length, map, slice_index, MatchResult};
+ghost use Rattle.std.specs.Prelude.{◌≡◌, ◌∷◌, ◌+◌, ◌<◌, ℕ, get_or, length, map, slice_index, MatchResult};
 ghost use Rattle.sketch_hash.specs.Columns.{HashesEach, HashesEachNumber, IsBound, AreBounds, IsFirstWrongOffset, key_at, murmur_words};
 ghost use Rattle.sketch_hash.specs.Xxh64.{xxh64};
 
@@ -38,7 +38,7 @@ impl XxHash64 {
     /// The 64-bit hash of each key of a column under a seed, each at its place of `out`.
     ///
     /// The column has as many keys as `out` has places, and one offset more; further ones are not
-    /// read. The key at a place is the bytes of `bytes` from the offset there, which may be above 0
+    /// read. A column of no keys may have no offsets. The key at a place is the bytes of `bytes` from the offset there, which may be above 0
     /// at the first, up to the next offset, as Apache Arrow lays strings out. Arrow's
     /// offsets are signed: a negative one, read as unsigned, is at least 2^31 or 2^63, so past the
     /// end of all shorter columns.
@@ -114,25 +114,44 @@ impl MurmurHash3X64128 {
 }
 
 // The index of the first of `keys + 1` offsets that is missing, is past the end of the bytes, or is
-// below the one before it.
+// below the one before it. Nothing is added to `keys`, which a caller in C may have let wrap.
 #[inline(always)]
 fn check_offsets<O: Offset>(bytes: &[u8], offsets: &[O], keys: usize) -> Result<(), usize>
-    requires { keys < usize.MAX }
     ensures { let places = map O.place offsets.now in MatchResult result
         (λ _. AreBounds bytes.now places keys) (λ i. IsFirstWrongOffset bytes.now places keys i) }
 {
-    let mut last = 0;
-    for i in 0..keys + 1 {
-        if i == offsets.len() {
-            return Err(i);
-        }
-        let place = place_at(offsets, i);
-        if place < last || bytes.len() < place {
-            return Err(i);
-        }
-        last = place;
+    if keys == 0 && offsets.is_empty() {
+        return Ok(());
     }
+    let mut last = 0;
+    for i in 0..keys {
+        last = check_offset(bytes, offsets, i, last)?;
+    }
+    check_offset(bytes, offsets, keys, last)?;
     Ok(())
+}
+
+// The offset at a place, which may not be below the last one.
+#[inline(always)]
+fn check_offset<O: Offset>(
+    bytes: &[u8],
+    offsets: &[O],
+    i: usize,
+    last: usize,
+) -> Result<usize, usize>
+    requires { last ≡ get_or (0 ∷ map O.place offsets.now) i 0 }
+    ensures { let places = map O.place offsets.now in MatchResult result
+        (λ place. IsBound bytes.now places i × (place ≡ slice_index places i))
+        (λ fault. (fault ≡ i) × (IsBound bytes.now places i → ⊥)) }
+{
+    if i >= offsets.len() {
+        return Err(i);
+    }
+    let place = place_at(offsets, i);
+    if place < last || bytes.len() < place {
+        return Err(i);
+    }
+    Ok(place)
 }
 
 // The bytes of the key at a place of a column.

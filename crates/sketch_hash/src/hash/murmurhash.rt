@@ -12,7 +12,7 @@ mod state;
 mod tail;
 
 pub use self::state::MurmurState;
-use self::tail::{append, complete, left_over, read_partial_le, read_partial_words};
+use self::tail::{append, complete, join_words, left_over, read_partial_le, read_partial_words};
 use super::DEFAULT_UPDATE_SEED;
 use super::hasher::Hasher;
 use super::words::{read_u128_le, rotate, split_pieces, xor_shift};
@@ -82,6 +82,14 @@ impl MurmurHash3X64128 {
             self.h2 ^ mix2(self.high),
             self.total,
         )
+    }
+
+    /// A 128-bit hash as its 16 bytes lie in memory, which other tools print: each word's lowest
+    /// byte first.
+    pub fn bytes_of(hash: (u64, u64)) -> [u8; 16]
+        ensures { result ≡ low_bytes 16 (hash.0 + hash.1 * 2 ^ 64) }
+    {
+        join_words(hash.0, hash.1).to_le_bytes()
     }
 
     /// The 128-bit hash of bytes under a seed, as its first and its second word, in one call.
