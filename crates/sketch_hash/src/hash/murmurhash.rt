@@ -296,8 +296,8 @@ fn fmix(word: u64) -> u64
     xor_shift(twice, 33)
 }
 
-// `fmix` with a test, for which LLVM makes no vector code of a caller's loop over keys of 8 bytes. In
-// that a multiplication of 64 bits is three, which takes a third longer.
+// `fmix` with a test, for which LLVM makes no vector code of a caller's loop over keys of 8 bytes.
+// In that a multiplication of 64 bits is three, which takes a third longer.
 #[inline(always)]
 #[tactic(auto, using(crate::proofs::MurmurLemmas::fmix_zero))]
 fn fmix_unless_zero(word: u64) -> u64
