@@ -10,9 +10,10 @@ seed_hash seed = (murmur 0 (eight seed)).0 % 65536
 
 abbrev pub zero_seed_hash_text : ℕ → List ℕ
 zero_seed_hash_text seed =
-    codes "seed " ++ decimal seed ++ codes " produces a seed hash of zero; choose a different seed"
+    codes "seed "
+    ++ (decimal seed ++ codes " produces a seed hash of zero; choose a different seed")
 
 abbrev pub incompatible_seed_hash_text : List ℕ → ℕ → ℕ → List ℕ
 incompatible_seed_hash_text name expected actual =
-    codes "incompatible seed hash of " ++ name ++ codes ": expected " ++ decimal expected
-    ++ codes ", got " ++ decimal actual
+    codes "incompatible seed hash of " ++ (name ++ (codes ": expected " ++ (decimal expected
+    ++ (codes ", got " ++ decimal actual))))

@@ -39,20 +39,12 @@ pub fn ensure_serial_version_is(alloc: Global, expected: u8, actual: u8) -> Resu
         (unsupported_serial_version_text expected actual) result }
 {
     if expected == actual {
-        Ok(())
-    } else {
-        Err(unsupported_serial_version(alloc, expected, actual))
+        return Ok(());
     }
-}
-
-fn unsupported_serial_version(alloc: Global, expected: u8, actual: u8) -> Error
-    ensures { Refuses ErrorKind.InvalidData
-        (unsupported_serial_version_text expected actual) result }
-{
-    Error::refusal(
+    Err(Error::refusal(
         alloc,
         format!(in alloc; "unsupported serial version: expected {expected}, got {actual}"),
-    )
+    ))
 }
 
 /// Accepts exactly the listed numbers of preamble longs.
@@ -87,21 +79,13 @@ pub fn ensure_preamble_longs_in_range(
         (preamble_longs_out_of_range_text (range start end).text actual) result }
 {
     if has(start, end, actual) {
-        Ok(())
-    } else {
-        Err(preamble_longs_out_of_range(alloc, start, end, actual))
+        return Ok(());
     }
-}
-
-fn preamble_longs_out_of_range(alloc: Global, start: Bound<u8>, end: Bound<u8>, actual: u8) -> Error
-    ensures { Refuses ErrorKind.InvalidData
-        (preamble_longs_out_of_range_text (range start end).text actual) result }
-{
     let text = match printed_range(alloc, start, end) {
         Ok(range) => format!(in alloc; "invalid preamble longs: expected {range}, got {actual}"),
         Err(error) => Err(error),
     };
-    Error::refusal(alloc, text)
+    Err(Error::refusal(alloc, text))
 }
 
 // Whether the range between the two ends has the number.

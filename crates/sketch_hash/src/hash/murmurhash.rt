@@ -77,7 +77,7 @@ impl MurmurHash3X64128 {
         ensures stands { (seed : ℕ) (bytes : List ℕ) → MurmurStands self.now seed bytes →
             result ≡ murmur seed bytes }
     {
-        finalize_hasher(
+        finalize(
             self.h1 ^ mix1(self.low),
             self.h2 ^ mix2(self.high),
             self.total,
@@ -304,7 +304,8 @@ fn fmix(word: u64) -> u64
     xor_shift(twice, 33)
 }
 
-// `fmix` with a test: LLVM makes no vector code of a loop that has it.
+// `fmix` with a test, for which LLVM makes no vector code of a caller's loop over keys of 8 bytes.
+// In that a multiplication of 64 bits is three, which takes a third longer.
 #[inline(always)]
 #[tactic(auto, using(crate::proofs::MurmurLemmas::fmix_zero))]
 fn fmix_unless_zero(word: u64) -> u64
@@ -329,18 +330,6 @@ fn cross(h1: u64, h2: u64) -> (u64, u64)
 #[inline(always)]
 #[tactic(auto, unfolding(crate::specs::Murmur::finalize), using(crate::proofs::Xor::words))]
 fn finalize(h1: u64, h2: u64, total: u64) -> (u64, u64)
-    ensures { result ≡ finalize (h1, h2) total }
-{
-    let (h1, h2) = cross(h1 ^ total, h2 ^ total);
-    cross(fmix(h1), fmix(h2))
-}
-
-// `finalize` for a hasher, with that test of the first word. Without it, LLVM makes vector code of
-// a caller's loop over keys of 8 bytes, in which a multiplication of 64 bits is three: a third
-// slower. A key in one call is faster without the test.
-#[inline(always)]
-#[tactic(auto, unfolding(crate::specs::Murmur::finalize), using(crate::proofs::Xor::words))]
-fn finalize_hasher(h1: u64, h2: u64, total: u64) -> (u64, u64)
     ensures { result ≡ finalize (h1, h2) total }
 {
     let (h1, h2) = cross(h1 ^ total, h2 ^ total);

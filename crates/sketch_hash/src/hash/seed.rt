@@ -26,18 +26,12 @@ pub fn compute_seed_hash(alloc: Global, seed: u64, error_kind: ErrorKind) -> Res
 {
     let hash = seed_hash(seed);
     if hash == 0 {
-        return Err(zero_seed_hash(alloc, seed, error_kind));
+        let text = format!(in alloc;
+            "seed {seed} produces a seed hash of zero; choose a different seed"
+        );
+        return Err(Error::from_text(alloc, error_kind, text));
     }
     Ok(hash)
-}
-
-fn zero_seed_hash(alloc: Global, seed: u64, kind: ErrorKind) -> Error
-    ensures { Refuses kind (zero_seed_hash_text seed) result }
-{
-    let text = format!(in alloc;
-        "seed {seed} produces a seed hash of zero; choose a different seed"
-    );
-    Error::from_text(alloc, kind, text)
 }
 
 /// Accepts `actual` exactly if it is `expected`.
@@ -59,25 +53,12 @@ pub fn check_seed_hash(
         × Refuses kind (incompatible_seed_hash_text name.entry.now expected actual) error) }
 {
     if actual == expected {
-        Ok(())
-    } else {
-        Err(incompatible_seed_hash(alloc, expected, actual, name, kind))
+        return Ok(());
     }
-}
-
-fn incompatible_seed_hash(
-    alloc: Global,
-    expected: u16,
-    actual: u16,
-    name: &'static str,
-    kind: ErrorKind,
-) -> Error
-    ensures { Refuses kind (incompatible_seed_hash_text name.entry.now expected actual) result }
-{
     let text = format!(in alloc;
         "incompatible seed hash of {name}: expected {expected}, got {actual}"
     );
-    Error::from_text(alloc, kind, text)
+    Err(Error::from_text(alloc, kind, text))
 }
 
 fn seed_hash(seed: u64) -> u16

@@ -84,7 +84,7 @@ fn fold_below_8(hash: u64, tail: &[u8]) -> u64
     fold_few(hash, tail)
 }
 
-// The hash after fewer than four single bytes. A loop takes a sixth longer for keys of 5 to 7 bytes.
+// The hash after fewer than four single bytes. With a loop, keys of 5 to 7 take a sixth longer.
 #[inline(always)]
 fn fold_few(hash: u64, bytes: &[u8]) -> u64
     requires { length bytes.now < 4 }
