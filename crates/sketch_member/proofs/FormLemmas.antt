@@ -1,5 +1,5 @@
 -- Bytes that pass all steps of the reading are the form of a table.
-use Rattle.std.proofs.Common.{◌≡◌, ◌⊎◌, ℕ, ◌+◌, ◌-◌, ◌*◌, ◌<◌, ◌≤◌, List, [], ◌∷◌, ◌++◌, length, get_or, take, drop, refl, sym, ap, ◌∙◌, inl, inr, arith, length-drop, Fits, w8, zero, suc, not-le_of_lt}
+use Rattle.std.proofs.Common.{◌≡◌, ◌⊎◌, ℕ, ◌+◌, ◌-◌, ◌*◌, ◌<◌, ◌≤◌, List, [], ◌∷◌, ◌++◌, length, get_or, take, drop, refl, sym, ap, ◌∙◌, inl, inr, arith, length-drop, Fits, w8, zero, suc}
 use Rattle.std.specs.Prelude.{Contains, IfSome}
 use Rattle.std.proofs.lemmas.List.{take-append-drop, drop-drop, get_or-drop}
 use Rattle.std.proofs.lemmas.List.Elements.{All-drop}
@@ -7,7 +7,6 @@ use Rattle.datasketches.specs.Bytes.{AreBytes, le, eight}
 use Rattle.datasketches.specs.Words.{IsWord}
 use Rattle.datasketches.proofs.BytesLemmas.{bytes_known, low_bytes-take}
 use Rattle.sketch_member.specs.declared.fault.Fault.{Fault}
-use Rattle.sketch_member.specs.declared.fault.Fault.TheVariants.{MissingBits, TrailingBytes}
 use Rattle.sketch_member.specs.Faults.{AllPass, IsFirstFault, Step, bits_steps, header_length, kind_steps, number_steps, size_steps, steps}
 use Rattle.sketch_member.specs.Form.{IsForm}
 use Rattle.sketch_member.specs.Table.{Table, IsTable, byte_count}
@@ -160,23 +159,15 @@ numbers_told bytes fault kind sizes first =
     (byte_count (get_or bytes 3 0))) fault first)
 
 -- and one of the bits
-pub bits_told : (bytes bits : List ℕ) (fault : Fault) → AllPass (length bytes) (kind_steps bytes) →
-    AllPass (length bytes) (size_steps bytes) → AllPass (length bytes) (number_steps bytes) →
-    bits ≡ drop (header_length bytes) bytes →
-    let need = byte_count (get_or bytes 3 0) in
-    ((length bits < need) × (fault ≡ MissingBits need (length bits)))
-    ⊎ ((need < length bits) × (fault ≡ TrailingBytes (length bits - need))) →
+pub bits_told : (bytes : List ℕ) (start need : ℕ) (fault : Fault) →
+    AllPass (length bytes) (kind_steps bytes) → AllPass (length bytes) (size_steps bytes) →
+    AllPass (length bytes) (number_steps bytes) → start ≡ header_length bytes →
+    need ≡ byte_count (get_or bytes 3 0) →
+    IsFirstFault (length bytes) (bits_steps bytes start need) fault →
     IsFirstFault (length bytes) (steps bytes) fault
-bits_told bytes bits fault kind sizes (flag, (seed, (count, _))) is_bits told =
-    let have : length bits ≡ length bytes - header_length bytes =
-    ap length is_bits ∙ length-drop (header_length bytes) bytes in
+bits_told bytes start need fault kind sizes numbers is_start is_need told =
     behind_sizes bytes fault kind sizes
     (fault-later (length bytes) (number_steps bytes) (bits_steps bytes (header_length bytes)
-    (byte_count (get_or bytes 3 0))) fault (flag, (seed, (count, tt)))
-    (elim (rw have at told) [
-      | inl few ↦ inl (inr (count.0, not-le_of_lt few.0, few.1))
-      | inr many ↦
-          inr ((count.0, omega (arith, many.0)), inl (inr (count.0, not-le_of_lt many.0, many.1)))
-    ]))
+    (byte_count (get_or bytes 3 0))) fault numbers (rw (is_start, is_need) at told))
 
-pub ruleset told = (kind_told, sizes_told, numbers_told)
+pub ruleset told = (kind_told, sizes_told, numbers_told, bits_told)

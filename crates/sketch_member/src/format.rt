@@ -3,7 +3,7 @@
 ghost use Rattle.std.specs.Prelude.{◌≡◌, ◌⊎◌, ◌↔◌, ◌+◌, ◌-◌, ◌<◌, ◌≤◌, [], ◌∷◌, Contains, length, take, drop, slice_index, IfSome, MatchResult, IsTrue};
 ghost use Rattle.datasketches.specs.Bytes.{eight, le};
 ghost use Rattle.datasketches.specs.Words.{IsWord};
-ghost use Rattle.sketch_member.specs.Faults.{AllPass, IsFirstFault, IsFlag, count_number, header_length, kind_steps, number_steps, size_steps, steps, view_steps};
+ghost use Rattle.sketch_member.specs.Faults.{AllPass, IsFirstFault, IsFlag, bits_steps, count_number, header_length, kind_steps, number_steps, size_steps, steps, view_steps};
 ghost use Rattle.sketch_member.specs.Filter.{table_of};
 ghost use Rattle.sketch_member.specs.Form.{IsForm, flag_of, form2, number_of};
 ghost use Rattle.sketch_member.specs.Table.{IsTable};
@@ -62,8 +62,9 @@ pub(crate) fn read(bytes: &[u8]) -> Result<(Filter, &[u8]), Fault>
     let longs = read_kind(bytes)?;
     let (log2_bits, hashes) = read_sizes(bytes)?;
     let (seed, count) = read_numbers(bytes, longs)?;
-    let (_, bits) = bytes.split_at(8 * usize::from(longs));
-    ensure_bits_count(byte_count(log2_bits), bits.len())?;
+    let start = 8 * usize::from(longs);
+    ensure_bits(bytes, start, byte_count(log2_bits))?;
+    let (_, bits) = bytes.split_at(start);
     let filter = Filter {
         seed,
         log2_bits,
@@ -174,12 +175,15 @@ fn are_reserved(longs: u8, flag: u8, second: u8, third: u8) -> bool
     (flag == 0 || (longs == LONGS_2 && flag == 1)) && second == 0 && third == 0
 }
 
-// Accepts exactly as many bytes of bits as are needed.
-pub(crate) fn ensure_bits_count(need: usize, have: usize) -> Result<(), Fault>
-    ensures { MatchResult result (λ _. have ≡ need)
-        (λ fault. ((have < need) × (fault ≡ Fault.MissingBits need have))
-        ⊎ ((need < have) × (fault ≡ Fault.TrailingBytes (have - need)))) }
+// Accepts exactly as many bytes behind `start` as the bits need.
+pub(crate) fn ensure_bits(bytes: &[u8], start: usize, need: usize) -> Result<(), Fault>
+    ensures { MatchResult result (λ _. length bytes.now ≡ start + need)
+        (λ fault. IsFirstFault (length bytes.now) (bits_steps bytes.now start need) fault) }
 {
+    if bytes.len() < start {
+        return Err(Fault::HeaderEnds);
+    }
+    let have = bytes.len() - start;
     if have < need {
         return Err(Fault::MissingBits { need, have });
     }

@@ -14,7 +14,7 @@ ghost use Rattle.sketch_member.specs.Table.{Inserts, IsTable, Table, byte_count,
 use crate::bits::clear;
 use crate::fault::{Fault, MergeFault};
 use crate::filter::{Filter, byte_count, ensure_log2_bits};
-use crate::format::{HEADER_BYTES, ensure_bits_count, read_version2};
+use crate::format::{HEADER_BYTES, ensure_bits, read_version2};
 use datasketches::hash::Hash;
 
 /// How many bytes a table of 2^`log2_bits` bits has: 24 more than its bits fill. None where
@@ -45,11 +45,7 @@ pub fn init(bytes: &mut [u8], seed: u64, log2_bits: u8, hashes: u8) -> Result<()
         × IsFirstFault (length bytes.old) (init_steps log2_bits hashes bytes.old) fault) }
 {
     let filter = Filter::new(seed, log2_bits, hashes)?;
-    let length = bytes.len();
-    if length < HEADER_BYTES {
-        return Err(Fault::HeaderEnds);
-    }
-    ensure_bits_count(byte_count(log2_bits), length - HEADER_BYTES)?;
+    ensure_bits(bytes, HEADER_BYTES, byte_count(log2_bits))?;
     let (head, bits) = bytes.split_at_mut(HEADER_BYTES);
     head.copy_from_slice(&filter.to_bytes());
     clear(bits);
