@@ -14,13 +14,11 @@ No task changes what it is given. So Dask may run a task again, as it does when 
 import argparse
 import os
 import sys
-import time
 
 import numpy
 from distributed import Client
 from sketch_hash import MemberTable, xxh64_each
 
-CORES = len(os.sched_getaffinity(0))
 BRANCHES = 4  # tables that one task merges
 LINE_FEED = 10
 
@@ -63,37 +61,14 @@ def by_workers(client, paths, sizes):
     return tables[0].result()
 
 
-def client_of(address, workers=CORES):
-    """Of a scheduler, or of `workers` processes on this machine."""
+def client_of(address):
+    """Of a scheduler, or of a process for each core of this machine."""
     if not address:
-        return Client(n_workers=workers, threads_per_worker=1, dashboard_address=None)
+        return Client(n_workers=len(os.sched_getaffinity(0)), threads_per_worker=1, dashboard_address=None)
     try:
         return Client(address, timeout=5)
     except (OSError, ValueError) as error:
         sys.exit(f"no scheduler at {address}: {error}")
-
-
-def timed(call, *words):
-    begin = time.perf_counter()
-    return call(*words), time.perf_counter() - begin
-
-
-def scale(paths, sizes):
-    """Prints times without the start: each process has read the first file before."""
-    by_one_process(paths[:1], sizes)
-    table, alone = timed(by_one_process, paths, sizes)
-    print(f"one process: {alone:.2f} s")
-    for workers in sorted({*(1 << bit for bit in range(CORES.bit_length())), CORES}):
-        with client_of(None, workers) as client:
-            client.run(by_one_process, paths[:1], sizes)
-            other, seconds = timed(by_workers, client, paths, sizes)
-        check(other, table)
-        print(f"workers {workers}: {seconds:.2f} s, {alone / seconds:.2f} times as fast")
-
-
-def check(table, other):
-    if table.to_bytes() != other.to_bytes():
-        sys.exit("the workers' table differs from one process's")
 
 
 def main():
@@ -102,29 +77,22 @@ def main():
     parser.add_argument("--out", required=True, help="where the table goes")
     parser.add_argument("--address", help="of a scheduler, whose workers see the same files")
     parser.add_argument("--check", action="store_true", help="compare with one process, byte for byte")
-    parser.add_argument("--scale", action="store_true", help="print time by number of workers")
     parser.add_argument("--log2-bits", type=int, default=20)
     parser.add_argument("--hashes", type=int, default=7)
     parser.add_argument("--seed", type=int, default=0)
     words = parser.parse_args()
     paths, sizes = list(map(os.path.abspath, words.files)), (words.log2_bits, words.hashes, words.seed)
-    for path in paths:
-        if not os.path.isfile(path):
-            parser.error(f"no such file: {path}")
-    if not any(map(os.path.getsize, paths)):
-        parser.error("the files have no keys")
-    if not os.path.isdir(os.path.dirname(os.path.abspath(words.out))):
-        parser.error(f"no folder for {words.out}")
     try:
         MemberTable(*sizes[:2], seed=sizes[2])
     except (OverflowError, ValueError) as error:
         parser.error(str(error))
-    if words.scale:
-        scale(paths, sizes)
+    for path in paths:
+        if not os.path.isfile(path):
+            parser.error(f"no such file: {path}")
     with client_of(words.address) as client:
         table = by_workers(client, paths, sizes)
-    if words.check:
-        check(table, by_one_process(paths, sizes))
+    if words.check and table != by_one_process(paths, sizes):
+        sys.exit("the workers' table differs from one process's")
     with open(words.out, "wb") as file:
         file.write(table.to_bytes())
     print(f"{table.count} inserts")

@@ -47,13 +47,10 @@ def test_what_is_merged_stays_as_it_is(tmp_path):
 
 
 def test_what_cannot_be_done_is_said(tmp_path, monkeypatch, capsys):
-    out, empty, fox = (str(tmp_path / name) for name in ("out", "empty", "fox"))
-    (tmp_path / "empty").write_text("")
+    out, fox = (str(tmp_path / name) for name in ("out", "fox"))
     (tmp_path / "fox").write_text("fox")
     for words, text in (
         ([out], "no such file"),
-        ([empty, empty], "the files have no keys"),
-        ([fox, "--out", str(tmp_path / "none" / "out")], "no folder for "),
         ([fox, "--hashes", "17"], "hashes is not 1 to 16"),
         ([fox, "--seed", "-1"], "a seed is from 0"),
         ([fox, "--address", "127.0.0.1:1"], "no scheduler at 127.0.0.1:1"),

@@ -1,6 +1,5 @@
 """Columns of keys beside python3-xxhash and a Murmur in Python, key by key, and offsets that lie."""
 import array
-import ctypes
 import itertools
 import random
 
@@ -37,11 +36,6 @@ def test_each_key(dtype):
         assert some.tolist() == expected(KEYS[begin:600], 0)
 
 
-def test_offsets_of_ctypes():
-    for kind in (ctypes.c_uint32, ctypes.c_uint64):
-        assert xxh64_each((DATA, (kind * len(OFFSETS))(*OFFSETS)), 9).tolist() == expected(KEYS, 9)
-
-
 @pytest.mark.parametrize("dtype", WIDTHS)
 def test_each_key_by_murmur(dtype):
     offsets = numpy.array(OFFSETS, dtype)
@@ -71,23 +65,6 @@ def test_texts_of_one_width():
     offsets = numpy.arange(0, 8 * len(texts) + 1, 8, dtype="u8")
     padded = [bytes(text).ljust(8, b"\0") for text in texts]
     assert xxh64_each((texts.tobytes(), offsets), 3).tolist() == expected(padded, 3)
-
-
-def test_columns_of_many_keys():
-    """More than 2**20, each of which is hashed and found."""
-    count = (1 << 20) + 5
-    data, numbers, places = bytes(count - 1) + b"-", numpy.arange(count, dtype="u8"), (0, 1 << 16, 1 << 20, count - 1)
-    table = MemberTable(20, 1)
-    table.insert(b"-")
-    for kind in ("u4", "u8"):
-        keys = data, numpy.arange(count + 1, dtype=kind)
-        ours, pairs = xxh64_each(keys), murmur3_x64_128_each(keys)
-        for at in places:
-            assert ours[at] == xxhash.xxh64_intdigest(data[at : at + 1])
-            assert pairs[2 * at] << 64 | pairs[2 * at + 1] == peers.murmur3_x64_128(data[at : at + 1], 0)
-        assert table.contains_each(keys).tolist() == [False] * (count - 1) + [True]
-    ours = xxh64_each(numbers)
-    assert [ours[at] for at in places] == expected([numbers[at].tobytes() for at in places], 0)
 
 
 def test_columns_of_no_keys():

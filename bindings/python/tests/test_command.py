@@ -53,17 +53,6 @@ def test_a_file_longer_than_a_read():
     feeder.stdout.close()
 
 
-def test_an_input_that_breaks_off():
-    """A fault after some bytes is a fault, and not the end: the terminal is gone."""
-    for words, text in (([], FOX), (["--check"], XXH64 + b"  fox\n")):
-        here, there = pty.openpty()
-        os.write(there, text)
-        os.close(there)
-        status, output, complaint = run(*words, stdin=here)
-        os.close(here)
-        assert (status, output) == (1, b"") and b"-: Input/output error\n" in complaint
-
-
 def test_lines_come_as_soon_as_a_file_is_read():
     os.mkfifo("late")
     for words in (["fox", "late"], ["--check", "list"]):
@@ -91,19 +80,6 @@ def test_an_output_that_is_full():
     with open("/dev/full", "wb") as full:
         done = subprocess.run(command, stdout=full, stderr=subprocess.PIPE)
     assert (done.returncode, done.stderr) == (1, b"sketch_hash: standard output: No space left on device\n")
-
-
-def test_an_interrupt_ends_it_without_a_word():
-    command = [sys.executable, "-m", "sketch_hash", "fox", "-"]
-    for start, status in ((signal.SIG_DFL, -signal.SIGINT), (signal.SIG_IGN, 0)):
-        with subprocess.Popen(
-            command, stdin=subprocess.PIPE, stdout=subprocess.PIPE, stderr=subprocess.PIPE,
-            preexec_fn=lambda: signal.signal(signal.SIGINT, start),
-        ) as process:
-            assert process.stdout.readline() == XXH64 + b"  fox\n"
-            process.send_signal(signal.SIGINT)
-            assert process.communicate()[1] == b""
-        assert process.returncode == status
 
 
 def test_streams_that_are_closed():
@@ -259,12 +235,6 @@ def test_check_tells_what_is_wrong():
     with open("list", "wb") as file:
         file.write(XXH64 + b"  -\n")
     assert run("-c", "list", input=FOX) == (0, b"-: OK\n", b"")
-
-
-def test_a_list_longer_than_a_read():
-    line = XXH64 + b"  fox\n"
-    count = (1 << 20) // len(line) + 1
-    assert run("--check", input=line * count) == (0, b"fox: OK\n" * count, b"")
 
 
 @pytest.mark.parametrize("words", [[], ["--tag"]])

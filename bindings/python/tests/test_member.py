@@ -81,16 +81,6 @@ def test_other_sizes_are_refused(number):
         MemberTable(10, number + 256 if number == 5 else number)
 
 
-def test_numbers_are_whole_and_seeds_have_64_bits():
-    for words in ((10.0, 3), (10, 3.0), ("10", 3), (10, None), (10, 3, 7.0)):
-        with pytest.raises(TypeError):
-            MemberTable(*words)
-    for seed in (-1, 2**64):
-        with pytest.raises(OverflowError, match="a seed is from 0 to"):
-            MemberTable(10, 3, seed=seed)
-    assert MemberTable(10, 3).to_bytes() == MemberTable(10, 3, seed=0).to_bytes()
-
-
 @pytest.mark.parametrize("name", TAKEN)
 def test_keys_and_bytes_that_are_taken(name):
     table = MemberTable(10, 3, seed=SEED)
@@ -208,22 +198,6 @@ def test_columns(dtype):
     assert table.to_bytes() == model(10, 3, KEYS)
 
 
-def test_each_key_of_a_column_is_contained_or_not():
-    table, whole = MemberTable(8, 3, seed=SEED), numpy.array(OFFSETS)
-    table.insert_each((COLUMN, whole[:31]))
-    expected = [key in table for key in KEYS]
-    assert all(expected[:30]) and 0 < expected.count(False)
-    for offsets in (whole, whole.astype("u4")):
-        found, others = [it.contains_each((COLUMN, offsets)) for it in (table, MemberTable(8, 3))]
-        assert found.tolist() == expected and numpy.asarray(found).dtype == bool
-        assert not any(others)
-    numbers = numpy.arange(1000, dtype="uint64")
-    table = MemberTable(8, 3, seed=SEED)
-    table.insert_each(numbers[::100].copy())
-    assert table.contains_each(numbers).tolist() == [number.tobytes() in table for number in numbers]
-    assert table.contains_each(numbers[:0]).tolist() == []
-
-
 def test_sizes_and_seed_are_told():
     for log2_bits, hashes, seed in ((6, 1, 0), (10, 3, SEED), (20, 16, 2**64 - 1)):
         table = MemberTable(log2_bits, hashes, seed=seed)
@@ -234,18 +208,6 @@ def test_sizes_and_seed_are_told():
     buffer[3] = 21
     with pytest.raises(ValueError, match="log2_bits is not 6 to 20"):
         view.log2_bits
-
-
-def test_equal_tables_are_equal():
-    assert filled() == filled() and filled() == MemberTable.view(bytearray(filled().to_bytes()))
-    other = filled()
-    other.insert(KEYS[0])
-    assert filled() != other and filled() != filled().to_bytes()
-    assert filled(keys=[b"fox"]) != filled(keys=[b"dog"])
-    assert MemberTable(10, 3, seed=SEED) != MemberTable(10, 3, seed=SEED + 1)
-    assert MemberTable(10, 3, seed=SEED) != MemberTable(10, 4, seed=SEED) != MemberTable(11, 4, seed=SEED)
-    with pytest.raises(TypeError, match="unhashable"):
-        hash(other)
 
 
 def test_columns_that_are_refused():
@@ -304,21 +266,6 @@ def test_merged_tables_contain_the_keys_of_both():
     assert one.to_bytes() == model(10, 3, KEYS, 4 * (2 * len(KEYS) - 20))
 
 
-def test_two_tables_make_a_third():
-    one, two = filled(keys=KEYS[:20]), filled(keys=KEYS[20:])
-    both = MemberTable.view(bytearray(one.to_bytes())) | two
-    assert both.to_bytes() == filled().to_bytes()
-    assert one.to_bytes() == filled(keys=KEYS[:20]).to_bytes()
-    assert two.to_bytes() == filled(keys=KEYS[20:]).to_bytes()
-    twice = one | one
-    assert twice is not one and twice.to_bytes() == model(10, 3, KEYS[:20], 40)
-    assert one.to_bytes() == filled(keys=KEYS[:20]).to_bytes()
-    both.insert(b"another")
-    assert (one | two).to_bytes() == filled().to_bytes()
-    with pytest.raises(ValueError, match="^the tables have different seeds$"):
-        one | MemberTable(10, 3, seed=SEED + 1)
-
-
 def test_unlike_tables_stay_as_they_were():
     table = filled()
     for words, text in (
@@ -338,18 +285,6 @@ def test_unlike_tables_stay_as_they_were():
     with pytest.raises(TypeError, match="^a table is merged with a table, and not with bytes$"):
         table.merge(b"fox")
     assert table.to_bytes() == filled().to_bytes()
-
-
-def test_a_class_of_ones_own_is_a_table():
-    class Named(MemberTable):
-        pass
-
-    named, table = Named.from_bytes(filled().to_bytes()), filled()
-    assert type(named) is type(named.copy()) is type(named | table) is Named
-    assert named == table and table == named
-    named.merge(table)
-    table.merge(Named.from_bytes(filled().to_bytes()))
-    assert named == table and table.to_bytes() == model(10, 3, KEYS, 2 * len(KEYS))
 
 
 def test_counts_may_be_unknown_and_end_at_the_greatest():
@@ -499,22 +434,6 @@ def test_threads_that_share_a_table():
 def test_each_call_waits_for_a_long_one(call):
     table = filled()
     assert waits(lambda: table.insert(ZEROS), lambda: call(table))
-
-
-def test_tables_that_are_merged_into_each_other():
-    """No thread waits for ever."""
-    one, two = filled(keys=[b"one"]), filled(keys=[b"two"])
-    pairs = [(one, two), (two, one)] * 2
-    workers = [
-        threading.Thread(target=lambda a, b: [a.merge(b) for _ in range(500)], args=pair, daemon=True)
-        for pair in pairs
-    ]
-    for worker in workers:
-        worker.start()
-    for worker in workers:
-        worker.join(60)
-        assert not worker.is_alive()
-    assert b"two" in one and b"one" in two
 
 
 def test_offsets_that_change_during_a_call():

@@ -67,30 +67,6 @@ def test_pickles_of_1_1_0_are_read(kind):
     assert read.digest() == hasher.digest() and read.seed == 7
 
 
-def test_threads_with_inputs_of_their_own():
-    """Long enough for each call to give up Python's lock."""
-    table, wrong, inputs = MemberTable(10, 3), [], [bytes([n]) * 70_000 for n in range(4)]
-    table.insert(inputs[0])
-    calls = [
-        *ONE_CALL,
-        *(lambda data, kind=kind: kind(data).digest() for kind in KINDS),
-        table.__contains__,
-        *(lambda data, each=each: each((data, ends)).tolist() for each in (xxh64_each, murmur3_x64_128_each)),
-    ]
-    ends = array.array("Q", [0, 70_000])
-
-    def work(data, answers):
-        for call, answer in zip(calls, answers):
-            wrong.extend(n for n in range(300) if call(data) != answer)
-
-    workers = [threading.Thread(target=work, args=(data, [call(data) for call in calls])) for data in inputs]
-    for worker in workers:
-        worker.start()
-    for worker in workers:
-        worker.join()
-    assert wrong == []
-
-
 @pytest.mark.parametrize("kind", KINDS)
 def test_threads_that_share_an_object(kind):
     """Each appends whole periods of 256 bytes, so every order of the updates gives one hash."""

@@ -6,9 +6,7 @@ use sketch_hash::{
     murmur3_x64_128, murmur3_x64_128_bytes, xxh64, xxh64_u64, BuildMurmur3X64_128, BuildXxh64,
 };
 use sketch_hash::{murmur3_x64_128_each, xxh64_each, MemberTable, Murmur3X64_128, Xxh64};
-use sketch_hash::{ColumnError, TableError};
 use std::collections::HashMap;
-use std::fmt::Debug;
 use std::hash::{BuildHasher, Hash, Hasher};
 
 const FOX: &[u8] = b"The quick brown fox jumps over the lazy dog";
@@ -72,23 +70,6 @@ fn every_cut_has_the_hash_of_the_whole() {
     }
 }
 
-#[test]
-fn long_pieces_have_the_hash_of_the_whole() {
-    let bytes = Noise(3).bytes(300_000);
-    for (begin, end) in [(0, 300_000), (1, 65_537), (5, 131_077), (7, 200_000)] {
-        let (mut x, mut m) = (Xxh64::new(9), Murmur3X64_128::new(9));
-        for piece in [&bytes[..begin], &bytes[begin..end]] {
-            x.update(piece);
-            m.update(piece);
-        }
-        let so_far = &bytes[..end];
-        assert_eq!(x.digest(), plain::xxh64(so_far, 9));
-        assert_eq!(m.digest(), plain::murmur3_x64_128(so_far, 9));
-        assert_eq!(xxh64(so_far, 9), plain::xxh64(so_far, 9));
-        assert_eq!(murmur3_x64_128(so_far, 9), plain::murmur3_x64_128(so_far, 9));
-    }
-}
-
 /// A stream that grows by a byte, one update, a checkpoint and one call agree at each length.
 #[test]
 fn each_length_has_one_hash() {
@@ -130,24 +111,6 @@ fn numbers_are_their_bytes() {
         assert_eq!(hasher.digest(), plain::murmur3_x64_128(&value.to_le_bytes(), seed));
         assert_eq!(hasher.finish(), hasher.digest().0);
     }
-}
-
-#[test]
-fn a_number_and_more_are_all_their_bytes() {
-    let mut hasher = Xxh64::new(9001);
-    assert_eq!(hasher.digest(), xxh64(&[], 9001));
-    hasher.write_u64(1);
-    assert_eq!(hasher.digest(), xxh64(&1_u64.to_le_bytes(), 9001));
-    assert_eq!(Xxh64::from_bytes(&hasher.to_bytes()).digest(), hasher.digest());
-    let mut other = hasher.clone();
-    hasher.write_i64(-1);
-    hasher.write_u16(0x0302);
-    let mut bytes = vec![1, 0, 0, 0, 0, 0, 0, 0];
-    bytes.extend([0xff; 8]);
-    bytes.extend([2, 3]);
-    assert_eq!(hasher.finish(), xxh64(&bytes, 9001));
-    other.update(b"fox");
-    assert_eq!(other.digest(), xxh64(b"\x01\0\0\0\0\0\0\0fox", 9001));
 }
 
 /// Each write of a number feeds its bytes, the lowest first.
@@ -211,98 +174,6 @@ fn each_number_feeds_its_bytes() {
         assert_eq!(x.digest(), xxh64(&word.to_le_bytes()[..width], 7));
         assert_eq!(m.digest(), murmur3_x64_128(&word.to_le_bytes()[..width], 7));
     }
-}
-
-/// A map's hashers may be made where a constant is wanted, begin with seed 0, and compare by all of
-/// their seeds.
-#[test]
-fn what_makes_hashers() {
-    const X: BuildXxh64 = BuildXxh64::new(1 << 32);
-    const M: BuildMurmur3X64_128 = BuildMurmur3X64_128::new(1 << 32);
-    const STREAM: Xxh64 = Xxh64::new(1 << 32);
-    assert_eq!(STREAM.digest(), X.build_hasher().digest());
-    assert_eq!((X, M), (BuildXxh64::new(1 << 32), BuildMurmur3X64_128::new(1 << 32)));
-    assert_eq!(format!("{X:?}"), "BuildXxh64 { seed: 4294967296 }");
-    assert_eq!(format!("{M:?}"), "BuildMurmur3X64_128 { seed: 4294967296 }");
-    assert_ne!(X, BuildXxh64::default());
-    assert_ne!(M, BuildMurmur3X64_128::default());
-    assert_eq!(BuildXxh64::default().hash_one(5_u64), xxh64_u64(5, 0));
-    assert_eq!(BuildMurmur3X64_128::default().build_hasher().digest(), murmur3_x64_128(&[], 0));
-}
-
-/// A hasher that starts again has its new seed, and XXH64's prints it.
-#[test]
-fn a_long_stream_starts_again() {
-    for length in [0, 32, 33, 1000] {
-        let (mut x, mut m) = (Xxh64::new(7), Murmur3X64_128::new(7));
-        x.update(&vec![1; length]);
-        m.update(&vec![1; length]);
-        assert_eq!(format!("{x:?}"), format!("Xxh64 {{ seed: 7, length: {length} }}"));
-        assert_eq!(format!("{m:?}"), format!("Murmur3X64_128 {{ length: {length}, .. }}"));
-        x.reset(8);
-        m.reset(8);
-        assert_eq!(format!("{x:?}"), "Xxh64 { seed: 8, length: 0 }");
-        assert_eq!(format!("{m:?}"), "Murmur3X64_128 { length: 0, .. }");
-        x.update(b"fox");
-        m.update(b"fox");
-        assert_eq!((x.digest(), m.digest()), (xxh64(b"fox", 8), murmur3_x64_128(b"fox", 8)));
-    }
-}
-
-/// What a program may ask of the types: errors are keys of sets, and all go to other threads.
-#[test]
-fn traits_of_the_types() {
-    fn copied<T: Copy + Eq + Debug + Send + Sync>() {}
-    fn errors<T: Copy + Eq + Hash + Debug + Send + Sync>() {}
-    fn kept<T: Clone + Debug + Send + Sync>() {}
-    fn compared<T: Eq>() {}
-    copied::<BuildXxh64>();
-    copied::<BuildMurmur3X64_128>();
-    errors::<ColumnError>();
-    errors::<TableError>();
-    kept::<Xxh64>();
-    kept::<Murmur3X64_128>();
-    kept::<MemberTable>();
-    compared::<MemberTable>();
-    assert_eq!(TableError::HeaderEnds as i32, -1);
-    assert_eq!(TableError::OtherHashes as i32, -14);
-}
-
-#[test]
-fn copies_go_their_own_ways() {
-    let (mut x, mut m) = (Xxh64::default(), Murmur3X64_128::default());
-    x.update(&FOX[..40]);
-    m.update(&FOX[..40]);
-    let (mut x2, mut m2) = (x.clone(), m.clone());
-    x.update(b"!");
-    m.update(b"!");
-    x2.update(&FOX[40..]);
-    m2.update(&FOX[40..]);
-    assert_eq!(x2.digest(), xxh64(FOX, 0));
-    assert_eq!(m2.digest(), murmur3_x64_128(FOX, 0));
-    assert_eq!(format!("{x2:?}"), "Xxh64 { seed: 0, length: 43 }");
-    assert_eq!(format!("{m2:?}"), "Murmur3X64_128 { length: 43, .. }");
-    let mut few = Xxh64::new(5);
-    few.update(b"fox");
-    assert_eq!(format!("{few:?}"), "Xxh64 { seed: 5, length: 3 }");
-    // Also into a hasher that has bytes of its own.
-    for (from, into) in (0..70 * 70).map(|pair| (pair / 70, pair % 70)) {
-        let (mut x, mut m) = (Xxh64::new(5), Murmur3X64_128::new(5));
-        x.update(&vec![1; from]);
-        m.update(&vec![1; from]);
-        let (mut x2, mut m2) = (Xxh64::new(6), Murmur3X64_128::new(6));
-        x2.update(&vec![2; into]);
-        m2.update(&vec![2; into]);
-        x2.clone_from(&x);
-        m2.clone_from(&m);
-        assert_eq!((format!("{x2:?}"), format!("{m2:?}")), (format!("{x:?}"), format!("{m:?}")));
-        x2.update(FOX);
-        m2.update(FOX);
-        let whole = [&vec![1; from], FOX].concat();
-        assert_eq!((x2.digest(), m2.digest()), (xxh64(&whole, 5), murmur3_x64_128(&whole, 5)));
-    }
-    let again = Xxh64::from_bytes(&few.to_bytes());
-    assert_eq!(format!("{again:?}"), "Xxh64 { seed: 5, length: 3 }");
 }
 
 /// Whatever was written before, and under whichever seed.

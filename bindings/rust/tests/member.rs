@@ -55,22 +55,6 @@ fn tables_of_all_sizes_have_the_bytes_of_the_model() {
 }
 
 #[test]
-fn keys_of_each_length() {
-    let bytes: Vec<u8> =
-        (0..70_000_u32).map(|n| (n.wrapping_mul(2654435761) >> 24) as u8).collect();
-    let mut table = MemberTable::new(SEED, 20, 1).unwrap();
-    let mut bits = vec![0; 1 << 17];
-    for length in 0..=bytes.len() {
-        let key = &bytes[..length];
-        table.insert(key);
-        assert!(table.contains(key));
-        let i = sketch_hash::xxh64(key, SEED) as usize % (1 << 20);
-        bits[i / 8] |= 1 << (i % 8);
-    }
-    assert_eq!((table.count(), &table.as_bytes()[24..]), (Some(70_001), &bits[..]));
-}
-
-#[test]
 fn other_sizes_are_refused() {
     // Also those of which the lowest bits are a size.
     let beyond = |size: u32| (8..32).map(move |power| (1 << power) + size);
@@ -80,39 +64,6 @@ fn other_sizes_are_refused() {
     for hashes in [0, 17, 255, u32::MAX].into_iter().chain(beyond(7)) {
         assert_eq!(MemberTable::new(0, 10, hashes), Err(TableError::Hashes));
     }
-}
-
-/// Also where a part of their length is that of a table.
-#[test]
-fn bytes_that_are_far_too_long_are_refused() {
-    let table = filled(6, 3, 0..1).into_bytes();
-    for power in [8, 16, 24, 32] {
-        let mut bytes = vec![0; table.len() + (1 << power)];
-        bytes[..table.len()].copy_from_slice(&table);
-        assert_eq!(MemberTable::from_bytes(&bytes), Err(TableError::TrailingBytes));
-    }
-}
-
-#[test]
-fn what_was_inserted_is_contained() {
-    let table = filled(17, 7, 0..10_000);
-    assert!((0..10_000).all(|n| table.contains(&key(n))));
-    assert_eq!(table.count(), Some(10_000));
-    let empty = filled(17, 7, 0..0);
-    assert!(!(0..200).any(|length| empty.contains(&vec![7; length])));
-    let wrong = (10_000..20_000).filter(|n| table.contains(&key(*n))).count();
-    assert!(wrong < 100, "{wrong} false answers");
-}
-
-#[test]
-fn every_order_gives_the_same_bits() {
-    let forth = filled(12, 5, 0..100);
-    assert_eq!(filled(12, 5, (0..100).rev()), forth);
-    let twice = filled(12, 5, (0..100).chain(0..100));
-    assert_eq!(twice.count(), Some(200));
-    assert_ne!(twice, forth);
-    assert_eq!(twice.as_bytes()[..16], forth.as_bytes()[..16]);
-    assert_eq!(twice.as_bytes()[24..], forth.as_bytes()[24..]);
 }
 
 #[test]

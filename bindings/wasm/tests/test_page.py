@@ -110,14 +110,6 @@ def test_the_fox(page, files):
     assert bar.get_property("value") == bar.get_property("max")
 
 
-def test_one_file_twice(page, files):
-    paths = files(fox=FOX)
-    for count in (1, 2):
-        page.choose(*paths)
-        rows = page.chromium.find_elements(By.CSS_SELECTOR, 'tr[data-name="fox"]')
-        page.wait(lambda: ["done" in row.text for row in rows] == [True] * count)
-
-
 def test_an_empty_file(page, files):
     page.choose(*files(empty=b""))
     page.wait_for("empty", "done")
@@ -170,27 +162,6 @@ def test_a_file_past_4_gibibytes(chromium, tmp_path):
     WebDriverWait(chromium, 10 * PATIENCE, 0.02).until(lambda _: is_done())
     assert {f"{n} %" for n in range(10, 100)} & {*said}
     assert page.hashes("large") == ("e7c41fccd784e763", "7e72d1a8272e0f4407c583ed175539bf")
-
-
-def test_forty_files_at_once(page, files):
-    noise = random.Random(2)
-    contents = {f"file{n}": noise.randbytes(noise.randrange(3 << 20)) for n in range(40)}
-    page.choose(*files(**contents))
-    for name, data in contents.items():
-        page.wait_for(name, "done")
-        assert page.hashes(name) == hashes(data)
-    page.set_seed("7")
-    for name, data in contents.items():
-        page.wait(lambda: page.hashes(name) == hashes(data, 7))
-
-
-def test_three_hundred_files(page, files):
-    """Each has hashes of its own."""
-    contents = {f"file{n}": b"%d" % n for n in range(300)}
-    page.choose(*files(**contents))
-    script = "return [...document.querySelectorAll('tbody tr')].map((it) => [it.dataset.name, it.querySelector('.xxh64').textContent])"
-    page.wait(lambda: all(hash for _, hash in page.chromium.execute_script(script)))
-    assert dict(page.chromium.execute_script(script)) == {name: hashes(data)[0] for name, data in contents.items()}
 
 
 def test_seeds(page, files):
@@ -284,20 +255,6 @@ def test_files_that_are_dropped(page):
     assert page.hashes("empty") == hashes(b"")
     names = page.chromium.find_elements(By.CSS_SELECTOR, "tbody .name")
     assert [it.text for it in names] == ["first", "second", "empty"]
-
-
-def test_text_that_is_dropped_goes_into_its_field(page):
-    script = """
-        const dropped = new DataTransfer();
-        dropped.setData('text/uri-list', 'https://localhost/');
-        return ['dragover', 'drop'].map((type) => document.querySelector(arguments[0]).dispatchEvent(
-            new DragEvent(type, { dataTransfer: dropped, bubbles: true, cancelable: true })));
-    """
-    assert page.chromium.execute_script(script, "#text") == [True, True]
-    # Elsewhere a link would be followed, and the page be gone.
-    for place in ("body", "#drop"):
-        assert page.chromium.execute_script(script, place) == [False, False]
-    assert "over" not in page.one("#drop").get_attribute("class").split()
 
 
 def test_an_empty_file_that_vanishes(page, files):
@@ -498,20 +455,6 @@ def test_what_a_screen_reader_is_told(page, files):
     page.choose(*files(fox=FOX))
     assert page.row("fox").find_element(By.CSS_SELECTOR, ".name").aria_role == "rowheader"
     assert [it.get_attribute("scope") for it in page.chromium.find_elements(By.CSS_SELECTOR, "thead th")] == ["col"] * 6
-
-
-def test_hashes_stand_under_their_names(page, files):
-    page.choose(*files(fox=FOX))
-
-    def all_of(selector, what="textContent"):
-        return [it.get_property(what) for it in page.chromium.find_elements(By.CSS_SELECTOR, selector)]
-
-    assert all_of("thead th") == ["File", "Size", "XXH64", "MurmurHash3 x64 128", "State", ""]
-    assert all_of("tr[data-name] > *", "className") == ["name", "size", "xxh64 hash", "murmur3 hash", "status", ""]
-    label = "return [...document.querySelectorAll('tr[data-name] td')].map((it) => it.dataset.label || '')"
-    assert page.chromium.execute_script(label) == ["Size:", "XXH64:", "MurmurHash3:", "", ""]
-    assert all_of("dl > *", "id") == ["", "text-xxh64", "", "text-murmur3"]
-    assert all_of("dt") == ["XXH64 of the text", "MurmurHash3 x64 128"]
 
 
 def test_the_contract_of_each_call_is_shown(page):
