@@ -5,7 +5,6 @@ pub mod Murmur
 pub mod Xxh64
 pub mod Waits
 pub mod Lanes
-pub mod ScalarLanes
 pub mod Columns
 pub mod Held
 pub mod Values

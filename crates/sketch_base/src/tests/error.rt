@@ -32,6 +32,7 @@ fn kinds_print_their_names_at_any_width(rt: HostRuntime) -> Result<(), AllocErro
     }
     let bare = Error::new(OutOfMemory, String::new(rt.alloc()));
     assert_text(&rt, format!(in rt.alloc(); "{bare:20}"), "OutOfMemory");
+    assert_line(&rt, bare, "OutOfMemory");
     Ok(())
 }
 
@@ -39,7 +40,6 @@ fn kinds_print_their_names_at_any_width(rt: HostRuntime) -> Result<(), AllocErro
 fn errors_show_their_contexts_line_by_line(rt: HostRuntime) -> Result<(), AllocError> {
     let alloc = rt.alloc();
     let error = error_of(alloc, InvalidData, "m")?;
-    assert!(rt; error.kind() == InvalidData && error.message() == "m");
     assert_text(&rt, format!(in alloc; "{error:?}"), "InvalidData => m\n");
     let fields = "Error {\n    kind: InvalidData,\n    message: \"m\",\n    context: [],\n}";
     assert_text(&rt, format!(in alloc; "{error:#?}"), fields);
@@ -55,6 +55,8 @@ fn errors_show_their_contexts_line_by_line(rt: HostRuntime) -> Result<(), AllocE
 fn messages_handed_in(rt: HostRuntime) -> Result<(), AllocError> {
     let wrong = error_of(rt.alloc(), InvalidArgument, "something went wrong")?;
     assert_line(&rt, wrong, "InvalidArgument => something went wrong");
+    let bad = error_of(rt.alloc(), InvalidArgument, "bad input")?;
+    assert!(rt; bad.kind() == InvalidArgument && bad.message() == "bad input");
     let bad = Error::invalid_argument(String::from_str(rt.alloc(), "bad input")?);
     assert_line(&rt, bad, "InvalidArgument => bad input");
     let bad = Error::deserial(String::from_str(rt.alloc(), "bad input")?);

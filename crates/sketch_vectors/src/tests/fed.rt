@@ -66,7 +66,7 @@ fn long_numbers_byte_by_byte(rt: HostRuntime) {
 }
 
 #[test]
-fn unsigned_numbers_extended_by_their_value(rt: HostRuntime) {
+fn unsigned_numbers_extended_by_value_and_by_highest_bit(rt: HostRuntime) {
     assert_words(
         &rt,
         &[
@@ -76,15 +76,6 @@ fn unsigned_numbers_extended_by_their_value(rt: HostRuntime) {
             (feed(natural::from_u16(65535)), 65535),
             (feed(natural::from_u32(2147483648)), 2147483648),
             (feed(natural::from_u32(4294967295)), 4294967295),
-        ],
-    );
-}
-
-#[test]
-fn unsigned_numbers_extended_by_their_highest_bit(rt: HostRuntime) {
-    assert_words(
-        &rt,
-        &[
             (feed(sign::from_u8(127)), 127),
             (feed(sign::from_u8(128)), -128),
             (feed(sign::from_u16(32767)), 32767),

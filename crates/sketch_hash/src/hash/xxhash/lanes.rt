@@ -2,8 +2,7 @@
 
 ghost use Rattle.std.specs.Prelude.{◌≡◌};
 ghost use Rattle.sketch_hash.specs.Xxh64.{Lanes, lanes_start, round, merge_round, merge, stripe_step, each_lane};
-ghost use Rattle.sketch_hash.specs.ScalarLanes.{lanes_of_scalars};
-ghost use Rattle.sketch_hash.specs.Lanes.{lanes_of, stripe_words};
+ghost use Rattle.sketch_hash.specs.Lanes.{lanes_of, lanes_of_scalars, stripe_words};
 
 use super::primes::{PRIME1, PRIME2, PRIME4};
 use crate::hash::words::{read_u64_le, rotate};
