@@ -38,10 +38,10 @@ impl XxHash64 {
     /// The 64-bit hash of each key of a column under a seed, each at its place of `out`.
     ///
     /// The column has as many keys as `out` has places, and one offset more; further ones are not
-    /// read. A column of no keys may have no offsets. The key at a place is the bytes of `bytes` from the offset there, which may be above 0
-    /// at the first, up to the next offset, as Apache Arrow lays strings out. Arrow's
-    /// offsets are signed: a negative one, read as unsigned, is at least 2^31 or 2^63, so past the
-    /// end of all shorter columns.
+    /// read. A column of no keys may have no offsets. The key at a place is the bytes of `bytes`
+    /// from the offset there, which may be above 0 at the first, up to the next offset, as Apache
+    /// Arrow lays strings out. Arrow's offsets are signed: a negative one, read as unsigned, is at
+    /// least 2^31 or 2^63, so past the end of all shorter columns.
     ///
     /// # Errors
     ///
