@@ -12,6 +12,7 @@ mod filter;
 mod format;
 pub mod in_place;
 pub mod laws;
+mod sizing;
 mod table;
 #[cfg(test)]
 mod tests;

@@ -1,0 +1,5 @@
+use Rattle.std.proofs.Common.{ℕ}
+use Rattle.sketch_member.proofs.sizing.+raised.Given as goal
+
+abbrev pub decreases-raised : goal.decreases-raised
+decreases-raised l = l.times
