@@ -20,5 +20,6 @@ mod view;
 
 pub use self::fault::{Difference, Fault, MergeFault};
 pub use self::format::MEMBER;
+pub use self::sizing::sizes_for;
 pub use self::table::MemberTable;
 pub use self::view::TableView;

@@ -77,7 +77,8 @@ fn is_below(log2_bits: u8, hashes: u8, keys: u64, one_in: u64) -> bool
 }
 
 /// `log2_bits` and `hashes` of the smallest table that reports at most one in `one_in` of other
-/// keys as inserted, once it has so many different keys. `None` if there is none.
+/// keys as inserted, once it has so many different keys. `None` if no table of 2^20 bits does, or
+/// `one_in` is above 2^31.
 ///
 /// The rate is that of the usual formula, (1 - (1 - 1 / bits)^(hashes * keys))^hashes, which takes
 /// the indexes as random. That it is not exceeded is proved; that no smaller table would do is

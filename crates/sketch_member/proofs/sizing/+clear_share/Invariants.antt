@@ -1,4 +1,3 @@
-use Rattle.std.proofs.Common.{ℕ}
 use Rattle.sketch_member.proofs.sizing.+clear_share.Given as goal
 
 abbrev pub decreases-clear_share : goal.decreases-clear_share

@@ -1,4 +1,3 @@
-use Rattle.std.proofs.Common.{ℕ}
 use Rattle.sketch_member.proofs.sizing.+raised.Given as goal
 
 abbrev pub decreases-raised : goal.decreases-raised
