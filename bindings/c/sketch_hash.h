@@ -134,7 +134,7 @@ size_t sketch_xxh64_each_u64(const uint64_t *values, size_t value_count, uint64_
  * for each key, and 1 in 1000 where it has 15.
  *
  * A table is its bytes, which any machine reads and writes alike. They lie where the caller wants,
- * as in a file that is mapped. Each call but sketch_member_size and sketch_member_init checks the
+ * as in a file that is mapped. Each call but sketch_member_size, _init and _for_keys checks the
  * header, 24 bytes, and makes no pass over the bits to do so. A call that fails changes nothing. */
 
 /* What a call returns: the first fault in this order, or -1 where the header ends before it. */
@@ -160,6 +160,11 @@ enum sketch_member_status {
 
 /* How many bytes a table of 2^log2_bits bits has: 24 + 2^log2_bits / 8; 0 outside of 6 to 20. */
 size_t sketch_member_size(unsigned log2_bits);
+
+/* Writes the sizes of the smallest table that reports at most one in `one_in` of other keys, once it has
+ * so many, and returns 0. Returns 1, and writes nothing, where no table does (the largest has 2^20 bits:
+ * 109,000 keys at 1 in 100), or `one_in` is above 2^31. */
+int sketch_member_for_keys(uint64_t keys, uint64_t one_in, unsigned *log2_bits, unsigned *hashes);
 
 /* Makes bytes a table without keys. It refuses, in this order: log2_bits outside of 6 to 20, hashes
  * outside of 1 to 16, and a length other than that of sketch_member_size (HEADER_ENDS below 24, else

@@ -1,5 +1,6 @@
 """The Bloom filter beside a model over python3-xxhash, and bytes with damage."""
 import array
+import decimal
 import itertools
 import mmap
 import struct
@@ -33,6 +34,44 @@ def model(log2_bits, hashes, keys, count=None, is_known=1):
             bits[i // 8] |= 1 << i % 8
     count = len(keys) if count is None else count
     return struct.pack("<8B2Q", 3, 2, 200, log2_bits, hashes, is_known, 0, 0, SEED, count) + bits
+
+
+def smallest(keys, one_in):
+    """The sizes by the usual formula, in 60 digits."""
+    with decimal.localcontext() as context:
+        context.prec = 60
+        for log2_bits, hashes in itertools.product(range(6, 21), range(1, 17)):
+            clear = (1 - decimal.Decimal(1) / 2**log2_bits) ** (hashes * keys)
+            if one_in * (1 - clear) ** hashes <= 1:
+                return log2_bits, hashes
+
+
+@pytest.mark.parametrize("one_in", [0, 1, 2, 10, 100, 1000, 10**6])
+def test_for_keys_has_the_smallest_table_below_the_rate(one_in):
+    for keys in [0, 1, 10, 97, 1000, 31_623, 109_000, 110_000, 10**6]:
+        sizes = smallest(keys, one_in)
+        if sizes is None:
+            with pytest.raises(ValueError, match=f"keeps {keys} keys below one in {one_in}$"):
+                MemberTable.for_keys(keys, one_in)
+        else:
+            table = MemberTable.for_keys(keys, one_in, seed=SEED)
+            assert (table.log2_bits, table.hashes, table.seed) == (*sizes, SEED)
+
+
+def test_a_table_for_keys_has_about_that_rate():
+    table = MemberTable.for_keys(1000, 100)
+    table.update(b"%d" % n for n in range(1000))
+    assert sum(b"%d" % n in table for n in range(1000, 101_000)) < 1_100
+
+
+def test_for_keys_refuses_numbers_of_other_kinds():
+    for wrong in [-1, 2**64]:
+        with pytest.raises(OverflowError):
+            MemberTable.for_keys(wrong, 100)
+    with pytest.raises(TypeError):
+        MemberTable.for_keys(100, 0.01)
+    with pytest.raises(ValueError):
+        MemberTable.for_keys(1, 2**31 + 1)
 
 
 @pytest.mark.parametrize("log2_bits", range(6, 21))

@@ -101,6 +101,12 @@ unsafe extern "C" {
     ) -> usize;
 
     pub safe fn sketch_member_size(log2_bits: c_uint) -> usize;
+    pub safe fn sketch_member_for_keys(
+        keys: u64,
+        one_in: u64,
+        log2_bits: &mut c_uint,
+        hashes: &mut c_uint,
+    ) -> c_int;
     pub fn sketch_member_init(
         bytes: *mut u8,
         length: usize,

@@ -1,8 +1,8 @@
 //! A Bloom filter.
 
 use crate::calls::{
-    sketch_member_check, sketch_member_contains, sketch_member_count, sketch_member_init,
-    sketch_member_insert, sketch_member_merge, sketch_member_size,
+    sketch_member_check, sketch_member_contains, sketch_member_count, sketch_member_for_keys,
+    sketch_member_init, sketch_member_insert, sketch_member_merge, sketch_member_size,
 };
 use crate::columns::{place_of_fault, ColumnError, Offset};
 use crate::word;
@@ -72,6 +72,23 @@ impl MemberTable {
             sketch_member_init(bytes.as_mut_ptr(), bytes.len(), seed, log2_bits, hashes)
         })?;
         Ok(MemberTable { bytes })
+    }
+
+    /// The smallest table without keys that will report at most one in `one_in` of other keys, once it
+    /// has so many. `None` if no table of 2^20 bits does, or `one_in` is above 2^31.
+    ///
+    /// ```
+    /// use sketch_hash::MemberTable;
+    /// let table = MemberTable::for_keys(7, 1000, 100).unwrap();
+    /// assert_eq!((table.log2_bits(), table.hashes()), (14, 3));
+    /// assert!(MemberTable::for_keys(7, 110_000, 100).is_none());
+    /// ```
+    pub fn for_keys(seed: u64, keys: u64, one_in: u64) -> Option<Self> {
+        let (mut log2_bits, mut hashes) = (0, 0);
+        match sketch_member_for_keys(keys, one_in, &mut log2_bits, &mut hashes) {
+            0 => Self::new(seed, log2_bits, hashes).ok(),
+            _ => None,
+        }
     }
 
     /// The table of bytes that [`as_bytes`](Self::as_bytes), another language or another machine

@@ -18,8 +18,8 @@ pub use self::columns::{
     sketch_xxh64_each32, sketch_xxh64_each64,
 };
 pub use self::member::{
-    sketch_member_check, sketch_member_contains, sketch_member_count, sketch_member_init,
-    sketch_member_insert, sketch_member_merge, sketch_member_size,
+    sketch_member_check, sketch_member_contains, sketch_member_count, sketch_member_for_keys,
+    sketch_member_init, sketch_member_insert, sketch_member_merge, sketch_member_size,
 };
 pub use self::murmur::{
     Murmur128, sketch_murmur3_x64_128, sketch_murmur3_x64_128_digest, sketch_murmur3_x64_128_reset,

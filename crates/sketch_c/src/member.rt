@@ -4,17 +4,18 @@
 //! the negative status of the first fault, and then leaves everything as it was. It checks the
 //! header of each table that it is given.
 
-ghost use Rattle.std.specs.Prelude.{◌≡◌, ◌⊎◌, ◌+◌, pos, length, min, Some, None};
+ghost use Rattle.std.specs.Prelude.{◌≡◌, ◌⊎◌, ◌+◌, ◌^◌, pos, length, min, Some, None};
 ghost use Rattle.sketch_c.specs.Status.{IsTableIn, Refused, merge_status, status};
 ghost use Rattle.sketch_member.specs.Faults.{IsFirstFault, init_steps};
 ghost use Rattle.sketch_member.specs.Form.{form2};
 ghost use Rattle.sketch_member.specs.InPlace.{TableChanges, IsMergeFault};
 ghost use Rattle.sketch_member.specs.Limits.{IsHashes, IsLog2Bits};
 ghost use Rattle.sketch_member.specs.Merge.{Merges};
+ghost use Rattle.sketch_member.specs.Sizing.{StaysBelow};
 ghost use Rattle.sketch_member.specs.Table.{Inserts, IsMember, Table, byte_count, empty_table};
 
 use datasketches::hash::value::raw_bytes;
-use sketch_member::{Difference, Fault, MergeFault, TableView, in_place};
+use sketch_member::{Difference, Fault, MergeFault, TableView, in_place, sizes_for};
 
 /// How many bytes a table of 2^`log2_bits` bits has: 24 more than its bits fill. 0 where
 /// `log2_bits` is not 6 to 20.
@@ -24,6 +25,29 @@ pub extern "C" fn sketch_member_size(log2_bits: u32) -> usize
         ⊎ ((IsLog2Bits log2_bits → ⊥) × (result ≡ 0)) }
 {
     in_place::size(narrow(log2_bits)).unwrap_or(0)
+}
+
+/// Writes the sizes of a table that reports at most one in `one_in` of other keys as inserted, once
+/// it has so many different keys, and is 0; or is 1 where `sizes_for` knows none, and writes nothing.
+#[unsafe(no_mangle)]
+pub extern "C" fn sketch_member_for_keys(
+    keys: u64,
+    one_in: u64,
+    log2_bits: &mut u32,
+    hashes: &mut u32,
+) -> i32
+    ensures { ((result ≡ pos 0) × IsLog2Bits log2_bits.new × IsHashes hashes.new
+        × StaysBelow (2 ^ log2_bits.new) hashes.new keys one_in)
+        ⊎ ((result ≡ pos 1) × (log2_bits.new ≡ log2_bits.old) × (hashes.new ≡ hashes.old)) }
+{
+    match sizes_for(keys, one_in) {
+        Some((bits, each)) => {
+            *log2_bits = u32::from(bits);
+            *hashes = u32::from(each);
+            0
+        }
+        None => 1,
+    }
 }
 
 /// Makes the bytes a table with no bit set, of no inserts.

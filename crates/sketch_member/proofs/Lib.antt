@@ -5,5 +5,6 @@ pub mod InsertLemmas
 pub mod LawLemmas
 pub mod MergeLemmas
 pub mod SizeLemmas
+pub mod SizingLemmas
 pub mod TableLemmas
 pub mod WordLemmas

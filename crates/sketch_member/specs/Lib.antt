@@ -6,3 +6,4 @@ pub mod Form
 pub mod Faults
 pub mod InPlace
 pub mod Laws
+pub mod Sizing

@@ -12,6 +12,7 @@ mod filter;
 mod format;
 pub mod in_place;
 pub mod laws;
+mod sizing;
 mod table;
 #[cfg(test)]
 mod tests;
@@ -19,5 +20,6 @@ mod view;
 
 pub use self::fault::{Difference, Fault, MergeFault};
 pub use self::format::MEMBER;
+pub use self::sizing::sizes_for;
 pub use self::table::MemberTable;
 pub use self::view::TableView;

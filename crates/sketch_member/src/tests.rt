@@ -4,6 +4,7 @@ mod fault;
 mod format;
 mod in_place;
 mod merging;
+mod sizing;
 mod table;
 
 use datasketches::error::{Error, ErrorKind};

@@ -71,6 +71,7 @@ cdef extern from "sketch_hash.h" nogil:
     size_t sketch_murmur3_x64_128_each32(const void *, size_t, const uint32_t *, size_t, uint64_t, void *, size_t)
     size_t sketch_murmur3_x64_128_each64(const void *, size_t, const uint64_t *, size_t, uint64_t, void *, size_t)
     size_t sketch_member_size(unsigned)
+    int sketch_member_for_keys(uint64_t, uint64_t, unsigned *, unsigned *)
     int sketch_member_init(void *, size_t, uint64_t, unsigned, unsigned)
     int sketch_member_check(const void *, size_t)
     int sketch_member_insert(void *, size_t, const void *, size_t)

@@ -1,8 +1,8 @@
 //! The calls on tables: each status, and what a refusal leaves.
 
 use crate::{
-    sketch_member_check, sketch_member_contains, sketch_member_count, sketch_member_init,
-    sketch_member_insert, sketch_member_merge, sketch_member_size,
+    sketch_member_check, sketch_member_contains, sketch_member_count, sketch_member_for_keys,
+    sketch_member_init, sketch_member_insert, sketch_member_merge, sketch_member_size,
 };
 
 // A table of 64 bits with one index a key, under seed 0, after the insert of no bytes.
@@ -25,6 +25,21 @@ fn a_table_in_bytes(rt: HostRuntime) {
     assert_eq!(rt; (sketch_member_count(&bytes, &mut count), count), (0, 2));
     (bytes[5], bytes[16]) = (0, 0);
     assert_eq!(rt; (sketch_member_count(&bytes, &mut count), count), (1, 2));
+}
+
+#[test]
+fn the_sizes_for_a_number_of_keys(rt: HostRuntime) {
+    let (mut log2_bits, mut hashes) = (1, 2);
+    assert_eq!(rt;
+        sketch_member_for_keys(110_000, 100, &mut log2_bits, &mut hashes),
+        1
+    );
+    assert_eq!(rt; (log2_bits, hashes), (1, 2));
+    assert_eq!(rt;
+        sketch_member_for_keys(1_000, 1_000, &mut log2_bits, &mut hashes),
+        0
+    );
+    assert_eq!(rt; (log2_bits, hashes), (14, 6));
 }
 
 // A place in the table, a byte there, how many bytes are handed in, and the status.

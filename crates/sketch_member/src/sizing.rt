@@ -1,0 +1,98 @@
+//! The sizes of a table for a number of keys.
+
+ghost use Rattle.std.specs.Prelude.{◌≡◌, ℕ, ◌^◌, ◌≤◌, ◌*◌, ◌-◌, IfSome, IsTrue};
+ghost use Rattle.sketch_member.specs.Limits.{IsHashes, IsLog2Bits};
+ghost use Rattle.sketch_member.specs.Sizing.{IsClearShare, IsAbove, StaysBelow};
+
+/// A share of 1, in the parts that shares are counted in.
+const WHOLE: u64 = 1 << 31;
+
+/// More keys than any table keeps below a rate, and a smaller rate than shares can tell.
+const MOST: u64 = 1 << 31;
+
+// The product of two shares, rounded down.
+fn product(a: u64, b: u64) -> u64
+    requires a { a ≤ 2 ^ 31 }
+    requires b { b ≤ 2 ^ 31 }
+    ensures below { result * 2 ^ 31 ≤ a * b }
+    ensures share { result ≤ 2 ^ 31 }
+{
+    a * b / WHOLE
+}
+
+// The share of bits that are clear after one was set, rounded down.
+fn clear_once(log2_bits: u8) -> u64
+    requires { IsLog2Bits log2_bits }
+    ensures below { result * 2 ^ log2_bits ≤ 2 ^ 31 * (2 ^ log2_bits - 1) }
+    ensures share { result ≤ 2 ^ 31 }
+{
+    let bits = 1_u64 << log2_bits;
+    WHOLE * (bits - 1) / bits
+}
+
+// The share of bits that are clear after so many were set, rounded down.
+#[tactic(auto, using(crate::proofs::SizingLemmas::clear_of_sum))]
+fn clear_share(log2_bits: u8, set: u64) -> u64
+    requires { IsLog2Bits log2_bits }
+    ensures below { IsClearShare (2 ^ log2_bits) set result }
+    ensures share { result ≤ 2 ^ 31 }
+{
+    if set == 0 {
+        return WHOLE;
+    }
+    let half = clear_share(log2_bits, set / 2);
+    let even = product(half, half);
+    if set % 2 == 0 {
+        return even;
+    }
+    product(even, clear_once(log2_bits))
+}
+
+// A share to a power, rounded up.
+fn raised(part: u64, times: u64) -> u64
+    requires { part ≤ 2 ^ 31 }
+    ensures above { (p m : ℕ) → 2 ^ 31 * p ≤ part * m → IsAbove p m times result }
+    ensures share { result ≤ 2 ^ 31 }
+{
+    if times == 0 {
+        return WHOLE;
+    }
+    let share = raised(part, times - 1);
+    (share * part + (WHOLE - 1)) / WHOLE
+}
+
+// Whether a table of these sizes keeps the false positives of so many keys below one in `one_in`.
+#[tactic(auto, using(crate::proofs::SizingLemmas::below_rate))]
+fn is_below(log2_bits: u8, hashes: u8, keys: u64, one_in: u64) -> bool
+    requires log2_bits { IsLog2Bits log2_bits }
+    requires hashes { IsHashes hashes }
+    ensures { IsTrue result → StaysBelow (2 ^ log2_bits) hashes keys one_in }
+{
+    if keys > MOST || one_in > MOST {
+        return false;
+    }
+    let clear = clear_share(log2_bits, u64::from(hashes) * keys);
+    let share = raised(WHOLE - clear, u64::from(hashes));
+    one_in * share <= WHOLE
+}
+
+/// `log2_bits` and `hashes` of the smallest table that reports at most one in `one_in` of other
+/// keys as inserted, once it has so many different keys. `None` if no table of 2^20 bits does, or
+/// `one_in` is above 2^31.
+///
+/// The rate is that of the usual formula, (1 - (1 - 1 / bits)^(hashes * keys))^hashes, which takes
+/// the indexes as random. That it is not exceeded is proved; that no smaller table would do is
+/// tested, up to the rounding of shares of 31 bits.
+pub fn sizes_for(keys: u64, one_in: u64) -> Option<(u8, u8)>
+    ensures limits { IfSome result (λ sizes. IsLog2Bits sizes.0 × IsHashes sizes.1) }
+    ensures below { IfSome result (λ sizes. StaysBelow (2 ^ sizes.0) sizes.1 keys one_in) }
+{
+    for log2_bits in 6..21 {
+        for hashes in 1..17 {
+            if is_below(log2_bits, hashes, keys, one_in) {
+                return Some((log2_bits, hashes));
+            }
+        }
+    }
+    None
+}
