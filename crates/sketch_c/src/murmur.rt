@@ -1,6 +1,6 @@
 //! MurmurHash3 x64 128: in one call, or by a state that takes a stream in pieces.
 
-ghost use Rattle.std.specs.Prelude.{◌≡◌, ◌+◌, ◌*◌, ◌^◌, ℕ, List, [], ◌++◌};
+ghost use Rattle.std.specs.Prelude.{◌≡◌, ◌+◌, ◌*◌, ◌^◌, ℕ, List, [], ◌++◌, replicate};
 ghost use Rattle.datasketches.specs.Bytes.{low_bytes};
 ghost use Rattle.datasketches.specs.Held.{murmur_held, MurmurHolds};
 ghost use Rattle.datasketches.specs.Murmur.{murmur, murmur_after, murmur_answer};
@@ -28,9 +28,12 @@ pub extern "C" fn sketch_murmur3_x64_128(input: &[u8], seed: u64) -> Murmur128
 /// them.
 #[unsafe(no_mangle)]
 pub extern "C" fn sketch_murmur3_x64_128_reset(state: &mut MurmurState, seed: u64)
-    ensures { MurmurHolds state.new seed [] }
+    ensures holds { MurmurHolds state.new seed [] }
+    ensures zeros { state.new.waiting ≡ replicate 16 0 }
 {
     *state = MurmurHash3X64128::with_seed(seed).state();
+    // So they are already, but no clause of `state` says it.
+    state.waiting = [0; 16];
 }
 
 /// Adds bytes to the stream.

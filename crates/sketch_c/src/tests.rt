@@ -92,5 +92,5 @@ fn a_column_under_murmur(rt: HostRuntime) {
 
 #[test]
 fn the_version_is_told(rt: HostRuntime) {
-    assert_eq!(rt; sketch_hash_version(), 10_100);
+    assert_eq!(rt; sketch_hash_version(), 10_200);
 }

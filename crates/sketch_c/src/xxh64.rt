@@ -1,6 +1,6 @@
 //! XXH64: in one call, of bytes or of a number, or by a state that takes a stream in pieces.
 
-ghost use Rattle.std.specs.Prelude.{◌≡◌, ℕ, List, [], ◌++◌};
+ghost use Rattle.std.specs.Prelude.{◌≡◌, ℕ, List, [], ◌++◌, replicate};
 ghost use Rattle.datasketches.specs.Bytes.{eight};
 ghost use Rattle.datasketches.specs.Held.{xxh64_held, Xxh64Holds};
 ghost use Rattle.datasketches.specs.Xxh64.{xxh64, xxh64_after, xxh64_answer};
@@ -27,9 +27,12 @@ pub extern "C" fn sketch_xxh64_u64(value: u64, seed: u64) -> u64
 /// them.
 #[unsafe(no_mangle)]
 pub extern "C" fn sketch_xxh64_reset(state: &mut XxHash64State, seed: u64)
-    ensures { Xxh64Holds state.new seed [] }
+    ensures holds { Xxh64Holds state.new seed [] }
+    ensures zeros { state.new.waiting ≡ replicate 32 0 }
 {
     *state = XxHash64::with_seed(seed).state();
+    // So they are already, but no clause of `state` says it.
+    state.waiting = [0; 32];
 }
 
 /// Adds bytes to the stream.

@@ -1,9 +1,11 @@
 -- What the states hold: how many bytes wait, and the waiting bytes of a number.
-use Rattle.std.proofs.Common.{arith, ◌-◌, ◌≡◌, ℕ, zero, suc, ◌+◌, ◌%◌, ◌/◌, ◌^◌, ◌<◌, ◌≤◌, List, [], ◌∷◌, length, take, drop, refl, sym, ap, ◌∙◌, ◌++◌}
+use Rattle.std.proofs.Common.{arith, ◌-◌, ◌*◌, min, length-append, ◌≡◌, ℕ, zero, suc, ◌+◌, ◌%◌, ◌/◌, ◌^◌, ◌<◌, ◌≤◌, List, [], ◌∷◌, length, take, drop, refl, sym, ap, ◌∙◌, ◌++◌}
 use Rattle.std.proofs.Math.Nat.{mod-add-mod, mod-eq_of_lt, suc-add, zero-mod}
 use Rattle.std.specs.Int.{w128, to_le_bytes}
+use Rattle.std.proofs.lemmas.List.{length-take, length-take-le}
 use Rattle.sketch_base.specs.Bytes.{low_bytes}
 use Rattle.sketch_base.proofs.BytesLemmas.{to_le_bytes-is}
+use Rattle.sketch_hash.proofs.MurmurWrites.{after_waits}
 use Rattle.sketch_hash.specs.declared.hash.murmurhash.state.MurmurState.{MurmurState}
 use Rattle.sketch_hash.specs.MurmurWriteLemmas.{murmur_stands_after}
 use Rattle.sketch_hash.specs.declared.hash.xxhash.state.XxHash64State.{XxHash64State}
@@ -52,6 +54,20 @@ xxh64_holds_after state next bytes written seed before holds =
     xxh64_stands_after (xxh64_held state) (xxh64_held next) bytes written seed before holds
 
 -- ---- Murmur's
+
+-- a write that fills no block
+pub murmur_copied : (total : ℕ) (buffer bytes : List ℕ) → total % 16 + length bytes < 16 →
+    length buffer ≡ 16 →
+    (take (total % 16) buffer ++ bytes ++ drop (total % 16 + length bytes) buffer
+    ≡ take (total % 16) buffer ++ bytes ++ drop (total % 16 + length bytes) buffer)
+    × (take ((total + length bytes) % 2 ^ 64 % 16)
+    (take (total % 16) buffer ++ bytes ++ drop (total % 16 + length bytes) buffer)
+    ≡ take (total % 16) buffer ++ bytes)
+murmur_copied total buffer bytes few size =
+    let within : total % 16 + length bytes ≤ length buffer = omega arith in
+    (refl, held-waits 16 total buffer bytes (λ n. omega arith) few within)
+
+pub ruleset held = (after_waits, murmur_copied, length-take)
 
 -- a hasher's state: its buffer has the bytes of that number
 number_held : (n count : ℕ) → count < 16 → take count (low_bytes 16 n) ≡ low_bytes count n

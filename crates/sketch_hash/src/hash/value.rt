@@ -185,6 +185,11 @@ impl<T: Eq, S: HashStrategy<T>> Hash for Value<T, S> {
     }
 }
 
+/// Equal values feed equal bytes, under every strategy. It does nothing: its contract is the law.
+pub fn value_law<T: Eq, S: HashStrategy<T>>()
+    ensures { (x y : T) → IsTrue (T.eq x y) → S.fed x ≡ S.fed y }
+{}
+
 /// Feeds the values in order, after whatever the hasher was fed before.
 pub fn feed_all<T: Hash, H: Hasher>(values: &[T], state: &mut H)
     ensures fed { state.new ≡ H.after state.old (flat_map T.fed values.now) }

@@ -6,6 +6,7 @@ ghost use Rattle.sketch_hash.specs.Murmur.{murmur_after, MurmurStands};
 
 use super::tail::{join_words, read_front};
 use super::{BLOCK, MurmurHash3X64128};
+use crate::hash::copy::copy_small;
 use crate::hash::hasher::Hasher;
 
 /// What a [`MurmurHash3X64128`] holds: a checkpoint of a stream, to be copied, kept and resumed.
@@ -34,9 +35,11 @@ impl MurmurState {
         ensures holds { (seed : ℕ) (before : List ℕ) → MurmurHolds self.old seed before →
             MurmurHolds self.new seed (before ++ bytes.now) }
     {
-        let mut hasher = MurmurHash3X64128::resume(self);
-        hasher.write(bytes);
-        *self = hasher.state();
+        if bytes.len() < BLOCK - self.waiting_count() {
+            self.buffer_bytes(bytes);
+        } else {
+            self.consume_blocks(bytes);
+        }
     }
 
     // How many bytes of `waiting` count.
@@ -45,6 +48,29 @@ impl MurmurState {
         ensures { result ≡ self.now.total % 16 }
     {
         (self.total % BLOCK as u64) as usize
+    }
+
+    // Takes bytes that fill no block, in place. Through a hasher, writes of one byte take half as
+    // long again.
+    #[inline(always)]
+    #[tactic(auto, using(crate::proofs::HeldLemmas::held))]
+    fn buffer_bytes(&mut self, bytes: &[u8])
+        requires { self.old.total % 16 + length bytes.now < 16 }
+        ensures { murmur_held self.new ≡ murmur_after (murmur_held self.old) bytes.now }
+    {
+        let count = self.waiting_count();
+        self.total = self.total.wrapping_add(bytes.len() as u64);
+        copy_small(&mut self.waiting, count, bytes);
+    }
+
+    #[inline(always)]
+    #[tactic(auto, using(crate::proofs::MurmurWrites::partial))]
+    fn consume_blocks(&mut self, bytes: &[u8])
+        ensures { murmur_held self.new ≡ murmur_after (murmur_held self.old) bytes.now }
+    {
+        let mut hasher = MurmurHash3X64128::resume(self);
+        hasher.write(bytes);
+        *self = hasher.state();
     }
 }
 
