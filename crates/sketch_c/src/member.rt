@@ -28,7 +28,8 @@ pub extern "C" fn sketch_member_size(log2_bits: u32) -> usize
 }
 
 /// Writes the sizes of a table that reports at most one in `one_in` of other keys as inserted, once
-/// it has so many different keys, and is 0; or is 1 where `sizes_for` knows none, and writes nothing.
+/// it has so many different keys, and is 0; or is 1 where `sizes_for` knows none, and writes
+/// nothing.
 #[unsafe(no_mangle)]
 pub extern "C" fn sketch_member_for_keys(
     keys: u64,

@@ -1,7 +1,7 @@
 -- Which sizes keep the false positives of a number of keys below a rate.
 use Rattle.std.specs.Prelude.{ℕ, ◌*◌, ◌-◌, ◌^◌, ◌≤◌}
 
--- By the usual formula: of `bits` bits each is clear after n inserts of `hashes` indexes each with the
+-- By the usual formula: of `bits` bits each is clear after n inserts of `hashes` indexes with the
 -- probability ((bits - 1) / bits) ^ (hashes * n), and another key is reported if `hashes` bits are
 -- set. This rate is at most 1 in `one_in`.
 abbrev pub StaysBelow : ℕ → ℕ → ℕ → ℕ → Type 0

@@ -9,4 +9,5 @@ returns c fits =
     c.args.one_in c.clear_share-clear.result (2147483648 - c.clear_share-clear.result)
     c.raised-share.result (ap (λ n. n * c.args.keys) c.from.ensures)
     (omega (arith, c.clear_share-clear.ensures.share)) c.clear_share-clear.ensures.below
-    (λ p m one. rw (sym c.from-2.ensures) (c.raised-share.ensures.above p m one)) (leb-true (c.args.one_in * c.raised-share.result) (2 ^ 31) fits)
+    (λ p m one. rw (sym c.from-2.ensures) (c.raised-share.ensures.above p m one))
+    (leb-true (c.args.one_in * c.raised-share.result) (2 ^ 31) fits)
