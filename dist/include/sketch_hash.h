@@ -1,4 +1,4 @@
-/* sketch_hash 1.1.0: XXH64 and MurmurHash3_x64_128 of bytes, and a Bloom filter (a table, below), from
+/* sketch_hash 1.2.0: XXH64 and MurmurHash3_x64_128 of bytes, and a Bloom filter (a table, below), from
  * functions that are proved.
  *
  * Proved of the library: for every seed, and however a stream is cut into updates, a digest is the
@@ -40,8 +40,8 @@ extern "C" {
 #define SKETCH_HASH_U64(number) ((uint64_t)(number))
 #endif
 
-/* 1.1.0: major * 10000 + minor * 100 + patch. The function returns that of the library. */
-#define SKETCH_HASH_VERSION 10100
+/* 1.2.0: major * 10000 + minor * 100 + patch. The function returns that of the library. */
+#define SKETCH_HASH_VERSION 10200
 uint32_t sketch_hash_version(void);
 
 /* ---- XXH64, after Yann Collet's xxHash specification. As hexadecimal: printf("%016" PRIx64). */
@@ -99,10 +99,14 @@ void sketch_murmur3_x64_128_update(sketch_murmur3_x64_128_state_t *state, const 
 sketch_murmur3_x64_128_hash_t
 sketch_murmur3_x64_128_digest(const sketch_murmur3_x64_128_state_t *state);
 
+/* Writes the hash as its 16 bytes lie in memory, which other tools print: h1 and then h2, each with its lowest byte
+ * first. */
+void sketch_murmur3_x64_128_bytes(const sketch_murmur3_x64_128_hash_t *hash, unsigned char *out);
+
 /* ---- Columns of keys: one call hashes all keys of a column, as Apache Arrow lays out strings.
  *
  * Key i is the bytes of `input` from offsets[i] up to offsets[i + 1], and its hash goes to out[i], for
- * each i below `count`. `offsets` has count + 1 offsets, one if there are no keys. `offset_count` says
+ * each i below `count`. `offsets` has count + 1 offsets; one or none if there are no keys. `offset_count` says
  * how many may be read; those beyond are not. Arrow's own are signed: cast their pointer.
  *
  * A call returns 0 when all is done. Otherwise it has written nothing, and returns 1 + the index of
@@ -130,7 +134,7 @@ size_t sketch_xxh64_each_u64(const uint64_t *values, size_t value_count, uint64_
  * for each key, and 1 in 1000 where it has 15.
  *
  * A table is its bytes, which any machine reads and writes alike. They lie where the caller wants,
- * as in a file that is mapped. Each call but sketch_member_size and sketch_member_init checks the
+ * as in a file that is mapped. Each call but sketch_member_size, _init and _for_keys checks the
  * header, 24 bytes, and makes no pass over the bits to do so. A call that fails changes nothing. */
 
 /* What a call returns: the first fault in this order, or -1 where the header ends before it. */
@@ -157,6 +161,11 @@ enum sketch_member_status {
 /* How many bytes a table of 2^log2_bits bits has: 24 + 2^log2_bits / 8; 0 outside of 6 to 20. */
 size_t sketch_member_size(unsigned log2_bits);
 
+/* Writes the sizes of the smallest table that reports at most one in `one_in` of other keys, once it has
+ * so many, and returns 0. Returns 1, and writes nothing, where no table does (the largest has 2^20 bits:
+ * 109,000 keys at 1 in 100), or `one_in` is above 2^31. */
+int sketch_member_for_keys(uint64_t keys, uint64_t one_in, unsigned *log2_bits, unsigned *hashes);
+
 /* Makes bytes a table without keys. It refuses, in this order: log2_bits outside of 6 to 20, hashes
  * outside of 1 to 16, and a length other than that of sketch_member_size (HEADER_ENDS below 24, else
  * MISSING_BITS or TRAILING_BYTES). */
@@ -169,7 +178,8 @@ int sketch_member_check(const void *bytes, size_t length);
 /* Inserts a key. */
 int sketch_member_insert(void *bytes, size_t length, const void *key, size_t key_length);
 
-/* 1 where the table contains the key, 0 where it does not, or a negative status. */
+/* 1 where the table contains the key, 0 where it does not, or a negative status: compare with == 1, since a fault is not
+ * zero, and so `if (sketch_member_contains(..))` takes it for a yes. */
 int sketch_member_contains(const void *bytes, size_t length, const void *key, size_t key_length);
 
 /* Merges the table at `from`, of the same seed and sizes, into the one at `into`: the result is the

@@ -25,6 +25,12 @@ export interface Stream {
     reset(seed?: bigint): this;
 }
 
+/** A stream of MurmurHash3 x64 128. */
+export interface MurmurStream extends Stream {
+    /** The digest as its 16 bytes lie in memory: each word's lowest byte first. */
+    digestBytes(): Uint8Array;
+}
+
 /**
  * The calls. Each throws a TypeError where an input, a column or a seed is of another type, and a
  * RangeError where a seed is not from 0n to 2n ** 64n - 1n; so do streams.
@@ -32,8 +38,14 @@ export interface Stream {
 export interface Library {
     /** XXH64 of the bytes under a seed, 0n if left out. */
     xxh64(bytes: Input, seed?: bigint): bigint;
+    /** The same in 16 hexadecimal digits. */
+    xxh64Hex(bytes: Input, seed?: bigint): string;
     /** MurmurHash3 x64 128 of the bytes under a seed, 0n if left out. */
     murmur3X64_128(bytes: Input, seed?: bigint): bigint;
+    /** The same in 32 hexadecimal digits, those of the first word first, the highest digit first. */
+    murmur3X64_128Hex(bytes: Input, seed?: bigint): string;
+    /** The same as the 16 bytes lie in memory, which other tools print: each word's lowest byte first. */
+    murmur3X64_128Bytes(bytes: Input, seed?: bigint): Uint8Array;
     /**
      * XXH64 of each key of a column, laid out as Apache Arrow does strings: key i is the bytes from
      * offsets[i] up to offsets[i + 1]. The column is copied into the module's memory, which does not
@@ -58,7 +70,7 @@ export interface Library {
     /** An empty stream under a seed, 0n if left out. */
     Xxh64: new (seed?: bigint) => Stream;
     /** An empty stream under a seed, 0n if left out. */
-    Murmur3X64_128: new (seed?: bigint) => Stream;
+    Murmur3X64_128: new (seed?: bigint) => MurmurStream;
     /** major * 10000 + minor * 100 + patch */
     version: number;
 }

@@ -1,10 +1,11 @@
-// sketch_hash 1.1.0: XXH64 and MurmurHash3 x64 128, from functions that are proved, for browsers and
+// sketch_hash 1.2.0: XXH64 and MurmurHash3 x64 128, from functions that are proved, for browsers and
 // Node. Licence: Apache-2.0.
 //
 //     import { load } from './sketch_hash.mjs';
-//     const { xxh64, Xxh64, xxh64Each } = await load();
+//     const { xxh64, xxh64Hex, Xxh64, xxh64Each } = await load();
 //     const foxes = new TextEncoder().encode('foxes');
-//     xxh64(foxes, 0n).toString(16).padStart(16, '0');     // the hash is a BigInt
+//     xxh64(foxes, 0n);                                    // the hash is a BigInt
+//     xxh64Hex(foxes, 0n);                                 // in hexadecimal
 //     new Xxh64(0n).update(foxes).update(foxes).hexdigest();
 //     xxh64Each(foxes, Uint32Array.of(0, 3, 5));           // a BigUint64Array: the hashes of fox and es
 //
@@ -14,8 +15,8 @@
 const PAGE = 65536;
 const PIECE = 4 * PAGE; // of the input, copied into the module's memory at a time
 
-const UNABLE = 'This engine lacks WebAssembly with 64-bit memories. Chrome and Edge have them from 133 on, '
-    + 'Firefox from 134 on, Node from 24 on, and Node 20 under --experimental-wasm-memory64.';
+const UNABLE = 'This engine lacks WebAssembly with 64-bit memories. Chrome and Edge have them from 133 on, Firefox '
+    + 'from 134 on, Node from 24 on, Node 20 and 22 under --experimental-wasm-memory64; Safari has none.';
 
 // A module that has such a memory and nothing else.
 const MEMORY64 = Uint8Array.of(0, 0x61, 0x73, 0x6d, 1, 0, 0, 0, 5, 3, 1, 4, 0);
@@ -177,12 +178,22 @@ function library(calls) {
         digest: (state) => { calls.sketch_murmur3_x64_128_digest(hash, state); return pair(); },
     };
     class Xxh64 extends Stream { constructor(seed) { super(ofXxh64, seed); } }
-    class Murmur3X64_128 extends Stream { constructor(seed) { super(ofMurmur, seed); } }
+    class Murmur3X64_128 extends Stream {
+        constructor(seed) { super(ofMurmur, seed); }
+
+        digestBytes() {
+            this.digest();
+            return memory.slice(Number(hash), Number(hash) + 16);
+        }
+    }
     return {
         Xxh64,
         Murmur3X64_128,
         xxh64: (bytes, seed) => new Xxh64(seed).update(bytes).digest(),
+        xxh64Hex: (bytes, seed) => new Xxh64(seed).update(bytes).hexdigest(),
         murmur3X64_128: (bytes, seed) => new Murmur3X64_128(seed).update(bytes).digest(),
+        murmur3X64_128Hex: (bytes, seed) => new Murmur3X64_128(seed).update(bytes).hexdigest(),
+        murmur3X64_128Bytes: (bytes, seed) => new Murmur3X64_128(seed).update(bytes).digestBytes(),
         xxh64Each: eachKey(calls.sketch_xxh64_each32, calls.sketch_xxh64_each64, 8),
         xxh64EachU64: (values, seed = 0n) =>
             each(calls.sketch_xxh64_each_u64, [checkedColumn(values, NUMBERS)], seed, values.length, 8),
