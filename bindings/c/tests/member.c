@@ -230,11 +230,20 @@ static void other_tables(void) {
     same("no bytes", (uint64_t)sketch_member_check(NULL, 0), SKETCH_MEMBER_HEADER_ENDS == -1 ? (uint64_t)-1 : 0);
 }
 
+static void sizes(void) {
+    unsigned log2_bits = 1, hashes = 2;
+    same("too many keys", (uint64_t)sketch_member_for_keys(110000, 100, &log2_bits, &hashes), 1);
+    same("no sizes", log2_bits << 8 | hashes, 1 << 8 | 2);
+    same("sizes for keys", (uint64_t)sketch_member_for_keys(1000, 100, &log2_bits, &hashes), 0);
+    same("the sizes", log2_bits << 8 | hashes, 14 << 8 | 3);
+}
+
 int main(int count, char **arguments) {
     unsigned widest = count > 1 ? (unsigned)atoi(arguments[1]) : 20;
     for (unsigned log2_bits = 6; log2_bits <= widest; log2_bits++)
         for (unsigned hashes = 1; hashes <= 16; hashes++) of_size(log2_bits, hashes);
     damaged();
     other_tables();
-    return conclude(328467 + 2480 * ((long)widest - 5));
+    sizes();
+    return conclude();
 }

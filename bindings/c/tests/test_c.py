@@ -94,7 +94,7 @@ def test_calls_take_a_stack_of_256_kib(name, built):
 
 # ---- the files
 
-OF_1_2 = ["sketch_murmur3_x64_128_bytes"]
+OF_1_2 = ["sketch_member_for_keys", "sketch_murmur3_x64_128_bytes"]
 OF_1_0 = """sketch_hash_version sketch_xxh64 sketch_xxh64_reset sketch_xxh64_update sketch_xxh64_digest sketch_xxh64_u64
     sketch_murmur3_x64_128 sketch_murmur3_x64_128_reset sketch_murmur3_x64_128_update sketch_murmur3_x64_128_digest""".split()
 

@@ -141,12 +141,16 @@ cdef bint holds_objects(object data):
     return getattr(getattr(data, "dtype", None), "hasobject", False)
 
 
-cdef uint64_t seed_of(object seed) except? 0xFFFF_FFFF_FFFF_FFFF:
-    number = PyNumber_Index(seed)
+cdef uint64_t word_of(object number, str name) except? 0xFFFF_FFFF_FFFF_FFFF:
+    number = PyNumber_Index(number)
     try:
         return PyLong_AsUnsignedLongLong(number)
     except OverflowError:
-        raise OverflowError("a seed is from 0 to 2**64 - 1") from None
+        raise OverflowError(f"{name} is from 0 to 2**64 - 1") from None
+
+
+cdef uint64_t seed_of(object seed) except? 0xFFFF_FFFF_FFFF_FFFF:
+    return word_of(seed, "a seed")
 
 
 def _seed(seed):

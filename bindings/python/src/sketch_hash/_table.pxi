@@ -87,11 +87,13 @@ cdef class MemberTable:
 
     @classmethod
     def for_keys(cls, keys, one_in, *, seed=0):
-        """for_keys($type, keys, one_in, *, seed=0)\n--\n\nThe smallest table that will report at most one in one_in of other
-        keys, once it has so many keys. If no table of 2**20 bits does, or one_in is above 2**31, ValueError is raised.
+        """for_keys($type, keys, one_in, *, seed=0)\n--\n\nThe smallest table that will report at most one in one_in of
+        other keys, once it has so many keys. If no table of 2**20 bits does, or one_in is above 2**31, ValueError is
+        raised.
         """
         cdef unsigned log2_bits = 0, hashes = 0
-        if sketch_member_for_keys(keys, one_in, &log2_bits, &hashes):
+        cdef uint64_t n = word_of(keys, "keys"), rate = word_of(one_in, "one_in")
+        if sketch_member_for_keys(n, rate, &log2_bits, &hashes):
             raise ValueError(f"no table of at most 2**20 bits keeps {keys} keys below one in {one_in}")
         return cls(log2_bits, hashes, seed=seed)
 
