@@ -32,7 +32,10 @@ HAS_TYPE(&sketch_murmur3_x64_128_each32,
 HAS_TYPE(&sketch_murmur3_x64_128_each64,
          size_t (*)(const void *, size_t, const uint64_t *, size_t, uint64_t,
                     struct sketch_murmur3_x64_128_hash *, size_t));
+HAS_TYPE(&sketch_murmur3_x64_128_bytes,
+         void (*)(const struct sketch_murmur3_x64_128_hash *, unsigned char *));
 HAS_TYPE(&sketch_member_size, size_t (*)(unsigned));
+HAS_TYPE(&sketch_member_for_keys, int (*)(uint64_t, uint64_t, unsigned *, unsigned *));
 HAS_TYPE(&sketch_member_init, int (*)(void *, size_t, uint64_t, unsigned, unsigned));
 HAS_TYPE(&sketch_member_check, int (*)(const void *, size_t));
 HAS_TYPE(&sketch_member_insert, int (*)(void *, size_t, const void *, size_t));

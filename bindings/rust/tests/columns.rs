@@ -67,8 +67,8 @@ fn lies_are_refused<O: Offset + Copy + TryFrom<usize, Error: Debug>>(greatest: O
     wrong[150] = offsets[148];
     refused(&data, &wrong, 150);
     refused(&data[..data.len() - 1], &offsets, KEYS);
-    // A column of no keys has one offset, which has to fit too.
-    for (offsets, fault) in [(&[][..], Some(0)), (&[greatest], Some(0)), (&offsets[..1], None)] {
+    // A column of no keys has at most one offset, which has to fit too.
+    for (offsets, fault) in [(&[][..], None), (&[greatest], Some(0)), (&offsets[..1], None)] {
         let answer = fault.map_or(Ok(()), |index| Err(ColumnError { index }));
         assert_eq!(xxh64_each(&data, offsets, SEED, &mut []), answer);
         assert_eq!(murmur3_x64_128_each(&data, offsets, SEED, &mut []), answer);

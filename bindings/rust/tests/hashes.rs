@@ -31,7 +31,7 @@ impl Noise {
 
 #[test]
 fn known_answers() {
-    assert_eq!(sketch_hash::version(), 10_100);
+    assert_eq!(sketch_hash::version(), 10_200);
     assert_eq!(xxh64(FOX, 0), 0x0b24_2d36_1fda_71bc);
     assert_eq!(murmur3_x64_128(FOX, 0), (0xe34b_bc7b_bc07_1b6c, 0x7a43_3ca9_c49a_9347));
     assert_eq!(xxh64(&[0xa1, 0xd8, 0x2b], 0xcdde_8d51_6301_bbfc), 0x9378_00ca_51e4_a6d8);
@@ -67,33 +67,6 @@ fn every_cut_has_the_hash_of_the_whole() {
         }
         assert_eq!(xxh64(&bytes, seed), plain::xxh64(&bytes, seed));
         assert_eq!(murmur3_x64_128(&bytes, seed), plain::murmur3_x64_128(&bytes, seed));
-    }
-}
-
-/// A stream that grows by a byte, one update, a checkpoint and one call agree at each length.
-#[test]
-fn each_length_has_one_hash() {
-    const SEED: u64 = 1 << 63 | 5;
-    let bytes = Noise(4).bytes(70_000);
-    let (mut x, mut m) = (Xxh64::new(SEED), Murmur3X64_128::new(SEED));
-    for length in 0..=bytes.len() {
-        let so_far = &bytes[..length];
-        let (mut x_whole, mut m_whole) = (Xxh64::new(SEED), Murmur3X64_128::new(SEED));
-        x_whole.update(so_far);
-        m_whole.update(so_far);
-        assert_eq!((x_whole.digest(), xxh64(so_far, SEED)), (x.digest(), x.digest()));
-        assert_eq!((m_whole.digest(), murmur3_x64_128(so_far, SEED)), (m.digest(), m.digest()));
-        assert_eq!(Xxh64::from_bytes(&x.to_bytes()).digest(), x.digest());
-        assert_eq!(Murmur3X64_128::from_bytes(&m.to_bytes()).digest(), m.digest());
-        assert_eq!((x.clone().digest(), m.clone().digest()), (x.digest(), m.digest()));
-        if length % 1000 < 3 {
-            assert_eq!(x.digest(), plain::xxh64(so_far, SEED));
-            assert_eq!(m.digest(), plain::murmur3_x64_128(so_far, SEED));
-        }
-        if length < bytes.len() {
-            x.update(&bytes[length..length + 1]);
-            m.update(&bytes[length..length + 1]);
-        }
     }
 }
 
@@ -161,18 +134,6 @@ fn each_number_feeds_its_bytes() {
             assert_eq!(x.digest(), xxh64(&bytes, 7));
             assert_eq!(m.digest(), murmur3_x64_128(&bytes, 7));
         }
-    }
-    for (width, first) in [(1, true), (2, true), (4, true), (8, true), (4, false)] {
-        let (mut x, mut m) = (Xxh64::new(7), Murmur3X64_128::new(7));
-        match (width, first) {
-            (1, _) => (x.write_u8(0xf0), m.write_u8(0xf0)),
-            (2, _) => (x.write_u16(0xe1f0), m.write_u16(0xe1f0)),
-            (4, true) => (x.write_u32(0xc3d2_e1f0), m.write_u32(0xc3d2_e1f0)),
-            (4, _) => (x.write_i32(word as i32), m.write_i32(word as i32)),
-            _ => (x.write_u64(word as u64), m.write_u64(word as u64)),
-        };
-        assert_eq!(x.digest(), xxh64(&word.to_le_bytes()[..width], 7));
-        assert_eq!(m.digest(), murmur3_x64_128(&word.to_le_bytes()[..width], 7));
     }
 }
 

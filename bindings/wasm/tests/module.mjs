@@ -102,7 +102,7 @@ for (const offsets of [narrow, Int32Array.from(narrow), wide, BigInt64Array.from
         assert.deepEqual(each(all, offsets.subarray(1)), each(all, offsets).subarray(each(all, offsets).length / 2));
         assert.throws(() => each(all.subarray(0, 9), offsets), /the offset at 2 is/);
         assert.throws(() => each(all, offsets.toReversed()), { name: 'RangeError', message: /the offset at 1 is/ });
-        assert.throws(() => each(all, offsets.subarray(3)), /the offset at 0 is/);
+        assert.equal(each(all, offsets.subarray(3)).length, 0);
     }
 }
 assert.throws(() => xxh64Each(all, Int32Array.of(0, -1)), /the offset at 1 is missing, past the end or below the one before$/);
@@ -166,23 +166,6 @@ assert.throws(() => xxh64EachU64(new BigInt64Array(1e6)), { message: 'no room' }
 assert.equal(xxh64(fox, 7n), new Xxh64(7n).update(fox).digest());
 assert.deepEqual([...xxh64Each(all, narrow, last)], keys.map((key) => xxh64(key, last)));
 WebAssembly.Memory.prototype.grow = grow;
-
-// The memory grows where one byte is missing, and by no more pages than are.
-let memory;
-WebAssembly.Memory.prototype.grow = function (pages) {
-    memory = this;
-    return grow.call(this, pages);
-};
-const { xxh64Each: once } = await load(readFileSync(new URL('sketch_hash.wasm', dist)));
-const hashOf = (size) => once(new Uint8Array(long.buffer, 0, size), Uint32Array.of(0, 9));
-const page = 65_536;
-const { byteLength } = memory.buffer;
-let size = 4 * page - 100;
-while (memory.buffer.byteLength === byteLength) hashOf(size += 1);
-for (const [more, pages] of [[page - 1, 1], [page, 2], [3 * page, 4], [4 * page - 1, 4], [20 * page, 21]]) {
-    hashOf(size + more);
-    assert.equal(memory.buffer.byteLength, byteLength + page * pages);
-}
 
 // Each call is handed places as C wants them: at multiples of 8, behind the module's data the hash, the state and the
 // input.

@@ -1,5 +1,5 @@
 // What the types of the module promise, compiled by tsc beside sketch_hash.d.mts and never run.
-import { load, type Input, type Library, type Offsets, type Stream } from './sketch_hash.mjs';
+import { load, type Input, type Library, type MurmurStream, type Offsets, type Stream } from './sketch_hash.mjs';
 
 const library: Library = await load();
 const input: Input = new Uint8Array(8);
@@ -37,19 +37,22 @@ type Hash = (bytes: Input, seed?: bigint) => bigint;
 type Column = (bytes: Input, offsets: Offsets, seed?: bigint) => BigUint64Array;
 type Numbers = (values: BigUint64Array | BigInt64Array, seed?: bigint) => BigUint64Array;
 type Kind = new (seed?: bigint) => Stream;
+type Digits = (bytes: Input, seed?: bigint) => string;
 type Whole = {
     xxh64: Hash, murmur3X64_128: Hash, xxh64Each: Column, xxh64EachU64: Numbers, murmur3X64_128Each: Column,
-    Xxh64: Kind, Murmur3X64_128: Kind, version: number,
+    xxh64Hex: Digits, murmur3X64_128Hex: Digits, murmur3X64_128Bytes: (bytes: Input, seed?: bigint) => Uint8Array,
+    Xxh64: Kind, Murmur3X64_128: new (seed?: bigint) => MurmurStream, version: number,
 };
-type OfStream = {
-    readonly seed: bigint, update: (bytes: Input) => Stream, digest: () => bigint, hexdigest: () => string,
-    copy: () => Stream, reset: (seed?: bigint) => Stream,
+type OfStream<T> = {
+    readonly seed: bigint, update: (bytes: Input) => T, digest: () => bigint, hexdigest: () => string,
+    copy: () => T, reset: (seed?: bigint) => T,
 };
 type Each<T> = { [K in keyof T]: T[K] };
 const same: [
     Same<Each<Library>, Whole>,
-    Same<Each<Stream>, OfStream>,
+    Same<Each<Stream>, OfStream<Stream>>,
+    Same<Each<MurmurStream>, Each<OfStream<MurmurStream> & { digestBytes: () => Uint8Array }>>,
     Same<typeof load, (source?: URL | string | Input) => Promise<Library>>,
     Same<Input, ArrayBuffer | ArrayBufferView>,
     Same<Offsets, Uint32Array | Int32Array | BigUint64Array | BigInt64Array>,
-] = [true, true, true, true, true];
+] = [true, true, true, true, true, true];
