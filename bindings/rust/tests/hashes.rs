@@ -213,8 +213,7 @@ fn lengths_past_32_bits() {
     let mut hasher = Xxh64::new(u64::MAX);
     hasher.update(&zeros);
     assert_eq!(hasher.digest(), 0x9ae5_8395_6774_714e);
-    let text = format!("{hasher:?}");
-    assert_eq!(text, format!("Xxh64 {{ seed: {}, length: 4294967333 }}", u64::MAX));
+    assert_eq!(format!("{hasher:?}"), "Xxh64 { seed: 18446744073709551615, length: 4294967333 }");
     assert_eq!(xxh64(&zeros, u64::MAX), 0x9ae5_8395_6774_714e);
     let mut hasher = Murmur3X64_128::new(u64::MAX);
     hasher.update(&zeros);
