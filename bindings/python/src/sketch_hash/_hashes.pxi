@@ -55,9 +55,11 @@ cdef class _Hash:
 
     def __reduce__(self):
         thread = begin(&self.lock, 0)
-        begin_stream(self)
-        checkpoint = PyBytes_FromStringAndSize(<char *>&self.state, size_of(self))
-        end(&self.lock, thread)
+        try:  # without memory for the bytes the lock is given back too
+            begin_stream(self)
+            checkpoint = PyBytes_FromStringAndSize(<char *>&self.state, size_of(self))
+        finally:
+            end(&self.lock, thread)
         return _take_up, (type(self), self.own_seed, checkpoint)
 
     def __repr__(self):

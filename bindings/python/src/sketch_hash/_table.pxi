@@ -219,9 +219,11 @@ cdef class MemberTable:
 
     cdef bytes header(self):
         thread = begin(&self.lock, 0)
-        status = sketch_member_check(self.table.buf, self.table.len)
-        header = (<char *>self.table.buf)[:24] if status == 0 else b""
-        end(&self.lock, thread)
+        try:  # without memory for the bytes the lock is given back too
+            status = sketch_member_check(self.table.buf, self.table.len)
+            header = (<char *>self.table.buf)[:24] if status == 0 else b""
+        finally:
+            end(&self.lock, thread)
         if status:
             self.is_there()
             check(status)
@@ -291,8 +293,10 @@ cdef class MemberTable:
     def to_bytes(self):
         """to_bytes($self)\n--\n\nThe bytes: 24 of a header, and the bits."""
         thread = begin(&self.lock, 0)
-        data = None if self.table.buf is NULL else (<char *>self.table.buf)[:self.table.len]
-        end(&self.lock, thread)
+        try:
+            data = None if self.table.buf is NULL else (<char *>self.table.buf)[:self.table.len]
+        finally:
+            end(&self.lock, thread)
         self.is_there()
         return data
 
