@@ -106,12 +106,14 @@ function fill(job, xxh64, murmur3) {
     job.row.querySelector('.murmur3').textContent = murmur3;
 }
 
-// Copies a line that `xxhsum -c` reads: a name with a line break or a backslash is escaped.
+// Copies a line that `xxhsum -c` reads. A name with a line break is escaped, as sha256sum has it.
 async function copyLine(job) {
     const place = job.row.querySelector('.xxh64');
-    const name = job.file.name.replace(/\\/g, '\\\\').replace(/\n/g, '\\n').replace(/\r/g, '\\r');
+    const isBroken = /[\n\r]/.test(job.file.name);
+    const escaped = job.file.name.replace(/\\/g, '\\\\').replace(/\n/g, '\\n').replace(/\r/g, '\\r');
+    const line = `${place.textContent}  ${isBroken ? escaped : job.file.name}\n`;
     try {
-        await navigator.clipboard.writeText(`${name === job.file.name ? '' : '\\'}${place.textContent}  ${name}\n`);
+        await navigator.clipboard.writeText(isBroken ? `\\${line}` : line);
         status(job, 'copied');
     } catch {
         getSelection().selectAllChildren(place);

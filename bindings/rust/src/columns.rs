@@ -104,7 +104,7 @@ fn each<O, H>(
 /// XXH64 of each key of a column, laid out as Apache Arrow does strings.
 ///
 /// Key `i` is the bytes of `input` from `offsets[i]` up to `offsets[i + 1]`, and its hash goes to
-/// `out[i]`. So `offsets` has one more than `out`; those beyond are not read.
+/// `out[i]`. So `offsets` has one more than `out`, or none if `out` is empty; those beyond are not read.
 ///
 /// ```
 /// use sketch_hash::{xxh64, xxh64_each};

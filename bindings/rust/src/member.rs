@@ -75,7 +75,7 @@ impl MemberTable {
     }
 
     /// The smallest table without keys that will report at most one in `one_in` of other keys, once it
-    /// has so many. `None` if no table of 2^20 bits does, or `one_in` is above 2^31.
+    /// has so many. `None` if no table of 2^20 bits does, or one of the two is above 2^31.
     ///
     /// ```
     /// use sketch_hash::MemberTable;

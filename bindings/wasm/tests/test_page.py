@@ -284,10 +284,11 @@ def test_copy(page, files):
 def test_xxhsum_reads_what_is_copied(page, files, tmp_path, need):
     need("xxhsum")
     page.chromium.execute_script("navigator.clipboard.writeText = (text) => { window.copied = text; return Promise.resolve(); }")
-    page.choose(*files(**{"a *füchs": FOX}))
-    page.wait_for("a *füchs", "done")
-    page.row("a *füchs").find_element(By.CSS_SELECTOR, "button.copy").click()
-    page.wait_for("a *füchs", "copied")
+    page.choose(*files(**{"a *f\\üchs": FOX}))
+    name = "a *f\\\\üchs"  # as CSS writes it
+    page.wait_for(name, "done")
+    page.row(name).find_element(By.CSS_SELECTOR, "button.copy").click()
+    page.wait_for(name, "copied")
     copied = page.chromium.execute_script("return window.copied")
     assert subprocess.run(["xxhsum", "-c"], cwd=tmp_path, input=copied, text=True).returncode == 0
 

@@ -1,6 +1,6 @@
 -- Shares that are rounded stay on their side of what they stand for.
-use Rattle.std.proofs.Common.{◌≡◌, ◌∙◌, sym, ap, ℕ, zero, suc, ◌+◌, ◌-◌, ◌*◌, ◌^◌, ◌<◌, ◌≤◌, refl, arith}
-use Rattle.std.proofs.Math.Nat.{add-mul, mul-sub, mul_left_comm, mul-le-mul_left, mul_assoc, mul_comm, mul-mul-mul_comm, mul-le-mul, mul-le-mul_right, le_of_mul-le-mul_left, pow-suc, pow-zero}
+use Rattle.std.proofs.Common.{◌≡◌, ◌∙◌, sym, ap, ℕ, zero, suc, ◌+◌, ◌-◌, ◌*◌, ◌/◌, ◌%◌, ◌^◌, ◌<◌, ◌≤◌, arith}
+use Rattle.std.proofs.Math.Nat.{add-mul, mul-sub, mul_left_comm, mul-le-mul_left, mul_assoc, mul_comm, mul-mul-mul_comm, mul-le-mul, mul-le-mul_right, le_of_mul-le-mul_left, div-div-eq-div-mul, pow-suc, pow-zero}
 use Rattle.std.proofs.lemmas.Nat.{pow-add}
 use Rattle.sketch_member.specs.Sizing.{IsAbove, IsClearShare, StaysBelow}
 
@@ -25,23 +25,40 @@ clear_of_sum bits e f set share other made sum first second rounded =
     (times_below (2 ^ 31) made share other (bits ^ e) ((bits - 1) ^ e) (bits ^ f) ((bits - 1) ^ f)
     (omega arith) rounded first second)
 
-pub clear_of_odd : (bits half set share once even made : ℕ) → set ≡ half + half + 1 →
-    IsClearShare bits half share → once * bits ≤ 2 ^ 31 * (bits - 1) →
-    even * 2 ^ 31 ≤ share * share → made * 2 ^ 31 ≤ even * once → IsClearShare bits set made
-clear_of_odd bits half set share once even made sum first last halves rounded =
-    clear_of_sum bits (half + half) 1 set even once made sum
-    (clear_of_sum bits half half (half + half) share share even refl first first halves)
+-- from a number's first bits to one bit more
+halves : (set shift : ℕ) → zero < shift → set / 2 ^ (shift - 1) / 2 ≡ set / 2 ^ shift
+halves set shift positive =
+    div-div-eq-div-mul set (2 ^ (shift - 1)) 2 ∙ ap (λ n. set / n) (sym (pow-suc 2 (shift - 1)))
+    ∙ ap (λ n. set / 2 ^ n) (omega (arith, positive))
+
+pub clear_of_even : (bits set shift share made : ℕ) → zero < shift →
+    set / 2 ^ (shift - 1) % 2 ≡ 0 → IsClearShare bits (set / 2 ^ shift) share →
+    made * 2 ^ 31 ≤ share * share → IsClearShare bits (set / 2 ^ (shift - 1)) made
+clear_of_even bits set shift share made positive even known rounded =
+    clear_of_sum bits (set / 2 ^ shift) (set / 2 ^ shift) (set / 2 ^ (shift - 1)) share share made
+    (omega (arith, halves set shift positive, even)) known known rounded
+
+pub clear_of_odd : (bits set shift share once square made : ℕ) → zero < shift →
+    set / 2 ^ (shift - 1) % 2 ≡ 1 → IsClearShare bits (set / 2 ^ shift) share →
+    once * bits ≤ 2 ^ 31 * (bits - 1) → square * 2 ^ 31 ≤ share * share →
+    made * 2 ^ 31 ≤ square * once → IsClearShare bits (set / 2 ^ (shift - 1)) made
+clear_of_odd bits set shift share once square made positive odd known last squared rounded =
+    clear_of_sum bits (half + half) 1 (set / 2 ^ (shift - 1)) square once made
+    (omega (arith, halves set shift positive, odd))
+    (clear_of_sum bits half half (half + half) share share square (omega arith) known known squared)
     (rw (once-only bits, once-only (bits - 1)) last) rounded
   where
+    half : ℕ
+    half = set / 2 ^ shift
+
     once-only : (n : ℕ) → n ^ 1 ≡ n
     once-only n = pow-suc n zero ∙ rw (pow-zero n) (omega arith)
 
 -- powers that are rounded up
 pub power_above : (part made share p m k n : ℕ) → n ≡ suc k → 2 ^ 31 * p ≤ part * m →
-    2 ^ 31 * p ^ k ≤ share * m ^ k → share * part ≤ made * 2 ^ 31 →
-    2 ^ 31 * p ^ n ≤ made * m ^ n
-power_above part made share p m k n sum one powers rounded =
-    rw (sum, pow-suc p k, pow-suc m k) (grown (2 ^ 31) (p ^ k) (m ^ k) (omega arith) one powers rounded)
+    IsAbove p m k share → share * part ≤ made * 2 ^ 31 → IsAbove p m n made
+power_above part made share p m k n next one powers rounded =
+    rw (next, pow-suc p k, pow-suc m k) (grown (2 ^ 31) (p ^ k) (m ^ k) (omega arith) one powers rounded)
   where
     grown : (whole a b : ℕ) → zero < whole → whole * p ≤ part * m → whole * a ≤ share * b →
         share * part ≤ made * whole → whole * (a * p) ≤ made * (b * m)

@@ -7,7 +7,7 @@ ghost use Rattle.sketch_member.specs.Sizing.{IsClearShare, IsAbove, StaysBelow};
 /// A share of 1, in the parts that shares are counted in.
 const WHOLE: u64 = 1 << 31;
 
-/// More keys than any table keeps below a rate, and a smaller rate than shares can tell.
+/// More keys, and a smaller rate, than shares can tell of.
 const MOST: u64 = 1 << 31;
 
 // The product of two shares, rounded down.
@@ -20,6 +20,16 @@ fn product(a: u64, b: u64) -> u64
     a * b / WHOLE
 }
 
+// The same, rounded up.
+fn product_above(a: u64, b: u64) -> u64
+    requires a { a ≤ 2 ^ 31 }
+    requires b { b ≤ 2 ^ 31 }
+    ensures above { a * b ≤ result * 2 ^ 31 }
+    ensures share { result ≤ 2 ^ 31 }
+{
+    (a * b + (WHOLE - 1)) / WHOLE
+}
+
 // The share of bits that are clear after one was set, rounded down.
 fn clear_once(log2_bits: u8) -> u64
     requires { IsLog2Bits log2_bits }
@@ -30,22 +40,24 @@ fn clear_once(log2_bits: u8) -> u64
     WHOLE * (bits - 1) / bits
 }
 
-// The share of bits that are clear after so many were set, rounded down.
-#[tactic(auto, using(crate::proofs::SizingLemmas::clear_of_sum))]
+// The share of bits that are clear after so many were set, rounded down: by squares, from the highest
+// bit of `set` down.
 fn clear_share(log2_bits: u8, set: u64) -> u64
     requires { IsLog2Bits log2_bits }
     ensures below { IsClearShare (2 ^ log2_bits) set result }
     ensures share { result ≤ 2 ^ 31 }
 {
-    if set == 0 {
-        return WHOLE;
+    let once = clear_once(log2_bits);
+    let mut share = WHOLE;
+    let mut shift = u64::BITS;
+    while shift > 0 {
+        shift -= 1;
+        share = product(share, share);
+        if (set >> shift) % 2 == 1 {
+            share = product(share, once);
+        }
     }
-    let half = clear_share(log2_bits, set / 2);
-    let even = product(half, half);
-    if set % 2 == 0 {
-        return even;
-    }
-    product(even, clear_once(log2_bits))
+    share
 }
 
 // A share to a power, rounded up.
@@ -54,11 +66,11 @@ fn raised(part: u64, times: u64) -> u64
     ensures above { (p m : ℕ) → 2 ^ 31 * p ≤ part * m → IsAbove p m times result }
     ensures share { result ≤ 2 ^ 31 }
 {
-    if times == 0 {
-        return WHOLE;
+    let mut share = WHOLE;
+    for turn in 0..times {
+        share = product_above(share, part);
     }
-    let share = raised(part, times - 1);
-    (share * part + (WHOLE - 1)) / WHOLE
+    share
 }
 
 // Whether a table of these sizes keeps the false positives of so many keys below one in `one_in`.
@@ -78,7 +90,7 @@ fn is_below(log2_bits: u8, hashes: u8, keys: u64, one_in: u64) -> bool
 
 /// `log2_bits` and `hashes` of the smallest table that reports at most one in `one_in` of other
 /// keys as inserted, once it has so many different keys. `None` if no table of 2^20 bits does, or
-/// `one_in` is above 2^31.
+/// one of the two numbers is above 2^31.
 ///
 /// The rate is that of the usual formula, (1 - (1 - 1 / bits)^(hashes * keys))^hashes, which takes
 /// the indexes as random. That it is not exceeded is proved; that no smaller table would do is

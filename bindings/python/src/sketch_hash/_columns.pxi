@@ -52,8 +52,6 @@ cdef class Column:
     cdef size_t hash(self, bint is_murmur, uint64_t seed, void *out) nogil:
         if not self.is_pair:
             return sketch_xxh64_each_u64(<const uint64_t *>self.numbers.buf, self.count(), seed, out, self.count())
-        if self.places == 0:
-            return 0  # a column of no keys may have no offsets
         cdef const uint32_t *narrow = <const uint32_t *>self.offsets
         cdef const uint64_t *wide = <const uint64_t *>self.offsets
         if is_murmur:
