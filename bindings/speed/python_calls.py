@@ -30,7 +30,8 @@ for case, call, length in CASES:
     ratios = sorted(ours() / theirs() for _ in range(101))
     print(f"python\t{case}\tpython3-xxhash\t{statistics.median(ratios):.2f}\t{ratios[10]:.2f}\t{ratios[90]:.2f}")
 
-data = bytes(16)
-for case, call in (("insert", table.insert), ("look-up", table.__contains__)):
-    nanoseconds = sorted(timeit.timeit(lambda: call(data), timer=time.thread_time, number=10_000) / 1e-5 for _ in range(101))
+names = {"table": table, "data": bytes(16)}
+for case, call in (("insert", "table.insert(data)"), ("look-up", "data in table")):
+    it = timeit.Timer(call, globals=names, timer=time.thread_time)
+    nanoseconds = sorted(it.timeit(10_000) / 1e-5 for _ in range(101))
     print(f"python\t{case} of a filter, 16 bytes\tnanoseconds\t{nanoseconds[50]:.0f}\t{nanoseconds[10]:.0f}\t{nanoseconds[90]:.0f}")

@@ -45,6 +45,11 @@ cdef extern from "Python.h":
     ctypedef struct PyTypeObject:
         newfunc tp_new
         const char *tp_name
+        PyObject *tp_dict
+    ctypedef struct PyMethodDescrObject:
+        void *d_method
+    object PyDescr_NewMethod(PyTypeObject *, void *)
+    void PyType_Modified(PyTypeObject *)
     object PyNumber_Index(object)
     uint64_t PyLong_AsUnsignedLongLong(object) except? 0xFFFF_FFFF_FFFF_FFFF
     object PyUnicode_New(Py_ssize_t, Py_UCS4)
@@ -199,6 +204,18 @@ cdef inline bytes as_in_memory(sketch_murmur3_x64_128_hash_t pair):
 include "_hashes.pxi"
 include "_columns.pxi"
 include "_table.pxi"
+
+
+cdef take_methods(PyTypeObject *kind):
+    """Makes inherited methods a type's own, which Python calls in two thirds of the time."""
+    for name, method in vars(_Hash).items():
+        if type(method) is type(_Hash.digest):
+            (<object>kind.tp_dict)[name] = PyDescr_NewMethod(kind, (<PyMethodDescrObject *>method).d_method)
+    PyType_Modified(kind)
+
+
+take_methods(<PyTypeObject *>xxh64)
+take_methods(<PyTypeObject *>murmur3_x64_128)
 
 # Pickles name the package, and not this part of it.
 (<PyTypeObject *>_Hash).tp_name = "sketch_hash._Hash"

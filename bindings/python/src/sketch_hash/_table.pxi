@@ -88,8 +88,8 @@ cdef class MemberTable:
     @classmethod
     def for_keys(cls, keys, one_in, *, seed=0):
         """for_keys($type, keys, one_in, *, seed=0)\n--\n\nThe smallest table that will report at most one in one_in of
-        other keys, once it has so many keys. If no table of 2**20 bits does, or one of the two is above 2**31, ValueError is
-        raised.
+        other keys, once it has so many keys. If no table of 2**20 bits does, or one of the two is above 2**31,
+        ValueError is raised.
         """
         cdef unsigned log2_bits = 0, hashes = 0
         cdef uint64_t n = word_of(keys, "keys"), rate = word_of(one_in, "one_in")
