@@ -72,14 +72,11 @@ viewed table bytes is form =
     all_pass-append (length bytes) (steps bytes) (version_step bytes ∷ [])
     (passes table bytes is (inr form)) ((omega (arith, count), ap (λ b. get_or b 0 0) form), tt)
 
-pub same_table : (s l h s' l' h' : ℕ) (c c' : Option ℕ) (b b' : List ℕ) →
-    s ≡ s' → l ≡ l' → h ≡ h' → c ≡ c' → b ≡ b' →
-    let table : Table =
-    record { seed = s; log2_bits = l; hashes = h; count = c; bits = b } in
-    let other : Table =
-    record { seed = s'; log2_bits = l'; hashes = h'; count = c'; bits = b' } in
-    table ≡ other
-same_table s l h s' l' h' c c' b b' e f g k m = rw (e, f, g, k, m) refl
+-- tables are the same whose parts are
+pub same_table : (table other : Table) → table.seed ≡ other.seed → table.log2_bits ≡ other.log2_bits →
+    table.hashes ≡ other.hashes → table.count ≡ other.count → table.bits ≡ other.bits → table ≡ other
+same_table table other e f g k m i =
+    record { seed = e i; log2_bits = f i; hashes = g i; count = k i; bits = m i }
 
 -- a table by its bytes
 pub record Places (table : Table) (bytes : List ℕ) : Type 0 where
@@ -128,11 +125,9 @@ once : (table other : Table) (bytes : List ℕ) → IsTable table → IsTable ot
 once table other bytes is others form other_form =
     let p = places table bytes is form in
     let q = places other bytes others other_form in
-    same_table table.seed table.log2_bits table.hashes other.seed other.log2_bits other.hashes
-    table.count other.count table.bits other.bits
-    (p.seed ∙ sym q.seed) (p.log2_bits ∙ sym q.log2_bits) (p.hashes ∙ sym q.hashes)
-    (same_count table.count other.count (p.flag ∙ sym q.flag) (p.number ∙ sym q.number))
-    (p.bits ∙ sym q.bits)
+    let count = same_count table.count other.count (p.flag ∙ sym q.flag) (p.number ∙ sym q.number) in
+    same_table table other (p.seed ∙ sym q.seed) (p.log2_bits ∙ sym q.log2_bits)
+    (p.hashes ∙ sym q.hashes) count (p.bits ∙ sym q.bits)
 
 version1 : (table read : Table) → IsTable table → IsTable read → IsForm read (form1 table) →
     read ≡ record table { count = None }

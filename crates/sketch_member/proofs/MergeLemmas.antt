@@ -47,8 +47,7 @@ alike_index a b fed i alike is =
 same_by_bits : (a b : Table) → IsTable a → IsTable b → AreAlike a b → a.count ≡ b.count →
     ((i : ℕ) → IsSet a.bits i ↔ IsSet b.bits i) → a ≡ b
 same_by_bits a b is_a is_b alike count set =
-    same_table a.seed a.log2_bits a.hashes b.seed b.log2_bits b.hashes a.count b.count a.bits b.bits
-    alike.seed alike.log2_bits alike.hashes count
+    same_table a b alike.seed alike.log2_bits alike.hashes count
     (same_table_bits a b is_a is_b alike.log2_bits set)
 
 -- ---- what a merged table stands for
@@ -355,8 +354,7 @@ itself : (table after : Table) → IsTable table → IsTable after → Merges ta
     after ≡ record table { count = after.count }
 itself table after is_table is_after merges =
     let kept = turned table after merges.kept in
-    same_table after.seed after.log2_bits after.hashes table.seed table.log2_bits table.hashes
-    after.count after.count after.bits table.bits kept.seed kept.log2_bits kept.hashes refl
+    same_table after (record table { count = after.count }) kept.seed kept.log2_bits kept.hashes refl
     (same_table_bits after table is_after is_table kept.log2_bits (λ i. (
       (λ is. elim ((merges.bits i).0 is) [ inl was ↦ was | inr was ↦ was ]),
       (λ is. (merges.bits i).1 (inl is)),

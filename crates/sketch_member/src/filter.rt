@@ -57,12 +57,8 @@ impl Filter {
     // The filter of a table of no inserts.
     pub(crate) fn new(seed: u64, log2_bits: u8, hashes: u8) -> Result<Filter, Fault>
         ensures { MatchResult result
-            (λ filter. IsLog2Bits log2_bits × IsHashes hashes × (filter ≡ record {
-              seed = seed;
-              log2_bits = log2_bits;
-              hashes = hashes;
-              count = Some 0;
-            }))
+            (λ filter. IsLog2Bits log2_bits × IsHashes hashes × (filter ≡
+            record { seed = seed; log2_bits = log2_bits; hashes = hashes; count = Some 0 }))
             (λ fault. IsFirstFault 0 (new_steps log2_bits hashes) fault) }
     {
         ensure_log2_bits(log2_bits)?;

@@ -93,10 +93,8 @@ impl MemberTable {
             Ok(parts) => parts,
             Err(fault) => return Err(fault.into_error(alloc, ErrorKind::InvalidData)),
         };
-        Ok(MemberTable {
-            filter,
-            bits: bits.to_vec(alloc)?,
-        })
+        let bits = bits.to_vec(alloc)?;
+        Ok(MemberTable { filter, bits })
     }
 
     /// Inserts a value. A known count grows by one and stays at the greatest `u64`; an unknown one
