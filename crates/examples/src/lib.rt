@@ -6,7 +6,6 @@ pub mod items;
 pub mod keys;
 pub mod own;
 pub mod seen;
-pub mod sentence;
 pub mod sketch;
 pub mod streams;
 #[cfg(test)]

@@ -38,7 +38,7 @@ kept_elsewhere xs i k within differ = elim (cases_eq (k / 8) (i / 8)) [
 ]
 
 -- setting bit i sets it and leaves the others
-pub set_bit : (xs : List ℕ) (i k place : ℕ) → place ≡ i % 8 → i / 8 < length xs →
+set_bit : (xs : List ℕ) (i k place : ℕ) → place ≡ i % 8 → i / 8 < length xs →
     IsSet (set xs (i / 8) (bit_or (get_or xs (i / 8) 0) (1 * 2 ^ place % 2 ^ 8))) k
     ↔ (IsSet xs k ⊎ (k ≡ i))
 set_bit xs i k place low within = rw low (elim (cases_eq k i) [
@@ -50,17 +50,6 @@ set_bit xs i k place low within = rw low (elim (cases_eq k i) [
         (λ is. inl (sym kept ∙ is)),
         (λ was. elim was [ inl is ↦ kept ∙ is | inr same ↦ absurd (differ same) ]),
       )
-])
-
--- and leaves bytes
-pub set_bit_bytes : (xs : List ℕ) (i place : ℕ) → place ≡ i % 8 → i / 8 < length xs →
-    ((k : ℕ) → Fits w8 (get_or xs k 0)) → (k : ℕ) →
-    get_or (set xs (i / 8) (bit_or (get_or xs (i / 8) 0) (1 * 2 ^ place % 2 ^ 8))) k 0 < 256
-set_bit_bytes xs i place low within bytes k = rw low (elim (cases_eq k (i / 8)) [
-  | inl same ↦
-      rw (same, get_or-set_same xs (i / 8) (byte_with xs i) 0 within)
-      (or_of_8 (get_or xs (i / 8) 0) (1 * 2 ^ (i % 8) % 2 ^ 8) (bytes (i / 8)).fits (omega arith))
-  | inr other ↦ rw (get_or-set_other xs (i / 8) k (byte_with xs i) 0 other) (bytes k).fits
 ])
 
 -- what search takes for that, where the place in the byte is a number of its own
@@ -77,10 +66,16 @@ pub set_too : (xs : List ℕ) (i k place : ℕ) → place ≡ i % 8 → i < leng
     IsSet (set xs (i / 8) (bit_or (get_or xs (i / 8) 0) (1 * 2 ^ place % 2 ^ 8))) k
 set_too xs i k place low within = (set_bit xs i k place low (omega (arith, within))).1
 
+-- bytes stay bytes
 pub set_bytes : (xs : List ℕ) (i k place : ℕ) → place ≡ i % 8 → i < length xs * 8 →
     ((k : ℕ) → Fits w8 (get_or xs k 0)) →
     get_or (set xs (i / 8) (bit_or (get_or xs (i / 8) 0) (1 * 2 ^ place % 2 ^ 8))) k 0 < 256
-set_bytes xs i k place low within bytes = set_bit_bytes xs i place low (omega (arith, within)) bytes k
+set_bytes xs i k place low within bytes = rw low (elim (cases_eq k (i / 8)) [
+  | inl same ↦
+      rw (same, get_or-set_same xs (i / 8) (byte_with xs i) 0 (omega (arith, within)))
+      (or_of_8 (get_or xs (i / 8) 0) (1 * 2 ^ (i % 8) % 2 ^ 8) (bytes (i / 8)).fits (omega arith))
+  | inr other ↦ rw (get_or-set_other xs (i / 8) k (byte_with xs i) 0 other) (bytes k).fits
+])
 
 pub ruleset one_set = (low_three, set_only, set_too, set_bytes)
 
@@ -135,27 +130,7 @@ max_of_digits a b ha hb = (
   ]),
 )
 
--- where each byte is joined with that of its place, the bits that are set are those of both
-pub joined_bits : (xs ys zs : List ℕ) → length zs ≡ length xs → length xs ≡ length ys →
-    ((k : ℕ) → k < length xs → get_or zs k 0 ≡ bit_or (get_or xs k 0) (get_or ys k 0)) →
-    (i : ℕ) → IsSet zs i ↔ (IsSet xs i ⊎ IsSet ys i)
-joined_bits xs ys zs count counts joined i =
-    let digit = ap (λ b. bit_at b (i % 8)) (byte (i / 8))
-    ∙ bit_at_or (get_or xs (i / 8) 0) (get_or ys (i / 8) 0) (i % 8) in
-    let one = max_of_digits _ _ (bit_at-lt (get_or xs (i / 8) 0) (i % 8))
-    (bit_at-lt (get_or ys (i / 8) 0) (i % 8)) in
-    ((λ is. one.0 (sym digit ∙ is)), (λ is. digit ∙ one.1 is))
-  where
-    byte : (k : ℕ) → get_or zs k 0 ≡ bit_or (get_or xs k 0) (get_or ys k 0)
-    byte k = elim (cases_lt k (length xs)) [
-      | inl within ↦ joined k within
-      | inr past ↦
-          let e = get_or_past xs k 0 past in
-          let f = get_or_past ys k 0 (omega (arith, counts, past)) in
-          get_or_past zs k 0 (omega (arith, count, past)) ∙ sym (rw (e, f) refl)
-    ]
-
--- what search takes for that
+-- bytes past the end are none
 pub past_end : (xs : List ℕ) (k : ℕ) → length xs ≤ k → get_or xs k 0 ≡ 0
 past_end xs k past = get_or_past xs k 0 past
 

@@ -50,8 +50,17 @@ form_read : (table : Table) (bytes : List ℕ) → AreBytes bytes → Places tab
     AllPass (length bytes) (kind_steps bytes) → AllPass (length bytes) (number_steps bytes) →
     IsForm table bytes
 form_read table bytes are p (kind, (version, (family, _))) (flag, (seed, (count, _))) =
-    let start = first_eight bytes flag.0 in
-    let front = next_eight bytes 8 are seed.0 in
+    let start : bytes ≡ get_or bytes 0 0 ∷ get_or bytes 1 0 ∷ 200 ∷ table.log2_bits ∷ table.hashes
+    ∷ get_or bytes 5 0 ∷ 0 ∷ 0 ∷ eight table.seed ++ drop 16 bytes =
+    first_eight bytes flag.0 ∙ rw (
+      family.1,
+      ← p.log2_bits,
+      ← p.hashes,
+      flag.1.1,
+      flag.1.2,
+      next_eight bytes 8 are seed.0,
+      ← p.seed,
+    ) refl in
     elim (either 2 3 (get_or bytes 0 0) kind.1) [
       | inl two ↦
           let unset : get_or bytes 5 0 ≡ 0 = elim flag.1.0 [
@@ -60,43 +69,14 @@ form_read table bytes are p (kind, (version, (family, _))) (flag, (seed, (count,
           ] in
           let one : get_or bytes 1 0 ≡ 1 = version.1 ∙ ap (λ n. n - 1) two in
           let bits : table.bits ≡ drop 16 bytes = p.bits ∙ ap (λ n. drop (8 * n) bytes) two in
-          inl (
-            unknown_count table.count (p.flag ∙ unset),
-            start ∙ rw (
-              two,
-              one,
-              family.1,
-              ← p.log2_bits,
-              ← p.hashes,
-              unset,
-              flag.1.1,
-              flag.1.2,
-              front,
-              ← p.seed,
-              ← bits,
-            ) refl,
-          )
+          inl (unknown_count table.count (p.flag ∙ unset), start ∙ rw (two, one, unset, ← bits) refl)
       | inr three ↦
           let two : get_or bytes 1 0 ≡ 2 = version.1 ∙ ap (λ n. n - 1) three in
           let long : 16 + 8 ≤ length bytes = omega (arith, three, count.0) in
-          let back = next_eight bytes 16 are long in
           let bits : table.bits ≡ drop 24 bytes = p.bits ∙ ap (λ n. drop (8 * n) bytes) three in
           let number = p.number ∙ ap (λ n. le (take (8 * n - 16) (drop 16 bytes))) three in
-          inr (start ∙ rw (
-            three,
-            two,
-            family.1,
-            ← p.log2_bits,
-            ← p.hashes,
-            ← p.flag,
-            flag.1.1,
-            flag.1.2,
-            front,
-            ← p.seed,
-            back,
-            ← number,
-            ← bits,
-          ) refl)
+          let back = next_eight bytes 16 are long in
+          inr (start ∙ rw (three, two, ← p.flag, back, ← number, ← bits) refl)
     ]
 
 -- it is a table, with as many bytes of bits as it needs

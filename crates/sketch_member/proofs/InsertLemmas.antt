@@ -116,10 +116,7 @@ once table other values others is is_other seed log2_bits hashes stands stands_o
           )),
     )) in (
       bits,
-      (λ count.
-          same_table table.seed table.log2_bits table.hashes other.seed other.log2_bits
-          other.hashes table.count other.count table.bits other.bits seed log2_bits hashes count
-          bits),
+      (λ count. same_table table other seed log2_bits hashes count bits),
     )
 
 pub insert_law : InsertLaw

@@ -1,12 +1,12 @@
 -- The law of tables and their bytes.
-use Rattle.std.proofs.Common.{◌≡◌, ℕ, List, [], ◌∷◌, length, get_or, take, drop, refl, sym, ap, subst, ◌∙◌, arith, inl, inr}
-use Rattle.std.specs.Prelude.{Option, None, Some, IfSome}
+use Rattle.std.proofs.Common.{◌≡◌, ℕ, ◌+◌, ◌*◌, List, [], ◌∷◌, ◌++◌, length, length-append, get_or, take, drop, refl, sym, ap, subst, ◌∙◌, arith, inl, inr}
+use Rattle.std.specs.Prelude.{Contains, Option, None, Some, IfSome}
 use Rattle.datasketches.specs.Bytes.{le, eight}
 use Rattle.datasketches.specs.Words.{IsWord}
 use Rattle.datasketches.proofs.BytesLemmas.{le-back}
 use Rattle.sketch_member.proofs.FaultLemmas.{all_pass-append}
-use Rattle.sketch_member.specs.Faults.{AllPass, IsFlag, count_number, header_length, steps, version_step, view_steps}
-use Rattle.sketch_member.specs.Form.{IsForm, flag_of, form1, form2, number_of}
+use Rattle.sketch_member.specs.Faults.{AllPass, IsFlag, bits_steps, count_number, header_length, kind_steps, number_steps, size_steps, steps, version_step, view_steps}
+use Rattle.sketch_member.specs.Form.{IsForm, flag_of, form, form1, form2, number_of}
 use Rattle.sketch_member.specs.Laws.{FormLaw}
 use Rattle.sketch_member.specs.Table.{Table, IsTable, byte_count}
 
@@ -23,67 +23,46 @@ pub unknown_count : (count : Option ℕ) → flag_of count ≡ 0 → count ≡ N
 unknown_count None e = refl
 unknown_count (Some n) e = cc
 
+-- bytes pass in a version of these numbers
+form_passes : (version flag : ℕ) (number : List ℕ) (table : Table) → IsTable table →
+    Contains (2 ∷ 3 ∷ []) (version + 1) → IsFlag (version + 1) flag →
+    16 + length number ≡ 8 * (version + 1) →
+    (flag ≡ 0 → count_number (form version flag number table) ≡ 0) →
+    AllPass (length (form version flag number table)) (steps (form version flag number table))
+form_passes version flag number table is known is_flag long zero =
+    let bytes : List ℕ = form version flag number table in
+    let full : byte_count table.log2_bits ≡ length table.bits = omega (arith, is.bits) in
+    let back = length-append number table.bits in
+    let kind : AllPass (length bytes) (kind_steps bytes) =
+    ((omega arith, known), ((omega arith, omega arith), ((omega arith, refl), tt))) in
+    let sizes : AllPass (length bytes) (size_steps bytes) =
+    ((omega arith, is.log2_bits), ((omega arith, is.hashes), tt)) in
+    let numbers : AllPass (length bytes) (number_steps bytes) =
+    ((omega arith, (is_flag, refl, refl)), ((omega arith, tt), ((omega (arith, back, long), zero), tt))) in
+    let last = bits_steps bytes (header_length bytes) (byte_count table.log2_bits) in
+    let bits : AllPass (length bytes) last = (
+      (omega (arith, back, long), omega (arith, back, long, full)),
+      ((omega (arith, back, long), omega (arith, back, long, full)), tt),
+    ) in
+    let later = number_steps bytes ++ last in
+    all_pass-append (length bytes) (kind_steps bytes) (size_steps bytes ++ later) kind
+    (all_pass-append (length bytes) (size_steps bytes) later sizes
+    (all_pass-append (length bytes) (number_steps bytes) last numbers bits))
+
 -- the bytes of a table pass
 passes : (table : Table) (bytes : List ℕ) → IsTable table → IsForm table bytes →
     AllPass (length bytes) (steps bytes)
 passes table bytes is form =
-    let full : byte_count table.log2_bits ≡ length table.bits = omega (arith, is.bits) in
     let P : List ℕ → Type 0 = λ b. AllPass (length b) (steps b) in
     elim form [
-      | inl first ↦ subst P (sym first.1) (
-        (omega arith, (0, omega arith, refl)),
-        (
-          (omega arith, refl),
-          (
-            (omega arith, refl),
-            (
-              (omega arith, is.log2_bits),
-              (
-                (omega arith, is.hashes),
-                (
-                  (omega arith, (inl refl, refl, refl)),
-                  (
-                    (omega arith, tt),
-                    (
-                      (omega arith, (λ _. refl)),
-                      ((omega arith, omega (arith, full)), ((omega arith, omega (arith, full)), tt)),
-                    ),
-                  ),
-                ),
-              ),
-            ),
-          ),
-        ),
-      )
+      | inl first ↦
+          subst P (sym first.1)
+          (form_passes 1 0 [] table is (0, omega arith, refl) (inl refl) refl (λ _. refl))
       | inr second ↦
           let back = le-back 8 (number_of table.count) (number_word table.count is.count) in
-          let zero : flag_of table.count ≡ 0 → le (eight (number_of table.count)) ≡ 0 =
-          λ zero. back ∙ ap number_of (unknown_count table.count zero) in
-          subst P (sym second) (
-            (omega arith, (1, omega arith, refl)),
-            (
-              (omega arith, refl),
-              (
-                (omega arith, refl),
-                (
-                  (omega arith, is.log2_bits),
-                  (
-                    (omega arith, is.hashes),
-                    (
-                      (omega arith, (flag_is table.count, refl, refl)),
-                      (
-                        (omega arith, tt),
-                        (
-                          (omega arith, zero),
-                          ((omega arith, omega (arith, full)), ((omega arith, omega (arith, full)), tt)),
-                        ),
-                      ),
-                    ),
-                  ),
-                ),
-              ),
-            ),
-          )
+          subst P (sym second) (form_passes 2 (flag_of table.count) (eight (number_of table.count)) table is
+          (1, omega arith, refl) (flag_is table.count) refl
+          (λ unset. back ∙ ap number_of (unknown_count table.count unset)))
     ]
 
 viewed : (table : Table) (bytes : List ℕ) → IsTable table → bytes ≡ form2 table →
@@ -93,14 +72,11 @@ viewed table bytes is form =
     all_pass-append (length bytes) (steps bytes) (version_step bytes ∷ [])
     (passes table bytes is (inr form)) ((omega (arith, count), ap (λ b. get_or b 0 0) form), tt)
 
-pub same_table : (s l h s' l' h' : ℕ) (c c' : Option ℕ) (b b' : List ℕ) →
-    s ≡ s' → l ≡ l' → h ≡ h' → c ≡ c' → b ≡ b' →
-    let table : Table =
-    record { seed = s; log2_bits = l; hashes = h; count = c; bits = b } in
-    let other : Table =
-    record { seed = s'; log2_bits = l'; hashes = h'; count = c'; bits = b' } in
-    table ≡ other
-same_table s l h s' l' h' c c' b b' e f g k m = rw (e, f, g, k, m) refl
+-- tables are the same whose parts are
+pub same_table : (table other : Table) → table.seed ≡ other.seed → table.log2_bits ≡ other.log2_bits →
+    table.hashes ≡ other.hashes → table.count ≡ other.count → table.bits ≡ other.bits → table ≡ other
+same_table table other e f g k m i =
+    record { seed = e i; log2_bits = f i; hashes = g i; count = k i; bits = m i }
 
 -- a table by its bytes
 pub record Places (table : Table) (bytes : List ℕ) : Type 0 where
@@ -149,11 +125,9 @@ once : (table other : Table) (bytes : List ℕ) → IsTable table → IsTable ot
 once table other bytes is others form other_form =
     let p = places table bytes is form in
     let q = places other bytes others other_form in
-    same_table table.seed table.log2_bits table.hashes other.seed other.log2_bits other.hashes
-    table.count other.count table.bits other.bits
-    (p.seed ∙ sym q.seed) (p.log2_bits ∙ sym q.log2_bits) (p.hashes ∙ sym q.hashes)
-    (same_count table.count other.count (p.flag ∙ sym q.flag) (p.number ∙ sym q.number))
-    (p.bits ∙ sym q.bits)
+    let count = same_count table.count other.count (p.flag ∙ sym q.flag) (p.number ∙ sym q.number) in
+    same_table table other (p.seed ∙ sym q.seed) (p.log2_bits ∙ sym q.log2_bits)
+    (p.hashes ∙ sym q.hashes) count (p.bits ∙ sym q.bits)
 
 version1 : (table read : Table) → IsTable table → IsTable read → IsForm read (form1 table) →
     read ≡ record table { count = None }

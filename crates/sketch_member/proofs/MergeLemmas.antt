@@ -11,7 +11,7 @@ use Rattle.sketch_member.proofs.BitLemmas.{zeros-get}
 use Rattle.sketch_member.proofs.InsertLemmas.{insert_law, same_index, same_table_bits}
 use Rattle.sketch_member.proofs.LawLemmas.{form_law, same_table}
 use Rattle.sketch_member.specs.Form.{form2}
-use Rattle.sketch_member.specs.Laws.{InsertsAll, IsMadeOf, MergeLaw, StandsFor, count_after}
+use Rattle.sketch_member.specs.Laws.{AreMadeOf, InsertsAll, IsMadeOf, MergeLaw, StandsFor, count_after}
 use Rattle.sketch_member.specs.declared.fault.Difference.{Difference}
 use Rattle.sketch_member.specs.declared.fault.Difference.TheVariants.{Seed, Log2Bits, Hashes}
 use Rattle.sketch_member.specs.Merge.{AreAlike, IsFirstDifference, Merges, sum_of_counts}
@@ -47,8 +47,7 @@ alike_index a b fed i alike is =
 same_by_bits : (a b : Table) → IsTable a → IsTable b → AreAlike a b → a.count ≡ b.count →
     ((i : ℕ) → IsSet a.bits i ↔ IsSet b.bits i) → a ≡ b
 same_by_bits a b is_a is_b alike count set =
-    same_table a.seed a.log2_bits a.hashes b.seed b.log2_bits b.hashes a.count b.count a.bits b.bits
-    alike.seed alike.log2_bits alike.hashes count
+    same_table a b alike.seed alike.log2_bits alike.hashes count
     (same_table_bits a b is_a is_b alike.log2_bits set)
 
 -- ---- what a merged table stands for
@@ -117,18 +116,18 @@ all_alike (fed ∷ values) before after (next, inserts, rest) =
     } in
     chained before next after first (all_alike values next after rest)
 
--- tables of one seed and sizes to which values were inserted differ in no part
-pub no_difference : (seed log2_bits hashes : ℕ) (values others : List (List ℕ))
-    (start table start_other other : Table) →
-    start ≡ empty_table seed log2_bits hashes → InsertsAll values start table →
-    start_other ≡ empty_table seed log2_bits hashes → InsertsAll others start_other other →
-    (part : Difference) → IsFirstDifference table other part → ⊥
-no_difference seed log2_bits hashes values others start table start_other other is_empty all is_empty_other
-    all_other part differ =
-    let back = turned start table (all_alike values start table all) in
-    let one_start = alike_if_same (is_empty ∙ sym is_empty_other) in
-    let onward = chained start start_other other one_start (all_alike others start_other other all_other) in
-    refuted part differ (chained table start other back onward)
+-- so tables of inserts into one table are alike
+both_alike : (values others : List (List ℕ)) (start table other : Table) →
+    InsertsAll values start table → InsertsAll others start other → AreAlike table other
+both_alike values others start table other all all_other =
+    chained table start other (turned start table (all_alike values start table all))
+    (all_alike others start other all_other)
+
+-- and differ in no part
+pub no_difference : (values others : List (List ℕ)) (start table other : Table) (part : Difference) →
+    InsertsAll values start table → InsertsAll others start other → IsFirstDifference table other part → ⊥
+no_difference values others start table other part all all_other differ =
+    refuted part differ (both_alike values others start table other all all_other)
   where
     refuted : (part : Difference) → IsFirstDifference table other part → AreAlike table other → ⊥
     refuted Seed differ alike = differ alike.seed
@@ -240,47 +239,24 @@ streams before other after whole first second is_after is_whole alike merges mad
     (insert_law.once after whole (first ++ second) (first ++ second) is_after is_whole
     same.seed same.log2_bits same.hashes stands all.0 (λ fed. ((λ is. is), (λ is. is)))).1 count
 
--- the table of both streams, one after the other
-pub made_whole : (seed log2_bits hashes : ℕ) (first second : List (List ℕ))
-    (start half whole : Table) → start ≡ empty_table seed log2_bits hashes →
-    InsertsAll first start half → InsertsAll second half whole →
-    AreAlike (empty_table seed log2_bits hashes) whole × IsMadeOf (first ++ second) whole
-made_whole seed log2_bits hashes first second start half whole is_empty all rest =
-    let values = first ++ second in
-    let inserts : InsertsAll values (empty_table seed log2_bits hashes) whole =
-    subst (λ t. InsertsAll values t whole) is_empty
-    (inserts_append first second start half whole all rest) in (
-      all_alike values (empty_table seed log2_bits hashes) whole inserts,
-      made_of seed log2_bits hashes values whole inserts,
-    )
-
 -- made in two ways, by a merge and at once, it is the same
 pub made_both_ways : MergeLaw → (seed log2_bits hashes : ℕ) (first second : List (List ℕ))
-    (start one start_other other after start_whole half whole : Table) →
-    start ≡ empty_table seed log2_bits hashes → InsertsAll first start one →
-    start_other ≡ empty_table seed log2_bits hashes → InsertsAll second start_other other →
-    Merges other one after → start_whole ≡ empty_table seed log2_bits hashes →
-    InsertsAll first start_whole half → InsertsAll second half whole →
+    (one other after whole : Table) → InsertsAll first (empty_table seed log2_bits hashes) one →
+    InsertsAll second (empty_table seed log2_bits hashes) other → Merges other one after →
+    InsertsAll (first ++ second) (empty_table seed log2_bits hashes) whole →
     IsTable after → IsTable whole → after ≡ whole
-made_both_ways law seed log2_bits hashes first second start one start_other other after start_whole half
-    whole is_empty all_one is_empty_other all_other merges is_empty_whole all_half all_whole
-    is_after is_whole =
-    let empty = empty_table seed log2_bits hashes in
-    let of_one = subst (λ t. InsertsAll first t one) is_empty all_one in
-    let of_other = subst (λ t. InsertsAll second t other) is_empty_other all_other in
-    let of_whole = made_whole seed log2_bits hashes first second start_whole half whole
-    is_empty_whole all_half all_whole in
-    let alike = chained one empty whole (turned empty one (all_alike first empty one of_one))
-    of_whole.0 in
-    law.streams one other after whole first second is_after is_whole alike merges
-    (made_of seed log2_bits hashes first one of_one)
-    (made_of seed log2_bits hashes second other of_other) of_whole.1
+made_both_ways law seed log2_bits hashes first second one other after whole all all_other merges
+    all_whole is_after is_whole =
+    law.streams one other after whole first second is_after is_whole
+    (both_alike first (first ++ second) _ one whole all all_whole) merges
+    (made_of seed log2_bits hashes first one all)
+    (made_of seed log2_bits hashes second other all_other)
+    (made_of seed log2_bits hashes (first ++ second) whole all_whole)
 
 -- a table of inserts into an empty one is made of them, wherever its bytes lie
 pub whole_of : (seed log2_bits hashes : ℕ) (values : List (List ℕ)) (table : Table) (bytes : List ℕ) →
     InsertsAll values (empty_table seed log2_bits hashes) table → bytes ≡ form2 table →
-    (whole : Table) × AreAlike (empty_table seed log2_bits hashes) whole × IsMadeOf values whole
-    × (bytes ≡ form2 whole)
+    AreMadeOf seed log2_bits hashes values bytes
 whole_of seed log2_bits hashes values table bytes all is =
     (table, all_alike values _ table all, made_of seed log2_bits hashes values table all, is)
 
@@ -290,11 +266,9 @@ pub made_once : (seed log2_bits hashes : ℕ) (values : List (List ℕ)) (table 
     InsertsAll values (empty_table seed log2_bits hashes) other →
     IsTable table → IsTable other → table ≡ other
 made_once seed log2_bits hashes values table other all all_other is is_other =
-    let empty = empty_table seed log2_bits hashes in
     let one = made values table (made_of seed log2_bits hashes values table all) in
     let two = made values other (made_of seed log2_bits hashes values other all_other) in
-    let same = chained table empty other (turned empty table (all_alike values empty table all))
-    (all_alike values empty other all_other) in
+    let same = both_alike values values _ table other all all_other in
     (insert_law.once table other values values is is_other same.seed same.log2_bits same.hashes
     one.0 two.0 (λ fed. ((λ is. is), (λ is. is)))).1 (one.1 ∙ sym two.1)
 
@@ -379,8 +353,7 @@ itself : (table after : Table) → IsTable table → IsTable after → Merges ta
     after ≡ record table { count = after.count }
 itself table after is_table is_after merges =
     let kept = turned table after merges.kept in
-    same_table after.seed after.log2_bits after.hashes table.seed table.log2_bits table.hashes
-    after.count after.count after.bits table.bits kept.seed kept.log2_bits kept.hashes refl
+    same_table after (record table { count = after.count }) kept.seed kept.log2_bits kept.hashes refl
     (same_table_bits after table is_after is_table kept.log2_bits (λ i. (
       (λ is. elim ((merges.bits i).0 is) [ inl was ↦ was | inr was ↦ was ]),
       (λ is. (merges.bits i).1 (inl is)),

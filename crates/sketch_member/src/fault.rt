@@ -86,11 +86,8 @@ impl fmt::Display for Fault {
                 "unsupported serial version: expected {expected}, got {actual}"
             ),
             Fault::Family(n) => {
-                write!(
-                    f,
-                    "invalid family: expected {} ({}), got {n}",
-                    MEMBER.id, MEMBER.name
-                )
+                let (id, name) = (MEMBER.id, MEMBER.name);
+                write!(f, "invalid family: expected {id} ({name}), got {n}")
             }
             Fault::Log2Bits(n) => write!(f, "invalid log2 bits: expected 6 to 20, got {n}"),
             Fault::Hashes(n) => write!(f, "invalid hashes: expected 1 to 16, got {n}"),

@@ -1,14 +1,13 @@
 //! The filter: a seed, two sizes and a count, by which values are inserted into bits, looked up in
 //! them, and merged.
 
-ghost use Rattle.std.specs.Prelude.{◌≡◌, ◌⊎◌, ℕ, ◌<◌, ◌^◌, ◌↔◌, List, slice_index, IfSome, IsTrue, MatchOption, MatchResult, Some};
+ghost use Rattle.std.specs.Prelude.{◌≡◌, ℕ, ◌<◌, ◌^◌, ◌↔◌, List, IfSome, IsTrue, MatchOption, MatchResult, Some};
 ghost use Rattle.datasketches.specs.Bytes.{eight};
-ghost use Rattle.datasketches.specs.Xxh64.{xxh64};
 ghost use Rattle.sketch_member.specs.Faults.{IsFirstFault, new_steps};
 ghost use Rattle.sketch_member.specs.Filter.{table_of};
 ghost use Rattle.sketch_member.specs.Limits.{IsHashes, IsLog2Bits};
-ghost use Rattle.sketch_member.specs.Merge.{AreAlike, IsFirstDifference, Merges, sum_of_counts};
-ghost use Rattle.sketch_member.specs.Table.{Inserts, IsIndex, IsMember, IsSet, IsTable, byte_count, index, one_more};
+ghost use Rattle.sketch_member.specs.Merge.{AreAlike, IsFirstDifference, Merges};
+ghost use Rattle.sketch_member.specs.Table.{Inserts, IsMember, IsTable, byte_count, index};
 
 use crate::bits::{is_set, set, set_all};
 use crate::fault::{Difference, Fault};
@@ -58,12 +57,8 @@ impl Filter {
     // The filter of a table of no inserts.
     pub(crate) fn new(seed: u64, log2_bits: u8, hashes: u8) -> Result<Filter, Fault>
         ensures { MatchResult result
-            (λ filter. IsLog2Bits log2_bits × IsHashes hashes × (filter ≡ record {
-              seed = seed;
-              log2_bits = log2_bits;
-              hashes = hashes;
-              count = Some 0;
-            }))
+            (λ filter. IsLog2Bits log2_bits × IsHashes hashes × (filter ≡
+            record { seed = seed; log2_bits = log2_bits; hashes = hashes; count = Some 0 }))
             (λ fault. IsFirstFault 0 (new_steps log2_bits hashes) fault) }
     {
         ensure_log2_bits(log2_bits)?;
@@ -76,15 +71,20 @@ impl Filter {
         })
     }
 
-    // Inserts a value into the table with these bits.
+    // Inserts a value into the table with these bits. The word is read before: LLVM does not know
+    // that the bits lie elsewhere than the value, and would read it and multiply it again for each
+    // index.
     pub(crate) fn insert<T: Hash>(&mut self, bits: &mut [u8], value: &T)
         requires { IsTable (table_of self.old bits.old) }
         ensures inserts { Inserts (T.fed value.now) (table_of self.old bits.old)
             (table_of self.new bits.new) }
         ensures is_table { IsTable (table_of self.new bits.new) }
     {
-        self.set_bits(bits, value);
-        self.count = one_more(self.count);
+        let word = value.word();
+        for j in 0..self.hashes {
+            set(bits, self.index(value, word, j));
+        }
+        self.count = self.count.map(|n| n.saturating_add(1));
     }
 
     // Whether the table with these bits contains a value.
@@ -111,7 +111,10 @@ impl Filter {
         ensures is_table { IsTable (table_of self.new bits.new) }
     {
         set_all(bits, other_bits);
-        self.count = sum_of_counts(self.count, other.count);
+        self.count = match (self.count, other.count) {
+            (Some(m), Some(n)) => Some(m.saturating_add(n)),
+            _ => None,
+        };
     }
 
     // The first part that has to be the same in two filters, and is not.
@@ -132,20 +135,6 @@ impl Filter {
         None
     }
 
-    // Sets the bits at the indexes. The word is read before: LLVM does not know that the bits lie
-    // elsewhere than the value, and would read it and multiply it again for each index.
-    fn set_bits<T: Hash>(&self, bits: &mut [u8], value: &T)
-        requires { IsTable (table_of self.now bits.old) }
-        ensures bits { (i : ℕ) → IsSet bits.new i
-            ↔ (IsSet bits.old i ⊎ IsIndex (table_of self.now bits.old) (T.fed value.now) i) }
-        ensures bytes { (k : ℕ) → slice_index bits.new k < 256 }
-    {
-        let word = value.word();
-        for j in 0..self.hashes {
-            set(bits, self.index(value, word, j));
-        }
-    }
-
     // The value's index number `j`. A value that feeds the eight bytes of a number has that number
     // as its `word`.
     #[tactic(auto, unfolding(crate::specs::Table::index), using(crate::proofs::WordLemmas::masked))]
@@ -156,38 +145,10 @@ impl Filter {
         ensures inside { result < 2 ^ self.now.log2_bits }
     {
         let seed = self.seed.wrapping_add(u64::from(j));
-        (hash_under(seed, value, word) & ((1 << self.log2_bits) - 1)) as usize
-    }
-}
-
-// The hash of a value under a seed: that of its word, if it has one.
-#[inline(always)]
-fn hash_under<T: Hash>(seed: u64, value: &T, word: Option<u64>) -> u64
-    requires { IfSome word (λ n. T.fed value.now ≡ eight n) }
-    ensures { result ≡ xxh64 seed (T.fed value.now) }
-{
-    match word {
-        Some(n) => XxHash64::hash_u64(n, seed),
-        None => value.xxh64(seed),
-    }
-}
-
-// The count after one more insert.
-fn one_more(count: Option<u64>) -> Option<u64>
-    ensures { result ≡ one_more count }
-{
-    match count {
-        Some(n) => Some(n.saturating_add(1)),
-        None => None,
-    }
-}
-
-// The count of two tables together.
-fn sum_of_counts(count: Option<u64>, other: Option<u64>) -> Option<u64>
-    ensures { result ≡ sum_of_counts count other }
-{
-    match (count, other) {
-        (Some(m), Some(n)) => Some(m.saturating_add(n)),
-        _ => None,
+        let hash = match word {
+            Some(n) => XxHash64::hash_u64(n, seed),
+            None => value.xxh64(seed),
+        };
+        (hash & ((1 << self.log2_bits) - 1)) as usize
     }
 }

@@ -1,9 +1,9 @@
 //! The format of a table in bytes, written and read by place.
 
-ghost use Rattle.std.specs.Prelude.{◌≡◌, ◌⊎◌, ◌↔◌, ◌+◌, ◌-◌, ◌<◌, ◌≤◌, [], ◌∷◌, Contains, length, take, drop, slice_index, IfSome, MatchResult, IsTrue};
+ghost use Rattle.std.specs.Prelude.{◌≡◌, ◌⊎◌, ◌+◌, ◌-◌, ◌<◌, ◌≤◌, [], ◌∷◌, Contains, length, take, drop, slice_index, IfSome, MatchResult};
 ghost use Rattle.datasketches.specs.Bytes.{eight, le};
 ghost use Rattle.datasketches.specs.Words.{IsWord};
-ghost use Rattle.sketch_member.specs.Faults.{AllPass, IsFirstFault, IsFlag, bits_steps, count_number, header_length, kind_steps, number_steps, size_steps, steps, view_steps};
+ghost use Rattle.sketch_member.specs.Faults.{AllPass, IsFirstFault, bits_steps, count_number, kind_steps, number_steps, size_steps, steps, view_steps};
 ghost use Rattle.sketch_member.specs.Filter.{table_of};
 ghost use Rattle.sketch_member.specs.Form.{IsForm, flag_of, form2, number_of};
 ghost use Rattle.sketch_member.specs.Table.{IsTable};
@@ -35,16 +35,14 @@ impl Filter {
     pub(crate) fn to_bytes(self) -> [u8; HEADER_BYTES]
         ensures { result ≡ form2 (table_of self []) }
     {
-        let (flag, number) = count_parts(self.count);
+        let (log2_bits, hashes) = (self.log2_bits, self.hashes);
+        let (flag, number) = match self.count {
+            Some(n) => (1, n),
+            None => (0, 0),
+        };
+        let front = [LONGS_2, LONGS_2 - 1, MEMBER.id, log2_bits, hashes, flag];
         let mut bytes = [0; HEADER_BYTES];
-        bytes[..6].copy_from_slice(&[
-            LONGS_2,
-            LONGS_2 - 1,
-            MEMBER.id,
-            self.log2_bits,
-            self.hashes,
-            flag,
-        ]);
+        bytes[..6].copy_from_slice(&front);
         bytes[8..16].copy_from_slice(&eight_bytes(self.seed));
         bytes[16..].copy_from_slice(&eight_bytes(number));
         bytes
@@ -137,11 +135,13 @@ fn read_numbers(bytes: &[u8], longs: u8) -> Result<(u64, Option<u64>), Fault>
         (λ fault. IsFirstFault (length bytes.now) (number_steps bytes.now) fault) }
 {
     let (flag, second, third) = (byte(bytes, 5)?, byte(bytes, 6)?, byte(bytes, 7)?);
-    if !are_reserved(longs, flag, second, third) {
+    let has_count = longs == LONGS_2;
+    let is_flag = flag == 0 || (has_count && flag == 1);
+    if !is_flag || second != 0 || third != 0 {
         return Err(Fault::Reserved);
     }
     let seed = long(bytes, 8)?;
-    let number = read_count_number(bytes, longs)?;
+    let number = if has_count { long(bytes, 16)? } else { 0 };
     if flag == 1 {
         return Ok((seed, Some(number)));
     }
@@ -149,30 +149,6 @@ fn read_numbers(bytes: &[u8], longs: u8) -> Result<(u64, Option<u64>), Fault>
         return Err(Fault::UnknownCount);
     }
     Ok((seed, None))
-}
-
-// The number that stands for the count. Version 1 has none.
-#[inline(always)]
-fn read_count_number(bytes: &[u8], longs: u8) -> Result<u64, Fault>
-    requires place { longs ≡ slice_index bytes.now 0 }
-    requires version { Contains (2 ∷ 3 ∷ []) longs }
-    requires seed { 16 ≤ length bytes.now }
-    ensures { MatchResult result
-        (λ n. (header_length bytes.now ≤ length bytes.now) × (n ≡ count_number bytes.now))
-        (λ fault. (length bytes.now < header_length bytes.now) × (fault ≡ Fault.HeaderEnds)) }
-{
-    if longs == LONGS_2 {
-        return long(bytes, 16);
-    }
-    Ok(0)
-}
-
-// Whether the bytes after the sizes are allowed: the flag is 0, or 1 in version 2, which has a
-// count; the other two are 0.
-fn are_reserved(longs: u8, flag: u8, second: u8, third: u8) -> bool
-    ensures { IsTrue result ↔ (IsFlag longs flag × (second ≡ 0) × (third ≡ 0)) }
-{
-    (flag == 0 || (longs == LONGS_2 && flag == 1)) && second == 0 && third == 0
 }
 
 // Accepts exactly as many bytes behind `start` as the bits need.
@@ -210,23 +186,9 @@ fn long(bytes: &[u8], place: usize) -> Result<u64, Fault>
         (λ n. (place + 8 ≤ length bytes.now) × (n ≡ le (take 8 (drop place bytes.now))))
         (λ fault. (length bytes.now < place + 8) × (fault ≡ Fault.HeaderEnds)) }
 {
-    let Some(long) = bytes.get(place..place + 8) else {
-        return Err(Fault::HeaderEnds);
-    };
-    match long.as_array::<8>() {
+    match bytes.get(place..place + 8).and_then(|it| it.as_array()) {
         Some(long) => Ok(u64::from_le_bytes(*long)),
         None => Err(Fault::HeaderEnds),
-    }
-}
-
-// Whether the count is known, and the number that stands for it.
-fn count_parts(count: Option<u64>) -> (u8, u64)
-    ensures flag { result.0 ≡ flag_of count }
-    ensures number { result.1 ≡ number_of count }
-{
-    match count {
-        Some(n) => (1, n),
-        None => (0, 0),
     }
 }
 

@@ -23,10 +23,8 @@ pub fn size(log2_bits: u8) -> Option<usize>
     ensures { MatchOption result (IsLog2Bits log2_bits → ⊥)
         (λ n. IsLog2Bits log2_bits × (n ≡ 24 + byte_count log2_bits)) }
 {
-    match ensure_log2_bits(log2_bits) {
-        Ok(()) => Some(HEADER_BYTES + byte_count(log2_bits)),
-        Err(_) => None,
-    }
+    ensure_log2_bits(log2_bits).ok()?;
+    Some(HEADER_BYTES + byte_count(log2_bits))
 }
 
 /// Makes the bytes a table with no bit set, of no inserts.

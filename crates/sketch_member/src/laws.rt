@@ -4,9 +4,8 @@ ghost use Rattle.std.specs.Prelude.{◌≡◌, ◌↔◌, ◌⊎◌, ◌++◌, �
 ghost use Rattle.datasketches.specs.ErrorValue.{memory_error};
 ghost use Rattle.sketch_member.specs.Faults.{FirstFault, IsNewError, IsStepsError, IsFirstFault, init_steps, steps};
 ghost use Rattle.sketch_member.specs.Form.{IsForm, form1, form2};
-ghost use Rattle.sketch_member.specs.Merge.{AreAlike};
 ghost use Rattle.sketch_member.specs.Table.{IsMember, IsTable, Table, empty_table};
-ghost use Rattle.sketch_member.specs.Laws.{FormLaw, InsertLaw, InsertsAll, IsMadeOf, MergeLaw};
+ghost use Rattle.sketch_member.specs.Laws.{AreMadeOf, FormLaw, InsertLaw, InsertsAll, MergeLaw};
 
 pub use crate::table::table_law;
 use crate::{Fault, MemberTable, in_place};
@@ -81,10 +80,8 @@ pub fn merge_both<T: Hash>(
     second: &[T],
 ) -> Result<(Vec<u8>, Vec<u8>), Error>
     ensures same { IfOk result (λ both. both.0.items ≡ both.1.items) }
-    ensures whole { IfOk result (λ both. (whole : Table)
-        × AreAlike (empty_table seed log2_bits hashes) whole
-        × IsMadeOf (map T.fed first.now ++ map T.fed second.now) whole
-        × (both.1.items ≡ form2 whole)) }
+    ensures whole { IfOk result (λ both. AreMadeOf seed log2_bits hashes
+        (map T.fed first.now ++ map T.fed second.now) both.1.items) }
     ensures refused { IfErr result (IsNewError log2_bits hashes) }
 {
     merge_law();
@@ -126,18 +123,14 @@ pub fn insert_both<T: Hash>(
     values: &[T],
 ) -> Result<Vec<u8>, Error>
     ensures same { IfOk result (λ made. bytes.new ≡ made.items) }
-    ensures whole { IfOk result (λ made. (whole : Table)
-        × AreAlike (empty_table seed log2_bits hashes) whole
-        × IsMadeOf (map T.fed values.now) whole
-        × (made.items ≡ form2 whole)) }
+    ensures whole { IfOk result (λ made.
+        AreMadeOf seed log2_bits hashes (map T.fed values.now) made.items) }
     ensures refused { IfErr result (λ error. ((bytes.new ≡ bytes.old)
         × FirstFault ErrorKind.InvalidArgument (length bytes.old)
         (init_steps log2_bits hashes bytes.old) error)
         ⊎ (error ≡ memory_error)) }
-    ensures left { IfErr result (λ _. (bytes.new ≡ bytes.old) ⊎ (whole : Table)
-        × AreAlike (empty_table seed log2_bits hashes) whole
-        × IsMadeOf (map T.fed values.now) whole
-        × (bytes.new ≡ form2 whole)) }
+    ensures left { IfErr result (λ _. (bytes.new ≡ bytes.old)
+        ⊎ AreMadeOf seed log2_bits hashes (map T.fed values.now) bytes.new) }
 {
     if let Err(fault) = insert_all_in_place(bytes, seed, log2_bits, hashes, values) {
         return Err(fault.into_error(alloc, ErrorKind::InvalidArgument));

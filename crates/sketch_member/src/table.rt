@@ -1,15 +1,14 @@
 //! The table that a caller owns.
 
 ghost use Rattle.std.specs.Prelude.{◌≡◌, ◌⊎◌, ℕ, ◌↔◌, length, IfOk, IsTrue, MatchResult};
-ghost use Rattle.datasketches.specs.Refusals.{Refuses};
 ghost use Rattle.sketch_member.specs.Faults.{IsNewError, IsStepsError, steps};
 ghost use Rattle.sketch_member.specs.Form.{IsForm, form2};
 ghost use Rattle.sketch_member.specs.Filter.{table_of};
 ghost use Rattle.sketch_member.specs.Limits.{IsHashes, IsLog2Bits};
-ghost use Rattle.sketch_member.specs.Merge.{FirstDifference, Merges, part_name, tables_differ_text};
+ghost use Rattle.sketch_member.specs.Merge.{FirstDifference, Merges};
 ghost use Rattle.sketch_member.specs.Table.{Table, IsTable, empty_table, Inserts, IsMember, IsSet};
 
-use crate::fault::{Difference, MergeFault};
+use crate::fault::MergeFault;
 use crate::filter::{Filter, byte_count};
 use crate::format::{HEADER_BYTES, read};
 use datasketches::codec::SketchBytes;
@@ -94,10 +93,8 @@ impl MemberTable {
             Ok(parts) => parts,
             Err(fault) => return Err(fault.into_error(alloc, ErrorKind::InvalidData)),
         };
-        Ok(MemberTable {
-            filter,
-            bits: bits.to_vec(alloc)?,
-        })
+        let bits = bits.to_vec(alloc)?;
+        Ok(MemberTable { filter, bits })
     }
 
     /// Inserts a value. A known count grows by one and stays at the greatest `u64`; an unknown one
@@ -142,7 +139,8 @@ impl MemberTable {
             (λ error. (self.new ≡ self.old) × FirstDifference self.old other.now error) }
     {
         if let Some(part) = self.filter.difference(&other.filter) {
-            return Err(tables_differ(alloc, part));
+            let text = MergeFault::Unlike(part).to_string(alloc);
+            return Err(Error::from_text(alloc, ErrorKind::InvalidArgument, text));
         }
         self.filter
             .merge(&mut self.bits, &other.filter, &other.bits);
@@ -170,12 +168,4 @@ pub fn table_law(table: &MemberTable)
     ensures { IsTable table.now }
 {
     let _filter = &table.filter;
-}
-
-// The error that tells of a difference, or that memory for its text ran out.
-fn tables_differ(alloc: Global, part: Difference) -> Error
-    ensures { Refuses ErrorKind.InvalidArgument (tables_differ_text (part_name part)) result }
-{
-    let text = MergeFault::Unlike(part).to_string(alloc);
-    Error::from_text(alloc, ErrorKind::InvalidArgument, text)
 }

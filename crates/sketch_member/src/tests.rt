@@ -3,7 +3,7 @@
 mod fault;
 mod format;
 mod in_place;
-mod merging;
+mod laws;
 mod sizing;
 mod table;
 
@@ -52,10 +52,8 @@ fn refuse<T: Drop>(
     if error.kind() == ErrorKind::OutOfMemory {
         return Err(error);
     }
-    assert!(rt;
-        error.kind() == kind && error.message() == message,
-        "{message}"
-    );
+    let is_told = error.kind() == kind && error.message() == message;
+    assert!(rt; is_told, "{message}");
     Ok(())
 }
 

@@ -1,7 +1,7 @@
-use super::{ONE_VALUE_1, ONE_VALUE_2, UNKNOWN_COUNT, assert_done_or_no_memory};
+use super::{ONE_VALUE_1, ONE_VALUE_2, UNKNOWN_COUNT, assert_done_or_no_memory, refuse};
 use crate::MemberTable;
 use crate::laws::{read_back, read_upgraded};
-use datasketches::error::Error;
+use datasketches::error::{Error, ErrorKind};
 use datasketches::hash::value::raw_bytes;
 use std::alloc::Global;
 use std::process::Abort;
@@ -9,9 +9,9 @@ use std::test::Fail;
 
 // A seed, the two sizes, the values inserted, and the bits that are set then, as a model of the
 // format in another language gives them.
-pub(super) type Row = (u64, u8, u8, &'static [&'static [u8]], &'static [u8]);
+type Row = (u64, u8, u8, &'static [&'static [u8]], &'static [u8]);
 
-pub(super) const TABLES: [Row; 5] = [
+const TABLES: [Row; 5] = [
     (0, 6, 1, &[], &[0, 0, 0, 0, 0, 0, 0, 0]),
     (0, 6, 1, &[b""], &[0, 0, 0, 2, 0, 0, 0, 0]),
     (u64::MAX, 6, 2, &[b""], &[1, 0, 0, 2, 0, 0, 0, 0]),
@@ -42,21 +42,55 @@ fn insert_new(rt: &impl Abort, table: &mut MemberTable, value: &[u8]) {
     assert!(rt; table.contains(&value));
 }
 
+// Inserts each value into one table, and into a table of its own that is merged into another one.
 fn try_row(rt: &impl Abort, alloc: Global, row: &Row) -> Result<(), Error> {
     let (seed, log2_bits, hashes, values, bits) = *row;
     let mut table = MemberTable::new(alloc, seed, log2_bits, hashes)?;
+    let mut merged = MemberTable::new(alloc, seed, log2_bits, hashes)?;
     for value in values {
         insert_new(rt, &mut table, value);
+        let mut other = MemberTable::new(alloc, seed, log2_bits, hashes)?;
+        other.insert(&raw_bytes::from_slice(value));
+        merged.merge(alloc, &other)?;
     }
-    assert_eq!(rt; table.count(), Some(values.len() as u64));
+    assert_eq!(rt; merged.count(), Some(values.len() as u64));
     let bytes = table.to_bytes(alloc)?;
     assert_eq!(rt; bytes.get(24..), Some(bits), "under {seed}");
+    assert_eq!(rt; merged.to_bytes(alloc)?.as_slice(), bytes.as_slice());
     Ok(())
 }
 
 fn try_tables(rt: &impl Abort, alloc: Global) -> Result<(), Error> {
     for row in &TABLES {
         try_row(rt, alloc, row)?;
+    }
+    Ok(())
+}
+
+// Two sizes of which no table is.
+const SIZES: [(u8, u8, &'static str); 2] = [
+    (5, 0, "invalid log2 bits: expected 6 to 20, got 5"),
+    (20, 17, "invalid hashes: expected 1 to 16, got 17"),
+];
+
+// A seed and two sizes, and how a table of them is not merged into one of seed 9001 with 2^8 bits
+// and 3 hashes: the first difference is told.
+const UNLIKE: [(u64, u8, u8, &'static str); 3] = [
+    (9001 + (1 << 63), 7, 2, "tables differ: seed"),
+    (9001, 7, 4, "tables differ: log2 bits"),
+    (9001, 8, 2, "tables differ: hashes"),
+];
+
+fn try_refusals(rt: &impl Abort, alloc: Global) -> Result<(), Error> {
+    for (log2_bits, hashes, message) in SIZES {
+        let answer = MemberTable::new(alloc, 0, log2_bits, hashes);
+        refuse(rt, answer, ErrorKind::InvalidArgument, message)?;
+    }
+    let mut table = MemberTable::new(alloc, 9001, 8, 3)?;
+    for (seed, log2_bits, hashes, message) in UNLIKE {
+        let other = MemberTable::new(alloc, seed, log2_bits, hashes)?;
+        let answer = table.merge(alloc, &other);
+        refuse(rt, answer, ErrorKind::InvalidArgument, message)?;
     }
     Ok(())
 }
@@ -135,6 +169,7 @@ fn tables_are_written_and_read(rt: HostRuntime) -> Result<(), Fail> {
 fn tables_without_memory(rt: HostRuntime) {
     assert_done_or_no_memory(&rt, try_one_value(&rt, rt.alloc()));
     assert_done_or_no_memory(&rt, try_tables(&rt, rt.alloc()));
+    assert_done_or_no_memory(&rt, try_refusals(&rt, rt.alloc()));
     assert_done_or_no_memory(&rt, try_widest(&rt, rt.alloc()));
     assert_done_or_no_memory(&rt, try_read(&rt, rt.alloc()));
 }

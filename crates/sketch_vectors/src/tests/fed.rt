@@ -66,41 +66,21 @@ fn long_numbers_byte_by_byte(rt: HostRuntime) {
 }
 
 #[test]
-fn unsigned_numbers_extended_by_value_and_by_highest_bit(rt: HostRuntime) {
+fn numbers_extended_to_eight_bytes(rt: HostRuntime) {
     assert_words(
         &rt,
         &[
-            (feed(natural::from_u8(127)), 127),
             (feed(natural::from_u8(128)), 128),
-            (feed(natural::from_u16(32767)), 32767),
-            (feed(natural::from_u16(65535)), 65535),
-            (feed(natural::from_u32(2147483648)), 2147483648),
-            (feed(natural::from_u32(4294967295)), 4294967295),
-            (feed(sign::from_u8(127)), 127),
-            (feed(sign::from_u8(128)), -128),
-            (feed(sign::from_u16(32767)), 32767),
-            (feed(sign::from_u16(65535)), -1),
-            (feed(sign::from_u32(2147483648)), -2147483648),
-            (feed(sign::from_u32(4294967295)), -1),
-        ],
-    );
-}
-
-// A signed number has the same bytes in both ways.
-#[test]
-fn signed_numbers_extended_in_both_ways(rt: HostRuntime) {
-    assert_words(
-        &rt,
-        &[
             (feed(natural::from_i8(-128)), -128),
-            (feed(sign::from_i8(-128)), -128),
-            (feed(natural::from_i8(127)), 127),
-            (feed(sign::from_i8(-1)), -1),
+            (feed(natural::from_u16(65535)), 65535),
             (feed(natural::from_i16(-32768)), -32768),
-            (feed(sign::from_i16(-32768)), -32768),
-            (feed(natural::from_i16(-1)), -1),
-            (feed(sign::from_i16(32767)), 32767),
+            (feed(natural::from_u32(2147483648)), 2147483648),
             (feed(natural::from_i32(-2147483648)), -2147483648),
+            (feed(sign::from_u8(128)), -128),
+            (feed(sign::from_i8(-128)), -128),
+            (feed(sign::from_u16(65535)), -1),
+            (feed(sign::from_i16(32767)), 32767),
+            (feed(sign::from_u32(2147483648)), -2147483648),
             (feed(sign::from_i32(-2147483648)), -2147483648),
         ],
     );
@@ -108,31 +88,20 @@ fn signed_numbers_extended_in_both_ways(rt: HostRuntime) {
 
 #[test]
 fn plain_numbers(rt: HostRuntime) {
-    let greatest: &[u8] = b"\xff\xff\xff\xff\xff\xff\xff\x7f";
     assert_fed(
         &rt,
         &[
-            (feed(127u8), b"\x7f"),
             (feed(128u8), b"\x80"),
-            (feed(255u8), b"\xff"),
-            (feed(-128i8), b"\x80"),
             (feed(-1i8), b"\xff"),
-            (feed(127i8), b"\x7f"),
             (feed(258u16), b"\x02\x01"),
-            (feed(32767u16), b"\xff\x7f"),
-            (feed(32768u16), b"\0\x80"),
             (feed(-32768i16), b"\0\x80"),
-            (feed(-1i16), b"\xff\xff"),
-            (feed(32767i16), b"\xff\x7f"),
             (feed(2147483648u32), b"\0\0\0\x80"),
-            (feed(4294967295u32), b"\xff\xff\xff\xff"),
-            (feed(-2147483648i32), b"\0\0\0\x80"),
             (feed(-1i32), b"\xff\xff\xff\xff"),
-            (feed(9223372036854775807u64), greatest),
             (feed(18446744073709551615u64), ONES),
-            (feed(-9223372036854775808i64), b"\0\0\0\0\0\0\0\x80"),
-            (feed(-1i64), ONES),
-            (feed(9223372036854775807i64), greatest),
+            (
+                feed(9223372036854775807i64),
+                b"\xff\xff\xff\xff\xff\xff\xff\x7f",
+            ),
         ],
     );
 }

@@ -3,7 +3,7 @@
 mod answers;
 
 use super::both::Both;
-use crate::tests::{assert_same, assert_same_for};
+use crate::tests::assert_same_for;
 use answers::ANSWERS;
 use datasketches::error::ErrorKind;
 use datasketches::hash::value::{calculate_hash, natural_extend, raw_bytes, sign_extend};
@@ -12,14 +12,11 @@ use std::alloc::Global;
 
 #[test]
 fn samples_are_answered_alike(rt: HostRuntime) {
-    let mut count = 0usize;
     for line in ANSWERS.lines() {
         let (question, answer) = line.split_once(" = ").unwrap_or((line, ""));
         let expected = words_of(answer);
         assert_same_for(&rt, answer_to(rt.alloc(), question), Some(expected), line);
-        count = count.saturating_add(1);
     }
-    assert_same(&rt, count, 121);
 }
 
 // The words of an answer, and 0 after them.

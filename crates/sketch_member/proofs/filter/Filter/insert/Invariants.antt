@@ -1,7 +1,7 @@
 use Rattle.std.proofs.Common.{◌↔◌, ◌⊎◌, ◌<◌, ℕ, get_or}
 use Rattle.sketch_member.specs.Filter.{table_of}
 use Rattle.sketch_member.specs.Table.{IsIndex, IsSet}
-use Rattle.sketch_member.proofs.filter.Filter.set_bits.Given as goal
+use Rattle.sketch_member.proofs.filter.Filter.insert.Given as goal
 
 -- so far as the value has j indexes
 abbrev pub invariant-loop-j : goal.invariant-loop-j
