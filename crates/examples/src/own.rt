@@ -1,10 +1,10 @@
 //! A type and a strategy of one's own.
 
-ghost use Rattle.std.specs.Prelude.{◌++◌, reverse};
+ghost use Rattle.std.specs.Prelude.{◌≡◌, ◌++◌, IsTrue, reverse};
 ghost use Rattle.std.proofs.Common.{rules};
 ghost use Rattle.datasketches.specs.Bytes.{low_bytes, modulo};
 
-use datasketches::hash::value::{HashStrategy, Value};
+use datasketches::hash::value::{HashStrategy, Value, value_law};
 use datasketches::hash::{Hash, Hasher};
 
 /// A point of a grid, which feeds its two numbers one after the other.
@@ -39,4 +39,11 @@ impl HashStrategy<u64> for BigEndianStrategy {
     }
 
     ghost respects_eq = { Prim.search rules };
+}
+
+/// Equal values feed equal bytes, under a strategy of anybody's.
+pub fn equal_values_feed_equal_bytes<T: Eq, S: HashStrategy<T>>(x: &T, y: &T)
+    ensures { IsTrue (T.eq x.now y.now) → S.fed x.now ≡ S.fed y.now }
+{
+    value_law::<T, S>();
 }

@@ -70,6 +70,8 @@ fn one_call_answers_as_a_hasher(rt: HostRuntime) {
     let mut hasher = XxHash64::with_seed(0);
     hasher.write(&[0x7b, 0, 0, 0, 0, 0, 0, 0]);
     assert_same(&rt, XxHash64::hash_u64(123, 0), hasher.finish64());
+    let above_32_bits = XxHash64::hash_u64(1 << 32, 0x9E37_79B1);
+    assert_same(&rt, above_32_bits, 0xbe51_7b2e_515c_75b5);
 }
 
 // A state is written to, taken up by a hasher, and given back.

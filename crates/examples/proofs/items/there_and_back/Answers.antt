@@ -1,4 +1,4 @@
-use Rattle.std.proofs.Common.{◌≡◌, ◌+◌, ◌++◌, ◌∙◌, ap, length, length-append, Result, Ok, Err, IfOk, arith}
+use Rattle.std.proofs.Common.{◌≡◌, ◌+◌, ◌∙◌, ap, length, length-append, Result, Ok, Err, IfOk, arith}
 use Rattle.datasketches.specs.Items.{spell_all, widths}
 use Rattle.datasketches.proofs.ItemLemmas.{widths-take-le}
 use Rattle.examples.proofs.items.there_and_back.Goals as goal
