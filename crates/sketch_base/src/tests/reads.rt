@@ -12,6 +12,14 @@ fn reads_past_the_end_take_no_memory(rt: HostRuntime) {
 }
 
 #[test]
+fn signs_and_orders_by_the_names_of_calls(rt: HostRuntime) {
+    assert!(rt; SketchSlice::new(b"\xff\xfe").read_i16_be().ok() == Some(-2));
+    assert!(rt; SketchSlice::new(b"\xff\xfe").read_i16_le().ok() == Some(-257));
+    assert!(rt; SketchSlice::new(&[1, 2, 3, 4]).read_u32_be().ok() == Some(16909060));
+    assert!(rt; SketchSlice::new(&[1, 2, 3, 4]).read_u32_le().ok() == Some(67305985));
+}
+
+#[test]
 fn a_refused_read_leaves_the_buffer(rt: HostRuntime) {
     let mut buf = [0xaa, 0xbb, 0xcc, 0xdd];
     let mut reader = SketchSlice::new(&[1, 2, 3]);
