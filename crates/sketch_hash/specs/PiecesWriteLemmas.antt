@@ -1,4 +1,5 @@
--- Two writes leave what one write of the joined bytes leaves: the laws that both hashers prove.
+-- Two writes leave what one write of the joined bytes leaves, and an empty write leaves the state:
+-- the laws that both hashers prove.
 use Rattle.std.specs.Prelude.{◌≡◌, ℕ, zero, suc, ◌+◌, ◌*◌, ◌/◌, ◌%◌, ◌^◌, ◌<◌, ◌≤◌, List, [], ◌∷◌, ◌++◌, length, take, drop, map, refl}
 use Rattle.std.proofs.Common.{sym, ap, ◌∙◌, arith, append_assoc, length-append, length-drop, zero-add}
 use Rattle.std.proofs.Math.Nat.{mul-add-div_right, div-mul-le_self, suc-mul, zero-mul, suc-add, add-mul}
@@ -6,6 +7,8 @@ use Rattle.std.proofs.lemmas.List.{append-nil, map-append, take-append-le, drop-
 use Rattle.std.proofs.lemmas.List.Sums.{fold-append}
 use Rattle.std.specs.List.{fold}
 use Rattle.sketch_hash.specs.Pieces.{first_pieces, pieces, rest, State, absorb, state_after}
+use Rattle.sketch_hash.specs.Murmur.{block_words, step, murmur_after}
+use Rattle.sketch_hash.specs.Xxh64.{Lanes, seeded_step, xxh64_after}
 
 -- pieces in front do not depend on what is joined after them
 first_pieces-append : (n m w : ℕ) (xs ys : List ℕ) → n * w ≤ length xs →
@@ -92,3 +95,26 @@ state_after-append w read f p state (x ∷ xs) [] =
     ap (λ t. absorb w read f state (x ∷ t)) (sym (append-nil xs))
 state_after-append w read f p state (x ∷ xs) (y ∷ ys) =
     absorb-append w read f p state (x ∷ xs) (y ∷ ys)
+
+-- ---- Murmur's
+
+pub murmur_after-append : (state : State (ℕ × ℕ)) (xs ys : List ℕ) →
+    murmur_after (murmur_after state xs) ys ≡ murmur_after state (xs ++ ys)
+unfolding murmur_after
+murmur_after-append state xs ys = state_after-append 16 block_words step (omega arith) state xs ys
+
+pub murmur_after-empty : (state : State (ℕ × ℕ)) → murmur_after state [] ≡ state
+unfolding murmur_after
+murmur_after-empty state = refl
+
+-- ---- XXH64's
+
+pub xxh64_after-append : (state : State (ℕ × Lanes)) (xs ys : List ℕ) →
+    xxh64_after (xxh64_after state xs) ys ≡ xxh64_after state (xs ++ ys)
+unfolding xxh64_after
+xxh64_after-append state xs ys =
+    state_after-append 32 (λ stripe. stripe) seeded_step (omega arith) state xs ys
+
+pub xxh64_after-empty : (state : State (ℕ × Lanes)) → xxh64_after state [] ≡ state
+unfolding xxh64_after
+xxh64_after-empty state = refl
