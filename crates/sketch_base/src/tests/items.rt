@@ -1,6 +1,6 @@
 //! Each form of a number: its bytes, its kind, and what it prints.
 
-use super::{assert_same, prints};
+use super::assert_same;
 use crate::codec::{Item, Short, SketchBytes, SketchSlice, Stopped};
 use std::alloc::Global;
 
@@ -50,8 +50,6 @@ fn forms_are_read_and_take_no_memory(rt: HostRuntime) {
 #[test]
 fn items_and_counts_print(rt: HostRuntime) {
     let (short, stopped) = (Short { read: 3 }, Stopped { accepted: 0 });
-    assert!(rt; prints(short, "insufficient data after 3 items"));
-    assert!(rt; prints(stopped, "out of memory after 0 items"));
     let text = format!(in rt.alloc(); "{:?} {short:?} {stopped:?}", Item::U16Le(258)).ok();
     let shown = "U16Le(258) Short { read: 3 } Stopped { accepted: 0 }";
     assert_same(&rt, text.as_deref(), Some(shown));
