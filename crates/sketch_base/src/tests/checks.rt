@@ -47,6 +47,14 @@ fn ranges_refuse_without_memory(rt: HostRuntime) {
 }
 
 #[test]
+fn an_empty_range_refuses_every_number(rt: HostRuntime) {
+    for x in 0..=255 {
+        let answer = ensure_preamble_longs_in_range(rt.alloc(), Excluded(5), Excluded(5), x);
+        assert!(rt; answer.is_err(), "{x}");
+    }
+}
+
+#[test]
 fn single_numbers_and_lists_refuse_without_memory(rt: HostRuntime) {
     let alloc = rt.alloc();
     let line = "InvalidData => invalid family: expected 7 (HLL), got 8";

@@ -1,8 +1,9 @@
 //! Each form of a number: its bytes, its kind, and what it prints.
 
 use super::assert_same;
-use crate::codec::{Item, Short, SketchBytes, SketchSlice, Stopped};
-use std::alloc::Global;
+use crate::codec::{Item, Kind, Short, SketchBytes, SketchSlice, Stopped};
+use std::alloc::AllocError;
+use std::io;
 
 // Each form, and the bytes of one number in it.
 const FORMS: [(Item, &[u8]); 14] = [
@@ -22,28 +23,56 @@ const FORMS: [(Item, &[u8]); 14] = [
     (Item::I64Be(-2), b"\xff\xff\xff\xff\xff\xff\xff\xfe"),
 ];
 
-// The bytes of one item, written into memory that grows.
-fn bytes_of(alloc: Global, item: Item) -> Option<Vec<u8>> {
-    let mut writer = SketchBytes::with_capacity(alloc, 0).ok()?;
-    writer.write_items(&[item]).ok()?;
-    Some(writer.into_bytes())
+// Reads an item by the call that is named for its kind.
+fn read_by_name(reader: &mut SketchSlice, kind: Kind) -> io::Result<Item> {
+    Ok(match kind {
+        Kind::U8 => Item::U8(reader.read_u8()?),
+        Kind::I8 => Item::I8(reader.read_i8()?),
+        Kind::U16Le => Item::U16Le(reader.read_u16_le()?),
+        Kind::U16Be => Item::U16Be(reader.read_u16_be()?),
+        Kind::I16Le => Item::I16Le(reader.read_i16_le()?),
+        Kind::I16Be => Item::I16Be(reader.read_i16_be()?),
+        Kind::U32Le => Item::U32Le(reader.read_u32_le()?),
+        Kind::U32Be => Item::U32Be(reader.read_u32_be()?),
+        Kind::I32Le => Item::I32Le(reader.read_i32_le()?),
+        Kind::I32Be => Item::I32Be(reader.read_i32_be()?),
+        Kind::U64Le => Item::U64Le(reader.read_u64_le()?),
+        Kind::U64Be => Item::U64Be(reader.read_u64_be()?),
+        Kind::I64Le => Item::I64Le(reader.read_i64_le()?),
+        Kind::I64Be => Item::I64Be(reader.read_i64_be()?),
+    })
 }
 
 #[test]
-fn forms_are_written(rt: HostRuntime) {
+fn forms_are_written(rt: HostRuntime) -> Result<(), AllocError> {
     for (item, bytes) in &FORMS {
-        assert_same(&rt, bytes_of(rt.alloc(), *item).as_deref(), Some(*bytes));
+        let mut writer = SketchBytes::with_capacity(rt.alloc(), 0)?;
+        assert_same(&rt, writer.write_items(&[*item]), Ok(()));
+        assert_same(&rt, writer.into_bytes().as_slice(), *bytes);
     }
+    Ok(())
 }
 
 #[test]
 fn forms_are_read_and_take_no_memory(rt: HostRuntime) {
     for (item, bytes) in &FORMS {
         let mut reader = SketchSlice::new(bytes);
-        let mut place = [Item::U8(0)];
-        let answer = reader.read_items(&[item.kind()], &mut place);
-        assert_same(&rt, (answer, place), (Ok(()), [*item]));
-        assert!(rt; reader.remaining().is_empty());
+        let read = read_by_name(&mut reader, item.kind()).ok();
+        assert_same(&rt, (read, reader.remaining().len()), (Some(*item), 0));
+    }
+}
+
+// Every beginning of the bytes 1 to 8 that is shorter than a form.
+#[test]
+fn forms_cut_short_take_no_memory(rt: HostRuntime) {
+    for (item, _) in &FORMS {
+        for count in 0..item.kind().width() {
+            let mut reader = SketchSlice::new(&[1, 2, 3, 4, 5, 6, 7, 8][..count]);
+            let refused = read_by_name(&mut reader, item.kind()).err();
+            let kind = refused.map(|error| error.kind());
+            let end = (Some(io::ErrorKind::UnexpectedEof), 0);
+            assert_same(&rt, (kind, reader.remaining().len()), end);
+        }
     }
 }
 

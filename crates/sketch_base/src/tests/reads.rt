@@ -1,8 +1,7 @@
 //! Readers: what is read, refused and left.
 
 use super::assert_same;
-use crate::codec::{Item, Kind, Short, SketchBytes, SketchSlice};
-use std::alloc::AllocError;
+use crate::codec::{Item, Kind, Short, SketchSlice};
 
 #[test]
 fn reads_past_the_end_take_no_memory(rt: HostRuntime) {
@@ -10,31 +9,6 @@ fn reads_past_the_end_take_no_memory(rt: HostRuntime) {
     assert!(rt; reader.read_u16_le().ok() == Some(1) && reader.read_u32_be().is_err());
     assert!(rt; reader.remaining().is_empty());
     assert!(rt; reader.read_exact(&mut []).is_ok() && reader.read_u8().is_err());
-}
-
-#[test]
-fn signs_and_orders_by_the_names_of_calls(rt: HostRuntime) {
-    assert!(rt; SketchSlice::new(b"\xff\xfe").read_i16_be().ok() == Some(-2));
-    assert!(rt; SketchSlice::new(b"\xff\xfe").read_i16_le().ok() == Some(-257));
-    assert!(rt; SketchSlice::new(&[1, 2, 3, 4]).read_u32_be().ok() == Some(16909060));
-    assert!(rt; SketchSlice::new(&[1, 2, 3, 4]).read_u32_le().ok() == Some(67305985));
-}
-
-#[test]
-fn negative_numbers_by_the_names_of_calls(rt: HostRuntime) -> Result<(), AllocError> {
-    let mut writer = SketchBytes::with_capacity(rt.alloc(), 12)?;
-    writer.write_i64_be(-2)?;
-    writer.write_i32_le(-2147483648)?;
-    let bytes = writer.into_bytes();
-    assert_same(
-        &rt,
-        bytes.as_slice(),
-        b"\xff\xff\xff\xff\xff\xff\xff\xfe\0\0\0\x80",
-    );
-    let mut reader = SketchSlice::new(&bytes);
-    assert!(rt; reader.read_i64_be().ok() == Some(-2));
-    assert!(rt; reader.read_i32_le().ok() == Some(-2147483648));
-    Ok(())
 }
 
 #[test]
@@ -47,13 +21,22 @@ fn a_refused_read_leaves_the_buffer(rt: HostRuntime) {
 
 #[test]
 fn a_reader_advances_no_further_than_the_end(rt: HostRuntime) {
-    for n in [0, 1, 2] {
-        let mut reader = SketchSlice::new(&[1, 2, 3]);
+    let mut reader = SketchSlice::new(&[1, 2, 3]);
+    reader.advance(u64::MAX);
+    reader.advance(u64::MAX);
+    assert!(rt; reader.remaining().is_empty());
+}
+
+#[test]
+fn a_reader_stays_at_the_end(rt: HostRuntime) {
+    let mut reader = SketchSlice::new(&[1, 2, 3]);
+    reader.advance(1);
+    assert_same(&rt, reader.remaining(), &[2, 3]);
+    for n in [u64::MAX - 1, u64::MAX, 0] {
         reader.advance(n);
-        reader.advance(u64::MAX);
-        reader.advance(u64::MAX);
         assert!(rt; reader.remaining().is_empty(), "after {n}");
     }
+    assert!(rt; reader.read_exact(&mut []).is_ok() && reader.read_u8().is_err());
 }
 
 #[test]
