@@ -18,12 +18,12 @@ fn assert_text(rt: &impl Abort, made: Result<String, AllocError>, text: &str) {
 
 #[test]
 fn kinds_print_their_names_at_any_width(rt: HostRuntime) {
-    for kind in [InvalidArgument, InvalidData, OutOfMemory] {
-        assert_text(&rt, format!(in rt.alloc(); "{kind:20}"), kind.into_static());
-        assert_text(&rt, format!(in rt.alloc(); "{kind:?}"), kind.into_static());
-    }
-    let bare = Error::new(OutOfMemory, String::new(rt.alloc()));
-    assert_text(&rt, format!(in rt.alloc(); "{bare:20}"), "OutOfMemory");
+    let (alloc, names) = (rt.alloc(), "InvalidArgument InvalidData OutOfMemory");
+    let (a, b, c) = (InvalidArgument, InvalidData, OutOfMemory);
+    assert_text(&rt, format!(in alloc; "{a:20} {b:20} {c:20}"), names);
+    assert_text(&rt, format!(in alloc; "{a:?} {b:?} {c:?}"), names);
+    let bare = Error::new(OutOfMemory, String::new(alloc));
+    assert_text(&rt, format!(in alloc; "{bare:20}"), "OutOfMemory");
     assert_line(&rt, bare, "OutOfMemory");
 }
 
@@ -48,6 +48,10 @@ fn messages_handed_in(rt: HostRuntime) -> Result<(), AllocError> {
     assert_line(&rt, wrong, "InvalidArgument => something went wrong");
     let bad = error_of(rt.alloc(), InvalidArgument, "bad input")?;
     assert!(rt; bad.kind() == InvalidArgument && bad.message() == "bad input");
+    let bad = Error::invalid_argument(String::from_str(rt.alloc(), "bad input")?);
+    assert_line(&rt, bad, "InvalidArgument => bad input");
+    let bad = Error::deserial(String::from_str(rt.alloc(), "bad input")?);
+    assert_line(&rt, bad, "InvalidData => bad input");
     Ok(())
 }
 
