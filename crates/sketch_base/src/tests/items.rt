@@ -1,7 +1,7 @@
-//! Each form of a number: its bytes, its kind, and what it prints.
+//! Each form of a number: how it is written, read, and cut short.
 
 use super::assert_same;
-use crate::codec::{Item, Kind, Short, SketchBytes, SketchSlice, Stopped};
+use crate::codec::{Item, Kind, SketchBytes, SketchSlice};
 use std::alloc::AllocError;
 use std::io;
 
@@ -74,12 +74,4 @@ fn forms_cut_short_take_no_memory(rt: HostRuntime) {
             assert_same(&rt, (kind, reader.remaining().len()), end);
         }
     }
-}
-
-#[test]
-fn items_and_counts_print(rt: HostRuntime) {
-    let (short, stopped) = (Short { read: 3 }, Stopped { accepted: 0 });
-    let text = format!(in rt.alloc(); "{:?} {short:?} {stopped:?}", Item::U16Le(258)).ok();
-    let shown = "U16Le(258) Short { read: 3 } Stopped { accepted: 0 }";
-    assert_same(&rt, text.as_deref(), Some(shown));
 }
