@@ -6,10 +6,7 @@
 #include <murmurhash.h>
 #include <xxhash.h>
 
-/* It is called as if it stood in another file. */
-__attribute__((noipa)) static uint64_t called_xxh64(const void *bytes, size_t length, uint64_t seed) {
-    return XXH64(bytes, length, seed);
-}
+XXH64_hash_t called_xxh64(const void *bytes, size_t length, XXH64_hash_t seed);
 
 static uint64_t reference(const void *bytes, size_t length) {
     uint64_t pair[2];
