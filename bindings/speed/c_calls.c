@@ -45,16 +45,14 @@ KEYS_BY(their_murmur, reference)
 static uint64_t ours_stream(size_t total, size_t length) {
     sketch_xxh64_state_t state;
     sketch_xxh64_reset(&state, 7);
-    for (size_t at = 0; at + length <= total; at += length)
-        sketch_xxh64_update(&state, input + at, length);
+    for (size_t at = 0; at + length <= total; at += length) sketch_xxh64_update(&state, input + at, length);
     return sketch_xxh64_digest(&state);
 }
 
 FLAT their_stream(size_t total, size_t length) {
     XXH64_state_t state;
     XXH64_reset(&state, 7);
-    for (size_t at = 0; at + length <= total; at += length)
-        XXH64_update(&state, input + at, length);
+    for (size_t at = 0; at + length <= total; at += length) XXH64_update(&state, input + at, length);
     return XXH64_digest(&state);
 }
 
@@ -62,26 +60,21 @@ FLAT their_stream(size_t total, size_t length) {
 static uint64_t offsets[KEYS + 1], numbers[KEYS], hashes[KEYS];
 
 static uint64_t ours_column(size_t total, size_t length) {
-    (void)length;
     sketch_xxh64_each64(input, total, offsets, KEYS + 1, 7, hashes, KEYS);
     return hashes[KEYS - 1];
 }
 
 FLAT their_column(size_t total, size_t length) {
-    (void)total, (void)length;
-    for (size_t i = 0; i < KEYS; i++)
-        hashes[i] = XXH64(input + offsets[i], offsets[i + 1] - offsets[i], 7);
+    for (size_t i = 0; i < KEYS; i++) hashes[i] = XXH64(input + offsets[i], offsets[i + 1] - offsets[i], 7);
     return hashes[KEYS - 1];
 }
 
 static uint64_t ours_numbers(size_t total, size_t length) {
-    (void)total, (void)length;
     sketch_xxh64_each_u64(numbers, KEYS, 7, hashes, KEYS);
     return hashes[KEYS - 1];
 }
 
 FLAT their_numbers(size_t total, size_t length) {
-    (void)total, (void)length;
     for (size_t i = 0; i < KEYS; i++) hashes[i] = XXH64(&numbers[i], sizeof *numbers, 7);
     return hashes[KEYS - 1];
 }
@@ -102,18 +95,14 @@ static void keys(const char *name, size_t total, size_t length) {
 int main(void) {
     static const size_t lengths[] = {1, 2, 3, 4, 5, 6, 7, 8, 12, 16, 24, 31, 32, 48, 64, 100};
     static const size_t writes[] = {1, 7, 13, 100, 4096};
-    char name[64];
     fill_input();
     for (size_t i = 0; i < KEYS; i++) mixed[i] = (unsigned char)(1 + i * 2654435761u % 997 % 64);
-    for (size_t i = 0; i < sizeof lengths / sizeof *lengths; i++) {
-        snprintf(name, sizeof name, "keys of %zu byte%s", lengths[i], lengths[i] == 1 ? "" : "s");
-        keys(name, KEYS * lengths[i], lengths[i]);
-    }
+    for (size_t i = 0; i < sizeof lengths / sizeof *lengths; i++)
+        keys(name_of("keys of %zu byte%s", lengths[i]), KEYS * lengths[i], lengths[i]);
     keys("keys of 1 to 64 bytes", KEYS * 64, 0);
-    for (size_t i = 0; i < sizeof writes / sizeof *writes; i++) {
-        snprintf(name, sizeof name, "writes of %zu byte%s", writes[i], writes[i] == 1 ? "" : "s");
-        compare("c", name, "XXH64_update, inlined", ours_stream, their_stream, STREAM, writes[i]);
-    }
+    for (size_t i = 0; i < sizeof writes / sizeof *writes; i++)
+        compare("c", name_of("writes of %zu byte%s", writes[i]), "XXH64_update, inlined", ours_stream, their_stream,
+                STREAM, writes[i]);
     column("keys of 1 to 16 bytes", 1, 16);
     column("keys of 1 to 64 bytes", 1, 64);
     column("keys of 32 to 64 bytes", 32, 64);
@@ -122,8 +111,7 @@ int main(void) {
     column("keys of 31 bytes", 31, 31);
     column("keys of 64 bytes", 64, 64);
     for (size_t i = 0; i < KEYS; i++) numbers[i] = i * 0x9e3779b97f4a7c15;
-    compare("column", "numbers of 64 bits", "XXH64 in a loop, inlined", ours_numbers, their_numbers,
-            0, 0);
+    compare("column", "numbers of 64 bits", "XXH64 in a loop, inlined", ours_numbers, their_numbers, 0, 0);
     keys("64 KiB at once", 1 << 16, 1 << 16);
     keys("1 MiB at once", LARGEST, LARGEST);
     return 0;

@@ -16,6 +16,13 @@ static inline void fill_input(void) {
     for (size_t i = 0; i < sizeof input; i++) input[i] = (unsigned char)(i * 2654435761u >> 24);
 }
 
+/* As "keys of %zu byte%s" is filled for a number. The next name takes its place. */
+static inline const char *name_of(const char *format, size_t number) {
+    static char name[64];
+    snprintf(name, sizeof name, format, number, number == 1 ? "" : "s");
+    return name;
+}
+
 static inline double seconds(work *f, size_t total, size_t length, int times) {
     struct timespec from, to;
     clock_gettime(CLOCK_THREAD_CPUTIME_ID, &from);

@@ -1,4 +1,5 @@
-//! The hashers of DataSketches' Rust component behind C calls, and a Bloom filter over its XXH64. `hash/murmurhash.rs` and `hash/xxhash.rs` are its files, which `run` brings here.
+//! The hashers of DataSketches' Rust component behind C calls, and a Bloom filter over its XXH64. `hash/murmurhash.rs` and
+//! `hash/xxhash.rs` are its files, which `run` brings here.
 #![allow(dead_code)]
 
 use std::hash::Hasher;
@@ -30,7 +31,7 @@ unsafe fn slice<'a, T>(first: *const T, count: usize) -> &'a [T] {
 macro_rules! calls {
     ($hasher:ident, $words:ident, $keys:ident, $stream:ident) => {
         #[unsafe(no_mangle)]
-        pub unsafe extern "C" fn $words(first: *const u64, count: usize) -> u64 {
+        pub unsafe extern "C" fn $words(first: *const u64, count: usize, _length: usize) -> u64 {
             unsafe { slice(first, count) }.iter().fold(0, |all, word| {
                 let mut hasher = $hasher::with_seed(7);
                 hasher.write(&word.to_le_bytes());
@@ -50,9 +51,8 @@ macro_rules! calls {
         #[unsafe(no_mangle)]
         pub unsafe extern "C" fn $stream(first: *const u8, count: usize, length: usize) -> u64 {
             let mut hasher = $hasher::with_seed(7);
-            unsafe { slice(first, count) }
-                .chunks_exact(length)
-                .for_each(|piece| hasher.write(piece));
+            let pieces = unsafe { slice(first, count) }.chunks_exact(length);
+            pieces.for_each(|piece| hasher.write(piece));
             hasher.finish()
         }
     };
@@ -60,23 +60,6 @@ macro_rules! calls {
 
 calls!(XxHash64, their_xxh64_words, their_xxh64_keys, their_xxh64_stream);
 calls!(MurmurHash3X64128, their_murmur_words, their_murmur_keys, their_murmur_stream);
-
-/// A key of the table, which feeds its bytes to a hasher.
-trait Key: Copy {
-    fn feed(self, hasher: &mut XxHash64);
-}
-
-impl Key for u64 {
-    fn feed(self, hasher: &mut XxHash64) {
-        hasher.write(&self.to_le_bytes());
-    }
-}
-
-impl Key for &[u8] {
-    fn feed(self, hasher: &mut XxHash64) {
-        hasher.write(self);
-    }
-}
 
 struct Table {
     mask: u64,
@@ -90,25 +73,31 @@ impl Table {
         Table { mask: (1 << log2_bits) - 1, hashes: u64::from(hashes), bits }
     }
 
-    fn index(&self, key: impl Key, j: u64) -> usize {
+    fn index(&self, key: &impl AsRef<[u8]>, j: u64) -> usize {
         let mut hasher = XxHash64::with_seed(7 + j);
-        key.feed(&mut hasher);
+        hasher.write(key.as_ref());
         (hasher.finish() & self.mask) as usize
     }
 
-    fn insert(&mut self, key: impl Key) {
+    fn insert(&mut self, key: &impl AsRef<[u8]>) {
         for j in 0..self.hashes {
             let i = self.index(key, j);
             self.bits[i >> 3] |= 1 << (i & 7);
         }
     }
 
-    fn contains(&self, key: impl Key) -> bool {
+    fn contains(&self, key: &impl AsRef<[u8]>) -> bool {
         (0..self.hashes).all(|j| {
             let i = self.index(key, j);
             self.bits[i >> 3] >> (i & 7) & 1 == 1
         })
     }
+}
+
+/// Inserts the keys into a table, asks for all of them so many times, and counts those that are contained.
+fn found(mut table: Table, keys: impl Iterator<Item: AsRef<[u8]>> + Clone, times: usize) -> u64 {
+    keys.clone().for_each(|key| table.insert(&key));
+    (0..times).flat_map(|_| keys.clone()).filter(|key| table.contains(key)).count() as u64
 }
 
 #[unsafe(no_mangle)]
@@ -119,10 +108,8 @@ pub unsafe extern "C" fn their_table(
     hashes: u8,
     times: usize,
 ) -> u64 {
-    let words = unsafe { slice(first, count) };
-    let mut table = Table::new(log2_bits, hashes);
-    words.iter().for_each(|word| table.insert(*word));
-    (0..times).flat_map(|_| words).filter(|word| table.contains(**word)).count() as u64
+    let words = unsafe { slice(first, count) }.iter();
+    found(Table::new(log2_bits, hashes), words.map(|word| word.to_le_bytes()), times)
 }
 
 #[unsafe(no_mangle)]
@@ -135,7 +122,5 @@ pub unsafe extern "C" fn their_table_of_keys(
     times: usize,
 ) -> u64 {
     let keys = unsafe { slice(first, count) }.chunks_exact(length);
-    let mut table = Table::new(log2_bits, hashes);
-    keys.clone().for_each(|key| table.insert(key));
-    (0..times).flat_map(|_| keys.clone()).filter(|key| table.contains(*key)).count() as u64
+    found(Table::new(log2_bits, hashes), keys, times)
 }

@@ -13,8 +13,6 @@ for line in (docs / "speed.tsv").read_text(encoding="utf-8").splitlines():
     group, case, peer, *ratios = line.split("\t")
     cells[group, case, peer] = ratios
 
-page = docs / "speed.md"
-
 
 def filled(table):
     group, head, rule, rows = table.groups()
@@ -26,14 +24,15 @@ def filled(table):
     return f"<!-- {group} -->\n\n{head}{rule}{''.join(made)}"
 
 
-text = page.read_text(encoding="utf-8")
-text = re.sub(r"<!-- (\w+) -->\n\n(\|.*\n)(\|[-|]*\n)((?:\|.*\n)+)", filled, text)
-page.write_text(text, encoding="utf-8")
+page = (docs / "speed.md").read_text(encoding="utf-8")
+page = re.sub(r"<!-- (\w+) -->\n\n(\|.*\n)(\|[-|]*\n)((?:\|.*\n)+)", filled, page)
+(docs / "speed.md").write_text(page, encoding="utf-8")
 
 # The picture: six bars for each peer.
+KEYS = [*(f"keys of {length} bytes" for length in (4, 8, 16, 32, 100)), "1 MiB at once"]
 BARS = {
-    "C beside xxHash, called": ("c", "XXH64, called", ["keys of 4 bytes", "keys of 8 bytes", "keys of 16 bytes", "keys of 32 bytes", "keys of 100 bytes", "1 MiB at once"]),
-    "C beside libmurmurhash": ("c", "reference Murmur, called", ["keys of 4 bytes", "keys of 8 bytes", "keys of 16 bytes", "keys of 32 bytes", "keys of 100 bytes", "1 MiB at once"]),
+    "C beside xxHash, called": ("c", "XXH64, called", KEYS),
+    "C beside libmurmurhash": ("c", "reference Murmur, called", KEYS),
     "Python beside python-xxhash": ("python", "python3-xxhash", [
         "`xxh64(data).intdigest()`, 8 bytes", "`xxh64(data).hexdigest()`, 64 bytes", "`xxh64_intdigest(data)`, 8 bytes",
         "`xxh64_intdigest(data)`, 1024 bytes", "`update(data)`, 8 bytes", "`copy()`",

@@ -1,8 +1,9 @@
-/* Random streams in random cuts, random columns and random tables, some with faults: prints a sum of what the library
+/* Random streams in random cuts, random states, columns and tables, some with faults: prints a sum of what the library
  * answers, for a comparison of two builds of it. */
 #include "noise.h"
 #include "sketch_hash.h"
 #include <stdio.h>
+#include <stdlib.h>
 #include <string.h>
 
 static uint64_t sum;
@@ -41,6 +42,19 @@ static void stream(const unsigned char *bytes, size_t length, uint64_t seed) {
 
 static void fill(unsigned char *bytes, size_t length) {
     for (size_t i = 0; i < length; i++) bytes[i] = (unsigned char)noise();
+}
+
+/* Every content of a state is safe. Each is a block of its own, so that valgrind sees what is read or written outside. */
+static void any_state(const unsigned char *bytes, size_t length) {
+    sketch_xxh64_state_t *x = malloc(sizeof *x);
+    sketch_murmur3_x64_128_state_t *m = malloc(sizeof *m);
+    fill((unsigned char *)x, sizeof *x);
+    fill((unsigned char *)m, sizeof *m);
+    sketch_xxh64_update(x, bytes, length);
+    sketch_murmur3_x64_128_update(m, bytes, length);
+    add(sketch_xxh64_digest(x) ^ sketch_murmur3_x64_128_digest(m).h1);
+    free(x);
+    free(m);
 }
 
 static uint64_t wide(void) { return noise() << 33 ^ noise() << 7 ^ noise(); }
@@ -87,12 +101,14 @@ static void table(const unsigned char *bytes, size_t length, uint64_t seed) {
     add(sketch_xxh64(tables, sizeof tables, 0));
 }
 
-int main(void) {
+int main(int count, char **words) {
     static unsigned char bytes[1024];
-    for (int round = 0; round < 100000; round++) {
+    int rounds = count > 1 ? atoi(words[1]) : 100000;
+    for (int round = 0; round < rounds; round++) {
         size_t length = noise() % (round % 8 ? 100 : sizeof bytes);
         fill(bytes, length);
         stream(bytes, length, wide());
+        any_state(bytes, length);
         if (round % 10 == 0) {
             fill(bytes, sizeof bytes);
             column(bytes, sizeof bytes, wide());

@@ -17,14 +17,13 @@ static sketch_murmur3_x64_128_hash_t *pairs;
 /* The keys of a column have `least` bytes and up to `spread` more. */
 static void lay_out(unsigned least, unsigned spread) {
     wide[0] = 5;
-    for (int i = 0; i < KEYS; i++) {
-        wide[i + 1] = wide[i] + least + noise() % (spread + 1);
-    }
-    for (int i = 0; i <= KEYS; i++) narrow[i] = (uint32_t)wide[i];
+    for (int i = 0; i < KEYS; i++) wide[i + 1] = wide[i] + least + noise() % (spread + 1);
     length = wide[KEYS] + 3;
     input = realloc(input, length);
     for (uint64_t i = 0; i < length; i++) input[i] = (unsigned char)(i * 2654435761u >> 13);
 }
+
+#define BLANK 0x0909090909090909
 
 static void blank(void) {
     memset(hashes, 9, KEYS * sizeof *hashes);
@@ -33,6 +32,7 @@ static void blank(void) {
 
 /* All calls on the column answer the same. They write each place, or none. */
 static void all_answer(size_t offset_count, uint64_t seed, uint64_t expected) {
+    for (int i = 0; i <= KEYS; i++) narrow[i] = (uint32_t)wide[i];
     for (int is_wide = 0; is_wide < 2; is_wide++) {
         blank();
         same("XXH64, the answer",
@@ -40,15 +40,12 @@ static void all_answer(size_t offset_count, uint64_t seed, uint64_t expected) {
                      : sketch_xxh64_each32(input, length, narrow, offset_count, seed, hashes, KEYS),
              expected);
         same("Murmur, the answer",
-             is_wide ? sketch_murmur3_x64_128_each64(input, length, wide, offset_count, seed, pairs,
-                                                     KEYS)
-                     : sketch_murmur3_x64_128_each32(input, length, narrow, offset_count, seed, pairs,
-                                                     KEYS),
+             is_wide ? sketch_murmur3_x64_128_each64(input, length, wide, offset_count, seed, pairs, KEYS)
+                     : sketch_murmur3_x64_128_each32(input, length, narrow, offset_count, seed, pairs, KEYS),
              expected);
         for (int i = 0; i < KEYS; i++) {
-            const uint64_t blank_word = 0x0909090909090909;
-            sketch_murmur3_x64_128_hash_t pair = {blank_word, blank_word};
-            uint64_t hash = blank_word;
+            sketch_murmur3_x64_128_hash_t pair = {BLANK, BLANK};
+            uint64_t hash = BLANK;
             if (!expected) {
                 hash = sketch_xxh64(input + wide[i], wide[i + 1] - wide[i], seed);
                 pair = sketch_murmur3_x64_128(input + wide[i], wide[i + 1] - wide[i], seed);
@@ -71,39 +68,35 @@ static void each_key(void) {
     }
 }
 
+static void wrong_offset(size_t i, uint64_t offset) {
+    const uint64_t fits = wide[i];
+    wide[i] = offset;
+    all_answer(KEYS + 1, 7, i + 1);
+    wide[i] = fits;
+}
+
 static void wrong_offsets(void) {
     lay_out(1, 40);
     for (size_t i = 0; i <= KEYS; i++) {
-        const uint64_t offset = wide[i];
         all_answer(i, 7, i + 1);
-        narrow[i] = (uint32_t)(wide[i] = length + 1);
-        all_answer(KEYS + 1, 7, i + 1);
-        wide[i] = ~(uint64_t)0;
-        narrow[i] = ~(uint32_t)0;
-        all_answer(KEYS + 1, 7, i + 1);
-        if (i > 0) {
-            narrow[i] = (uint32_t)(wide[i] = wide[i - 1] - 1);
-            all_answer(KEYS + 1, 7, i + 1);
-        }
-        narrow[i] = (uint32_t)(wide[i] = offset);
+        wrong_offset(i, length + 1);
+        wrong_offset(i, ~(uint64_t)0);
+        if (i > 0) wrong_offset(i, wide[i - 1] - 1);
     }
+}
+
+/* The numbers are the offsets. */
+static void numbers_answer(size_t value_count, size_t count, uint64_t expected) {
+    blank();
+    same("numbers, the answer", sketch_xxh64_each_u64(wide, value_count, 7, hashes, count), expected);
+    for (size_t i = 0; i < KEYS; i++)
+        same("XXH64 of a number", hashes[i], i < count && !expected ? sketch_xxh64_u64(wide[i], 7) : BLANK);
 }
 
 static void numbers(void) {
     for (size_t count = 0; count <= KEYS; count++) {
-        blank();
-        same("numbers, the answer", sketch_xxh64_each_u64(wide, KEYS + 1, 7, hashes, count), 0);
-        for (size_t i = 0; i < KEYS; i++) {
-            same("XXH64 of a number", hashes[i],
-                 i < count ? sketch_xxh64_u64(wide[i], 7) : 0x0909090909090909);
-        }
-        blank();
-        same("numbers, too few", sketch_xxh64_each_u64(wide, count, 7, hashes, KEYS),
-             count < KEYS ? count + 1 : 0);
-        for (size_t i = 0; i < KEYS; i++) {
-            same("numbers, each place", hashes[i],
-                 count < KEYS ? 0x0909090909090909 : sketch_xxh64_u64(wide[i], 7));
-        }
+        numbers_answer(KEYS + 1, count, 0);
+        numbers_answer(count, KEYS, count < KEYS ? count + 1 : 0);
     }
 }
 

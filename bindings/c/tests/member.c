@@ -12,9 +12,7 @@
 
 typedef struct {
     uint64_t seed, count;
-    unsigned log2_bits, hashes;
-    int is_known;
-    unsigned char bits[MOST_BYTES - 24];
+    unsigned char log2_bits, hashes, is_known, bits[MOST_BYTES - 24];
 } model;
 
 static size_t size_of(const model *m) { return 24 + ((size_t)1 << m->log2_bits) / 8; }
@@ -48,10 +46,7 @@ static void model_merge(model *m, const model *other) {
 }
 
 static void model_bytes(const model *m, unsigned char *bytes) {
-    unsigned char head[8] = {3, 2, 200, 0, 0, 0, 0, 0};
-    head[3] = (unsigned char)m->log2_bits;
-    head[4] = (unsigned char)m->hashes;
-    head[5] = (unsigned char)m->is_known;
+    const unsigned char head[8] = {3, 2, 200, m->log2_bits, m->hashes, m->is_known};
     memcpy(bytes, head, 8);
     for (int k = 0; k < 8; k++) {
         bytes[8 + k] = (unsigned char)(m->seed >> 8 * k);
@@ -64,54 +59,48 @@ static void model_bytes(const model *m, unsigned char *bytes) {
 static int model_status(const unsigned char *bytes, size_t length) {
     size_t header, need;
     int is_zero = 1;
-    if (length < 1) return -1;
-    if (bytes[0] != 2 && bytes[0] != 3) return -2;
-    if (length < 2) return -1;
-    if (bytes[1] + 1 != bytes[0]) return -3;
-    if (length < 3) return -1;
-    if (bytes[2] != 200) return -4;
-    if (length < 4) return -1;
-    if (bytes[3] < 6 || bytes[3] > 20) return -5;
-    if (length < 5) return -1;
-    if (bytes[4] < 1 || bytes[4] > 16) return -6;
-    if (length < 8) return -1;
-    if (bytes[5] > bytes[0] - 2 || bytes[6] || bytes[7]) return -7;
+    if (length < 1) return SKETCH_MEMBER_HEADER_ENDS;
+    if (bytes[0] != 2 && bytes[0] != 3) return SKETCH_MEMBER_PREAMBLE_LONGS;
+    if (length < 2) return SKETCH_MEMBER_HEADER_ENDS;
+    if (bytes[1] + 1 != bytes[0]) return SKETCH_MEMBER_SERIAL_VERSION;
+    if (length < 3) return SKETCH_MEMBER_HEADER_ENDS;
+    if (bytes[2] != 200) return SKETCH_MEMBER_FAMILY;
+    if (length < 4) return SKETCH_MEMBER_HEADER_ENDS;
+    if (bytes[3] < 6 || bytes[3] > 20) return SKETCH_MEMBER_LOG2_BITS;
+    if (length < 5) return SKETCH_MEMBER_HEADER_ENDS;
+    if (bytes[4] < 1 || bytes[4] > 16) return SKETCH_MEMBER_HASHES;
+    if (length < 8) return SKETCH_MEMBER_HEADER_ENDS;
+    if (bytes[5] > bytes[0] - 2 || bytes[6] || bytes[7]) return SKETCH_MEMBER_RESERVED;
     header = 8 * (size_t)bytes[0];
-    if (length < header) return -1;
+    if (length < header) return SKETCH_MEMBER_HEADER_ENDS;
     for (size_t k = 16; k < header; k++) is_zero = is_zero && !bytes[k];
-    if (!bytes[5] && !is_zero) return -8;
+    if (!bytes[5] && !is_zero) return SKETCH_MEMBER_UNKNOWN_COUNT;
     need = ((size_t)1 << bytes[3]) / 8;
-    if (length - header < need) return -9;
-    if (length - header > need) return -10;
-    return bytes[0] == 2 ? -11 : 0;
+    if (length - header < need) return SKETCH_MEMBER_MISSING_BITS;
+    if (length - header > need) return SKETCH_MEMBER_TRAILING_BYTES;
+    return bytes[0] == 2 ? SKETCH_MEMBER_VERSION_1 : SKETCH_MEMBER_OK;
 }
 
 static void same_bytes(const char *what, const model *m, const unsigned char *bytes) {
     static unsigned char expected[MOST_BYTES];
     uint64_t count = 7;
     model_bytes(m, expected);
-    same(what, (uint64_t)memcmp(bytes, expected, size_of(m)), 0);
-    same("the status of a count", (uint64_t)sketch_member_count(bytes, size_of(m), &count),
-         !m->is_known);
+    same(what, memcmp(bytes, expected, size_of(m)), 0);
+    same("the status of a count", sketch_member_count(bytes, size_of(m), &count), !m->is_known);
     same("a count", count, m->is_known ? m->count : 7);
 }
 
-static void start(model *m, uint64_t seed, unsigned log2_bits, unsigned hashes,
-                  unsigned char *bytes) {
-    memset(m, 0, sizeof *m);
-    m->seed = seed;
-    m->log2_bits = log2_bits;
-    m->hashes = hashes;
-    m->is_known = 1;
+static void start(model *m, uint64_t seed, unsigned char log2_bits, unsigned char hashes, unsigned char *bytes) {
+    *m = (model){.seed = seed, .log2_bits = log2_bits, .hashes = hashes, .is_known = 1};
     same("a size", sketch_member_size(log2_bits), size_of(m));
     for (size_t k = 0; k < size_of(m); k++) bytes[k] = (unsigned char)noise();
-    same("an init", (uint64_t)sketch_member_init(bytes, size_of(m), seed, log2_bits, hashes), 0);
+    same("an init", sketch_member_init(bytes, size_of(m), seed, log2_bits, hashes), 0);
     same_bytes("an empty table", m, bytes);
 }
 
 /* An unknown count, or one near the greatest. */
 static void change_count(model *m, unsigned char *bytes) {
-    m->is_known = (int)(noise() % 2);
+    m->is_known = noise() % 2;
     m->count = m->is_known ? UINT64_MAX - noise() % 4 : 0;
     model_bytes(m, bytes);
 }
@@ -122,19 +111,17 @@ static void insert_some(model *m, unsigned char *bytes, int keys) {
     for (int k = 0; k < keys; k++) {
         size_t length = noise() % (sizeof key + 1);
         model_insert(m, key, length);
-        same("an insert", (uint64_t)sketch_member_insert(bytes, size_of(m), key, length), 0);
-        same("a key that was inserted",
-             (uint64_t)sketch_member_contains(bytes, size_of(m), key, length), 1);
+        same("an insert", sketch_member_insert(bytes, size_of(m), key, length), 0);
+        same("a key that was inserted", sketch_member_contains(bytes, size_of(m), key, length), 1);
         key[noise() % sizeof key] ^= (unsigned char)(1 + noise() % 255);
-        same("a key that may be contained",
-             (uint64_t)sketch_member_contains(bytes, size_of(m), key, length),
-             (uint64_t)model_contains(m, key, length));
+        same("a key that may be contained", sketch_member_contains(bytes, size_of(m), key, length),
+             model_contains(m, key, length));
     }
     same_bytes("inserts", m, bytes);
 }
 
 /* Two tables of one size, filled and merged, each in a block of its own, at odd addresses. */
-static void of_size(unsigned log2_bits, unsigned hashes) {
+static void of_size(unsigned char log2_bits, unsigned char hashes) {
     static model m, other;
     uint64_t seed = noise() << 33 ^ noise();
     size_t size = sketch_member_size(log2_bits);
@@ -148,38 +135,37 @@ static void of_size(unsigned log2_bits, unsigned hashes) {
     if (noise() % 2) change_count(&other, other_bytes);
     insert_some(&m, bytes, 3);
     model_merge(&m, &other);
-    same("a merge", (uint64_t)sketch_member_merge(bytes, size, other_bytes, size), 0);
+    same("a merge", sketch_member_merge(bytes, size, other_bytes, size), 0);
     same_bytes("a merged table", &m, bytes);
     same_bytes("a table that was merged", &other, other_bytes);
     free(block);
     free(other_block);
 }
 
+/* A fault of one table, and neither an answer nor that two do not go together. */
+static int fault(int answer) { return answer < 0 && answer >= SKETCH_MEMBER_VERSION_1 ? answer : 0; }
+
 /* Every call on bytes that may be no table: the status of the model, and a refusal changes nothing. */
 static void try_bytes(const unsigned char *source, size_t length) {
-    int status = model_status(source, length);
+    int status = model_status(source, length), answer;
     unsigned char *bytes = malloc(length + !length), *whole = malloc(32);
     unsigned char start_of[32];
     uint64_t count = 7;
-    int answer;
     memcpy(bytes, source, length);
     sketch_member_init(whole, 32, 0, 6, 1);
     memcpy(start_of, whole, 32);
-    same("a check", (uint64_t)sketch_member_check(bytes, length), (uint64_t)status);
-    answer = sketch_member_contains(bytes, length, "a", 1);
-    same("a question", (uint64_t)(answer < 0 ? answer : 0), (uint64_t)status);
-    answer = sketch_member_count(bytes, length, &count);
-    same("a count of any bytes", (uint64_t)(answer < 0 ? answer : 0), (uint64_t)status);
+    same("a check", sketch_member_check(bytes, length), status);
+    same("a question", fault(sketch_member_contains(bytes, length, "a", 1)), status);
+    same("a count of any bytes", fault(sketch_member_count(bytes, length, &count)), status);
     answer = sketch_member_merge(whole, 32, bytes, length);
-    same("a merge from any bytes", (uint64_t)(answer < -11 ? 0 : answer), (uint64_t)status);
-    if (answer) same("a merge that was refused", (uint64_t)memcmp(whole, start_of, 32), 0);
+    same("a merge from any bytes", fault(answer), status);
+    if (answer) same("a merge that was refused", memcmp(whole, start_of, 32), 0);
     answer = sketch_member_merge(bytes, length, start_of, 32);
-    same("a merge into any bytes", (uint64_t)(answer < -11 ? 0 : answer), (uint64_t)status);
-    if (answer) same("bytes that were refused", (uint64_t)memcmp(bytes, source, length), 0);
+    same("a merge into any bytes", fault(answer), status);
+    if (answer) same("bytes that were refused", memcmp(bytes, source, length), 0);
     if (status) {
-        same("an insert into any bytes", (uint64_t)sketch_member_insert(bytes, length, "a", 1),
-             (uint64_t)status);
-        same("bytes that were refused", (uint64_t)memcmp(bytes, source, length), 0);
+        same("an insert into any bytes", sketch_member_insert(bytes, length, "a", 1), status);
+        same("bytes that were refused", memcmp(bytes, source, length), 0);
         same("a count that was refused", count, 7);
     }
     free(bytes);
@@ -191,12 +177,7 @@ static void damaged(void) {
     unsigned char bytes[64];
     for (int version = 1; version <= 2; version++) {
         size_t length = 8 * (size_t)version + 16;
-        unsigned char table[40] = {0};
-        table[0] = (unsigned char)(version + 1);
-        table[1] = (unsigned char)version;
-        table[2] = 200;
-        table[3] = 6;
-        table[4] = 1;
+        unsigned char table[40] = {(unsigned char)(version + 1), (unsigned char)version, 200, 6, 1};
         for (size_t at = 0; at < length; at++)
             for (int byte = 0; byte < 256; byte++) {
                 memcpy(bytes, table, sizeof table);
@@ -219,29 +200,29 @@ static void other_tables(void) {
     unsigned char bytes[40], other[40];
     sketch_member_init(bytes, 32, 5, 6, 2);
     sketch_member_init(other, 40, 6, 7, 3);
-    same("other seeds", (uint64_t)sketch_member_merge(bytes, 32, other, 40), (uint64_t)-12);
+    same("other seeds", sketch_member_merge(bytes, 32, other, 40), SKETCH_MEMBER_OTHER_SEED);
     sketch_member_init(other, 40, 5, 7, 3);
-    same("other sizes", (uint64_t)sketch_member_merge(bytes, 32, other, 40), (uint64_t)-13);
+    same("other sizes", sketch_member_merge(bytes, 32, other, 40), SKETCH_MEMBER_OTHER_LOG2_BITS);
     sketch_member_init(other, 32, 5, 6, 3);
-    same("other hashes", (uint64_t)sketch_member_merge(bytes, 32, other, 32), (uint64_t)-14);
-    same("a wide log2_bits", (uint64_t)sketch_member_init(bytes, 32, 0, 262, 1), (uint64_t)-5);
-    same("wide hashes", (uint64_t)sketch_member_init(bytes, 32, 0, 6, 257), (uint64_t)-6);
+    same("other hashes", sketch_member_merge(bytes, 32, other, 32), SKETCH_MEMBER_OTHER_HASHES);
+    same("a wide log2_bits", sketch_member_init(bytes, 32, 0, 262, 1), SKETCH_MEMBER_LOG2_BITS);
+    same("wide hashes", sketch_member_init(bytes, 32, 0, 6, 257), SKETCH_MEMBER_HASHES);
     same("a size of none", sketch_member_size(262), 0);
-    same("no bytes", (uint64_t)sketch_member_check(NULL, 0), SKETCH_MEMBER_HEADER_ENDS == -1 ? (uint64_t)-1 : 0);
+    same("no bytes", sketch_member_check(NULL, 0), SKETCH_MEMBER_HEADER_ENDS);
 }
 
 static void sizes(void) {
     unsigned log2_bits = 1, hashes = 2;
-    same("too many keys", (uint64_t)sketch_member_for_keys(110000, 100, &log2_bits, &hashes), 1);
+    same("too many keys", sketch_member_for_keys(110000, 100, &log2_bits, &hashes), 1);
     same("no sizes", log2_bits << 8 | hashes, 1 << 8 | 2);
-    same("sizes for keys", (uint64_t)sketch_member_for_keys(1000, 100, &log2_bits, &hashes), 0);
+    same("sizes for keys", sketch_member_for_keys(1000, 100, &log2_bits, &hashes), 0);
     same("the sizes", log2_bits << 8 | hashes, 14 << 8 | 3);
 }
 
 int main(int count, char **arguments) {
-    unsigned widest = count > 1 ? (unsigned)atoi(arguments[1]) : 20;
-    for (unsigned log2_bits = 6; log2_bits <= widest; log2_bits++)
-        for (unsigned hashes = 1; hashes <= 16; hashes++) of_size(log2_bits, hashes);
+    int widest = count > 1 ? atoi(arguments[1]) : 20;
+    for (unsigned char log2_bits = 6; log2_bits <= widest; log2_bits++)
+        for (unsigned char hashes = 1; hashes <= 16; hashes++) of_size(log2_bits, hashes);
     damaged();
     other_tables();
     sizes();

@@ -53,7 +53,7 @@ TARGETS = {
 
 @pytest.fixture
 def built(need, tmp_path):
-    """built("noise"): the command that runs a program with the library of a target."""
+    """built("layout"): the command that runs a program with the library of a target."""
 
     def built(name, target="linux-x86_64"):
         peers, (compiler, runner) = PEERS.get(name, []), TARGETS[target]
@@ -66,28 +66,28 @@ def built(need, tmp_path):
     return built
 
 
-@pytest.mark.parametrize("name", ["layout", "compare", "long", "member", "noise", "columns", "answers"])
+@pytest.mark.parametrize("name", ["layout", "compare", "long", "member", "columns", "answers"])
 def test_calls(name, built):
     assert output(*built(name))
 
 
-@pytest.mark.parametrize("name", ["layout", "noise", "columns"])
+@pytest.mark.parametrize("name", ["layout", "columns"])
 def test_calls_on_aarch64(name, built):
     assert output(*built(name, "linux-aarch64"))
 
 
 def test_aarch64_answers_as_x86_64(built):
-    """Streams, columns and tables at random."""
+    """Streams, states, columns and tables at random."""
     assert output(*built("answers", "linux-aarch64")) == output(*built("answers"))
 
 
-@pytest.mark.parametrize("name, words", [("compare", []), ("noise", []), ("member", ["9"]), ("columns", [])])
+@pytest.mark.parametrize("name, words", [("compare", []), ("member", ["9"]), ("columns", []), ("answers", ["10000"])])
 def test_calls_read_and_write_only_what_they_are_given(name, words, built, need):
     need("valgrind")
     output("valgrind", "-q", "--error-exitcode=9", "--leak-check=full", *built(name), *words)
 
 
-@pytest.mark.parametrize("name", ["layout", "noise", "columns", "answers"])
+@pytest.mark.parametrize("name", ["layout", "columns", "answers"])
 def test_calls_take_a_stack_of_256_kib(name, built):
     assert output("bash", "-c", 'ulimit -s 256 && exec "$0"', *built(name))
 

@@ -72,19 +72,15 @@ def test_an_upgrade_leaves_the_library_that_programs_run(prefix, tmp_path):
     assert not library.samefile(tmp_path / "in_use")
 
 
-@pytest.mark.parametrize("words", [["TARGET=linux-aarch64"], ["TARGET=linux-riscv64"]])
-def test_install_for_another_machine(words, tmp_path):
-    said = make("install", f"PREFIX={tmp_path}", *words)
-    if "aarch64" in words[0]:
-        assert files_in(tmp_path) == INSTALLED - {"bin/sketchsum", "share/man/man1/sketchsum.1"}
-        assert (tmp_path / "lib/libsketch_hash.a").read_bytes() == (DIST / "linux-aarch64/libsketch_hash.a").read_bytes()
-    else:
-        assert said.returncode and "no library for linux-riscv64" in said.stderr and "WebAssembly" in said.stderr
+def test_install_for_another_machine(tmp_path):
+    assert make("install", f"PREFIX={tmp_path}", "TARGET=linux-aarch64").returncode == 0
+    assert files_in(tmp_path) == INSTALLED - {"bin/sketchsum", "share/man/man1/sketchsum.1"}
+    assert (tmp_path / "lib/libsketch_hash.a").read_bytes() == (DIST / "linux-aarch64/libsketch_hash.a").read_bytes()
 
 
-def test_the_program_that_is_installed_hashes(prefix):
-    said = subprocess.run([prefix / "bin/sketchsum", "murmur", "0"], input=b"The quick brown fox jumps over the lazy dog", capture_output=True)
-    assert (said.returncode, said.stdout, said.stderr) == (0, b"e34bbc7bbc071b6c7a433ca9c49a9347\n", b"")
+def test_install_tells_that_a_machine_has_no_library(tmp_path):
+    said = make("install", f"PREFIX={tmp_path}", "TARGET=linux-riscv64")
+    assert said.returncode and "no library for linux-riscv64" in said.stderr and "WebAssembly" in said.stderr
 
 
 def test_make_alone_installs_nothing_and_checks_the_sums(tmp_path):

@@ -6,3 +6,5 @@ pub mod ExtendLemmas
 -- lemmas of the crates below, for the crates above
 pub use Rattle.sketch_base.proofs.BytesLemmas
 pub use Rattle.sketch_base.proofs.ItemLemmas
+pub use Rattle.sketch_hash.proofs.MurmurLemmas
+pub use Rattle.sketch_hash.proofs.Xxh64Lemmas

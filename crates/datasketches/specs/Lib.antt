@@ -16,11 +16,10 @@ pub use Rattle.sketch_hash.specs.Held
 pub use Rattle.sketch_hash.specs.Lending
 pub use Rattle.sketch_hash.specs.Murmur
 pub use Rattle.sketch_hash.specs.Laws as StepLaws
-pub use Rattle.sketch_hash.specs.MurmurWriteLemmas
 pub use Rattle.sketch_hash.specs.OneToOne
 pub use Rattle.sketch_hash.specs.Pieces
+pub use Rattle.sketch_hash.specs.PiecesWriteLemmas
 pub use Rattle.sketch_hash.specs.SeedHash
 pub use Rattle.sketch_hash.specs.Values
 pub use Rattle.sketch_hash.specs.Words
 pub use Rattle.sketch_hash.specs.Xxh64
-pub use Rattle.sketch_hash.specs.Xxh64WriteLemmas

@@ -226,10 +226,8 @@ impl Error {
         ensures { Refuses ErrorKind.InvalidData
             (invalid_family_text expected actual name.entry.now) result }
     {
-        Error::refusal(
-            alloc,
-            format!(in alloc; "invalid family: expected {expected} ({name}), got {actual}"),
-        )
+        let text = format!(in alloc; "invalid family: expected {expected} ({name}), got {actual}");
+        Error::refusal(alloc, text)
     }
 
     /// A number of preamble longs is none of the expected ones. Kind `InvalidData`:
@@ -250,10 +248,8 @@ impl Error {
         ensures { Refuses ErrorKind.InvalidData
             (invalid_preamble_ints_text expected actual) result }
     {
-        Error::refusal(
-            alloc,
-            format!(in alloc; "invalid preamble ints: expected {expected}, got {actual}"),
-        )
+        let text = format!(in alloc; "invalid preamble ints: expected {expected}, got {actual}");
+        Error::refusal(alloc, text)
     }
 
     // Malformed data is refused, with a text that was just made.

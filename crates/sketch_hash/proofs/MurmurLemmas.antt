@@ -3,7 +3,7 @@ use Rattle.std.proofs.Common.{◌≡◌, ℕ, ◌+◌, ◌-◌, ◌*◌, min, �
 use Rattle.std.specs.Prelude.{bit_xor}
 use Rattle.std.specs.Int.Bits.{xor_zero_r}
 use Rattle.sketch_hash.specs.Words.{IsWord, plus, times, xor, xor_below, rotate}
-use Rattle.sketch_hash.specs.MurmurWriteLemmas.{murmur_after-append}
+use Rattle.sketch_hash.specs.PiecesWriteLemmas.{murmur_after-append}
 use Rattle.std.proofs.Math.Nat.{div-eq_of_lt}
 use Rattle.std.proofs.lemmas.List.{nil_from_length}
 use Rattle.sketch_base.specs.Bytes.{le, low_bytes}
@@ -24,6 +24,14 @@ murmur_answer-after seed (b ∷ bytes) = rw zero-add refl
 pub murmur_answer-stands : (seed : ℕ) (bytes : List ℕ) (state : State (ℕ × ℕ)) →
     MurmurStands state seed bytes → murmur_answer state ≡ murmur seed bytes
 murmur_answer-stands seed bytes state stands = ap murmur_answer stands ∙ murmur_answer-after seed bytes
+
+-- a write takes a hasher that stands for bytes to one that stands for them and the written ones
+pub murmur_stands_after : (state next : State (ℕ × ℕ)) (bytes : List ℕ) →
+    next ≡ murmur_after state bytes → (seed : ℕ) (before : List ℕ) →
+    MurmurStands state seed before → MurmurStands next seed (before ++ bytes)
+murmur_stands_after state next bytes written seed before stands =
+    written ∙ ap (λ s. murmur_after s bytes) stands
+    ∙ murmur_after-append (murmur_start seed) before bytes
 
 -- a word of the tail that has no bytes leaves what it would enter
 pub xor_mix1-zero : (h : ℕ) → IsWord h → xor h (mix1 0) ≡ h

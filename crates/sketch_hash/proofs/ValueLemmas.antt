@@ -2,8 +2,7 @@
 use Rattle.std.proofs.Common.{◌≡◌, ℕ, List, [], ap, ◌∙◌}
 use Rattle.sketch_hash.specs.Pieces.{State}
 use Rattle.sketch_hash.specs.Murmur.{murmur, murmur_after, murmur_answer, MurmurStands}
-use Rattle.sketch_hash.specs.MurmurWriteLemmas.{murmur_stands_after}
-use Rattle.sketch_hash.proofs.MurmurLemmas.{murmur_answer-stands}
+use Rattle.sketch_hash.proofs.MurmurLemmas.{murmur_answer-stands, murmur_stands_after}
 
 pub of_one_write : (seed : ℕ) (bytes : List ℕ) (start state : State (ℕ × ℕ)) (answer : ℕ) →
     MurmurStands start seed [] → state ≡ murmur_after start bytes → answer ≡ (murmur_answer state).0 →

@@ -9,7 +9,7 @@ use Rattle.sketch_base.specs.Bytes.{le, eight}
 use Rattle.sketch_base.proofs.BytesLemmas.{le-back}
 use Rattle.sketch_hash.specs.Pieces.{pieces, rest, State, absorb}
 use Rattle.sketch_hash.specs.Xxh64.{Lanes, prime5, lanes_start, lanes, merge, steps_of, steps, tail_step, eight_step, four_step, byte_step, avalanche, finalize, xxh64, xxh64_start, xxh64_after, xxh64_answer, Xxh64Stands, each_lane}
-use Rattle.sketch_hash.specs.Xxh64WriteLemmas.{xxh64_after-append, xxh64_stands_after}
+use Rattle.sketch_hash.specs.PiecesWriteLemmas.{xxh64_after-append}
 use Rattle.sketch_hash.specs.Words.{IsWord, plus}
 use Rattle.sketch_hash.proofs.LanesLemmas.{fold-seeded}
 use Rattle.sketch_hash.proofs.PiecesLemmas.{pieces_short, rest_short, pieces-first, rest-first}
@@ -112,6 +112,14 @@ xxh64_answer-after seed (b ∷ bytes) =
 xxh64_answer-stands : (seed : ℕ) (bytes : List ℕ) (state : State (ℕ × Lanes)) →
     Xxh64Stands state seed bytes → xxh64_answer state ≡ xxh64 seed bytes
 xxh64_answer-stands seed bytes state stands = ap xxh64_answer stands ∙ xxh64_answer-after seed bytes
+
+-- a write takes a hasher that stands for bytes to one that stands for them and the written ones
+pub xxh64_stands_after : (state next : State (ℕ × Lanes)) (bytes : List ℕ) →
+    next ≡ xxh64_after state bytes → (seed : ℕ) (before : List ℕ) →
+    Xxh64Stands state seed before → Xxh64Stands next seed (before ++ bytes)
+xxh64_stands_after state next bytes written seed before stands =
+    written ∙ ap (λ s. xxh64_after s bytes) stands
+    ∙ xxh64_after-append (xxh64_start seed) before bytes
 
 -- a new hasher that is written to once answers for what was written
 pub of_one_write : (seed : ℕ) (bytes : List ℕ) (start state : State (ℕ × Lanes)) (answer : ℕ) →

@@ -16,5 +16,3 @@ pub mod KnownAnswers
 -- ---- Lemmas, by their names: nobody has to believe these, for they are proved here. They stand in
 -- ---- specs/ because the proof of a law in an `impl` may cite nothing else.
 pub mod PiecesWriteLemmas
-pub mod MurmurWriteLemmas
-pub mod Xxh64WriteLemmas

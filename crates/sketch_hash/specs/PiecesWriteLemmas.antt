@@ -1,11 +1,13 @@
--- Two writes leave what one write of the joined bytes leaves: the laws that both hashers prove.
-use Rattle.std.specs.Prelude.{◌≡◌, ℕ, zero, suc, ◌+◌, ◌*◌, ◌/◌, ◌%◌, ◌^◌, ◌<◌, ◌≤◌, List, [], ◌∷◌, ◌++◌, length, take, drop, map, refl}
+-- Two writes leave what one write of the joined bytes leaves, and an empty write leaves the state:
+-- the laws that both hashers prove.
+use Rattle.std.specs.Prelude.{◌≡◌, ℕ, zero, suc, ◌+◌, ◌*◌, ◌/◌, ◌%◌, ◌^◌, ◌<◌, ◌≤◌, List, [], ◌∷◌, ◌++◌, length, drop, map, refl}
 use Rattle.std.proofs.Common.{sym, ap, ◌∙◌, arith, append_assoc, length-append, length-drop, zero-add}
 use Rattle.std.proofs.Math.Nat.{mul-add-div_right, div-mul-le_self, suc-mul, zero-mul, suc-add, add-mul}
 use Rattle.std.proofs.lemmas.List.{append-nil, map-append, take-append-le, drop-append-le, drop-drop}
 use Rattle.std.proofs.lemmas.List.Sums.{fold-append}
-use Rattle.std.specs.List.{fold}
 use Rattle.sketch_hash.specs.Pieces.{first_pieces, pieces, rest, State, absorb, state_after}
+use Rattle.sketch_hash.specs.Murmur.{block_words, step, murmur_after}
+use Rattle.sketch_hash.specs.Xxh64.{Lanes, seeded_step, xxh64_after}
 
 -- pieces in front do not depend on what is joined after them
 first_pieces-append : (n m w : ℕ) (xs ys : List ℕ) → n * w ≤ length xs →
@@ -18,11 +20,10 @@ first_pieces-append (suc n) m w xs ys h =
     let others : n * w ≤ length (drop w xs) = rw (length-drop w xs) (omega (arith, more)) in
     let further : drop (n * w) (drop w xs) ≡ drop (suc n * w) xs = drop-drop (n * w) w xs
     ∙ ap (λ k. drop k xs) (omega (arith, more)) in
-    rw (suc-add n m) (ap (λ piece. piece ∷ first_pieces (n + m) w (drop w (xs ++ ys)))
-    (take-append-le w xs ys first)
-    ∙ ap (λ t. take w xs ∷ first_pieces (n + m) w t) (drop-append-le w xs ys first)
-    ∙ ap (λ t. take w xs ∷ t) (first_pieces-append n m w (drop w xs) ys others)
-    ∙ ap (λ t. take w xs ∷ (first_pieces n w (drop w xs) ++ first_pieces m w (t ++ ys))) further)
+    let pieces_behind = first_pieces-append n m w (drop w xs) ys others in
+    let front = take-append-le w xs ys first in
+    let behind = drop-append-le w xs ys first in
+    rw (suc-add n m, front, behind, pieces_behind, further) refl
 
 -- how many pieces two joined lists have
 piece_count : (w : ℕ) (xs ys : List ℕ) → 0 < w →
@@ -52,13 +53,6 @@ rest-append w xs ys p =
     ∙ sym (drop-drop (m * w) (n * w) (xs ++ ys))
     ∙ ap (drop (m * w)) (drop-append-le (n * w) xs ys (div-mul-le_self (length xs) w))
 
--- two states with the same parts are one
-same_state : {P : Type 0} (s t : State P) → s.folded ≡ t.folded → s.total ≡ t.total →
-    s.waiting ≡ t.waiting → s ≡ t
-same_state s t a b c = ap (λ x. record { folded = x; total = s.total; waiting = s.waiting }) a
-    ∙ ap (λ x. record { folded = t.folded; total = x; waiting = s.waiting }) b
-    ∙ ap (λ x. record { folded = t.folded; total = t.total; waiting = x }) c
-
 -- what two writes absorb is what one write of the joined bytes absorbs
 pub absorb-append : {P R : Type 0} (w : ℕ) (read : List ℕ → R) (f : P → R → P) → 0 < w →
     (state : State P) (xs ys : List ℕ) →
@@ -70,15 +64,12 @@ absorb-append w read f p state xs ys =
     let others = pieces w (rest w held ++ ys) in
     let joined : state.waiting ++ (xs ++ ys) ≡ held ++ ys =
     sym (append_assoc state.waiting xs ys) in
-    let all : map read (pieces w (state.waiting ++ (xs ++ ys)))
-    ≡ map read first ++ map read others =
-    ap (λ t. map read (pieces w t)) joined ∙ ap (map read) (pieces-append w held ys p)
-    ∙ map-append read first others in
-    same_state _ _
-    (sym (ap (fold f state.folded) all
-    ∙ fold-append f state.folded (map read first) (map read others)))
-    (rw (length-append xs ys) (counted state.total (length xs) (length ys)))
-    (sym (ap (rest w) joined ∙ rest-append w held ys p))
+    let all = pieces-append w held ys p in
+    let read_all = map-append read first others in
+    let folded = fold-append f state.folded (map read first) (map read others) in
+    let left = rest-append w held ys p in
+    let count = counted state.total (length xs) (length ys) in
+    rw (joined, all, read_all, folded, left, length-append xs ys, count) refl
   where
     counted : (a b c : ℕ) → ((a + b) % 2 ^ 64 + c) % 2 ^ 64 ≡ (a + (b + c)) % 2 ^ 64
     counted a b c = omega arith
@@ -92,3 +83,26 @@ state_after-append w read f p state (x ∷ xs) [] =
     ap (λ t. absorb w read f state (x ∷ t)) (sym (append-nil xs))
 state_after-append w read f p state (x ∷ xs) (y ∷ ys) =
     absorb-append w read f p state (x ∷ xs) (y ∷ ys)
+
+-- ---- Murmur's
+
+pub murmur_after-append : (state : State (ℕ × ℕ)) (xs ys : List ℕ) →
+    murmur_after (murmur_after state xs) ys ≡ murmur_after state (xs ++ ys)
+unfolding murmur_after
+murmur_after-append state xs ys = state_after-append 16 block_words step (omega arith) state xs ys
+
+pub murmur_after-empty : (state : State (ℕ × ℕ)) → murmur_after state [] ≡ state
+unfolding murmur_after
+murmur_after-empty state = refl
+
+-- ---- XXH64's
+
+pub xxh64_after-append : (state : State (ℕ × Lanes)) (xs ys : List ℕ) →
+    xxh64_after (xxh64_after state xs) ys ≡ xxh64_after state (xs ++ ys)
+unfolding xxh64_after
+xxh64_after-append state xs ys =
+    state_after-append 32 (λ stripe. stripe) seeded_step (omega arith) state xs ys
+
+pub xxh64_after-empty : (state : State (ℕ × Lanes)) → xxh64_after state [] ≡ state
+unfolding xxh64_after
+xxh64_after-empty state = refl

@@ -14,8 +14,7 @@ ghost use Rattle.sketch_base.specs.Refusals.{
 use crate::error::{Error, ErrorKind};
 use std::alloc::{AllocError, Global};
 use std::io;
-use std::ops::Bound;
-use std::ops::Bound::{Excluded, Included, Unbounded};
+use std::ops::Bound::{self, Excluded, Included, Unbounded};
 
 /// The error for data that ended too early in the part that the tag names: `insufficient data
 /// (TAG): TEXT`, with the text that `error` prints. No clause says that the text is the error's;
@@ -41,10 +40,8 @@ pub fn ensure_serial_version_is(alloc: Global, expected: u8, actual: u8) -> Resu
     if expected == actual {
         return Ok(());
     }
-    Err(Error::refusal(
-        alloc,
-        format!(in alloc; "unsupported serial version: expected {expected}, got {actual}"),
-    ))
+    let text = format!(in alloc; "unsupported serial version: expected {expected}, got {actual}");
+    Err(Error::refusal(alloc, text))
 }
 
 /// Accepts exactly the listed numbers of preamble longs.

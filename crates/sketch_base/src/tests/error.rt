@@ -16,24 +16,15 @@ fn assert_text(rt: &impl Abort, made: Result<String, AllocError>, text: &str) {
     assert_same(rt, made.ok().as_deref(), Some(text));
 }
 
-const KINDS: [(ErrorKind, &'static str, &'static str); 3] = [
-    (InvalidArgument, "InvalidArgument", "InvalidArgument => m"),
-    (InvalidData, "InvalidData", "InvalidData => m"),
-    (OutOfMemory, "OutOfMemory", "OutOfMemory => m"),
-];
-
 #[test]
-fn kinds_print_their_names_at_any_width(rt: HostRuntime) -> Result<(), AllocError> {
-    for (kind, name, line) in &KINDS {
-        assert_same(&rt, kind.into_static(), *name);
-        assert_text(&rt, format!(in rt.alloc(); "{kind:20}"), name);
-        assert_text(&rt, format!(in rt.alloc(); "{kind:?}"), name);
-        assert_line(&rt, error_of(rt.alloc(), *kind, "m")?, line);
-    }
-    let bare = Error::new(OutOfMemory, String::new(rt.alloc()));
-    assert_text(&rt, format!(in rt.alloc(); "{bare:20}"), "OutOfMemory");
+fn kinds_print_their_names_at_any_width(rt: HostRuntime) {
+    let (alloc, names) = (rt.alloc(), "InvalidArgument InvalidData OutOfMemory");
+    let (a, b, c) = (InvalidArgument, InvalidData, OutOfMemory);
+    assert_text(&rt, format!(in alloc; "{a:20} {b:20} {c:20}"), names);
+    assert_text(&rt, format!(in alloc; "{a:?} {b:?} {c:?}"), names);
+    let bare = Error::new(OutOfMemory, String::new(alloc));
+    assert_text(&rt, format!(in alloc; "{bare:20}"), "OutOfMemory");
     assert_line(&rt, bare, "OutOfMemory");
-    Ok(())
 }
 
 #[test]
@@ -61,7 +52,6 @@ fn messages_handed_in(rt: HostRuntime) -> Result<(), AllocError> {
     assert_line(&rt, bad, "InvalidArgument => bad input");
     let bad = Error::deserial(String::from_str(rt.alloc(), "bad input")?);
     assert_line(&rt, bad, "InvalidData => bad input");
-    assert_line(&rt, Error::from(AllocError), "OutOfMemory");
     Ok(())
 }
 

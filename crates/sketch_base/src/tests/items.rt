@@ -1,8 +1,8 @@
-//! Each form of a number: its bytes, its kind, and what it prints.
+//! Each form of a number: how it is written, read, and cut short.
 
-use super::{assert_same, prints};
-use crate::codec::{Item, Kind, Short, SketchBytes, SketchSlice, Stopped};
-use std::alloc::Global;
+use super::assert_same;
+use crate::codec::{Item, Kind, SketchBytes, SketchSlice};
+use std::alloc::AllocError;
 use std::io;
 
 // Each form, and the bytes of one number in it.
@@ -43,33 +43,22 @@ fn read_by_name(reader: &mut SketchSlice, kind: Kind) -> io::Result<Item> {
     })
 }
 
-// The bytes of one item, written into memory that grows.
-fn bytes_of(alloc: Global, item: Item) -> Option<Vec<u8>> {
-    let mut writer = SketchBytes::with_capacity(alloc, 0).ok()?;
-    writer.write_items(&[item]).ok()?;
-    Some(writer.into_bytes())
-}
-
 #[test]
-fn forms_are_written(rt: HostRuntime) {
+fn forms_are_written(rt: HostRuntime) -> Result<(), AllocError> {
     for (item, bytes) in &FORMS {
-        assert_same(&rt, bytes_of(rt.alloc(), *item).as_deref(), Some(*bytes));
+        let mut writer = SketchBytes::with_capacity(rt.alloc(), 0)?;
+        assert_same(&rt, writer.write_items(&[*item]), Ok(()));
+        assert_same(&rt, writer.into_bytes().as_slice(), *bytes);
     }
+    Ok(())
 }
 
 #[test]
 fn forms_are_read_and_take_no_memory(rt: HostRuntime) {
     for (item, bytes) in &FORMS {
         let mut reader = SketchSlice::new(bytes);
-        assert_same(
-            &rt,
-            read_by_name(&mut reader, item.kind()).ok(),
-            Some(*item),
-        );
-        assert!(rt; reader.remaining().is_empty());
-        let mut place = [Item::U8(0)];
-        let listed = SketchSlice::new(bytes).read_items(&[item.kind()], &mut place);
-        assert_same(&rt, (listed, place), (Ok(()), [*item]));
+        let read = read_by_name(&mut reader, item.kind()).ok();
+        assert_same(&rt, (read, reader.remaining().len()), (Some(*item), 0));
     }
 }
 
@@ -85,14 +74,4 @@ fn forms_cut_short_take_no_memory(rt: HostRuntime) {
             assert_same(&rt, (kind, reader.remaining().len()), end);
         }
     }
-}
-
-#[test]
-fn items_and_counts_print(rt: HostRuntime) {
-    let (short, stopped) = (Short { read: 3 }, Stopped { accepted: 0 });
-    assert!(rt; prints(short, "insufficient data after 3 items"));
-    assert!(rt; prints(stopped, "out of memory after 0 items"));
-    let text = format!(in rt.alloc(); "{:?} {short:?} {stopped:?}", Item::U16Le(258)).ok();
-    let shown = "U16Le(258) Short { read: 3 } Stopped { accepted: 0 }";
-    assert_same(&rt, text.as_deref(), Some(shown));
 }

@@ -1,7 +1,8 @@
 //! Writers, with memory and without.
 
 use super::{assert_same, tell_refusal};
-use crate::codec::{Item, Kind, SketchBytes, SketchSlice, Stopped};
+use crate::codec::Item::{self, U8, U32Be, U64Le};
+use crate::codec::{Kind, SketchBytes, SketchSlice, Stopped};
 use std::alloc::AllocError;
 use std::process::Abort;
 
@@ -28,16 +29,8 @@ fn a_hundred_thousand_numbers(rt: HostRuntime) -> Result<(), AllocError> {
     Ok(())
 }
 
-// Items of one, four and eight bytes, their kinds and their bytes.
-const LIST: [Item; 5] = [
-    Item::U8(1),
-    Item::U32Be(2),
-    Item::U64Le(3),
-    Item::U8(4),
-    Item::U8(5),
-];
-
-const KINDS: [Kind; 5] = [Kind::U8, Kind::U32Be, Kind::U64Le, Kind::U8, Kind::U8];
+// Items of one, four and eight bytes, and their bytes.
+const LIST: [Item; 5] = [U8(1), U32Be(2), U64Le(3), U8(4), U8(5)];
 
 const BYTES: [u8; 15] = [1, 0, 0, 0, 2, 3, 0, 0, 0, 0, 0, 0, 0, 4, 5];
 
@@ -54,8 +47,9 @@ fn lists_are_written_into_memory_that_grows(rt: HostRuntime) -> Result<(), Alloc
 #[test]
 fn lists_are_read_back_and_take_no_memory(rt: HostRuntime) {
     let mut reader = SketchSlice::new(b"\x01\0\0\0\x02\x03\0\0\0\0\0\0\0\x04\x05\xaa\xbb");
-    let mut places = [Item::U8(0); 5];
-    let answer = reader.read_items(&KINDS, &mut places);
+    let mut places = [U8(0); 5];
+    let kinds = [Kind::U8, Kind::U32Be, Kind::U64Le, Kind::U8, Kind::U8];
+    let answer = reader.read_items(&kinds, &mut places);
     assert_same(&rt, (answer, places), (Ok(()), LIST));
     assert_same(&rt, reader.remaining(), &[0xaa, 0xbb]);
 }
@@ -103,13 +97,11 @@ fn lists_tell_what_was_written_without_memory(rt: HostRuntime) {
     let Ok(mut writer) = SketchBytes::with_capacity(rt.alloc(), 0) else {
         return tell_refusal(&rt);
     };
-    let accepted = match writer.write_items(&LIST) {
-        Ok(()) => 5,
-        Err(Stopped { accepted }) => {
-            tell_refusal(&rt);
-            accepted
-        }
-    };
+    let stopped = writer.write_items(&LIST).err();
+    if stopped.is_some() {
+        tell_refusal(&rt);
+    }
+    let accepted = stopped.map_or(5, |stopped| stopped.accepted);
     let count = [0, 1, 5, 13, 14, 15].get(accepted).copied();
     let written = count.and_then(|count| BYTES.get(..count));
     assert_same(&rt, Some(writer.into_bytes().as_slice()), written);
@@ -130,7 +122,7 @@ fn a_list_stops_where_the_second_request_is_refused(rt: HostRuntime) {
     tell_refusal(&rt);
     assert_same(&rt, answer, Err(Stopped { accepted: 2 }));
     assert_same(&rt, bytes.as_slice(), &[1, 0, 0, 0, 2]);
-    let mut places = [Item::U8(0); 2];
+    let mut places = [U8(0); 2];
     let read = SketchSlice::new(&bytes).read_items(&[Kind::U8, Kind::U32Be], &mut places);
-    assert_same(&rt, (read, places), (Ok(()), [Item::U8(1), Item::U32Be(2)]));
+    assert_same(&rt, (read, places), (Ok(()), [U8(1), U32Be(2)]));
 }

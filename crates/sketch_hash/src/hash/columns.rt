@@ -147,7 +147,7 @@ fn check_offset<O: Offset>(
     if i >= offsets.len() {
         return Err(i);
     }
-    let place = place_at(offsets, i);
+    let place = offsets[i].place();
     if place < last || bytes.len() < place {
         return Err(i);
     }
@@ -161,13 +161,5 @@ fn key_at<'a, O: Offset>(bytes: &'a [u8], offsets: &[O], i: usize) -> &'a [u8]
     requires end { IsBound bytes.now (map O.place offsets.now) (i + 1) }
     ensures { result.now ≡ key_at bytes.now (map O.place offsets.now) i }
 {
-    &bytes[place_at(offsets, i)..place_at(offsets, i + 1)]
-}
-
-#[inline(always)]
-fn place_at<O: Offset>(offsets: &[O], i: usize) -> usize
-    requires { i < length offsets.now }
-    ensures { result ≡ slice_index (map O.place offsets.now) i }
-{
-    offsets[i].place()
+    &bytes[offsets[i].place()..offsets[i + 1].place()]
 }

@@ -6,7 +6,7 @@ ghost use Rattle.std.specs.List.{fold};
 ghost use Rattle.sketch_base.specs.Bytes.{le, low_bytes};
 ghost use Rattle.sketch_hash.specs.Pieces.{State};
 ghost use Rattle.sketch_hash.specs.Murmur.{mix1, mix2, fmix, cross, step, with_tail, finalize, block_words, murmur, murmur_after, murmur_answer, MurmurStands};
-ghost use Rattle.sketch_hash.specs.MurmurWriteLemmas.{murmur_after-append, murmur_after-empty};
+ghost use Rattle.sketch_hash.specs.PiecesWriteLemmas.{murmur_after-append, murmur_after-empty};
 
 mod state;
 mod tail;

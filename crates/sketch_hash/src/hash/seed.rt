@@ -24,7 +24,8 @@ pub fn compute_seed_hash(alloc: Global, seed: u64, error_kind: ErrorKind) -> Res
         (λ hash. (hash ≡ seed_hash seed) × (hash ≢ 0))
         (λ error. (seed_hash seed ≡ 0) × Refuses error_kind (zero_seed_hash_text seed) error) }
 {
-    let hash = seed_hash(seed);
+    let (h1, _) = MurmurHash3X64128::hash(&seed.to_le_bytes(), 0);
+    let hash = (h1 % 0x1_0000) as u16;
     if hash == 0 {
         let text = format!(in alloc;
             "seed {seed} produces a seed hash of zero; choose a different seed"
@@ -59,11 +60,4 @@ pub fn check_seed_hash(
         "incompatible seed hash of {name}: expected {expected}, got {actual}"
     );
     Err(Error::from_text(alloc, kind, text))
-}
-
-fn seed_hash(seed: u64) -> u16
-    ensures { result ≡ seed_hash seed }
-{
-    let (h1, _) = MurmurHash3X64128::hash(&seed.to_le_bytes(), 0);
-    (h1 % 0x1_0000) as u16
 }

@@ -8,7 +8,7 @@ ghost use Rattle.sketch_hash.specs.Pieces.{State, pieces};
 ghost use Rattle.sketch_hash.specs.Words.{plus};
 ghost use Rattle.sketch_hash.specs.Xxh64.{Lanes, prime5, lanes_start, merge, tail_step, steps, avalanche, xxh64, xxh64_after, xxh64_answer, Xxh64Stands, each_lane};
 ghost use Rattle.sketch_hash.specs.Lanes.{lanes_of, lanes_of_scalars, state_of_scalars};
-ghost use Rattle.sketch_hash.specs.Xxh64WriteLemmas.{xxh64_after-append, xxh64_after-empty};
+ghost use Rattle.sketch_hash.specs.PiecesWriteLemmas.{xxh64_after-append, xxh64_after-empty};
 
 mod lanes;
 mod primes;

@@ -1,5 +1,5 @@
 use Rattle.std.proofs.Common.{[]}
-use Rattle.datasketches.specs.MurmurWriteLemmas.{murmur_stands_after}
+use Rattle.datasketches.proofs.MurmurLemmas.{murmur_stands_after}
 use Rattle.examples.proofs.keys.pair_of_value.Goals as goal
 
 pub returns : goal.returns

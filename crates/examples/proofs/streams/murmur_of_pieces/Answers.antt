@@ -1,6 +1,6 @@
 use Rattle.std.proofs.Common.{[]}
 use Rattle.std.specs.List.{flat_map}
-use Rattle.datasketches.specs.MurmurWriteLemmas.{murmur_stands_after}
+use Rattle.datasketches.proofs.MurmurLemmas.{murmur_stands_after}
 use Rattle.examples.proofs.streams.murmur_of_pieces.Goals as goal
 
 pub returns : goal.returns

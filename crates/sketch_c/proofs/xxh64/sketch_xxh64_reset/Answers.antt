@@ -1,5 +1,5 @@
 use Rattle.std.proofs.Common.{◌∙◌, [], ap, sym}
-use Rattle.datasketches.specs.Xxh64WriteLemmas.{xxh64_after-empty}
+use Rattle.datasketches.specs.PiecesWriteLemmas.{xxh64_after-empty}
 use Rattle.sketch_hash.proofs.HeldLemmas.{none_waits}
 use Rattle.sketch_c.proofs.xxh64.sketch_xxh64_reset.Goals as goal
 
