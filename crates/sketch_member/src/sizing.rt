@@ -40,8 +40,8 @@ fn clear_once(log2_bits: u8) -> u64
     WHOLE * (bits - 1) / bits
 }
 
-// The share of bits that are clear after so many were set, rounded down: by squares, from the highest
-// bit of `set` down.
+// The share of bits that are clear after so many were set, rounded down: by squares, from the
+// highest bit of `set` down.
 fn clear_share(log2_bits: u8, set: u64) -> u64
     requires { IsLog2Bits log2_bits }
     ensures below { IsClearShare (2 ^ log2_bits) set result }
