@@ -1,6 +1,6 @@
 //! A column of keys, hashed in one call.
 
-ghost use Rattle.std.specs.Prelude.{◌≡◌, ℕ, ◌+◌, ◌-◌, ◌<◌, length, take, drop, slice_index, IfErr, IfOk};
+ghost use Rattle.datasketches.specs.Columns.{HashesEach};
 ghost use Rattle.datasketches.specs.Xxh64.{xxh64};
 
 use datasketches::hash::XxHash64;
@@ -11,11 +11,7 @@ use datasketches::hash::XxHash64;
 ///
 /// The index of the first offset that does not fit; then nothing is written.
 pub fn hash_texts(texts: &[u8], offsets: &[u64], out: &mut [u64]) -> Result<(), usize>
-    ensures hashed { IfOk result (λ _. (i : ℕ) → i < length out.new →
-        slice_index out.new i ≡ xxh64 9001 (take
-        (slice_index offsets.now (i + 1) - slice_index offsets.now i)
-        (drop (slice_index offsets.now i) texts.now))) }
-    ensures unchanged { IfErr result (λ _. out.new ≡ out.old) }
+    ensures { HashesEach (xxh64 9001) texts.now offsets.now out.old out.new result }
 {
     XxHash64::hash_each(texts, offsets, 9001, out)
 }
