@@ -163,7 +163,7 @@ size_t sketch_member_size(unsigned log2_bits);
 
 /* Writes the sizes of the smallest table that reports at most one in `one_in` of other keys, once it has
  * so many, and returns 0. Returns 1, and writes nothing, where no table does (the largest has 2^20 bits:
- * 109,000 keys at 1 in 100), or `one_in` is above 2^31. */
+ * 109,000 keys at 1 in 100), or one of the two is above 2^31. */
 int sketch_member_for_keys(uint64_t keys, uint64_t one_in, unsigned *log2_bits, unsigned *hashes);
 
 /* Makes bytes a table without keys. It refuses, in this order: log2_bits outside of 6 to 20, hashes
