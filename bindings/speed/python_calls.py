@@ -18,22 +18,22 @@ table = sketch_hash.MemberTable(17, 7, seed=9001)
 table.insert(bytes(16))
 
 
-def timer(call, module, length):
+def timer(call, length, module=xxhash):
     data = bytes(length)
-    names = {"module": module, "data": data, "hasher": module.xxh64(data)}
+    names = {"module": module, "hash": module.xxh64_intdigest, "hasher": module.xxh64(data), "table": table, "data": data}
     it = timeit.Timer(call, globals=names, timer=time.thread_time)
     return lambda: it.timeit(1000)
 
 
-for case, call, length in CASES:
-    ours, theirs = (timer(call, module, length) for module in (sketch_hash, xxhash))
+def compare(case, peer, ours, theirs):
     ratios = sorted(ours() / theirs() for _ in range(101))
-    print(f"python\t{case}\tpython3-xxhash\t{statistics.median(ratios):.2f}\t{ratios[10]:.2f}\t{ratios[90]:.2f}")
+    print(f"python\t{case}\t{peer}\t{statistics.median(ratios):.2f}\t{ratios[10]:.2f}\t{ratios[90]:.2f}")
+
+
+for case, call, length in CASES:
+    compare(case, "python3-xxhash", *(timer(call, length, module) for module in (sketch_hash, xxhash)))
 
 # A filter of seven hashes beside what it would take of python3-xxhash's.
-names = {"table": table, "data": bytes(16), "hash": xxhash.xxh64_intdigest}
-seven = timeit.Timer("; ".join(f"hash(data, {seed})" for seed in range(7)), globals=names, timer=time.thread_time)
+seven = timer("; ".join(f"hash(data, {seed})" for seed in range(7)), 16)
 for case, call in (("insert", "table.insert(data)"), ("look-up", "data in table")):
-    it = timeit.Timer(call, globals=names, timer=time.thread_time)
-    ratios = sorted(it.timeit(1000) / seven.timeit(1000) for _ in range(101))
-    print(f"python\t{case} of a filter, 16 bytes\tseven hashes\t{ratios[50]:.2f}\t{ratios[10]:.2f}\t{ratios[90]:.2f}")
+    compare(f"{case} of a filter, 16 bytes", "seven hashes", timer(call, 16), seven)

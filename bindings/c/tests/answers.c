@@ -1,6 +1,6 @@
 /* Random streams in random cuts, random states, columns and tables, some with faults: prints a sum of what the library
  * answers, for a comparison of two builds of it. */
-#include "noise.h"
+#include "helpers.h"
 #include "sketch_hash.h"
 #include <stdio.h>
 #include <stdlib.h>

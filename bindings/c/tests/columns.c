@@ -1,8 +1,7 @@
 /* Columns of keys: each place beside the call on its key, and offsets that lie. Each array stands in
  * a block of its own, so that valgrind sees what is read or written outside. */
 #include "sketch_hash.h"
-#include "noise.h"
-#include "same.h"
+#include "helpers.h"
 #include <stdlib.h>
 #include <string.h>
 

@@ -5,7 +5,7 @@
 #include <stdlib.h>
 #include <string.h>
 #include <xxhash.h>
-#include "same.h"
+#include "helpers.h"
 
 static void same_pair(const char *what, sketch_murmur3_x64_128_hash_t answer, uint64_t h1,
                       uint64_t h2) {

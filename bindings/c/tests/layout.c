@@ -2,7 +2,7 @@
  * a first block. The words after a block were computed apart. */
 #include "sketch_hash.h"
 #include <string.h>
-#include "same.h"
+#include "helpers.h"
 
 static const uint64_t seed = 0x1122334455667788ULL;
 static sketch_xxh64_state_t x;

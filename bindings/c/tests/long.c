@@ -3,7 +3,7 @@
 #include "sketch_hash.h"
 #include <stdlib.h>
 #include <xxhash.h>
-#include "same.h"
+#include "helpers.h"
 
 int main(void) {
     size_t length = ((size_t)1 << 32) + 37;

@@ -5,8 +5,7 @@
 #include <stdlib.h>
 #include <string.h>
 #include <xxhash.h>
-#include "noise.h"
-#include "same.h"
+#include "helpers.h"
 
 #define MOST_BYTES (24 + (1 << 20) / 8)
 

@@ -12,7 +12,7 @@ import pytest
 import sketch_hash
 from sketch_hash import murmur3_x64_128, xxh64
 from test_buffers import KINDS
-from waiting import ZEROS, waits
+from test_sharing import ZEROS, waits
 
 xxhash = pytest.importorskip("xxhash")
 

@@ -9,8 +9,7 @@ import threading
 import pytest
 from sketch_hash import MemberTable
 from test_buffers import DATA, REFUSED, TAKEN
-from test_sharing import WAYS
-from waiting import ZEROS, waits
+from test_sharing import WAYS, ZEROS, waits
 
 numpy = pytest.importorskip("numpy")
 xxhash = pytest.importorskip("xxhash")

@@ -82,3 +82,6 @@ bytes_held n total count bytes is at =
     ap (take (total % 16)) (is ∙ to_le_bytes-is w128 n) ∙ rw (← at) (number_held n count few)
 
 pub ruleset stated = (bytes_held)
+
+pub block_bytes : (n : ℕ) → to_le_bytes w128 n ≡ low_bytes 16 n
+block_bytes n = to_le_bytes-is w128 n

@@ -11,7 +11,7 @@ use Rattle.std.specs.Simd.Lanes.{zip2}
 use Rattle.std.proofs.lemmas.List.{take_more}
 use Rattle.std.proofs.lemmas.List.Sums.{fold-append}
 use Rattle.sketch_hash.specs.Xxh64.{Lanes, round, prime1, prime2, stripe_step, seeded_step, each_lane}
-use Rattle.sketch_hash.specs.Lanes.{lanes_of, stripe_words}
+use Rattle.sketch_hash.specs.Held.{lanes_of, stripe_words}
 
 -- stripe by stripe, each lane is folded over its own words
 fold-each_lane : (stripes : List (List ℕ)) (v : Lanes) → fold stripe_step v stripes ≡ each_lane v stripes

@@ -8,8 +8,7 @@ use Rattle.std.proofs.Math.Nat.{div-eq_of_lt}
 use Rattle.std.proofs.lemmas.List.{nil_from_length}
 use Rattle.sketch_base.specs.Bytes.{le, low_bytes}
 use Rattle.sketch_base.proofs.BytesLemmas.{bytes_known}
-use Rattle.sketch_hash.proofs.WordsLemmas.{xor-is, five_times}
-use Rattle.sketch_hash.proofs.Xor.{of_words, of_swapped_words}
+use Rattle.sketch_hash.proofs.WordsLemmas.{xor-is, five_times, of_words, of_swapped_words}
 use Rattle.sketch_hash.proofs.NumberLemmas.{le-word, tail_words, padded_words, number-lt, number-words}
 use Rattle.sketch_hash.specs.Pieces.{State, absorb, pieces, rest}
 use Rattle.sketch_hash.specs.Murmur.{fmix, mix1, mix2, step, step1, step2, finalize, with_tail, murmur, murmur_start, murmur_after, murmur_answer, MurmurStands}
@@ -128,3 +127,10 @@ unfolding step step1 step2
 step_is h1 h2 k1 k2 = refl
 
 pub ruleset stepped = (step_is, of_words, of_swapped_words, five_times)
+
+pub of_one_write : (seed : ℕ) (bytes : List ℕ) (start state : State (ℕ × ℕ)) (answer : ℕ) →
+    MurmurStands start seed [] → state ≡ murmur_after start bytes → answer ≡ (murmur_answer state).0 →
+    answer ≡ (murmur seed bytes).0
+of_one_write seed bytes start state answer begun written answered =
+    answered ∙ ap (λ h. h.0) (murmur_answer-stands seed bytes state
+    (murmur_stands_after start state bytes written seed [] begun))

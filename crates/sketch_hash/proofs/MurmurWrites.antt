@@ -8,10 +8,9 @@ use Rattle.std.proofs.Math.Nat.{add-mod-mod, mod-eq_of_lt}
 use Rattle.sketch_base.specs.Bytes.{AreBytes, le, low_bytes}
 use Rattle.sketch_hash.specs.Pieces.{State, pieces, rest}
 use Rattle.sketch_hash.specs.Murmur.{murmur_after, step, block_words}
-use Rattle.sketch_hash.specs.Waits.{Waits}
+use Rattle.sketch_hash.specs.Held.{Waits}
 use Rattle.sketch_base.proofs.BytesLemmas.{low_bytes-take, length-low_bytes, le-lt, le-again, low_bytes-le, bytes_known, IsByte}
-use Rattle.sketch_hash.proofs.PiecesLemmas.{length_rest, pieces_short, rest_short}
-use Rattle.sketch_hash.proofs.StateLemmas.{state_after-waits, state_after-through}
+use Rattle.sketch_hash.proofs.PiecesLemmas.{length_rest, pieces_short, rest_short, state_after-waits, state_after-through}
 use Rattle.sketch_hash.proofs.NumberLemmas.{kept-lt, le-front, le_take-lt, pow_eight, joined-lt, low_bytes-joined, le-drop, block_words-filled, number-lt, words-lt, words-number}
 
 -- as many bytes wait as the hasher counts
@@ -36,22 +35,25 @@ number_waits count n bytes below are =
     let sizes = words-lt count n below in
     record { first = sizes.0; second = sizes.1; bytes_are = ap (low_bytes count) (words-number n) ∙ are }
 
-pub together : (count low high number : ℕ) (k : ℕ × ℕ) (bytes : List ℕ) →
+pub together : (count low high : ℕ) (bytes : List ℕ) →
     low < 256 ^ min count 8 → high < 256 ^ (count - 8) → ((i : ℕ) → Fits w8 (get_or bytes i 0)) →
-    count + length bytes < 16 → number ≡ le bytes →
-    k ≡ (
-      (low + high * 2 ^ 64 + number * 256 ^ count) % 2 ^ 128 % 2 ^ 64,
-      (low + high * 2 ^ 64 + number * 256 ^ count) % 2 ^ 128 / 2 ^ 64,
-    ) →
-    Waits (count + length bytes) k.0 k.1 (low_bytes count (low + high * 2 ^ 64) ++ bytes)
-together count low high number k bytes p q known few told words =
+    count + length bytes < 16 →
+    ((low + high * 2 ^ 64 + le bytes * 256 ^ count) % 2 ^ 128
+    ≡ (low + high * 2 ^ 64 + le bytes * 256 ^ count) % 2 ^ 128)
+    × Waits (count + length bytes)
+    ((low + high * 2 ^ 64 + le bytes * 256 ^ count) % 2 ^ 128 % 2 ^ 64)
+    ((low + high * 2 ^ 64 + le bytes * 256 ^ count) % 2 ^ 128 / 2 ^ 64)
+    (low_bytes count (low + high * 2 ^ 64) ++ bytes)
+together count low high bytes p q known few =
     let v : ℕ = low + high * 2 ^ 64 in
     let are = bytes_known bytes known in
     let held = number-lt count low high p q in
     let small : (v + le bytes * 256 ^ count) % 2 ^ 128 ≡ v + le bytes * 256 ^ count =
-    mod-eq_of_lt (kept-lt count v bytes are held few) in
-    rw (words, told, small) (number_waits (count + length bytes) (v + le bytes * 256 ^ count)
-    (low_bytes count v ++ bytes) (joined-lt count v bytes are held) (low_bytes-joined count v bytes are held))
+    mod-eq_of_lt (kept-lt count v bytes are held few) in (
+      refl,
+      rw small (number_waits (count + length bytes) (v + le bytes * 256 ^ count)
+          (low_bytes count v ++ bytes) (joined-lt count v bytes are held) (low_bytes-joined count v bytes are held)),
+    )
 
 pub filled : (count low high number : ℕ) (k : ℕ × ℕ) (bytes : List ℕ) →
     low < 256 ^ min count 8 → high < 256 ^ (count - 8) → ((i : ℕ) → Fits w8 (get_or bytes i 0)) →
@@ -66,15 +68,12 @@ filled count low high number k bytes p q known begun full told words =
     rw (words, told)
     (sym (block_words-filled count (low + high * 2 ^ 64) bytes (bytes_known bytes known) held begun full))
 
-pub beyond : (count number : ℕ) (k : ℕ × ℕ) (bytes : List ℕ) →
-    ((i : ℕ) → Fits w8 (get_or bytes i 0)) → count < 16 → 16 ≤ count + length bytes →
-    number ≡ le bytes →
-    k ≡ (
-      number / 2 ^ (8 * (16 - count)) % 2 ^ 64,
-      number / 2 ^ (8 * (16 - count)) / 2 ^ 64,
-    ) →
-    Waits (count + length bytes - 16) k.0 k.1 (drop (16 - count) bytes)
-beyond count number k bytes known begun full told words =
+pub beyond : (count : ℕ) (bytes : List ℕ) → ((i : ℕ) → Fits w8 (get_or bytes i 0)) →
+    count < 16 → 16 ≤ count + length bytes →
+    (le bytes / 2 ^ (8 * (16 - count)) ≡ le bytes / 2 ^ (8 * (16 - count)))
+    × Waits (count + length bytes - 16) (le bytes / 2 ^ (8 * (16 - count)) % 2 ^ 64)
+    (le bytes / 2 ^ (8 * (16 - count)) / 2 ^ 64) (drop (16 - count) bytes)
+beyond count bytes known begun full =
     let are = bytes_known bytes known in
     let missing : ℕ = 16 - count in
     let behind : List ℕ = drop missing bytes in
@@ -85,30 +84,32 @@ beyond count number k bytes known begun full told words =
     let quotient : le bytes / 2 ^ (8 * missing) ≡ le behind =
     ap (λ p. le bytes / p) (pow_eight missing) ∙ sym (le-drop missing bytes are within) in
     let below : le behind < 256 ^ (count + length bytes - 16) =
-    subst (λ n. le behind < 256 ^ n) size (le-lt behind behind_are) in
-    rw (words, told, quotient)
-    (number_waits (count + length bytes - 16) (le behind) behind below (le-again _ behind behind_are size))
+    subst (λ n. le behind < 256 ^ n) size (le-lt behind behind_are) in (
+      refl,
+      rw quotient
+          (number_waits (count + length bytes - 16) (le behind) behind below (le-again _ behind behind_are size)),
+    )
 
-pub kept : (k : ℕ × ℕ) (bytes : List ℕ) → ((i : ℕ) → Fits w8 (get_or bytes i 0)) →
-    k ≡ (le bytes % 2 ^ 64, le bytes / 2 ^ 64) → Waits (length bytes) k.0 k.1 bytes
-kept k bytes known words =
+pub kept : (bytes : List ℕ) → ((i : ℕ) → Fits w8 (get_or bytes i 0)) →
+    (le bytes ≡ le bytes) × Waits (length bytes) (le bytes % 2 ^ 64) (le bytes / 2 ^ 64) bytes
+kept bytes known =
     let are = bytes_known bytes known in
-    rw words (number_waits (length bytes) (le bytes) bytes (le-lt bytes are) (low_bytes-le bytes are))
+    (refl, number_waits (length bytes) (le bytes) bytes (le-lt bytes are) (low_bytes-le bytes are))
 
 -- a block's first bytes, from the remainder of its number
-pub front : (count number : ℕ) (k : ℕ × ℕ) (block : List ℕ) → ((i : ℕ) → Fits w8 (get_or block i 0)) →
-    count < 16 → length block ≡ 16 → number ≡ le block →
-    k ≡ (
-      number % (1 * 2 ^ (8 * count) % 2 ^ 128) % 2 ^ 64,
-      number % (1 * 2 ^ (8 * count) % 2 ^ 128) / 2 ^ 64,
-    ) →
-    Waits count k.0 k.1 (take count block)
-front count number k block known low size is words =
+pub front : (count : ℕ) (block : List ℕ) → ((i : ℕ) → Fits w8 (get_or block i 0)) →
+    count < 16 → length block ≡ 16 →
+    (le block % (1 * 2 ^ (8 * count) % 2 ^ 128) ≡ le block % (1 * 2 ^ (8 * count) % 2 ^ 128))
+    × Waits count (le block % (1 * 2 ^ (8 * count) % 2 ^ 128) % 2 ^ 64)
+    (le block % (1 * 2 ^ (8 * count) % 2 ^ 128) / 2 ^ 64) (take count block)
+front count block known low size =
     let are = bytes_known block known in
-    let within : count ≤ length block = omega (arith, size, low) in
-    rw (words, is, le-front count block are low within)
-    (number_waits count (le (take count block)) (take count block) (le_take-lt count block are within)
-    (low_bytes-take count block are within))
+    let within : count ≤ length block = omega (arith, size, low) in (
+      refl,
+      rw (le-front count block are low within)
+          (number_waits count (le (take count block)) (take count block) (le_take-lt count block are within)
+          (low_bytes-take count block are within)),
+    )
 
 -- ---- the state after a write
 

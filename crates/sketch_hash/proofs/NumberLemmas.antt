@@ -10,7 +10,7 @@ use Rattle.std.proofs.lemmas.List.Elements.{All-append, All-take, All-drop, All-
 use Rattle.sketch_base.specs.Bytes.{AreBytes, le, low_bytes}
 use Rattle.sketch_base.proofs.BytesLemmas.{le-cons, le-lt, low_bytes-are, le-back, le-again, length-low_bytes, low_bytes-le, bytes_known, IsByte}
 use Rattle.sketch_hash.specs.Murmur.{block_words}
-use Rattle.sketch_hash.proofs.BlockLemmas.{halves}
+use Rattle.sketch_hash.proofs.MurmurSteps.{halves}
 
 -- eight places are a byte
 pub pow_eight : (n : ℕ) → 2 ^ (8 * n) ≡ 256 ^ n

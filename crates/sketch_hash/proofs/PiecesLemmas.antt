@@ -1,14 +1,16 @@
--- Lists cut into pieces: what the pieces and the rest of a list are.
-use Rattle.std.proofs.Common.{◌≡◌, ℕ, zero, suc, ◌+◌, ◌-◌, ◌*◌, ◌/◌, ◌<◌, ◌≤◌, List, [], ◌∷◌, ◌++◌, length, take, drop, refl, sym, ap, ◌∙◌, arith, suc-mul, mul-div_cancel, mul_comm, div-mul-le_self}
+-- Lists cut into pieces: what the pieces and the rest of a list are; and what a write leaves in a
+-- state in which fewer than w bytes wait.
+use Rattle.std.proofs.Common.{◌≡◌, ℕ, zero, suc, ◌+◌, ◌-◌, ◌*◌, ◌/◌, ◌<◌, ◌≤◌, List, [], ◌∷◌, ◌++◌, length, take, drop, refl, sym, ap, ◌∙◌, arith, suc-mul, mul-div_cancel, mul_comm, div-mul-le_self, ◌%◌, ◌^◌, map, length-append, length-drop}
 use Rattle.std.proofs.Math.Nat.{div-eq_of_lt, div_self, zero-mul}
-use Rattle.std.specs.List.{All}
+use Rattle.std.specs.List.{All, fold}
 use Rattle.std.specs.Simd.{first_chunks}
-use Rattle.std.proofs.lemmas.List.{take_all, drop_all, length-take-le, length-drop, length-append, take-append-drop}
+use Rattle.std.proofs.lemmas.List.{take_all, drop_all, length-take-le, length-drop, length-append, take-append-drop, append-nil}
 use Rattle.std.proofs.lemmas.List.Elements.{All-nil, All-cons, All-take, All-drop}
 use Rattle.sketch_base.specs.Bytes.{AreBytes}
 use Rattle.sketch_base.proofs.BytesLemmas.{IsByte}
-use Rattle.sketch_hash.specs.Pieces.{first_pieces, pieces, rest}
-use Rattle.sketch_hash.specs.PiecesWriteLemmas.{pieces-append, rest-append}
+use Rattle.sketch_hash.specs.Pieces.{first_pieces, pieces, rest, State, absorb, state_after}
+use Rattle.sketch_hash.specs.PiecesWriteLemmas.{pieces-append, rest-append, state_after-append}
+use Rattle.std.proofs.lemmas.Nat.{mod_below}
 
 -- fewer than w bytes have no piece
 pub pieces_short : (w : ℕ) (bytes : List ℕ) → length bytes < w → pieces w bytes ≡ []
@@ -125,3 +127,89 @@ pub no_piece : (w : ℕ) (held front : List ℕ) → length held + length front 
 no_piece w held front h =
     let short : length (held ++ front) < w = rw (length-append held front) h in
     pieces_short w (held ++ front) short
+
+-- no write is a special case
+state_after-is : {P R : Type 0} (w : ℕ) (read : List ℕ → R) (f : P → R →
+    P) (state : State P) (bytes : List ℕ) →
+    length state.waiting < w → state.total < 2 ^ 64 →
+    state_after w read f state bytes ≡ absorb w read f state bytes
+unfolding absorb
+state_after-is w read f state [] h t =
+    let all = append-nil state.waiting in
+    let none = pieces_short w state.waiting h in
+    let same = rest_short w state.waiting h in
+    let count : (state.total + 0) % 2 ^ 64 ≡ state.total = omega (arith, t) in
+    rw (all, none, same, count) refl
+state_after-is w read f state (b ∷ bytes) h t = refl
+
+-- bytes that fill no piece wait
+pub state_after-waits : {P R : Type 0} (w : ℕ) (read : List ℕ → R) (f : P → R →
+    P) (state : State P) (bytes : List ℕ) →
+    state.total < 2 ^ 64 → length (state.waiting ++ bytes) < w →
+    state_after w read f state bytes ≡ record {
+      folded = state.folded;
+      total = (state.total + length bytes) % 2 ^ 64;
+      waiting = state.waiting ++ bytes;
+    }
+unfolding absorb
+state_after-waits w read f state bytes t h =
+    let short : length state.waiting < w = omega (arith, length-append state.waiting bytes) in
+    let none = pieces_short w (state.waiting ++ bytes) h in
+    let all = rest_short w (state.waiting ++ bytes) h in
+    state_after-is w read f state bytes short t ∙ rw (none, all) refl
+
+-- bytes that fill a piece have it folded
+pub state_after-fills : {P R : Type 0} (w : ℕ) (read : List ℕ → R) (f : P → R →
+    P) (state : State P) (bytes : List ℕ) →
+    0 < w → state.total < 2 ^ 64 → length state.waiting < w → length (state.waiting ++ bytes) ≡ w →
+    state_after w read f state bytes ≡ record {
+      folded = f state.folded (read (state.waiting ++ bytes));
+      total = (state.total + length bytes) % 2 ^ 64;
+      waiting = [];
+    }
+unfolding absorb
+state_after-fills w read f state bytes p t short h =
+    let one = pieces_one w (state.waiting ++ bytes) p h in
+    let none = rest_one w (state.waiting ++ bytes) p h in
+    state_after-is w read f state bytes short t ∙ rw (one, none) refl
+
+-- where no byte waits, the pieces are those of the bytes alone
+pub state_after-fresh : {P R : Type 0} (w : ℕ) (read : List ℕ → R) (f : P → R →
+    P) (state : State P) (bytes : List ℕ) →
+    0 < w → state.total < 2 ^ 64 → state.waiting ≡ [] →
+    state_after w read f state bytes ≡ record {
+      folded = fold f state.folded (map read (pieces w bytes));
+      total = (state.total + length bytes) % 2 ^ 64;
+      waiting = rest w bytes;
+    }
+unfolding absorb
+state_after-fresh w read f state bytes p t h =
+    let short : length state.waiting < w = rw h p in
+    state_after-is w read f state bytes short t ∙ rw h refl
+
+-- bytes whose first k fill a piece: the pieces behind it are those of the others alone
+pub state_after-through : {P R : Type 0} (w : ℕ) (read : List ℕ → R) (f : P → R →
+    P) (state : State P) (bytes : List ℕ)
+    (k : ℕ) → 0 < w → state.total < 2 ^ 64 → length state.waiting < w → k ≤ length bytes →
+    length (state.waiting ++ take k bytes) ≡ w →
+    state_after w read f state bytes ≡ record {
+      folded =
+          fold f (f state.folded (read (state.waiting ++ take k bytes))) (map read (pieces w (drop k bytes)));
+      total = (state.total + length bytes) % 2 ^ 64;
+      waiting = rest w (drop k bytes);
+    }
+state_after-through w read f state bytes k p t short h full =
+    let front : List ℕ = take k bytes in
+    let behind : List ℕ = drop k bytes in
+    let filled = f state.folded (read (state.waiting ++ front)) in
+    let total : ℕ = (state.total + length front) % 2 ^ 64 in
+    let below : total < 2 ^ 64 = mod_below (state.total + length front) (2 ^ 64) (omega arith) in
+    let counted : (total + length behind) % 2 ^ 64 ≡ (state.total + length bytes) % 2 ^ 64 =
+    omega (arith, length-take-le k bytes h, length-drop k bytes) in
+    ap (state_after w read f state) (sym (take-append-drop k bytes))
+    ∙ sym (state_after-append w read f p state front behind)
+    ∙ ap (λ s. state_after w read f s behind) (state_after-fills w read f state front p t short full)
+    ∙ state_after-fresh w read f (record { folded = filled; total = total; waiting = [] }) behind p below refl
+    ∙ ap
+    (λ n. record { folded = fold f filled (map read (pieces w behind)); total = n; waiting = rest w behind })
+    counted

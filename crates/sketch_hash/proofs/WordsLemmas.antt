@@ -3,7 +3,7 @@ use Rattle.std.proofs.Common.{◌≡◌, ℕ, zero, suc, ◌+◌, ◌-◌, ◌*�
 use Rattle.std.specs.Prelude.{◌==◌, bit_xor, bit_or}
 use Rattle.std.specs.Int.{bit_at, rotate_left, w64}
 use Rattle.std.proofs.lemmas.Bool.{cond_both, eqb-true, eqb-false}
-use Rattle.std.proofs.lemmas.Nat.{mod-pow-add, xor_lt, mod_below, or_shifted, shr_below, shl_below, shr_split, mod_low, pow-add, pow_pos, shr_le}
+use Rattle.std.proofs.lemmas.Nat.{mod-pow-add, xor_lt, mod_below, or_shifted, shr_below, shl_below, shr_split, mod_low, pow-add, pow_pos, shr_le, xor_comm}
 use Rattle.std.proofs.lemmas.Nat.Bits.{bit_at_xor, bit_at-lt}
 use Rattle.std.proofs.Math.Nat.{mod-eq_of_lt}
 use Rattle.sketch_hash.specs.Words.{IsWord, plus, times, digit, xor_below, xor, rotate, xor_shift}
@@ -78,3 +78,12 @@ pub five_times : (r x a b : ℕ) →
 five_times r x a b = omega arith
 
 pub ruleset rotation = (rotate-is)
+
+pub of_words : (x y : ℕ) → IsWord x → IsWord y → bit_xor x y ≡ xor x y
+of_words x y p q = sym (xor-is x y p q)
+
+-- with its operands the other way round
+pub of_swapped_words : (x y : ℕ) → IsWord x → IsWord y → bit_xor x y ≡ xor y x
+of_swapped_words x y p q = xor_comm x y ∙ sym (xor-is y x q p)
+
+pub ruleset words = (of_words, of_swapped_words)

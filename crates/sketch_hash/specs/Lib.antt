@@ -3,8 +3,6 @@ pub mod Words
 pub mod Pieces
 pub mod Murmur
 pub mod Xxh64
-pub mod Waits
-pub mod Lanes
 pub mod Columns
 pub mod Held
 pub mod Values

@@ -86,6 +86,7 @@ impl MurmurHash3X64128 {
 
     /// A 128-bit hash as its 16 bytes lie in memory, which other tools print: each word's lowest
     /// byte first.
+    #[tactic(auto, using(crate::proofs::HeldLemmas::block_bytes))]
     pub fn bytes_of(hash: (u64, u64)) -> [u8; 16]
         ensures { result ≡ low_bytes 16 (hash.0 + hash.1 * 2 ^ 64) }
     {
@@ -328,7 +329,7 @@ fn cross(h1: u64, h2: u64) -> (u64, u64)
 
 // The hash of `total` bytes, from the pair that their blocks and their tail left.
 #[inline(always)]
-#[tactic(auto, unfolding(crate::specs::Murmur::finalize), using(crate::proofs::Xor::words))]
+#[tactic(auto, unfolding(crate::specs::Murmur::finalize), using(crate::proofs::WordsLemmas::words))]
 fn finalize(h1: u64, h2: u64, total: u64) -> (u64, u64)
     ensures { result ≡ finalize (h1, h2) total }
 {

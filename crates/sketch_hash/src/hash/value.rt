@@ -202,7 +202,7 @@ pub fn feed_all<T: Hash, H: Hasher>(values: &[T], state: &mut H)
 }
 
 /// The first word of MurmurHash3's hash of the value, under the seed of sketch updates.
-#[tactic(auto, using(crate::proofs::ValueLemmas::of_one_write))]
+#[tactic(auto, using(crate::proofs::MurmurLemmas::of_one_write))]
 pub fn calculate_hash<T: Hash + Drop>(t: T) -> u64
     ensures { result ≡ (murmur 9001 (T.fed t)).0 }
 {

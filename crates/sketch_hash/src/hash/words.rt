@@ -50,7 +50,7 @@ pub(crate) fn read_u128_le(bytes: &[u8]) -> u128
 
 /// A word xor the same word shifted to the right by `places`.
 #[inline(always)]
-#[tactic(auto, using(crate::proofs::Xor::words))]
+#[tactic(auto, using(crate::proofs::WordsLemmas::words))]
 pub(crate) fn xor_shift(word: u64, places: u32) -> u64
     requires { places < 64 }
     ensures { result ≡ xor_shift places word }

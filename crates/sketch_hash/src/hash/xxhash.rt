@@ -7,16 +7,14 @@ ghost use Rattle.sketch_base.specs.Bytes.{eight};
 ghost use Rattle.sketch_hash.specs.Pieces.{State, pieces};
 ghost use Rattle.sketch_hash.specs.Words.{plus};
 ghost use Rattle.sketch_hash.specs.Xxh64.{Lanes, prime5, lanes_start, merge, tail_step, steps, avalanche, xxh64, xxh64_after, xxh64_answer, Xxh64Stands, each_lane};
-ghost use Rattle.sketch_hash.specs.Lanes.{lanes_of, lanes_of_scalars, state_of_scalars};
+ghost use Rattle.sketch_hash.specs.Held.{lanes_of, lanes_of_scalars, state_of_scalars};
 ghost use Rattle.sketch_hash.specs.PiecesWriteLemmas.{xxh64_after-append, xxh64_after-empty};
 
 mod lanes;
-mod primes;
 mod state;
 mod tail;
 
 use self::lanes::{ScalarLanes, StripeRound, fold_run, fold_stripes, merge};
-use self::primes::PRIME5;
 pub use self::state::XxHash64State;
 use self::tail::{avalanche, eight_step, fold_below_16, fold_from_16, fold_tail};
 use super::copy::copy_small;
@@ -25,6 +23,18 @@ use super::words::split_pieces;
 use std::fmt;
 use std::marker::Model;
 use std::simd::prelude::*;
+
+// The five primes.
+
+const PRIME1: u64 = 0x9E37_79B1_85EB_CA87;
+
+const PRIME2: u64 = 0xC2B2_AE3D_27D4_EB4F;
+
+const PRIME3: u64 = 0x1656_67B1_9E37_79F9;
+
+const PRIME4: u64 = 0x85EB_CA77_C2B2_AE63;
+
+const PRIME5: u64 = 0x27D4_EB2F_1656_67C5;
 
 const STRIPE: usize = 32;
 
@@ -136,7 +146,7 @@ impl XxHash64 {
     // Takes bytes that fill no stripe. The fields are set after the copy: what was set before it
     // LLVM would read again from memory, since it does not know where the copy goes.
     #[inline(always)]
-    #[tactic(auto, using(crate::proofs::WriteLemmas::buffered))]
+    #[tactic(auto, using(crate::proofs::Xxh64Writes::buffered))]
     fn buffer_bytes(&mut self, bytes: &[u8])
         requires { length self.old.waiting + length bytes.now < 32 }
         ensures { self.new ≡ xxh64_after self.old bytes.now }
@@ -150,7 +160,7 @@ impl XxHash64 {
 
     // Takes the bytes that fill the stripe that is begun.
     #[inline(always)]
-    #[tactic(auto, using(crate::proofs::WriteLemmas::completed))]
+    #[tactic(auto, using(crate::proofs::Xxh64Writes::completed))]
     fn complete_stripe(&mut self, bytes: &[u8])
         requires short { length self.old.waiting < 32 }
         requires fills { length self.old.waiting + length bytes.now ≡ 32 }
@@ -168,7 +178,7 @@ impl XxHash64 {
     // Takes whole stripes straight from the slice, and then the bytes after them, where no byte
     // waits. Here too the fields are set after the copy.
     #[inline(always)]
-    #[tactic(auto, using(crate::proofs::WriteLemmas::fresh))]
+    #[tactic(auto, using(crate::proofs::Xxh64Writes::fresh))]
     fn consume_stripes(&mut self, bytes: &[u8])
         requires { length self.old.waiting ≡ 0 }
         ensures { self.new ≡ xxh64_after self.old bytes.now }
@@ -205,7 +215,7 @@ impl XxHash64 {
 // The last bytes are stored before the run of stripes: the next write reads them, and a processor
 // is slow to read what it has just stored.
 #[inline(always)]
-#[tactic(auto, using(crate::proofs::WriteLemmas::through))]
+#[tactic(auto, using(crate::proofs::Xxh64Writes::through))]
 fn consume(lanes: ScalarLanes, buffer: &mut [u8; STRIPE], count: usize, bytes: &[u8]) -> ScalarLanes
     requires short { count < 32 }
     requires fills { (32 - count) % 32 ≤ length bytes.now }
@@ -225,7 +235,7 @@ fn consume(lanes: ScalarLanes, buffer: &mut [u8; STRIPE], count: usize, bytes: &
 
 // The lanes after the stripe that `front` fills, where one is begun.
 #[inline(always)]
-#[tactic(auto, using(crate::proofs::WriteLemmas::first_stripe))]
+#[tactic(auto, using(crate::proofs::Xxh64Writes::first_stripe))]
 fn complete(
     mut lanes: ScalarLanes,
     buffer: &mut [u8; STRIPE],

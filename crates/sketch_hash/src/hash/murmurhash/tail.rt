@@ -3,7 +3,7 @@
 ghost use Rattle.std.specs.Prelude.{◌≡◌, ◌+◌, ◌-◌, ◌*◌, ◌/◌, ◌%◌, ◌^◌, ◌<◌, ◌≤◌, ◌++◌, length, take, drop, min};
 ghost use Rattle.sketch_base.specs.Bytes.{le, low_bytes};
 ghost use Rattle.sketch_hash.specs.Murmur.{block_words};
-ghost use Rattle.sketch_hash.specs.Waits.{Waits};
+ghost use Rattle.sketch_hash.specs.Held.{Waits};
 
 use super::BLOCK;
 use crate::hash::words::{read_u16_le, read_u32_le, read_u64_le, read_u128_le};
@@ -20,6 +20,7 @@ pub(super) fn read_partial_le(bytes: &[u8]) -> u128
 
 /// The same as two words, the lower first.
 #[inline(always)]
+#[tactic(auto, using(crate::proofs::MurmurWrites::kept))]
 pub(super) fn read_partial_words(bytes: &[u8]) -> (u64, u64)
     requires { length bytes.now < 16 }
     ensures words { result ≡ (le bytes.now % 2 ^ 64, le bytes.now / 2 ^ 64) }
@@ -89,6 +90,7 @@ fn combine_overlapping(first: u32, last: u32, width: usize, count: usize) -> u64
 /// The words of waiting bytes and of others behind them, where these fill no block. The number is
 /// that of the others.
 #[inline(always)]
+#[tactic(auto, using(crate::proofs::MurmurWrites::together))]
 pub(super) fn append(low: u64, high: u64, count: usize, bytes: &[u8], number: u128) -> (u64, u64)
     requires waits { (low < 256 ^ min count 8) × (high < 256 ^ (count - 8)) }
     requires few { count + length bytes.now < 16 }
@@ -117,6 +119,7 @@ pub(super) fn complete(low: u64, high: u64, count: usize, bytes: &[u8], number: 
 /// The words of those of the others that do not fit into the block. The number is that of the
 /// others.
 #[inline(always)]
+#[tactic(auto, using(crate::proofs::MurmurWrites::beyond))]
 pub(super) fn left_over(count: usize, bytes: &[u8], number: u128) -> (u64, u64)
     requires begun { count < 16 }
     requires few { length bytes.now < 16 }
@@ -157,6 +160,7 @@ fn split_words(number: u128) -> (u64, u64)
 
 /// The words of the first `count` bytes of a block, for a `count` below 16.
 #[inline(always)]
+#[tactic(auto, using(crate::proofs::MurmurWrites::front))]
 pub(super) fn read_front(block: &[u8; 16], count: usize) -> (u64, u64)
     requires { count < 16 }
     ensures { Waits count result.0 result.1 (take count block.now) }

@@ -2,9 +2,9 @@
 
 ghost use Rattle.std.specs.Prelude.{◌≡◌};
 ghost use Rattle.sketch_hash.specs.Xxh64.{Lanes, lanes_start, round, merge_round, merge, stripe_step, each_lane};
-ghost use Rattle.sketch_hash.specs.Lanes.{lanes_of, lanes_of_scalars, stripe_words};
+ghost use Rattle.sketch_hash.specs.Held.{lanes_of, lanes_of_scalars, stripe_words};
 
-use super::primes::{PRIME1, PRIME2, PRIME4};
+use super::{PRIME1, PRIME2, PRIME4};
 use crate::hash::words::{read_u64_le, rotate};
 use std::simd::prelude::*;
 
@@ -160,7 +160,7 @@ pub(super) fn merge(words: ScalarLanes) -> u64
 }
 
 #[inline(always)]
-#[tactic(auto, unfolding(crate::specs::Xxh64::merge_round), using(crate::proofs::Xor::words))]
+#[tactic(auto, unfolding(crate::specs::Xxh64::merge_round), using(crate::proofs::WordsLemmas::words))]
 fn merge_round(hash: u64, lane: u64) -> u64
     ensures { result ≡ merge_round hash lane }
 {

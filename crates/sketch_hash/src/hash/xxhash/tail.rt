@@ -5,7 +5,7 @@ ghost use Rattle.std.specs.List.{fold};
 ghost use Rattle.sketch_hash.specs.Xxh64.{eight_step, four_step, byte_step, tail_step, steps, avalanche};
 
 use super::lanes::round;
-use super::primes::{PRIME1, PRIME2, PRIME3, PRIME4, PRIME5};
+use super::{PRIME1, PRIME2, PRIME3, PRIME4, PRIME5};
 use crate::hash::words::{read_u32_le, read_u64_le, rotate, xor_shift};
 
 /// The hash after the tail.
@@ -105,7 +105,7 @@ fn fold_few(hash: u64, bytes: &[u8]) -> u64
 }
 
 #[inline(always)]
-#[tactic(auto, unfolding(crate::specs::Xxh64::eight_step), using(crate::proofs::Xor::words))]
+#[tactic(auto, unfolding(crate::specs::Xxh64::eight_step), using(crate::proofs::WordsLemmas::words))]
 pub(super) fn eight_step(hash: u64, word: u64) -> u64
     ensures { result ≡ eight_step hash word }
 {
@@ -115,7 +115,7 @@ pub(super) fn eight_step(hash: u64, word: u64) -> u64
 }
 
 #[inline(always)]
-#[tactic(auto, unfolding(crate::specs::Xxh64::four_step), using(crate::proofs::Xor::words))]
+#[tactic(auto, unfolding(crate::specs::Xxh64::four_step), using(crate::proofs::WordsLemmas::words))]
 fn four_step(hash: u64, word: u32) -> u64
     ensures { result ≡ four_step hash word }
 {
@@ -125,7 +125,7 @@ fn four_step(hash: u64, word: u32) -> u64
 }
 
 #[inline(always)]
-#[tactic(auto, unfolding(crate::specs::Xxh64::byte_step), using(crate::proofs::Xor::words))]
+#[tactic(auto, unfolding(crate::specs::Xxh64::byte_step), using(crate::proofs::WordsLemmas::words))]
 fn byte_step(hash: u64, byte: u8) -> u64
     ensures { result ≡ byte_step hash byte }
 {

@@ -9,8 +9,7 @@ use Rattle.sketch_hash.proofs.CopyLemmas.{copy_starts, copy_whole, copy_at_start
 use Rattle.sketch_hash.specs.Pieces.{pieces, rest, State}
 use Rattle.sketch_hash.specs.Xxh64.{Lanes, stripe_step, seeded_step, xxh64_after, each_lane}
 use Rattle.sketch_hash.proofs.LanesLemmas.{fold-seeded, one_stripe}
-use Rattle.sketch_hash.proofs.PiecesLemmas.{length_rest, pieces_short, joined_piece, no_piece}
-use Rattle.sketch_hash.proofs.StateLemmas.{state_after-waits, state_after-fills, state_after-fresh, state_after-through}
+use Rattle.sketch_hash.proofs.PiecesLemmas.{length_rest, pieces_short, joined_piece, no_piece, state_after-waits, state_after-fills, state_after-fresh, state_after-through}
 
 -- the lanes after the stripes of bytes, beside the seed
 folded : (start : ℕ × Lanes) (bytes : List ℕ) →
