@@ -8,10 +8,9 @@ use Rattle.std.proofs.lemmas.List.Sums.{fold-append}
 use Rattle.std.proofs.lemmas.List.Elements.{All-take, All-drop}
 use Rattle.sketch_base.specs.Bytes.{AreBytes}
 use Rattle.sketch_base.proofs.BytesLemmas.{IsByte}
-use Rattle.sketch_hash.specs.Words.{IsWord}
+use Rattle.sketch_hash.specs.Words.{IsWord, OneToOne}
 use Rattle.sketch_hash.specs.Pieces.{pieces}
 use Rattle.sketch_hash.specs.Murmur.{step, block_words, blocks, tail, with_tail, finalize, murmur}
-use Rattle.sketch_hash.specs.OneToOne.{OneToOne}
 use Rattle.sketch_hash.specs.Laws.{AreWords, IsBlock, PieceLaws, MurmurStepLaws}
 use Rattle.sketch_hash.proofs.OneToOneLemmas.{◌▸◌, alike}
 use Rattle.datasketches.specs.Streams.{AgreeOutside, DifferInOneBlock}

@@ -8,10 +8,9 @@ use Rattle.std.proofs.lemmas.List.{length-map, get_or-map}
 use Rattle.std.proofs.lemmas.List.Sums.{fold-append}
 use Rattle.std.proofs.lemmas.List.Elements.{All-take, All-drop, All-get_or}
 use Rattle.sketch_base.specs.Bytes.{AreBytes, eight}
-use Rattle.sketch_hash.specs.Words.{IsWord, plus}
+use Rattle.sketch_hash.specs.Words.{IsWord, plus, OneToOne}
 use Rattle.sketch_hash.specs.Pieces.{rest}
 use Rattle.sketch_hash.specs.Xxh64.{prime5, Lanes, lanes, merge, stripes, tail_step, tail_steps, avalanche, finalize, xxh64}
-use Rattle.sketch_hash.specs.OneToOne.{OneToOne}
 use Rattle.sketch_hash.specs.Laws.{IsStep, step_widths, PieceLaws, Xxh64StepLaws}
 use Rattle.sketch_hash.proofs.OneToOneLemmas.{◌▸◌, alike}
 use Rattle.sketch_hash.proofs.WordsLemmas.{plus-lt}

@@ -3,11 +3,10 @@
 use Rattle.std.specs.Prelude.{◌≡◌, ◌≢◌, ◌↔◌, ℕ, ◌*◌, ◌^◌, ◌<◌, ℤ, pos, neg_ℤ, ◌≤ℤ◌, ◌<ℤ◌, List, ◌++◌, length}
 use Rattle.std.specs.List.{All, fold}
 use Rattle.sketch_base.specs.Bytes.{AreBytes, eight, modulo}
-use Rattle.sketch_hash.specs.Words.{IsWord}
+use Rattle.sketch_hash.specs.Words.{IsWord, OneToOne}
 use Rattle.sketch_hash.specs.Murmur.{step, murmur}
 use Rattle.sketch_hash.specs.Xxh64.{xxh64}
 use Rattle.sketch_hash.specs.Values.{integer_bytes}
-use Rattle.sketch_hash.specs.OneToOne.{OneToOne}
 use Rattle.sketch_hash.specs.Laws.{AreWords, IsBlock}
 use Rattle.datasketches.specs.Streams.{DifferInOneTailStep}
 

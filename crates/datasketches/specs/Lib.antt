@@ -13,13 +13,11 @@ pub use Rattle.sketch_base.specs.WriterValue
 pub use Rattle.sketch_base.specs.Writing
 pub use Rattle.sketch_hash.specs.Columns
 pub use Rattle.sketch_hash.specs.Held
-pub use Rattle.sketch_hash.specs.Lending
 pub use Rattle.sketch_hash.specs.Murmur
 pub use Rattle.sketch_hash.specs.Laws as StepLaws
-pub use Rattle.sketch_hash.specs.OneToOne
+pub use Rattle.sketch_hash.specs.Words
 pub use Rattle.sketch_hash.specs.Pieces
 pub use Rattle.sketch_hash.specs.PiecesWriteLemmas
 pub use Rattle.sketch_hash.specs.SeedHash
 pub use Rattle.sketch_hash.specs.Values
-pub use Rattle.sketch_hash.specs.Words
 pub use Rattle.sketch_hash.specs.Xxh64

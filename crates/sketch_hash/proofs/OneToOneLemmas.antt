@@ -3,12 +3,11 @@
 use Rattle.std.proofs.Common.{◌≡◌, List, [], ◌∷◌, refl, sym, ap, ◌∙◌, Bool, true, false, cond, ℕ, ◌+◌, ◌-◌, ◌*◌, ◌/◌, ◌%◌, ◌^◌, ◌<◌, ◌≤◌, arith, subst, lt_of_lt_of_le, mul_assoc, mul_comm}
 use Rattle.std.specs.List.{All, fold}
 use Rattle.std.proofs.lemmas.List.Elements.{All-head, All-tail}
-use Rattle.sketch_hash.specs.OneToOne.{OneToOne}
+use Rattle.sketch_hash.specs.Words.{OneToOne, IsWord, plus, minus, times, xor, rotate, xor_shift}
 use Rattle.std.specs.Prelude.{bit_xor}
 use Rattle.std.specs.Int.Bits.{xor_assoc, xor_self, xor_zero_r, xor_shr}
 use Rattle.std.proofs.Math.Nat.{div-eq_of_lt, pow-le-pow_right}
 use Rattle.std.proofs.lemmas.Nat.{xor_comm, mul-mod_first, mul-mod_second, shr_le, shr_split, shr_below, shr_high, mod_low, mul-add-lt, shr-shr, mod_below, pow_pos, pow-add}
-use Rattle.sketch_hash.specs.Words.{IsWord, plus, minus, times, xor, rotate, xor_shift}
 use Rattle.sketch_hash.proofs.WordsLemmas.{xor-is, xor-lt, xor_shift-is, rotated_up, times-lt}
 
 -- the function that leaves every value

@@ -5,14 +5,13 @@ use Rattle.std.specs.List.{All}
 use Rattle.std.proofs.lemmas.List.{map-append}
 use Rattle.std.proofs.lemmas.List.Elements.{All-map, All-weaker, All-append}
 use Rattle.sketch_base.specs.Bytes.{AreBytes, le}
-use Rattle.sketch_hash.specs.Words.{IsWord, plus, times, rotate}
+use Rattle.sketch_hash.specs.Words.{IsWord, plus, times, rotate, OneToOne}
 use Rattle.sketch_hash.specs.Pieces.{first_pieces, pieces, rest}
 use Rattle.sketch_hash.specs.Xxh64.{steps_of, steps, prime1, prime2, prime3, prime4, prime5, round, eight_step, four_step, byte_step, tail_step, avalanche}
 use Rattle.sketch_hash.specs.Laws.{IsStep, step_widths, Xxh64StepLaws}
 use Rattle.sketch_hash.proofs.PiecesLemmas.{IsPiece, pieces-are, rest-are, length_rest_same}
 use Rattle.sketch_hash.proofs.NumberLemmas.{le-word}
 use Rattle.std.specs.Prelude.{◌==◌}
-use Rattle.sketch_hash.specs.OneToOne.{OneToOne}
 use Rattle.sketch_hash.proofs.OneToOneLemmas.{◌▸◌, choice, along, times-once, plus-once, plus_word-once, xor-once, xor_word-once, rotate-once, shifted-once, shifted_less-once}
 use Rattle.sketch_hash.proofs.Xxh64Lemmas.{xxh64-eight}
 

@@ -3,8 +3,7 @@
 use Rattle.std.specs.Prelude.{◌≡◌, ℕ, ◌*◌, ◌<◌, List, [], ◌∷◌, ◌++◌, length, map}
 use Rattle.std.specs.List.{All, fold}
 use Rattle.sketch_base.specs.Bytes.{AreBytes, le, eight}
-use Rattle.sketch_hash.specs.OneToOne.{OneToOne}
-use Rattle.sketch_hash.specs.Words.{IsWord, plus}
+use Rattle.sketch_hash.specs.Words.{OneToOne, IsWord, plus}
 use Rattle.sketch_hash.specs.Pieces.{pieces, rest}
 use Rattle.sketch_hash.specs.Murmur.{block_words, blocks, step, with_tail, finalize}
 use Rattle.sketch_hash.specs.Xxh64.{prime5, steps, tail_step, eight_step, avalanche, xxh64}

@@ -6,9 +6,7 @@ pub mod Xxh64
 pub mod Columns
 pub mod Held
 pub mod Values
-pub mod Lending
 pub mod SeedHash
-pub mod OneToOne
 pub mod Laws
 pub mod KnownAnswers
 -- ---- Lemmas, by their names: nobody has to believe these, for they are proved here. They stand in

@@ -1,5 +1,6 @@
 -- Words and their arithmetic, in whole numbers: no machine operation is used to say what a hash is.
-use Rattle.std.specs.Prelude.{ℕ, zero, suc, ◌+◌, ◌-◌, ◌*◌, ◌/◌, ◌%◌, ◌^◌, ◌<◌, ◌==◌, if◌then◌else◌}
+-- And what it is to reach each value exactly once.
+use Rattle.std.specs.Prelude.{ℕ, zero, suc, ◌+◌, ◌-◌, ◌*◌, ◌/◌, ◌%◌, ◌^◌, ◌<◌, ◌==◌, if◌then◌else◌, ◌≡◌}
 
 -- a word is a whole number below 2 ^ 64
 abbrev pub IsWord : ℕ → Type 0
@@ -35,3 +36,9 @@ rotate x r = x * 2 ^ r % 2 ^ 64 + x / 2 ^ (64 - r)
 -- a word xor the same word divided by 2 ^ k
 abbrev pub xor_shift : ℕ → ℕ → ℕ
 xor_shift k x = xor x (x / 2 ^ k)
+
+-- f is a bijection from the values of S to the values of T
+pub record OneToOne {A B : Type 0} (S : A → Type 0) (T : B → Type 0) (f : A → B) : Type 0 where
+  pub lands : (x : A) → S x → T (f x)
+  pub once : (x y : A) → S x → S y → f x ≡ f y → x ≡ y
+  pub reached : (y : B) → T y → (x : A) × S x × (f x ≡ y)

@@ -136,13 +136,13 @@ impl<T, S> Deref for Value<T, S> {
 }
 
 impl<T, S> DerefMut for Value<T, S> {
-    ghost use Rattle.std.specs.Borrow.{sem};
-    ghost use Rattle.sketch_hash.specs.Lending.{LendsInner};
+    ghost use Rattle.std.specs.Borrow.{sem, Lends};
+    ghost use Rattle.sketch_hash.specs.contracts.hash.value.Value.{the_row};
 
     ghost deref_mut_gives = { λ value inner. inner ≡ value };
 
     fn deref_mut(&mut self) -> &mut T
-        ensures* writes_back { sem 𝓛 (LendsInner T.row S.row self.entry result) }
+        ensures* writes_back { sem 𝓛 (Lends (the_row T.row S.row) T.row self.entry result (λ written. written)) }
         ensures shows { result.now ≡ self.old }
     {
         &mut self.value
