@@ -6,9 +6,7 @@ pub mod Xxh64Lemmas
 pub mod OneToOneLemmas
 pub mod MurmurSteps
 pub mod Xxh64Steps
-pub mod LanesLemmas
-pub mod CopyLemmas
 pub mod NumberLemmas
 pub mod MurmurWrites
-pub mod HeldLemmas
+pub mod BufferLemmas
 pub mod Xxh64Writes

@@ -4,11 +4,10 @@ use Rattle.std.proofs.Common.{◌≡◌, ℕ, ◌+◌, ◌-◌, ◌%◌, ◌^◌
 use Rattle.std.proofs.lemmas.Bool.{cases_lt}
 use Rattle.std.proofs.lemmas.List.{length-take, length-take-le, map-id, nil_from_length, take_rest}
 use Rattle.std.specs.List.{fold}
-use Rattle.sketch_hash.proofs.HeldLemmas.{held-waits}
-use Rattle.sketch_hash.proofs.CopyLemmas.{copy_starts, copy_whole, copy_at_start}
+use Rattle.sketch_hash.proofs.BufferLemmas.{held-waits, copy_starts, copy_whole, copy_at_start}
 use Rattle.sketch_hash.specs.Pieces.{pieces, rest, State}
 use Rattle.sketch_hash.specs.Xxh64.{Lanes, stripe_step, seeded_step, xxh64_after, each_lane}
-use Rattle.sketch_hash.proofs.LanesLemmas.{fold-seeded, one_stripe}
+use Rattle.sketch_hash.proofs.Xxh64Lemmas.{fold-seeded, one_stripe}
 use Rattle.sketch_hash.proofs.PiecesLemmas.{length_rest, pieces_short, joined_piece, no_piece, state_after-waits, state_after-fills, state_after-fresh, state_after-through}
 
 -- the lanes after the stripes of bytes, beside the seed

@@ -37,7 +37,7 @@ fn copy_tiny(buffer: &mut [u8], at: usize, bytes: &[u8])
 
 // The same by two copies, of the first K bytes and of the last.
 #[inline(always)]
-#[tactic(auto, using(crate::proofs::CopyLemmas::overlapped))]
+#[tactic(auto, using(crate::proofs::BufferLemmas::overlapped))]
 fn copy_overlapping<const K: usize>(buffer: &mut [u8], at: usize, bytes: &[u8])
     requires low { K ≤ length bytes.now }
     requires high { length bytes.now ≤ K + K }

@@ -86,7 +86,7 @@ impl MurmurHash3X64128 {
 
     /// A 128-bit hash as its 16 bytes lie in memory, which other tools print: each word's lowest
     /// byte first.
-    #[tactic(auto, using(crate::proofs::HeldLemmas::block_bytes))]
+    #[tactic(auto, using(crate::proofs::BufferLemmas::block_bytes))]
     pub fn bytes_of(hash: (u64, u64)) -> [u8; 16]
         ensures { result ≡ low_bytes 16 (hash.0 + hash.1 * 2 ^ 64) }
     {

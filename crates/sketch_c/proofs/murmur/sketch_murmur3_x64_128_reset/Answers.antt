@@ -1,6 +1,6 @@
 use Rattle.std.proofs.Common.{◌∙◌, [], ap, sym}
 use Rattle.datasketches.specs.PiecesWriteLemmas.{murmur_after-empty}
-use Rattle.sketch_hash.proofs.HeldLemmas.{none_waits}
+use Rattle.sketch_hash.proofs.BufferLemmas.{none_waits}
 use Rattle.sketch_c.proofs.murmur.sketch_murmur3_x64_128_reset.Goals as goal
 
 pub returns-clause-holds : goal.returns-clause-holds

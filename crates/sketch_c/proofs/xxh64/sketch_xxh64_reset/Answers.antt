@@ -1,6 +1,6 @@
 use Rattle.std.proofs.Common.{◌∙◌, [], ap, sym}
 use Rattle.datasketches.specs.PiecesWriteLemmas.{xxh64_after-empty}
-use Rattle.sketch_hash.proofs.HeldLemmas.{none_waits}
+use Rattle.sketch_hash.proofs.BufferLemmas.{none_waits}
 use Rattle.sketch_c.proofs.xxh64.sketch_xxh64_reset.Goals as goal
 
 pub returns-clause-holds : goal.returns-clause-holds

@@ -29,7 +29,7 @@ pub struct MurmurState {
 impl MurmurState {
     /// Adds bytes to the stream that the state holds.
     #[inline(always)]
-    #[tactic(auto, using(crate::proofs::HeldLemmas::murmur_holds_after))]
+    #[tactic(auto, using(crate::proofs::BufferLemmas::murmur_holds_after))]
     pub fn write(&mut self, bytes: &[u8])
         ensures after { murmur_held self.new ≡ murmur_after (murmur_held self.old) bytes.now }
         ensures holds { (seed : ℕ) (before : List ℕ) → MurmurHolds self.old seed before →
@@ -53,7 +53,7 @@ impl MurmurState {
     // Takes bytes that fill no block, in place. Through a hasher, writes of one byte take half as
     // long again.
     #[inline(always)]
-    #[tactic(auto, using(crate::proofs::HeldLemmas::held))]
+    #[tactic(auto, using(crate::proofs::BufferLemmas::held))]
     fn buffer_bytes(&mut self, bytes: &[u8])
         requires { self.old.total % 16 + length bytes.now < 16 }
         ensures { murmur_held self.new ≡ murmur_after (murmur_held self.old) bytes.now }
@@ -96,7 +96,7 @@ impl MurmurHash3X64128 {
 
     /// The state of this hasher.
     #[inline(always)]
-    #[tactic(auto, using(crate::proofs::HeldLemmas::stated))]
+    #[tactic(auto, using(crate::proofs::BufferLemmas::stated))]
     pub fn state(&self) -> MurmurState
         ensures held { murmur_held result ≡ self.now }
         ensures holds { (seed : ℕ) (bytes : List ℕ) → MurmurStands self.now seed bytes →

@@ -102,7 +102,7 @@ fn fold_long<L: StripeRound>(mut lanes: L, stripes: &[[u8; 32]]) -> L
 
 /// Folds stripes into the lanes, one after another.
 #[inline(always)]
-#[tactic(auto, using(crate::proofs::LanesLemmas::each_more))]
+#[tactic(auto, using(crate::proofs::Xxh64Lemmas::each_more))]
 pub(super) fn fold_stripes<L: StripeRound>(lanes: &mut L, stripes: &[[u8; 32]])
     ensures { L.lanes lanes.new ≡ each_lane (L.lanes lanes.old) stripes.now }
 {
@@ -113,7 +113,7 @@ pub(super) fn fold_stripes<L: StripeRound>(lanes: &mut L, stripes: &[[u8; 32]])
 
 // All four lanes at once.
 #[inline(always)]
-#[tactic(auto, using(crate::proofs::LanesLemmas::vectors))]
+#[tactic(auto, using(crate::proofs::Xxh64Lemmas::vectors))]
 fn vector_round(lanes: u64x4, stripe: &[u8; 32]) -> u64x4
     ensures { lanes_of result ≡ stripe_step (lanes_of lanes) stripe.now }
 {

@@ -35,7 +35,7 @@ pub struct XxHash64State {
 impl XxHash64State {
     /// Adds bytes to the stream that the state holds.
     #[inline(always)]
-    #[tactic(auto, using(crate::proofs::HeldLemmas::xxh64_holds_after))]
+    #[tactic(auto, using(crate::proofs::BufferLemmas::xxh64_holds_after))]
     pub fn write(&mut self, bytes: &[u8])
         ensures after { xxh64_held self.new ≡ xxh64_after (xxh64_held self.old) bytes.now }
         ensures holds { (seed : ℕ) (before : List ℕ) → Xxh64Holds self.old seed before →
