@@ -77,7 +77,7 @@ impl MurmurHash3X64128 {
         ensures stands { (seed : ℕ) (bytes : List ℕ) → MurmurStands self.now seed bytes →
             result ≡ murmur seed bytes }
     {
-        finalize(
+        finalize_hasher(
             self.h1 ^ mix1(self.low),
             self.h2 ^ mix2(self.high),
             self.total,
@@ -331,6 +331,16 @@ fn cross(h1: u64, h2: u64) -> (u64, u64)
 #[inline(always)]
 #[tactic(auto, unfolding(crate::specs::Murmur::finalize), using(crate::proofs::WordsLemmas::words))]
 fn finalize(h1: u64, h2: u64, total: u64) -> (u64, u64)
+    ensures { result ≡ finalize (h1, h2) total }
+{
+    let (h1, h2) = cross(h1 ^ total, h2 ^ total);
+    cross(fmix(h1), fmix(h2))
+}
+
+// The same where a hasher is inlined. In one call the test would cost keys of 1 to 8 bytes a tenth.
+#[inline(always)]
+#[tactic(auto, unfolding(crate::specs::Murmur::finalize), using(crate::proofs::WordsLemmas::words))]
+fn finalize_hasher(h1: u64, h2: u64, total: u64) -> (u64, u64)
     ensures { result ≡ finalize (h1, h2) total }
 {
     let (h1, h2) = cross(h1 ^ total, h2 ^ total);
