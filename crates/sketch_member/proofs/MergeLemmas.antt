@@ -11,7 +11,7 @@ use Rattle.sketch_member.proofs.BitLemmas.{zeros-get}
 use Rattle.sketch_member.proofs.InsertLemmas.{insert_law, same_index, same_table_bits}
 use Rattle.sketch_member.proofs.LawLemmas.{form_law, same_table}
 use Rattle.sketch_member.specs.Form.{form2}
-use Rattle.sketch_member.specs.Laws.{AreMadeOf, InsertsAll, IsMadeOf, MergeLaw, StandsFor, count_after}
+use Rattle.sketch_member.specs.Laws.{IsFormOfInserts, InsertsAll, IsMadeOf, MergeLaw, StandsFor, count_after}
 use Rattle.sketch_member.specs.declared.fault.Difference.{Difference}
 use Rattle.sketch_member.specs.declared.fault.Difference.TheVariants.{Seed, Log2Bits, Hashes}
 use Rattle.sketch_member.specs.Merge.{AreAlike, IsFirstDifference, Merges, sum_of_counts}
@@ -256,7 +256,7 @@ made_both_ways law seed log2_bits hashes first second one other after whole all 
 -- a table of inserts into an empty one is made of them, wherever its bytes lie
 pub whole_of : (seed log2_bits hashes : ℕ) (values : List (List ℕ)) (table : Table) (bytes : List ℕ) →
     InsertsAll values (empty_table seed log2_bits hashes) table → bytes ≡ form2 table →
-    AreMadeOf seed log2_bits hashes values bytes
+    IsFormOfInserts seed log2_bits hashes values bytes
 whole_of seed log2_bits hashes values table bytes all is =
     (table, all_alike values _ table all, made_of seed log2_bits hashes values table all, is)
 

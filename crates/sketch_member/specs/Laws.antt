@@ -58,8 +58,8 @@ IsMadeOf values table =
     InsertsAll values (empty_table table.seed table.log2_bits table.hashes) table
 
 -- the bytes are the table of this seed and these sizes that the inserts make of an empty one
-abbrev pub AreMadeOf : ℕ → ℕ → ℕ → List (List ℕ) → List ℕ → Type 0
-AreMadeOf seed log2_bits hashes values bytes =
+abbrev pub IsFormOfInserts : ℕ → ℕ → ℕ → List (List ℕ) → List ℕ → Type 0
+IsFormOfInserts seed log2_bits hashes values bytes =
     (whole : Table) × AreAlike (empty_table seed log2_bits hashes) whole
     × IsMadeOf values whole × (bytes ≡ form2 whole)
 

@@ -1,5 +1,12 @@
--- Which sizes keep the false positives of a number of keys below a rate.
+-- The sizes of a table: their limits, and which keep the false positives of a number of keys below a
+-- rate.
 use Rattle.std.specs.Prelude.{ℕ, ◌*◌, ◌-◌, ◌^◌, ◌≤◌}
+
+abbrev pub IsLog2Bits : ℕ → Type 0
+IsLog2Bits n = (6 ≤ n) × (n ≤ 20)
+
+abbrev pub IsHashes : ℕ → Type 0
+IsHashes n = (1 ≤ n) × (n ≤ 16)
 
 -- By the usual formula: of `bits` bits each is clear after n inserts of `hashes` indexes with the
 -- probability ((bits - 1) / bits) ^ (hashes * n), and another key is reported if `hashes` bits are

@@ -5,7 +5,7 @@ ghost use Rattle.datasketches.specs.ErrorValue.{memory_error};
 ghost use Rattle.sketch_member.specs.Faults.{FirstFault, IsNewError, IsStepsError, IsFirstFault, init_steps, steps};
 ghost use Rattle.sketch_member.specs.Form.{IsForm, form1, form2};
 ghost use Rattle.sketch_member.specs.Table.{IsMember, IsTable, Table, empty_table};
-ghost use Rattle.sketch_member.specs.Laws.{AreMadeOf, FormLaw, InsertLaw, InsertsAll, MergeLaw};
+ghost use Rattle.sketch_member.specs.Laws.{IsFormOfInserts, FormLaw, InsertLaw, InsertsAll, MergeLaw};
 
 pub use crate::table::table_law;
 use crate::{Fault, MemberTable, in_place};
@@ -14,18 +14,21 @@ use datasketches::hash::Hash;
 use std::alloc::Global;
 
 /// Bytes are the form of one table at most, and the checks accept the bytes of each table.
+#[tactic(auto, using(crate::proofs::LawLemmas::form_law))]
 pub fn form_law()
     ensures { FormLaw }
 {}
 
 /// Tables of one seed and the same sizes have the same bits if the same values were inserted, in
 /// any order, and are equal if their counts are too. A table contains each of its values.
+#[tactic(auto, using(crate::proofs::InsertLemmas::insert_law))]
 pub fn insert_law()
     ensures { InsertLaw }
 {}
 
 /// Merging the tables of two streams of values makes the table of both streams, one after the
 /// other. Several tables may be merged in any order.
+#[tactic(auto, using(crate::proofs::MergeLemmas::merge_law))]
 pub fn merge_law()
     ensures { MergeLaw }
 {}
@@ -80,7 +83,7 @@ pub fn merge_both<T: Hash>(
     second: &[T],
 ) -> Result<(Vec<u8>, Vec<u8>), Error>
     ensures same { IfOk result (λ both. both.0.items ≡ both.1.items) }
-    ensures whole { IfOk result (λ both. AreMadeOf seed log2_bits hashes
+    ensures whole { IfOk result (λ both. IsFormOfInserts seed log2_bits hashes
         (map T.fed first.now ++ map T.fed second.now) both.1.items) }
     ensures refused { IfErr result (IsNewError log2_bits hashes) }
 {
@@ -99,6 +102,7 @@ pub fn merge_both<T: Hash>(
 }
 
 // Inserts values, one after another.
+#[tactic(auto, using(crate::proofs::MergeLemmas::insert_next))]
 fn insert_all<T: Hash>(table: &mut MemberTable, values: &[T])
     ensures { InsertsAll (map T.fed values.now) table.old table.new }
 {
@@ -124,13 +128,13 @@ pub fn insert_both<T: Hash>(
 ) -> Result<Vec<u8>, Error>
     ensures same { IfOk result (λ made. bytes.new ≡ made.items) }
     ensures whole { IfOk result (λ made.
-        AreMadeOf seed log2_bits hashes (map T.fed values.now) made.items) }
+        IsFormOfInserts seed log2_bits hashes (map T.fed values.now) made.items) }
     ensures refused { IfErr result (λ error. ((bytes.new ≡ bytes.old)
         × FirstFault ErrorKind.InvalidArgument (length bytes.old)
         (init_steps log2_bits hashes bytes.old) error)
         ⊎ (error ≡ memory_error)) }
     ensures left { IfErr result (λ _. (bytes.new ≡ bytes.old)
-        ⊎ AreMadeOf seed log2_bits hashes (map T.fed values.now) bytes.new) }
+        ⊎ IsFormOfInserts seed log2_bits hashes (map T.fed values.now) bytes.new) }
 {
     if let Err(fault) = insert_all_in_place(bytes, seed, log2_bits, hashes, values) {
         return Err(fault.into_error(alloc, ErrorKind::InvalidArgument));

@@ -1,7 +1,7 @@
 use Rattle.std.proofs.Common.{arith, refl, subst}
 use Rattle.sketch_member.specs.Table.{Inserts, empty_table}
 use Rattle.sketch_member.proofs.BitLemmas.{empty_is_table}
-use Rattle.sketch_member.proofs.FaultLemmas.{no_fault}
+use Rattle.sketch_member.proofs.FormLemmas.{no_fault}
 use Rattle.sketch_member.proofs.LawLemmas.{form_law}
 use Rattle.sketch_member.specs.Faults.{view_steps}
 use Rattle.sketch_member.proofs.MergeLemmas.{insert_next_in}

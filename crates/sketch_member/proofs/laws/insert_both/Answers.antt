@@ -2,8 +2,8 @@ use Rattle.std.proofs.Common.{◌≡◌, ◌⊎◌, ℕ, List, arith, inl, inr, 
 use Rattle.datasketches.specs.declared.error.ErrorKind.TheVariants.{InvalidArgument}
 use Rattle.datasketches.specs.ErrorValue.{memory_error}
 use Rattle.sketch_member.specs.Faults.{FirstFault, init_steps, new_steps}
-use Rattle.sketch_member.specs.Limits.{IsHashes, IsLog2Bits}
-use Rattle.sketch_member.proofs.FaultLemmas.{anyway, no_fault, of_err}
+use Rattle.sketch_member.specs.Sizing.{IsHashes, IsLog2Bits}
+use Rattle.sketch_member.proofs.FormLemmas.{anyway, no_fault, of_err}
 use Rattle.sketch_member.specs.Form.{form2}
 use Rattle.sketch_member.specs.Laws.{InsertsAll}
 use Rattle.sketch_member.specs.Table.{Table, IsTable, empty_table}

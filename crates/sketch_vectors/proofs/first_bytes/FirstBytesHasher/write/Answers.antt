@@ -1,7 +1,6 @@
 use Rattle.std.proofs.Common.{◌∷◌, [], take, get_or, ◌∙◌, ap, sym}
 use Rattle.std.proofs.lemmas.List.{take_more}
-use Rattle.sketch_vectors.specs.FirstBytes.{kept_after}
-use Rattle.sketch_vectors.specs.FirstBytesLemmas.{kept_after-append}
+use Rattle.sketch_vectors.specs.FirstBytes.{kept_after, kept_after-append}
 use Rattle.sketch_vectors.proofs.first_bytes.FirstBytesHasher.write.Goals as goal
 
 pub loop-byte-preserved : goal.loop-byte-preserved
