@@ -6,10 +6,8 @@ use Rattle.std.proofs.lemmas.Nat.{or_of_8, and_mask, one_shl, pow-add}
 use Rattle.std.proofs.lemmas.Nat.Bits.{bit_at-lt, bit_at_or, bit_at_set_same, bit_at_set_other}
 use Rattle.std.proofs.lemmas.Bool.{cases_eq, cases_lt}
 use Rattle.datasketches.specs.Words.{IsWord}
-use Rattle.std.specs.Prelude.{Some}
-use Rattle.sketch_member.specs.declared.filter.Filter.{Filter}
 use Rattle.sketch_member.specs.Sizing.{IsHashes, IsLog2Bits}
-use Rattle.sketch_member.specs.Table.{IsSet, IsTable, byte_count, empty_table, table_of}
+use Rattle.sketch_member.specs.Table.{IsSet, IsTable, byte_count, empty_table}
 
 -- the byte of place i with its bit set
 abbrev byte_with : List ℕ → ℕ → ℕ
@@ -116,27 +114,29 @@ whole_bytes n h =
     let split : 2 ^ n ≡ 2 ^ (n - 3) * 8 = ap (λ k. 2 ^ k) e ∙ pow-add 2 (n - 3) 3 in
     omega arith
 
+-- zeros, as std says of a new vector that it is full of them
+pub zeros_long : (bits : List ℕ) (count : ℕ) →
+    (((n : ℕ) → n ≡ 0 → n ≡ 0) → bits ≡ replicate count 0) → length bits ≡ count
+zeros_long bits count zeros = ap length (zeros (λ n is. is)) ∙ length-replicate count 0
+
+pub zeros_low : (bits : List ℕ) (count k : ℕ) →
+    (((n : ℕ) → n ≡ 0 → n ≡ 0) → bits ≡ replicate count 0) → get_or bits k 0 < 256
+zeros_low bits count k zeros = rw (zeros (λ n is. is), zeros-get count k) (omega arith)
+
+pub ruleset zeros = (whole_bytes, zeros_long, zeros_low)
+
 -- a table of no bits and no inserts is one
 pub empty_is_table : (seed log2_bits hashes : ℕ) → IsWord seed → IsLog2Bits log2_bits → IsHashes hashes →
     IsTable (empty_table seed log2_bits hashes)
-empty_is_table seed log2_bits hashes word is_log2 is_hashes =
-    let n = byte_count log2_bits in
-    let count : length (replicate {A = ℕ} n 0) ≡ n = length-replicate n 0 in
-    record {
-      seed = word;
-      log2_bits = is_log2;
-      hashes = is_hashes;
-      count = omega arith;
-      bits = ap (λ k. k * 8) count ∙ whole_bytes log2_bits (omega (arith, is_log2.0));
-      bytes = λ k. rw (zeros-get n k) (omega arith);
-    }
-
--- a filter of no inserts and bits that are all zero make a table
-pub new_is_table : (filter : Filter) (bits : List ℕ) → IsWord filter.seed → IsLog2Bits filter.log2_bits →
-    IsHashes filter.hashes → filter.count ≡ Some 0 → bits ≡ replicate (byte_count filter.log2_bits) 0 →
-    IsTable (table_of filter bits)
-new_is_table filter bits word is_log2 is_hashes none zeros =
-    rw (none, zeros) (empty_is_table filter.seed filter.log2_bits filter.hashes word is_log2 is_hashes)
+empty_is_table seed log2_bits hashes word is_log2 is_hashes = record {
+  seed = word;
+  log2_bits = is_log2;
+  hashes = is_hashes;
+  count = omega arith;
+  bits = ap (λ k. k * 8) (length-replicate (byte_count log2_bits) 0)
+      ∙ whole_bytes log2_bits (omega (arith, is_log2.0));
+  bytes = λ k. zeros_low _ (byte_count log2_bits) k (λ _. refl);
+}
 
 -- the greater of two digits is 1 exactly if one of them is
 max_of_digits : (a b : ℕ) → a < 2 → b < 2 → (max a b ≡ 1) ↔ ((a ≡ 1) ⊎ (b ≡ 1))

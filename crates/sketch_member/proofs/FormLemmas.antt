@@ -1,6 +1,6 @@
 -- The steps of the reading: bytes that pass them all are the form of a table.
 use Rattle.std.proofs.Common.{◌≡◌, ◌⊎◌, ℕ, ◌+◌, ◌-◌, ◌*◌, ◌<◌, ◌≤◌, List, [], ◌∷◌, ◌++◌, length, get_or, take, drop, refl, sym, ap, ◌∙◌, inl, inr, arith, length-drop, not-le_of_lt, Fits, w8, w64, zero, suc, Result, Ok, Err, IsErrAnd, MatchResult, subst}
-use Rattle.std.specs.Prelude.{Contains, IfSome, Option, None, Some, ⊤}
+use Rattle.std.specs.Prelude.{Contains, IfSome, Option, None, Some}
 use Rattle.std.specs.Int.{to_le_bytes}
 use Rattle.std.proofs.lemmas.List.{take-append-drop, drop-drop, get_or-drop}
 use Rattle.std.proofs.lemmas.List.Elements.{All-drop}
@@ -209,8 +209,3 @@ pub of_err : {X E : Type 0} (r : Result X E) (A : X → Type 0) (P : E → Type 
     IsErrAnd r (λ x. x ≡ e) → P e → MatchResult r A P
 of_err (Ok x) A P e is holds = absurd is
 of_err (Err x) A P e is holds = subst P (sym is) holds
-
--- what holds anyway holds of an Err too
-pub anyway : {X E : Type 0} (r : Result X E) (P : Type 0) → P → MatchResult r (λ _. ⊤) (λ _. P)
-anyway (Ok x) P holds = tt
-anyway (Err x) P holds = holds

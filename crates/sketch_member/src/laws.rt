@@ -74,6 +74,7 @@ pub fn read_upgraded(alloc: Global, bytes: &[u8]) -> Result<MemberTable, Error>
 /// # Errors
 ///
 /// As those of [`MemberTable::new`]; memory may run out in the writing too.
+#[tactic(auto, using(crate::proofs::MergeLemmas::both_ways))]
 pub fn merge_both<T: Hash>(
     alloc: Global,
     seed: u64,
@@ -87,7 +88,6 @@ pub fn merge_both<T: Hash>(
         (map T.fed first.now ++ map T.fed second.now) both.1.items) }
     ensures refused { IfErr result (IsNewError log2_bits hashes) }
 {
-    merge_law();
     let mut merged = MemberTable::new(alloc, seed, log2_bits, hashes)?;
     insert_all(&mut merged, first);
     let mut other = MemberTable::new(alloc, seed, log2_bits, hashes)?;
@@ -116,8 +116,9 @@ fn insert_all<T: Hash>(table: &mut MemberTable, values: &[T])
 ///
 /// # Errors
 ///
-/// As those of [`in_place::init`], all `InvalidArgument`; `bytes` are then unchanged. Memory may
-/// run out too: `OutOfMemory`, with no message. `bytes` are then the table, or unchanged.
+/// As those of [`in_place::init`], all `InvalidArgument`. Memory may run out too: `OutOfMemory`,
+/// with no message. `bytes` are then unchanged.
+#[tactic(auto, using(crate::proofs::MergeLemmas::one_form))]
 pub fn insert_both<T: Hash>(
     alloc: Global,
     bytes: &mut [u8],
@@ -129,23 +130,23 @@ pub fn insert_both<T: Hash>(
     ensures same { IfOk result (λ made. bytes.new ≡ made.items) }
     ensures whole { IfOk result (λ made.
         IsFormOfInserts seed log2_bits hashes (map T.fed values.now) made.items) }
-    ensures refused { IfErr result (λ error. ((bytes.new ≡ bytes.old)
-        × FirstFault ErrorKind.InvalidArgument (length bytes.old)
-        (init_steps log2_bits hashes bytes.old) error)
-        ⊎ (error ≡ memory_error)) }
-    ensures left { IfErr result (λ _. (bytes.new ≡ bytes.old)
-        ⊎ IsFormOfInserts seed log2_bits hashes (map T.fed values.now) bytes.new) }
+    ensures refused { IfErr result (λ error. (bytes.new ≡ bytes.old)
+        × (FirstFault ErrorKind.InvalidArgument (length bytes.old)
+        (init_steps log2_bits hashes bytes.old) error
+        ⊎ (error ≡ memory_error))) }
 {
-    if let Err(fault) = insert_all_in_place(bytes, seed, log2_bits, hashes, values) {
-        return Err(fault.into_error(alloc, ErrorKind::InvalidArgument));
-    }
     let mut table = MemberTable::new(alloc, seed, log2_bits, hashes)?;
     insert_all(&mut table, values);
     table_law(&table);
-    Ok(table.to_bytes(alloc)?)
+    let made = table.to_bytes(alloc)?;
+    match insert_all_in_place(bytes, seed, log2_bits, hashes, values) {
+        Ok(()) => Ok(made),
+        Err(fault) => Err(fault.into_error(alloc, ErrorKind::InvalidArgument)),
+    }
 }
 
 // Makes bytes a table, and inserts values, one after another.
+#[tactic(auto, using(crate::proofs::MergeLemmas::one_value_more))]
 fn insert_all_in_place<T: Hash>(
     bytes: &mut [u8],
     seed: u64,
@@ -154,8 +155,7 @@ fn insert_all_in_place<T: Hash>(
     values: &[T],
 ) -> Result<(), Fault>
     ensures { MatchResult result
-        (λ _. (made : Table) × IsTable made × (bytes.new ≡ form2 made)
-        × InsertsAll (map T.fed values.now) (empty_table seed log2_bits hashes) made)
+        (λ _. IsFormOfInserts seed log2_bits hashes (map T.fed values.now) bytes.new)
         (λ fault. (bytes.new ≡ bytes.old)
         × IsFirstFault (length bytes.old) (init_steps log2_bits hashes bytes.old) fault) }
 {

@@ -57,7 +57,7 @@ impl MemberTable {
     /// Where `log2_bits` is not 6 to 20, and then where `hashes` is not 1 to 16: `InvalidArgument`.
     /// Where memory runs out, for the bits or for the text of a refusal: `OutOfMemory`, with no
     /// message.
-    #[tactic(auto, using(crate::proofs::BitLemmas::new_is_table))]
+    #[tactic(auto, using(crate::proofs::BitLemmas::zeros))]
     pub fn new(alloc: Global, seed: u64, log2_bits: u8, hashes: u8) -> Result<MemberTable, Error>
         ensures answer { MatchResult result
             (λ table. IsLog2Bits log2_bits × IsHashes hashes
