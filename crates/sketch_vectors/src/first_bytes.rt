@@ -32,6 +32,7 @@ impl FirstBytes {
         }
     }
 
+    #[tactic(auto, using(crate::proofs::FirstBytesLemmas::kept))]
     fn keep(&mut self, byte: u8)
         ensures { self.new ≡ kept_after self.old (byte ∷ []) }
     {
@@ -54,6 +55,7 @@ impl Hasher for FirstBytes {
 
     ghost answer = { length };
 
+    #[tactic(auto, using(crate::proofs::FirstBytesLemmas::kept_more))]
     fn write(&mut self, bytes: &[u8]) {
         for byte in bytes {
             self.keep(*byte);
