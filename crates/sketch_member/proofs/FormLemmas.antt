@@ -1,5 +1,5 @@
 -- The steps of the reading: bytes that pass them all are the form of a table.
-use Rattle.std.proofs.Common.{◌≡◌, ◌⊎◌, ℕ, ◌+◌, ◌-◌, ◌*◌, ◌<◌, ◌≤◌, List, [], ◌∷◌, ◌++◌, length, get_or, take, drop, refl, sym, ap, ◌∙◌, inl, inr, arith, length-drop, not-le_of_lt, Fits, w8, w64, zero, suc, Result, Ok, Err, IsErrAnd, MatchResult, subst}
+use Rattle.std.proofs.Common.{◌≡◌, ◌⊎◌, ℕ, ◌+◌, ◌-◌, ◌*◌, ◌<◌, ◌≤◌, List, [], ◌∷◌, ◌++◌, length, get_or, take, drop, refl, sym, ap, ◌∙◌, inl, inr, arith, length-drop, Fits, w8, w64, zero, suc, Result, Ok, Err, IsErrAnd, MatchResult, subst}
 use Rattle.std.specs.Prelude.{Contains, IfSome, Option, None, Some}
 use Rattle.std.specs.Int.{to_le_bytes}
 use Rattle.std.proofs.lemmas.List.{take-append-drop, drop-drop, get_or-drop}
@@ -33,18 +33,6 @@ pub all_pass-append : (count : ℕ) (front others : List Step) →
 all_pass-append count [] others pass more = more
 all_pass-append count (step ∷ front) others pass more =
     (pass.0, all_pass-append count front others pass.1 more)
-
--- where all pass, none fails
-pub no_fault : (count : ℕ) (steps : List Step) (fault : Fault) → AllPass count steps →
-    IsFirstFault count steps fault → ⊥
-no_fault count [] fault pass first = first
-no_fault count (step ∷ steps) fault pass first = elim first [
-  | inl here ↦ elim here [
-    | inl few ↦ not-le_of_lt few.0 pass.0.0
-    | inr wrong ↦ wrong.1 pass.0.1
-  ]
-  | inr later ↦ no_fault count steps fault pass.1 later.1
-]
 
 -- one of the two numbers of a list
 either : (m n x : ℕ) → Contains (m ∷ n ∷ []) x → (x ≡ m) ⊎ (x ≡ n)

@@ -1,4 +1,4 @@
--- The law of merges.
+-- The law of merges, and the bytes of tables that are made in two ways.
 use Rattle.std.proofs.Common.{◌≡◌, ◌↔◌, ◌⊎◌, ℕ, ◌+◌, ◌-◌, ◌/◌, ◌%◌, ◌^◌, ◌<◌, List, [], ◌∷◌, ◌++◌, length, get_or, map, take, replicate, suc, refl, sym, ap, subst, ◌∙◌, arith, inl, inr, add-zero, zero-add, add_comm, suc-ne-zero}
 use Rattle.std.specs.Prelude.{Option, None, Some, IfSome, min}
 use Rattle.std.specs.Int.{bit_at}
@@ -107,7 +107,7 @@ counted before other after m n merges count count_other =
 -- ---- streams
 
 -- inserts leave the seed and the sizes
-pub all_alike : (values : List (List ℕ)) (before after : Table) → InsertsAll values before after →
+all_alike : (values : List (List ℕ)) (before after : Table) → InsertsAll values before after →
     AreAlike before after
 all_alike [] before after all = alike_if_same (sym all)
 all_alike (fed ∷ values) before after (next, inserts, rest) =
@@ -126,7 +126,7 @@ both_alike values others start table other all all_other =
     (all_alike others start other all_other)
 
 -- and differ in no part
-pub no_difference : (values others : List (List ℕ)) (start table other : Table) (part : Difference) →
+no_difference : (values others : List (List ℕ)) (start table other : Table) (part : Difference) →
     InsertsAll values start table → InsertsAll others start other → IsFirstDifference table other part → ⊥
 no_difference values others start table other part all all_other differ =
     refuted part differ (both_alike values others start table other all all_other)
@@ -137,7 +137,7 @@ no_difference values others start table other part all all_other differ =
     refuted Hashes differ alike = differ.2 alike.hashes
 
 -- inserts, and then others
-pub inserts_append : (values others : List (List ℕ)) (before next after : Table) →
+inserts_append : (values others : List (List ℕ)) (before next after : Table) →
     InsertsAll values before next → InsertsAll others next after →
     InsertsAll (values ++ others) before after
 inserts_append [] others before next after all rest =
@@ -155,7 +155,7 @@ insert_next fed xs i value before next after within is all inserts =
     (inserts_append (map fed (take i xs)) (fed value ∷ []) before next after all (after, inserts, refl))
 
 -- inserts into an empty table make the table of their values
-pub made_of : (seed log2_bits hashes : ℕ) (values : List (List ℕ)) (table : Table) →
+made_of : (seed log2_bits hashes : ℕ) (values : List (List ℕ)) (table : Table) →
     InsertsAll values (empty_table seed log2_bits hashes) table → IsMadeOf values table
 made_of seed log2_bits hashes values table all =
     let alike = all_alike values (empty_table seed log2_bits hashes) table all in
@@ -232,7 +232,7 @@ made_both_ways seed log2_bits hashes first second one other after whole all all_
     (made_of seed log2_bits hashes (first ++ second) whole all_whole)
 
 -- the inserts of the same values into an empty table make one table
-pub made_once : (seed log2_bits hashes : ℕ) (values : List (List ℕ)) (table other : Table) →
+made_once : (seed log2_bits hashes : ℕ) (values : List (List ℕ)) (table other : Table) →
     InsertsAll values (empty_table seed log2_bits hashes) table →
     InsertsAll values (empty_table seed log2_bits hashes) other →
     IsTable table → IsTable other → table ≡ other
@@ -244,6 +244,9 @@ made_once seed log2_bits hashes values table other all all_other is is_other =
     one.0 two.0 (λ fed. ((λ is. is), (λ is. is)))).1 (one.1 ∙ sym two.1)
 
 -- ---- bytes of a table of inserts
+
+-- Some conclusions repeat a premise. `grind` applies a lemma where it sees a term of the conclusion,
+-- and what it sees here is that premise.
 
 -- they are those of an empty table at first
 pub form_of_none : (seed log2_bits hashes : ℕ) (bytes : List ℕ) → IsWord seed → IsLog2Bits log2_bits →
