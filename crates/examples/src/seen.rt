@@ -4,8 +4,7 @@ ghost use Rattle.std.specs.Prelude.{ℕ, List, ◌≡◌, ◌⊎◌, ◌↔◌, 
 ghost use Rattle.datasketches.specs.ErrorValue.{memory_error};
 ghost use Rattle.datasketches.specs.Refusals.{Refuses};
 ghost use Rattle.sketch_member.specs.Faults.{IsFirstFault, fault_text, steps, view_steps};
-ghost use Rattle.sketch_member.specs.Form.{IsForm};
-ghost use Rattle.sketch_member.specs.InPlace.{TableChanges};
+ghost use Rattle.sketch_member.specs.Form.{IsForm, TableChanges};
 ghost use Rattle.sketch_member.specs.Laws.{StandsFor, count_after};
 ghost use Rattle.sketch_member.specs.Table.{Inserts, IsMember, empty_table};
 

@@ -1,9 +1,13 @@
--- Sizes that are given as wider numbers.
+-- How streams and tables start.
 use Rattle.std.proofs.Common.{◌≡◌, ℕ, ◌≤◌, List, min, arith, inl, inr, refl, ap}
+use Rattle.datasketches.specs.PiecesWriteLemmas.{murmur_after-empty, xxh64_after-empty}
 use Rattle.sketch_c.specs.Status.{status}
 use Rattle.sketch_member.specs.declared.fault.Fault.{Fault}
 use Rattle.sketch_member.specs.declared.fault.Fault.TheVariants.{Log2Bits, Hashes}
 use Rattle.sketch_member.specs.Faults.{IsFirstFault, init_steps}
+
+-- a stream of no bytes is as it starts
+pub ruleset started = (murmur_after-empty, xxh64_after-empty)
 
 -- a number that is cut off at 255 is itself where it is at most 20
 whole : (n most : ℕ) → min n 255 ≤ most → most ≤ 20 → min n 255 ≡ n

@@ -1,2 +1,1 @@
-pub mod Outcome
 pub mod Status

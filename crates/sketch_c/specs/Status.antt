@@ -1,5 +1,6 @@
--- What the calls on tables answer where they refuse: a negative number for each fault.
-use Rattle.std.specs.Prelude.{◌≡◌, ℕ, ℤ, pos, ◌-ℤ◌, List, length}
+-- The numbers by which calls for C answer: how an outcome is told, and a negative number for each
+-- fault of a table.
+use Rattle.std.specs.Prelude.{◌≡◌, ℕ, ℤ, zero, suc, pos, ◌-ℤ◌, List, length, Result, Ok, Err}
 use Rattle.sketch_member.specs.declared.fault.Fault.{Fault}
 use Rattle.sketch_member.specs.declared.fault.Fault.TheVariants.{HeaderEnds, PreambleLongs, SerialVersion, Family, Log2Bits, Hashes, Reserved, UnknownCount, MissingBits, TrailingBytes, Version1}
 use Rattle.sketch_member.specs.declared.fault.MergeFault.{MergeFault}
@@ -9,6 +10,11 @@ use Rattle.sketch_member.specs.declared.fault.Difference.TheVariants as part
 use Rattle.sketch_member.specs.Faults.{IsFirstFault, view_steps}
 use Rattle.sketch_member.specs.Form.{form2}
 use Rattle.sketch_member.specs.Table.{Table, IsTable}
+
+-- 0 where it is done, and else one more than the place of the fault
+abbrev pub outcome : ℕ → Result Unit ℕ
+outcome zero = Ok tt
+outcome (suc place) = Err place
 
 abbrev negative : ℕ → ℤ
 negative n = pos 0 -ℤ pos n

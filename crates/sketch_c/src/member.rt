@@ -7,11 +7,9 @@
 ghost use Rattle.std.specs.Prelude.{◌≡◌, ◌⊎◌, ◌+◌, ◌^◌, pos, length, min, Some, None};
 ghost use Rattle.sketch_c.specs.Status.{IsTableIn, Refused, merge_status, status};
 ghost use Rattle.sketch_member.specs.Faults.{IsFirstFault, init_steps};
-ghost use Rattle.sketch_member.specs.Form.{form2};
-ghost use Rattle.sketch_member.specs.InPlace.{TableChanges, IsMergeFault};
-ghost use Rattle.sketch_member.specs.Limits.{IsHashes, IsLog2Bits};
-ghost use Rattle.sketch_member.specs.Merge.{Merges};
-ghost use Rattle.sketch_member.specs.Sizing.{StaysBelow};
+ghost use Rattle.sketch_member.specs.Form.{form2, TableChanges};
+ghost use Rattle.sketch_member.specs.Merge.{IsMergeFault, Merges};
+ghost use Rattle.sketch_member.specs.Sizing.{IsHashes, IsLog2Bits, StaysBelow};
 ghost use Rattle.sketch_member.specs.Table.{Inserts, IsMember, Table, byte_count, empty_table};
 
 use datasketches::hash::value::raw_bytes;

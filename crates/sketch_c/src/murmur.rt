@@ -27,6 +27,7 @@ pub extern "C" fn sketch_murmur3_x64_128(input: &[u8], seed: u64) -> Murmur128
 /// Starts a stream: a seed, and no bytes. All bytes of the buffer are 0, as an initializer leaves
 /// them.
 #[unsafe(no_mangle)]
+#[tactic(auto, using(crate::proofs::InitLemmas::started))]
 pub extern "C" fn sketch_murmur3_x64_128_reset(state: &mut MurmurState, seed: u64)
     ensures holds { MurmurHolds state.new seed [] }
     ensures zeros { state.new.waiting ≡ replicate 16 0 }

@@ -26,6 +26,7 @@ pub extern "C" fn sketch_xxh64_u64(value: u64, seed: u64) -> u64
 /// Starts a stream: a seed, and no bytes. All bytes of the buffer are 0, as an initializer leaves
 /// them.
 #[unsafe(no_mangle)]
+#[tactic(auto, using(crate::proofs::InitLemmas::started))]
 pub extern "C" fn sketch_xxh64_reset(state: &mut XxHash64State, seed: u64)
     ensures holds { Xxh64Holds state.new seed [] }
     ensures zeros { state.new.waiting ≡ replicate 32 0 }

@@ -1,13 +1,12 @@
 -- Bits packed into bytes.
-use Rattle.std.proofs.Common.{◌≡◌, ◌≢◌, ◌↔◌, ◌⊎◌, ℕ, ◌*◌, ◌/◌, ◌%◌, ◌^◌, ◌<◌, max, List, length, bit_and, ◌+◌, ◌≤◌, set, get_or, replicate, refl, sym, ap, subst, ◌∙◌, inl, inr, arith, bit_or, Fits}
+use Rattle.std.proofs.Common.{◌≡◌, ◌≢◌, ◌↔◌, ◌⊎◌, ℕ, ◌*◌, ◌/◌, ◌%◌, ◌^◌, ◌<◌, max, List, length, bit_and, ◌+◌, ◌-◌, ◌≤◌, set, get_or, replicate, refl, sym, ap, subst, ◌∙◌, inl, inr, arith, bit_or, Fits}
 use Rattle.std.specs.Int.{w8, bit_at}
 use Rattle.std.proofs.lemmas.List.{ext_get_or, get_or-set_same, get_or-set_other, get_or-replicate, get_or_past, length-replicate}
-use Rattle.std.proofs.lemmas.Nat.{or_of_8, and_mask}
+use Rattle.std.proofs.lemmas.Nat.{or_of_8, and_mask, one_shl, pow-add}
 use Rattle.std.proofs.lemmas.Nat.Bits.{bit_at-lt, bit_at_or, bit_at_set_same, bit_at_set_other}
 use Rattle.std.proofs.lemmas.Bool.{cases_eq, cases_lt}
 use Rattle.datasketches.specs.Words.{IsWord}
-use Rattle.sketch_member.proofs.SizeLemmas.{whole_bytes}
-use Rattle.sketch_member.specs.Limits.{IsHashes, IsLog2Bits}
+use Rattle.sketch_member.specs.Sizing.{IsHashes, IsLog2Bits}
 use Rattle.sketch_member.specs.Table.{IsSet, IsTable, byte_count, empty_table}
 
 -- the byte of place i with its bit set
@@ -79,6 +78,12 @@ set_bytes xs i k place low within bytes = rw low (elim (cases_eq k (i / 8)) [
 
 pub ruleset one_set = (low_three, set_only, set_too, set_bytes)
 
+-- the low bits of a word
+pub low_bits : (word n : ℕ) → n < 64 → bit_and word (1 * 2 ^ n % 2 ^ 64 - 1) ≡ word % 2 ^ n
+low_bits word n few = rw (one_shl n 64 few) (and_mask word n)
+
+pub ruleset masked = (low_bits)
+
 -- no bit is set in zeros
 pub zeros-get : (n k : ℕ) → get_or (replicate {A = ℕ} n 0) k 0 ≡ 0
 zeros-get n k =
@@ -102,20 +107,36 @@ zeros_met bits count place size met low high =
 
 pub ruleset cleared = (zeros_met)
 
+-- eight bits or more leave no byte cut off
+pub whole_bytes : (n : ℕ) → 3 ≤ n → 2 ^ n / 8 * 8 ≡ 2 ^ n
+whole_bytes n h =
+    let e : n ≡ n - 3 + 3 = omega arith in
+    let split : 2 ^ n ≡ 2 ^ (n - 3) * 8 = ap (λ k. 2 ^ k) e ∙ pow-add 2 (n - 3) 3 in
+    omega arith
+
+-- zeros, as std says of a new vector that it is full of them
+pub zeros_long : (bits : List ℕ) (count : ℕ) →
+    (((n : ℕ) → n ≡ 0 → n ≡ 0) → bits ≡ replicate count 0) → length bits ≡ count
+zeros_long bits count zeros = ap length (zeros (λ n is. is)) ∙ length-replicate count 0
+
+pub zeros_low : (bits : List ℕ) (count k : ℕ) →
+    (((n : ℕ) → n ≡ 0 → n ≡ 0) → bits ≡ replicate count 0) → get_or bits k 0 < 256
+zeros_low bits count k zeros = rw (zeros (λ n is. is), zeros-get count k) (omega arith)
+
+pub ruleset zeros = (whole_bytes, zeros_long, zeros_low)
+
 -- a table of no bits and no inserts is one
 pub empty_is_table : (seed log2_bits hashes : ℕ) → IsWord seed → IsLog2Bits log2_bits → IsHashes hashes →
     IsTable (empty_table seed log2_bits hashes)
-empty_is_table seed log2_bits hashes word is_log2 is_hashes =
-    let n = byte_count log2_bits in
-    let count : length (replicate {A = ℕ} n 0) ≡ n = length-replicate n 0 in
-    record {
-      seed = word;
-      log2_bits = is_log2;
-      hashes = is_hashes;
-      count = omega arith;
-      bits = ap (λ k. k * 8) count ∙ whole_bytes log2_bits (omega (arith, is_log2.0));
-      bytes = λ k. rw (zeros-get n k) (omega arith);
-    }
+empty_is_table seed log2_bits hashes word is_log2 is_hashes = record {
+  seed = word;
+  log2_bits = is_log2;
+  hashes = is_hashes;
+  count = omega arith;
+  bits = ap (λ k. k * 8) (length-replicate (byte_count log2_bits) 0)
+      ∙ whole_bytes log2_bits (omega (arith, is_log2.0));
+  bytes = λ k. zeros_low _ (byte_count log2_bits) k (λ _. refl);
+}
 
 -- the greater of two digits is 1 exactly if one of them is
 max_of_digits : (a b : ℕ) → a < 2 → b < 2 → (max a b ≡ 1) ↔ ((a ≡ 1) ⊎ (b ≡ 1))

@@ -1,18 +1,38 @@
--- Bytes that pass all steps of the reading are the form of a table.
-use Rattle.std.proofs.Common.{◌≡◌, ◌⊎◌, ℕ, ◌+◌, ◌-◌, ◌*◌, ◌<◌, ◌≤◌, List, [], ◌∷◌, ◌++◌, length, get_or, take, drop, refl, sym, ap, ◌∙◌, inl, inr, arith, length-drop, Fits, w8, zero, suc}
-use Rattle.std.specs.Prelude.{Contains, IfSome}
+-- The steps of the reading: bytes that pass them all are the form of a table.
+use Rattle.std.proofs.Common.{◌≡◌, ◌⊎◌, ℕ, ◌+◌, ◌-◌, ◌*◌, ◌<◌, ◌≤◌, List, [], ◌∷◌, ◌++◌, length, get_or, take, drop, refl, sym, ap, ◌∙◌, inl, inr, arith, length-drop, Fits, w8, w64, zero, suc, Result, Ok, Err, IsErrAnd, MatchResult, subst}
+use Rattle.std.specs.Prelude.{Contains, IfSome, Option, None, Some}
+use Rattle.std.specs.Int.{to_le_bytes}
 use Rattle.std.proofs.lemmas.List.{take-append-drop, drop-drop, get_or-drop}
 use Rattle.std.proofs.lemmas.List.Elements.{All-drop}
 use Rattle.datasketches.specs.Bytes.{AreBytes, le, eight}
 use Rattle.datasketches.specs.Words.{IsWord}
-use Rattle.datasketches.proofs.BytesLemmas.{bytes_known, low_bytes-take}
+use Rattle.datasketches.proofs.BytesLemmas.{bytes_known, low_bytes-take, to_le_bytes-is}
 use Rattle.sketch_member.specs.declared.fault.Fault.{Fault}
-use Rattle.sketch_member.specs.Faults.{AllPass, IsFirstFault, Step, bits_steps, header_length, kind_steps, number_steps, size_steps, steps}
-use Rattle.sketch_member.specs.Form.{IsForm}
+use Rattle.sketch_member.specs.Faults.{AllPass, IsFirstFault, Step, bits_steps, count_number, header_length, kind_steps, number_steps, size_steps, steps}
+use Rattle.sketch_member.specs.Form.{IsForm, flag_of, number_of}
 use Rattle.sketch_member.specs.Table.{Table, IsTable, byte_count}
-use Rattle.sketch_member.proofs.FaultLemmas.{fault-front, fault-later}
-use Rattle.sketch_member.proofs.LawLemmas.{Places, unknown_count}
-use Rattle.sketch_member.proofs.SizeLemmas.{whole_bytes}
+use Rattle.sketch_member.proofs.BitLemmas.{whole_bytes}
+
+-- a fault of the first steps is that of all; so is one of the others where the first pass
+pub fault-front : (count : ℕ) (front others : List Step) (fault : Fault) →
+    IsFirstFault count front fault → IsFirstFault count (front ++ others) fault
+fault-front count [] others fault first = absurd first
+fault-front count (step ∷ front) others fault first = elim first [
+  | inl here ↦ inl here
+  | inr later ↦ inr (later.0, fault-front count front others fault later.1)
+]
+
+pub fault-later : (count : ℕ) (front others : List Step) (fault : Fault) →
+    AllPass count front → IsFirstFault count others fault → IsFirstFault count (front ++ others) fault
+fault-later count [] others fault pass first = first
+fault-later count (step ∷ front) others fault pass first =
+    inr (pass.0, fault-later count front others fault pass.1 first)
+
+pub all_pass-append : (count : ℕ) (front others : List Step) →
+    AllPass count front → AllPass count others → AllPass count (front ++ others)
+all_pass-append count [] others pass more = more
+all_pass-append count (step ∷ front) others pass more =
+    (pass.0, all_pass-append count front others pass.1 more)
 
 -- one of the two numbers of a list
 either : (m n x : ℕ) → Contains (m ∷ n ∷ []) x → (x ≡ m) ⊎ (x ≡ n)
@@ -44,6 +64,20 @@ next_eight bytes place are there =
     sym (take-append-drop 8 (drop place bytes))
     ∙ ap (λ front. front ++ drop 8 (drop place bytes)) (sym back)
     ∙ ap (λ rest. eight (le (take 8 (drop place bytes))) ++ rest) (drop-drop 8 place bytes)
+
+-- a count of the flag 0
+pub unknown_count : (count : Option ℕ) → flag_of count ≡ 0 → count ≡ None
+unknown_count None e = refl
+unknown_count (Some n) e = cc
+
+-- a table by its bytes
+pub record Places (table : Table) (bytes : List ℕ) : Type 0 where
+  pub seed : table.seed ≡ le (take 8 (drop 8 bytes))
+  pub log2_bits : table.log2_bits ≡ get_or bytes 3 0
+  pub hashes : table.hashes ≡ get_or bytes 4 0
+  pub flag : flag_of table.count ≡ get_or bytes 5 0
+  pub number : number_of table.count ≡ count_number bytes
+  pub bits : table.bits ≡ drop (header_length bytes) bytes
 
 -- a table whose parts stand in bytes that pass the steps of the header has them for its form
 form_read : (table : Table) (bytes : List ℕ) → AreBytes bytes → Places table bytes →
@@ -151,3 +185,15 @@ bits_told bytes start need fault kind sizes numbers is_start is_need told =
     (byte_count (get_or bytes 3 0))) fault numbers (rw (is_start, is_need) at told))
 
 pub ruleset told = (kind_told, sizes_told, numbers_told, bits_told)
+
+-- the bytes of a word
+pub word_bytes : (n : ℕ) → to_le_bytes w64 n ≡ eight n
+word_bytes n = to_le_bytes-is w64 n
+
+pub ruleset in_bytes = (word_bytes)
+
+-- what holds of its error holds of an Err
+pub of_err : {X E : Type 0} (r : Result X E) (A : X → Type 0) (P : E → Type 0) (e : E) →
+    IsErrAnd r (λ x. x ≡ e) → P e → MatchResult r A P
+of_err (Ok x) A P e is holds = absurd is
+of_err (Err x) A P e is holds = subst P (sym is) holds

@@ -1,10 +1,10 @@
 -- The law of tables and their bytes.
-use Rattle.std.proofs.Common.{◌≡◌, ℕ, ◌+◌, ◌*◌, List, [], ◌∷◌, ◌++◌, length, length-append, get_or, take, drop, refl, sym, ap, subst, ◌∙◌, arith, inl, inr}
+use Rattle.std.proofs.Common.{◌≡◌, ℕ, ◌+◌, ◌*◌, List, [], ◌∷◌, ◌++◌, length, length-append, get_or, refl, sym, ap, subst, ◌∙◌, arith, inl, inr}
 use Rattle.std.specs.Prelude.{Contains, Option, None, Some, IfSome}
-use Rattle.datasketches.specs.Bytes.{le, eight}
+use Rattle.datasketches.specs.Bytes.{eight}
 use Rattle.datasketches.specs.Words.{IsWord}
 use Rattle.datasketches.proofs.BytesLemmas.{le-back}
-use Rattle.sketch_member.proofs.FaultLemmas.{all_pass-append}
+use Rattle.sketch_member.proofs.FormLemmas.{Places, all_pass-append, unknown_count}
 use Rattle.sketch_member.specs.Faults.{AllPass, IsFlag, bits_steps, count_number, header_length, kind_steps, number_steps, size_steps, steps, version_step, view_steps}
 use Rattle.sketch_member.specs.Form.{IsForm, flag_of, form, form1, form2, number_of}
 use Rattle.sketch_member.specs.Laws.{FormLaw}
@@ -14,14 +14,10 @@ number_word : (count : Option ℕ) → IfSome count IsWord → IsWord (number_of
 number_word None word = omega arith
 number_word (Some n) word = word
 
--- the flag of a count, and the count of the flag 0
+-- the flag of a count
 flag_is : (count : Option ℕ) → IsFlag 3 (flag_of count)
 flag_is None = inl refl
 flag_is (Some n) = inr (refl, refl)
-
-pub unknown_count : (count : Option ℕ) → flag_of count ≡ 0 → count ≡ None
-unknown_count None e = refl
-unknown_count (Some n) e = cc
 
 -- bytes pass in a version of these numbers
 form_passes : (version flag : ℕ) (number : List ℕ) (table : Table) → IsTable table →
@@ -77,15 +73,6 @@ pub same_table : (table other : Table) → table.seed ≡ other.seed → table.l
     table.hashes ≡ other.hashes → table.count ≡ other.count → table.bits ≡ other.bits → table ≡ other
 same_table table other e f g k m i =
     record { seed = e i; log2_bits = f i; hashes = g i; count = k i; bits = m i }
-
--- a table by its bytes
-pub record Places (table : Table) (bytes : List ℕ) : Type 0 where
-  pub seed : table.seed ≡ le (take 8 (drop 8 bytes))
-  pub log2_bits : table.log2_bits ≡ get_or bytes 3 0
-  pub hashes : table.hashes ≡ get_or bytes 4 0
-  pub flag : flag_of table.count ≡ get_or bytes 5 0
-  pub number : number_of table.count ≡ count_number bytes
-  pub bits : table.bits ≡ drop (header_length bytes) bytes
 
 places1 : (table : Table) → IsTable table → table.count ≡ None → Places table (form1 table)
 places1 table is unknown = record {

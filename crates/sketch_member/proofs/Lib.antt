@@ -1,10 +1,6 @@
 pub mod BitLemmas
-pub mod FaultLemmas
 pub mod FormLemmas
 pub mod InsertLemmas
 pub mod LawLemmas
 pub mod MergeLemmas
-pub mod SizeLemmas
 pub mod SizingLemmas
-pub mod TableLemmas
-pub mod WordLemmas

@@ -1,4 +1,4 @@
--- The law of merges.
+-- The law of merges, and the bytes of tables that are made in two ways.
 use Rattle.std.proofs.Common.{◌≡◌, ◌↔◌, ◌⊎◌, ℕ, ◌+◌, ◌-◌, ◌/◌, ◌%◌, ◌^◌, ◌<◌, List, [], ◌∷◌, ◌++◌, length, get_or, map, take, replicate, suc, refl, sym, ap, subst, ◌∙◌, arith, inl, inr, add-zero, zero-add, add_comm, suc-ne-zero}
 use Rattle.std.specs.Prelude.{Option, None, Some, IfSome, min}
 use Rattle.std.specs.Int.{bit_at}
@@ -7,14 +7,16 @@ use Rattle.std.proofs.lemmas.List.{append-nil, append_assoc, length-append, map-
 use Rattle.std.proofs.lemmas.List.Elements.{Contains-append_cases, Contains-append_left, Contains-append_right}
 use Rattle.std.proofs.lemmas.Nat.Bits.{bit_at-zero}
 use Rattle.datasketches.specs.Words.{IsWord}
-use Rattle.sketch_member.proofs.BitLemmas.{zeros-get}
+use Rattle.sketch_member.proofs.BitLemmas.{empty_is_table, zeros-get}
 use Rattle.sketch_member.proofs.InsertLemmas.{insert_law, same_index, same_table_bits}
 use Rattle.sketch_member.proofs.LawLemmas.{form_law, same_table}
 use Rattle.sketch_member.specs.Form.{form2}
-use Rattle.sketch_member.specs.Laws.{AreMadeOf, InsertsAll, IsMadeOf, MergeLaw, StandsFor, count_after}
+use Rattle.sketch_member.specs.Laws.{IsFormOfInserts, InsertsAll, IsMadeOf, MergeLaw, StandsFor, count_after}
 use Rattle.sketch_member.specs.declared.fault.Difference.{Difference}
+use Rattle.sketch_member.specs.Faults.{AllPass, view_steps}
 use Rattle.sketch_member.specs.declared.fault.Difference.TheVariants.{Seed, Log2Bits, Hashes}
 use Rattle.sketch_member.specs.Merge.{AreAlike, IsFirstDifference, Merges, sum_of_counts}
+use Rattle.sketch_member.specs.Sizing.{IsHashes, IsLog2Bits}
 use Rattle.sketch_member.specs.Table.{Table, IsTable, IsSet, IsIndex, IsMember, Inserts, byte_count, empty_table}
 
 -- ---- tables that are alike
@@ -105,7 +107,7 @@ counted before other after m n merges count count_other =
 -- ---- streams
 
 -- inserts leave the seed and the sizes
-pub all_alike : (values : List (List ℕ)) (before after : Table) → InsertsAll values before after →
+all_alike : (values : List (List ℕ)) (before after : Table) → InsertsAll values before after →
     AreAlike before after
 all_alike [] before after all = alike_if_same (sym all)
 all_alike (fed ∷ values) before after (next, inserts, rest) =
@@ -124,7 +126,7 @@ both_alike values others start table other all all_other =
     (all_alike others start other all_other)
 
 -- and differ in no part
-pub no_difference : (values others : List (List ℕ)) (start table other : Table) (part : Difference) →
+no_difference : (values others : List (List ℕ)) (start table other : Table) (part : Difference) →
     InsertsAll values start table → InsertsAll others start other → IsFirstDifference table other part → ⊥
 no_difference values others start table other part all all_other differ =
     refuted part differ (both_alike values others start table other all all_other)
@@ -135,7 +137,7 @@ no_difference values others start table other part all all_other differ =
     refuted Hashes differ alike = differ.2 alike.hashes
 
 -- inserts, and then others
-pub inserts_append : (values others : List (List ℕ)) (before next after : Table) →
+inserts_append : (values others : List (List ℕ)) (before next after : Table) →
     InsertsAll values before next → InsertsAll others next after →
     InsertsAll (values ++ others) before after
 inserts_append [] others before next after all rest =
@@ -143,41 +145,17 @@ inserts_append [] others before next after all rest =
 inserts_append (fed ∷ values) others before next after (one, inserts, all) rest =
     (one, inserts, inserts_append values others one next after all rest)
 
--- inserts into a table that is empty are inserts into the empty one
-pub from_empty : (seed log2_bits hashes : ℕ) (values : List (List ℕ)) (start table : Table) →
-    InsertsAll values start table → start ≡ empty_table seed log2_bits hashes →
-    InsertsAll values (empty_table seed log2_bits hashes) table
-from_empty seed log2_bits hashes values start table all is_empty =
-    subst (λ t. InsertsAll values t table) is_empty all
-
--- one table has one form
-pub same_bytes : (bytes others : List ℕ) (table other : Table) → table ≡ other →
-    bytes ≡ form2 table → others ≡ form2 other → bytes ≡ others
-same_bytes bytes others table other same is is_other = is ∙ ap form2 same ∙ sym is_other
-
 -- the inserts of the first i + 1 values of a list
-pub insert_next : {X : Type 0} (fed : X → List ℕ) (xs : List X) (i : ℕ) (default : X)
-    (before next after : Table) → i < length xs → InsertsAll (map fed (take i xs)) before next →
-    Inserts (fed (get_or xs i default)) next after → InsertsAll (map fed (take (i + 1) xs)) before after
-insert_next fed xs i default before next after within all inserts =
-    rw (take_more xs i default within, map-append fed (take i xs) (get_or xs i default ∷ []))
-    (inserts_append (map fed (take i xs)) (fed (get_or xs i default) ∷ []) before next after all
-    (after, inserts, refl))
-
--- so too where the table lies in bytes
-pub insert_next_in : {X : Type 0} (fed : X → List ℕ) (xs : List X) (i : ℕ) (default : X)
-    (start now before after : Table) (bytes : List ℕ) → i < length xs →
-    IsTable now → IsTable before → bytes ≡ form2 now → bytes ≡ form2 before →
-    InsertsAll (map fed (take i xs)) start now → Inserts (fed (get_or xs i default)) before after →
-    InsertsAll (map fed (take (i + 1) xs)) start after
-insert_next_in fed xs i default start now before after bytes within is is_before lies lies_before
-    all inserts =
-    let same = form_law.once before now bytes is_before is (inr lies_before) (inr lies) in
-    insert_next fed xs i default start now after within all
-    (subst (λ t. Inserts (fed (get_or xs i default)) t after) same inserts)
+pub insert_next : {X : Type 0} (fed : X → List ℕ) (xs : List X) (i : ℕ) (value : X)
+    (before next after : Table) → i < length xs → value ≡ get_or xs i value →
+    InsertsAll (map fed (take i xs)) before next → Inserts (fed value) next after →
+    InsertsAll (map fed (take (i + 1) xs)) before after
+insert_next fed xs i value before next after within is all inserts =
+    rw (take_more xs i value within, map-append fed (take i xs) (get_or xs i value ∷ []), ← is)
+    (inserts_append (map fed (take i xs)) (fed value ∷ []) before next after all (after, inserts, refl))
 
 -- inserts into an empty table make the table of their values
-pub made_of : (seed log2_bits hashes : ℕ) (values : List (List ℕ)) (table : Table) →
+made_of : (seed log2_bits hashes : ℕ) (values : List (List ℕ)) (table : Table) →
     InsertsAll values (empty_table seed log2_bits hashes) table → IsMadeOf values table
 made_of seed log2_bits hashes values table all =
     let alike = all_alike values (empty_table seed log2_bits hashes) table all in
@@ -240,28 +218,21 @@ streams before other after whole first second is_after is_whole alike merges mad
     same.seed same.log2_bits same.hashes stands all.0 (λ fed. ((λ is. is), (λ is. is)))).1 count
 
 -- made in two ways, by a merge and at once, it is the same
-pub made_both_ways : MergeLaw → (seed log2_bits hashes : ℕ) (first second : List (List ℕ))
+made_both_ways : (seed log2_bits hashes : ℕ) (first second : List (List ℕ))
     (one other after whole : Table) → InsertsAll first (empty_table seed log2_bits hashes) one →
     InsertsAll second (empty_table seed log2_bits hashes) other → Merges other one after →
     InsertsAll (first ++ second) (empty_table seed log2_bits hashes) whole →
     IsTable after → IsTable whole → after ≡ whole
-made_both_ways law seed log2_bits hashes first second one other after whole all all_other merges
+made_both_ways seed log2_bits hashes first second one other after whole all all_other merges
     all_whole is_after is_whole =
-    law.streams one other after whole first second is_after is_whole
+    streams one other after whole first second is_after is_whole
     (both_alike first (first ++ second) _ one whole all all_whole) merges
     (made_of seed log2_bits hashes first one all)
     (made_of seed log2_bits hashes second other all_other)
     (made_of seed log2_bits hashes (first ++ second) whole all_whole)
 
--- a table of inserts into an empty one is made of them, wherever its bytes lie
-pub whole_of : (seed log2_bits hashes : ℕ) (values : List (List ℕ)) (table : Table) (bytes : List ℕ) →
-    InsertsAll values (empty_table seed log2_bits hashes) table → bytes ≡ form2 table →
-    AreMadeOf seed log2_bits hashes values bytes
-whole_of seed log2_bits hashes values table bytes all is =
-    (table, all_alike values _ table all, made_of seed log2_bits hashes values table all, is)
-
 -- the inserts of the same values into an empty table make one table
-pub made_once : (seed log2_bits hashes : ℕ) (values : List (List ℕ)) (table other : Table) →
+made_once : (seed log2_bits hashes : ℕ) (values : List (List ℕ)) (table other : Table) →
     InsertsAll values (empty_table seed log2_bits hashes) table →
     InsertsAll values (empty_table seed log2_bits hashes) other →
     IsTable table → IsTable other → table ≡ other
@@ -271,6 +242,106 @@ made_once seed log2_bits hashes values table other all all_other is is_other =
     let same = both_alike values values _ table other all all_other in
     (insert_law.once table other values values is is_other same.seed same.log2_bits same.hashes
     one.0 two.0 (λ fed. ((λ is. is), (λ is. is)))).1 (one.1 ∙ sym two.1)
+
+-- ---- bytes of a table of inserts
+
+-- Some conclusions repeat a premise. `grind` applies a lemma where it sees a term of the conclusion,
+-- and what it sees here is that premise.
+
+-- they are those of an empty table at first
+pub form_of_none : (seed log2_bits hashes : ℕ) (bytes : List ℕ) → IsWord seed → IsLog2Bits log2_bits →
+    IsHashes hashes → bytes ≡ form2 (empty_table seed log2_bits hashes) →
+    IsFormOfInserts seed log2_bits hashes [] bytes
+unfolding IsFormOfInserts
+form_of_none seed log2_bits hashes bytes word is_log2 is_hashes is =
+    (empty_table seed log2_bits hashes, empty_is_table seed log2_bits hashes word is_log2 is_hashes, is, refl)
+
+-- then of one with one value more
+pub form_of_more : {X : Type 0} (fed : X → List ℕ) (xs : List X) (i : ℕ) (value : X)
+    (seed log2_bits hashes : ℕ) (bytes next : List ℕ) (before after : Table) → i < length xs →
+    value ≡ get_or xs i value → IsFormOfInserts seed log2_bits hashes (map fed (take i xs)) bytes →
+    Inserts (fed value) before after → IsTable before → IsTable after → bytes ≡ form2 before →
+    next ≡ form2 after → IsFormOfInserts seed log2_bits hashes (map fed (take (i + 1) xs)) next
+unfolding IsFormOfInserts
+form_of_more fed xs i value seed log2_bits hashes bytes next before after within item
+    (now, is_now, lies_now, all) inserts is_before is_after lies lies_next =
+    let same : before ≡ now = form_law.once before now bytes is_before is_now (inr lies) (inr lies_now) in (
+      after,
+      is_after,
+      lies_next,
+      insert_next fed xs i value _ now after within item all
+          (subst (λ t. Inserts (fed value) t after) same inserts),
+    )
+
+-- and are never refused
+pub form_accepted : (seed log2_bits hashes : ℕ) (values : List (List ℕ)) (bytes : List ℕ) →
+    IsFormOfInserts seed log2_bits hashes values bytes →
+    IsFormOfInserts seed log2_bits hashes values bytes × AllPass (length bytes) (view_steps bytes)
+unfolding IsFormOfInserts
+form_accepted seed log2_bits hashes values bytes (table, is, lies, all) =
+    ((table, is, lies, all), form_law.viewed table bytes is lies)
+
+pub ruleset one_value_more = (form_of_none, form_of_more, form_accepted)
+
+-- a table of inserts into an empty one has such bytes
+pub form_of_table : (seed log2_bits hashes : ℕ) (values : List (List ℕ)) (start table : Table)
+    (bytes : List ℕ) → InsertsAll values start table → IsTable table → bytes ≡ form2 table →
+    start ≡ empty_table seed log2_bits hashes → IsFormOfInserts seed log2_bits hashes values bytes
+unfolding IsFormOfInserts
+form_of_table seed log2_bits hashes values start table bytes all is lies is_empty =
+    (table, is, lies, subst (λ t. InsertsAll values t table) is_empty all)
+
+-- and there are no others
+pub only_form : (seed log2_bits hashes : ℕ) (values : List (List ℕ)) (bytes : List ℕ) (start table : Table) →
+    IsFormOfInserts seed log2_bits hashes values bytes → InsertsAll values start table →
+    IsTable table → start ≡ empty_table seed log2_bits hashes →
+    IsFormOfInserts seed log2_bits hashes values bytes × (bytes ≡ form2 table)
+unfolding IsFormOfInserts
+only_form seed log2_bits hashes values bytes start table (other, is_other, lies, alls) all is is_empty = (
+  (other, is_other, lies, alls),
+  lies ∙ ap form2 (made_once seed log2_bits hashes values other table alls
+      (subst (λ t. InsertsAll values t table) is_empty all) is_other is),
+)
+
+pub ruleset one_form = (form_of_table, only_form)
+
+-- so has a table of two streams
+pub form_of_streams : (seed log2_bits hashes : ℕ) (first second : List (List ℕ)) (start half whole : Table)
+    (bytes : List ℕ) → InsertsAll first start half → InsertsAll second half whole → IsTable whole →
+    bytes ≡ form2 whole → start ≡ empty_table seed log2_bits hashes →
+    IsFormOfInserts seed log2_bits hashes (first ++ second) bytes
+form_of_streams seed log2_bits hashes first second start half whole bytes all rest is lies is_empty =
+    form_of_table seed log2_bits hashes (first ++ second) start whole bytes
+    (inserts_append first second start half whole all rest) is lies is_empty
+
+-- which a merge makes too
+pub merge_of_streams : (first second : List (List ℕ)) (start start_other start_whole one other after half
+    whole : Table) → Merges other one after → InsertsAll first start one →
+    InsertsAll second start_other other → InsertsAll first start_whole half →
+    InsertsAll second half whole → IsTable after → IsTable whole → start_other ≡ start →
+    start_whole ≡ start → start ≡ empty_table start.seed start.log2_bits start.hashes →
+    Merges other one after × (after ≡ whole)
+merge_of_streams first second start start_other start_whole one other after half whole merges all all_other
+    all_half rest is_after is_whole same same_whole is_empty = (
+      merges,
+      made_both_ways start.seed start.log2_bits start.hashes first second one other after whole
+          (subst (λ t. InsertsAll first t one) is_empty all)
+          (subst (λ t. InsertsAll second t other) (same ∙ is_empty) all_other) merges
+          (subst (λ t. InsertsAll (first ++ second) t whole) (same_whole ∙ is_empty)
+          (inserts_append first second start_whole half whole all_half rest)) is_after is_whole,
+    )
+
+-- and is never refused
+pub merge_accepted : (first second : List (List ℕ)) (start start_other one other : Table) (part : Difference) →
+    IsFirstDifference one other part → InsertsAll first start one →
+    InsertsAll second start_other other → start_other ≡ start → IsFirstDifference one other part × ⊥
+merge_accepted first second start start_other one other part differ all all_other same = (
+  differ,
+  no_difference first second start one other part all
+      (subst (λ t. InsertsAll second t other) same all_other) differ,
+)
+
+pub ruleset both_ways = (form_of_streams, merge_of_streams, merge_accepted)
 
 -- ---- the order of merges
 

@@ -57,11 +57,11 @@ abbrev pub IsMadeOf : List (List ℕ) → Table → Type 0
 IsMadeOf values table =
     InsertsAll values (empty_table table.seed table.log2_bits table.hashes) table
 
--- the bytes are the table of this seed and these sizes that the inserts make of an empty one
-abbrev pub AreMadeOf : ℕ → ℕ → ℕ → List (List ℕ) → List ℕ → Type 0
-AreMadeOf seed log2_bits hashes values bytes =
-    (whole : Table) × AreAlike (empty_table seed log2_bits hashes) whole
-    × IsMadeOf values whole × (bytes ≡ form2 whole)
+-- the bytes are the table that these inserts make of the empty one of this seed and these sizes
+unfoldable pub IsFormOfInserts : ℕ → ℕ → ℕ → List (List ℕ) → List ℕ → Type 0
+IsFormOfInserts seed log2_bits hashes values bytes =
+    (table : Table) × IsTable table × (bytes ≡ form2 table)
+    × InsertsAll values (empty_table seed log2_bits hashes) table
 
 -- Of two tables of two streams of values, a merge makes the table of both streams, one after the
 -- other, bit for bit and count for count. A merged table stands for the values of both, contains

@@ -1,9 +1,6 @@
-pub mod Limits
+pub mod Sizing
 pub mod Table
-pub mod Filter
-pub mod Merge
 pub mod Form
 pub mod Faults
-pub mod InPlace
+pub mod Merge
 pub mod Laws
-pub mod Sizing

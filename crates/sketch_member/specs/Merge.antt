@@ -1,11 +1,15 @@
 -- Tables of one seed and sizes, and the table that two of them are together.
-use Rattle.std.specs.Prelude.{◌≡◌, ◌≢◌, ◌↔◌, ◌⊎◌, ℕ, ◌+◌, ◌-◌, ◌^◌, min, List, ◌++◌, codes, Option, None, Some}
+use Rattle.std.specs.Prelude.{◌≡◌, ◌≢◌, ◌↔◌, ◌⊎◌, ℕ, ◌+◌, ◌-◌, ◌^◌, min, List, ◌++◌, codes, length, Option, None, Some}
 use Rattle.datasketches.specs.declared.error.ErrorKind.TheVariants.{InvalidArgument}
 use Rattle.datasketches.specs.ErrorValue.{ErrorValue}
 use Rattle.datasketches.specs.Refusals.{Refuses}
 use Rattle.sketch_member.specs.declared.fault.Difference.{Difference}
 use Rattle.sketch_member.specs.declared.fault.Difference.TheVariants.{Seed, Log2Bits, Hashes}
-use Rattle.sketch_member.specs.Table.{Table, IsSet}
+use Rattle.sketch_member.specs.declared.fault.MergeFault.{MergeFault}
+use Rattle.sketch_member.specs.declared.fault.MergeFault.TheVariants.{Into, From, Unlike}
+use Rattle.sketch_member.specs.Faults.{IsFirstFault, fault_text, view_steps}
+use Rattle.sketch_member.specs.Form.{form2}
+use Rattle.sketch_member.specs.Table.{Table, IsTable, IsSet}
 
 -- the tables have one seed and the same sizes
 pub record AreAlike (table other : Table) : Type 0 where
@@ -49,3 +53,19 @@ pub record Merges (other before after : Table) : Type 0 where
   pub kept : AreAlike before after
   pub count : after.count ≡ sum_of_counts before.count other.count
   pub bits : (i : ℕ) → IsSet after.bits i ↔ (IsSet before.bits i ⊎ IsSet other.bits i)
+
+-- what is wrong with bytes of which one is to be merged into the other: the first fault of the one,
+-- and then of the other, and then the first part in which their tables differ
+abbrev pub IsMergeFault : List ℕ → List ℕ → MergeFault → Type 0
+IsMergeFault into from (Into fault) = IsFirstFault (length into) (view_steps into) fault
+IsMergeFault into from (From fault) = (table : Table) × IsTable table × (into ≡ form2 table)
+    × IsFirstFault (length from) (view_steps from) fault
+IsMergeFault into from (Unlike part) = (table : Table) × (other : Table)
+    × IsTable table × IsTable other × (into ≡ form2 table) × (from ≡ form2 other)
+    × IsFirstDifference table other part
+
+-- what a fault of a merge prints
+abbrev pub merge_fault_text : MergeFault → List ℕ
+merge_fault_text (Into fault) = codes "table merged into: " ++ fault_text fault
+merge_fault_text (From fault) = codes "table merged from: " ++ fault_text fault
+merge_fault_text (Unlike part) = tables_differ_text (part_name part)

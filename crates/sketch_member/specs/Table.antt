@@ -3,7 +3,8 @@ use Rattle.std.specs.Prelude.{◌≡◌, ℕ, ◌+◌, ◌-◌, ◌*◌, ◌/◌
 use Rattle.std.specs.Option.{option_map}
 use Rattle.datasketches.specs.Words.{IsWord, plus, digit}
 use Rattle.datasketches.specs.Xxh64.{xxh64}
-use Rattle.sketch_member.specs.Limits.{IsLog2Bits, IsHashes}
+use Rattle.sketch_member.specs.declared.filter.Filter.{Filter}
+use Rattle.sketch_member.specs.Sizing.{IsLog2Bits, IsHashes}
 
 -- a table: its seed, its sizes, how many inserts it counted where that is known, and its bits,
 -- packed into bytes
@@ -13,6 +14,16 @@ pub record Table : Type 0 where
   pub hashes : ℕ
   pub count : Option ℕ
   pub bits : List ℕ
+
+-- the table of a filter and its bits
+abbrev pub table_of : Filter → List ℕ → Table
+table_of filter bits = record {
+  seed = filter.seed;
+  log2_bits = filter.log2_bits;
+  hashes = filter.hashes;
+  count = filter.count;
+  bits = bits;
+}
 
 -- bit i is set: in byte i / 8 the binary digit that is worth 2 ^ (i % 8) is 1
 abbrev pub IsSet : List ℕ → ℕ → Type 0

@@ -3,8 +3,7 @@
 ghost use Rattle.std.specs.Prelude.{Some};
 ghost use Rattle.datasketches.specs.Refusals.{Refuses};
 ghost use Rattle.sketch_member.specs.Faults.{fault_text};
-ghost use Rattle.sketch_member.specs.InPlace.{merge_fault_text};
-ghost use Rattle.sketch_member.specs.Merge.{part_name};
+ghost use Rattle.sketch_member.specs.Merge.{merge_fault_text, part_name};
 
 use crate::format::MEMBER;
 use datasketches::error::{Error, ErrorKind};

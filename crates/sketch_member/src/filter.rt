@@ -4,10 +4,9 @@
 ghost use Rattle.std.specs.Prelude.{◌≡◌, ℕ, ◌<◌, ◌^◌, ◌↔◌, List, IfSome, IsTrue, MatchOption, MatchResult, Some};
 ghost use Rattle.datasketches.specs.Bytes.{eight};
 ghost use Rattle.sketch_member.specs.Faults.{IsFirstFault, new_steps};
-ghost use Rattle.sketch_member.specs.Filter.{table_of};
-ghost use Rattle.sketch_member.specs.Limits.{IsHashes, IsLog2Bits};
+ghost use Rattle.sketch_member.specs.Table.{table_of, Inserts, IsMember, IsTable, byte_count, index};
+ghost use Rattle.sketch_member.specs.Sizing.{IsHashes, IsLog2Bits};
 ghost use Rattle.sketch_member.specs.Merge.{AreAlike, IsFirstDifference, Merges};
-ghost use Rattle.sketch_member.specs.Table.{Inserts, IsMember, IsTable, byte_count, index};
 
 use crate::bits::{is_set, set, set_all};
 use crate::fault::{Difference, Fault};
@@ -137,7 +136,7 @@ impl Filter {
 
     // The value's index number `j`. A value that feeds the eight bytes of a number has that number
     // as its `word`.
-    #[tactic(auto, unfolding(crate::specs::Table::index), using(crate::proofs::WordLemmas::masked))]
+    #[tactic(auto, unfolding(crate::specs::Table::index), using(crate::proofs::BitLemmas::masked))]
     fn index<T: Hash>(&self, value: &T, word: Option<u64>, j: u8) -> usize
         requires word { IfSome word (λ n. T.fed value.now ≡ eight n) }
         requires size { IsLog2Bits self.now.log2_bits }

@@ -4,9 +4,8 @@ ghost use Rattle.std.specs.Prelude.{◌≡◌, ◌⊎◌, ◌+◌, ◌-◌, ◌<
 ghost use Rattle.datasketches.specs.Bytes.{eight, le};
 ghost use Rattle.datasketches.specs.Words.{IsWord};
 ghost use Rattle.sketch_member.specs.Faults.{AllPass, IsFirstFault, bits_steps, count_number, kind_steps, number_steps, size_steps, steps, view_steps};
-ghost use Rattle.sketch_member.specs.Filter.{table_of};
+ghost use Rattle.sketch_member.specs.Table.{table_of, IsTable};
 ghost use Rattle.sketch_member.specs.Form.{IsForm, flag_of, form2, number_of};
-ghost use Rattle.sketch_member.specs.Table.{IsTable};
 
 use crate::fault::Fault;
 use crate::filter::{Filter, byte_count, ensure_hashes, ensure_log2_bits};
@@ -194,7 +193,7 @@ fn long(bytes: &[u8], place: usize) -> Result<u64, Fault>
 
 // The bytes of a word, the lowest first.
 #[inline(always)]
-#[tactic(auto, using(crate::proofs::WordLemmas::in_bytes))]
+#[tactic(auto, using(crate::proofs::FormLemmas::in_bytes))]
 fn eight_bytes(word: u64) -> [u8; 8]
     ensures { result ≡ eight word }
 {

@@ -5,7 +5,7 @@ ghost use Rattle.datasketches.specs.ErrorValue.{memory_error};
 ghost use Rattle.sketch_member.specs.Faults.{FirstFault, IsNewError, IsStepsError, IsFirstFault, init_steps, steps};
 ghost use Rattle.sketch_member.specs.Form.{IsForm, form1, form2};
 ghost use Rattle.sketch_member.specs.Table.{IsMember, IsTable, Table, empty_table};
-ghost use Rattle.sketch_member.specs.Laws.{AreMadeOf, FormLaw, InsertLaw, InsertsAll, MergeLaw};
+ghost use Rattle.sketch_member.specs.Laws.{IsFormOfInserts, FormLaw, InsertLaw, InsertsAll, MergeLaw};
 
 pub use crate::table::table_law;
 use crate::{Fault, MemberTable, in_place};
@@ -14,18 +14,21 @@ use datasketches::hash::Hash;
 use std::alloc::Global;
 
 /// Bytes are the form of one table at most, and the checks accept the bytes of each table.
+#[tactic(auto, using(crate::proofs::LawLemmas::form_law))]
 pub fn form_law()
     ensures { FormLaw }
 {}
 
 /// Tables of one seed and the same sizes have the same bits if the same values were inserted, in
 /// any order, and are equal if their counts are too. A table contains each of its values.
+#[tactic(auto, using(crate::proofs::InsertLemmas::insert_law))]
 pub fn insert_law()
     ensures { InsertLaw }
 {}
 
 /// Merging the tables of two streams of values makes the table of both streams, one after the
 /// other. Several tables may be merged in any order.
+#[tactic(auto, using(crate::proofs::MergeLemmas::merge_law))]
 pub fn merge_law()
     ensures { MergeLaw }
 {}
@@ -71,6 +74,7 @@ pub fn read_upgraded(alloc: Global, bytes: &[u8]) -> Result<MemberTable, Error>
 /// # Errors
 ///
 /// As those of [`MemberTable::new`]; memory may run out in the writing too.
+#[tactic(auto, using(crate::proofs::MergeLemmas::both_ways))]
 pub fn merge_both<T: Hash>(
     alloc: Global,
     seed: u64,
@@ -80,11 +84,10 @@ pub fn merge_both<T: Hash>(
     second: &[T],
 ) -> Result<(Vec<u8>, Vec<u8>), Error>
     ensures same { IfOk result (λ both. both.0.items ≡ both.1.items) }
-    ensures whole { IfOk result (λ both. AreMadeOf seed log2_bits hashes
+    ensures whole { IfOk result (λ both. IsFormOfInserts seed log2_bits hashes
         (map T.fed first.now ++ map T.fed second.now) both.1.items) }
     ensures refused { IfErr result (IsNewError log2_bits hashes) }
 {
-    merge_law();
     let mut merged = MemberTable::new(alloc, seed, log2_bits, hashes)?;
     insert_all(&mut merged, first);
     let mut other = MemberTable::new(alloc, seed, log2_bits, hashes)?;
@@ -99,6 +102,7 @@ pub fn merge_both<T: Hash>(
 }
 
 // Inserts values, one after another.
+#[tactic(auto, using(crate::proofs::MergeLemmas::insert_next))]
 fn insert_all<T: Hash>(table: &mut MemberTable, values: &[T])
     ensures { InsertsAll (map T.fed values.now) table.old table.new }
 {
@@ -112,8 +116,9 @@ fn insert_all<T: Hash>(table: &mut MemberTable, values: &[T])
 ///
 /// # Errors
 ///
-/// As those of [`in_place::init`], all `InvalidArgument`; `bytes` are then unchanged. Memory may
-/// run out too: `OutOfMemory`, with no message. `bytes` are then the table, or unchanged.
+/// As those of [`in_place::init`], all `InvalidArgument`. Memory may run out too: `OutOfMemory`,
+/// with no message. `bytes` are then unchanged.
+#[tactic(auto, using(crate::proofs::MergeLemmas::one_form))]
 pub fn insert_both<T: Hash>(
     alloc: Global,
     bytes: &mut [u8],
@@ -124,24 +129,24 @@ pub fn insert_both<T: Hash>(
 ) -> Result<Vec<u8>, Error>
     ensures same { IfOk result (λ made. bytes.new ≡ made.items) }
     ensures whole { IfOk result (λ made.
-        AreMadeOf seed log2_bits hashes (map T.fed values.now) made.items) }
-    ensures refused { IfErr result (λ error. ((bytes.new ≡ bytes.old)
-        × FirstFault ErrorKind.InvalidArgument (length bytes.old)
-        (init_steps log2_bits hashes bytes.old) error)
-        ⊎ (error ≡ memory_error)) }
-    ensures left { IfErr result (λ _. (bytes.new ≡ bytes.old)
-        ⊎ AreMadeOf seed log2_bits hashes (map T.fed values.now) bytes.new) }
+        IsFormOfInserts seed log2_bits hashes (map T.fed values.now) made.items) }
+    ensures refused { IfErr result (λ error. (bytes.new ≡ bytes.old)
+        × (FirstFault ErrorKind.InvalidArgument (length bytes.old)
+        (init_steps log2_bits hashes bytes.old) error
+        ⊎ (error ≡ memory_error))) }
 {
-    if let Err(fault) = insert_all_in_place(bytes, seed, log2_bits, hashes, values) {
-        return Err(fault.into_error(alloc, ErrorKind::InvalidArgument));
-    }
     let mut table = MemberTable::new(alloc, seed, log2_bits, hashes)?;
     insert_all(&mut table, values);
     table_law(&table);
-    Ok(table.to_bytes(alloc)?)
+    let made = table.to_bytes(alloc)?;
+    match insert_all_in_place(bytes, seed, log2_bits, hashes, values) {
+        Ok(()) => Ok(made),
+        Err(fault) => Err(fault.into_error(alloc, ErrorKind::InvalidArgument)),
+    }
 }
 
 // Makes bytes a table, and inserts values, one after another.
+#[tactic(auto, using(crate::proofs::MergeLemmas::one_value_more))]
 fn insert_all_in_place<T: Hash>(
     bytes: &mut [u8],
     seed: u64,
@@ -150,8 +155,7 @@ fn insert_all_in_place<T: Hash>(
     values: &[T],
 ) -> Result<(), Fault>
     ensures { MatchResult result
-        (λ _. (made : Table) × IsTable made × (bytes.new ≡ form2 made)
-        × InsertsAll (map T.fed values.now) (empty_table seed log2_bits hashes) made)
+        (λ _. IsFormOfInserts seed log2_bits hashes (map T.fed values.now) bytes.new)
         (λ fault. (bytes.new ≡ bytes.old)
         × IsFirstFault (length bytes.old) (init_steps log2_bits hashes bytes.old) fault) }
 {

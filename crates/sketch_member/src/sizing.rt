@@ -1,8 +1,7 @@
 //! The sizes of a table for a number of keys.
 
 ghost use Rattle.std.specs.Prelude.{◌≡◌, ℕ, ◌^◌, ◌≤◌, ◌*◌, ◌-◌, IfSome, IsTrue};
-ghost use Rattle.sketch_member.specs.Limits.{IsHashes, IsLog2Bits};
-ghost use Rattle.sketch_member.specs.Sizing.{IsClearShare, IsAbove, StaysBelow};
+ghost use Rattle.sketch_member.specs.Sizing.{IsHashes, IsLog2Bits, IsClearShare, IsAbove, StaysBelow};
 
 /// A share of 1, in the parts that shares are counted in.
 const WHOLE: u64 = 1 << 31;
@@ -42,6 +41,7 @@ fn clear_once(log2_bits: u8) -> u64
 
 // The share of bits that are clear after so many were set, rounded down: by squares, from the
 // highest bit of `set` down.
+#[tactic(auto, using(crate::proofs::SizingLemmas::clear))]
 fn clear_share(log2_bits: u8, set: u64) -> u64
     requires { IsLog2Bits log2_bits }
     ensures below { IsClearShare (2 ^ log2_bits) set result }
@@ -61,9 +61,10 @@ fn clear_share(log2_bits: u8, set: u64) -> u64
 }
 
 // A share to a power, rounded up.
+#[tactic(auto, using(crate::proofs::SizingLemmas::powers))]
 fn raised(part: u64, times: u64) -> u64
     requires { part ≤ 2 ^ 31 }
-    ensures above { (p m : ℕ) → 2 ^ 31 * p ≤ part * m → IsAbove p m times result }
+    ensures above { IsAbove part times result }
     ensures share { result ≤ 2 ^ 31 }
 {
     let mut share = WHOLE;

@@ -3,10 +3,9 @@
 ghost use Rattle.std.specs.Prelude.{◌≡◌, ◌⊎◌, ℕ, ◌↔◌, length, IfOk, IsTrue, MatchResult};
 ghost use Rattle.sketch_member.specs.Faults.{IsNewError, IsStepsError, steps};
 ghost use Rattle.sketch_member.specs.Form.{IsForm, form2};
-ghost use Rattle.sketch_member.specs.Filter.{table_of};
-ghost use Rattle.sketch_member.specs.Limits.{IsHashes, IsLog2Bits};
+ghost use Rattle.sketch_member.specs.Table.{table_of, Table, IsTable, empty_table, Inserts, IsMember, IsSet};
+ghost use Rattle.sketch_member.specs.Sizing.{IsHashes, IsLog2Bits};
 ghost use Rattle.sketch_member.specs.Merge.{FirstDifference, Merges};
-ghost use Rattle.sketch_member.specs.Table.{Table, IsTable, empty_table, Inserts, IsMember, IsSet};
 
 use crate::fault::MergeFault;
 use crate::filter::{Filter, byte_count};
@@ -58,6 +57,7 @@ impl MemberTable {
     /// Where `log2_bits` is not 6 to 20, and then where `hashes` is not 1 to 16: `InvalidArgument`.
     /// Where memory runs out, for the bits or for the text of a refusal: `OutOfMemory`, with no
     /// message.
+    #[tactic(auto, using(crate::proofs::BitLemmas::zeros))]
     pub fn new(alloc: Global, seed: u64, log2_bits: u8, hashes: u8) -> Result<MemberTable, Error>
         ensures answer { MatchResult result
             (λ table. IsLog2Bits log2_bits × IsHashes hashes

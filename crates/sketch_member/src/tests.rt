@@ -1,10 +1,7 @@
 //! Tables in numbers that are known from elsewhere, printed texts, and refused requests for memory.
 
-mod fault;
 mod format;
 mod in_place;
-mod laws;
-mod sizing;
 mod table;
 
 use datasketches::error::{Error, ErrorKind};

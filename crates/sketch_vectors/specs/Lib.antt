@@ -1,2 +1,1 @@
 pub mod FirstBytes
-pub mod FirstBytesLemmas

@@ -1,8 +1,7 @@
 //! A lawful hasher that shows what it is fed.
 
 ghost use Rattle.std.specs.Prelude.{◌≡◌, ℕ, ◌≤◌, List, [], ◌∷◌, length, take};
-ghost use Rattle.sketch_vectors.specs.FirstBytes.{kept_after};
-ghost use Rattle.sketch_vectors.specs.FirstBytesLemmas.{kept_after-append, kept_after-empty};
+ghost use Rattle.sketch_vectors.specs.FirstBytes.{kept_after, kept_after-append, kept_after-empty};
 
 use datasketches::hash::Hasher;
 use std::marker::Model;
@@ -33,6 +32,7 @@ impl FirstBytes {
         }
     }
 
+    #[tactic(auto, using(crate::proofs::FirstBytesLemmas::kept))]
     fn keep(&mut self, byte: u8)
         ensures { self.new ≡ kept_after self.old (byte ∷ []) }
     {
@@ -55,6 +55,7 @@ impl Hasher for FirstBytes {
 
     ghost answer = { length };
 
+    #[tactic(auto, using(crate::proofs::FirstBytesLemmas::kept_more))]
     fn write(&mut self, bytes: &[u8]) {
         for byte in bytes {
             self.keep(*byte);

@@ -1,6 +1,6 @@
 use Rattle.std.proofs.Common.{inr, subst}
 use Rattle.sketch_member.specs.Table.{Inserts}
-use Rattle.sketch_member.proofs.FaultLemmas.{of_err}
+use Rattle.sketch_member.proofs.FormLemmas.{of_err}
 use Rattle.examples.proofs.seen.see_key_in.Goals as goal
 
 pub returns : goal.returns

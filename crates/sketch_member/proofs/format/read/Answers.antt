@@ -1,5 +1,5 @@
 use Rattle.std.proofs.Common.{arith}
-use Rattle.sketch_member.specs.Filter.{table_of}
+use Rattle.sketch_member.specs.Table.{table_of}
 use Rattle.sketch_member.proofs.FormLemmas.{table_read}
 use Rattle.sketch_member.proofs.format.read.Goals as goal
 

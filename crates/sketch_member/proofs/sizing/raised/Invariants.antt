@@ -1,9 +1,6 @@
-use Rattle.std.proofs.Common.{ℕ, ◌^◌, ◌≤◌, ◌*◌}
+use Rattle.std.proofs.Common.{◌^◌, ◌≤◌}
 use Rattle.sketch_member.specs.Sizing.{IsAbove}
 use Rattle.sketch_member.proofs.sizing.raised.Given as goal
 
 abbrev pub invariant-loop-turn : goal.invariant-loop-turn
-invariant-loop-turn l = record {
-  above : (p m : ℕ) → 2 ^ 31 * p ≤ l.part * m → IsAbove p m l.turn l.share;
-  share : l.share ≤ 2 ^ 31;
-}
+invariant-loop-turn l = record { above : IsAbove l.part l.turn l.share; share : l.share ≤ 2 ^ 31 }

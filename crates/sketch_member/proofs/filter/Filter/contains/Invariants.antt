@@ -1,5 +1,4 @@
-use Rattle.sketch_member.specs.Filter.{table_of}
-use Rattle.sketch_member.specs.Table.{IsMember}
+use Rattle.sketch_member.specs.Table.{table_of, IsMember}
 use Rattle.sketch_member.proofs.filter.Filter.contains.Given as goal
 
 abbrev pub invariant-loop-j : goal.invariant-loop-j

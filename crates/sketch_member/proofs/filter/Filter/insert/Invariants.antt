@@ -1,6 +1,5 @@
 use Rattle.std.proofs.Common.{◌↔◌, ◌⊎◌, ◌<◌, ℕ, get_or}
-use Rattle.sketch_member.specs.Filter.{table_of}
-use Rattle.sketch_member.specs.Table.{IsIndex, IsSet}
+use Rattle.sketch_member.specs.Table.{table_of, IsIndex, IsSet}
 use Rattle.sketch_member.proofs.filter.Filter.insert.Given as goal
 
 -- so far as the value has j indexes

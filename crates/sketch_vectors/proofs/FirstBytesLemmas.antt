@@ -1,0 +1,30 @@
+-- One byte more, kept where there is room.
+use Rattle.std.proofs.Common.{◌≡◌, ℕ, ◌<◌, ◌≤◌, ◌+◌, List, [], ◌∷◌, ◌++◌, length, take, set, get_or, ◌∙◌, ap, sym, arith}
+use Rattle.std.proofs.lemmas.List.{take_more, take_more_set, take_all, take-append-le, length-take-le, length_push}
+use Rattle.sketch_vectors.specs.FirstBytes.{kept_after, kept_after-append}
+
+-- a byte more, where there is room
+pub with_room : (xs : List ℕ) (n y : ℕ) → n < 64 → length xs ≡ 64 →
+    take (n + 1) (set xs n y) ≡ take 64 (take n xs ++ y ∷ [])
+with_room xs n y h long =
+    let kept = length-take-le n xs (omega arith) in
+    let more = length_push (take n xs) y in
+    take_more_set xs n y (omega arith) ∙ sym (take_all 64 (take n xs ++ y ∷ []) (omega arith))
+
+-- and where there is none
+pub without_room : (xs : List ℕ) (n y : ℕ) → n ≤ 64 → 64 ≤ n → length xs ≡ 64 →
+    take 64 (take n xs ++ y ∷ []) ≡ take n xs
+without_room xs n y h k long =
+    let kept = length-take-le n xs (omega arith) in
+    take-append-le 64 (take n xs) (y ∷ []) (omega arith) ∙ take_all 64 (take n xs) (omega arith)
+
+pub ruleset kept = (with_room, without_room)
+
+-- after the first i + 1 bytes of a write
+pub kept_more : (kept bytes now : List ℕ) (i : ℕ) → i < length bytes →
+    now ≡ kept_after kept (take i bytes) →
+    kept_after kept (take (i + 1) bytes) ≡ take 64 (now ++ get_or bytes i 0 ∷ [])
+kept_more kept bytes now i within is =
+    ap (kept_after kept) (take_more bytes i 0 within)
+    ∙ sym (kept_after-append kept (take i bytes) (get_or bytes i 0 ∷ []))
+    ∙ ap (λ h. kept_after h (get_or bytes i 0 ∷ [])) (sym is)
