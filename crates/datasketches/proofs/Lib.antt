@@ -2,7 +2,6 @@ pub mod AgreeLemmas
 pub mod MurmurLawLemmas
 pub mod Xxh64LawLemmas
 pub mod IntegerLemmas
-pub mod ExtendLemmas
 -- lemmas of the crates below, for the crates above
 pub use Rattle.sketch_base.proofs.BytesLemmas
 pub use Rattle.sketch_base.proofs.ItemLemmas

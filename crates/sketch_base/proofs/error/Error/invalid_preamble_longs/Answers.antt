@@ -1,7 +1,7 @@
 use Rattle.std.proofs.Common.{◌≡◌, ℕ, List, Option, Some, Result, IfOk, IfSome, codes, subst, rules}
 use Rattle.std.specs.Fmt.{decimal, debug_list, ◌++?◌}
 use Rattle.sketch_base.specs.Refusals.{list_text}
-use Rattle.sketch_base.proofs.RefusalLemmas.{debug_list-is}
+use Rattle.sketch_base.proofs.ErrorLemmas.{debug_list-is}
 use Rattle.sketch_base.proofs.error.Error.invalid_preamble_longs.Goals as goal
 
 abbrev with_list : Option (List ℕ) → ℕ → Option (List ℕ)
