@@ -9,6 +9,7 @@ use datasketches::hash::{Hash, Hasher, MurmurHash3X64128};
 use datasketches::laws;
 
 /// The Murmur pair of any value.
+#[tactic(auto, using(datasketches::proofs::CallerLemmas::murmur_of_one_write))]
 pub fn pair_of_value<T: Hash>(seed: u64, value: &T) -> (u64, u64)
     ensures { result ≡ murmur seed (T.fed value.now) }
 {

@@ -43,6 +43,6 @@ debug_items-is : (numbers : List ℕ) →
 debug_items-is [] = refl
 debug_items-is (first ∷ others) = rw (debug_items-is others) refl
 
-pub debug_list-is : (numbers : List ℕ) → debug_list (λ n. Some (decimal n)) numbers ≡ Some (list_text numbers)
-debug_list-is [] = refl
-debug_list-is (first ∷ others) = rw (debug_items-is others) (simp append_assoc)
+pub debug_list_is : (numbers : List ℕ) → debug_list (λ n. Some (decimal n)) numbers ≡ Some (list_text numbers)
+debug_list_is [] = refl
+debug_list_is (first ∷ others) = rw (debug_items-is others) (simp append_assoc)

@@ -34,11 +34,6 @@ unspell_all-push (first ∷ kinds) kind bytes =
     ∙ ap (λ rest. unspell_all kinds (drop (width first) bytes) ++ unspell kind (take (width kind) rest) ∷ [])
     (drop-drop (widths kinds) (width first) bytes))
 
-pub widths-take-le : (n : ℕ) (kinds : List Kind) → widths (take n kinds) ≤ widths kinds
-widths-take-le zero kinds = omega arith
-widths-take-le (suc n) [] = omega arith
-widths-take-le (suc n) (kind ∷ kinds) = omega (arith, widths-take-le n kinds)
-
 -- one kind more, and one item more
 pub widths-more : (kinds : List Kind) (i : ℕ) (kind : Kind) → i < length kinds →
     widths (take (i + 1) kinds) ≡ widths (take i kinds) + width (get_or kinds i kind)

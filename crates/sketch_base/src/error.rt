@@ -217,6 +217,7 @@ impl Error {
 
     /// A number of preamble longs is none of the expected ones. Kind `InvalidData`:
     /// `invalid preamble longs: expected one of [1, 2], got 3`.
+    #[tactic(auto, using(crate::proofs::ErrorLemmas::debug_list_is))]
     pub fn invalid_preamble_longs(alloc: Global, expected: &[u8], actual: u8) -> Error
         ensures { Refuses ErrorKind.InvalidData
             (invalid_preamble_longs_text expected.now actual) result }
