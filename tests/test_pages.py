@@ -76,7 +76,7 @@ def test_the_version_is_that_of_the_changelog(name):
 
 def test_families_of_the_page_are_those_of_the_code():
     rows = re.findall(r"^\| (\w+) \| (\d+) \| `(\w+)` \| (\d+) \| (\d+) \|$", text_of("docs/formats.md"), re.M)
-    fields = r"const (\w+): Family = family!\((\d+), \"(\w+)\", (\d+), (\d+)\);"
+    fields = r"const (\w+): Family = family!\((\d+), \"(\w+)\", (\d+)\.\.=(\d+)\);"
     assert rows == re.findall(fields, text_of("crates/sketch_base/src/codec/family.rt")) and len(rows) == 10
 
 

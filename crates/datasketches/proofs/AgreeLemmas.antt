@@ -1,7 +1,7 @@
 -- Lists of one length that agree outside a range: what is in front of it and what is behind it are the same.
 use Rattle.std.proofs.Common.{◌≡◌, ℕ, ◌+◌, ◌-◌, ◌<◌, ◌≤◌, inl, inr, List, ◌∷◌, ◌++◌, length, take, drop, get_or, min, sym, ap, ◌∙◌, arith, length-take, length-drop, append_assoc}
 use Rattle.std.proofs.lemmas.List.{same_lists, get_or-take, get_or-drop, drop-drop, drop_more, take-append-drop, take_all}
-use Rattle.datasketches.specs.Streams.{AgreeOutside}
+use Rattle.datasketches.specs.Laws.{AgreeOutside}
 
 pub agree-front : {X : Type 0} (low high : ℕ) (a b : List X) → length a ≡ length b →
     AgreeOutside low high a b → take low a ≡ take low b

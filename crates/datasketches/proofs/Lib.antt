@@ -2,9 +2,8 @@ pub mod AgreeLemmas
 pub mod MurmurLawLemmas
 pub mod Xxh64LawLemmas
 pub mod IntegerLemmas
-pub mod ExtendLemmas
+pub mod CallerLemmas
 -- lemmas of the crates below, for the crates above
 pub use Rattle.sketch_base.proofs.BytesLemmas
-pub use Rattle.sketch_base.proofs.ItemLemmas
 pub use Rattle.sketch_hash.proofs.MurmurLemmas
 pub use Rattle.sketch_hash.proofs.Xxh64Lemmas

@@ -1,5 +1,5 @@
 -- Murmur's pairs do not collide where one block alone differs, or the seed alone.
-use Rattle.std.proofs.Common.{◌≡◌, ◌≢◌, inl, inr, ℕ, ◌+◌, ◌*◌, ◌%◌, ◌^◌, ◌<◌, ◌≤◌, List, [], ◌∷◌, ◌++◌, length, take, drop, map, refl, sym, ap, ◌∙◌, arith, length-append, length-drop}
+use Rattle.std.proofs.Common.{◌≡◌, ◌≢◌, inl, inr, ℕ, ◌+◌, ◌*◌, ◌/◌, ◌%◌, ◌^◌, ◌<◌, ◌≤◌, List, [], ◌∷◌, ◌++◌, length, take, drop, map, refl, sym, ap, ◌∙◌, arith, length-append, length-drop}
 use Rattle.std.specs.List.{fold}
 use Rattle.std.proofs.lemmas.Nat.{mod_below}
 use Rattle.std.proofs.lemmas.Bool.{cases_lt}
@@ -13,8 +13,7 @@ use Rattle.sketch_hash.specs.Pieces.{pieces}
 use Rattle.sketch_hash.specs.Murmur.{step, block_words, blocks, tail, with_tail, finalize, murmur}
 use Rattle.sketch_hash.specs.Laws.{AreWords, IsBlock, PieceLaws, MurmurStepLaws}
 use Rattle.sketch_hash.proofs.OneToOneLemmas.{◌▸◌, alike}
-use Rattle.datasketches.specs.Streams.{AgreeOutside, DifferInOneBlock}
-use Rattle.datasketches.specs.Laws.{MurmurBlockLaw, MurmurSeedLaw}
+use Rattle.datasketches.specs.Laws.{AgreeOutside, DifferInOneBlock, MurmurSeedLaw}
 use Rattle.datasketches.proofs.AgreeLemmas.{agree-front, agree-back, agree-beyond, three_parts}
 
 length_word : (n : ℕ) → IsWord (n % 2 ^ 64)
@@ -80,12 +79,18 @@ pair_after-more ps ms seed i before block e f =
 
 -- ---- a block that is full, and a block that is cut off
 
-pub murmur_block_law : PieceLaws → MurmurStepLaws → MurmurBlockLaw
-murmur_block_law ps ms seed i before after p h k e =
+-- behind bytes that are whole blocks
+pub murmur_block_law : PieceLaws → MurmurStepLaws → (seed : ℕ) (before after : List ℕ) →
+    IsWord seed → AreBytes before → AreBytes after → length before % 16 ≡ 0 →
+    OneToOne IsBlock AreWords (λ block. murmur seed (before ++ block ++ after))
+murmur_block_law ps ms seed before after p h k e =
     alike (λ block. murmur seed (before ++ block ++ after)) same_hash
     (ms.block_read ▸ ms.step_of_block start (pair_after-lands ps ms seed before p h)
     ▸ onward-once ps ms after n k)
   where
+    i : ℕ
+    i = length before / 16
+
     n : ℕ
     n = length before + 16 + length after
 
@@ -95,11 +100,12 @@ murmur_block_law ps ms seed i before after p h k e =
     same_hash : (block : List ℕ) → IsBlock block →
         murmur seed (before ++ block ++ after) ≡ onward after n (step start (block_words block))
     same_hash block b =
+        let whole : length before ≡ 16 * i = omega arith in
         let size : length (before ++ block) ≡ length before + 16 =
         length-append before block ∙ ap (λ n. length before + n) b.1 in
-        murmur-aligned ps ms seed (i + 1) (before ++ block) after (size ∙ omega arith)
+        murmur-aligned ps ms seed (i + 1) (before ++ block) after (omega arith)
         ∙ ap (λ n. onward after (n + length after) (pair_after seed (before ++ block))) size
-        ∙ ap (onward after n) (pair_after-more ps ms seed i before block e b.1)
+        ∙ ap (onward after n) (pair_after-more ps ms seed i before block whole b.1)
 
 pub murmur_seed_law : MurmurStepLaws → MurmurSeedLaw
 murmur_seed_law ms = ms.steps_of_pair
@@ -166,8 +172,9 @@ same_full_block ps ms seed i a b s full =
     ap (λ t. t ++ block_b ++ after) (agree-front low (low + 16) a b s.one_length s.agree)
     ∙ ap (λ t. take low b ++ block_b ++ t) (agree-back low (low + 16) a b s.one_length s.agree)
     ∙ three_parts low 16 b in
-    let law = murmur_block_law ps ms seed i before after s.seed_is (All-take IsByte low a s.a_are)
-    (All-drop IsByte (low + 16) a s.a_are) (length-take-le low a (omega arith)) in
+    let begun : length before ≡ low = length-take-le low a (omega arith) in
+    let law = murmur_block_law ps ms seed before after s.seed_is (All-take IsByte low a s.a_are)
+    (All-drop IsByte (low + 16) a s.a_are) (omega arith) in
     let b_full : low + 16 ≤ length b = rw (sym s.one_length) full in
     let same = law.once block_a block_b (middle a s.a_are full) (middle b s.b_are b_full)
     (ap (murmur seed) in_a ∙ s.one_hash ∙ sym (ap (murmur seed) in_b)) in

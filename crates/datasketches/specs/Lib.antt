@@ -1,16 +1,12 @@
-pub mod Streams
 pub mod Laws
 pub mod Strategies
 -- what the public contracts of the crates below speak of, for the crates above
 pub use Rattle.sketch_base.specs.Bytes
 pub use Rattle.sketch_base.specs.Checks
+pub use Rattle.sketch_base.specs.Codec
 pub use Rattle.sketch_base.specs.ErrorValue
-pub use Rattle.sketch_base.specs.ItemLaws
 pub use Rattle.sketch_base.specs.Items
-pub use Rattle.sketch_base.specs.Reading
 pub use Rattle.sketch_base.specs.Refusals
-pub use Rattle.sketch_base.specs.WriterValue
-pub use Rattle.sketch_base.specs.Writing
 pub use Rattle.sketch_hash.specs.Columns
 pub use Rattle.sketch_hash.specs.Held
 pub use Rattle.sketch_hash.specs.Murmur

@@ -5,10 +5,9 @@
 //! of each is a fact about the definitions.
 
 ghost use Rattle.std.specs.Prelude.{◌≡◌, ◌≢◌, ◌<◌, length};
-ghost use Rattle.datasketches.specs.Laws.{HashU64Law, IntegerLaw, ModuloLaw, MurmurBlockLaw, MurmurSeedLaw, XxSeedLaw, XxTailLaw};
+ghost use Rattle.datasketches.specs.Laws.{DifferInOneBlock, DifferInOneTailStep, HashU64Law, IntegerLaw, ModuloLaw, MurmurBlockLaw, MurmurSeedLaw, XxSeedLaw, XxTailLaw};
 ghost use Rattle.datasketches.specs.Strategies.{ExtendLaw};
-ghost use Rattle.datasketches.specs.Streams.{DifferInOneBlock, DifferInOneTailStep};
-ghost use Rattle.sketch_base.specs.ItemLaws.{ItemLaw};
+ghost use Rattle.sketch_base.specs.Items.{ItemLaw};
 ghost use Rattle.sketch_hash.specs.Murmur.{murmur};
 ghost use Rattle.sketch_hash.specs.Xxh64.{xxh64};
 
@@ -20,6 +19,7 @@ use sketch_hash::laws::{murmur_step_laws, piece_laws, xxh64_step_laws};
 /// Under one seed, two streams of one length that differ in one aligned block of sixteen bytes only
 /// have different pairs; the block may be cut off at their end. One stream under two seeds has
 /// different pairs too.
+#[tactic(auto, using(crate::proofs::MurmurLawLemmas::murmur_one_block, crate::proofs::MurmurLawLemmas::murmur_two_seeds, sketch_base::proofs::BytesLemmas::bytes_known))]
 pub fn murmur_both(seed_a: u64, a: &[u8], seed_b: u64, b: &[u8]) -> ((u64, u64), (u64, u64))
     ensures values { result ≡ (murmur seed_a a.now, murmur seed_b b.now) }
     ensures one_block { seed_a ≡ seed_b → DifferInOneBlock a.now b.now → result.0 ≢ result.1 }
@@ -35,6 +35,7 @@ pub fn murmur_both(seed_a: u64, a: &[u8], seed_b: u64, b: &[u8]) -> ((u64, u64),
 
 /// With the seed, the length and all other bytes fixed, the Murmur pair of a stream takes every
 /// pair of words exactly once over all sixteen bytes of a full aligned block.
+#[tactic(auto, using(crate::proofs::MurmurLawLemmas::murmur_block_law))]
 pub fn murmur_block_law()
     ensures { MurmurBlockLaw }
 {
@@ -43,6 +44,7 @@ pub fn murmur_block_law()
 }
 
 /// The full blocks of a stream map the pairs of words onto all pairs of words, each exactly once.
+#[tactic(auto, using(crate::proofs::MurmurLawLemmas::murmur_seed_law))]
 pub fn murmur_seed_law()
     ensures { MurmurSeedLaw }
 {
@@ -56,6 +58,7 @@ pub fn murmur_seed_law()
 /// stripe; its steps are words of eight bytes while eight are left, then a word of four where four
 /// are left, then single bytes. One stream of fewer than 32 bytes has different hashes under two
 /// seeds.
+#[tactic(auto, using(sketch_base::proofs::BytesLemmas::bytes_known))]
 pub fn xx_both(seed_a: u64, a: &[u8], seed_b: u64, b: &[u8]) -> (u64, u64)
     ensures values { result ≡ (xxh64 seed_a a.now, xxh64 seed_b b.now) }
     ensures one_tail_step { seed_a ≡ seed_b → DifferInOneTailStep a.now b.now →
@@ -69,6 +72,7 @@ pub fn xx_both(seed_a: u64, a: &[u8], seed_b: u64, b: &[u8]) -> (u64, u64)
 
 /// Under one seed, two streams of one length with the same full stripes of 32 bytes, whose tails
 /// differ in exactly one step (see [`xx_both`]), have different XXH64 hashes.
+#[tactic(auto, using(crate::proofs::Xxh64LawLemmas::xx_tail_law))]
 pub fn xx_tail_law()
     ensures { XxTailLaw }
 {
@@ -77,6 +81,7 @@ pub fn xx_tail_law()
 }
 
 /// A stream of fewer than 32 bytes has different XXH64 hashes under different seeds.
+#[tactic(auto, using(crate::proofs::Xxh64LawLemmas::xx_seed_law))]
 pub fn xx_seed_law()
     ensures { XxSeedLaw }
 {
@@ -87,6 +92,7 @@ pub fn xx_seed_law()
 /// Whole numbers from -2^31 to 2^32 - 1, each written alone as eight bytes after one seed, have
 /// equal Murmur pairs exactly if they are equal, and equal XXH64 hashes exactly if they are equal.
 /// Any two whole numbers have equal hashes exactly if they agree modulo 2^64.
+#[tactic(auto, using(crate::proofs::IntegerLemmas::murmur_integers, crate::proofs::IntegerLemmas::xxh64_integers, crate::proofs::IntegerLemmas::murmur_modulo, crate::proofs::IntegerLemmas::xxh64_modulo))]
 pub fn integer_law()
     ensures murmur { IntegerLaw murmur }
     ensures xxh64 { IntegerLaw xxh64 }
@@ -99,6 +105,7 @@ pub fn integer_law()
 }
 
 /// For each seed, `hash_u64` of all 64-bit numbers takes each 64-bit number exactly once.
+#[tactic(auto, using(crate::proofs::Xxh64LawLemmas::hash_u64_law))]
 pub fn hash_u64_law()
     ensures { HashU64Law }
 {
@@ -111,14 +118,14 @@ pub fn hash_u64_law()
 /// They feed the same for every signed integer and every one of 64 bits, and for an unsigned one of
 /// up to 32 bits exactly if its top bit is clear. Under `SignExtendStrategy` a signed and an
 /// unsigned integer of w bits feed the same exactly if they agree modulo 2^w.
+#[tactic(auto, using(crate::proofs::IntegerLemmas::extend_law))]
 pub fn extend_law()
     ensures { ExtendLaw }
-{
-    piece_laws();
-}
+{}
 
 /// An item has one form in bytes, and so has a list of items of known kinds. A list is read back
 /// from its bytes, whatever follows them, and what follows remains.
+#[tactic(auto, using(sketch_base::proofs::ItemLawLemmas::item_law))]
 pub fn items_law()
     ensures { ItemLaw }
 {}

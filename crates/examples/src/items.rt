@@ -14,6 +14,7 @@ use std::alloc::{AllocError, Global};
 /// # Errors
 ///
 /// If memory runs out.
+#[tactic(auto, using(datasketches::proofs::CallerLemmas::items_fit))]
 pub fn there_and_back(
     alloc: Global,
     items: &[Item],

@@ -1,14 +1,17 @@
-//! Hashes of keys, and keys that are known by their hashes.
+//! Hashes of keys, one by one or in a column, and keys that are known by their hashes.
 
 ghost use Rattle.std.specs.Prelude.{◌≡◌, ◌↔◌, IsTrue};
+ghost use Rattle.datasketches.specs.Columns.{HashesEach};
 ghost use Rattle.datasketches.specs.Murmur.{murmur};
 ghost use Rattle.datasketches.specs.Values.{integer_bytes};
+ghost use Rattle.datasketches.specs.Xxh64.{xxh64};
 
 use datasketches::hash::value::sign_extend;
-use datasketches::hash::{Hash, Hasher, MurmurHash3X64128};
+use datasketches::hash::{Hash, Hasher, MurmurHash3X64128, XxHash64};
 use datasketches::laws;
 
 /// The Murmur pair of any value.
+#[tactic(auto, using(datasketches::proofs::CallerLemmas::murmur_of_one_write))]
 pub fn pair_of_value<T: Hash>(seed: u64, value: &T) -> (u64, u64)
     ensures { result ≡ murmur seed (T.fed value.now) }
 {
@@ -30,4 +33,15 @@ pub fn is_same_key(seed: u64, x: i32, y: i32) -> bool
 {
     laws::integer_law();
     pair_of(seed, x) == pair_of(seed, y)
+}
+
+/// The XXH64 of each text of a column: text `i` is the bytes from offset `i` up to the next one.
+///
+/// # Errors
+///
+/// The index of the first offset that does not fit; then nothing is written.
+pub fn hash_texts(texts: &[u8], offsets: &[u64], out: &mut [u64]) -> Result<(), usize>
+    ensures { HashesEach (xxh64 9001) texts.now offsets.now out.old out.new result }
+{
+    XxHash64::hash_each(texts, offsets, 9001, out)
 }

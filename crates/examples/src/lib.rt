@@ -1,7 +1,6 @@
 //! Callers of the library, each proved from its public contracts alone, to be copied and changed.
 #![tactic(auto)]
 
-pub mod columns;
 pub mod items;
 pub mod keys;
 pub mod own;

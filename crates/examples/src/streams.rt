@@ -11,6 +11,7 @@ use datasketches::hash::value::raw_bytes::RawBytes;
 use datasketches::hash::{Hasher, MurmurHash3X64128, XxHash64, XxHash64State};
 
 /// The Murmur pair of a stream that comes in pieces.
+#[tactic(auto, using(datasketches::proofs::CallerLemmas::murmur_of_one_write))]
 pub fn murmur_of_pieces(seed: u64, pieces: &[RawBytes<&[u8]>]) -> (u64, u64)
     ensures { result ≡ murmur seed (flat_map (λ piece. piece.now) pieces.now) }
 {

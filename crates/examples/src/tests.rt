@@ -1,6 +1,5 @@
-use crate::columns::hash_texts;
 use crate::items::there_and_back;
-use crate::keys::{is_same_key, pair_of, pair_of_value};
+use crate::keys::{hash_texts, is_same_key, pair_of, pair_of_value};
 use crate::own::{BigEndian, Point};
 use crate::seen::{load_keys, merge_worker, see_key, see_key_in};
 use crate::sketch::{check_preamble, write_preamble};

@@ -12,8 +12,7 @@ use Rattle.sketch_base.specs.declared.codec.item.Item.{Item}
 use Rattle.sketch_base.specs.declared.codec.item.Item.TheVariants as item
 use Rattle.sketch_base.specs.declared.codec.item.Kind.{Kind}
 use Rattle.sketch_base.specs.declared.codec.item.Kind.TheVariants as kind
-use Rattle.sketch_base.specs.Items.{InType, item_kind, width, widths, spell, spell_all, unspell, unspell_all}
-use Rattle.sketch_base.specs.ItemLaws.{Spells, ItemLaw}
+use Rattle.sketch_base.specs.Items.{InType, item_kind, width, widths, spell, spell_all, unspell, unspell_all, Spells, ItemLaw}
 use Rattle.std.proofs.Math.Seq.{take-append_seam, drop-append_seam}
 use Rattle.sketch_base.specs.Bytes.{AreBytes, le, be, low_bytes, twos_complement, modulo}
 use Rattle.sketch_base.proofs.BytesLemmas.{low_bytes-are, le-back, le-again, le-lt, length-low_bytes, IsByte}

@@ -1,5 +1,5 @@
 -- Items one after another: what one more item does to widths, bytes and places.
-use Rattle.std.proofs.Common.{◌≡◌, ℕ, zero, suc, ◌+◌, ◌<◌, ◌≤◌, List, [], ◌∷◌, ◌++◌, length, take, drop, get_or, set, refl, ap, sym, ◌∙◌, arith, add-one, append_assoc, append-nil, length-drop}
+use Rattle.std.proofs.Common.{◌≡◌, ℕ, suc, ◌+◌, ◌<◌, List, [], ◌∷◌, ◌++◌, length, take, drop, get_or, set, refl, ap, sym, ◌∙◌, arith, add-one, append_assoc, append-nil, length-drop}
 use Rattle.std.proofs.lemmas.List.Elements.{All-more}
 use Rattle.std.specs.List.{All}
 use Rattle.std.proofs.lemmas.List.{drop-drop, take_more, length-take-le}
@@ -33,11 +33,6 @@ unspell_all-push (first ∷ kinds) kind bytes =
     (unspell_all-push kinds kind (drop (width first) bytes)
     ∙ ap (λ rest. unspell_all kinds (drop (width first) bytes) ++ unspell kind (take (width kind) rest) ∷ [])
     (drop-drop (widths kinds) (width first) bytes))
-
-pub widths-take-le : (n : ℕ) (kinds : List Kind) → widths (take n kinds) ≤ widths kinds
-widths-take-le zero kinds = omega arith
-widths-take-le (suc n) [] = omega arith
-widths-take-le (suc n) (kind ∷ kinds) = omega (arith, widths-take-le n kinds)
 
 -- one kind more, and one item more
 pub widths-more : (kinds : List Kind) (i : ℕ) (kind : Kind) → i < length kinds →

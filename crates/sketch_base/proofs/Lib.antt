@@ -1,5 +1,4 @@
 pub mod BytesLemmas
+pub mod ErrorLemmas
 pub mod ItemLawLemmas
 pub mod ItemLemmas
-pub mod LineLemmas
-pub mod RefusalLemmas

@@ -1,11 +1,12 @@
--- How items stand in bytes.
-use Rattle.std.specs.Prelude.{ℕ, ◌+◌, ◌^◌, ◌<◌, FitsSigned, List, [], ◌∷◌, ◌++◌, take, drop, reverse}
+-- How items stand in bytes, and the law of items and their bytes.
+use Rattle.std.specs.Prelude.{◌≡◌, ℕ, ◌+◌, ◌^◌, ◌<◌, FitsSigned, List, [], ◌∷◌, ◌++◌, length, take, drop, map, reverse}
 use Rattle.std.specs.Int.{w8, w16, w32, w64}
+use Rattle.std.specs.List.{All}
 use Rattle.sketch_base.specs.declared.codec.item.Item.{Item}
 use Rattle.sketch_base.specs.declared.codec.item.Kind.{Kind}
 use Rattle.sketch_base.specs.declared.codec.item.Item.TheVariants as item
 use Rattle.sketch_base.specs.declared.codec.item.Kind.TheVariants as kind
-use Rattle.sketch_base.specs.Bytes.{le, be, low_bytes, twos_complement, modulo}
+use Rattle.sketch_base.specs.Bytes.{AreBytes, le, be, low_bytes, twos_complement, modulo}
 
 -- the kind of an item
 abbrev pub item_kind : Item → Kind
@@ -107,3 +108,24 @@ unspell_all (k ∷ kinds) bytes =
 abbrev pub spell_all : List Item → List ℕ
 spell_all [] = []
 spell_all (i ∷ items) = spell i ++ spell_all items
+
+-- These bytes hold the item: there are as many as its kind has, and read as that kind they give
+-- the item.
+pub record Spells (bytes : List ℕ) (i : Item) : Type 0 where
+  pub are_bytes : AreBytes bytes
+  pub count : length bytes ≡ width (item_kind i)
+  pub item : unspell (item_kind i) bytes ≡ i
+
+-- An item has one form in bytes, and so has a list of items of known kinds, as long as these say. A
+-- list is read back from its bytes, whatever follows them, and what follows remains.
+pub record ItemLaw : Type 0 where
+  pub spell_holds : (i : Item) → InType i → Spells (spell i) i
+  pub spell_only : (i : Item) (bytes : List ℕ) → InType i → Spells bytes i → bytes ≡ spell i
+  pub once : (xs ys : List Item) → All InType xs → All InType ys →
+      map item_kind xs ≡ map item_kind ys → spell_all xs ≡ spell_all ys → xs ≡ ys
+  pub count : (items : List Item) → All InType items →
+      length (spell_all items) ≡ widths (map item_kind items)
+  pub read_back : (items : List Item) (behind : List ℕ) → All InType items →
+      unspell_all (map item_kind items) (spell_all items ++ behind) ≡ items
+  pub leave_rest : (items : List Item) (behind : List ℕ) → All InType items →
+      drop (widths (map item_kind items)) (spell_all items ++ behind) ≡ behind

@@ -1,9 +1,6 @@
 pub mod Bytes
 pub mod Checks
+pub mod Codec
 pub mod ErrorValue
-pub mod ItemLaws
 pub mod Items
-pub mod Reading
 pub mod Refusals
-pub mod WriterValue
-pub mod Writing

@@ -75,25 +75,16 @@ impl Model for Error {
 
 impl Error {
     ghost use Rattle.sketch_base.specs.ErrorValue.{add_context, error_of, memory_error};
-    ghost use Rattle.sketch_base.specs.Refusals.{
-      insufficient_data_text,
-      insufficient_data_of_text,
-      invalid_family_text,
-      invalid_preamble_ints_text,
-      invalid_preamble_longs_text,
-      Prints,
-      Refuses,
-    };
+    ghost use Rattle.sketch_base.specs.Refusals.{insufficient_data_text, insufficient_data_of_text, invalid_family_text, invalid_preamble_ints_text, invalid_preamble_longs_text, Prints, Refuses};
 
     /// An error with this kind and message, and no context. Takes no memory.
     pub fn new(kind: ErrorKind, message: String) -> Error
         ensures { result ≡ error_of kind (string_bytes message) }
     {
-        let context = Vec::new(*message.allocator());
         Error {
             kind,
+            context: Some(Vec::new(*message.allocator())),
             message: Some(message),
-            context: Some(context),
         }
     }
 
@@ -108,10 +99,7 @@ impl Error {
     pub fn message(&self) -> &str
         ensures { result.now ≡ self.now.message }
     {
-        match &self.message {
-            Some(message) => message.as_str(),
-            None => "",
-        }
+        self.message.as_deref().unwrap_or("")
     }
 
     // The contexts, in the order in which they were added.
@@ -119,10 +107,7 @@ impl Error {
         ensures { map (λ c. record { key = c.0.now; text = string_bytes c.1 }) result.now
             ≡ self.now.contexts }
     {
-        match &self.context {
-            Some(contexts) => contexts.as_slice(),
-            None => &[],
-        }
+        self.context.as_deref().unwrap_or(&[])
     }
 
     /// Adds a context, the key and what the value prints, after those that the error has.
@@ -232,6 +217,7 @@ impl Error {
 
     /// A number of preamble longs is none of the expected ones. Kind `InvalidData`:
     /// `invalid preamble longs: expected one of [1, 2], got 3`.
+    #[tactic(auto, using(crate::proofs::ErrorLemmas::debug_list_is))]
     pub fn invalid_preamble_longs(alloc: Global, expected: &[u8], actual: u8) -> Error
         ensures { Refuses ErrorKind.InvalidData
             (invalid_preamble_longs_text expected.now actual) result }

@@ -2,7 +2,7 @@
 
 ghost use Rattle.std.specs.Prelude.{◌≡◌, ◌++◌, OnOk, OnErr, Err, Some, IfSome};
 ghost use Rattle.std.specs.Io.KnownBytes.{Appends};
-ghost use Rattle.sketchsum.specs.Digest.{hex_word, newline};
+ghost use Rattle.sketchsum.specs.Running.{hex_word, newline};
 
 use crate::ending::RunFault;
 use std::fmt::{self, Display};
@@ -25,6 +25,7 @@ pub struct HexWord(pub u64);
 impl fmt::Display for HexWord {
     ghost output = { λ word. Some (hex_word word.0) };
 
+    #[tactic(auto, using(crate::proofs::DigitLemmas::hex_word_is))]
     fn fmt<W: fmt::Write>(&self, f: &mut fmt::Formatter<W>) -> fmt::Result {
         let word = self.0;
         write!(f, "{word:016x}")

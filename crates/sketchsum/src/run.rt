@@ -2,8 +2,7 @@
 
 ghost use Rattle.std.specs.Prelude.{◌≡◌, ◌≢◌, ◌*◌, ◌^◌, ◌≤◌, length, OnOk, OnErr, Err};
 ghost use Rattle.std.specs.Io.KnownBytes.{IsAtEnd};
-ghost use Rattle.sketchsum.specs.Reading.{HasRead};
-ghost use Rattle.sketchsum.specs.Running.{Runs};
+ghost use Rattle.sketchsum.specs.Running.{HasRead, Runs};
 
 use crate::arguments::Algorithm;
 use crate::digest::{HexWord, write_line};

@@ -1,20 +1,15 @@
 //! Checks that a reader of serialized sketches makes of their preambles. A check that accepts takes
 //! no memory; one that refuses asks for the text of its error.
 
-ghost use Rattle.std.specs.Prelude.{◌≡◌, ◌↔◌, ℕ, List, Contains, IsTrue, IfOk, string_bytes};
+ghost use Rattle.std.specs.Prelude.{◌≡◌, ℕ, List, Contains, IsTrue, IfOk, string_bytes};
 ghost use Rattle.sketch_base.specs.Checks.{AcceptsExactly, range};
-ghost use Rattle.sketch_base.specs.Refusals.{
-  insufficient_data_of_text,
-  invalid_preamble_longs_text,
-  preamble_longs_out_of_range_text,
-  Refuses,
-  unsupported_serial_version_text,
-};
+ghost use Rattle.sketch_base.specs.Refusals.{insufficient_data_of_text, invalid_preamble_longs_text, preamble_longs_out_of_range_text, Refuses, unsupported_serial_version_text};
 
 use crate::error::{Error, ErrorKind};
 use std::alloc::{AllocError, Global};
 use std::io;
 use std::ops::Bound::{self, Excluded, Included, Unbounded};
+use std::ops::RangeBounds;
 
 /// The error for data that ended too early in the part that the tag names: `insufficient data
 /// (TAG): TEXT`, with the text that `error` prints. No clause says that the text is the error's;
@@ -75,7 +70,7 @@ pub fn ensure_preamble_longs_in_range(
     ensures { AcceptsExactly (IsTrue ((range start end).has actual))
         (preamble_longs_out_of_range_text (range start end).text actual) result }
 {
-    if has(start, end, actual) {
+    if (start, end).contains(&actual) {
         return Ok(());
     }
     let text = match printed_range(alloc, start, end) {
@@ -83,23 +78,6 @@ pub fn ensure_preamble_longs_in_range(
         Err(error) => Err(error),
     };
     Err(Error::refusal(alloc, text))
-}
-
-// Whether the range between the two ends has the number.
-fn has(start: Bound<u8>, end: Bound<u8>, x: u8) -> bool
-    ensures { IsTrue result ↔ IsTrue ((range start end).has x) }
-{
-    let is_above = match start {
-        Included(a) => a <= x,
-        Excluded(a) => a < x,
-        Unbounded => true,
-    };
-    let is_below = match end {
-        Included(b) => x <= b,
-        Excluded(b) => x < b,
-        Unbounded => true,
-    };
-    is_above && is_below
 }
 
 // How the range between the two ends prints: nothing where both are open, as it has every number.

@@ -3,7 +3,7 @@
 ghost use Rattle.std.specs.Prelude.{◌≡◌, ℕ, List, [], length, take, drop, is_ok, Some, if◌then◌else◌};
 ghost use Rattle.sketch_base.specs.Bytes.{le, be, twos_complement};
 ghost use Rattle.sketch_base.specs.Items.{unspell, width};
-ghost use Rattle.sketch_base.specs.Reading.{Reads, ReadsItems, short_text};
+ghost use Rattle.sketch_base.specs.Codec.{Reads, ReadsItems, short_text};
 
 use crate::codec::item::{Item, Kind};
 use std::marker::Model;

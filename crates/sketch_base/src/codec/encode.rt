@@ -3,7 +3,7 @@
 ghost use Rattle.std.specs.Prelude.{◌≡◌, [], IfOk, IsOk, Some, reverse};
 ghost use Rattle.sketch_base.specs.Bytes.{low_bytes, modulo};
 ghost use Rattle.sketch_base.specs.Items.{InType, spell};
-ghost use Rattle.sketch_base.specs.Writing.{Writes, WritesItems, stopped_text};
+ghost use Rattle.sketch_base.specs.Codec.{Writes, WritesItems, stopped_text};
 
 use crate::codec::item::Item;
 use std::alloc::{AllocError, Global};
@@ -25,7 +25,7 @@ pub struct SketchBytes {
 
 impl Model for SketchBytes {
     ghost use Rattle.std.specs.Prelude.{◌≤◌, length, vec_capacity};
-    ghost use Rattle.sketch_base.specs.WriterValue.{WriterValue};
+    ghost use Rattle.sketch_base.specs.Codec.{WriterValue};
 
     ghost Value = { WriterValue };
 

@@ -21,9 +21,9 @@ pub struct Family {
     pub max_pre_longs: u8,
 }
 
-// A family by its fields, in their order.
+// A family by its id, its name, and the least and the greatest number of preamble longs.
 macro_rules! family {
-    ($id:expr, $name:expr, $min_pre_longs:expr, $max_pre_longs:expr) => {
+    ($id:literal, $name:literal, $min_pre_longs:literal..=$max_pre_longs:literal) => {
         Family {
             id: $id,
             name: $name,
@@ -35,34 +35,34 @@ macro_rules! family {
 
 impl Family {
     /// Theta sketches, which count distinct values.
-    pub const THETA: Family = family!(3, "THETA", 1, 3);
+    pub const THETA: Family = family!(3, "THETA", 1..=3);
 
     /// HyperLogLog sketches, which count distinct values.
-    pub const HLL: Family = family!(7, "HLL", 1, 1);
+    pub const HLL: Family = family!(7, "HLL", 1..=1);
 
     /// Tuple sketches, which count distinct keys and keep a summary of each.
-    pub const TUPLE: Family = family!(9, "TUPLE", 1, 3);
+    pub const TUPLE: Family = family!(9, "TUPLE", 1..=3);
 
     /// Frequency sketches, which find frequent values.
-    pub const FREQUENCY: Family = family!(10, "FREQUENCY", 1, 4);
+    pub const FREQUENCY: Family = family!(10, "FREQUENCY", 1..=4);
 
     /// KLL sketches, which estimate quantiles and ranks.
-    pub const KLL: Family = family!(15, "KLL", 1, 2);
+    pub const KLL: Family = family!(15, "KLL", 1..=2);
 
     /// Compressed probabilistic counting, which counts distinct values.
-    pub const CPC: Family = family!(16, "CPC", 1, 5);
+    pub const CPC: Family = family!(16, "CPC", 1..=5);
 
     /// Relative error quantiles, whose error is smallest at one end of the ranks.
-    pub const REQ: Family = family!(17, "REQ", 1, 2);
+    pub const REQ: Family = family!(17, "REQ", 1..=2);
 
     /// Count-min sketches, which estimate frequencies.
-    pub const COUNTMIN: Family = family!(18, "COUNTMIN", 2, 2);
+    pub const COUNTMIN: Family = family!(18, "COUNTMIN", 2..=2);
 
     /// T-digests, which estimate quantiles and ranks.
-    pub const TDIGEST: Family = family!(20, "TDIGEST", 1, 2);
+    pub const TDIGEST: Family = family!(20, "TDIGEST", 1..=2);
 
     /// Bloom filters, which tell whether a value may have been inserted.
-    pub const BLOOMFILTER: Family = family!(21, "BLOOMFILTER", 3, 4);
+    pub const BLOOMFILTER: Family = family!(21, "BLOOMFILTER", 3..=4);
 
     /// Accepts exactly the family's own id.
     ///

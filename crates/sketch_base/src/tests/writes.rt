@@ -18,20 +18,6 @@ fn writes_within_room(rt: HostRuntime) -> Result<(), AllocError> {
 }
 
 #[test]
-fn negative_numbers_there_and_back(rt: HostRuntime) -> Result<(), AllocError> {
-    let mut writer = SketchBytes::with_capacity(rt.alloc(), 12)?;
-    writer.write_i64_be(-2)?;
-    writer.write_i32_le(-2147483648)?;
-    let bytes = writer.into_bytes();
-    let twelve = b"\xff\xff\xff\xff\xff\xff\xff\xfe\0\0\0\x80";
-    assert_same(&rt, bytes.as_slice(), twelve.as_slice());
-    let mut reader = SketchSlice::new(&bytes);
-    assert!(rt; reader.read_i64_be().ok() == Some(-2));
-    assert!(rt; reader.read_i32_le().ok() == Some(-2147483648));
-    Ok(())
-}
-
-#[test]
 fn a_hundred_thousand_numbers(rt: HostRuntime) -> Result<(), AllocError> {
     let mut writer = SketchBytes::with_capacity(rt.alloc(), 0)?;
     for i in 0..100_000 {

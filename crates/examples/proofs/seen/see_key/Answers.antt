@@ -1,9 +1,5 @@
 use Rattle.examples.proofs.seen.see_key.Goals as goal
 
-pub returns-clause-counted : goal.returns-clause-counted
-returns-clause-counted c = λ n count.
-    c.insert_law.ensures.one_counted _ _ _ n c.insert.ensures count
-
 pub returns-clause-stands : goal.returns-clause-stands
 returns-clause-stands c = λ keys stands.
     let inserted = rw c.from_slice-value.ensures at c.insert.ensures in

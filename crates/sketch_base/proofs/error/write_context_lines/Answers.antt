@@ -1,6 +1,6 @@
 use Rattle.std.proofs.Common.{◌<◌, length, string_bytes, refl, rules}
 use Rattle.std.proofs.Output.{has_written_append, has_written_of_eq}
-use Rattle.sketch_base.proofs.LineLemmas.{context_lines-is}
+use Rattle.sketch_base.proofs.ErrorLemmas.{context_lines-is}
 use Rattle.sketch_base.proofs.error.write_context_lines.Goals as goal
 
 pub returns : goal.returns

@@ -1,6 +1,6 @@
 use Rattle.std.proofs.Common.{string_bytes, refl, rules}
 use Rattle.std.proofs.Output.{has_written_append, has_written_of_eq}
-use Rattle.sketch_base.proofs.LineLemmas.{contexts_text-is}
+use Rattle.sketch_base.proofs.ErrorLemmas.{contexts_text-is}
 use Rattle.sketch_base.proofs.error.write_contexts.Goals as goal
 
 pub returns : goal.returns

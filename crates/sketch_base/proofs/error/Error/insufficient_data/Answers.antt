@@ -1,5 +1,5 @@
 use Rattle.std.proofs.Common.{rules}
-use Rattle.sketch_base.proofs.RefusalLemmas.{some_text}
+use Rattle.sketch_base.proofs.ErrorLemmas.{some_text}
 use Rattle.sketch_base.proofs.error.Error.insufficient_data.Goals as goal
 use Rattle.sketch_base.proofs.error.Error.insufficient_data.Goals.{in-Ok, in-Err}
 

@@ -1,5 +1,5 @@
 use Rattle.std.proofs.Common.{rules}
-use Rattle.sketch_base.proofs.RefusalLemmas.{some_text}
+use Rattle.sketch_base.proofs.ErrorLemmas.{some_text}
 use Rattle.sketch_base.proofs.error.Error.insufficient_data_of.Goals as goal
 use Rattle.sketch_base.proofs.error.Error.insufficient_data_of.Goals.{in-Ok, in-Err}
 

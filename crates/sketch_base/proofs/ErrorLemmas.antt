@@ -1,9 +1,12 @@
--- The displayed line and the debug text, piece by piece as they are written.
-use Rattle.std.proofs.Common.{◌≡◌, ℕ, ◌<◌, ◌≤◌, List, [], ◌∷◌, ◌++◌, length, take, map, codes, ap, sym, append_assoc, arith, refl}
+-- What errors print: the displayed line and the debug text, piece by piece as they are written, and what the
+-- texts of refusals are made of.
+use Rattle.std.proofs.Common.{◌≡◌, ℕ, ◌<◌, ◌≤◌, List, [], ◌∷◌, ◌++◌, length, take, map, Option, Some, None, codes, ap, sym, append_assoc, arith, refl}
 use Rattle.std.proofs.lemmas.List.{take_all}
 use Rattle.std.proofs.lemmas.List.Folds.{flat_map-map}
 use Rattle.std.specs.List.{flat_map}
+use Rattle.std.specs.Fmt.{decimal, debug_list, debug_items, comma_space}
 use Rattle.sketch_base.specs.ErrorValue.{ContextValue, pair_text, contexts_text, context_lines}
+use Rattle.sketch_base.specs.Refusals.{Prints, list_text}
 
 -- the contexts in three pieces: the first, the others, and the closing brace
 pub contexts_text-is : {T : Type 0} (context : T → ContextValue) (first : ContextValue)
@@ -27,3 +30,19 @@ context_lines-is context [] n some enough = absurd (omega (arith, some))
 context_lines-is context (first ∷ others) n some enough =
     let line : ContextValue → List ℕ = λ c. codes "   " ++ pair_text c ++ 10 ∷ [] in
     rw (take_all n (first ∷ others) enough, flat_map-map line context (first ∷ others)) refl
+
+-- some text is what a value prints
+pub some_text : (output : Option (List ℕ)) → (text : List ℕ) × Prints output text
+some_text None = ([], tt)
+some_text (Some printed) = (printed, refl)
+
+-- the numbers behind the first one, each after a comma
+debug_items-is : (numbers : List ℕ) →
+    debug_items (λ n. Some (decimal n)) comma_space numbers
+    ≡ Some (flat_map (λ other. codes ", " ++ decimal other) numbers)
+debug_items-is [] = refl
+debug_items-is (first ∷ others) = rw (debug_items-is others) refl
+
+pub debug_list_is : (numbers : List ℕ) → debug_list (λ n. Some (decimal n)) numbers ≡ Some (list_text numbers)
+debug_list_is [] = refl
+debug_list_is (first ∷ others) = rw (debug_items-is others) (simp append_assoc)
