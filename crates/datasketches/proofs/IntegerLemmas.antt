@@ -8,12 +8,11 @@ use Rattle.std.proofs.lemmas.List.Elements.{All-nil}
 use Rattle.std.proofs.Math.Nat.{pow-le-pow_right}
 use Rattle.std.proofs.lemmas.Nat.{pow_pos, pow_below}
 use Rattle.std.proofs.lemmas.Bool.{cases_lt}
-use Rattle.sketch_base.specs.Bytes.{le, eight, twos_complement, modulo}
+use Rattle.sketch_base.specs.Bytes.{le, eight, twos_complement, modulo, integer_bytes}
 use Rattle.sketch_base.proofs.BytesLemmas.{IsByte, le-back, low_bytes-are}
 use Rattle.sketch_hash.specs.Words.{IsWord}
 use Rattle.sketch_hash.specs.Murmur.{murmur}
 use Rattle.sketch_hash.specs.Xxh64.{xxh64}
-use Rattle.sketch_hash.specs.Values.{integer_bytes}
 use Rattle.sketch_hash.specs.Laws.{PieceLaws, MurmurStepLaws, Xxh64StepLaws}
 use Rattle.datasketches.specs.Laws.{IsShort, IntegerLaw}
 use Rattle.datasketches.specs.Strategies.{IsSigned, ExtendLawAt, ExtendLawAt64, ExtendLaw}

@@ -2,11 +2,10 @@
 -- of XXH64's words, and of short integers.
 use Rattle.std.specs.Prelude.{◌≡◌, ◌≢◌, ◌↔◌, ◌⊎◌, ℕ, ◌+◌, ◌*◌, ◌^◌, ◌<◌, ◌≤◌, ℤ, pos, neg_ℤ, ◌≤ℤ◌, ◌<ℤ◌, List, ◌++◌, length, slice_index_or}
 use Rattle.std.specs.List.{All, fold}
-use Rattle.sketch_base.specs.Bytes.{AreBytes, eight, modulo}
+use Rattle.sketch_base.specs.Bytes.{AreBytes, eight, modulo, integer_bytes}
 use Rattle.sketch_hash.specs.Words.{IsWord, OneToOne}
 use Rattle.sketch_hash.specs.Murmur.{step, murmur}
 use Rattle.sketch_hash.specs.Xxh64.{stripes, tail_steps, xxh64}
-use Rattle.sketch_hash.specs.Values.{integer_bytes}
 use Rattle.sketch_hash.specs.Laws.{AreWords, IsBlock}
 
 -- two lists have the same at each position outside low..high

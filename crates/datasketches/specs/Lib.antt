@@ -15,5 +15,4 @@ pub use Rattle.sketch_hash.specs.Words
 pub use Rattle.sketch_hash.specs.Pieces
 pub use Rattle.sketch_hash.specs.PiecesWriteLemmas
 pub use Rattle.sketch_hash.specs.SeedHash
-pub use Rattle.sketch_hash.specs.Values
 pub use Rattle.sketch_hash.specs.Xxh64

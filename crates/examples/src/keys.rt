@@ -3,7 +3,7 @@
 ghost use Rattle.std.specs.Prelude.{◌≡◌, ◌↔◌, IsTrue};
 ghost use Rattle.datasketches.specs.Columns.{HashesEach};
 ghost use Rattle.datasketches.specs.Murmur.{murmur};
-ghost use Rattle.datasketches.specs.Values.{integer_bytes};
+ghost use Rattle.datasketches.specs.Bytes.{integer_bytes};
 ghost use Rattle.datasketches.specs.Xxh64.{xxh64};
 
 use datasketches::hash::value::sign_extend;

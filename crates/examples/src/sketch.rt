@@ -1,7 +1,7 @@
 //! The preamble of a serialized sketch, read and written.
 
 ghost use Rattle.std.specs.Prelude.{◌≡◌, ◌<◌, ◌≤◌, length, IfOk, MatchResult};
-ghost use Rattle.examples.specs.Sketches.{HasPreamble, number_at};
+ghost use Rattle.examples.specs.{HasPreamble, number_at};
 
 use datasketches::codec::assert::{
     ensure_preamble_longs_in, ensure_serial_version_is, insufficient_data,

@@ -37,3 +37,7 @@ twos_complement w n = if nat_lt n (2 ^ (w - 1)) then pos n else pos n -ℤ pos (
 abbrev pub modulo : ℕ → ℤ → ℕ
 modulo w (pos n) = n % 2 ^ w
 modulo w (negsuc n) = 2 ^ w - 1 - n % 2 ^ w
+
+-- the eight bytes of an integer, modulo 2 ^ 64
+abbrev pub integer_bytes : ℤ → List ℕ
+integer_bytes z = eight (modulo 64 z)

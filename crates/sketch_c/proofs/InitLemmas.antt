@@ -1,7 +1,7 @@
 -- How streams and tables start.
 use Rattle.std.proofs.Common.{◌≡◌, ℕ, ◌≤◌, List, min, arith, inl, inr, refl, ap}
 use Rattle.datasketches.specs.PiecesWriteLemmas.{murmur_after-empty, xxh64_after-empty}
-use Rattle.sketch_c.specs.Status.{status}
+use Rattle.sketch_c.specs.{status}
 use Rattle.sketch_member.specs.declared.fault.Fault.{Fault}
 use Rattle.sketch_member.specs.declared.fault.Fault.TheVariants.{Log2Bits, Hashes}
 use Rattle.sketch_member.specs.Faults.{IsFirstFault, init_steps}

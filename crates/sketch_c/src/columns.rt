@@ -3,7 +3,7 @@
 //! Each call answers 0, or one more than the index of the first fault; it has then written nothing.
 
 ghost use Rattle.std.specs.Prelude.{◌≡◌, ◌<◌, MatchResult};
-ghost use Rattle.sketch_c.specs.Status.{outcome};
+ghost use Rattle.sketch_c.specs.{outcome};
 ghost use Rattle.datasketches.specs.Columns.{HashesEach, HashesEachNumber, murmur_words};
 ghost use Rattle.datasketches.specs.Xxh64.{xxh64};
 

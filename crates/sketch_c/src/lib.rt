@@ -5,12 +5,13 @@
 //! allocates, and wrong offsets are reported, so no call requires more than its types say.
 #![tactic(auto)]
 
+ghost use Rattle.std.specs.Prelude.{◌≡◌};
+
 mod columns;
 mod member;
 mod murmur;
 #[cfg(test)]
 mod tests;
-mod version;
 mod xxh64;
 
 pub use self::columns::{
@@ -25,7 +26,14 @@ pub use self::murmur::{
     Murmur128, sketch_murmur3_x64_128, sketch_murmur3_x64_128_digest, sketch_murmur3_x64_128_reset,
     sketch_murmur3_x64_128_update,
 };
-pub use self::version::sketch_hash_version;
 pub use self::xxh64::{
     sketch_xxh64, sketch_xxh64_digest, sketch_xxh64_reset, sketch_xxh64_u64, sketch_xxh64_update,
 };
+
+/// The version of the library as one number, major * 10000 + minor * 100 + patch: 1.2.0.
+#[unsafe(no_mangle)]
+pub extern "C" fn sketch_hash_version() -> u32
+    ensures { result ≡ 10200 }
+{
+    10_200
+}

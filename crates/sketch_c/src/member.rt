@@ -5,7 +5,7 @@
 //! header of each table that it is given.
 
 ghost use Rattle.std.specs.Prelude.{◌≡◌, ◌⊎◌, ◌+◌, ◌^◌, pos, length, min, Some, None};
-ghost use Rattle.sketch_c.specs.Status.{IsTableIn, Refused, merge_status, status};
+ghost use Rattle.sketch_c.specs.{IsTableIn, Refused, merge_status, status};
 ghost use Rattle.sketch_member.specs.Faults.{IsFirstFault, init_steps};
 ghost use Rattle.sketch_member.specs.Form.{form2, TableChanges};
 ghost use Rattle.sketch_member.specs.Merge.{IsMergeFault, Merges};

@@ -5,7 +5,6 @@ pub mod Murmur
 pub mod Xxh64
 pub mod Columns
 pub mod Held
-pub mod Values
 pub mod SeedHash
 pub mod Laws
 pub mod KnownAnswers

@@ -1,7 +1,7 @@
 -- One byte more, kept where there is room.
 use Rattle.std.proofs.Common.{◌≡◌, ℕ, ◌<◌, ◌≤◌, ◌+◌, List, [], ◌∷◌, ◌++◌, length, take, set, get_or, ◌∙◌, ap, sym, arith}
 use Rattle.std.proofs.lemmas.List.{take_more, take_more_set, take_all, take-append-le, length-take-le, length_push}
-use Rattle.sketch_vectors.specs.FirstBytes.{kept_after, kept_after-append}
+use Rattle.sketch_vectors.specs.{kept_after, kept_after-append}
 
 -- a byte more, where there is room
 pub with_room : (xs : List ℕ) (n y : ℕ) → n < 64 → length xs ≡ 64 →

@@ -1,7 +1,7 @@
 //! A lawful hasher that shows what it is fed.
 
 ghost use Rattle.std.specs.Prelude.{◌≡◌, ℕ, ◌≤◌, List, [], ◌∷◌, length, take};
-ghost use Rattle.sketch_vectors.specs.FirstBytes.{kept_after, kept_after-append, kept_after-empty};
+ghost use Rattle.sketch_vectors.specs.{kept_after, kept_after-append, kept_after-empty};
 
 use datasketches::hash::Hasher;
 use std::marker::Model;

@@ -1,4 +1,3 @@
-mod both;
 mod cuts;
 mod equalities;
 mod fed;
@@ -6,6 +5,7 @@ mod samples;
 mod table;
 mod vectors;
 
+use datasketches::hash::{Hasher, MurmurHash3X64128, XxHash64};
 use std::fmt::Debug;
 use std::process::Abort;
 
@@ -27,4 +27,32 @@ pub(crate) fn assert_same_for<T: PartialEq + Debug + Drop>(
     case: impl Debug + Drop,
 ) {
     assert_eq!(rt; left, right, "for {case:?}");
+}
+
+/// Both hashers, which are given the same bytes.
+#[derive(Drop)]
+pub(crate) struct Both {
+    murmur3: MurmurHash3X64128,
+    xxhash: XxHash64,
+}
+
+impl Both {
+    /// Both with their seeds, given nothing.
+    pub(crate) fn with_seeds(murmur: u64, xxh64: u64) -> Self {
+        Both {
+            murmur3: MurmurHash3X64128::with_seed(murmur),
+            xxhash: XxHash64::with_seed(xxh64),
+        }
+    }
+
+    /// Adds the bytes to what both hash.
+    pub(crate) fn write(&mut self, bytes: &[u8]) {
+        self.murmur3.write(bytes);
+        self.xxhash.write(bytes);
+    }
+
+    /// The Murmur pair and the XXH64 hash.
+    pub(crate) fn answers(&self) -> ((u64, u64), u64) {
+        (self.murmur3.finish128(), self.xxhash.finish64())
+    }
 }

@@ -1,7 +1,6 @@
 //! However a stream is cut into writes, the answer is that of one write.
 
-use super::both::Both;
-use crate::tests::assert_same_for;
+use crate::tests::{Both, assert_same_for};
 use datasketches::hash::value::raw_bytes;
 use datasketches::hash::{Hash, MurmurHash3X64128, XxHash64};
 

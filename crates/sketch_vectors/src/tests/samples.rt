@@ -2,8 +2,7 @@
 
 mod answers;
 
-use super::both::Both;
-use crate::tests::assert_same_for;
+use crate::tests::{Both, assert_same_for};
 use answers::ANSWERS;
 use datasketches::error::ErrorKind;
 use datasketches::hash::value::{calculate_hash, natural_extend, raw_bytes, sign_extend};

@@ -5,8 +5,7 @@
 
 ghost use Rattle.std.specs.Prelude.{◌≡◌};
 ghost use Rattle.std.proofs.Common.{rules};
-ghost use Rattle.sketch_base.specs.Bytes.{twos_complement};
-ghost use Rattle.sketch_hash.specs.Values.{integer_bytes};
+ghost use Rattle.sketch_base.specs.Bytes.{twos_complement, integer_bytes};
 
 use crate::hash::Hasher;
 use crate::hash::value::{HashStrategy, Value};

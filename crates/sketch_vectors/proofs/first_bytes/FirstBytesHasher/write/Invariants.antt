@@ -1,5 +1,5 @@
 use Rattle.std.proofs.Common.{◌≡◌, take}
-use Rattle.sketch_vectors.specs.FirstBytes.{kept_after}
+use Rattle.sketch_vectors.specs.{kept_after}
 use Rattle.sketch_vectors.proofs.first_bytes.FirstBytesHasher.write.Given as goal
 
 abbrev pub invariant-loop-byte : goal.invariant-loop-byte
