@@ -185,7 +185,7 @@ impl Error {
             Ok(text) => format!(in alloc; "insufficient data: {text}"),
             Err(error) => Err(error),
         };
-        Error::refusal(alloc, text)
+        Error::from_text(alloc, ErrorKind::InvalidData, text)
     }
 
     /// Serialized data ended too early. Kind `InvalidData`: `insufficient data (CONTEXT): VALUE`.
@@ -202,7 +202,7 @@ impl Error {
             Ok(text) => format!(in alloc; "insufficient data ({context}): {text}"),
             Err(error) => Err(error),
         };
-        Error::refusal(alloc, text)
+        Error::from_text(alloc, ErrorKind::InvalidData, text)
     }
 
     /// Serialized data is of another family than the expected one. Kind `InvalidData`:
@@ -212,7 +212,7 @@ impl Error {
             (invalid_family_text expected actual name.entry.now) result }
     {
         let text = format!(in alloc; "invalid family: expected {expected} ({name}), got {actual}");
-        Error::refusal(alloc, text)
+        Error::from_text(alloc, ErrorKind::InvalidData, text)
     }
 
     /// A number of preamble longs is none of the expected ones. Kind `InvalidData`:
@@ -222,10 +222,10 @@ impl Error {
         ensures { Refuses ErrorKind.InvalidData
             (invalid_preamble_longs_text expected.now actual) result }
     {
-        Error::refusal(
-            alloc,
-            format!(in alloc; "invalid preamble longs: expected one of {expected:?}, got {actual}"),
-        )
+        let text = format!(in alloc;
+            "invalid preamble longs: expected one of {expected:?}, got {actual}"
+        );
+        Error::from_text(alloc, ErrorKind::InvalidData, text)
     }
 
     /// A number of preamble ints is not the expected one. Kind `InvalidData`:
@@ -235,14 +235,6 @@ impl Error {
             (invalid_preamble_ints_text expected actual) result }
     {
         let text = format!(in alloc; "invalid preamble ints: expected {expected}, got {actual}");
-        Error::refusal(alloc, text)
-    }
-
-    // Malformed data is refused, with a text that was just made.
-    pub(crate) fn refusal(alloc: Global, text: Result<String, AllocError>) -> Error
-        ensures { (message : List ℕ) → IfOk text (λ made. string_bytes made ≡ message)
-            → Refuses ErrorKind.InvalidData message result }
-    {
         Error::from_text(alloc, ErrorKind::InvalidData, text)
     }
 }

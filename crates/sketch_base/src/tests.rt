@@ -1,10 +1,9 @@
 //! Tests of what no clause says: worked rows, printed texts, and memory that is refused.
 
 mod checks;
+mod codec;
 mod error;
 mod items;
-mod reads;
-mod writes;
 
 use crate::error::{Error, ErrorKind};
 use std::fmt::{Debug, Display};

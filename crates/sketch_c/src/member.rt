@@ -9,8 +9,7 @@ ghost use Rattle.sketch_c.specs.{IsTableIn, Refused, merge_status, status};
 ghost use Rattle.sketch_member.specs.Faults.{IsFirstFault, init_steps};
 ghost use Rattle.sketch_member.specs.Form.{form2, TableChanges};
 ghost use Rattle.sketch_member.specs.Merge.{IsMergeFault, Merges};
-ghost use Rattle.sketch_member.specs.Sizing.{IsHashes, IsLog2Bits, StaysBelow};
-ghost use Rattle.sketch_member.specs.Table.{Inserts, IsMember, Table, byte_count, empty_table};
+ghost use Rattle.sketch_member.specs.Table.{IsHashes, IsLog2Bits, StaysBelow, Inserts, IsMember, Table, byte_count, empty_table};
 
 use datasketches::hash::value::raw_bytes;
 use sketch_member::{Difference, Fault, MergeFault, TableView, in_place, sizes_for};

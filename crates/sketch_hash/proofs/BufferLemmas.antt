@@ -106,13 +106,6 @@ held-waits w total buffer bytes h few within =
     let count = h (total + length bytes) ∙ sym (mod-add-mod total w (length bytes)) ∙ mod-eq_of_lt few in
     rw count (copy_taken buffer bytes (total % w) within)
 
--- where the total is 0, no byte of the buffer is part of the state
-pub none_waits : {P : Type 0} (w : ℕ) (start folded : P) (total : ℕ) (buffer : List ℕ) →
-    folded ≡ start → total ≡ 0 →
-    ◌≡◌ {A = State P} (record { folded = folded; total = total; waiting = take (total % w) buffer })
-    (record { folded = start; total = 0; waiting = [] })
-none_waits w start folded total buffer same none = rw (same, none, zero-mod w) refl
-
 -- the first of a number's lowest bytes
 pub take-low_bytes : (count k n : ℕ) → take count (low_bytes (count + k) n) ≡ low_bytes count n
 take-low_bytes zero k n = refl

@@ -6,8 +6,7 @@ use Rattle.std.proofs.lemmas.Nat.{or_of_8, and_mask, one_shl, pow-add}
 use Rattle.std.proofs.lemmas.Nat.Bits.{bit_at-lt, bit_at_or, bit_at_set_same, bit_at_set_other}
 use Rattle.std.proofs.lemmas.Bool.{cases_eq, cases_lt}
 use Rattle.datasketches.specs.Words.{IsWord}
-use Rattle.sketch_member.specs.Sizing.{IsHashes, IsLog2Bits}
-use Rattle.sketch_member.specs.Table.{IsSet, IsTable, byte_count, empty_table}
+use Rattle.sketch_member.specs.Table.{IsHashes, IsLog2Bits, IsSet, IsTable, byte_count, empty_table}
 
 -- the byte of place i with its bit set
 abbrev byte_with : List ℕ → ℕ → ℕ

@@ -16,8 +16,7 @@ use Rattle.sketch_member.specs.declared.fault.Difference.{Difference}
 use Rattle.sketch_member.specs.Faults.{AllPass, view_steps}
 use Rattle.sketch_member.specs.declared.fault.Difference.TheVariants.{Seed, Log2Bits, Hashes}
 use Rattle.sketch_member.specs.Merge.{AreAlike, IsFirstDifference, Merges, sum_of_counts}
-use Rattle.sketch_member.specs.Sizing.{IsHashes, IsLog2Bits}
-use Rattle.sketch_member.specs.Table.{Table, IsTable, IsSet, IsIndex, IsMember, Inserts, byte_count, empty_table}
+use Rattle.sketch_member.specs.Table.{IsHashes, IsLog2Bits, Table, IsTable, IsSet, IsIndex, IsMember, Inserts, byte_count, empty_table}
 
 -- ---- tables that are alike
 

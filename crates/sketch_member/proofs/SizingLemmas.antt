@@ -2,7 +2,7 @@
 use Rattle.std.proofs.Common.{add-one, ◌≡◌, ◌∙◌, sym, ap, ℕ, zero, ◌+◌, ◌-◌, ◌*◌, ◌/◌, ◌%◌, ◌^◌, ◌<◌, ◌≤◌, arith}
 use Rattle.std.proofs.Math.Nat.{add-mul, mul-sub, mul_left_comm, mul-le-mul_left, mul_assoc, mul_comm, mul-mul-mul_comm, mul-le-mul, mul-le-mul_right, le_of_mul-le-mul_left, div-div-eq-div-mul, pow-suc, pow-zero}
 use Rattle.std.proofs.lemmas.Nat.{pow-add}
-use Rattle.sketch_member.specs.Sizing.{IsAbove, IsClearShare, StaysBelow}
+use Rattle.sketch_member.specs.Table.{IsAbove, IsClearShare, StaysBelow}
 
 -- products of shares of a whole
 pub times_below : (whole c a b p x q y : ℕ) → zero < whole → c * whole ≤ a * b →

@@ -8,8 +8,7 @@ use Rattle.datasketches.specs.ErrorValue.{ErrorValue, memory_error}
 use Rattle.datasketches.specs.Refusals.{Refuses, insufficient_data_of_text, invalid_family_text, unsupported_serial_version_text}
 use Rattle.sketch_member.specs.declared.fault.Fault.{Fault}
 use Rattle.sketch_member.specs.declared.fault.Fault.TheVariants.{HeaderEnds, PreambleLongs, SerialVersion, Family, Log2Bits, Hashes, Reserved, UnknownCount, MissingBits, TrailingBytes, Version1}
-use Rattle.sketch_member.specs.Sizing.{IsHashes, IsLog2Bits}
-use Rattle.sketch_member.specs.Table.{byte_count}
+use Rattle.sketch_member.specs.Table.{IsHashes, IsLog2Bits, byte_count}
 
 -- what is said of a fault
 abbrev pub fault_text : Fault → List ℕ

@@ -1,4 +1,3 @@
-pub mod Sizing
 pub mod Table
 pub mod Form
 pub mod Faults

@@ -2,7 +2,7 @@
 
 ghost use Rattle.std.specs.Prelude.{◌≡◌, ◌++◌, OnOk, OnErr, Err, Some, IfSome};
 ghost use Rattle.std.specs.Io.KnownBytes.{Appends};
-ghost use Rattle.sketchsum.specs.Running.{hex_word, newline};
+ghost use Rattle.sketchsum.specs.{hex_word, newline};
 
 use crate::ending::RunFault;
 use std::fmt::{self, Display};

@@ -1,7 +1,7 @@
 //! How the program ends.
 
 ghost use Rattle.std.specs.Prelude.{◌≡◌};
-ghost use Rattle.sketchsum.specs.CommandLine.{status_of, line_of};
+ghost use Rattle.sketchsum.specs.{status_of, line_of};
 
 /// Why a run answered no hash.
 #[derive(Clone, Copy, Debug, PartialEq, Eq)]

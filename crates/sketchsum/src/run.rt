@@ -2,7 +2,7 @@
 
 ghost use Rattle.std.specs.Prelude.{◌≡◌, ◌≢◌, ◌*◌, ◌^◌, ◌≤◌, length, OnOk, OnErr, Err};
 ghost use Rattle.std.specs.Io.KnownBytes.{IsAtEnd};
-ghost use Rattle.sketchsum.specs.Running.{HasRead, Runs};
+ghost use Rattle.sketchsum.specs.{HasRead, Runs};
 
 use crate::arguments::Algorithm;
 use crate::digest::{HexWord, write_line};

@@ -36,7 +36,7 @@ pub fn ensure_serial_version_is(alloc: Global, expected: u8, actual: u8) -> Resu
         return Ok(());
     }
     let text = format!(in alloc; "unsupported serial version: expected {expected}, got {actual}");
-    Err(Error::refusal(alloc, text))
+    Err(Error::from_text(alloc, ErrorKind::InvalidData, text))
 }
 
 /// Accepts exactly the listed numbers of preamble longs.
@@ -49,10 +49,9 @@ pub fn ensure_preamble_longs_in(alloc: Global, expected: &[u8], actual: u8) -> R
         (invalid_preamble_longs_text expected.now actual) result }
 {
     if expected.contains(&actual) {
-        Ok(())
-    } else {
-        Err(Error::invalid_preamble_longs(alloc, expected, actual))
+        return Ok(());
     }
+    Err(Error::invalid_preamble_longs(alloc, expected, actual))
 }
 
 /// Accepts exactly the numbers of preamble longs between the two ends: none where they are
@@ -77,7 +76,7 @@ pub fn ensure_preamble_longs_in_range(
         Ok(range) => format!(in alloc; "invalid preamble longs: expected {range}, got {actual}"),
         Err(error) => Err(error),
     };
-    Err(Error::refusal(alloc, text))
+    Err(Error::from_text(alloc, ErrorKind::InvalidData, text))
 }
 
 // How the range between the two ends prints: nothing where both are open, as it has every number.

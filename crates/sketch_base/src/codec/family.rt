@@ -75,10 +75,9 @@ impl Family {
             (invalid_family_text self.now.id family_id self.now.name.now) result }
     {
         if family_id == self.id {
-            Ok(())
-        } else {
-            Err(Error::invalid_family(alloc, self.id, family_id, self.name))
+            return Ok(());
         }
+        Err(Error::invalid_family(alloc, self.id, family_id, self.name))
     }
 }
 

@@ -1,5 +1,5 @@
 use Rattle.std.proofs.Common.{◌^◌, ◌≤◌, ◌/◌}
-use Rattle.sketch_member.specs.Sizing.{IsClearShare}
+use Rattle.sketch_member.specs.Table.{IsClearShare}
 use Rattle.sketch_member.proofs.sizing.clear_share.Given as goal
 
 abbrev pub invariant-loop-shift : goal.invariant-loop-shift

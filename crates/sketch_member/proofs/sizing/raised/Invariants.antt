@@ -1,5 +1,5 @@
 use Rattle.std.proofs.Common.{◌^◌, ◌≤◌}
-use Rattle.sketch_member.specs.Sizing.{IsAbove}
+use Rattle.sketch_member.specs.Table.{IsAbove}
 use Rattle.sketch_member.proofs.sizing.raised.Given as goal
 
 abbrev pub invariant-loop-turn : goal.invariant-loop-turn

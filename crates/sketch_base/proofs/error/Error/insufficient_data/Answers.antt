@@ -5,7 +5,7 @@ use Rattle.sketch_base.proofs.error.Error.insufficient_data.Goals.{in-Ok, in-Err
 
 pub returns : goal.returns
 returns g c = elim c.match-to_string.branch [
-  | in-Ok w ↦ (_, w.in-Ok.ensures.ok, c.refusal.ensures _ (search rules))
+  | in-Ok w ↦ (_, w.in-Ok.ensures.ok, c.from_text.ensures.refuses _ (search rules))
   | in-Err w ↦ let any = some_text (g.V.Display.output c.args.value) in
-      (any.0, any.1, c.refusal.ensures _ (search rules))
+      (any.0, any.1, c.from_text.ensures.refuses _ (search rules))
 ]
