@@ -7,7 +7,7 @@
 ghost use Rattle.std.specs.Prelude.{◌≡◌, ◌⊎◌, ◌+◌, ◌^◌, pos, length, min, Some, None};
 ghost use Rattle.sketch_c.specs.{IsTableIn, Refused, merge_status, status};
 ghost use Rattle.sketch_member.specs.Faults.{IsFirstFault, init_steps};
-ghost use Rattle.sketch_member.specs.Form.{form2, TableChanges};
+ghost use Rattle.sketch_member.specs.Form.{TableChanges, form2};
 ghost use Rattle.sketch_member.specs.Merge.{IsMergeFault, Merges};
 ghost use Rattle.sketch_member.specs.Table.{IsHashes, IsLog2Bits, StaysBelow, Inserts, IsMember, Table, byte_count, empty_table};
 

@@ -4,8 +4,8 @@
 ghost use Rattle.std.specs.Prelude.{◌≡◌, ℕ, ◌<◌, ◌^◌, ◌↔◌, List, IfSome, IsTrue, MatchOption, MatchResult, Some};
 ghost use Rattle.datasketches.specs.Bytes.{eight};
 ghost use Rattle.sketch_member.specs.Faults.{IsFirstFault, new_steps};
-ghost use Rattle.sketch_member.specs.Table.{table_of, Inserts, IsMember, IsTable, byte_count, index, IsHashes, IsLog2Bits};
 ghost use Rattle.sketch_member.specs.Merge.{AreAlike, IsFirstDifference, Merges};
+ghost use Rattle.sketch_member.specs.Table.{IsHashes, IsLog2Bits, Inserts, IsMember, IsTable, byte_count, index, table_of};
 
 use crate::bits::{is_set, set, set_all};
 use crate::fault::{Difference, Fault};

@@ -1,11 +1,11 @@
 //! The format of a table in bytes, written and read by place.
 
-ghost use Rattle.std.specs.Prelude.{◌≡◌, ◌⊎◌, ◌+◌, ◌-◌, ◌<◌, ◌≤◌, [], ◌∷◌, Contains, length, take, drop, slice_index, IfSome, MatchResult};
+ghost use Rattle.std.specs.Prelude.{◌≡◌, ◌+◌, ◌-◌, ◌<◌, ◌≤◌, [], ◌∷◌, Contains, length, take, drop, slice_index, IfSome, MatchResult};
 ghost use Rattle.datasketches.specs.Bytes.{eight, le};
 ghost use Rattle.datasketches.specs.Words.{IsWord};
 ghost use Rattle.sketch_member.specs.Faults.{AllPass, IsFirstFault, bits_steps, count_number, kind_steps, number_steps, size_steps, steps, view_steps};
-ghost use Rattle.sketch_member.specs.Table.{table_of, IsTable};
 ghost use Rattle.sketch_member.specs.Form.{IsForm, flag_of, form2, number_of};
+ghost use Rattle.sketch_member.specs.Table.{IsTable, table_of};
 
 use crate::fault::Fault;
 use crate::filter::{Filter, byte_count, ensure_hashes, ensure_log2_bits};

@@ -5,7 +5,7 @@
 
 ghost use Rattle.std.specs.Prelude.{◌≡◌, ◌+◌, length, MatchOption, MatchResult};
 ghost use Rattle.sketch_member.specs.Faults.{IsFirstFault, init_steps, view_steps};
-ghost use Rattle.sketch_member.specs.Form.{form2, TableChanges};
+ghost use Rattle.sketch_member.specs.Form.{TableChanges, form2};
 ghost use Rattle.sketch_member.specs.Merge.{IsMergeFault, Merges};
 ghost use Rattle.sketch_member.specs.Table.{IsHashes, IsLog2Bits, Inserts, IsTable, Table, byte_count, empty_table};
 

@@ -2,10 +2,10 @@
 
 ghost use Rattle.std.specs.Prelude.{◌≡◌, ◌↔◌, ◌⊎◌, ◌++◌, ℕ, List, None, length, map, IfErr, IfOk, MatchResult};
 ghost use Rattle.datasketches.specs.ErrorValue.{memory_error};
-ghost use Rattle.sketch_member.specs.Faults.{FirstFault, IsNewError, IsStepsError, IsFirstFault, init_steps, steps};
-ghost use Rattle.sketch_member.specs.Form.{IsForm, form1, form2};
-ghost use Rattle.sketch_member.specs.Table.{IsMember, IsTable, Table, empty_table};
-ghost use Rattle.sketch_member.specs.Laws.{IsFormOfInserts, FormLaw, InsertLaw, InsertsAll, MergeLaw};
+ghost use Rattle.sketch_member.specs.Faults.{FirstFault, IsFirstFault, IsNewError, IsStepsError, init_steps, steps};
+ghost use Rattle.sketch_member.specs.Form.{IsForm, form1};
+ghost use Rattle.sketch_member.specs.Laws.{FormLaw, InsertLaw, InsertsAll, IsFormOfInserts, MergeLaw};
+ghost use Rattle.sketch_member.specs.Table.{IsMember, IsTable, Table};
 
 pub use crate::table::table_law;
 use crate::{Fault, MemberTable, in_place};

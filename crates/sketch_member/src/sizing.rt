@@ -1,7 +1,7 @@
 //! The sizes of a table for a number of keys.
 
-ghost use Rattle.std.specs.Prelude.{◌≡◌, ℕ, ◌^◌, ◌≤◌, ◌*◌, ◌-◌, IfSome, IsTrue};
-ghost use Rattle.sketch_member.specs.Table.{IsHashes, IsLog2Bits, IsClearShare, IsAbove, StaysBelow};
+ghost use Rattle.std.specs.Prelude.{◌^◌, ◌≤◌, ◌*◌, ◌-◌, IfSome, IsTrue};
+ghost use Rattle.sketch_member.specs.Table.{IsAbove, IsClearShare, IsHashes, IsLog2Bits, StaysBelow};
 
 /// A share of 1, in the parts that shares are counted in.
 const WHOLE: u64 = 1 << 31;

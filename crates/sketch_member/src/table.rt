@@ -1,10 +1,10 @@
 //! The table that a caller owns.
 
-ghost use Rattle.std.specs.Prelude.{◌≡◌, ◌⊎◌, ℕ, ◌↔◌, length, IfOk, IsTrue, MatchResult};
+ghost use Rattle.std.specs.Prelude.{◌≡◌, ℕ, ◌↔◌, length, IfOk, IsTrue, MatchResult};
 ghost use Rattle.sketch_member.specs.Faults.{IsNewError, IsStepsError, steps};
 ghost use Rattle.sketch_member.specs.Form.{IsForm, form2};
-ghost use Rattle.sketch_member.specs.Table.{table_of, Table, IsTable, empty_table, Inserts, IsMember, IsSet, IsHashes, IsLog2Bits};
 ghost use Rattle.sketch_member.specs.Merge.{FirstDifference, Merges};
+ghost use Rattle.sketch_member.specs.Table.{IsHashes, IsLog2Bits, Inserts, IsMember, IsSet, IsTable, Table, empty_table, table_of};
 
 use crate::fault::MergeFault;
 use crate::filter::{Filter, byte_count};

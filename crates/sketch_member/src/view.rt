@@ -3,7 +3,7 @@
 ghost use Rattle.std.specs.Prelude.{◌≡◌, ◌↔◌, length, IsTrue, MatchResult};
 ghost use Rattle.sketch_member.specs.Faults.{IsFirstFault, view_steps};
 ghost use Rattle.sketch_member.specs.Form.{form2};
-ghost use Rattle.sketch_member.specs.Table.{table_of, IsMember, IsTable, Table};
+ghost use Rattle.sketch_member.specs.Table.{IsMember, IsTable, Table, table_of};
 
 use crate::fault::Fault;
 use crate::filter::Filter;
