@@ -101,25 +101,14 @@ fn found(mut table: Table, keys: impl Iterator<Item: AsRef<[u8]>> + Clone, times
 }
 
 #[unsafe(no_mangle)]
-pub unsafe extern "C" fn their_table(
-    first: *const u64,
-    count: usize,
-    log2_bits: u8,
-    hashes: u8,
-    times: usize,
-) -> u64 {
+pub unsafe extern "C" fn their_table(first: *const u64, count: usize, log2_bits: u8, hashes: u8, times: usize) -> u64 {
     let words = unsafe { slice(first, count) }.iter();
     found(Table::new(log2_bits, hashes), words.map(|word| word.to_le_bytes()), times)
 }
 
 #[unsafe(no_mangle)]
 pub unsafe extern "C" fn their_table_of_keys(
-    first: *const u8,
-    count: usize,
-    length: usize,
-    log2_bits: u8,
-    hashes: u8,
-    times: usize,
+    first: *const u8, count: usize, length: usize, log2_bits: u8, hashes: u8, times: usize,
 ) -> u64 {
     let keys = unsafe { slice(first, count) }.chunks_exact(length);
     found(Table::new(log2_bits, hashes), keys, times)
