@@ -14,7 +14,8 @@ pub murmur_of_one_write : (seed : ℕ) (bytes : List ℕ) (start state : State (
     MurmurStands start seed [] → state ≡ murmur_after start bytes → answer ≡ murmur_answer state →
     answer ≡ murmur seed bytes
 murmur_of_one_write seed bytes start state answer begun written answered =
-    answered ∙ murmur_answer-stands seed bytes state (murmur_stands_after start state bytes written seed [] begun)
+    answered ∙ murmur_answer-stands seed bytes state
+    (murmur_stands_after start state bytes written seed [] begun)
 
 widths-take-le : (n : ℕ) (kinds : List Kind) → widths (take n kinds) ≤ widths kinds
 widths-take-le zero kinds = omega arith

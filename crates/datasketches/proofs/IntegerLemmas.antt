@@ -44,8 +44,8 @@ integers hash apart seed x y p h k = (
 murmur-apart : PieceLaws → MurmurStepLaws → TellsWordsApart murmur
 murmur-apart ps ms seed u v p h k e =
     let none = All-nil IsByte in
-    let once = cut_block-once ps ms seed 0 [] (eight u) (eight v) p none (low_bytes-are 8 u) (low_bytes-are 8 v)
-    refl refl (omega arith) in
+    let once = cut_block-once ps ms seed 0 [] (eight u) (eight v) p none (low_bytes-are 8 u)
+    (low_bytes-are 8 v) refl refl (omega arith) in
     sym (le-back 8 u h) ∙ ap le (once e) ∙ le-back 8 v k
 
 pub murmur_integers : PieceLaws → MurmurStepLaws → IntegerLaw murmur
@@ -57,11 +57,15 @@ xxh64_integers ps ss = integers xxh64 (λ seed u v p. (hash_u64_law ps ss seed p
 -- eight bytes of integers, and the words that these are modulo 2 ^ 64
 pub murmur_modulo : PieceLaws → MurmurStepLaws → (seed : ℕ) (x y : ℤ) → IsWord seed →
     murmur seed (integer_bytes x) ≡ murmur seed (integer_bytes y) → modulo 64 x ≡ modulo 64 y
-murmur_modulo ps ms seed x y p = murmur-apart ps ms seed (modulo 64 x) (modulo 64 y) p (modulo-lt x) (modulo-lt y)
+murmur_modulo ps ms seed x y p =
+    murmur-apart ps ms seed (modulo 64 x) (modulo 64 y) p (modulo-lt x) (modulo-lt y)
 
 pub xxh64_modulo : PieceLaws → Xxh64StepLaws → (seed : ℕ) (x y : ℤ) → IsWord seed →
     xxh64 seed (integer_bytes x) ≡ xxh64 seed (integer_bytes y) → modulo 64 x ≡ modulo 64 y
-xxh64_modulo ps ss seed x y p = (hash_u64_law ps ss seed p).once (modulo 64 x) (modulo 64 y) (modulo-lt x) (modulo-lt y)
+xxh64_modulo ps ss seed x y p =
+    (hash_u64_law ps ss seed p).once (modulo 64 x) (modulo 64 y) (modulo-lt x) (modulo-lt y)
+
+pub ruleset both_hashes = (murmur_integers, xxh64_integers, murmur_modulo, xxh64_modulo)
 
 -- ---- the two ways to extend
 

@@ -1,4 +1,3 @@
-pub mod AgreeLemmas
 pub mod MurmurLawLemmas
 pub mod Xxh64LawLemmas
 pub mod IntegerLemmas

@@ -13,9 +13,9 @@ use Rattle.sketch_hash.specs.Pieces.{rest}
 use Rattle.sketch_hash.specs.Xxh64.{prime5, Lanes, lanes, merge, stripes, tail_step, tail_steps, avalanche, finalize, xxh64}
 use Rattle.sketch_hash.specs.Laws.{IsStep, step_widths, PieceLaws, Xxh64StepLaws}
 use Rattle.sketch_hash.proofs.OneToOneLemmas.{◌▸◌, alike}
-use Rattle.sketch_hash.proofs.WordsLemmas.{plus-lt}
+use Rattle.sketch_hash.proofs.WordLemmas.{plus-lt}
 use Rattle.datasketches.specs.Laws.{AgreeOutside, HashU64Law, XxTailLaw, XxSeedLaw}
-use Rattle.datasketches.proofs.AgreeLemmas.{agree-front, agree-back, agree-beyond, parts_at}
+use Rattle.datasketches.proofs.MurmurLawLemmas.{agree-front, agree-back, agree-beyond, parts_at}
 
 -- ---- a hash in two parts: the word that the tail begins at, and what is made of it
 

@@ -19,7 +19,7 @@ use sketch_hash::laws::{murmur_step_laws, piece_laws, xxh64_step_laws};
 /// Under one seed, two streams of one length that differ in one aligned block of sixteen bytes only
 /// have different pairs; the block may be cut off at their end. One stream under two seeds has
 /// different pairs too.
-#[tactic(auto, using(crate::proofs::MurmurLawLemmas::murmur_one_block, crate::proofs::MurmurLawLemmas::murmur_two_seeds, sketch_base::proofs::BytesLemmas::bytes_known))]
+#[tactic(auto, using(crate::proofs::MurmurLawLemmas::two_streams))]
 pub fn murmur_both(seed_a: u64, a: &[u8], seed_b: u64, b: &[u8]) -> ((u64, u64), (u64, u64))
     ensures values { result ≡ (murmur seed_a a.now, murmur seed_b b.now) }
     ensures one_block { seed_a ≡ seed_b → DifferInOneBlock a.now b.now → result.0 ≢ result.1 }
@@ -92,7 +92,7 @@ pub fn xx_seed_law()
 /// Whole numbers from -2^31 to 2^32 - 1, each written alone as eight bytes after one seed, have
 /// equal Murmur pairs exactly if they are equal, and equal XXH64 hashes exactly if they are equal.
 /// Any two whole numbers have equal hashes exactly if they agree modulo 2^64.
-#[tactic(auto, using(crate::proofs::IntegerLemmas::murmur_integers, crate::proofs::IntegerLemmas::xxh64_integers, crate::proofs::IntegerLemmas::murmur_modulo, crate::proofs::IntegerLemmas::xxh64_modulo))]
+#[tactic(auto, using(crate::proofs::IntegerLemmas::both_hashes))]
 pub fn integer_law()
     ensures murmur { IntegerLaw murmur }
     ensures xxh64 { IntegerLaw xxh64 }
@@ -125,7 +125,7 @@ pub fn extend_law()
 
 /// An item has one form in bytes, and so has a list of items of known kinds. A list is read back
 /// from its bytes, whatever follows them, and what follows remains.
-#[tactic(auto, using(sketch_base::proofs::ItemLawLemmas::item_law))]
+#[tactic(auto, using(sketch_base::proofs::ItemLemmas::item_law))]
 pub fn items_law()
     ensures { ItemLaw }
 {}

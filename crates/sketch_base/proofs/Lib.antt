@@ -1,4 +1,3 @@
 pub mod BytesLemmas
 pub mod ErrorLemmas
-pub mod ItemLawLemmas
 pub mod ItemLemmas

@@ -9,9 +9,8 @@ use Rattle.std.proofs.Math.Nat.{mod-add-mod, mod-eq_of_lt, suc-add, zero-mod}
 use Rattle.std.specs.Int.{w128, to_le_bytes}
 use Rattle.sketch_base.specs.Bytes.{low_bytes}
 use Rattle.sketch_base.proofs.BytesLemmas.{to_le_bytes-is}
-use Rattle.sketch_hash.proofs.MurmurWrites.{after_waits}
+use Rattle.sketch_hash.proofs.MurmurLemmas.{after_waits, murmur_stands_after}
 use Rattle.sketch_hash.specs.declared.hash.murmurhash.state.MurmurState.{MurmurState}
-use Rattle.sketch_hash.proofs.MurmurLemmas.{murmur_stands_after}
 use Rattle.sketch_hash.specs.declared.hash.xxhash.state.XxHash64State.{XxHash64State}
 use Rattle.sketch_hash.proofs.Xxh64Lemmas.{xxh64_stands_after}
 use Rattle.sketch_hash.specs.Held.{murmur_held, xxh64_held, MurmurHolds, Xxh64Holds}

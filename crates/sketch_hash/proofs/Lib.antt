@@ -1,5 +1,5 @@
 pub mod KnownAnswerLemmas
-pub mod WordsLemmas
+pub mod WordLemmas
 pub mod PiecesLemmas
 pub mod MurmurLemmas
 pub mod Xxh64Lemmas
@@ -7,6 +7,5 @@ pub mod OneToOneLemmas
 pub mod MurmurSteps
 pub mod Xxh64Steps
 pub mod NumberLemmas
-pub mod MurmurWrites
 pub mod BufferLemmas
 pub mod Xxh64Writes

@@ -8,7 +8,7 @@ use Rattle.std.specs.Prelude.{bit_xor}
 use Rattle.std.specs.Int.Bits.{xor_assoc, xor_self, xor_zero_r, xor_shr}
 use Rattle.std.proofs.Math.Nat.{div-eq_of_lt, pow-le-pow_right}
 use Rattle.std.proofs.lemmas.Nat.{xor_comm, mul-mod_first, mul-mod_second, shr_le, shr_split, shr_below, shr_high, mod_low, mul-add-lt, shr-shr, mod_below, pow_pos, pow-add}
-use Rattle.sketch_hash.proofs.WordsLemmas.{xor-is, xor-lt, xor_shift-is, rotated_up, times-lt}
+use Rattle.sketch_hash.proofs.WordLemmas.{xor-is, xor-lt, xor_shift-is, rotated_up, times-lt}
 
 -- the function that leaves every value
 pub same : {A : Type 0} {S : A → Type 0} → OneToOne S S (λ x. x)

@@ -2,7 +2,7 @@
 -- the tail step by step.
 use Rattle.std.proofs.Common.{◌≡◌, ℕ, zero, suc, ◌+◌, ◌*◌, ◌^◌, ◌%◌, ◌<◌, List, [], ◌∷◌, ◌++◌, length, take, get_or, replicate, w64, refl, sym, ap, ◌∙◌, arith, lit<, ◌-◌, ◌≤◌, drop, nat_lt, if◌then◌else◌, map, length-drop, zero-add}
 use Rattle.std.proofs.lemmas.Nat.{mod_below}
-use Rattle.sketch_hash.proofs.WordsLemmas.{rotate-is}
+use Rattle.sketch_hash.proofs.WordLemmas.{rotate-is}
 use borrow.Rule.Simd.Lanes.{act2}
 use borrow.Table.Row.{s_int}
 use mir.Syntax.{wrap_mul, wrap_add, shl, shr, unsigned}

@@ -9,8 +9,8 @@ use Rattle.sketch_hash.specs.declared.hash.murmurhash.state.MurmurState.{MurmurS
 use Rattle.sketch_hash.specs.declared.hash.xxhash.state.XxHash64State.{XxHash64State}
 use Rattle.sketch_hash.specs.Murmur.{MurmurStands}
 
--- ---- the states of hashers as plain words and bytes. Of `waiting` only the first bytes are part of
--- ---- the state: as many as the total has after its last full piece.
+-- ---- The states of hashers as plain words and bytes. Of `waiting` only the first bytes are part
+-- ---- of the state: as many as the total has after its last full piece.
 
 abbrev pub murmur_held : MurmurState → State (ℕ × ℕ)
 murmur_held s = record {

@@ -8,8 +8,7 @@ use Rattle.std.proofs.lemmas.List.Elements.{Contains-append_cases, Contains-appe
 use Rattle.std.proofs.lemmas.Nat.Bits.{bit_at-zero}
 use Rattle.datasketches.specs.Words.{IsWord}
 use Rattle.sketch_member.proofs.BitLemmas.{empty_is_table, zeros-get}
-use Rattle.sketch_member.proofs.InsertLemmas.{insert_law, same_index, same_table_bits}
-use Rattle.sketch_member.proofs.LawLemmas.{form_law, same_table}
+use Rattle.sketch_member.proofs.LawLemmas.{insert_law, same_index, same_table_bits, form_law, same_table}
 use Rattle.sketch_member.specs.Form.{form2}
 use Rattle.sketch_member.specs.Laws.{IsFormOfInserts, InsertsAll, IsMadeOf, MergeLaw, StandsFor, count_after}
 use Rattle.sketch_member.specs.declared.fault.Difference.{Difference}
@@ -56,6 +55,7 @@ same_by_bits a b is_a is_b alike count set =
 both : (before other after : Table) (values others : List (List ℕ)) →
     Merges other before after → StandsFor before values → StandsFor other others →
     StandsFor after (values ++ others)
+unfolding StandsFor
 both before other after values others merges stands stands_other i =
     let other_after = chained other before after (turned before other merges.alike) merges.kept in (
       (λ is. elim ((merges.bits i).0 is) [
@@ -331,7 +331,8 @@ merge_of_streams first second start start_other start_whole one other after half
     )
 
 -- and is never refused
-pub merge_accepted : (first second : List (List ℕ)) (start start_other one other : Table) (part : Difference) →
+pub merge_accepted : (first second : List (List ℕ)) (start start_other one other : Table)
+    (part : Difference) →
     IsFirstDifference one other part → InsertsAll first start one →
     InsertsAll second start_other other → start_other ≡ start → IsFirstDifference one other part × ⊥
 merge_accepted first second start start_other one other part differ all all_other same = (

@@ -19,7 +19,7 @@ pub record FormLaw : Type 0 where
 
 -- a table stands for these values, each given by the bytes that it feeds: the bits that are set are
 -- those at their indexes
-abbrev pub StandsFor : Table → List (List ℕ) → Type 0
+unfoldable pub StandsFor : Table → List (List ℕ) → Type 0
 StandsFor table values =
     (i : ℕ) → IsSet table.bits i ↔ ((fed : List ℕ) × Contains values fed × IsIndex table fed i)
 

@@ -1,4 +1,5 @@
--- What a Bloom filter is to its callers, what it knows of a value, and which sizes serve how many keys.
+-- What a Bloom filter is to its callers, what it knows of a value, and which sizes serve how many
+-- keys.
 use Rattle.std.specs.Prelude.{ℕ, ◌*◌, ◌-◌, ◌^◌, ◌≤◌, ◌≡◌, ◌+◌, ◌/◌, ◌%◌, ◌<◌, ◌↔◌, ◌⊎◌, min, List, length, replicate, slice_index, Option, Some, IfSome}
 use Rattle.std.specs.Option.{option_map}
 use Rattle.datasketches.specs.Words.{IsWord, plus, digit}
@@ -99,7 +100,7 @@ StaysBelow bits hashes keys one_in =
 pub record IsClearShare (bits e share : ℕ) : Type 0 where
   pub below : share * bits ^ e ≤ 2 ^ 31 * (bits - 1) ^ e
 
--- A share of 2 ^ 31 parts that is at least (p / m) ^ times where a share of `part` parts is at least
--- p / m
+-- A share of 2 ^ 31 parts that is at least (p / m) ^ times where a share of `part` parts is at
+-- least p / m
 pub record IsAbove (part times share : ℕ) : Type 0 where
   pub above : (p m : ℕ) → 2 ^ 31 * p ≤ part * m → 2 ^ 31 * p ^ times ≤ share * m ^ times

@@ -21,7 +21,7 @@ pub fn form_law()
 
 /// Tables of one seed and the same sizes have the same bits if the same values were inserted, in
 /// any order, and are equal if their counts are too. A table contains each of its values.
-#[tactic(auto, using(crate::proofs::InsertLemmas::insert_law))]
+#[tactic(auto, using(crate::proofs::LawLemmas::insert_law))]
 pub fn insert_law()
     ensures { InsertLaw }
 {}

@@ -107,7 +107,7 @@ impl MurmurHash3X64128 {
 
     // Takes fewer bytes than a block has.
     #[inline(always)]
-    #[tactic(auto, using(crate::proofs::MurmurWrites::partial))]
+    #[tactic(auto, using(crate::proofs::MurmurLemmas::partial))]
     fn write_partial(&mut self, bytes: &[u8])
         requires { length bytes.now < 16 }
         ensures { self.new ≡ murmur_after self.old bytes.now }
@@ -122,7 +122,7 @@ impl MurmurHash3X64128 {
 
     // Takes bytes that fill no block, and their number.
     #[inline(always)]
-    #[tactic(auto, using(crate::proofs::MurmurWrites::buffered))]
+    #[tactic(auto, using(crate::proofs::MurmurLemmas::buffered))]
     fn buffer_bytes(&mut self, bytes: &[u8], number: u128)
         requires number { number ≡ le bytes.now }
         requires few { length self.old.waiting + length bytes.now < 16 }
@@ -135,7 +135,7 @@ impl MurmurHash3X64128 {
 
     // Takes fewer bytes than a block has, and their number, which fill the block that is begun.
     #[inline(always)]
-    #[tactic(auto, using(crate::proofs::MurmurWrites::completed))]
+    #[tactic(auto, using(crate::proofs::MurmurLemmas::completed))]
     fn complete_block(&mut self, bytes: &[u8], number: u128)
         requires number { number ≡ le bytes.now }
         requires few { length bytes.now < 16 }
@@ -152,7 +152,7 @@ impl MurmurHash3X64128 {
     // Takes at least as many bytes as a block has: all blocks but the first straight from the
     // slice.
     #[inline(always)]
-    #[tactic(auto, using(crate::proofs::MurmurWrites::in_blocks))]
+    #[tactic(auto, using(crate::proofs::MurmurLemmas::in_blocks))]
     fn write_blocks(&mut self, bytes: &[u8])
         requires { 16 ≤ length bytes.now }
         ensures { self.new ≡ murmur_after self.old bytes.now }
@@ -329,7 +329,7 @@ fn cross(h1: u64, h2: u64) -> (u64, u64)
 
 // The hash of `total` bytes, from the pair that their blocks and their tail left.
 #[inline(always)]
-#[tactic(auto, unfolding(crate::specs::Murmur::finalize), using(crate::proofs::WordsLemmas::words))]
+#[tactic(auto, unfolding(crate::specs::Murmur::finalize), using(crate::proofs::WordLemmas::xors))]
 fn finalize(h1: u64, h2: u64, total: u64) -> (u64, u64)
     ensures { result ≡ finalize (h1, h2) total }
 {
@@ -339,7 +339,7 @@ fn finalize(h1: u64, h2: u64, total: u64) -> (u64, u64)
 
 // The same where a hasher is inlined. In one call the test would cost keys of 1 to 8 bytes a tenth.
 #[inline(always)]
-#[tactic(auto, unfolding(crate::specs::Murmur::finalize), using(crate::proofs::WordsLemmas::words))]
+#[tactic(auto, unfolding(crate::specs::Murmur::finalize), using(crate::proofs::WordLemmas::xors))]
 fn finalize_hasher(h1: u64, h2: u64, total: u64) -> (u64, u64)
     ensures { result ≡ finalize (h1, h2) total }
 {

@@ -142,7 +142,8 @@ impl<T, S> DerefMut for Value<T, S> {
     ghost deref_mut_gives = { λ value inner. inner ≡ value };
 
     fn deref_mut(&mut self) -> &mut T
-        ensures* writes_back { sem 𝓛 (Lends (the_row T.row S.row) T.row self.entry result (λ written. written)) }
+        ensures* writes_back { sem 𝓛 (Lends (the_row T.row S.row) T.row self.entry result
+            (λ written. written)) }
         ensures shows { result.now ≡ self.old }
     {
         &mut self.value

@@ -50,7 +50,7 @@ pub(crate) fn read_u128_le(bytes: &[u8]) -> u128
 
 /// A word xor the same word shifted to the right by `places`.
 #[inline(always)]
-#[tactic(auto, using(crate::proofs::WordsLemmas::words))]
+#[tactic(auto, using(crate::proofs::WordLemmas::xors))]
 pub(crate) fn xor_shift(word: u64, places: u32) -> u64
     requires { places < 64 }
     ensures { result ≡ xor_shift places word }
@@ -62,7 +62,7 @@ pub(crate) fn xor_shift(word: u64, places: u32) -> u64
 ///
 /// Next to a multiplication LLVM turns a shift of the rotation into a second multiplication. In a
 /// function of its own, and with a constant number of places, it sees the rotation first.
-#[tactic(auto, using(crate::proofs::WordsLemmas::rotation))]
+#[tactic(auto, using(crate::proofs::WordLemmas::rotation))]
 pub(crate) fn rotate<const PLACES: u32>(word: u64) -> u64
     requires above { 0 < PLACES }
     requires below { PLACES < 64 }

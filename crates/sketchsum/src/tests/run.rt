@@ -1,4 +1,4 @@
-use super::fakes::{Full, NarrowWriter, SlowReader};
+use super::{Full, NarrowWriter, SlowReader};
 use crate::arguments::Algorithm;
 use crate::ending::RunFault;
 use crate::run::{run, run_bounded};

@@ -64,7 +64,7 @@ impl MurmurState {
     }
 
     #[inline(always)]
-    #[tactic(auto, using(crate::proofs::MurmurWrites::partial))]
+    #[tactic(auto, using(crate::proofs::MurmurLemmas::partial))]
     fn consume_blocks(&mut self, bytes: &[u8])
         ensures { murmur_held self.new ≡ murmur_after (murmur_held self.old) bytes.now }
     {

@@ -20,7 +20,7 @@ pub(super) fn read_partial_le(bytes: &[u8]) -> u128
 
 /// The same as two words, the lower first.
 #[inline(always)]
-#[tactic(auto, using(crate::proofs::MurmurWrites::kept))]
+#[tactic(auto, using(crate::proofs::MurmurLemmas::kept))]
 pub(super) fn read_partial_words(bytes: &[u8]) -> (u64, u64)
     requires { length bytes.now < 16 }
     ensures words { result ≡ (le bytes.now % 2 ^ 64, le bytes.now / 2 ^ 64) }
@@ -90,7 +90,7 @@ fn combine_overlapping(first: u32, last: u32, width: usize, count: usize) -> u64
 /// The words of waiting bytes and of others behind them, where these fill no block. The number is
 /// that of the others.
 #[inline(always)]
-#[tactic(auto, using(crate::proofs::MurmurWrites::together))]
+#[tactic(auto, using(crate::proofs::MurmurLemmas::together))]
 pub(super) fn append(low: u64, high: u64, count: usize, bytes: &[u8], number: u128) -> (u64, u64)
     requires waits { (low < 256 ^ min count 8) × (high < 256 ^ (count - 8)) }
     requires few { count + length bytes.now < 16 }
@@ -104,7 +104,7 @@ pub(super) fn append(low: u64, high: u64, count: usize, bytes: &[u8], number: u1
 /// The words of the block that waiting bytes and others behind them fill. The number is that of the
 /// first 16 of the others.
 #[inline(always)]
-#[tactic(auto, using(crate::proofs::MurmurWrites::filled))]
+#[tactic(auto, using(crate::proofs::MurmurLemmas::filled))]
 pub(super) fn complete(low: u64, high: u64, count: usize, bytes: &[u8], number: u128) -> (u64, u64)
     requires waits { (low < 256 ^ min count 8) × (high < 256 ^ (count - 8)) }
     requires begun { count < 16 }
@@ -119,7 +119,7 @@ pub(super) fn complete(low: u64, high: u64, count: usize, bytes: &[u8], number: 
 /// The words of those of the others that do not fit into the block. The number is that of the
 /// others.
 #[inline(always)]
-#[tactic(auto, using(crate::proofs::MurmurWrites::beyond))]
+#[tactic(auto, using(crate::proofs::MurmurLemmas::beyond))]
 pub(super) fn left_over(count: usize, bytes: &[u8], number: u128) -> (u64, u64)
     requires begun { count < 16 }
     requires few { length bytes.now < 16 }
@@ -133,7 +133,7 @@ pub(super) fn left_over(count: usize, bytes: &[u8], number: u128) -> (u64, u64)
 
 // The words of waiting bytes with a number behind them. What goes beyond a block falls out.
 #[inline(always)]
-#[tactic(auto, using(crate::proofs::MurmurWrites::placed))]
+#[tactic(auto, using(crate::proofs::MurmurLemmas::placed))]
 fn place_behind(low: u64, high: u64, count: usize, number: u128) -> (u64, u64)
     requires { count < 16 }
     ensures { let sum = (low + high * 2 ^ 64 + number * 256 ^ count) % 2 ^ 128 in
@@ -160,7 +160,7 @@ fn split_words(number: u128) -> (u64, u64)
 
 /// The words of the first `count` bytes of a block, for a `count` below 16.
 #[inline(always)]
-#[tactic(auto, using(crate::proofs::MurmurWrites::front))]
+#[tactic(auto, using(crate::proofs::MurmurLemmas::front))]
 pub(super) fn read_front(block: &[u8; 16], count: usize) -> (u64, u64)
     requires { count < 16 }
     ensures { Waits count result.0 result.1 (take count block.now) }

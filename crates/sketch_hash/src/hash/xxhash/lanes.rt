@@ -160,7 +160,7 @@ pub(super) fn merge(words: ScalarLanes) -> u64
 }
 
 #[inline(always)]
-#[tactic(auto, unfolding(crate::specs::Xxh64::merge_round), using(crate::proofs::WordsLemmas::words))]
+#[tactic(auto, unfolding(crate::specs::Xxh64::merge_round), using(crate::proofs::WordLemmas::xors))]
 fn merge_round(hash: u64, lane: u64) -> u64
     ensures { result ≡ merge_round hash lane }
 {

@@ -105,7 +105,7 @@ fn fold_few(hash: u64, bytes: &[u8]) -> u64
 }
 
 #[inline(always)]
-#[tactic(auto, unfolding(crate::specs::Xxh64::eight_step), using(crate::proofs::WordsLemmas::words))]
+#[tactic(auto, unfolding(crate::specs::Xxh64::eight_step), using(crate::proofs::WordLemmas::xors))]
 pub(super) fn eight_step(hash: u64, word: u64) -> u64
     ensures { result ≡ eight_step hash word }
 {
@@ -115,7 +115,7 @@ pub(super) fn eight_step(hash: u64, word: u64) -> u64
 }
 
 #[inline(always)]
-#[tactic(auto, unfolding(crate::specs::Xxh64::four_step), using(crate::proofs::WordsLemmas::words))]
+#[tactic(auto, unfolding(crate::specs::Xxh64::four_step), using(crate::proofs::WordLemmas::xors))]
 fn four_step(hash: u64, word: u32) -> u64
     ensures { result ≡ four_step hash word }
 {
@@ -125,7 +125,7 @@ fn four_step(hash: u64, word: u32) -> u64
 }
 
 #[inline(always)]
-#[tactic(auto, unfolding(crate::specs::Xxh64::byte_step), using(crate::proofs::WordsLemmas::words))]
+#[tactic(auto, unfolding(crate::specs::Xxh64::byte_step), using(crate::proofs::WordLemmas::xors))]
 fn byte_step(hash: u64, byte: u8) -> u64
     ensures { result ≡ byte_step hash byte }
 {

@@ -86,4 +86,4 @@ of_words x y p q = sym (xor-is x y p q)
 pub of_swapped_words : (x y : ℕ) → IsWord x → IsWord y → bit_xor x y ≡ xor y x
 of_swapped_words x y p q = xor_comm x y ∙ sym (xor-is y x q p)
 
-pub ruleset words = (of_words, of_swapped_words)
+pub ruleset xors = (of_words, of_swapped_words)
