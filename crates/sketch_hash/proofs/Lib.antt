@@ -1,4 +1,3 @@
-pub mod KnownAnswerLemmas
 pub mod WordLemmas
 pub mod PiecesLemmas
 pub mod MurmurLemmas

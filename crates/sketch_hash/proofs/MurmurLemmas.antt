@@ -1,5 +1,6 @@
 -- What a hasher in a state answers, where the state is that of a seed and bytes; and what writes leave
 -- in its fields, where the number of the waiting bytes is kept as two words.
+use Rattle.sketch_hash.specs.KnownAnswers.{MurmurAnswers}
 use Rattle.std.proofs.Common.{◌≡◌, ℕ, ◌+◌, ◌-◌, ◌*◌, min, ◌%◌, ◌/◌, ◌^◌, ◌<◌, ◌≤◌, List, [], ◌∷◌, ◌++◌, sym, length, get_or, Fits, w8, refl, ap, ◌∙◌, arith, zero-add, take, drop, map, subst, length-append, length-drop}
 use Rattle.std.specs.Prelude.{bit_xor}
 use Rattle.std.specs.Int.Bits.{xor_zero_r}
@@ -308,3 +309,16 @@ last_count count total last behind bytes at enough is cut =
     omega (arith, size, length-drop (16 - count) bytes, at, enough)
 
 pub ruleset in_blocks = (waiting_size, take_rest, after_blocks, last_count)
+
+-- ---- published answers, computed over the definition
+
+pub murmur_answers : MurmurAnswers
+unfolding xor_below xor rotate pieces rest mix1 mix2 fmix step1 step2 step with_tail finalize murmur
+murmur_answers = record {
+  dog = refl;
+  eog = refl;
+  blocks_and_one_byte = refl;
+  tail_of_eight = refl;
+  no_tail = refl;
+  high_bytes = refl;
+}

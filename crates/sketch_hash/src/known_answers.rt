@@ -17,13 +17,13 @@ pub const TEST_BUFFER: [u8; 100] = [
 ];
 
 /// The definition of MurmurHash3 gives the answers in the tests of Apache DataSketches.
-#[tactic(auto, using(crate::proofs::KnownAnswerLemmas::murmur_answers))]
+#[tactic(auto, using(crate::proofs::MurmurLemmas::murmur_answers))]
 pub fn murmur_answers()
     ensures { MurmurAnswers }
 {}
 
 /// The definition of XXH64 gives the answers in xxHash's tests.
-#[tactic(auto, using(crate::proofs::KnownAnswerLemmas::xxh64_answers))]
+#[tactic(auto, using(crate::proofs::Xxh64Lemmas::xxh64_answers))]
 pub fn xxh64_answers()
     ensures { Xxh64Answers }
 {}

@@ -2,7 +2,6 @@ mod cuts;
 mod equalities;
 mod fed;
 mod samples;
-mod table;
 mod vectors;
 
 use datasketches::hash::{Hasher, MurmurHash3X64128, XxHash64};

@@ -1,8 +1,11 @@
-//! Known answers of both hashes.
+//! Known answers of both hashes, and a Bloom filter in bytes of version 1, which hold no count.
 
-use crate::tests::{FOX, FOX_MURMUR, assert_same_for};
+use crate::tests::{FOX, FOX_MURMUR, assert_same, assert_same_for};
+use datasketches::error::Error;
+use datasketches::hash::value::raw_bytes;
 use datasketches::hash::{Hasher, MurmurHash3X64128, XxHash64};
 use sketch_hash::known_answers::TEST_BUFFER;
+use sketch_member::MemberTable;
 
 // What Murmur answers under seed 0: the input, and the two words.
 const MURMUR: [(&[u8], (u64, u64)); 6] = [
@@ -59,4 +62,25 @@ fn xxh64_vectors(rt: HostRuntime) {
         hasher.write(&TEST_BUFFER[..(*count).min(100)]);
         assert_same_for(&rt, hasher.finish64(), *expected, (count, seed));
     }
+}
+
+// A table of 64 bits and one hash that has the empty text.
+const VERSION_1: &[u8] = b"\x02\x01\xc8\x06\x01\0\0\0\0\0\0\0\0\0\0\0\0\0\0\x02\0\0\0\0";
+
+#[test]
+fn an_insert_leaves_the_count_unknown(rt: HostRuntime) -> Result<(), Error> {
+    let mut table = MemberTable::from_bytes(rt.alloc(), VERSION_1)?;
+    table.insert(&raw_bytes::from_str(""));
+    assert_same(&rt, table.count(), None);
+    Ok(())
+}
+
+#[test]
+fn a_table_written_and_read_again_has_its_value_and_no_count(rt: HostRuntime) -> Result<(), Error> {
+    let table = MemberTable::from_bytes(rt.alloc(), VERSION_1)?;
+    let written = table.to_bytes(rt.alloc())?;
+    let again = MemberTable::from_bytes(rt.alloc(), &written)?;
+    assert_same(&rt, again.contains(&raw_bytes::from_str("")), true);
+    assert_same(&rt, again.count(), None);
+    Ok(())
 }
