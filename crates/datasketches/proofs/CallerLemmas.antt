@@ -4,7 +4,7 @@ use Rattle.std.specs.List.{All}
 use Rattle.sketch_base.specs.declared.codec.item.Item.{Item}
 use Rattle.sketch_base.specs.declared.codec.item.Kind.{Kind}
 use Rattle.sketch_base.specs.Items.{InType, item_kind, spell_all, widths}
-use Rattle.sketch_base.proofs.ItemLawLemmas.{item_law}
+use Rattle.sketch_base.proofs.ItemLemmas.{item_law}
 use Rattle.sketch_hash.specs.Pieces.{State}
 use Rattle.sketch_hash.specs.Murmur.{murmur, murmur_after, murmur_answer, MurmurStands}
 use Rattle.sketch_hash.proofs.MurmurLemmas.{murmur_answer-stands, murmur_stands_after}
