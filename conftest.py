@@ -12,9 +12,7 @@ import sysconfig
 import pytest
 
 ROOT = pathlib.Path(__file__).parent
-# .ci/run names the folder of what `rt ci` has just proved and built, and tested: those tests are not run twice.
-PROVED = os.environ.get("PROVED")
-collect_ignore = ["tests/test_crates.py"] if PROVED else []
+PROVED = os.environ.get("PROVED")  # the folder of what `rt ci` has just proved and built, as .ci/run names it
 if os.environ.get("CI"):
     pytest.importorskip = importlib.import_module  # a module that is missing fails
 
