@@ -1,3 +1,4 @@
+pub mod KnownAnswers
 pub mod Laws
 pub mod Strategies
 -- what the public contracts of the crates below speak of, for the crates above

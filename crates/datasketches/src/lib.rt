@@ -6,6 +6,7 @@
 pub use sketch_base::{codec, error};
 pub use sketch_hash::hash;
 
+pub mod known_answers;
 pub mod laws;
 #[cfg(test)]
 mod tests;

@@ -6,8 +6,8 @@ use crate::codec::{Item, Kind, SketchBytes, SketchSlice};
 use crate::error::ErrorKind;
 use crate::hash::value::{natural_extend, raw_bytes, sign_extend};
 use crate::hash::{Hash, compute_seed_hash};
+use crate::known_answers::TEST_BUFFER;
 use crate::laws::{murmur_both, xx_both};
-use sketch_hash::known_answers::TEST_BUFFER;
 use std::fmt::Debug;
 use std::process::Abort;
 

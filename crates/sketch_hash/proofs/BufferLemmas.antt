@@ -5,7 +5,7 @@ use Rattle.std.proofs.Math.Seq.{take-append-add, take-append_seam}
 use Rattle.std.proofs.lemmas.List.{take_all, drop_all, length-take, length-take-le, take_rest, take-append-drop, take-append-le}
 use Rattle.std.proofs.lemmas.Slice.{put_mid-paste, drop-put_mid}
 use borrow.Rule.Slice.PartMut.{put_mid, post_of}
-use Rattle.std.proofs.Math.Nat.{mod-add-mod, mod-eq_of_lt, suc-add, zero-mod}
+use Rattle.std.proofs.Math.Nat.{mod-add-mod, mod-eq_of_lt, suc-add}
 use Rattle.std.specs.Int.{w128, to_le_bytes}
 use Rattle.sketch_base.specs.Bytes.{low_bytes}
 use Rattle.sketch_base.proofs.BytesLemmas.{to_le_bytes-is}
@@ -14,7 +14,6 @@ use Rattle.sketch_hash.specs.declared.hash.murmurhash.state.MurmurState.{MurmurS
 use Rattle.sketch_hash.specs.declared.hash.xxhash.state.XxHash64State.{XxHash64State}
 use Rattle.sketch_hash.proofs.Xxh64Lemmas.{xxh64_stands_after}
 use Rattle.sketch_hash.specs.Held.{murmur_held, xxh64_held, MurmurHolds, Xxh64Holds}
-use Rattle.sketch_hash.specs.Pieces.{State}
 use Rattle.sketch_hash.specs.Murmur.{murmur_after}
 use Rattle.sketch_hash.specs.Xxh64.{xxh64_after}
 

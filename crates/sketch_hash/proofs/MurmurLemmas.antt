@@ -1,6 +1,5 @@
 -- What a hasher in a state answers, where the state is that of a seed and bytes; and what writes leave
 -- in its fields, where the number of the waiting bytes is kept as two words.
-use Rattle.sketch_hash.specs.KnownAnswers.{MurmurAnswers}
 use Rattle.std.proofs.Common.{◌≡◌, ℕ, ◌+◌, ◌-◌, ◌*◌, min, ◌%◌, ◌/◌, ◌^◌, ◌<◌, ◌≤◌, List, [], ◌∷◌, ◌++◌, sym, length, get_or, Fits, w8, refl, ap, ◌∙◌, arith, zero-add, take, drop, map, subst, length-append, length-drop}
 use Rattle.std.specs.Prelude.{bit_xor}
 use Rattle.std.specs.Int.Bits.{xor_zero_r}
@@ -51,6 +50,8 @@ xor_mix2-zero h w = xor-is h 0 w (omega arith) ∙ xor_zero_r h
 pub fmix_zero : (x : ℕ) → x ≡ 0 → 0 ≡ fmix x
 unfolding fmix xor xor_below
 fmix_zero x e = rw e refl
+
+pub ruleset ends = (fmix_zero, of_words, of_swapped_words)
 
 -- no tail, a tail of one word, and one of two: their words enter those of the hash
 pub no_tail : (h1 h2 : ℕ) (tail : List ℕ) → IsWord h1 → IsWord h2 → length tail ≡ 0 →
@@ -278,7 +279,7 @@ after_fills state bytes fits low few enough =
 
 pub ruleset completed = (waiting_size, take_all, after_fills)
 
-pub ruleset partial = (waiting_size)
+pub ruleset partial = (waiting_size, written_after)
 
 pub after_blocks : (state : State (ℕ × ℕ)) (bytes : List ℕ) → state.total < 2 ^ 64 →
     length state.waiting < 16 → 16 ≤ length bytes →
@@ -309,16 +310,3 @@ last_count count total last behind bytes at enough is cut =
     omega (arith, size, length-drop (16 - count) bytes, at, enough)
 
 pub ruleset in_blocks = (waiting_size, take_rest, after_blocks, last_count)
-
--- ---- published answers, computed over the definition
-
-pub murmur_answers : MurmurAnswers
-unfolding xor_below xor rotate pieces rest mix1 mix2 fmix step1 step2 step with_tail finalize murmur
-murmur_answers = record {
-  dog = refl;
-  eog = refl;
-  blocks_and_one_byte = refl;
-  tail_of_eight = refl;
-  no_tail = refl;
-  high_bytes = refl;
-}

@@ -1,6 +1,5 @@
 -- XXH64's definition as the code meets it: its lanes as the code holds them, stripe by stripe, and
 -- the tail step by step.
-use Rattle.sketch_hash.specs.KnownAnswers.{test_bytes_from, Xxh64Answers}
 use Rattle.std.proofs.Common.{◌≡◌, ℕ, zero, suc, ◌+◌, ◌*◌, ◌^◌, ◌%◌, ◌<◌, List, [], ◌∷◌, ◌++◌, length, take, get_or, replicate, w64, refl, sym, ap, ◌∙◌, arith, lit<, ◌-◌, ◌≤◌, drop, nat_lt, if◌then◌else◌, map, length-drop, zero-add}
 use Rattle.std.proofs.lemmas.Nat.{mod_below}
 use Rattle.sketch_hash.proofs.WordLemmas.{rotate-is}
@@ -12,7 +11,7 @@ use Rattle.std.specs.List.{fold}
 use Rattle.std.specs.Simd.Lanes.{zip2}
 use Rattle.std.proofs.lemmas.List.{take_more, nil_from_length, map-id, take_rest}
 use Rattle.std.proofs.lemmas.List.Sums.{fold-append}
-use Rattle.sketch_hash.specs.Xxh64.{Lanes, round, prime1, prime2, stripe_step, seeded_step, each_lane, prime5, lanes_start, lanes, merge, steps_of, steps, tail_step, eight_step, four_step, byte_step, avalanche, finalize, xxh64, xxh64_start, xxh64_after, xxh64_answer, Xxh64Stands, merge_round}
+use Rattle.sketch_hash.specs.Xxh64.{Lanes, round, prime1, prime2, stripe_step, seeded_step, each_lane, prime5, lanes_start, lanes, merge, steps_of, steps, tail_step, eight_step, four_step, byte_step, avalanche, finalize, xxh64, xxh64_start, xxh64_after, xxh64_answer, Xxh64Stands}
 use Rattle.sketch_hash.specs.Held.{lanes_of, stripe_words}
 use Rattle.std.proofs.Math.Nat.{mod-eq_of_lt}
 use Rattle.std.proofs.lemmas.Bool.{lt-ltb, le-ltb}
@@ -21,7 +20,7 @@ use Rattle.sketch_base.specs.Bytes.{le, eight}
 use Rattle.sketch_base.proofs.BytesLemmas.{le-back}
 use Rattle.sketch_hash.specs.Pieces.{pieces, rest, State, absorb}
 use Rattle.sketch_hash.specs.PiecesWriteLemmas.{xxh64_after-append}
-use Rattle.sketch_hash.specs.Words.{IsWord, plus, xor_below, xor, rotate}
+use Rattle.sketch_hash.specs.Words.{IsWord, plus}
 use Rattle.sketch_hash.proofs.PiecesLemmas.{pieces_short, rest_short, pieces-first, rest-first}
 
 -- ---- the lanes
@@ -277,17 +276,3 @@ pub written_after : (state : State (ℕ × Lanes)) (before bytes : List ℕ) →
 written_after state before bytes = sym (xxh64_after-append state before bytes)
 
 pub ruleset eight_bytes = (xxh64-eight)
-
--- ---- published answers, computed over the definition
-
-pub xxh64_answers : Xxh64Answers
-unfolding xor_below xor rotate pieces rest round lanes_start lanes merge_round merge steps eight_step
-    four_step byte_step tail_step avalanche finalize xxh64 test_bytes_from
-xxh64_answers = record {
-  no_bytes = refl;
-  one_byte_seeded = refl;
-  one_stripe = refl;
-  stripe_and_byte = refl;
-  three_stripes_and_word = refl;
-  three_stripes_and_word_seeded = refl;
-}

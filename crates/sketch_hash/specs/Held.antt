@@ -4,7 +4,6 @@ use Rattle.std.specs.Prelude.{◌≡◌, ℕ, ◌+◌, ◌-◌, ◌*◌, ◌^◌
 use Rattle.sketch_base.specs.Bytes.{low_bytes}
 use Rattle.sketch_hash.specs.Pieces.{word_at, State}
 use Rattle.sketch_hash.specs.Xxh64.{Lanes, Xxh64Stands}
-use Rattle.sketch_hash.specs.declared.hash.xxhash.lanes.ScalarLanes.{ScalarLanes}
 use Rattle.sketch_hash.specs.declared.hash.murmurhash.state.MurmurState.{MurmurState}
 use Rattle.sketch_hash.specs.declared.hash.xxhash.state.XxHash64State.{XxHash64State}
 use Rattle.sketch_hash.specs.Murmur.{MurmurStands}
@@ -57,11 +56,6 @@ lanes_of v = record {
 abbrev pub stripe_words : List ℕ → List ℕ
 stripe_words stripe = word_at 0 stripe ∷ word_at 1 stripe ∷ word_at 2 stripe ∷ word_at 3 stripe ∷ []
 
--- four lanes as words
-abbrev pub lanes_of_scalars : ScalarLanes → Lanes
-lanes_of_scalars v = record { v1 = v.v1; v2 = v.v2; v3 = v.v3; v4 = v.v4 }
-
 -- the state of a stream with a seed and these lanes
-abbrev pub state_of_scalars : ℕ → ScalarLanes → ℕ → List ℕ → State (ℕ × Lanes)
-state_of_scalars seed v total waiting =
-    record { folded = (seed, lanes_of_scalars v); total = total; waiting = waiting }
+abbrev pub state_of : ℕ → Lanes → ℕ → List ℕ → State (ℕ × Lanes)
+state_of seed v total waiting = record { folded = (seed, v); total = total; waiting = waiting }

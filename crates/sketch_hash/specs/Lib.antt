@@ -7,7 +7,6 @@ pub mod Columns
 pub mod Held
 pub mod SeedHash
 pub mod Laws
-pub mod KnownAnswers
 -- ---- Lemmas, by their names: nobody has to believe these, for they are proved here. They stand in
 -- ---- specs/ because the proof of a law in an `impl` may cite nothing else.
 pub mod PiecesWriteLemmas

@@ -3,7 +3,6 @@
 #![tactic(auto)]
 
 pub mod hash;
-pub mod known_answers;
 pub mod laws;
 #[cfg(test)]
 mod tests;

@@ -25,6 +25,17 @@ const FOX_PIECES: [&[u8]; 4] = [
     b"he lazy dog",
 ];
 
+/// The first bytes of the buffer that xxHash's own tests make.
+fn test_buffer() -> [u8; 100] {
+    let mut bytes = [0; 100];
+    let mut state: u64 = 0x9E37_79B1;
+    for byte in &mut bytes {
+        *byte = (state >> 56) as u8;
+        state = state.wrapping_mul(0x9E37_79B1_85EB_CA8D);
+    }
+    bytes
+}
+
 /// Asserts that two values are equal.
 fn assert_same<T: PartialEq + Debug + Drop>(rt: &impl Abort, left: T, right: T) {
     assert_eq!(rt; left, right);

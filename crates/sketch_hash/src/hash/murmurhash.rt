@@ -105,21 +105,6 @@ impl MurmurHash3X64128 {
         finalize(h1, h2, bytes.len() as u64)
     }
 
-    // Takes fewer bytes than a block has.
-    #[inline(always)]
-    #[tactic(auto, using(crate::proofs::MurmurLemmas::partial))]
-    fn write_partial(&mut self, bytes: &[u8])
-        requires { length bytes.now < 16 }
-        ensures { self.new ≡ murmur_after self.old bytes.now }
-    {
-        let number = read_partial_le(bytes);
-        if self.count + bytes.len() < BLOCK {
-            self.buffer_bytes(bytes, number);
-        } else {
-            self.complete_block(bytes, number);
-        }
-    }
-
     // Takes bytes that fill no block, and their number.
     #[inline(always)]
     #[tactic(auto, using(crate::proofs::MurmurLemmas::buffered))]
@@ -194,16 +179,21 @@ impl Hasher for MurmurHash3X64128 {
     ghost answer = { λ h. (murmur_answer h).0 };
 
     #[inline(always)]
-    #[tactic(auto, using(crate::proofs::MurmurLemmas::written_after))]
+    #[tactic(auto, using(crate::proofs::MurmurLemmas::partial))]
     fn write(&mut self, bytes: &[u8])
         ensures after { self.new ≡ murmur_after self.old bytes.now }
         ensures stands { (seed : ℕ) (before : List ℕ) → MurmurStands self.old seed before →
             MurmurStands self.new seed (before ++ bytes.now) }
     {
-        if bytes.len() < BLOCK {
-            self.write_partial(bytes);
-        } else {
+        if bytes.len() >= BLOCK {
             self.write_blocks(bytes);
+            return;
+        }
+        let number = read_partial_le(bytes);
+        if self.count + bytes.len() < BLOCK {
+            self.buffer_bytes(bytes, number);
+        } else {
+            self.complete_block(bytes, number);
         }
     }
 
@@ -305,19 +295,6 @@ fn fmix(word: u64) -> u64
     xor_shift(twice, 33)
 }
 
-// `fmix` with a test, for which LLVM makes no vector code of a caller's loop over keys of 8 bytes.
-// In that a multiplication of 64 bits is three, which takes a third longer.
-#[inline(always)]
-#[tactic(auto, using(crate::proofs::MurmurLemmas::fmix_zero))]
-fn fmix_unless_zero(word: u64) -> u64
-    ensures { result ≡ fmix word }
-{
-    if word == 0 {
-        return 0;
-    }
-    fmix(word)
-}
-
 // The first word takes the sum of both, and then the second does.
 #[inline(always)]
 fn cross(h1: u64, h2: u64) -> (u64, u64)
@@ -337,12 +314,15 @@ fn finalize(h1: u64, h2: u64, total: u64) -> (u64, u64)
     cross(fmix(h1), fmix(h2))
 }
 
-// The same where a hasher is inlined. In one call the test would cost keys of 1 to 8 bytes a tenth.
+// The same where a hasher is inlined. With the test LLVM makes no vector code of a caller's loop over
+// keys of 8 bytes, in which a multiplication of 64 bits is three, and which takes a third longer. In
+// one call the test would cost keys of 1 to 8 bytes a tenth.
 #[inline(always)]
-#[tactic(auto, unfolding(crate::specs::Murmur::finalize), using(crate::proofs::WordLemmas::xors))]
+#[tactic(auto, unfolding(crate::specs::Murmur::finalize), using(crate::proofs::MurmurLemmas::ends))]
 fn finalize_hasher(h1: u64, h2: u64, total: u64) -> (u64, u64)
     ensures { result ≡ finalize (h1, h2) total }
 {
     let (h1, h2) = cross(h1 ^ total, h2 ^ total);
-    cross(fmix_unless_zero(h1), fmix(h2))
+    let first = if h1 == 0 { 0 } else { fmix(h1) };
+    cross(first, fmix(h2))
 }

@@ -10,10 +10,7 @@ pub(crate) fn read_u64_le(bytes: &[u8]) -> u64
     requires { length bytes.now ≡ 8 }
     ensures { result ≡ le bytes.now }
 {
-    match bytes.as_array::<8>() {
-        Some(word) => u64::from_le_bytes(*word),
-        None => 0,
-    }
+    bytes.as_array().map_or(0, |word| u64::from_le_bytes(*word))
 }
 
 #[inline(always)]
@@ -21,10 +18,7 @@ pub(crate) fn read_u16_le(bytes: &[u8]) -> u16
     requires { length bytes.now ≡ 2 }
     ensures { result ≡ le bytes.now }
 {
-    match bytes.as_array::<2>() {
-        Some(word) => u16::from_le_bytes(*word),
-        None => 0,
-    }
+    bytes.as_array().map_or(0, |word| u16::from_le_bytes(*word))
 }
 
 #[inline(always)]
@@ -32,10 +26,7 @@ pub(crate) fn read_u32_le(bytes: &[u8]) -> u32
     requires { length bytes.now ≡ 4 }
     ensures { result ≡ le bytes.now }
 {
-    match bytes.as_array::<4>() {
-        Some(word) => u32::from_le_bytes(*word),
-        None => 0,
-    }
+    bytes.as_array().map_or(0, |word| u32::from_le_bytes(*word))
 }
 
 #[inline(always)]

@@ -7,14 +7,14 @@ ghost use Rattle.sketch_base.specs.Bytes.{eight};
 ghost use Rattle.sketch_hash.specs.Pieces.{State, pieces};
 ghost use Rattle.sketch_hash.specs.Words.{plus};
 ghost use Rattle.sketch_hash.specs.Xxh64.{Lanes, prime5, lanes_start, merge, tail_step, steps, avalanche, xxh64, xxh64_after, xxh64_answer, Xxh64Stands, each_lane};
-ghost use Rattle.sketch_hash.specs.Held.{lanes_of, lanes_of_scalars, state_of_scalars};
+ghost use Rattle.sketch_hash.specs.Held.{lanes_of, state_of};
 ghost use Rattle.sketch_hash.specs.PiecesWriteLemmas.{xxh64_after-append, xxh64_after-empty};
 
 mod lanes;
 mod state;
 mod tail;
 
-use self::lanes::{ScalarLanes, StripeRound, fold_run, fold_stripes, merge};
+use self::lanes::{ScalarLanes, fold_run, fold_stripes, merge, vector_round};
 pub use self::state::XxHash64State;
 use self::tail::{avalanche, eight_step, fold_below_16, fold_from_16, fold_tail};
 use super::copy::copy_small;
@@ -90,7 +90,12 @@ impl XxHash64 {
         ensures stands { (seed : ℕ) (bytes : List ℕ) → Xxh64Stands self.now seed bytes →
             result ≡ xxh64 seed bytes }
     {
-        let hash = self.before_tail().wrapping_add(self.total);
+        let hash = if self.total < STRIPE as u64 {
+            self.seed.wrapping_add(PRIME5)
+        } else {
+            merge(ScalarLanes::from_vector(&self.lanes))
+        };
+        let hash = hash.wrapping_add(self.total);
         avalanche(fold_tail(hash, &self.buffer[..self.count]))
     }
 
@@ -120,29 +125,6 @@ impl XxHash64 {
         avalanche(eight_step(seed.wrapping_add(PRIME5).wrapping_add(8), input))
     }
 
-    // The hash before the length and the tail enter it: of the seed alone if less than a stripe was
-    // counted, and else of the four lanes.
-    #[inline(always)]
-    fn before_tail(&self) -> u64
-        ensures { result ≡ (if nat_lt self.now.total 32
-            then plus self.now.folded.0 prime5 else merge self.now.folded.1) }
-    {
-        if self.total < STRIPE as u64 {
-            self.seed.wrapping_add(PRIME5)
-        } else {
-            merge(ScalarLanes::from_vector(&self.lanes))
-        }
-    }
-
-    // How many bytes fill the next stripe.
-    #[inline(always)]
-    fn missing_bytes(&self) -> usize
-        ensures missing { result ≡ 32 - length self.now.waiting }
-        ensures short { length self.now.waiting < 32 }
-    {
-        STRIPE - self.count
-    }
-
     // Takes bytes that fill no stripe. The fields are set after the copy: what was set before it
     // LLVM would read again from memory, since it does not know where the copy goes.
     #[inline(always)]
@@ -170,9 +152,7 @@ impl XxHash64 {
         let count = self.count;
         copy_small(&mut self.buffer, count, bytes);
         self.count = 0;
-        let mut lanes = self.lanes;
-        lanes.stripe_round(&self.buffer);
-        self.lanes = lanes;
+        self.lanes = vector_round(self.lanes, &self.buffer);
     }
 
     // Takes whole stripes straight from the slice, and then the bytes after them, where no byte
@@ -220,8 +200,8 @@ fn consume(lanes: ScalarLanes, buffer: &mut [u8; STRIPE], count: usize, bytes: &
     requires short { count < 32 }
     requires fills { (32 - count) % 32 ≤ length bytes.now }
     ensures { (seed total : ℕ) → total < 2 ^ 64 →
-        xxh64_after (state_of_scalars seed lanes total (take count buffer.old)) bytes.now
-        ≡ state_of_scalars seed result ((total + length bytes.now) % 2 ^ 64)
+        xxh64_after (state_of seed lanes total (take count buffer.old)) bytes.now
+        ≡ state_of seed result ((total + length bytes.now) % 2 ^ 64)
         (take ((count + length bytes.now) % 32) buffer.new) }
 {
     let missing = (STRIPE - count) % STRIPE;
@@ -244,8 +224,7 @@ fn complete(
 ) -> ScalarLanes
     requires short { count < 32 }
     requires fills { length front.now ≡ (32 - count) % 32 }
-    ensures { lanes_of_scalars result
-        ≡ each_lane (lanes_of_scalars lanes) (pieces 32 (take count buffer.old ++ front.now)) }
+    ensures { result ≡ each_lane lanes (pieces 32 (take count buffer.old ++ front.now)) }
 {
     if !front.is_empty() {
         copy_small(buffer, count, front);
@@ -286,7 +265,7 @@ impl Hasher for XxHash64 {
         ensures stands { (seed : ℕ) (before : List ℕ) → Xxh64Stands self.old seed before →
             Xxh64Stands self.new seed (before ++ bytes.now) }
     {
-        let missing = self.missing_bytes();
+        let missing = STRIPE - self.count;
         if bytes.len() < missing {
             self.buffer_bytes(bytes);
         } else if missing == STRIPE {

@@ -1,8 +1,7 @@
 //! Both hashers by their single calls.
 
-use super::{FOX, FOX_MURMUR, FOX_PIECES, FOX_XXH64, assert_same};
+use super::{FOX, FOX_MURMUR, FOX_PIECES, FOX_XXH64, assert_same, test_buffer};
 use crate::hash::{Hasher, MurmurHash3X64128, XxHash64};
-use crate::known_answers::TEST_BUFFER;
 
 // What Murmur answers under seed 0 after a write of each piece.
 const MURMUR: [(&[&[u8]], (u64, u64)); 4] = [
@@ -49,7 +48,7 @@ const XXH64: [(u64, usize, u64); 5] = [
 fn xxh64_of_the_test_buffer(rt: HostRuntime) {
     for (seed, count, expected) in &XXH64 {
         let mut hasher = XxHash64::with_seed(*seed);
-        hasher.write(&TEST_BUFFER[..(*count).min(100)]);
+        hasher.write(&test_buffer()[..(*count).min(100)]);
         assert_same(&rt, hasher.finish64(), *expected);
     }
 }
@@ -57,9 +56,11 @@ fn xxh64_of_the_test_buffer(rt: HostRuntime) {
 #[test]
 fn xxh64_is_asked_and_goes_on(rt: HostRuntime) {
     let mut hasher = XxHash64::with_seed(0);
-    hasher.write(&TEST_BUFFER[..32]);
+    let bytes = test_buffer();
+    let (stripe, behind) = bytes.split_at(32);
+    hasher.write(stripe);
     assert_same(&rt, hasher.finish64(), 0x18b2_1649_2bb4_4b70);
-    hasher.write(&TEST_BUFFER[32..33]);
+    hasher.write(&behind[..1]);
     assert_same(&rt, hasher.finish(), 0x55c8_dc3e_578f_5b59);
 }
 

@@ -4,7 +4,7 @@ use crate::tests::{FOX, FOX_MURMUR, assert_same, assert_same_for};
 use datasketches::error::Error;
 use datasketches::hash::value::raw_bytes;
 use datasketches::hash::{Hasher, MurmurHash3X64128, XxHash64};
-use sketch_hash::known_answers::TEST_BUFFER;
+use datasketches::known_answers::TEST_BUFFER;
 use sketch_member::MemberTable;
 
 // What Murmur answers under seed 0: the input, and the two words.

@@ -38,7 +38,9 @@ impl MurmurState {
         if bytes.len() < BLOCK - self.waiting_count() {
             self.buffer_bytes(bytes);
         } else {
-            self.consume_blocks(bytes);
+            let mut hasher = MurmurHash3X64128::resume(self);
+            hasher.write(bytes);
+            *self = hasher.state();
         }
     }
 
@@ -61,16 +63,6 @@ impl MurmurState {
         let count = self.waiting_count();
         self.total = self.total.wrapping_add(bytes.len() as u64);
         copy_small(&mut self.waiting, count, bytes);
-    }
-
-    #[inline(always)]
-    #[tactic(auto, using(crate::proofs::MurmurLemmas::partial))]
-    fn consume_blocks(&mut self, bytes: &[u8])
-        ensures { murmur_held self.new ≡ murmur_after (murmur_held self.old) bytes.now }
-    {
-        let mut hasher = MurmurHash3X64128::resume(self);
-        hasher.write(bytes);
-        *self = hasher.state();
     }
 }
 

@@ -2,29 +2,12 @@
 
 ghost use Rattle.std.specs.Prelude.{◌≡◌};
 ghost use Rattle.sketch_hash.specs.Xxh64.{Lanes, lanes_start, round, merge_round, merge, stripe_step, each_lane};
-ghost use Rattle.sketch_hash.specs.Held.{lanes_of, lanes_of_scalars, stripe_words};
+ghost use Rattle.sketch_hash.specs.Held.{lanes_of, stripe_words};
 
 use super::{PRIME1, PRIME2, PRIME4};
 use crate::hash::words::{read_u64_le, rotate};
+use std::marker::Model;
 use std::simd::prelude::*;
-
-/// Four lanes that take a stripe.
-pub(super) trait StripeRound {
-    ghost lanes: { Self → Lanes };
-
-    /// Takes each lane on by its word of a stripe.
-    fn stripe_round(&mut self, stripe: &[u8; 32])
-        ensures { lanes self.new ≡ stripe_step (lanes self.old) stripe.now };
-}
-
-impl StripeRound for u64x4 {
-    ghost lanes = { lanes_of };
-
-    #[inline(always)]
-    fn stripe_round(&mut self, stripe: &[u8; 32]) {
-        *self = vector_round(*self, stripe);
-    }
-}
 
 /// The lanes as four words. Processors before AVX-512 multiply these faster than a vector.
 #[derive(Clone, Copy)]
@@ -35,12 +18,20 @@ pub(super) struct ScalarLanes {
     pub(super) v4: u64,
 }
 
+impl Model for ScalarLanes {
+    ghost Value = { Lanes };
+
+    ghost view = { λ v. record { v1 = v.v1; v2 = v.v2; v3 = v.v3; v4 = v.v4 } };
+
+    ghost inverse = { λ v. record { v1 = v.v1; v2 = v.v2; v3 = v.v3; v4 = v.v4 } };
+}
+
 impl ScalarLanes {
     /// Where the lanes start.
     #[inline(always)]
     #[tactic(auto, unfolding(crate::specs::Xxh64::lanes_start))]
     pub(super) fn start(seed: u64) -> Self
-        ensures { lanes_of_scalars result ≡ lanes_start seed }
+        ensures { result ≡ lanes_start seed }
     {
         ScalarLanes {
             v1: seed.wrapping_add(PRIME1).wrapping_add(PRIME2),
@@ -52,7 +43,7 @@ impl ScalarLanes {
 
     #[inline(always)]
     pub(super) fn from_vector(lanes: &u64x4) -> Self
-        ensures { lanes_of_scalars result ≡ lanes_of lanes.now }
+        ensures { result ≡ lanes_of lanes.now }
     {
         let [v1, v2, v3, v4] = *lanes.as_array();
         ScalarLanes { v1, v2, v3, v4 }
@@ -60,18 +51,17 @@ impl ScalarLanes {
 
     #[inline(always)]
     pub(super) fn into_vector(self) -> u64x4
-        ensures { lanes_of result ≡ lanes_of_scalars self }
+        ensures { lanes_of result ≡ self }
     {
         u64x4::from_array([self.v1, self.v2, self.v3, self.v4])
     }
-}
 
-impl StripeRound for ScalarLanes {
-    ghost lanes = { lanes_of_scalars };
-
+    /// Takes each lane on by its word of a stripe.
     #[inline(always)]
     #[tactic(auto, unfolding(crate::specs::Xxh64::stripe_step))]
-    fn stripe_round(&mut self, stripe: &[u8; 32]) {
+    pub(super) fn stripe_round(&mut self, stripe: &[u8; 32])
+        ensures { self.new ≡ stripe_step self.old stripe.now }
+    {
         self.v1 = round(self.v1, read_u64_le(&stripe[0..8]));
         self.v2 = round(self.v2, read_u64_le(&stripe[8..16]));
         self.v3 = round(self.v3, read_u64_le(&stripe[16..24]));
@@ -83,7 +73,7 @@ impl StripeRound for ScalarLanes {
 /// takes registers from short keys, and those of 16 and of 24 bytes take a tenth longer.
 #[inline(always)]
 pub(super) fn fold_run(mut lanes: ScalarLanes, stripes: &[[u8; 32]]) -> ScalarLanes
-    ensures { lanes_of_scalars result ≡ each_lane (lanes_of_scalars lanes) stripes.now }
+    ensures { result ≡ each_lane lanes stripes.now }
 {
     if stripes.len() >= 4 {
         return fold_long(lanes, stripes);
@@ -93,8 +83,8 @@ pub(super) fn fold_run(mut lanes: ScalarLanes, stripes: &[[u8; 32]]) -> ScalarLa
 }
 
 #[inline(never)]
-fn fold_long<L: StripeRound>(mut lanes: L, stripes: &[[u8; 32]]) -> L
-    ensures { L.lanes result ≡ each_lane (L.lanes lanes) stripes.now }
+fn fold_long(mut lanes: ScalarLanes, stripes: &[[u8; 32]]) -> ScalarLanes
+    ensures { result ≡ each_lane lanes stripes.now }
 {
     fold_stripes(&mut lanes, stripes);
     lanes
@@ -103,18 +93,18 @@ fn fold_long<L: StripeRound>(mut lanes: L, stripes: &[[u8; 32]]) -> L
 /// Folds stripes into the lanes, one after another.
 #[inline(always)]
 #[tactic(auto, using(crate::proofs::Xxh64Lemmas::each_more))]
-pub(super) fn fold_stripes<L: StripeRound>(lanes: &mut L, stripes: &[[u8; 32]])
-    ensures { L.lanes lanes.new ≡ each_lane (L.lanes lanes.old) stripes.now }
+pub(super) fn fold_stripes(lanes: &mut ScalarLanes, stripes: &[[u8; 32]])
+    ensures { lanes.new ≡ each_lane lanes.old stripes.now }
 {
     for stripe in stripes {
         lanes.stripe_round(stripe);
     }
 }
 
-// All four lanes at once.
+/// Takes on all four lanes at once, as a vector.
 #[inline(always)]
 #[tactic(auto, using(crate::proofs::Xxh64Lemmas::vectors))]
-fn vector_round(lanes: u64x4, stripe: &[u8; 32]) -> u64x4
+pub(super) fn vector_round(lanes: u64x4, stripe: &[u8; 32]) -> u64x4
     ensures { lanes_of result ≡ stripe_step (lanes_of lanes) stripe.now }
 {
     let sums = lanes + stripe_words(stripe) * u64x4::splat(PRIME2);
@@ -147,7 +137,7 @@ fn stripe_words(stripe: &[u8; 32]) -> u64x4
 #[inline(always)]
 #[tactic(auto, unfolding(crate::specs::Xxh64::merge))]
 pub(super) fn merge(words: ScalarLanes) -> u64
-    ensures { result ≡ merge (lanes_of_scalars words) }
+    ensures { result ≡ merge words }
 {
     let sum = rotate::<1>(words.v1)
         .wrapping_add(rotate::<7>(words.v2))

@@ -3,7 +3,7 @@
 //! Each function here does nothing: its contract is computed from the definitions. So a definition
 //! that answers otherwise is refused.
 
-ghost use Rattle.sketch_hash.specs.KnownAnswers.{MurmurAnswers, Xxh64Answers};
+ghost use Rattle.datasketches.specs.KnownAnswers.{MurmurAnswers, Xxh64Answers};
 
 /// The first bytes of the buffer that [xxHash's own tests](https://github.com/Cyan4973/xxHash) use.
 pub const TEST_BUFFER: [u8; 100] = [
@@ -17,13 +17,13 @@ pub const TEST_BUFFER: [u8; 100] = [
 ];
 
 /// The definition of MurmurHash3 gives the answers in the tests of Apache DataSketches.
-#[tactic(auto, using(crate::proofs::MurmurLemmas::murmur_answers))]
+#[tactic(auto, using(crate::proofs::KnownAnswers::murmur_answers))]
 pub fn murmur_answers()
     ensures { MurmurAnswers }
 {}
 
 /// The definition of XXH64 gives the answers in xxHash's tests.
-#[tactic(auto, using(crate::proofs::Xxh64Lemmas::xxh64_answers))]
+#[tactic(auto, using(crate::proofs::KnownAnswers::xxh64_answers))]
 pub fn xxh64_answers()
     ensures { Xxh64Answers }
 {}
