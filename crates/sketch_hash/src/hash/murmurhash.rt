@@ -314,8 +314,8 @@ fn finalize(h1: u64, h2: u64, total: u64) -> (u64, u64)
     cross(fmix(h1), fmix(h2))
 }
 
-// The same where a hasher is inlined. With the test LLVM makes no vector code of a caller's loop over
-// keys of 8 bytes, in which a multiplication of 64 bits is three, and which takes a third longer. In
+// The same where a hasher is inlined. With the test LLVM makes no vector code of a caller's loop
+// over keys of 8 bytes; in that a multiplication of 64 bits is three, which takes a third longer. In
 // one call the test would cost keys of 1 to 8 bytes a tenth.
 #[inline(always)]
 #[tactic(auto, unfolding(crate::specs::Murmur::finalize), using(crate::proofs::MurmurLemmas::ends))]
