@@ -315,7 +315,7 @@ fn finalize(h1: u64, h2: u64, total: u64) -> (u64, u64)
 }
 
 // The same where a hasher is inlined. With the test LLVM makes no vector code of a caller's loop
-// over keys of 8 bytes; in that a multiplication of 64 bits is three, which takes a third longer. In
+// over keys of 8 bytes: there a multiplication of 64 bits is three, which takes a third longer. In
 // one call the test would cost keys of 1 to 8 bytes a tenth.
 #[inline(always)]
 #[tactic(auto, unfolding(crate::specs::Murmur::finalize), using(crate::proofs::MurmurLemmas::ends))]
