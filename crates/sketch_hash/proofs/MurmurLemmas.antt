@@ -255,7 +255,7 @@ unfolding murmur_after
 after_waits state bytes fits few =
     state_after-waits 16 block_words step state bytes fits (rw (length-append state.waiting bytes) few)
 
-pub ruleset buffered = (waiting_size, after_waits)
+pub ruleset buffered = (waiting_size, after_waits, together)
 
 pub after_fills : (state : State (ℕ × ℕ)) (bytes : List ℕ) → state.total < 2 ^ 64 →
     length state.waiting < 16 → length bytes < 16 → 16 ≤ length state.waiting + length bytes →
@@ -277,7 +277,7 @@ after_fills state bytes fits low few enough =
     state_after-through 16 block_words step state bytes missing (omega arith) fits low within full
     ∙ rw (none, same) refl
 
-pub ruleset completed = (waiting_size, take_all, after_fills)
+pub ruleset completed = (waiting_size, take_all, after_fills, filled, beyond)
 
 pub ruleset partial = (waiting_size, written_after)
 
@@ -309,4 +309,4 @@ last_count count total last behind bytes at enough is cut =
     ap length (is ∙ ap (rest 16) cut) ∙ length_rest 16 left in
     omega (arith, size, length-drop (16 - count) bytes, at, enough)
 
-pub ruleset in_blocks = (waiting_size, take_rest, after_blocks, last_count)
+pub ruleset in_blocks = (waiting_size, take_rest, after_blocks, last_count, filled)

@@ -12,7 +12,7 @@ mod state;
 mod tail;
 
 pub use self::state::MurmurState;
-use self::tail::{append, complete, join_words, left_over, read_partial_le, read_partial_words};
+use self::tail::{join_words, place_behind, read_partial_le, read_partial_words, split_words};
 use super::DEFAULT_UPDATE_SEED;
 use super::hasher::Hasher;
 use super::words::{read_u128_le, rotate, split_pieces, xor_shift};
@@ -113,7 +113,7 @@ impl MurmurHash3X64128 {
         requires few { length self.old.waiting + length bytes.now < 16 }
         ensures { self.new ≡ murmur_after self.old bytes.now }
     {
-        (self.low, self.high) = append(self.low, self.high, self.count, bytes, number);
+        (self.low, self.high) = place_behind(self.low, self.high, self.count, number);
         self.total = self.total.wrapping_add(bytes.len() as u64);
         self.count += bytes.len();
     }
@@ -127,9 +127,9 @@ impl MurmurHash3X64128 {
         requires enough { 16 ≤ length self.old.waiting + length bytes.now }
         ensures { self.new ≡ murmur_after self.old bytes.now }
     {
-        let (k1, k2) = complete(self.low, self.high, self.count, bytes, number);
+        let (k1, k2) = place_behind(self.low, self.high, self.count, number);
         (self.h1, self.h2) = step(self.h1, self.h2, k1, k2);
-        (self.low, self.high) = left_over(self.count, bytes, number);
+        (self.low, self.high) = split_words(number >> (8 * (BLOCK - self.count)));
         self.total = self.total.wrapping_add(bytes.len() as u64);
         self.count = self.count + bytes.len() - BLOCK;
     }
@@ -143,7 +143,7 @@ impl MurmurHash3X64128 {
         ensures { self.new ≡ murmur_after self.old bytes.now }
     {
         let front = read_u128_le(&bytes[..BLOCK]);
-        let (k1, k2) = complete(self.low, self.high, self.count, bytes, front);
+        let (k1, k2) = place_behind(self.low, self.high, self.count, front);
         let (h1, h2) = step(self.h1, self.h2, k1, k2);
         let (blocks, last) = split_pieces::<BLOCK>(&bytes[BLOCK - self.count..]);
         (self.h1, self.h2) = fold_blocks(h1, h2, blocks);

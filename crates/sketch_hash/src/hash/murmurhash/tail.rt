@@ -85,54 +85,10 @@ fn combine_overlapping(first: u32, last: u32, width: usize, count: usize) -> u64
     u64::from(first) | (behind << (8 * width))
 }
 
-/// The words of waiting bytes and of others behind them, where these fill no block. The number is
-/// that of the others.
-#[inline(always)]
-#[tactic(auto, using(crate::proofs::MurmurLemmas::together))]
-pub(super) fn append(low: u64, high: u64, count: usize, bytes: &[u8], number: u128) -> (u64, u64)
-    requires waits { (low < 256 ^ min count 8) × (high < 256 ^ (count - 8)) }
-    requires few { count + length bytes.now < 16 }
-    requires number { number ≡ le bytes.now }
-    ensures { Waits (count + length bytes.now) result.0 result.1
-        (low_bytes count (low + high * 2 ^ 64) ++ bytes.now) }
-{
-    place_behind(low, high, count, number)
-}
-
-/// The words of the block that waiting bytes and others behind them fill. The number is that of the
-/// first 16 of the others.
-#[inline(always)]
-#[tactic(auto, using(crate::proofs::MurmurLemmas::filled))]
-pub(super) fn complete(low: u64, high: u64, count: usize, bytes: &[u8], number: u128) -> (u64, u64)
-    requires waits { (low < 256 ^ min count 8) × (high < 256 ^ (count - 8)) }
-    requires begun { count < 16 }
-    requires enough { 16 ≤ count + length bytes.now }
-    requires number { number ≡ le (take 16 bytes.now) }
-    ensures { result ≡ block_words
-        (low_bytes count (low + high * 2 ^ 64) ++ take (16 - count) bytes.now) }
-{
-    place_behind(low, high, count, number)
-}
-
-/// The words of those of the others that do not fit into the block. The number is that of the
-/// others.
-#[inline(always)]
-#[tactic(auto, using(crate::proofs::MurmurLemmas::beyond))]
-pub(super) fn left_over(count: usize, bytes: &[u8], number: u128) -> (u64, u64)
-    requires begun { count < 16 }
-    requires few { length bytes.now < 16 }
-    requires enough { 16 ≤ count + length bytes.now }
-    requires number { number ≡ le bytes.now }
-    ensures { Waits (count + length bytes.now - 16) result.0 result.1
-        (drop (16 - count) bytes.now) }
-{
-    split_words(number >> (8 * (BLOCK - count)))
-}
-
-// The words of waiting bytes with a number behind them. What goes beyond a block falls out.
+/// The words of waiting bytes with a number behind them. What goes beyond a block falls out.
 #[inline(always)]
 #[tactic(auto, using(crate::proofs::MurmurLemmas::placed))]
-fn place_behind(low: u64, high: u64, count: usize, number: u128) -> (u64, u64)
+pub(super) fn place_behind(low: u64, high: u64, count: usize, number: u128) -> (u64, u64)
     requires { count < 16 }
     ensures { let sum = (low + high * 2 ^ 64 + number * 256 ^ count) % 2 ^ 128 in
         result ≡ (sum % 2 ^ 64, sum / 2 ^ 64) }
@@ -150,7 +106,7 @@ pub(super) fn join_words(low: u64, high: u64) -> u128
 
 /// The two words of a block, from its number.
 #[inline(always)]
-fn split_words(number: u128) -> (u64, u64)
+pub(super) fn split_words(number: u128) -> (u64, u64)
     ensures { result ≡ (number % 2 ^ 64, number / 2 ^ 64) }
 {
     ((number % (1 << 64)) as u64, (number >> 64) as u64)

@@ -90,12 +90,18 @@ fn fold_few(hash: u64, bytes: &[u8]) -> u64
     requires { length bytes.now < 4 }
     ensures { result ≡ fold byte_step hash bytes.now }
 {
-    match *bytes {
-        [] => hash,
-        [a] => byte_step(hash, a),
-        [a, b] => byte_step(byte_step(hash, a), b),
-        [a, b, c, ..] => byte_step(byte_step(byte_step(hash, a), b), c),
-    }
+    let Some((first, rest)) = bytes.split_first() else {
+        return hash;
+    };
+    let hash = byte_step(hash, *first);
+    let Some((second, rest)) = rest.split_first() else {
+        return hash;
+    };
+    let hash = byte_step(hash, *second);
+    let Some((third, _)) = rest.split_first() else {
+        return hash;
+    };
+    byte_step(hash, *third)
 }
 
 #[inline(always)]
