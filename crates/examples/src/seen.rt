@@ -143,9 +143,8 @@ pub fn build_table_in<T: Hash>(
         (λ _. IsFormOfInserts seed log2_bits hashes (map T.fed keys.now) bytes.new)
         (λ fault. (bytes.new ≡ bytes.old)
         × IsFirstFault (length bytes.old) (init_steps log2_bits hashes bytes.old) fault) }
-    ensures same { (table : Table) → IsTable table →
-        InsertsAll (map T.fed keys.now) (empty_table seed log2_bits hashes) table →
-        IfOk result (λ _. bytes.new ≡ form2 table) }
+    ensures same { IfOk result (λ _. (others : List ℕ) →
+        IsFormOfInserts seed log2_bits hashes (map T.fed keys.now) others → bytes.new ≡ others) }
 {
     insert_law();
     in_place::init(bytes, seed, log2_bits, hashes)?;
