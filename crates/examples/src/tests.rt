@@ -1,7 +1,9 @@
 use crate::items::there_and_back;
 use crate::keys::{hash_texts, is_same_key, pair_of, pair_of_value};
 use crate::own::{BigEndian, Point};
-use crate::seen::{build_table_in, load_keys, merge_worker, read_back, read_upgraded, see_key, see_key_in};
+use crate::seen::{
+    build_table_in, load_keys, merge_worker, read_back, read_upgraded, see_key, see_key_in,
+};
 use crate::sketch::{check_preamble, write_preamble};
 use crate::streams::{checkpoint, murmur_of_pieces, xxh64_from};
 use datasketches::codec::{Item, Kind};
@@ -67,7 +69,8 @@ fn keys_are_seen_once_saved(rt: HostRuntime) -> Result<(), Fail> {
     assert!(rt; !see_key(&mut seen, b"a"));
     let mut saved = seen.to_bytes(rt.alloc())?;
     let mut built = [0xff; 152];
-    assert_eq!(rt; build_table_in(&mut built, 0, 10, 7, &[raw_bytes::from_str("a")]), Ok(()));
+    let keys = [raw_bytes::from_str("a")];
+    assert_eq!(rt; build_table_in(&mut built, 0, 10, 7, &keys), Ok(()));
     assert_eq!(rt; built.as_slice(), saved.as_slice());
     assert_eq!(rt; see_key_in(&mut saved, b"a"), Ok(true));
     assert_eq!(rt; see_key_in(&mut saved, b"b"), Ok(false));
