@@ -4,8 +4,8 @@ ghost use Rattle.std.specs.Prelude.{ℕ, List, None, ◌≡◌, ◌⊎◌, ◌�
 ghost use Rattle.datasketches.specs.ErrorValue.{memory_error};
 ghost use Rattle.datasketches.specs.Refusals.{Refuses};
 ghost use Rattle.sketch_member.specs.Faults.{IsFirstFault, IsStepsError, fault_text, init_steps, steps, view_steps};
-ghost use Rattle.sketch_member.specs.Form.{IsForm, TableChanges, form1, form2};
-ghost use Rattle.sketch_member.specs.Laws.{InsertsAll, IsFormOfInserts, StandsFor, count_after};
+ghost use Rattle.sketch_member.specs.Form.{IsForm, TableChanges, form1};
+ghost use Rattle.sketch_member.specs.Laws.{IsFormOfInserts, StandsFor, count_after};
 ghost use Rattle.sketch_member.specs.Table.{Inserts, IsMember, IsTable, Table, empty_table};
 
 use datasketches::error::{Error, ErrorKind};

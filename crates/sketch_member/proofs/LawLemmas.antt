@@ -359,8 +359,10 @@ one_form : (seed log2_bits hashes : ℕ) (values : List (List ℕ)) (bytes other
     IsFormOfInserts seed log2_bits hashes values bytes →
     IsFormOfInserts seed log2_bits hashes values others → bytes ≡ others
 unfolding IsFormOfInserts
-one_form seed log2_bits hashes values bytes others (table, is, lies, all) (other, is_other, other_lies, alls) =
-    lies ∙ ap form2 (made_once seed log2_bits hashes values table other all alls is is_other) ∙ sym other_lies
+one_form seed log2_bits hashes values bytes others (table, is, lies, all)
+    (other, is_other, lies_other, all_other) =
+    lies ∙ ap form2 (made_once seed log2_bits hashes values table other all all_other is is_other)
+    ∙ sym lies_other
 
 pub insert_law : InsertLaw
 insert_law = record {

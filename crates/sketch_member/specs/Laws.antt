@@ -47,7 +47,7 @@ IsFormOfInserts seed log2_bits hashes values bytes =
 -- A table with no bit set stands for no values, and each insert adds one. A table misses none of
 -- its values. Its inserts are counted. Of one seed and sizes, tables that stand for the same values
 -- have the same bits, in whatever order and however often these were inserted, and are the same
--- where their counts are. Bytes of the same inserts are the same.
+-- where their counts are. The same inserts into an empty table make the same bytes.
 pub record InsertLaw : Type 0 where
   pub none : (table : Table) → ((i : ℕ) → IsSet table.bits i → ⊥) → StandsFor table []
   pub one_more : (before after : Table) (fed : List ℕ) (values : List (List ℕ)) →

@@ -11,8 +11,8 @@ pub fn form_law()
 {}
 
 /// Tables of one seed and the same sizes have the same bits if the same values were inserted, in
-/// any order, and are equal if their counts are too. A table contains each of its values. The bytes
-/// of a table that a stream of values makes are the same in whatever way it is made.
+/// any order, and are equal if their counts are too. A table contains each of its values. The same
+/// inserts into an empty table make the same bytes.
 #[tactic(auto, using(crate::proofs::LawLemmas::insert_law))]
 pub fn insert_law()
     ensures { InsertLaw }
