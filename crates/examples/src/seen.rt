@@ -1,16 +1,17 @@
 //! Keys that were seen, in a Bloom filter that is saved, loaded and merged.
 
-ghost use Rattle.std.specs.Prelude.{ℕ, List, ◌≡◌, ◌⊎◌, ◌↔◌, ◌+◌, [], ◌∷◌, ◌++◌, IfErr, IfOk, IsTrue, MatchResult, length};
+ghost use Rattle.std.specs.Prelude.{ℕ, List, None, ◌≡◌, ◌⊎◌, ◌↔◌, ◌+◌, [], ◌∷◌, ◌++◌, IfErr, IfOk, IsTrue, MatchResult, length, map};
 ghost use Rattle.datasketches.specs.ErrorValue.{memory_error};
 ghost use Rattle.datasketches.specs.Refusals.{Refuses};
-ghost use Rattle.sketch_member.specs.Faults.{IsFirstFault, fault_text, steps, view_steps};
-ghost use Rattle.sketch_member.specs.Form.{IsForm, TableChanges};
-ghost use Rattle.sketch_member.specs.Laws.{StandsFor, count_after};
-ghost use Rattle.sketch_member.specs.Table.{Inserts, IsMember, empty_table};
+ghost use Rattle.sketch_member.specs.Faults.{IsFirstFault, IsStepsError, fault_text, init_steps, steps, view_steps};
+ghost use Rattle.sketch_member.specs.Form.{IsForm, TableChanges, form1};
+ghost use Rattle.sketch_member.specs.Laws.{IsFormOfInserts, StandsFor, count_after};
+ghost use Rattle.sketch_member.specs.Table.{Inserts, IsMember, IsTable, Table, empty_table};
 
 use datasketches::error::{Error, ErrorKind};
+use datasketches::hash::Hash;
 use datasketches::hash::value::raw_bytes;
-use sketch_member::laws::{form_law, insert_law, merge_law};
+use sketch_member::laws::{form_law, insert_law, merge_law, table_law};
 use sketch_member::{Fault, MemberTable, TableView, in_place};
 use std::alloc::Global;
 
@@ -89,5 +90,66 @@ pub fn merge_worker(
 {
     merge_law();
     seen.merge(alloc, worker)?;
+    Ok(())
+}
+
+/// A table that is saved and read back: it is the same, count and all.
+///
+/// # Errors
+///
+/// Where memory runs out, and nowhere else: `OutOfMemory`, with no message.
+pub fn read_back(alloc: Global, table: &MemberTable) -> Result<MemberTable, Error>
+    ensures { MatchResult result (λ read. read ≡ table.now) (λ error. error ≡ memory_error) }
+{
+    form_law();
+    table_law(table);
+    let bytes = table.to_bytes(alloc)?;
+    MemberTable::from_bytes(alloc, &bytes)
+}
+
+/// The table that was in the bytes, written in version 2 and read again. Bytes of version 1 have
+/// no count.
+///
+/// # Errors
+///
+/// As those of [`MemberTable::from_bytes`]; memory may run out in the writing too.
+pub fn read_upgraded(alloc: Global, bytes: &[u8]) -> Result<MemberTable, Error>
+    ensures same { MatchResult result
+        (λ again. IsTable again × IsForm again bytes.now)
+        (IsStepsError ErrorKind.InvalidData (length bytes.now) (steps bytes.now)) }
+    ensures version1 { (table : Table) → IsTable table → bytes.now ≡ form1 table →
+        IfOk result (λ again. (again.count ≡ None)
+        × ((fed : List ℕ) → IsMember again fed ↔ IsMember table fed)) }
+{
+    form_law();
+    let table = MemberTable::from_bytes(alloc, bytes)?;
+    read_back(alloc, &table)
+}
+
+/// Makes bytes the table of these keys: the bytes of a [`MemberTable`] with the same inserts.
+///
+/// # Errors
+///
+/// As those of [`in_place::init`]. The bytes are unchanged.
+#[tactic(auto, using(sketch_member::proofs::MergeLemmas::one_value_more))]
+pub fn build_table_in<T: Hash>(
+    bytes: &mut [u8],
+    seed: u64,
+    log2_bits: u8,
+    hashes: u8,
+    keys: &[T],
+) -> Result<(), Fault>
+    ensures built { MatchResult result
+        (λ _. IsFormOfInserts seed log2_bits hashes (map T.fed keys.now) bytes.new)
+        (λ fault. (bytes.new ≡ bytes.old)
+        × IsFirstFault (length bytes.old) (init_steps log2_bits hashes bytes.old) fault) }
+    ensures same { IfOk result (λ _. (others : List ℕ) →
+        IsFormOfInserts seed log2_bits hashes (map T.fed keys.now) others → bytes.new ≡ others) }
+{
+    insert_law();
+    in_place::init(bytes, seed, log2_bits, hashes)?;
+    for key in keys {
+        in_place::insert(bytes, key)?;
+    }
     Ok(())
 }

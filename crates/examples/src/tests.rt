@@ -1,7 +1,9 @@
 use crate::items::there_and_back;
 use crate::keys::{hash_texts, is_same_key, pair_of, pair_of_value};
 use crate::own::{BigEndian, Point};
-use crate::seen::{load_keys, merge_worker, see_key, see_key_in};
+use crate::seen::{
+    build_table_in, load_keys, merge_worker, read_back, read_upgraded, see_key, see_key_in,
+};
 use crate::sketch::{check_preamble, write_preamble};
 use crate::streams::{checkpoint, murmur_of_pieces, xxh64_from};
 use datasketches::codec::{Item, Kind};
@@ -66,12 +68,19 @@ fn keys_are_seen_once_saved(rt: HostRuntime) -> Result<(), Fail> {
     let mut seen = load_keys(rt.alloc(), &[])?;
     assert!(rt; !see_key(&mut seen, b"a"));
     let mut saved = seen.to_bytes(rt.alloc())?;
+    let mut built = [0xff; 152];
+    let keys = [raw_bytes::from_str("a")];
+    assert_eq!(rt; build_table_in(&mut built, 0, 10, 7, &keys), Ok(()));
+    assert_eq!(rt; built.as_slice(), saved.as_slice());
     assert_eq!(rt; see_key_in(&mut saved, b"a"), Ok(true));
     assert_eq!(rt; see_key_in(&mut saved, b"b"), Ok(false));
     assert_eq!(rt; see_key_in(&mut saved[..23], b"b"), Err(Fault::HeaderEnds));
     merge_worker(rt.alloc(), &mut seen, &load_keys(rt.alloc(), &saved)?)?;
     assert!(rt; see_key(&mut seen, b"b"));
-    assert_eq!(rt; seen.count(), Some(5));
+    assert_eq!(rt; read_back(rt.alloc(), &seen)?.count(), Some(5));
+    let mut version1 = [0; 24];
+    version1[..5].copy_from_slice(&[2, 1, 200, 6, 1]);
+    assert_eq!(rt; read_upgraded(rt.alloc(), &version1)?.count(), None);
     let unlike = MemberTable::new(rt.alloc(), 1, 10, 7)?;
     assert!(rt; merge_worker(rt.alloc(), &mut seen, &unlike).is_err());
     Ok(())

@@ -1,17 +1,20 @@
 -- The laws of tables and their bytes, and of inserts.
-use Rattle.std.proofs.Common.{◌≡◌, ℕ, ◌+◌, ◌*◌, List, [], ◌∷◌, ◌++◌, length, length-append, get_or, refl, sym, ap, subst, ◌∙◌, arith, inl, inr, ◌↔◌, ◌/◌, ◌%◌, ◌^◌, ◌<◌, not-suc-le-zero}
+use Rattle.std.proofs.Common.{◌≡◌, ℕ, ◌+◌, ◌*◌, List, [], ◌∷◌, ◌++◌, length, length-append, get_or, replicate, suc, refl, sym, ap, subst, ◌∙◌, arith, inl, inr, ◌↔◌, ◌/◌, ◌%◌, ◌^◌, ◌<◌, add-zero, zero-add, not-suc-le-zero, suc-ne-zero}
 use Rattle.std.specs.Prelude.{Contains, Option, None, Some, IfSome, ◌-◌, min}
+use Rattle.std.specs.Int.{bit_at}
 use Rattle.datasketches.specs.Bytes.{eight}
 use Rattle.datasketches.specs.Words.{IsWord}
 use Rattle.datasketches.proofs.BytesLemmas.{le-back}
+use Rattle.sketch_member.proofs.BitLemmas.{zeros-get}
 use Rattle.sketch_member.proofs.FormLemmas.{Places, all_pass-append, unknown_count}
 use Rattle.sketch_member.specs.Faults.{AllPass, IsFlag, bits_steps, count_number, header_length, kind_steps, number_steps, size_steps, steps, version_step, view_steps}
 use Rattle.sketch_member.specs.Form.{IsForm, flag_of, form, form1, form2, number_of}
-use Rattle.sketch_member.specs.Laws.{FormLaw, InsertLaw, StandsFor, count_after}
-use Rattle.sketch_member.specs.Table.{Table, IsTable, byte_count, IsSet, IsIndex, IsMember, Inserts, index, one_more}
-use Rattle.std.proofs.lemmas.List.{ext_get_or}
+use Rattle.sketch_member.specs.Laws.{FormLaw, InsertLaw, InsertsAll, IsFormOfInserts, IsMadeOf, StandsFor, count_after}
+use Rattle.sketch_member.specs.Merge.{AreAlike}
+use Rattle.sketch_member.specs.Table.{Table, IsTable, byte_count, IsSet, IsIndex, IsMember, Inserts, empty_table, index, one_more}
+use Rattle.std.proofs.lemmas.List.{append-nil, append_assoc, ext_get_or}
 use Rattle.std.proofs.lemmas.List.Elements.{Contains-append_left, Contains-push, Contains-push_cases}
-use Rattle.std.proofs.lemmas.Nat.Bits.{bit_at-lt, same_from_bits_below}
+use Rattle.std.proofs.lemmas.Nat.Bits.{bit_at-lt, bit_at-zero, same_from_bits_below}
 use Rattle.std.proofs.lemmas.Bool.{cases_eq}
 
 number_word : (count : Option ℕ) → IfSome count IsWord → IsWord (number_of count)
@@ -250,6 +253,117 @@ same_once table other values others is is_other seed log2_bits hashes stands sta
       (λ count. same_table table other seed log2_bits hashes count bits),
     )
 
+-- ---- the table and the bytes of inserts into an empty table
+
+alike_if_same : {a b : Table} → a ≡ b → AreAlike a b
+alike_if_same e = record {
+  seed = ap (λ t. t.seed) e;
+  log2_bits = ap (λ t. t.log2_bits) e;
+  hashes = ap (λ t. t.hashes) e;
+}
+
+pub turned : (a b : Table) → AreAlike a b → AreAlike b a
+turned a b alike = record {
+  seed = sym alike.seed;
+  log2_bits = sym alike.log2_bits;
+  hashes = sym alike.hashes;
+}
+
+pub chained : (a b c : Table) → AreAlike a b → AreAlike b c → AreAlike a c
+chained a b c first second = record {
+  seed = first.seed ∙ second.seed;
+  log2_bits = first.log2_bits ∙ second.log2_bits;
+  hashes = first.hashes ∙ second.hashes;
+}
+
+-- inserts leave the seed and the sizes
+all_alike : (values : List (List ℕ)) (before after : Table) → InsertsAll values before after →
+    AreAlike before after
+all_alike [] before after all = alike_if_same (sym all)
+all_alike (fed ∷ values) before after (next, inserts, rest) =
+    let first : AreAlike before next = record {
+      seed = sym inserts.seed;
+      log2_bits = sym inserts.log2_bits;
+      hashes = sym inserts.hashes;
+    } in
+    chained before next after first (all_alike values next after rest)
+
+-- so tables of inserts into one table are alike
+pub both_alike : (values others : List (List ℕ)) (start table other : Table) →
+    InsertsAll values start table → InsertsAll others start other → AreAlike table other
+both_alike values others start table other all all_other =
+    chained table start other (turned start table (all_alike values start table all))
+    (all_alike others start other all_other)
+
+-- inserts into an empty table make the table of their values
+pub made_of : (seed log2_bits hashes : ℕ) (values : List (List ℕ)) (table : Table) →
+    InsertsAll values (empty_table seed log2_bits hashes) table → IsMadeOf values table
+made_of seed log2_bits hashes values table all =
+    let alike = all_alike values (empty_table seed log2_bits hashes) table all in
+    of_same seed log2_bits hashes _ _ _ alike.seed alike.log2_bits alike.hashes all
+  where
+    of_same : (s l h s' l' h' : ℕ) → s ≡ s' → l ≡ l' → h ≡ h' →
+        InsertsAll values (empty_table s l h) table → InsertsAll values (empty_table s' l' h') table
+    of_same s l h s' l' h' e f g made = rw (← e, ← f, ← g) made
+
+-- inserts add to the values that a table stands for, and to its count
+all_inserted : (values earlier : List (List ℕ)) (n : ℕ) (before after : Table) →
+    InsertsAll values before after → StandsFor before earlier → before.count ≡ count_after n →
+    StandsFor after (earlier ++ values) × (after.count ≡ count_after (n + length values))
+all_inserted [] earlier n before after all stands count = (
+  subst (λ t. StandsFor t (earlier ++ [])) (sym all)
+      (subst (StandsFor before) (sym (append-nil earlier)) stands),
+  ap (λ t. t.count) all ∙ count ∙ ap count_after (sym (add-zero n)),
+)
+all_inserted (fed ∷ values) earlier n before after (next, inserts, rest) stands count =
+    let stands_next = one_more_value before next fed earlier inserts stands in
+    let count_next = one_counted before next fed n inserts count in
+    let done = all_inserted values (earlier ++ fed ∷ []) (n + 1) next after rest stands_next
+    count_next in (
+      subst (StandsFor after) (append_assoc earlier (fed ∷ []) values) done.0,
+      done.1 ∙ ap count_after (one n (length values)),
+    )
+  where
+    one : (n m : ℕ) → n + 1 + m ≡ n + suc m
+    one n m = omega arith
+
+-- an empty table has no bit set
+pub no_bits : (seed log2_bits hashes i : ℕ) → IsSet (empty_table seed log2_bits hashes).bits i → ⊥
+no_bits seed log2_bits hashes i is =
+    let zero : bit_at (get_or (replicate {A = ℕ} (byte_count log2_bits) 0) (i / 8) 0) (i % 8) ≡ 0 =
+    ap (λ b. bit_at b (i % 8)) (zeros-get (byte_count log2_bits) (i / 8)) ∙ bit_at-zero (i % 8) in
+    suc-ne-zero 0 (sym is ∙ zero)
+
+pub made : (values : List (List ℕ)) (table : Table) → IsMadeOf values table →
+    StandsFor table values × (table.count ≡ count_after (length values))
+made values table all =
+    let empty = empty_table table.seed table.log2_bits table.hashes in
+    let stands = none empty (no_bits table.seed table.log2_bits table.hashes) in
+    let done = all_inserted values [] 0 empty table all stands refl in
+    (done.0, done.1 ∙ ap count_after (zero-add (length values)))
+
+-- the inserts of the same values into an empty table make one table
+made_once : (seed log2_bits hashes : ℕ) (values : List (List ℕ)) (table other : Table) →
+    InsertsAll values (empty_table seed log2_bits hashes) table →
+    InsertsAll values (empty_table seed log2_bits hashes) other →
+    IsTable table → IsTable other → table ≡ other
+made_once seed log2_bits hashes values table other all all_other is is_other =
+    let one = made values table (made_of seed log2_bits hashes values table all) in
+    let two = made values other (made_of seed log2_bits hashes values other all_other) in
+    let same = both_alike values values _ table other all all_other in
+    (same_once table other values values is is_other same.seed same.log2_bits same.hashes
+    one.0 two.0 (λ fed. ((λ is. is), (λ is. is)))).1 (one.1 ∙ sym two.1)
+
+-- so there is one form of these inserts
+one_form : (seed log2_bits hashes : ℕ) (values : List (List ℕ)) (bytes others : List ℕ) →
+    IsFormOfInserts seed log2_bits hashes values bytes →
+    IsFormOfInserts seed log2_bits hashes values others → bytes ≡ others
+unfolding IsFormOfInserts
+one_form seed log2_bits hashes values bytes others (table, is, lies, all)
+    (other, is_other, lies_other, all_other) =
+    lies ∙ ap form2 (made_once seed log2_bits hashes values table other all all_other is is_other)
+    ∙ sym lies_other
+
 pub insert_law : InsertLaw
 insert_law = record {
   none = none;
@@ -257,4 +371,5 @@ insert_law = record {
   one_counted = one_counted;
   found = found;
   once = same_once;
+  one_form = one_form;
 }

@@ -1,44 +1,21 @@
--- The law of merges, and the bytes of tables that are made in two ways.
-use Rattle.std.proofs.Common.{◌≡◌, ◌↔◌, ◌⊎◌, ℕ, ◌+◌, ◌-◌, ◌/◌, ◌%◌, ◌^◌, ◌<◌, List, [], ◌∷◌, ◌++◌, length, get_or, map, take, replicate, suc, refl, sym, ap, subst, ◌∙◌, arith, inl, inr, add-zero, zero-add, add_comm, suc-ne-zero}
+-- The law of merges, and the bytes of tables of streams.
+use Rattle.std.proofs.Common.{◌≡◌, ◌↔◌, ◌⊎◌, ℕ, ◌+◌, ◌-◌, ◌^◌, ◌<◌, List, [], ◌∷◌, ◌++◌, length, get_or, map, take, refl, sym, ap, subst, ◌∙◌, arith, inl, inr, add_comm}
 use Rattle.std.specs.Prelude.{Option, None, Some, IfSome, min}
-use Rattle.std.specs.Int.{bit_at}
 use Rattle.std.proofs.Math.Logic.{⊎_swap}
-use Rattle.std.proofs.lemmas.List.{append-nil, append_assoc, length-append, map-append, take_more}
+use Rattle.std.proofs.lemmas.List.{length-append, map-append, take_more}
 use Rattle.std.proofs.lemmas.List.Elements.{Contains-append_cases, Contains-append_left, Contains-append_right}
-use Rattle.std.proofs.lemmas.Nat.Bits.{bit_at-zero}
 use Rattle.datasketches.specs.Words.{IsWord}
-use Rattle.sketch_member.proofs.BitLemmas.{empty_is_table, zeros-get}
-use Rattle.sketch_member.proofs.LawLemmas.{insert_law, same_index, same_table_bits, form_law, same_table}
+use Rattle.sketch_member.proofs.BitLemmas.{empty_is_table}
+use Rattle.sketch_member.proofs.LawLemmas.{both_alike, chained, form_law, insert_law, made, made_of, no_bits, same_index, same_table, same_table_bits, turned}
 use Rattle.sketch_member.specs.Form.{form2}
 use Rattle.sketch_member.specs.Laws.{IsFormOfInserts, InsertsAll, IsMadeOf, MergeLaw, StandsFor, count_after}
 use Rattle.sketch_member.specs.declared.fault.Difference.{Difference}
 use Rattle.sketch_member.specs.Faults.{AllPass, view_steps}
 use Rattle.sketch_member.specs.declared.fault.Difference.TheVariants.{Seed, Log2Bits, Hashes}
 use Rattle.sketch_member.specs.Merge.{AreAlike, IsFirstDifference, Merges, sum_of_counts}
-use Rattle.sketch_member.specs.Table.{IsHashes, IsLog2Bits, Table, IsTable, IsSet, IsIndex, IsMember, Inserts, byte_count, empty_table}
+use Rattle.sketch_member.specs.Table.{IsHashes, IsLog2Bits, Table, IsTable, IsSet, IsIndex, IsMember, Inserts, empty_table}
 
 -- ---- tables that are alike
-
-alike_if_same : {a b : Table} → a ≡ b → AreAlike a b
-alike_if_same e = record {
-  seed = ap (λ t. t.seed) e;
-  log2_bits = ap (λ t. t.log2_bits) e;
-  hashes = ap (λ t. t.hashes) e;
-}
-
-turned : (a b : Table) → AreAlike a b → AreAlike b a
-turned a b alike = record {
-  seed = sym alike.seed;
-  log2_bits = sym alike.log2_bits;
-  hashes = sym alike.hashes;
-}
-
-chained : (a b c : Table) → AreAlike a b → AreAlike b c → AreAlike a c
-chained a b c first second = record {
-  seed = first.seed ∙ second.seed;
-  log2_bits = first.log2_bits ∙ second.log2_bits;
-  hashes = first.hashes ∙ second.hashes;
-}
 
 alike_index : (a b : Table) (fed : List ℕ) (i : ℕ) → AreAlike a b → IsIndex a fed i → IsIndex b fed i
 alike_index a b fed i alike is =
@@ -105,26 +82,7 @@ counted before other after m n merges count count_other =
 
 -- ---- streams
 
--- inserts leave the seed and the sizes
-all_alike : (values : List (List ℕ)) (before after : Table) → InsertsAll values before after →
-    AreAlike before after
-all_alike [] before after all = alike_if_same (sym all)
-all_alike (fed ∷ values) before after (next, inserts, rest) =
-    let first : AreAlike before next = record {
-      seed = sym inserts.seed;
-      log2_bits = sym inserts.log2_bits;
-      hashes = sym inserts.hashes;
-    } in
-    chained before next after first (all_alike values next after rest)
-
--- so tables of inserts into one table are alike
-both_alike : (values others : List (List ℕ)) (start table other : Table) →
-    InsertsAll values start table → InsertsAll others start other → AreAlike table other
-both_alike values others start table other all all_other =
-    chained table start other (turned start table (all_alike values start table all))
-    (all_alike others start other all_other)
-
--- and differ in no part
+-- tables of inserts into one table differ in no part
 no_difference : (values others : List (List ℕ)) (start table other : Table) (part : Difference) →
     InsertsAll values start table → InsertsAll others start other → IsFirstDifference table other part → ⊥
 no_difference values others start table other part all all_other differ =
@@ -152,53 +110,6 @@ pub insert_next : {X : Type 0} (fed : X → List ℕ) (xs : List X) (i : ℕ) (v
 insert_next fed xs i value before next after within is all inserts =
     rw (take_more xs i value within, map-append fed (take i xs) (get_or xs i value ∷ []), ← is)
     (inserts_append (map fed (take i xs)) (fed value ∷ []) before next after all (after, inserts, refl))
-
--- inserts into an empty table make the table of their values
-made_of : (seed log2_bits hashes : ℕ) (values : List (List ℕ)) (table : Table) →
-    InsertsAll values (empty_table seed log2_bits hashes) table → IsMadeOf values table
-made_of seed log2_bits hashes values table all =
-    let alike = all_alike values (empty_table seed log2_bits hashes) table all in
-    of_same seed log2_bits hashes _ _ _ alike.seed alike.log2_bits alike.hashes all
-  where
-    of_same : (s l h s' l' h' : ℕ) → s ≡ s' → l ≡ l' → h ≡ h' →
-        InsertsAll values (empty_table s l h) table → InsertsAll values (empty_table s' l' h') table
-    of_same s l h s' l' h' e f g made = rw (← e, ← f, ← g) made
-
--- inserts add to the values that a table stands for, and to its count
-all_inserted : (values earlier : List (List ℕ)) (n : ℕ) (before after : Table) →
-    InsertsAll values before after → StandsFor before earlier → before.count ≡ count_after n →
-    StandsFor after (earlier ++ values) × (after.count ≡ count_after (n + length values))
-all_inserted [] earlier n before after all stands count = (
-  subst (λ t. StandsFor t (earlier ++ [])) (sym all)
-      (subst (StandsFor before) (sym (append-nil earlier)) stands),
-  ap (λ t. t.count) all ∙ count ∙ ap count_after (sym (add-zero n)),
-)
-all_inserted (fed ∷ values) earlier n before after (next, inserts, rest) stands count =
-    let stands_next = insert_law.one_more before next fed earlier inserts stands in
-    let count_next = insert_law.one_counted before next fed n inserts count in
-    let done = all_inserted values (earlier ++ fed ∷ []) (n + 1) next after rest stands_next
-    count_next in (
-      subst (StandsFor after) (append_assoc earlier (fed ∷ []) values) done.0,
-      done.1 ∙ ap count_after (one n (length values)),
-    )
-  where
-    one : (n m : ℕ) → n + 1 + m ≡ n + suc m
-    one n m = omega arith
-
--- an empty table has no bit set
-no_bits : (seed log2_bits hashes i : ℕ) → IsSet (empty_table seed log2_bits hashes).bits i → ⊥
-no_bits seed log2_bits hashes i is =
-    let zero : bit_at (get_or (replicate {A = ℕ} (byte_count log2_bits) 0) (i / 8) 0) (i % 8) ≡ 0 =
-    ap (λ b. bit_at b (i % 8)) (zeros-get (byte_count log2_bits) (i / 8)) ∙ bit_at-zero (i % 8) in
-    suc-ne-zero 0 (sym is ∙ zero)
-
-made : (values : List (List ℕ)) (table : Table) → IsMadeOf values table →
-    StandsFor table values × (table.count ≡ count_after (length values))
-made values table all =
-    let empty = empty_table table.seed table.log2_bits table.hashes in
-    let stands = insert_law.none empty (no_bits table.seed table.log2_bits table.hashes) in
-    let done = all_inserted values [] 0 empty table all stands refl in
-    (done.0, done.1 ∙ ap count_after (zero-add (length values)))
 
 streams : (before other after whole : Table) (first second : List (List ℕ)) →
     IsTable after → IsTable whole → AreAlike before whole → Merges other before after →
@@ -229,18 +140,6 @@ made_both_ways seed log2_bits hashes first second one other after whole all all_
     (made_of seed log2_bits hashes first one all)
     (made_of seed log2_bits hashes second other all_other)
     (made_of seed log2_bits hashes (first ++ second) whole all_whole)
-
--- the inserts of the same values into an empty table make one table
-made_once : (seed log2_bits hashes : ℕ) (values : List (List ℕ)) (table other : Table) →
-    InsertsAll values (empty_table seed log2_bits hashes) table →
-    InsertsAll values (empty_table seed log2_bits hashes) other →
-    IsTable table → IsTable other → table ≡ other
-made_once seed log2_bits hashes values table other all all_other is is_other =
-    let one = made values table (made_of seed log2_bits hashes values table all) in
-    let two = made values other (made_of seed log2_bits hashes values other all_other) in
-    let same = both_alike values values _ table other all all_other in
-    (insert_law.once table other values values is is_other same.seed same.log2_bits same.hashes
-    one.0 two.0 (λ fed. ((λ is. is), (λ is. is)))).1 (one.1 ∙ sym two.1)
 
 -- ---- bytes of a table of inserts
 
@@ -289,20 +188,6 @@ pub form_of_table : (seed log2_bits hashes : ℕ) (values : List (List ℕ)) (st
 unfolding IsFormOfInserts
 form_of_table seed log2_bits hashes values start table bytes all is lies is_empty =
     (table, is, lies, subst (λ t. InsertsAll values t table) is_empty all)
-
--- and there are no others
-pub only_form : (seed log2_bits hashes : ℕ) (values : List (List ℕ)) (bytes : List ℕ) (start table : Table) →
-    IsFormOfInserts seed log2_bits hashes values bytes → InsertsAll values start table →
-    IsTable table → start ≡ empty_table seed log2_bits hashes →
-    IsFormOfInserts seed log2_bits hashes values bytes × (bytes ≡ form2 table)
-unfolding IsFormOfInserts
-only_form seed log2_bits hashes values bytes start table (other, is_other, lies, alls) all is is_empty = (
-  (other, is_other, lies, alls),
-  lies ∙ ap form2 (made_once seed log2_bits hashes values other table alls
-      (subst (λ t. InsertsAll values t table) is_empty all) is_other is),
-)
-
-pub ruleset one_form = (form_of_table, only_form)
 
 -- so has a table of two streams
 pub form_of_streams : (seed log2_bits hashes : ℕ) (first second : List (List ℕ)) (start half whole : Table)

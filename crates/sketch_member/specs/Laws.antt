@@ -27,25 +27,6 @@ StandsFor table values =
 abbrev pub count_after : ℕ → Option ℕ
 count_after n = Some (min n (2 ^ 64 - 1))
 
--- A table with no bit set stands for no values, and each insert adds one. A table misses none of
--- its values. Its inserts are counted. Of one seed and sizes, tables that stand for the same values
--- have the same bits, in whatever order and however often these were inserted, and are the same
--- where their counts are.
-pub record InsertLaw : Type 0 where
-  pub none : (table : Table) → ((i : ℕ) → IsSet table.bits i → ⊥) → StandsFor table []
-  pub one_more : (before after : Table) (fed : List ℕ) (values : List (List ℕ)) →
-      Inserts fed before after → StandsFor before values → StandsFor after (values ++ fed ∷ [])
-  pub one_counted : (before after : Table) (fed : List ℕ) (n : ℕ) →
-      Inserts fed before after → before.count ≡ count_after n → after.count ≡ count_after (n + 1)
-  pub found : (table : Table) (fed : List ℕ) (values : List (List ℕ)) →
-      StandsFor table values → Contains values fed → IsMember table fed
-  pub once : (table other : Table) (values others : List (List ℕ)) →
-      IsTable table → IsTable other → table.seed ≡ other.seed →
-      table.log2_bits ≡ other.log2_bits → table.hashes ≡ other.hashes →
-      StandsFor table values → StandsFor other others →
-      ((fed : List ℕ) → Contains values fed ↔ Contains others fed) →
-      (table.bits ≡ other.bits) × (table.count ≡ other.count → table ≡ other)
-
 -- a table after the inserts of these values, one after another
 abbrev pub InsertsAll : List (List ℕ) → Table → Table → Type 0
 InsertsAll [] before after = after ≡ before
@@ -62,6 +43,28 @@ unfoldable pub IsFormOfInserts : ℕ → ℕ → ℕ → List (List ℕ) → Lis
 IsFormOfInserts seed log2_bits hashes values bytes =
     (table : Table) × IsTable table × (bytes ≡ form2 table)
     × InsertsAll values (empty_table seed log2_bits hashes) table
+
+-- A table with no bit set stands for no values, and each insert adds one. A table misses none of
+-- its values. Its inserts are counted. Of one seed and sizes, tables that stand for the same values
+-- have the same bits, in whatever order and however often these were inserted, and are the same
+-- where their counts are. The same inserts into an empty table make the same bytes.
+pub record InsertLaw : Type 0 where
+  pub none : (table : Table) → ((i : ℕ) → IsSet table.bits i → ⊥) → StandsFor table []
+  pub one_more : (before after : Table) (fed : List ℕ) (values : List (List ℕ)) →
+      Inserts fed before after → StandsFor before values → StandsFor after (values ++ fed ∷ [])
+  pub one_counted : (before after : Table) (fed : List ℕ) (n : ℕ) →
+      Inserts fed before after → before.count ≡ count_after n → after.count ≡ count_after (n + 1)
+  pub found : (table : Table) (fed : List ℕ) (values : List (List ℕ)) →
+      StandsFor table values → Contains values fed → IsMember table fed
+  pub once : (table other : Table) (values others : List (List ℕ)) →
+      IsTable table → IsTable other → table.seed ≡ other.seed →
+      table.log2_bits ≡ other.log2_bits → table.hashes ≡ other.hashes →
+      StandsFor table values → StandsFor other others →
+      ((fed : List ℕ) → Contains values fed ↔ Contains others fed) →
+      (table.bits ≡ other.bits) × (table.count ≡ other.count → table ≡ other)
+  pub one_form : (seed log2_bits hashes : ℕ) (values : List (List ℕ)) (bytes others : List ℕ) →
+      IsFormOfInserts seed log2_bits hashes values bytes →
+      IsFormOfInserts seed log2_bits hashes values others → bytes ≡ others
 
 -- Of two tables of two streams of values, a merge makes the table of both streams, one after the
 -- other, bit for bit and count for count. A merged table stands for the values of both, contains

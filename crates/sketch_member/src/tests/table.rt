@@ -1,5 +1,4 @@
 use super::{ONE_VALUE_1, ONE_VALUE_2, UNKNOWN_COUNT, assert_done_or_no_memory, refuse};
-use crate::laws::{read_back, read_upgraded};
 use crate::{MemberTable, sizes_for};
 use datasketches::error::{Error, ErrorKind};
 use datasketches::hash::value::raw_bytes;
@@ -105,14 +104,13 @@ fn try_widest(rt: &impl Abort, alloc: Global) -> Result<(), Error> {
     let mut table = MemberTable::new(alloc, 9001, 20, 16)?;
     insert_new(rt, &mut table, b"a");
     let mut bytes = table.to_bytes(alloc)?;
+    assert!(rt; MemberTable::from_bytes(alloc, &bytes)?.contains(&raw_bytes::from_str("a")));
     for index in WIDEST {
         if let Some(byte) = bytes.get_mut(24 + index / 8) {
             *byte ^= 1 << (index % 8);
         }
     }
     assert!(rt; bytes.iter().skip(24).all(|byte| *byte == 0));
-    let read = read_back(alloc, &table)?;
-    assert!(rt; read.contains(&raw_bytes::from_str("a")));
     Ok(())
 }
 
@@ -144,7 +142,6 @@ fn try_read(rt: &impl Abort, alloc: Global) -> Result<(), Error> {
         assert_eq!(rt; table.to_bytes(alloc)?.as_slice(), written);
         table.insert(&value);
         assert_eq!(rt; table.count(), next_count);
-        assert_eq!(rt; read_upgraded(alloc, bytes)?.count(), count);
     }
     Ok(())
 }
