@@ -1,6 +1,6 @@
 -- What errors print: the displayed line and the debug text, piece by piece as they are written, and what the
 -- texts of refusals are made of.
-use Rattle.std.proofs.Common.{◌≡◌, ℕ, ◌<◌, ◌≤◌, List, [], ◌∷◌, ◌++◌, length, take, map, Option, Some, None, codes, ap, sym, append_assoc, arith, refl}
+use Rattle.std.proofs.Common.{◌≡◌, ℕ, ◌<◌, ◌≤◌, List, [], ◌∷◌, ◌++◌, length, take, map, Option, Some, None, Result, Ok, Err, IfOk, codes, ap, sym, append_assoc, arith, refl}
 use Rattle.std.proofs.lemmas.List.{take_all}
 use Rattle.std.proofs.lemmas.List.Folds.{flat_map-map}
 use Rattle.std.specs.List.{flat_map}
@@ -31,10 +31,13 @@ context_lines-is context (first ∷ others) n some enough =
     let line : ContextValue → List ℕ = λ c. codes "   " ++ pair_text c ++ 10 ∷ [] in
     rw (take_all n (first ∷ others) enough, flat_map-map line context (first ∷ others)) refl
 
--- some text is what a value prints
-pub some_text : (output : Option (List ℕ)) → (text : List ℕ) × Prints output text
-some_text None = ([], tt)
-some_text (Some printed) = (printed, refl)
+-- a value prints some text, which is the one that was made of it
+pub printed_text : {T E : Type 0} (bytes : T → List ℕ) (output : Option (List ℕ)) (made : Result T E) →
+    IfOk made (λ it. Prints output (bytes it)) →
+    (text : List ℕ) × Prints output text × IfOk made (λ it. bytes it ≡ text)
+printed_text bytes output (Ok it) prints = (bytes it, prints, refl)
+printed_text bytes None (Err error) prints = ([], tt, tt)
+printed_text bytes (Some printed) (Err error) prints = (printed, refl, tt)
 
 -- the numbers behind the first one, each after a comma
 debug_items-is : (numbers : List ℕ) →

@@ -58,12 +58,11 @@ pub struct Error {
 }
 
 impl Model for Error {
+    ghost use Rattle.std.specs.Prelude.{[], map, string_bytes};
+    ghost use Rattle.std.specs.Option.{option_map_or};
     ghost use Rattle.sketch_base.specs.ErrorValue.{ErrorValue};
 
     ghost Value = { ErrorValue };
-
-    ghost use Rattle.std.specs.Prelude.{[], map, string_bytes};
-    ghost use Rattle.std.specs.Option.{option_map_or};
 
     ghost view = { λ e. record {
       kind = e.kind;
@@ -181,10 +180,8 @@ impl Error {
         ensures { (text : List ℕ) × Prints (V.output value) text
             × Refuses ErrorKind.InvalidData (insufficient_data_text text) result }
     {
-        let text = match value.to_string(alloc) {
-            Ok(text) => format!(in alloc; "insufficient data: {text}"),
-            Err(error) => Err(error),
-        };
+        let made = value.to_string(alloc);
+        let text = made.and_then(|text| format!(in alloc; "insufficient data: {text}"));
         Error::from_text(alloc, ErrorKind::InvalidData, text)
     }
 
@@ -198,10 +195,8 @@ impl Error {
             × Refuses ErrorKind.InvalidData
             (insufficient_data_of_text context.entry.now text) result }
     {
-        let text = match value.to_string(alloc) {
-            Ok(text) => format!(in alloc; "insufficient data ({context}): {text}"),
-            Err(error) => Err(error),
-        };
+        let made = value.to_string(alloc);
+        let text = made.and_then(|text| format!(in alloc; "insufficient data ({context}): {text}"));
         Error::from_text(alloc, ErrorKind::InvalidData, text)
     }
 

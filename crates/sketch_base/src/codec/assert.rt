@@ -72,10 +72,9 @@ pub fn ensure_preamble_longs_in_range(
     if (start, end).contains(&actual) {
         return Ok(());
     }
-    let text = match printed_range(alloc, start, end) {
-        Ok(range) => format!(in alloc; "invalid preamble longs: expected {range}, got {actual}"),
-        Err(error) => Err(error),
-    };
+    let text = printed_range(alloc, start, end).and_then(|range| {
+        format!(in alloc; "invalid preamble longs: expected {range}, got {actual}")
+    });
     Err(Error::from_text(alloc, ErrorKind::InvalidData, text))
 }
 

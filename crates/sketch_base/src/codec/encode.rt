@@ -73,8 +73,7 @@ impl SketchBytes {
     pub fn into_bytes(self) -> Vec<u8>
         ensures { result.items ≡ self.bytes }
     {
-        let SketchBytes { bytes } = self;
-        bytes
+        self.bytes
     }
 
     /// Writes the bytes of the slice.
@@ -220,9 +219,7 @@ impl SketchBytes {
         ensures { WritesItems items.now self.old result self.new }
     {
         for (accepted, item) in items.iter().enumerate() {
-            if let Err(AllocError) = self.write_item(*item) {
-                return Err(Stopped { accepted });
-            }
+            self.write_item(*item).map_err(|_| Stopped { accepted })?;
         }
         Ok(())
     }

@@ -1,11 +1,11 @@
-use Rattle.std.proofs.Common.{string_bytes, refl, rules}
+use Rattle.std.proofs.Common.{true, string_bytes, refl, rules}
 use Rattle.std.proofs.Output.{has_written_append, has_written_of_eq}
 use Rattle.sketch_base.proofs.ErrorLemmas.{contexts_text-is}
 use Rattle.sketch_base.proofs.error.write_contexts.Goals as goal
 
 pub returns : goal.returns
 returns g c plain ok =
-    let first = c.in_ok-write.ensures.writes plain refl in
+    let first = c.in_ok-write.ensures.writes plain (refl {a = true}) in
     let others = c.loop-key.invariant first.plain in
     let last = c.write-2.ensures.writes others.plain ok in
     has_written_of_eq _ _ _ _ _

@@ -4,7 +4,8 @@ use Rattle.sketch_base.proofs.codec.decode.SketchSlice.read_items.Given as goal
 
 abbrev pub invariant-loop-read : goal.invariant-loop-read
 invariant-loop-read l = record {
-  fit : widths (take l.read l.kinds) ≤ length l.initial.self;
-  rest : l.self ≡ drop (widths (take l.read l.kinds)) l.initial.self;
-  placed : l.out ≡ unspell_all (take l.read l.kinds) l.initial.self ++ drop l.read l.initial.out;
+  fit : widths (take l.read-counter l.kinds) ≤ length l.initial.self;
+  rest : l.self ≡ drop (widths (take l.read-counter l.kinds)) l.initial.self;
+  placed : l.out
+      ≡ unspell_all (take l.read-counter l.kinds) l.initial.self ++ drop l.read-counter l.initial.out;
 }
