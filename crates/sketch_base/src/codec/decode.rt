@@ -53,7 +53,7 @@ impl SketchSlice<'_> {
     pub fn advance(&mut self, n: u64)
         ensures { self.new ≡ drop n self.old }
     {
-        let count = self.slice.len().min(n as usize);
+        let count = (self.slice.len() as u64).min(n) as usize;
         self.slice = &self.slice[count..];
     }
 
