@@ -73,7 +73,8 @@ impl SketchBytes {
     pub fn into_bytes(self) -> Vec<u8>
         ensures { result.items ≡ self.bytes }
     {
-        self.bytes
+        let SketchBytes { bytes } = self;
+        bytes
     }
 
     /// Writes the bytes of the slice.
