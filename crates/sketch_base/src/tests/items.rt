@@ -25,22 +25,22 @@ const FORMS: [(Item, &[u8]); 14] = [
 
 // Reads an item by the call that is named for its kind.
 fn read_by_name(reader: &mut SketchSlice, kind: Kind) -> io::Result<Item> {
-    match kind {
-        Kind::U8 => reader.read_u8().map(Item::U8),
-        Kind::I8 => reader.read_i8().map(Item::I8),
-        Kind::U16Le => reader.read_u16_le().map(Item::U16Le),
-        Kind::U16Be => reader.read_u16_be().map(Item::U16Be),
-        Kind::I16Le => reader.read_i16_le().map(Item::I16Le),
-        Kind::I16Be => reader.read_i16_be().map(Item::I16Be),
-        Kind::U32Le => reader.read_u32_le().map(Item::U32Le),
-        Kind::U32Be => reader.read_u32_be().map(Item::U32Be),
-        Kind::I32Le => reader.read_i32_le().map(Item::I32Le),
-        Kind::I32Be => reader.read_i32_be().map(Item::I32Be),
-        Kind::U64Le => reader.read_u64_le().map(Item::U64Le),
-        Kind::U64Be => reader.read_u64_be().map(Item::U64Be),
-        Kind::I64Le => reader.read_i64_le().map(Item::I64Le),
-        Kind::I64Be => reader.read_i64_be().map(Item::I64Be),
-    }
+    Ok(match kind {
+        Kind::U8 => Item::U8(reader.read_u8()?),
+        Kind::I8 => Item::I8(reader.read_i8()?),
+        Kind::U16Le => Item::U16Le(reader.read_u16_le()?),
+        Kind::U16Be => Item::U16Be(reader.read_u16_be()?),
+        Kind::I16Le => Item::I16Le(reader.read_i16_le()?),
+        Kind::I16Be => Item::I16Be(reader.read_i16_be()?),
+        Kind::U32Le => Item::U32Le(reader.read_u32_le()?),
+        Kind::U32Be => Item::U32Be(reader.read_u32_be()?),
+        Kind::I32Le => Item::I32Le(reader.read_i32_le()?),
+        Kind::I32Be => Item::I32Be(reader.read_i32_be()?),
+        Kind::U64Le => Item::U64Le(reader.read_u64_le()?),
+        Kind::U64Be => Item::U64Be(reader.read_u64_be()?),
+        Kind::I64Le => Item::I64Le(reader.read_i64_le()?),
+        Kind::I64Be => Item::I64Be(reader.read_i64_be()?),
+    })
 }
 
 #[test]
