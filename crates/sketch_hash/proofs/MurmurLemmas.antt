@@ -146,7 +146,8 @@ of_one_write seed bytes start state answer begun written answered =
 pub waiting_size : (count v : ℕ) (w : List ℕ) → w ≡ low_bytes count v → length w ≡ count
 waiting_size count v w is = ap length is ∙ length-low_bytes count v
 
--- ---- the words of waiting bytes with others behind them
+-- ---- The words of waiting bytes with others behind them. What a lemma says first of a term, that it
+-- ---- is itself, shows search where to apply it.
 
 pub placed : (number count sum v : ℕ) → count < 16 → sum ≡ v + number * 2 ^ (8 * count) % 2 ^ 128 →
     sum % 2 ^ 128 ≡ (v + number * 256 ^ count) % 2 ^ 128

@@ -12,12 +12,26 @@ pub(crate) fn copy_small(buffer: &mut [u8], at: usize, bytes: &[u8])
         take at buffer.old ++ bytes.now ++ drop (at + length bytes.now) buffer.old }
 {
     match bytes.len() {
-        16.. => copy_overlapping::<16>(buffer, at, bytes),
-        8.. => copy_overlapping::<8>(buffer, at, bytes),
-        4.. => copy_overlapping::<4>(buffer, at, bytes),
-        2.. => copy_overlapping::<2>(buffer, at, bytes),
-        1 => buffer[at] = bytes[0],
-        _ => {}
+        0 => {}
+        ..8 => copy_tiny(buffer, at, bytes),
+        ..16 => copy_overlapping::<8>(buffer, at, bytes),
+        _ => copy_overlapping::<16>(buffer, at, bytes),
+    }
+}
+
+// The same of one to seven bytes.
+#[inline(always)]
+fn copy_tiny(buffer: &mut [u8], at: usize, bytes: &[u8])
+    requires within { at + length bytes.now ≤ length buffer.old }
+    requires some { 0 < length bytes.now }
+    requires few { length bytes.now < 8 }
+    ensures { buffer.new ≡
+        take at buffer.old ++ bytes.now ++ drop (at + length bytes.now) buffer.old }
+{
+    match bytes.len() {
+        ..2 => buffer[at] = bytes[0],
+        ..4 => copy_overlapping::<2>(buffer, at, bytes),
+        _ => copy_overlapping::<4>(buffer, at, bytes),
     }
 }
 

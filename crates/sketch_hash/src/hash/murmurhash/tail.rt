@@ -36,19 +36,22 @@ fn read_two_words(bytes: &[u8]) -> (u64, u64)
     ensures { result ≡ (le bytes.now % 2 ^ 64, le bytes.now / 2 ^ 64) }
 {
     let count = bytes.len();
-    if count <= 8 {
-        return (read_word_le(bytes), 0);
+    if count > 8 {
+        // The shift drops the bytes that the first word has.
+        let last = read_u64_le(&bytes[count - 8..]) >> (8 * (16 - count));
+        return (read_u64_le(&bytes[..8]), last);
     }
-    // The shift drops the bytes that the first word has.
-    let last = read_u64_le(&bytes[count - 8..]) >> (8 * (16 - count));
-    (read_u64_le(&bytes[..8]), last)
+    if count == 8 {
+        return (read_u64_le(bytes), 0);
+    }
+    (read_word_le(bytes), 0)
 }
 
-// The little-endian number of at most eight bytes.
+// The little-endian number of fewer than eight bytes.
 #[inline(always)]
 #[tactic(auto, using(crate::proofs::NumberLemmas::fours_le))]
 fn read_word_le(bytes: &[u8]) -> u64
-    requires { length bytes.now ≤ 8 }
+    requires { length bytes.now < 8 }
     ensures { result ≡ le bytes.now }
 {
     let count = bytes.len();
@@ -59,13 +62,12 @@ fn read_word_le(bytes: &[u8]) -> u64
             let first = u32::from(read_u16_le(&bytes[..2]));
             combine_overlapping(first, u32::from(read_u16_le(&bytes[count - 2..])), 2, count)
         }
-        4..8 => combine_overlapping(
+        _ => combine_overlapping(
             read_u32_le(&bytes[..4]),
             read_u32_le(&bytes[count - 4..]),
             4,
             count,
         ),
-        _ => read_u64_le(bytes),
     }
 }
 
