@@ -71,6 +71,11 @@ fn a_column_under_xxh64(rt: HostRuntime) {
     out = [9; 2];
     assert_eq!(rt; sketch_xxh64_each64(b"foxes", &[0, 3, 5], 7, &mut out), 0);
     assert_eq!(rt; out, [fox, es]);
+}
+
+#[test]
+fn a_column_of_numbers(rt: HostRuntime) {
+    let mut out = [9; 2];
     assert_eq!(rt; sketch_xxh64_each_u64(&[1], 7, &mut out), 2);
     assert_eq!(rt; sketch_xxh64_each_u64(&[1, 2], 7, &mut out), 0);
     assert_eq!(rt; out, [sketch_xxh64_u64(1, 7), sketch_xxh64_u64(2, 7)]);
@@ -102,13 +107,18 @@ const ONE_KEY: [u8; 32] = [
 ];
 
 #[test]
-fn a_table_in_bytes(rt: HostRuntime) {
-    let (mut bytes, mut count) = ([0xff; 32], 7);
+fn a_table_is_made_in_bytes(rt: HostRuntime) {
+    let mut bytes = [0xff; 32];
     assert_eq!(rt; sketch_member_size(6), bytes.len());
     assert_eq!(rt; sketch_member_init(&mut bytes, 0, 6, 1), 0);
     assert_eq!(rt; sketch_member_contains(&bytes, b""), 0);
     assert_eq!(rt; sketch_member_insert(&mut bytes, b""), 0);
     assert_eq!(rt; bytes, ONE_KEY);
+}
+
+#[test]
+fn a_table_in_bytes_is_asked_and_merged(rt: HostRuntime) {
+    let (mut bytes, mut count) = (ONE_KEY, 7);
     assert_eq!(rt; sketch_member_check(&bytes), 0);
     assert_eq!(rt; sketch_member_contains(&bytes, b""), 1);
     assert_eq!(rt; sketch_member_merge(&mut bytes, &ONE_KEY), 0);
