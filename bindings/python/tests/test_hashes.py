@@ -136,18 +136,18 @@ def test_objects_show_what_they_are():
 
 @pytest.mark.parametrize("kind", KINDS)
 def test_each_length(kind):
-    """A stream that grows by a byte, one update, what an object begins with and one call agree."""
-    data, seed = memoryview(random.Random(4).randbytes(70_000)), 1 << 63 | 5
+    """A stream that grows by a byte, one update, what an object begins with and one call agree, also past 64 KiB."""
+    data, seed = memoryview(random.Random(4).randbytes(66_000)), 1 << 63 | 5
     one_call = getattr(sketch_hash, f"{kind.__name__}_intdigest")
-    stream = kind(seed=seed)
-    for length in range(len(data) + 1):
-        answer = stream.intdigest()
+    stream, at = kind(seed=seed), 0
+    for length in [*range(2000), *range(65_000, 66_000)]:
+        stream.update(data[at:length])
+        at, answer = length, stream.intdigest()
         hasher = kind(seed=seed)
         hasher.update(data[:length])
         assert hasher.intdigest() == one_call(data[:length], seed) == kind(data[:length], seed).intdigest() == answer
-        if length % 1000 < 3:
+        if length % 500 < 3:
             assert answer == PEERS[kind](bytes(data[:length]), seed)
-        stream.update(data[length : length + 1])
 
 
 @pytest.mark.parametrize("kind", KINDS)

@@ -129,6 +129,7 @@ impl MurmurHash3X64128 {
     {
         let (k1, k2) = place_behind(self.low, self.high, self.count, number);
         (self.h1, self.h2) = step(self.h1, self.h2, k1, k2);
+        // Without the bytes that went into the block.
         (self.low, self.high) = split_words(number >> (8 * (BLOCK - self.count)));
         self.total = self.total.wrapping_add(bytes.len() as u64);
         self.count = self.count + bytes.len() - BLOCK;
@@ -185,15 +186,15 @@ impl Hasher for MurmurHash3X64128 {
         ensures stands { (seed : ℕ) (before : List ℕ) → MurmurStands self.old seed before →
             MurmurStands self.new seed (before ++ bytes.now) }
     {
-        if bytes.len() >= BLOCK {
-            self.write_blocks(bytes);
-            return;
-        }
-        let number = read_partial_le(bytes);
-        if self.count + bytes.len() < BLOCK {
-            self.buffer_bytes(bytes, number);
+        if bytes.len() < BLOCK {
+            let number = read_partial_le(bytes);
+            if self.count + bytes.len() < BLOCK {
+                self.buffer_bytes(bytes, number);
+            } else {
+                self.complete_block(bytes, number);
+            }
         } else {
-            self.complete_block(bytes, number);
+            self.write_blocks(bytes);
         }
     }
 
