@@ -33,9 +33,8 @@ pub(crate) fn set_all(bits: &mut [u8], other: &[u8])
     }
 }
 
-// Clears all bits. The loop goes from both ends: one that goes from one end LLVM turns into a call
-// of `memset`, and nothing else here needs the C library. The bytes may be of memory that was never
-// written, so they are not read.
+// Clears all bits, from both ends: a loop from one end LLVM turns into a call of `memset`, and
+// nothing else here needs the C library. The bytes may never have been written: none is read.
 #[tactic(auto, using(crate::proofs::BitLemmas::cleared))]
 pub(crate) fn clear(bits: &mut [u8])
     ensures { bits.new ≡ replicate (length bits.old) 0 }

@@ -1,9 +1,9 @@
 //! The format of a table in bytes, written and read by place.
 
-ghost use Rattle.std.specs.Prelude.{◌≡◌, ◌+◌, ◌-◌, ◌<◌, ◌≤◌, [], ◌∷◌, Contains, length, take, drop, slice_index, IfSome, MatchResult};
+ghost use Rattle.std.specs.Prelude.{◌≡◌, ◌+◌, ◌-◌, ◌<◌, ◌≤◌, ◌↔◌, [], ◌∷◌, Contains, length, take, drop, slice_index, IfSome, IsTrue, MatchResult};
 ghost use Rattle.datasketches.specs.Bytes.{eight, le};
 ghost use Rattle.datasketches.specs.Words.{IsWord};
-ghost use Rattle.sketch_member.specs.Faults.{AllPass, IsFirstFault, bits_steps, count_number, kind_steps, number_steps, size_steps, steps, view_steps};
+ghost use Rattle.sketch_member.specs.Faults.{AllPass, IsFirstFault, IsFlag, bits_steps, count_number, kind_steps, number_steps, size_steps, steps, view_steps};
 ghost use Rattle.sketch_member.specs.Form.{IsForm, flag_of, form2, number_of};
 ghost use Rattle.sketch_member.specs.Table.{IsTable, table_of};
 
@@ -39,9 +39,8 @@ impl Filter {
             Some(n) => (1, n),
             None => (0, 0),
         };
-        let front = [LONGS_2, LONGS_2 - 1, MEMBER.id, log2_bits, hashes, flag];
         let mut bytes = [0; HEADER_BYTES];
-        bytes[..6].copy_from_slice(&front);
+        bytes[..6].copy_from_slice(&[LONGS_2, LONGS_2 - 1, MEMBER.id, log2_bits, hashes, flag]);
         bytes[8..16].copy_from_slice(&eight_bytes(self.seed));
         bytes[16..].copy_from_slice(&eight_bytes(number));
         bytes
@@ -134,12 +133,11 @@ fn read_numbers(bytes: &[u8], longs: u8) -> Result<(u64, Option<u64>), Fault>
         (λ fault. IsFirstFault (length bytes.now) (number_steps bytes.now) fault) }
 {
     let (flag, second, third) = (byte(bytes, 5)?, byte(bytes, 6)?, byte(bytes, 7)?);
-    let has_count = longs == LONGS_2;
-    let is_flag = flag == 0 || (has_count && flag == 1);
-    if !is_flag || second != 0 || third != 0 {
+    if !is_flag(longs, flag, second, third) {
         return Err(Fault::Reserved);
     }
     let seed = long(bytes, 8)?;
+    let has_count = longs == LONGS_2;
     let number = if has_count { long(bytes, 16)? } else { 0 };
     if flag == 1 {
         return Ok((seed, Some(number)));
@@ -148,6 +146,13 @@ fn read_numbers(bytes: &[u8], longs: u8) -> Result<(u64, Option<u64>), Fault>
         return Err(Fault::UnknownCount);
     }
     Ok((seed, None))
+}
+
+// Whether the flag is one of these preamble longs, and the two bytes behind it are zero.
+fn is_flag(longs: u8, flag: u8, second: u8, third: u8) -> bool
+    ensures { IsTrue result ↔ (IsFlag longs flag × (second ≡ 0) × (third ≡ 0)) }
+{
+    (flag == 0 || (longs == LONGS_2 && flag == 1)) && second == 0 && third == 0
 }
 
 // Accepts exactly as many bytes behind `start` as the bits need.

@@ -14,22 +14,13 @@ const TABLES: [Row; 5] = [
     (0, 6, 1, &[], &[0, 0, 0, 0, 0, 0, 0, 0]),
     (0, 6, 1, &[b""], &[0, 0, 0, 2, 0, 0, 0, 0]),
     (u64::MAX, 6, 2, &[b""], &[1, 0, 0, 2, 0, 0, 0, 0]),
-    (
-        9001,
-        6,
-        16,
-        &[b"a", b"b"],
-        &[0x53, 0x74, 0x21, 0x41, 0x53, 0x59, 0x51, 0x02],
-    ),
+    (9001, 6, 16, &[b"a", b"b"], b"St!ASYQ\x02"),
     (
         u64::MAX - 2,
         8,
         8,
         &[b"abc", b""],
-        &[
-            0x08, 0x01, 0, 0x01, 0, 0, 0, 0, 0, 0x48, 0x04, 0, 0x20, 0x80, 0x40, 0, 0x01, 0, 0,
-            0x02, 0, 0x10, 0, 0, 0, 0, 0, 0x08, 0, 0, 0x80, 0,
-        ],
+        b"\x08\x01\0\x01\0\0\0\0\0H\x04\0 \x80@\0\x01\0\0\x02\0\x10\0\0\0\0\0\x08\0\0\x80\0",
     ),
 ];
 
@@ -41,22 +32,36 @@ fn insert_new(rt: &impl Abort, table: &mut MemberTable, value: &[u8]) {
     assert!(rt; table.contains(&value));
 }
 
-// Inserts each value into one table, and into a table of its own that is merged into another one.
-fn try_row(rt: &impl Abort, alloc: Global, row: &Row) -> Result<(), Error> {
-    let (seed, log2_bits, hashes, values, bits) = *row;
-    let mut table = MemberTable::new(alloc, seed, log2_bits, hashes)?;
+// Asserts that a table is written in these bytes.
+fn try_bytes(rt: &impl Abort, alloc: Global, it: &MemberTable, bytes: &[u8]) -> Result<(), Error> {
+    let written = it.to_bytes(alloc)?;
+    assert_eq!(rt; written.as_slice(), bytes);
+    Ok(())
+}
+
+// Inserts each value into a table of its own that is merged into another one.
+fn try_merged(rt: &impl Abort, alloc: Global, row: &Row, bytes: &[u8]) -> Result<(), Error> {
+    let (seed, log2_bits, hashes, values, _) = *row;
     let mut merged = MemberTable::new(alloc, seed, log2_bits, hashes)?;
     for value in values {
-        insert_new(rt, &mut table, value);
         let mut other = MemberTable::new(alloc, seed, log2_bits, hashes)?;
         other.insert(&raw_bytes::from_slice(value));
         merged.merge(alloc, &other)?;
     }
     assert_eq!(rt; merged.count(), Some(values.len() as u64));
+    try_bytes(rt, alloc, &merged, bytes)
+}
+
+// Inserts each value into one table, whose bytes are those of the merged one.
+fn try_row(rt: &impl Abort, alloc: Global, row: &Row) -> Result<(), Error> {
+    let (seed, log2_bits, hashes, values, bits) = *row;
+    let mut table = MemberTable::new(alloc, seed, log2_bits, hashes)?;
+    for value in values {
+        insert_new(rt, &mut table, value);
+    }
     let bytes = table.to_bytes(alloc)?;
     assert_eq!(rt; bytes.get(24..), Some(bits), "under {seed}");
-    assert_eq!(rt; merged.to_bytes(alloc)?.as_slice(), bytes.as_slice());
-    Ok(())
+    try_merged(rt, alloc, row, &bytes)
 }
 
 fn try_tables(rt: &impl Abort, alloc: Global) -> Result<(), Error> {
@@ -119,18 +124,15 @@ const GREATEST_COUNT: [u8; 32] = [
     0, 2, 0, 0, 0, 0,
 ];
 
+const MOST: Option<u64> = Some(u64::MAX);
+
 // Bytes, the count of the table that is read from them, before and after one insert of the value
 // that it contains, and the bytes in which it is written before.
 const READ: [(&[u8], Option<u64>, Option<u64>, &[u8]); 4] = [
     (&ONE_VALUE_1, None, None, &UNKNOWN_COUNT),
     (&UNKNOWN_COUNT, None, None, &UNKNOWN_COUNT),
     (&ONE_VALUE_2, Some(1), Some(2), &ONE_VALUE_2),
-    (
-        &GREATEST_COUNT,
-        Some(u64::MAX),
-        Some(u64::MAX),
-        &GREATEST_COUNT,
-    ),
+    (&GREATEST_COUNT, MOST, MOST, &GREATEST_COUNT),
 ];
 
 fn try_read(rt: &impl Abort, alloc: Global) -> Result<(), Error> {
@@ -139,7 +141,7 @@ fn try_read(rt: &impl Abort, alloc: Global) -> Result<(), Error> {
         let mut table = MemberTable::from_bytes(alloc, bytes)?;
         let told = (table.contains(&value), table.contains(&7u8), table.count());
         assert_eq!(rt; told, (true, false, count));
-        assert_eq!(rt; table.to_bytes(alloc)?.as_slice(), written);
+        try_bytes(rt, alloc, &table, written)?;
         table.insert(&value);
         assert_eq!(rt; table.count(), next_count);
     }
@@ -150,8 +152,7 @@ fn try_one_value(rt: &impl Abort, alloc: Global) -> Result<(), Error> {
     let mut table = MemberTable::new(alloc, 0, 6, 1)?;
     assert_eq!(rt; table.count(), Some(0));
     insert_new(rt, &mut table, b"");
-    assert_eq!(rt; table.to_bytes(alloc)?.as_slice(), ONE_VALUE_2.as_slice());
-    Ok(())
+    try_bytes(rt, alloc, &table, &ONE_VALUE_2)
 }
 
 #[test]
