@@ -1,6 +1,7 @@
 //! What can be wrong with bytes that are to be a table, and with two tables that are to be merged.
 
-ghost use Rattle.std.specs.Prelude.{Some};
+ghost use Rattle.std.specs.Prelude.{◌++◌, Some, codes};
+ghost use Rattle.std.specs.Fmt.{DisplaysOnOk, decimal};
 ghost use Rattle.datasketches.specs.Refusals.{Refuses};
 ghost use Rattle.sketch_member.specs.Faults.{fault_text};
 ghost use Rattle.sketch_member.specs.Merge.{merge_fault_text, part_name};
@@ -78,7 +79,7 @@ impl fmt::Display for Fault {
                 f.write_str("insufficient data (member table): unexpected end of file")
             }
             Fault::PreambleLongs(n) => {
-                write!(f, "invalid preamble longs: expected one of [2, 3], got {n}")
+                write_got("invalid preamble longs: expected one of [2, 3]", *n, f)
             }
             Fault::SerialVersion { expected, actual } => write!(
                 f,
@@ -88,8 +89,8 @@ impl fmt::Display for Fault {
                 let (id, name) = (MEMBER.id, MEMBER.name);
                 write!(f, "invalid family: expected {id} ({name}), got {n}")
             }
-            Fault::Log2Bits(n) => write!(f, "invalid log2 bits: expected 6 to 20, got {n}"),
-            Fault::Hashes(n) => write!(f, "invalid hashes: expected 1 to 16, got {n}"),
+            Fault::Log2Bits(n) => write_got("invalid log2 bits: expected 6 to 20", *n, f),
+            Fault::Hashes(n) => write_got("invalid hashes: expected 1 to 16", *n, f),
             Fault::Reserved => f.write_str("reserved bytes are not zero"),
             Fault::UnknownCount => f.write_str("unknown count is not zero"),
             Fault::MissingBits { need, have } => write!(
@@ -100,6 +101,14 @@ impl fmt::Display for Fault {
             Fault::Version1 => f.write_str("unsupported serial version: expected 2, got 1"),
         }
     }
+}
+
+// What is wrong, and the byte that stands there.
+fn write_got<W: fmt::Write>(text: &str, n: u8, f: &mut fmt::Formatter<W>) -> fmt::Result
+    ensures { DisplaysOnOk W.write_str_gives f.old result
+        (Some (text.now ++ (codes ", got " ++ decimal n))) f.new }
+{
+    write!(f, "{text}, got {n}")
 }
 
 impl fmt::Display for MergeFault {
