@@ -69,8 +69,9 @@ impl Filter {
         })
     }
 
-    // Inserts a value into the table with these bits. The word is read before: for all that LLVM
-    // knows the bits lie in the value, and it would read and multiply it again for each index.
+    // Inserts a value into the table with these bits. The word is read before: LLVM does not know
+    // that the bits lie elsewhere than the value, and would read it and multiply it again for each
+    // index.
     pub(crate) fn insert<T: Hash>(&mut self, bits: &mut [u8], value: &T)
         requires { IsTable (table_of self.old bits.old) }
         ensures inserts { Inserts (T.fed value.now) (table_of self.old bits.old)
