@@ -44,7 +44,7 @@ fn answer_to(alloc: Global, question: &str) -> Option<[u64; 3]> {
         }
         "raw" => {
             let (form, hex) = asked.split_once(' ')?;
-            let input = Bytes::from_hex(hex)?;
+            let input = Bytes::from_hex(hex);
             let hash = match form {
                 "slice" => calculate_hash(raw_bytes::from_slice(input.as_slice())),
                 _ => calculate_hash(raw_bytes::from_str(str::from_utf8(input.as_slice()).ok()?)),
@@ -64,19 +64,21 @@ fn answer_to(alloc: Global, question: &str) -> Option<[u64; 3]> {
 fn stream(asked: &str) -> Option<[u64; 3]> {
     let (seed, rest) = asked.split_once(' ')?;
     let (cuts, hex) = rest.split_once(' ')?;
-    let seed = seed.parse().ok()?;
-    let input = Bytes::from_hex(hex)?;
-    let bytes = input.as_slice();
+    let seed = seed.parse().unwrap_or(0);
+    Some(after_pieces(seed, cuts, Bytes::from_hex(hex).as_slice()))
+}
+
+fn after_pieces(seed: u64, cuts: &str, bytes: &[u8]) -> [u64; 3] {
     let mut both = Both::with_seeds(seed, seed);
     let mut start = 0;
     for cut in cuts.split(',') {
         let end = cut.parse().unwrap_or(0);
-        both.write(bytes.get(start..end)?);
+        both.write(bytes.get(start..end).unwrap_or(&[]));
         start = end;
     }
-    both.write(bytes.get(start..)?);
+    both.write(bytes.get(start..).unwrap_or(&[]));
     let ((h1, h2), xxh64) = both.answers();
-    Some([h1, h2, xxh64])
+    [h1, h2, xxh64]
 }
 
 // At most 256 bytes.
@@ -87,15 +89,14 @@ struct Bytes {
 }
 
 impl Bytes {
-    fn from_hex(text: &str) -> Option<Bytes> {
+    fn from_hex(text: &str) -> Bytes {
         let mut bytes = [0; 256];
-        let digits = if text == "-" { "" } else { text };
-        let count = digits.len() / 2;
-        for (i, place) in bytes.get_mut(..count)?.iter_mut().enumerate() {
-            let start = i.checked_mul(2)?;
-            *place = u8::from_str_radix(digits.get(start..start.checked_add(2)?)?, 16).ok()?;
+        let count = (text.len() / 2).min(256);
+        for i in 0..count {
+            let digits = text.get(2 * i..2 * i + 2).unwrap_or("");
+            bytes[i] = u8::from_str_radix(digits, 16).unwrap_or(0);
         }
-        Some(Bytes { bytes, count })
+        Bytes { bytes, count }
     }
 
     fn as_slice(&self) -> &[u8] {
@@ -104,7 +105,7 @@ impl Bytes {
 }
 
 // A number of one of the eight types.
-#[derive(Clone, Copy, Debug)]
+#[derive(Clone, Copy)]
 enum Number {
     U8(u8),
     I8(i8),
