@@ -14,7 +14,7 @@ use Rattle.sketch_hash.specs.Words.{IsWord, OneToOne}
 use Rattle.sketch_hash.specs.Pieces.{pieces}
 use Rattle.sketch_hash.specs.Murmur.{step, block_words, blocks, tail, with_tail, finalize, murmur}
 use Rattle.sketch_hash.specs.Laws.{AreWords, IsBlock, PieceLaws, MurmurStepLaws}
-use Rattle.sketch_hash.proofs.OneToOneLemmas.{◌▸◌, alike}
+use Rattle.sketch_hash.proofs.WordLemmas.{◌▸◌, alike}
 
 pub agree-front : {X : Type 0} (low high : ℕ) (a b : List X) → length a ≡ length b →
     AgreeOutside low high a b → take low a ≡ take low b

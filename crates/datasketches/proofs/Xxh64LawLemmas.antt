@@ -12,7 +12,7 @@ use Rattle.sketch_hash.specs.Words.{IsWord, plus, OneToOne}
 use Rattle.sketch_hash.specs.Pieces.{rest}
 use Rattle.sketch_hash.specs.Xxh64.{prime5, Lanes, lanes, merge, stripes, tail_step, tail_steps, avalanche, finalize, xxh64}
 use Rattle.sketch_hash.specs.Laws.{IsStep, step_widths, PieceLaws, Xxh64StepLaws}
-use Rattle.sketch_hash.proofs.OneToOneLemmas.{◌▸◌, alike}
+use Rattle.sketch_hash.proofs.WordLemmas.{◌▸◌, alike}
 use Rattle.sketch_hash.proofs.WordLemmas.{plus-lt}
 use Rattle.datasketches.specs.Laws.{AgreeOutside, HashU64Law, XxTailLaw, XxSeedLaw}
 use Rattle.datasketches.proofs.MurmurLawLemmas.{agree-front, agree-back, agree-beyond, parts_at}

@@ -1,8 +1,8 @@
 -- Bytes in a buffer: put at a place by two copies, which may overlap; and what a state's buffer holds,
 -- of which the total says how many bytes wait.
-use Rattle.std.proofs.Common.{◌≡◌, ℕ, ◌+◌, ◌-◌, ◌<◌, ◌≤◌, List, ◌++◌, length, take, drop, refl, sym, ap, ◌∙◌, arith, append_assoc, append-nil, length-append, length-drop, ◌*◌, min, zero, suc, ◌%◌, ◌/◌, ◌^◌, [], ◌∷◌}
+use Rattle.std.proofs.Common.{◌≡◌, ℕ, ◌+◌, ◌-◌, ◌<◌, ◌≤◌, List, ◌++◌, length, take, drop, refl, sym, ap, ◌∙◌, arith, append_assoc, append-nil, length-append, length-drop, ◌*◌, min, zero, suc, ◌%◌, ◌/◌, ◌^◌, [], ◌∷◌, map, inl, inr}
 use Rattle.std.proofs.Math.Seq.{take-append-add, take-append_seam}
-use Rattle.std.proofs.lemmas.List.{take_all, drop_all, length-take, length-take-le, take_rest, take-append-drop, take-append-le}
+use Rattle.std.proofs.lemmas.List.{take_all, drop_all, length-take, length-take-le, take_rest, take-append-drop, take-append-le, map-id, nil_from_length}
 use Rattle.std.proofs.lemmas.Slice.{put_mid-paste, drop-put_mid}
 use borrow.Rule.Slice.PartMut.{put_mid, post_of}
 use Rattle.std.proofs.Math.Nat.{mod-add-mod, mod-eq_of_lt, suc-add}
@@ -12,10 +12,14 @@ use Rattle.sketch_base.proofs.BytesLemmas.{to_le_bytes-is}
 use Rattle.sketch_hash.proofs.MurmurLemmas.{after_waits, murmur_stands_after}
 use Rattle.sketch_hash.specs.declared.hash.murmurhash.state.MurmurState.{MurmurState}
 use Rattle.sketch_hash.specs.declared.hash.xxhash.state.XxHash64State.{XxHash64State}
-use Rattle.sketch_hash.proofs.Xxh64Lemmas.{xxh64_stands_after}
+use Rattle.sketch_hash.proofs.Xxh64Lemmas.{xxh64_stands_after, fold-seeded, one_stripe}
 use Rattle.sketch_hash.specs.Held.{murmur_held, xxh64_held, MurmurHolds, Xxh64Holds}
 use Rattle.sketch_hash.specs.Murmur.{murmur_after}
-use Rattle.sketch_hash.specs.Xxh64.{xxh64_after}
+use Rattle.sketch_hash.specs.Xxh64.{xxh64_after, Lanes, stripe_step, seeded_step, each_lane}
+use Rattle.std.proofs.lemmas.Bool.{cases_lt}
+use Rattle.std.specs.List.{fold}
+use Rattle.sketch_hash.specs.Pieces.{pieces, rest, State}
+use Rattle.sketch_hash.proofs.PiecesLemmas.{length_rest, pieces_short, joined_piece, no_piece, state_after-waits, state_after-fills, state_after-fresh, state_after-through}
 
 pub copy_overlapping-is : (buffer bytes front back : List ℕ) (at k m : ℕ) → m ≡ at + length bytes - k →
     k ≤ length bytes → length bytes ≤ k + k → at + length bytes ≤ length buffer →
@@ -156,3 +160,156 @@ pub ruleset stated = (bytes_held)
 
 pub block_bytes : (n : ℕ) → to_le_bytes w128 n ≡ low_bytes 16 n
 block_bytes n = to_le_bytes-is w128 n
+
+-- What a write of XXH64 leaves: where it fills no stripe, where it fills the one that is begun, and
+-- where it goes beyond.
+
+-- the lanes after the stripes of bytes, beside the seed
+folded : (start : ℕ × Lanes) (bytes : List ℕ) →
+    fold seeded_step start (map (λ stripe. stripe) (pieces 32 bytes))
+    ≡ (start.0, each_lane start.1 (pieces 32 bytes))
+folded start bytes =
+    ap (fold seeded_step start) (map-id (pieces 32 bytes))
+    ∙ fold-seeded (pieces 32 bytes) start.0 start.1
+
+-- where no byte waits
+after-fresh : (s : State (ℕ × Lanes)) (bytes : List ℕ) → s.total < 2 ^ 64 → s.waiting ≡ [] →
+    xxh64_after s bytes ≡ record {
+      folded = (s.folded.0, each_lane s.folded.1 (pieces 32 bytes));
+      total = (s.total + length bytes) % 2 ^ 64;
+      waiting = rest 32 bytes;
+    }
+unfolding xxh64_after
+after-fresh s bytes t e =
+    state_after-fresh 32 (λ stripe. stripe) seeded_step s bytes (omega arith) t e
+    ∙ ap (λ v. record { folded = v; total = (s.total + length bytes) % 2 ^ 64; waiting = rest 32 bytes })
+    (folded s.folded bytes)
+
+-- where a stripe is begun
+after-begun : (s : State (ℕ × Lanes)) (bytes : List ℕ) (missing : ℕ) → s.total < 2 ^ 64 →
+    0 < missing → length s.waiting + missing ≡ 32 → missing ≤ length bytes →
+    xxh64_after s bytes ≡ record {
+      folded = (
+        s.folded.0,
+        each_lane (stripe_step s.folded.1 (s.waiting ++ take missing bytes))
+            (pieces 32 (drop missing bytes)),
+      );
+      total = (s.total + length bytes) % 2 ^ 64;
+      waiting = rest 32 (drop missing bytes);
+    }
+unfolding xxh64_after
+after-begun s bytes missing t p e h =
+    let front : List ℕ = take missing bytes in
+    let behind : List ℕ = drop missing bytes in
+    let full : length (s.waiting ++ front) ≡ 32 =
+    length-append s.waiting front ∙ ap (λ n. length s.waiting + n) (length-take-le missing bytes h) ∙ e in
+    let short : length s.waiting < 32 = omega (arith, e, p) in
+    state_after-through 32 (λ stripe. stripe) seeded_step s bytes missing (omega arith) t short h full
+    ∙ ap (λ v. record { folded = v; total = (s.total + length bytes) % 2 ^ 64; waiting = rest 32 behind })
+    (folded (seeded_step s.folded (s.waiting ++ front)) behind)
+
+-- bytes that fill no stripe wait behind those that wait
+pub write_waits : (s : State (ℕ × Lanes)) (bytes : List ℕ) → s.total < 2 ^ 64 →
+    length s.waiting + length bytes < 32 →
+    xxh64_after s bytes ≡ record {
+      folded = s.folded;
+      total = (s.total + length bytes) % 2 ^ 64;
+      waiting = s.waiting ++ bytes;
+    }
+unfolding xxh64_after
+write_waits s bytes t h =
+    let short : length (s.waiting ++ bytes) < 32 = rw (length-append s.waiting bytes) h in
+    state_after-waits 32 (λ stripe. stripe) seeded_step s bytes t short
+
+-- bytes that fill a stripe have it folded
+pub write_fills : (s : State (ℕ × Lanes)) (bytes : List ℕ) → s.total < 2 ^ 64 →
+    length s.waiting < 32 → length s.waiting + length bytes ≡ 32 →
+    xxh64_after s bytes ≡ record {
+      folded = (s.folded.0, stripe_step s.folded.1 (s.waiting ++ bytes));
+      total = (s.total + length bytes) % 2 ^ 64;
+      waiting = [];
+    }
+unfolding xxh64_after
+write_fills s bytes t short h =
+    let full : length (s.waiting ++ bytes) ≡ 32 = length-append s.waiting bytes ∙ h in
+    state_after-fills 32 (λ stripe. stripe) seeded_step s bytes (omega arith) t short full
+
+-- where no byte waits, the stripes are those of the bytes
+pub write_fresh : (s : State (ℕ × Lanes)) (bytes : List ℕ) → s.total < 2 ^ 64 → length s.waiting ≡ 0 →
+    xxh64_after s bytes ≡ record {
+      folded = (s.folded.0, each_lane s.folded.1 (pieces 32 bytes));
+      total = (s.total + length bytes) % 2 ^ 64;
+      waiting = rest 32 bytes;
+    }
+write_fresh s bytes t none = after-fresh s bytes t (nil_from_length s.waiting none)
+
+-- how many bytes are behind the stripes
+pub left_over : (bytes : List ℕ) → length (rest 32 bytes) ≡ length bytes % 32
+left_over bytes = rw (length_rest 32 bytes) (omega arith)
+
+-- the waiting bytes of a state whose total says how many they are
+pub held_starts : (total : ℕ) (buffer bytes : List ℕ) → total % 32 + length bytes < 32 →
+    length buffer ≡ 32 →
+    (take (total % 32) buffer ++ bytes ++ drop (total % 32 + length bytes) buffer
+    ≡ take (total % 32) buffer ++ bytes ++ drop (total % 32 + length bytes) buffer)
+    × (take ((total + length bytes) % 2 ^ 64 % 32)
+    (take (total % 32) buffer ++ bytes ++ drop (total % 32 + length bytes) buffer)
+    ≡ take (total % 32) buffer ++ bytes)
+held_starts total buffer bytes few size =
+    let within : total % 32 + length bytes ≤ length buffer = omega arith in
+    (refl, held-waits 32 total buffer bytes (λ n. omega arith) few within)
+
+-- any write that fills the stripe that is begun: its stripe, where there is one, and then those behind
+pub write_through : (seed total count : ℕ) (v : Lanes) (buffer bytes : List ℕ) → total < 2 ^ 64 →
+    count < 32 → length buffer ≡ 32 → (32 - count) % 32 ≤ length bytes →
+    xxh64_after (record { folded = (seed, v); total = total; waiting = take count buffer }) bytes ≡ record {
+      folded = (
+        seed,
+        each_lane (each_lane v (pieces 32 (take count buffer ++ take ((32 - count) % 32) bytes)))
+            (pieces 32 (drop ((32 - count) % 32) bytes)),
+      );
+      total = (total + length bytes) % 2 ^ 64;
+      waiting = rest 32 (drop ((32 - count) % 32) bytes);
+    }
+unfolding stripe_step
+write_through seed total count v buffer bytes below low size enough =
+    let missing : ℕ = (32 - count) % 32 in
+    let s : State (ℕ × Lanes) =
+    record { folded = (seed, v); total = total; waiting = take count buffer } in
+    let waits : length s.waiting ≡ count = length-take-le count buffer (omega (arith, low, size)) in
+    let front_len : length (take missing bytes) ≡ missing = length-take-le missing bytes enough in
+    elim (cases_lt 0 missing) [
+      | inl begun ↦
+          let full : length s.waiting + missing ≡ 32 = omega (arith, waits, begun) in
+          let both : length s.waiting + length (take missing bytes) ≡ 32 = omega (arith, full, front_len) in
+          rw (joined_piece 32 s.waiting (take missing bytes) (omega arith) both)
+          (after-begun s bytes missing below begun full enough)
+      | inr none ↦
+          let zero : count ≡ 0 = omega (arith, none, low) in
+          let nothing : missing ≡ 0 = omega (arith, none) in
+          let empty : s.waiting ≡ [] = ap (λ n. take n buffer) zero in
+          let alone : pieces 32 [] ≡ [] = pieces_short 32 [] (omega arith) in
+          let bare : State (ℕ × Lanes) = record { folded = (seed, v); total = total; waiting = [] } in
+          rw (empty, nothing, alone) (after-fresh bare bytes below refl)
+    ]
+
+-- how many bytes wait then
+pub left_count : (count : ℕ) (bytes : List ℕ) → count < 32 → (32 - count) % 32 ≤ length bytes →
+    length (rest 32 (drop ((32 - count) % 32) bytes)) ≡ (count + length bytes) % 32
+left_count count bytes low h =
+    rw (length_rest 32 (drop ((32 - count) % 32) bytes), length-drop ((32 - count) % 32) bytes)
+    (omega arith)
+
+-- what search takes for a write into the buffer, one that completes a stripe, one where no byte
+-- waits, one into a state, the stripe that is begun, and a write through it
+pub ruleset buffered = (write_waits, copy_starts)
+
+pub ruleset completed = (write_fills, copy_whole)
+
+pub ruleset fresh = (write_fresh, copy_at_start, left_over, length-take)
+
+pub ruleset xxh64_kept = (write_waits, held_starts, length-take)
+
+pub ruleset first_stripe = (one_stripe, joined_piece, no_piece, copy_whole, length-take)
+
+pub ruleset through = (write_through, copy_at_start, left_count, take_rest)

@@ -2,9 +2,6 @@ pub mod WordLemmas
 pub mod PiecesLemmas
 pub mod MurmurLemmas
 pub mod Xxh64Lemmas
-pub mod OneToOneLemmas
 pub mod MurmurSteps
-pub mod Xxh64Steps
 pub mod NumberLemmas
 pub mod BufferLemmas
-pub mod Xxh64Writes

@@ -9,7 +9,7 @@ use Rattle.sketch_hash.specs.Words.{IsWord, plus, times, rotate, OneToOne}
 use Rattle.sketch_hash.specs.Pieces.{word_at, pieces}
 use Rattle.sketch_hash.specs.Murmur.{block_words, c1, c2, mix1, mix2, fmix, step1, step2, step, blocks, with_tail, cross, finalize}
 use Rattle.sketch_hash.specs.Laws.{AreWords, IsBlock, PieceLaws, MurmurStepLaws}
-use Rattle.sketch_hash.proofs.OneToOneLemmas.{Undoes, one_to_one, times-once, plus-once, xor-once, xor_word-once, rotate-once, shifted-once, ◌▸◌, on_first, on_second, on_both, along}
+use Rattle.sketch_hash.proofs.WordLemmas.{Undoes, one_to_one, times-once, plus-once, xor-once, xor_word-once, rotate-once, shifted-once, ◌▸◌, on_first, on_second, on_both, along}
 use Rattle.sketch_hash.proofs.PiecesLemmas.{IsPiece, rest-whole, pieces-aligned, rest-aligned, pieces_short, rest_short, pieces_one, rest-are, rest-lt, length_rest_same, pieces-are}
 use Rattle.std.specs.List.{All, fold}
 

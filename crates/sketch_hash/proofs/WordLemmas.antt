@@ -1,12 +1,15 @@
 -- The arithmetic of words beside the library's operations: `bit_xor` and `rotate_left`.
-use Rattle.std.proofs.Common.{◌≡◌, ℕ, zero, suc, ◌+◌, ◌-◌, ◌*◌, ◌/◌, ◌%◌, ◌^◌, ◌<◌, sym, ap, ◌∙◌, arith, cond, subst, add_comm}
+use Rattle.std.proofs.Common.{◌≡◌, ℕ, zero, suc, ◌+◌, ◌-◌, ◌*◌, ◌/◌, ◌%◌, ◌^◌, ◌<◌, sym, ap, ◌∙◌, arith, cond, subst, add_comm, List, [], ◌∷◌, refl, Bool, true, false, ◌≤◌, lt_of_lt_of_le, mul_assoc, mul_comm}
 use Rattle.std.specs.Prelude.{◌==◌, bit_xor, bit_or}
 use Rattle.std.specs.Int.{bit_at, rotate_left, w64}
 use Rattle.std.proofs.lemmas.Bool.{cond_both, eqb-true, eqb-false}
-use Rattle.std.proofs.lemmas.Nat.{mod-pow-add, xor_lt, mod_below, or_shifted, shr_below, shl_below, shr_split, mod_low, pow-add, pow_pos, shr_le, xor_comm}
+use Rattle.std.proofs.lemmas.Nat.{mod-pow-add, xor_lt, mod_below, or_shifted, shr_below, shl_below, shr_split, mod_low, pow-add, pow_pos, shr_le, xor_comm, mul-mod_first, mul-mod_second, shr_high, mul-add-lt, shr-shr}
 use Rattle.std.proofs.lemmas.Nat.Bits.{bit_at_xor, bit_at-lt}
-use Rattle.std.proofs.Math.Nat.{mod-eq_of_lt}
-use Rattle.sketch_hash.specs.Words.{IsWord, plus, times, digit, xor_below, xor, rotate, xor_shift}
+use Rattle.std.proofs.Math.Nat.{mod-eq_of_lt, div-eq_of_lt, pow-le-pow_right}
+use Rattle.sketch_hash.specs.Words.{IsWord, plus, times, digit, xor_below, xor, rotate, xor_shift, OneToOne, minus}
+use Rattle.std.specs.List.{All, fold}
+use Rattle.std.proofs.lemmas.List.Elements.{All-head, All-tail}
+use Rattle.std.specs.Int.Bits.{xor_assoc, xor_self, xor_zero_r, xor_shr}
 
 -- the sum over the places at which two digits differ is the library's exclusive or
 xor_below-is : (n x y : ℕ) → xor_below n x y ≡ bit_xor x y % 2 ^ n
@@ -87,3 +90,275 @@ pub of_swapped_words : (x y : ℕ) → IsWord x → IsWord y → bit_xor x y ≡
 of_swapped_words x y p q = xor_comm x y ∙ sym (xor-is y x q p)
 
 pub ruleset xors = (of_words, of_swapped_words)
+
+-- Functions that take each value exactly once: composed in turn, in a part of a pair, along a list;
+-- and the steps on words that the hashes are made of, each with another that undoes it.
+
+-- the function that leaves every value
+pub same : {A : Type 0} {S : A → Type 0} → OneToOne S S (λ x. x)
+same = record { lands = λ x h. h; once = λ x y h k e. e; reached = λ y h. (y, h, refl) }
+
+-- one function, and then another
+infixr 20 ◌▸◌
+pub ◌▸◌ : {A B C : Type 0} {S : A → Type 0} {T : B → Type 0} {U : C → Type 0}
+    {f : A → B} {g : B → C} →
+    OneToOne S T f → OneToOne T U g → OneToOne S U (λ x. g (f x))
+◌▸◌ {f = f} {g = g} p q = record {
+  lands = λ x h. q.lands (f x) (p.lands x h);
+  once = λ x y h k e. p.once x y h k (q.once (f x) (f y) (p.lands x h) (p.lands y k) e);
+  reached = λ z h. let m = q.reached z h in let r = p.reached m.0 m.1 in (r.0, r.1, ap g r.2 ∙ m.2);
+}
+
+-- a function with the same values
+pub alike : {A B : Type 0} {S : A → Type 0} {T : B → Type 0} {f : A → B} (g : A → B) →
+    ((x : A) → S x → g x ≡ f x) → OneToOne S T f → OneToOne S T g
+alike g e p = record {
+  lands = λ x h. rw (e x h) (p.lands x h);
+  once = λ x y h k q. p.once x y h k (sym (e x h) ∙ q ∙ e y k);
+  reached = λ y h. let r = p.reached y h in (r.0, r.1, e r.0 r.1 ∙ r.2);
+}
+
+-- the first of a pair, by a function that may look at the second
+pub on_first : {A B C : Type 0} {S : A → Type 0} {T : B → Type 0} {U : C → Type 0} (f : A → B → C) →
+    ((b : B) → T b → OneToOne S U (λ a. f a b)) →
+    OneToOne (λ (p : A × B). S p.0 × T p.1) (λ (p : C × B). U p.0 × T p.1) (λ p. (f p.0 p.1, p.1))
+on_first {A = A} {B = B} {C = C} f law = record {
+  lands = λ p h. ((law p.1 h.1).lands p.0 h.0, h.1);
+  once = λ p q h k e.
+      let second = ap (λ (t : C × B). t.1) e in
+      let first = ap (λ (t : C × B). t.0) e ∙ ap (f q.0) (sym second) in
+      ap (λ (a : A). (a, p.1)) ((law p.1 h.1).once p.0 q.0 h.0 k.0 first)
+      ∙ ap (λ (b : B). (q.0, b)) second;
+  reached = λ p h.
+      let r = (law p.1 h.1).reached p.0 h.0 in
+      ((r.0, p.1), (r.1, h.1), ap (λ (c : C). (c, p.1)) r.2);
+}
+
+-- the second of a pair, by a function that may look at the first
+pub on_second : {A B C : Type 0} {S : A → Type 0} {T : B → Type 0} {U : C → Type 0}
+    (f : A → B → C) →
+    ((a : A) → S a → OneToOne T U (f a)) →
+    OneToOne (λ (p : A × B). S p.0 × T p.1) (λ (p : A × C). S p.0 × U p.1) (λ p. (p.0, f p.0 p.1))
+on_second {A = A} {B = B} {C = C} f law = record {
+  lands = λ p h. (h.0, (law p.0 h.0).lands p.1 h.1);
+  once = λ p q h k e.
+      let first = ap (λ (t : A × C). t.0) e in
+      let second = ap (λ (t : A × C). t.1) e ∙ ap (λ a. f a q.1) (sym first) in
+      ap (λ (b : B). (p.0, b)) ((law p.0 h.0).once p.1 q.1 h.1 k.1 second)
+      ∙ ap (λ (a : A). (a, q.1)) first;
+  reached = λ p h.
+      let r = (law p.0 h.0).reached p.1 h.1 in
+      ((p.0, r.0), (h.0, r.1), ap (λ (c : C). (p.0, c)) r.2);
+}
+
+-- both of a pair, each by itself
+pub on_both : {A B C D : Type 0} {S : A → Type 0} {T : B → Type 0} {U : C → Type 0} {V : D → Type 0}
+    {f : A → C} {g : B → D} → OneToOne S U f → OneToOne T V g →
+    OneToOne (λ (p : A × B). S p.0 × T p.1) (λ (p : C × D). U p.0 × V p.1) (λ p. (f p.0, g p.1))
+on_both {f = f} {g = g} p q = on_first (λ a b. f a) (λ b h. p) ▸ on_second (λ c. g) (λ c h. q)
+
+-- one of two functions, by a test
+pub choice : {A B : Type 0} {S : A → Type 0} {T : B → Type 0} {f g : A → B} (b : Bool) →
+    OneToOne S T f → OneToOne S T g → OneToOne S T (λ x. cond b (f x) (g x))
+choice true p q = p
+choice false p q = q
+
+-- all elements of a list, one after another
+pub along : {A X : Type 0} {S : A → Type 0} {P : X → Type 0} (f : A → X → A) →
+    ((x : X) → P x → OneToOne S S (λ a. f a x)) → (xs : List X) → All P xs →
+    OneToOne S S (λ a. fold f a xs)
+along f law [] h = same
+along {P = P} f law (x ∷ xs) h = law x (All-head P x xs h) ▸ along f law xs (All-tail P x xs h)
+
+-- f takes S to T, and g undoes it
+pub record Undoes {A B : Type 0} (S : A → Type 0) (T : B → Type 0) (f : A → B) (g : B → A) : Type 0 where
+  pub lands : (x : A) → S x → T (f x)
+  pub comes : (y : B) → T y → S (g y)
+  pub back : (x : A) → S x → g (f x) ≡ x
+  pub forth : (y : B) → T y → f (g y) ≡ y
+
+pub one_to_one : {A B : Type 0} {S : A → Type 0} {T : B → Type 0} {f : A → B} {g : B → A} →
+    Undoes S T f g → OneToOne S T f
+one_to_one {f = f} {g = g} u = record {
+  lands = u.lands;
+  once = λ x y h k e. sym (u.back x h) ∙ ap g e ∙ u.back y k;
+  reached = λ y h. (g y, u.comes y h, u.forth y h);
+}
+
+-- ---- the product with a number, undone by the product with another
+
+times-undone : (c d : ℕ) → times c d ≡ 1 → Undoes IsWord IsWord (λ x. times x c) (λ y. times y d)
+times-undone c d e = record {
+  lands = λ x h. times-lt x c;
+  comes = λ y h. times-lt y d;
+  back = λ x h. undone c d e x h;
+  forth = λ y h. undone d c (ap (λ n. n % 2 ^ 64) (mul_comm d c) ∙ e) y h;
+}
+  where
+    undone : (c d : ℕ) → times c d ≡ 1 → (x : ℕ) → IsWord x → times (times x c) d ≡ x
+    undone c d e x h =
+        mul-mod_first (x * c) d (2 ^ 64) ∙ ap (λ n. n % 2 ^ 64) (mul_assoc x c d)
+        ∙ sym (mul-mod_second x (c * d) (2 ^ 64)) ∙ ap (λ n. x * n % 2 ^ 64) e ∙ omega arith
+
+pub times-once : (c d : ℕ) → times c d ≡ 1 → OneToOne IsWord IsWord (λ x. times x c)
+times-once c d e = one_to_one (times-undone c d e)
+
+-- ---- the sum with a word, undone by the difference
+
+plus-undone : (w : ℕ) → IsWord w → Undoes IsWord IsWord (λ x. plus x w) (λ y. minus y w)
+plus-undone w p = record {
+  lands = λ x h. omega arith;
+  comes = λ y h. omega arith;
+  back = λ x h. omega arith;
+  forth = λ y h. omega arith;
+}
+
+pub plus-once : (w : ℕ) → IsWord w → OneToOne IsWord IsWord (λ x. plus x w)
+plus-once w p = one_to_one (plus-undone w p)
+
+pub plus_word-once : (w : ℕ) → IsWord w → OneToOne IsWord IsWord (plus w)
+plus_word-once w p = alike (plus w) (λ x h. omega arith) (plus-once w p)
+
+-- ---- the exclusive or with a word, which undoes itself
+
+xor-undone : (w : ℕ) → IsWord w → Undoes IsWord IsWord (λ x. xor x w) (λ y. xor y w)
+xor-undone w p = record {
+  lands = λ x h. xor-lt x w h p;
+  comes = λ y h. xor-lt y w h p;
+  back = undone;
+  forth = undone;
+}
+  where
+    undone : (x : ℕ) → IsWord x → xor (xor x w) w ≡ x
+    undone x h =
+        rw (xor-is (xor x w) w (xor-lt x w h p) p, xor-is x w h p, xor_assoc x w w, xor_self w) (xor_zero_r x)
+
+pub xor-once : (w : ℕ) → IsWord w → OneToOne IsWord IsWord (λ x. xor x w)
+xor-once w p = one_to_one (xor-undone w p)
+
+pub xor_word-once : (w : ℕ) → IsWord w → OneToOne IsWord IsWord (xor w)
+xor_word-once w p = alike (xor w) (λ x h. xor-is w x p h ∙ xor_comm w x ∙ sym (xor-is x w h p)) (xor-once w p)
+
+-- ---- a rotation by a places, undone by one of b places, where a and b make 64
+
+-- the upper a digits and the lower b digits change places
+rotate-swaps : (a b x : ℕ) → a + b ≡ 64 → rotate x a ≡ x % 2 ^ b * 2 ^ a + x / 2 ^ b
+unfolding rotate
+rotate-swaps a b x e = let places : 64 - a ≡ b = omega arith in rw (places, rotated_up x a b e) refl
+
+rotate-back : (a b : ℕ) → a + b ≡ 64 → (x : ℕ) → IsWord x → IsWord (rotate x a) × (rotate (rotate x a) b ≡ x)
+rotate-back a b e x h =
+    let high = x / 2 ^ b in
+    let low = x % 2 ^ b in
+    let high_below : high < 2 ^ a = shr_below x a b (subst (λ n. x < 2 ^ n) (sym e) h) in
+    let low_below : low < 2 ^ b = mod_below x (2 ^ b) (pow_pos b) in
+    let whole : 2 ^ a * 2 ^ b ≡ 2 ^ 64 = sym (pow-add 2 a b) ∙ ap (λ n. 2 ^ n) e in
+    let below = mul-add-lt low (2 ^ a) high (2 ^ b) low_below high_below in (
+      rw (rotate-swaps a b x e) (subst (λ n. low * 2 ^ a + high < n) whole below),
+      ap (λ n. rotate n b) (rotate-swaps a b x e) ∙ rotate-swaps b a (low * 2 ^ a + high) (omega arith)
+          ∙ rw (mod_low low a high high_below, shr_high low a high high_below) (shr_split x b),
+    )
+
+rotate-undone : (a b : ℕ) → a + b ≡ 64 → Undoes IsWord IsWord (λ x. rotate x a) (λ y. rotate y b)
+rotate-undone a b e =
+    let other : b + a ≡ 64 = omega arith in
+    record {
+      lands = λ x h. (rotate-back a b e x h).0;
+      comes = λ y h. (rotate-back b a other y h).0;
+      back = λ x h. (rotate-back a b e x h).1;
+      forth = λ y h. (rotate-back b a other y h).1;
+    }
+
+pub rotate-once : (a b : ℕ) → a + b ≡ 64 → OneToOne IsWord IsWord (λ x. rotate x a)
+rotate-once a b e = one_to_one (rotate-undone a b e)
+
+-- ---- a word xor its own upper digits
+
+-- neighbours in a chain of exclusive ors meet and go
+bit_xor-meet : (a b c : ℕ) → bit_xor (bit_xor a b) (bit_xor b c) ≡ bit_xor a c
+bit_xor-meet a b c =
+    let gone = ap (λ n. bit_xor n c) (xor_self b) ∙ xor_comm 0 c ∙ xor_zero_r c in
+    xor_assoc a b (bit_xor b c) ∙ ap (bit_xor a) (sym (xor_assoc b b c) ∙ gone)
+
+shr-word : (x k : ℕ) → IsWord x → IsWord (x / 2 ^ k)
+shr-word x k h = let less = shr_le x k in omega arith
+
+shifted-lt : (k x : ℕ) → IsWord x → IsWord (xor_shift k x)
+shifted-lt k x h = xor-lt x (x / 2 ^ k) h (shr-word x k h)
+
+-- beyond its 64 digits a word has none
+shr-gone : (k x : ℕ) → 64 ≤ k → IsWord x → bit_xor x (x / 2 ^ k) ≡ x
+shr-gone k x m h =
+    let below : x < 2 ^ k = lt_of_lt_of_le h (pow-le-pow_right {n = 2} (omega arith) m) in
+    rw (div-eq_of_lt below) (xor_zero_r x)
+
+-- the upper digits of a number xor its upper digits
+shr-shifted : (k j x : ℕ) → bit_xor x (x / 2 ^ k) / 2 ^ j ≡ bit_xor (x / 2 ^ j) (x / 2 ^ (k + j))
+shr-shifted k j x = xor_shr x (x / 2 ^ k) j ∙ ap (bit_xor (x / 2 ^ j)) (shr-shr x k j)
+
+-- done twice, it is done by twice the places
+shifted-two : (k x : ℕ) → IsWord x → xor_shift k (xor_shift k x) ≡ bit_xor x (x / 2 ^ (k + k))
+shifted-two k x h =
+    xor_shift-is k (xor_shift k x) (shifted-lt k x h)
+    ∙ ap (λ n. bit_xor n (n / 2 ^ k)) (xor_shift-is k x h)
+    ∙ ap (bit_xor (bit_xor x (x / 2 ^ k))) (shr-shifted k k x) ∙ bit_xor-meet x (x / 2 ^ k) (x / 2 ^ (k + k))
+
+-- by 32 places and more it undoes itself
+shifted-undone : (k : ℕ) → 32 ≤ k → Undoes IsWord IsWord (xor_shift k) (xor_shift k)
+shifted-undone k m = record { lands = shifted-lt k; comes = shifted-lt k; back = undone; forth = undone }
+  where
+    undone : (x : ℕ) → IsWord x → xor_shift k (xor_shift k x) ≡ x
+    undone x h = shifted-two k x h ∙ shr-gone (k + k) x (omega arith) h
+
+pub shifted-once : (k : ℕ) → 32 ≤ k → OneToOne IsWord IsWord (xor_shift k)
+shifted-once k m = one_to_one (shifted-undone k m)
+
+-- a word xor its digits from place k on, and those from place 2 k on
+shifted_twice : ℕ → ℕ → ℕ
+shifted_twice k y = xor (xor_shift k y) (y / 2 ^ (k + k))
+
+shifted_twice-is : (k y : ℕ) → IsWord y → shifted_twice k y ≡ bit_xor (xor_shift k y) (y / 2 ^ (k + k))
+unfolding shifted_twice
+shifted_twice-is k y h = xor-is (xor_shift k y) (y / 2 ^ (k + k)) (shifted-lt k y h) (shr-word y (k + k) h)
+
+shifted_twice-lt : (k y : ℕ) → IsWord y → IsWord (shifted_twice k y)
+unfolding shifted_twice
+shifted_twice-lt k y h = xor-lt (xor_shift k y) (y / 2 ^ (k + k)) (shifted-lt k y h) (shr-word y (k + k) h)
+
+-- by 22 places and more it is undone by that
+shifted_less-undone : (k : ℕ) → 22 ≤ k → Undoes IsWord IsWord (xor_shift k) (shifted_twice k)
+shifted_less-undone k m = record {
+  lands = shifted-lt k;
+  comes = shifted_twice-lt k;
+  back = back;
+  forth = forth;
+}
+  where
+    back : (x : ℕ) → IsWord x → shifted_twice k (xor_shift k x) ≡ x
+    back x h =
+        let two = x / 2 ^ (k + k) in
+        let upper : xor_shift k x / 2 ^ (k + k) ≡ bit_xor two (x / 2 ^ (k + (k + k))) =
+        ap (λ n. n / 2 ^ (k + k)) (xor_shift-is k x h) ∙ shr-shifted k (k + k) x in
+        shifted_twice-is k (xor_shift k x) (shifted-lt k x h)
+        ∙ ap (λ n. bit_xor n (xor_shift k x / 2 ^ (k + k))) (shifted-two k x h)
+        ∙ ap (bit_xor (bit_xor x two)) upper ∙ bit_xor-meet x two (x / 2 ^ (k + (k + k)))
+        ∙ shr-gone (k + (k + k)) x (omega arith) h
+
+    forth : (y : ℕ) → IsWord y → xor_shift k (shifted_twice k y) ≡ y
+    forth y h =
+        let once = y / 2 ^ k in
+        let two = y / 2 ^ (k + k) in
+        let three = y / 2 ^ (k + k + k) in
+        let parts : shifted_twice k y ≡ bit_xor (bit_xor y once) two =
+        shifted_twice-is k y h ∙ ap (λ n. bit_xor n two) (xor_shift-is k y h) in
+        let upper : shifted_twice k y / 2 ^ k ≡ bit_xor (bit_xor once two) three =
+        ap (λ n. n / 2 ^ k) parts ∙ xor_shr (bit_xor y once) two k
+        ∙ ap (bit_xor (bit_xor y once / 2 ^ k)) (shr-shr y (k + k) k)
+        ∙ ap (λ n. bit_xor n three) (shr-shifted k k y) in
+        xor_shift-is k (shifted_twice k y) (shifted_twice-lt k y h)
+        ∙ ap (bit_xor (shifted_twice k y)) upper
+        ∙ ap (λ n. bit_xor n (bit_xor (bit_xor once two) three)) (parts ∙ xor_assoc y once two)
+        ∙ bit_xor-meet y (bit_xor once two) three ∙ shr-gone (k + k + k) y (omega arith) h
+
+pub shifted_less-once : (k : ℕ) → 22 ≤ k → OneToOne IsWord IsWord (xor_shift k)
+shifted_less-once k m = one_to_one (shifted_less-undone k m)

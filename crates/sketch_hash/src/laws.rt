@@ -18,7 +18,7 @@ pub fn murmur_step_laws()
 {}
 
 /// Each step of XXH64's tail, and the last mixing, takes every word exactly once.
-#[tactic(auto, using(crate::proofs::Xxh64Steps::xxh64_step_laws))]
+#[tactic(auto, using(crate::proofs::Xxh64Lemmas::xxh64_step_laws))]
 pub fn xxh64_step_laws()
     ensures { Xxh64StepLaws }
 {}

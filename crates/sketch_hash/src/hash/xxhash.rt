@@ -128,7 +128,7 @@ impl XxHash64 {
     // Takes bytes that fill no stripe. The fields are set after the copy: what was set before it
     // LLVM would read again from memory, since it does not know where the copy goes.
     #[inline(always)]
-    #[tactic(auto, using(crate::proofs::Xxh64Writes::buffered))]
+    #[tactic(auto, using(crate::proofs::BufferLemmas::buffered))]
     fn buffer_bytes(&mut self, bytes: &[u8])
         requires { length self.old.waiting + length bytes.now < 32 }
         ensures { self.new ≡ xxh64_after self.old bytes.now }
@@ -142,7 +142,7 @@ impl XxHash64 {
 
     // Takes the bytes that fill the stripe that is begun.
     #[inline(always)]
-    #[tactic(auto, using(crate::proofs::Xxh64Writes::completed))]
+    #[tactic(auto, using(crate::proofs::BufferLemmas::completed))]
     fn complete_stripe(&mut self, bytes: &[u8])
         requires short { length self.old.waiting < 32 }
         requires fills { length self.old.waiting + length bytes.now ≡ 32 }
@@ -158,7 +158,7 @@ impl XxHash64 {
     // Takes whole stripes straight from the slice, and then the bytes after them, where no byte
     // waits. Here too the fields are set after the copy.
     #[inline(always)]
-    #[tactic(auto, using(crate::proofs::Xxh64Writes::fresh))]
+    #[tactic(auto, using(crate::proofs::BufferLemmas::fresh))]
     fn consume_stripes(&mut self, bytes: &[u8])
         requires { length self.old.waiting ≡ 0 }
         ensures { self.new ≡ xxh64_after self.old bytes.now }
@@ -195,7 +195,7 @@ impl XxHash64 {
 // The last bytes are stored before the run of stripes: the next write reads them, and a processor
 // is slow to read what it has just stored.
 #[inline(always)]
-#[tactic(auto, using(crate::proofs::Xxh64Writes::through))]
+#[tactic(auto, using(crate::proofs::BufferLemmas::through))]
 fn consume(lanes: ScalarLanes, buffer: &mut [u8; STRIPE], count: usize, bytes: &[u8]) -> ScalarLanes
     requires short { count < 32 }
     requires fills { (32 - count) % 32 ≤ length bytes.now }
@@ -215,7 +215,7 @@ fn consume(lanes: ScalarLanes, buffer: &mut [u8; STRIPE], count: usize, bytes: &
 
 // The lanes after the stripe that `front` fills, where one is begun.
 #[inline(always)]
-#[tactic(auto, using(crate::proofs::Xxh64Writes::first_stripe))]
+#[tactic(auto, using(crate::proofs::BufferLemmas::first_stripe))]
 fn complete(
     mut lanes: ScalarLanes,
     buffer: &mut [u8; STRIPE],

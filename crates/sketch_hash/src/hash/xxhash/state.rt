@@ -58,7 +58,7 @@ impl XxHash64State {
 
     // Takes bytes that fill no stripe, in place.
     #[inline(always)]
-    #[tactic(auto, using(crate::proofs::Xxh64Writes::held))]
+    #[tactic(auto, using(crate::proofs::BufferLemmas::xxh64_kept))]
     fn buffer_bytes(&mut self, bytes: &[u8])
         requires { self.old.total % 32 + length bytes.now < 32 }
         ensures { xxh64_held self.new ≡ xxh64_after (xxh64_held self.old) bytes.now }
