@@ -59,18 +59,21 @@ fn a_sentence_in_two_pieces_by_a_state_of_murmur(rt: HostRuntime) {
     assert_eq!(rt; words(sketch_murmur3_x64_128_digest(&state)), FOX_MURMUR);
 }
 
+// What a call with these offsets answers, and the places after it.
+fn xxh64_each32(offsets: &[u32]) -> (usize, [u64; 2]) {
+    let mut out = [9; 2];
+    (sketch_xxh64_each32(b"foxes", offsets, 7, &mut out), out)
+}
+
 // 0, or one more than the index of the first wrong offset, and then no place is changed.
 #[test]
 fn a_column_under_xxh64(rt: HostRuntime) {
-    let (fox, es) = (sketch_xxh64(b"fox", 7), sketch_xxh64(b"es", 7));
+    let hashes = [sketch_xxh64(b"fox", 7), sketch_xxh64(b"es", 7)];
+    assert_eq!(rt; xxh64_each32(&[0, 3, 6]), (3, [9; 2]));
+    assert_eq!(rt; xxh64_each32(&[0, 3, 5]), (0, hashes));
     let mut out = [9; 2];
-    assert_eq!(rt; sketch_xxh64_each32(b"foxes", &[0, 3, 6], 7, &mut out), 3);
-    assert_eq!(rt; out, [9; 2]);
-    assert_eq!(rt; sketch_xxh64_each32(b"foxes", &[0, 3, 5], 7, &mut out), 0);
-    assert_eq!(rt; out, [fox, es]);
-    out = [9; 2];
-    assert_eq!(rt; sketch_xxh64_each64(b"foxes", &[0, 3, 5], 7, &mut out), 0);
-    assert_eq!(rt; out, [fox, es]);
+    let answer = sketch_xxh64_each64(b"foxes", &[0, 3, 5], 7, &mut out);
+    assert_eq!(rt; (answer, out), (0, hashes));
 }
 
 #[test]

@@ -34,8 +34,8 @@ fn parse_texts(alloc: Global, words: &[&str]) -> Result<Option<(Algorithm, u64)>
 
 #[test]
 fn two_words_ask_for_a_hash(rt: HostRuntime) -> Result<(), AllocError> {
-    for (words, asked) in WORDS {
-        assert_eq!(rt; parse_texts(rt.alloc(), words)?, asked, "for {words:?}");
+    for (words, asked) in &WORDS {
+        assert_eq!(rt; parse_texts(rt.alloc(), words)?, *asked, "for {words:?}");
     }
     Ok(())
 }
