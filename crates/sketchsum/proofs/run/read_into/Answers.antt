@@ -2,6 +2,9 @@ use Rattle.std.proofs.Common.{◌≡◌, ◌++◌, ◌+◌, length, take, ap, �
 use Rattle.std.proofs.KnownBytes.{Consumes-trans}
 use Rattle.sketchsum.proofs.run.read_into.Goals as goal
 
+pub returns-then-count-eq0-clause-pieces : goal.returns-then-count-eq0-clause-pieces
+returns-then-count-eq0-clause-pieces g c = search rules
+
 pub returns-then-count-eq0-clause-whole : goal.returns-then-count-eq0-clause-whole
 returns-then-count-eq0-clause-whole g c = search rules
 
@@ -23,3 +26,6 @@ loop-turn-preserved g c =
         rw longer (omega (arith, before.2.2, given.bound)),
       ),
     )
+
+pub returns-clause-no_write : goal.returns-clause-no_write
+returns-clause-no_write g c = search rules
