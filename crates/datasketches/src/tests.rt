@@ -1,4 +1,7 @@
-//! The two calls that answer two hashes and tell that these differ, and the original's paths.
+//! The calls that tell of collisions, and the original's paths.
+
+ghost use Rattle.std.specs.Prelude.{◌≡◌, ◌↔◌, IsTrue};
+ghost use Rattle.datasketches.specs.Bytes.{modulo, twos_complement};
 
 use crate::codec::assert::ensure_serial_version_is;
 use crate::codec::family::Family;
@@ -7,7 +10,7 @@ use crate::error::ErrorKind;
 use crate::hash::value::{natural_extend, raw_bytes, sign_extend};
 use crate::hash::{Hash, compute_seed_hash};
 use crate::known_answers::TEST_BUFFER;
-use crate::laws::{murmur_both, xx_both};
+use crate::laws::{integer_law, murmur_both, xx_both};
 use std::fmt::Debug;
 use std::process::Abort;
 
@@ -53,6 +56,20 @@ fn xxh64_tells_apart_every_last_byte_after_a_stripe(rt: HostRuntime) {
         assert_same(&rt, first, 0x55c8_dc3e_578f_5b59);
         assert!(rt; second != first, "with the last byte changed by {change}");
     }
+}
+
+// Whether a signed and an unsigned key of 64 bits are one key.
+fn is_one_key(seed: u64, x: i64, y: u64) -> bool
+    ensures { IsTrue result ↔ (modulo 64 x ≡ modulo 64 (twos_complement 64 y)) }
+{
+    integer_law();
+    sign_extend::from_i64(x).xxh64(seed) == sign_extend::from_u64(y).xxh64(seed)
+}
+
+#[test]
+fn keys_of_64_bits_are_one_where_they_agree_modulo_two_to_the_64(rt: HostRuntime) {
+    assert!(rt; is_one_key(9001, -1, u64::MAX));
+    assert!(rt; !is_one_key(9001, -1, 1));
 }
 
 #[test]
