@@ -1,1 +1,2 @@
 pub mod InitLemmas
+mod ReportLemmas

@@ -1,54 +1,41 @@
--- The numbers by which calls for C answer: how an outcome is told, and a negative number for each
--- fault of a table.
-use Rattle.std.specs.Prelude.{◌≡◌, ℕ, ℤ, zero, suc, pos, ◌-ℤ◌, List, length, Result, Ok, Err}
-use Rattle.sketch_member.specs.declared.fault.Fault.{Fault}
-use Rattle.sketch_member.specs.declared.fault.Fault.TheVariants.{HeaderEnds, PreambleLongs, SerialVersion, Family, Log2Bits, Hashes, Reserved, UnknownCount, MissingBits, TrailingBytes, Version1}
-use Rattle.sketch_member.specs.declared.fault.MergeFault.{MergeFault}
-use Rattle.sketch_member.specs.declared.fault.MergeFault.TheVariants.{Into, From, Unlike}
-use Rattle.sketch_member.specs.declared.fault.Difference.{Difference}
-use Rattle.sketch_member.specs.declared.fault.Difference.TheVariants as part
-use Rattle.sketch_member.specs.Faults.{IsFirstFault, view_steps}
-use Rattle.sketch_member.specs.Form.{form2}
-use Rattle.sketch_member.specs.Table.{Table, IsTable}
+-- How calls for C report errors: 0 if all is done, or a negative number for each error.
+use Rattle.std.specs.Prelude.{◌≡◌, ◌⊎◌, ℕ, ℤ, pos, ◌-ℤ◌, Result, Ok, Err}
+use Rattle.sketch_bloom.specs.declared.fault.Fault.{Fault}
+use Rattle.sketch_bloom.specs.declared.fault.Fault.TheVariants.{Length, OtherLength, Offset, Count, OutOfMemory}
 
--- 0 where it is done, and else one more than the place of the fault
-abbrev pub outcome : ℕ → Result Unit ℕ
-outcome zero = Ok tt
-outcome (suc place) = Err place
+abbrev pub error_length : ℤ
+error_length = pos 0 -ℤ pos 1
 
-abbrev negative : ℕ → ℤ
-negative n = pos 0 -ℤ pos n
+abbrev pub error_offset : ℤ
+error_offset = pos 0 -ℤ pos 2
 
--- the number of a fault
+abbrev pub error_count : ℤ
+error_count = pos 0 -ℤ pos 3
+
+-- The number of a fault of a Bloom filter. No call for C takes memory.
 abbrev pub status : Fault → ℤ
-status HeaderEnds = negative 1
-status (PreambleLongs n) = negative 2
-status (SerialVersion expected actual) = negative 3
-status (Family n) = negative 4
-status (Log2Bits n) = negative 5
-status (Hashes n) = negative 6
-status Reserved = negative 7
-status UnknownCount = negative 8
-status (MissingBits need have) = negative 9
-status (TrailingBytes n) = negative 10
-status Version1 = negative 11
+status (Length bytes) = error_length
+status (OtherLength bytes) = error_length
+status (Offset i) = error_offset
+status (Count values) = error_count
+status OutOfMemory = pos 0 -ℤ pos 4
 
--- the number of a part in which two tables differ
-abbrev pub difference_status : Difference → ℤ
-difference_status part.Seed = negative 12
-difference_status part.Log2Bits = negative 13
-difference_status part.Hashes = negative 14
+-- The index of a wrong offset is written. Any other fault leaves the place as it was.
+abbrev pub index_of : Fault → ℕ → ℕ
+index_of (Length bytes) before = before
+index_of (OtherLength bytes) before = before
+index_of (Offset i) before = i
+index_of (Count values) before = before
+index_of OutOfMemory before = before
 
-abbrev pub merge_status : MergeFault → ℤ
-merge_status (Into fault) = status fault
-merge_status (From fault) = status fault
-merge_status (Unlike part) = difference_status part
+-- A call that hashes a column of keys has this outcome, and writes the index of a wrong offset.
+abbrev pub ReportsOffset : (Result Unit ℕ → Type 0) → ℕ → ℕ → ℤ → Type 0
+ReportsOffset Outcome before after result =
+    ((result ≡ pos 0) × (after ≡ before) × Outcome (Ok tt))
+    ⊎ ((result ≡ error_offset) × Outcome (Err after))
 
--- the bytes are this table, in version 2
-abbrev pub IsTableIn : List ℕ → Table → Type 0
-IsTableIn bytes table = IsTable table × (bytes ≡ form2 table)
-
--- the bytes are no table of version 2, and the status is that of their first fault
-abbrev pub Refused : List ℕ → ℤ → Type 0
-Refused bytes result = (fault : Fault)
-    × IsFirstFault (length bytes) (view_steps bytes) fault × (result ≡ status fault)
+-- A call that hashes a column of numbers has this outcome: there may be fewer numbers than places.
+abbrev pub ReportsCount : (Result Unit ℕ → Type 0) → ℤ → Type 0
+ReportsCount Outcome result =
+    ((result ≡ pos 0) × Outcome (Ok tt))
+    ⊎ ((result ≡ error_count) × (numbers : ℕ) × Outcome (Err numbers))

@@ -1,9 +1,7 @@
 //! Columns of keys: a call hashes all keys of a column.
-//!
-//! Each call answers 0, or one more than the index of the first fault; it has then written nothing.
 
-ghost use Rattle.std.specs.Prelude.{◌≡◌, ◌<◌, MatchResult};
-ghost use Rattle.sketch_c.specs.{outcome};
+ghost use Rattle.std.specs.Prelude.{◌≡◌, ◌⊎◌, MatchResult, pos};
+ghost use Rattle.sketch_c.specs.{ReportsCount, ReportsOffset, error_offset};
 ghost use Rattle.datasketches.specs.Columns.{HashesEach, HashesEachNumber, murmur_words};
 ghost use Rattle.datasketches.specs.Xxh64.{xxh64};
 
@@ -16,10 +14,12 @@ pub extern "C" fn sketch_xxh64_each32(
     offsets: &[u32],
     seed: u64,
     out: &mut [u64],
-) -> usize
-    ensures { HashesEach (xxh64 seed) input.now offsets.now out.old out.new (outcome result) }
+    wrong_offset: &mut usize,
+) -> i32
+    ensures { ReportsOffset (HashesEach (xxh64 seed) input.now offsets.now out.old out.new)
+        wrong_offset.old wrong_offset.new result }
 {
-    status(XxHash64::hash_each(input, offsets, seed, out))
+    reported(XxHash64::hash_each(input, offsets, seed, out), wrong_offset)
 }
 
 /// XXH64 of each key of a column with offsets of 64 bits, for as many keys as `out` has places.
@@ -29,18 +29,23 @@ pub extern "C" fn sketch_xxh64_each64(
     offsets: &[u64],
     seed: u64,
     out: &mut [u64],
-) -> usize
-    ensures { HashesEach (xxh64 seed) input.now offsets.now out.old out.new (outcome result) }
+    wrong_offset: &mut usize,
+) -> i32
+    ensures { ReportsOffset (HashesEach (xxh64 seed) input.now offsets.now out.old out.new)
+        wrong_offset.old wrong_offset.new result }
 {
-    status(XxHash64::hash_each(input, offsets, seed, out))
+    reported(XxHash64::hash_each(input, offsets, seed, out), wrong_offset)
 }
 
 /// XXH64 of the eight little-endian bytes of each number, for as many numbers as `out` has places.
 #[unsafe(no_mangle)]
-pub extern "C" fn sketch_xxh64_each_u64(values: &[u64], seed: u64, out: &mut [u64]) -> usize
-    ensures { HashesEachNumber (xxh64 seed) values.now out.old out.new (outcome result) }
+pub extern "C" fn sketch_xxh64_each_u64(values: &[u64], seed: u64, out: &mut [u64]) -> i32
+    ensures { ReportsCount (HashesEachNumber (xxh64 seed) values.now out.old out.new) result }
 {
-    status(XxHash64::hash_each_u64(values, seed, out))
+    match XxHash64::hash_each_u64(values, seed, out) {
+        Ok(()) => 0,
+        Err(_) => -3,
+    }
 }
 
 /// MurmurHash3 x64 128 of each key of a column with offsets of 32 bits, for as many keys as `out`
@@ -51,11 +56,15 @@ pub extern "C" fn sketch_murmur3_x64_128_each32(
     offsets: &[u32],
     seed: u64,
     out: &mut [[u64; 2]],
-) -> usize
-    ensures { HashesEach (murmur_words seed) input.now offsets.now out.old out.new
-        (outcome result) }
+    wrong_offset: &mut usize,
+) -> i32
+    ensures { ReportsOffset (HashesEach (murmur_words seed) input.now offsets.now out.old out.new)
+        wrong_offset.old wrong_offset.new result }
 {
-    status(MurmurHash3X64128::hash_each(input, offsets, seed, out))
+    reported(
+        MurmurHash3X64128::hash_each(input, offsets, seed, out),
+        wrong_offset,
+    )
 }
 
 /// MurmurHash3 x64 128 of each key of a column with offsets of 64 bits, for as many keys as `out`
@@ -66,21 +75,29 @@ pub extern "C" fn sketch_murmur3_x64_128_each64(
     offsets: &[u64],
     seed: u64,
     out: &mut [[u64; 2]],
-) -> usize
-    ensures { HashesEach (murmur_words seed) input.now offsets.now out.old out.new
-        (outcome result) }
+    wrong_offset: &mut usize,
+) -> i32
+    ensures { ReportsOffset (HashesEach (murmur_words seed) input.now offsets.now out.old out.new)
+        wrong_offset.old wrong_offset.new result }
 {
-    status(MurmurHash3X64128::hash_each(input, offsets, seed, out))
+    reported(
+        MurmurHash3X64128::hash_each(input, offsets, seed, out),
+        wrong_offset,
+    )
 }
 
-// An outcome as a number.
+// The outcome of a call as a number. The index of a wrong offset is written.
 #[inline(always)]
-fn status(hashed: Result<(), usize>) -> usize
-    requires { MatchResult hashed (λ _. Unit) (λ place. place < usize.MAX) }
-    ensures { outcome result ≡ hashed }
+fn reported(hashed: Result<(), usize>, wrong_offset: &mut usize) -> i32
+    ensures { MatchResult hashed
+        (λ _. (result ≡ pos 0) × (wrong_offset.new ≡ wrong_offset.old))
+        (λ i. (result ≡ error_offset) × (wrong_offset.new ≡ i)) }
 {
     match hashed {
         Ok(()) => 0,
-        Err(place) => place + 1,
+        Err(i) => {
+            *wrong_offset = i;
+            -2
+        }
     }
 }

@@ -11,7 +11,7 @@ pub mod value;
 mod words;
 mod xxhash;
 
-pub use self::columns::Offset;
+pub use self::columns::{Offset, check_offsets};
 pub use self::hasher::Hasher;
 pub use self::murmurhash::{MurmurHash3X64128, MurmurState};
 pub use self::seed::{check_seed_hash, compute_seed_hash};

@@ -113,10 +113,16 @@ impl MurmurHash3X64128 {
     }
 }
 
-// The index of the first of `keys + 1` offsets that is missing, is past the end of the bytes, or is
-// below the one before it. Nothing is added to `keys`, which a caller in C may have let wrap.
+/// Checks the offsets of a column of this many keys, laid out as for [`XxHash64::hash_each`].
+///
+/// Any number of keys may be asked for, also the greatest `usize`: nothing is added to it.
+///
+/// # Errors
+///
+/// Returns the index of the first of the `keys + 1` offsets that is missing, is past the end of
+/// `bytes`, or is below the offset before it.
 #[inline(always)]
-fn check_offsets<O: Offset>(bytes: &[u8], offsets: &[O], keys: usize) -> Result<(), usize>
+pub fn check_offsets<O: Offset>(bytes: &[u8], offsets: &[O], keys: usize) -> Result<(), usize>
     ensures { let places = map O.place offsets.now in MatchResult result
         (λ _. AreBounds bytes.now places keys) (λ i. IsFirstWrongOffset bytes.now places keys i) }
 {

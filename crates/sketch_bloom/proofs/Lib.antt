@@ -1,0 +1,6 @@
+mod BitLemmas
+mod BlockLemmas
+mod ColumnLemmas
+mod HeaderLemmas
+mod LawLemmas
+mod SizeLemmas

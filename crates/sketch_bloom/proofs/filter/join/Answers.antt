@@ -1,0 +1,10 @@
+use Rattle.std.proofs.Common.{arith}
+use Rattle.sketch_bloom.proofs.BitLemmas.{sets_by_or}
+use Rattle.sketch_bloom.proofs.filter.join.Goals as goal
+
+pub returns : goal.returns
+returns c = (
+  c.requires,
+  sets_by_or c.args.into.now c.args.from.now c.loop-i.into c.requires c.loop-i.auto.into
+      (λ k within. c.loop-i.invariant.0 k (omega (arith, within, c.loop-i-test.false, c.loop-i.auto.i-end))),
+)

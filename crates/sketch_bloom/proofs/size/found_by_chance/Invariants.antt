@@ -1,0 +1,7 @@
+use Rattle.std.proofs.Common.{◌*◌, ◌^◌, ◌<◌, ◌≤◌}
+use Rattle.sketch_bloom.proofs.size.found_by_chance.Given as goal
+
+-- no sum exceeds its type
+abbrev pub invariant-loop-k : goal.invariant-loop-k
+invariant-loop-k l =
+    (l.weight < 2 ^ 48) × (l.clear ≤ 2 ^ 50) × (l.all ≤ l.k * 2 ^ 55) × (l.found ≤ l.k * 2 ^ 115)

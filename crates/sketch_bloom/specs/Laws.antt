@@ -1,0 +1,50 @@
+-- What follows for users of filters.
+use Rattle.std.specs.Prelude.{◌≡◌, ◌↔◌, ◌⊎◌, ℕ, ◌/◌, List, [], ◌∷◌, ◌++◌, length, map, replicate, Contains}
+use Rattle.datasketches.specs.Bytes.{AreBytes}
+use Rattle.sketch_bloom.specs.Filter.{Inserts, InsertsAll, IsBitOf, IsMember, IsSet, Merges, hash_of}
+
+-- a filter of so many bytes without a value
+abbrev pub empty_filter : ℕ → List ℕ
+empty_filter bytes = replicate bytes 0
+
+-- A filter stands for the values with these hashes: the bits that are set are theirs.
+unfoldable pub StandsFor : List ℕ → List ℕ → Type 0
+StandsFor filter hashes = (i : ℕ) →
+    IsSet filter i ↔ ((hash : ℕ) × Contains hashes hash × IsBitOf (length filter / 32) hash i)
+
+-- The law of inserts. A value is given by its hash.
+pub record InsertLaw : Type 0 where
+  -- an empty filter stands for no values
+  pub none : (bytes : ℕ) → StandsFor (empty_filter bytes) []
+  -- an insert adds its value, and a column all of its values
+  pub one_more : (before after : List ℕ) (hash : ℕ) (hashes : List ℕ) →
+      Inserts hash before after → StandsFor before hashes → StandsFor after (hashes ++ hash ∷ [])
+  pub all_more : (before after hashes more : List ℕ) →
+      InsertsAll more before after → StandsFor before hashes → StandsFor after (hashes ++ more)
+  -- no inserted value is missed
+  pub found : (filter : List ℕ) (hash : ℕ) (hashes : List ℕ) →
+      StandsFor filter hashes → Contains hashes hash → IsMember filter hash
+  -- filters of one length that stand for the same values are the same bytes, in whatever order
+  -- and however often the values were inserted
+  pub same : (filter other hashes others : List ℕ) → AreBytes filter → AreBytes other →
+      length filter ≡ length other → StandsFor filter hashes → StandsFor other others →
+      ((hash : ℕ) → Contains hashes hash ↔ Contains others hash) → filter ≡ other
+
+-- The law of merges.
+pub record MergeLaw : Type 0 where
+  -- a merge makes the filter of the values of both
+  pub both : (before other after hashes others : List ℕ) → Merges other before after →
+      StandsFor before hashes → StandsFor other others → StandsFor after (hashes ++ others)
+  -- and that byte for byte: it is the filter into which both streams of values were inserted
+  pub streams : (before other after whole hashes others : List ℕ) →
+      AreBytes after → AreBytes whole → length whole ≡ length before →
+      Merges other before after → StandsFor before hashes → StandsFor other others →
+      StandsFor whole (hashes ++ others) → after ≡ whole
+  -- a merged filter contains what either did
+  pub found : (before other after : List ℕ) (hash : ℕ) → Merges other before after →
+      IsMember before hash ⊎ IsMember other hash → IsMember after hash
+
+-- The law of values: those among many that were inserted are contained.
+pub record ValueLaw : Type 0 where
+  pub found : (filter fed : List ℕ) (values : List (List ℕ)) →
+      StandsFor filter (map hash_of values) → Contains values fed → IsMember filter (hash_of fed)

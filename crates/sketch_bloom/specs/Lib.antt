@@ -1,0 +1,4 @@
+pub mod Filter
+pub mod Columns
+pub mod Header
+pub mod Laws

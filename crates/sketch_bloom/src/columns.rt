@@ -1,0 +1,232 @@
+//! Columns of values that are inserted or looked up in one call: keys in a buffer, values, or hashes.
+//!
+//! Each call checks the filter's length, and the offsets of a column of keys, once and before
+//! anything changes.
+
+ghost use Rattle.std.specs.Prelude.{◌≡◌, ℕ, ◌+◌, ◌-◌, ◌*◌, ◌/◌, ◌<◌, ◌≤◌, List, length, map, slice_index, MatchResult};
+ghost use Rattle.datasketches.specs.Columns.{AreBounds, IsBound, key_at};
+ghost use Rattle.datasketches.specs.Xxh64.{xxh64};
+ghost use Rattle.sketch_bloom.specs.Columns.{FindsEach, IsAnswer, IsKeysFault, IsValuesFault, key_count, key_hashes};
+ghost use Rattle.sketch_bloom.specs.Filter.{InsertsAll, IsLength, IsLengthFault, hash_of};
+
+use crate::fault::Fault;
+use crate::filter::{block_count, insert_into, is_in};
+use datasketches::hash::{Hash, Offset, XxHash64, check_offsets};
+
+// Keys are hashed this many at a time, before the filter is read for any of them. Then a processor
+// waits for many blocks of a large filter at once: 0.6 times as long per key in 128 MiB.
+const AHEAD: usize = 128;
+
+/// Inserts the keys of a column: key i is the bytes of `keys` from offset i up to offset i + 1, as
+/// Apache Arrow lays strings out. `n` offsets are of `n - 1` keys.
+///
+/// # Errors
+///
+/// Returns [`Fault::Length`] if `filter` is not a positive multiple of 32 bytes, or 2^37 bytes or
+/// more. Otherwise returns [`Fault::Offset`] with the index of the first offset that is past the end
+/// of `keys`, or below the offset before it. `filter` is then unchanged.
+pub fn insert_each<O: Offset>(filter: &mut [u8], keys: &[u8], offsets: &[O]) -> Result<(), Fault>
+    ensures { let places = map O.place offsets.now in let n = key_count places in
+        MatchResult result
+        (λ _. IsLength (length filter.old)
+        × InsertsAll (key_hashes keys.now places n) filter.old filter.new)
+        (λ fault. (filter.new ≡ filter.old)
+        × IsKeysFault (length filter.old) keys.now places n fault) }
+{
+    let blocks = block_count(filter.len())?;
+    let count = offsets.len().saturating_sub(1);
+    check_offsets(keys, offsets, count).map_err(Fault::Offset)?;
+    let mut hashes = [0; AHEAD];
+    let mut start = 0;
+    while start < count {
+        let n = hash_ahead(keys, offsets, start, count, &mut hashes);
+        insert_hashes(filter, blocks, &hashes[..n]);
+        start += n;
+    }
+    Ok(())
+}
+
+/// Writes to each place of `found` 1 if the filter may contain the key there, and 0 if not. The
+/// column has as many keys as `found` has places, and is laid out as for [`insert_each`]; further
+/// offsets are not read.
+///
+/// # Errors
+///
+/// Returns [`Fault::Length`] if `filter` is not a positive multiple of 32 bytes, or 2^37 bytes or
+/// more. Otherwise returns [`Fault::Offset`] with the index of the first offset that is missing, is
+/// past the end of `keys`, or is below the offset before it. `found` is then unchanged.
+pub fn contains_each<O: Offset>(
+    filter: &[u8],
+    keys: &[u8],
+    offsets: &[O],
+    found: &mut [u8],
+) -> Result<(), Fault>
+    ensures { let places = map O.place offsets.now in let n = length found.old in
+        MatchResult result
+        (λ _. IsLength (length filter.now)
+        × FindsEach filter.now (key_hashes keys.now places n) n found.new)
+        (λ fault. (found.new ≡ found.old)
+        × IsKeysFault (length filter.now) keys.now places n fault) }
+{
+    let blocks = block_count(filter.len())?;
+    let count = found.len();
+    check_offsets(keys, offsets, count).map_err(Fault::Offset)?;
+    let mut hashes = [0; AHEAD];
+    let mut start = 0;
+    while start < count {
+        let n = hash_ahead(keys, offsets, start, count, &mut hashes);
+        find_hashes(filter, blocks, &hashes[..n], found, start);
+        start += n;
+    }
+    Ok(())
+}
+
+/// Inserts each value of a slice.
+///
+/// # Errors
+///
+/// Returns [`Fault::Length`] if `filter` is not a positive multiple of 32 bytes, or 2^37 bytes or
+/// more. It is then unchanged.
+#[tactic(auto, using(crate::proofs::ColumnLemmas::inserts_next))]
+pub fn insert_each_value<T: Hash>(filter: &mut [u8], values: &[T]) -> Result<(), Fault>
+    ensures { let hashes = map (λ value. hash_of (T.fed value)) values.now in MatchResult result
+        (λ _. IsLength (length filter.old) × InsertsAll hashes filter.old filter.new)
+        (λ fault. (filter.new ≡ filter.old) × IsLengthFault (length filter.old) fault) }
+{
+    let blocks = block_count(filter.len())?;
+    for value in values {
+        insert_into(filter, blocks, value.xxh64(0));
+    }
+    Ok(())
+}
+
+/// Inserts each value of a column by its hash: XXH64, with seed 0, of its bytes.
+///
+/// # Errors
+///
+/// Returns [`Fault::Length`] if `filter` is not a positive multiple of 32 bytes, or 2^37 bytes or
+/// more. It is then unchanged.
+pub fn insert_each_hash(filter: &mut [u8], hashes: &[u64]) -> Result<(), Fault>
+    ensures { MatchResult result
+        (λ _. IsLength (length filter.old)
+        × InsertsAll hashes.now filter.old filter.new)
+        (λ fault. (filter.new ≡ filter.old) × IsLengthFault (length filter.old) fault) }
+{
+    let blocks = block_count(filter.len())?;
+    insert_hashes(filter, blocks, hashes);
+    Ok(())
+}
+
+/// Writes to each place of `found` 1 if the filter may contain the value there, and 0 if not. Of
+/// more values than places the first are looked up.
+///
+/// # Errors
+///
+/// Returns [`Fault::Length`] if `filter` is not a positive multiple of 32 bytes, or 2^37 bytes or
+/// more. Otherwise returns [`Fault::Count`] if there are fewer values than places. `found` is then
+/// unchanged.
+pub fn contains_each_value<T: Hash>(
+    filter: &[u8],
+    values: &[T],
+    found: &mut [u8],
+) -> Result<(), Fault>
+    ensures { let hashes = map (λ value. hash_of (T.fed value)) values.now in
+        let n = length found.old in MatchResult result
+        (λ _. IsLength (length filter.now) × (n ≤ length values.now)
+        × FindsEach filter.now hashes n found.new)
+        (λ fault. (found.new ≡ found.old)
+        × IsValuesFault (length filter.now) (length values.now) n fault) }
+{
+    let blocks = block_count(filter.len())?;
+    if values.len() < found.len() {
+        return Err(Fault::Count(values.len()));
+    }
+    for i in 0..found.len() {
+        found[i] = u8::from(is_in(filter, blocks, values[i].xxh64(0)));
+    }
+    Ok(())
+}
+
+/// Writes to each place of `found` 1 if the filter may contain the value there, and 0 if not. A
+/// value is given by its hash: XXH64, with seed 0, of its bytes. Of more hashes than places the
+/// first are looked up.
+///
+/// # Errors
+///
+/// Returns [`Fault::Length`] if `filter` is not a positive multiple of 32 bytes, or 2^37 bytes or
+/// more. Otherwise returns [`Fault::Count`] if there are fewer hashes than places. `found` is then
+/// unchanged.
+pub fn contains_each_hash(filter: &[u8], hashes: &[u64], found: &mut [u8]) -> Result<(), Fault>
+    ensures { let n = length found.old in MatchResult result
+        (λ _. IsLength (length filter.now) × (n ≤ length hashes.now)
+        × FindsEach filter.now hashes.now n found.new)
+        (λ fault. (found.new ≡ found.old)
+        × IsValuesFault (length filter.now) (length hashes.now) n fault) }
+{
+    let blocks = block_count(filter.len())?;
+    if hashes.len() < found.len() {
+        return Err(Fault::Count(hashes.len()));
+    }
+    find_hashes(filter, blocks, &hashes[..found.len()], found, 0);
+    Ok(())
+}
+
+// The hashes of the keys from place `start` on, up to AHEAD of them, and how many they are.
+#[tactic(auto, using(crate::proofs::ColumnLemmas::key_columns))]
+fn hash_ahead<O: Offset>(
+    keys: &[u8],
+    offsets: &[O],
+    start: usize,
+    count: usize,
+    hashes: &mut [u64; AHEAD],
+) -> usize
+    requires bounds { AreBounds keys.now (map O.place offsets.now) count }
+    requires more { start < count }
+    ensures few { result ≤ 128 }
+    ensures some { 0 < result }
+    ensures within { start + result ≤ count }
+    ensures hashes { let all = key_hashes keys.now (map O.place offsets.now) count in
+        (k : ℕ) → k < result → slice_index hashes.new k ≡ slice_index all (start + k) }
+{
+    let n = AHEAD.min(count - start);
+    for i in 0..n {
+        hashes[i] = XxHash64::hash(key_at(keys, offsets, start + i), 0);
+    }
+    n
+}
+
+// Inserts hashes into a filter of so many blocks.
+fn insert_hashes(filter: &mut [u8], blocks: u64, hashes: &[u64])
+    requires size { IsLength (length filter.old) }
+    requires blocks { blocks ≡ length filter.old / 32 }
+    ensures { InsertsAll hashes.now filter.old filter.new }
+{
+    for hash in hashes {
+        insert_into(filter, blocks, *hash);
+    }
+}
+
+// Writes to the places from `start` on whether a filter of so many blocks contains the hashes.
+fn find_hashes(filter: &[u8], blocks: u64, hashes: &[u64], found: &mut [u8], start: usize)
+    requires size { IsLength (length filter.now) }
+    requires blocks { blocks ≡ length filter.now / 32 }
+    requires enough { start + length hashes.now ≤ length found.old }
+    ensures size { length found.new ≡ length found.old }
+    ensures each { (k : ℕ) → k < length hashes.now →
+        IsAnswer filter.now (slice_index hashes.now k) (slice_index found.new (start + k)) }
+    ensures before { (k : ℕ) → k < start → slice_index found.new k ≡ slice_index found.old k }
+{
+    for i in 0..hashes.len() {
+        found[start + i] = u8::from(is_in(filter, blocks, hashes[i]));
+    }
+}
+
+// The key at a place.
+#[inline(always)]
+fn key_at<'a, O: Offset>(keys: &'a [u8], offsets: &[O], i: usize) -> &'a [u8]
+    requires start { IsBound keys.now (map O.place offsets.now) i }
+    requires end { IsBound keys.now (map O.place offsets.now) (i + 1) }
+    ensures { result.now ≡ key_at keys.now (map O.place offsets.now) i }
+{
+    &keys[offsets[i].place()..offsets[i + 1].place()]
+}

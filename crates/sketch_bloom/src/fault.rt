@@ -1,0 +1,43 @@
+//! Why a call did nothing.
+
+ghost use Rattle.std.specs.Prelude.{Some};
+ghost use Rattle.sketch_bloom.specs.Filter.{fault_text};
+
+use std::fmt;
+
+/// Why a call did nothing.
+#[derive(Clone, Copy, Debug, PartialEq, Eq)]
+pub enum Fault {
+    /// No filter has this many bytes: they are no positive multiple of 32, or 2^37 or more.
+    Length(usize),
+    /// A filter of this many bytes cannot be merged into one of another length.
+    OtherLength(usize),
+    /// The offset at this index is missing, is past the end of the keys, or is below the offset
+    /// before it.
+    Offset(usize),
+    /// There are only this many values, and more places for results.
+    Count(usize),
+    /// There is no memory for the filter.
+    OutOfMemory,
+}
+
+impl fmt::Display for Fault {
+    ghost output = { λ fault. Some (fault_text fault) };
+
+    fn fmt<W: fmt::Write>(&self, f: &mut fmt::Formatter<W>) -> fmt::Result {
+        match self {
+            Fault::Length(bytes) => write!(
+                f,
+                "invalid filter length: expected a positive multiple of 32 below 2^37, got {bytes}"
+            ),
+            Fault::OtherLength(bytes) => {
+                write!(f, "filters of two lengths: the other has {bytes} bytes")
+            }
+            Fault::Offset(i) => write!(f, "invalid offset at index {i}"),
+            Fault::Count(values) => write!(f, "more places than values: {values} values"),
+            Fault::OutOfMemory => f.write_str("out of memory"),
+        }
+    }
+}
+
+impl std::error::Error for Fault {}

@@ -1,0 +1,146 @@
+//! Values that are inserted into a filter and looked up, one at a time, and filters that are merged.
+
+ghost use Rattle.std.specs.Prelude.{◌≡◌, ◌/◌, ◌↔◌, IsTrue, MatchResult, length};
+ghost use Rattle.sketch_bloom.specs.Filter.{Inserts, IsLength, IsLengthFault, IsMember, IsMergeFault, Merges, hash_of};
+
+use crate::block::{block_start, contains_mask, insert_mask, mask};
+use crate::fault::Fault;
+use datasketches::hash::Hash;
+
+/// Whether a filter has this many bytes: a positive multiple of 32, below 2^37.
+#[inline(always)]
+pub fn is_length(bytes: usize) -> bool
+    ensures { IsTrue result ↔ IsLength bytes }
+{
+    0 < bytes && bytes % 32 == 0 && bytes < 1 << 37
+}
+
+// How many blocks a filter of so many bytes has.
+#[inline(always)]
+pub(crate) fn block_count(bytes: usize) -> Result<u64, Fault>
+    ensures { MatchResult result (λ blocks. IsLength bytes × (blocks ≡ bytes / 32))
+        (IsLengthFault bytes) }
+{
+    if is_length(bytes) {
+        Ok((bytes / 32) as u64)
+    } else {
+        Err(Fault::Length(bytes))
+    }
+}
+
+/// Inserts a value.
+///
+/// # Errors
+///
+/// Returns [`Fault::Length`] if `filter` is not a positive multiple of 32 bytes, or 2^37 bytes or
+/// more. It is then unchanged.
+#[inline(always)]
+pub fn insert<T: Hash>(filter: &mut [u8], value: &T) -> Result<(), Fault>
+    ensures { MatchResult result
+        (λ _. IsLength (length filter.old)
+        × Inserts (hash_of (T.fed value.now)) filter.old filter.new)
+        (λ fault. (filter.new ≡ filter.old) × IsLengthFault (length filter.old) fault) }
+{
+    insert_hash(filter, value.xxh64(0))
+}
+
+/// Whether the filter may contain a value. If not, it was never inserted.
+///
+/// # Errors
+///
+/// Returns [`Fault::Length`] if `filter` is not a positive multiple of 32 bytes, or 2^37 bytes or
+/// more.
+#[inline(always)]
+pub fn contains<T: Hash>(filter: &[u8], value: &T) -> Result<bool, Fault>
+    ensures { MatchResult result
+        (λ found. IsLength (length filter.now)
+        × (IsTrue found ↔ IsMember filter.now (hash_of (T.fed value.now))))
+        (IsLengthFault (length filter.now)) }
+{
+    contains_hash(filter, value.xxh64(0))
+}
+
+/// Inserts the value with this hash: XXH64, with seed 0, of its bytes.
+///
+/// # Errors
+///
+/// Returns [`Fault::Length`] if `filter` is not a positive multiple of 32 bytes, or 2^37 bytes or
+/// more. It is then unchanged.
+#[inline(always)]
+pub fn insert_hash(filter: &mut [u8], hash: u64) -> Result<(), Fault>
+    ensures { MatchResult result
+        (λ _. IsLength (length filter.old) × Inserts hash filter.old filter.new)
+        (λ fault. (filter.new ≡ filter.old) × IsLengthFault (length filter.old) fault) }
+{
+    let blocks = block_count(filter.len())?;
+    insert_into(filter, blocks, hash);
+    Ok(())
+}
+
+/// Whether the filter may contain the value with this hash: XXH64, with seed 0, of its bytes.
+///
+/// # Errors
+///
+/// Returns [`Fault::Length`] if `filter` is not a positive multiple of 32 bytes, or 2^37 bytes or
+/// more.
+#[inline(always)]
+pub fn contains_hash(filter: &[u8], hash: u64) -> Result<bool, Fault>
+    ensures { MatchResult result
+        (λ found. IsLength (length filter.now) × (IsTrue found ↔ IsMember filter.now hash))
+        (IsLengthFault (length filter.now)) }
+{
+    let blocks = block_count(filter.len())?;
+    Ok(is_in(filter, blocks, hash))
+}
+
+// Inserts a hash into a filter of so many blocks.
+#[inline(always)]
+pub(crate) fn insert_into(filter: &mut [u8], blocks: u64, hash: u64)
+    requires size { IsLength (length filter.old) }
+    requires blocks { blocks ≡ length filter.old / 32 }
+    ensures { Inserts hash filter.old filter.new }
+{
+    insert_mask(filter, block_start(blocks, hash), mask(hash));
+}
+
+// Whether a filter of so many blocks contains a hash.
+#[inline(always)]
+pub(crate) fn is_in(filter: &[u8], blocks: u64, hash: u64) -> bool
+    requires size { IsLength (length filter.now) }
+    requires blocks { blocks ≡ length filter.now / 32 }
+    ensures { IsTrue result ↔ IsMember filter.now hash }
+{
+    contains_mask(filter, block_start(blocks, hash), mask(hash))
+}
+
+/// Merges another filter of the same length into this one, which then contains what either did.
+///
+/// # Errors
+///
+/// Returns [`Fault::Length`] if `into` is not a positive multiple of 32 bytes, or 2^37 bytes or
+/// more. Otherwise returns [`Fault::OtherLength`] if `from` has another length. `into` is then
+/// unchanged.
+pub fn merge(into: &mut [u8], from: &[u8]) -> Result<(), Fault>
+    ensures { MatchResult result
+        (λ _. IsLength (length into.old) × Merges from.now into.old into.new)
+        (λ fault. (into.new ≡ into.old)
+        × IsMergeFault (length into.old) (length from.now) fault) }
+{
+    block_count(into.len())?;
+    if from.len() != into.len() {
+        return Err(Fault::OtherLength(from.len()));
+    }
+    join(into, from);
+    Ok(())
+}
+
+// Sets the bits that are set in another filter of the same length.
+
+fn join(into: &mut [u8], from: &[u8])
+    requires { length from.now ≡ length into.old }
+    ensures { Merges from.now into.old into.new }
+{
+    for i in 0..into.len() {
+        into[i] |= from[i];
+    }
+}

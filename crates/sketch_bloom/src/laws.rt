@@ -1,0 +1,29 @@
+//! What follows for users of filters. The functions do nothing: their contracts are the laws.
+
+ghost use Rattle.sketch_bloom.specs.Header.{HeaderLaw};
+ghost use Rattle.sketch_bloom.specs.Laws.{InsertLaw, MergeLaw, ValueLaw};
+
+/// A filter contains each value that was inserted. Filters of one length are the same, byte for
+/// byte, if the same values were inserted, in any order and however often.
+#[tactic(auto, using(crate::proofs::LawLemmas::insert_law))]
+pub fn insert_law()
+    ensures { InsertLaw }
+{}
+
+/// Merging the filters of two streams of values makes the filter of both streams, byte for byte.
+#[tactic(auto, using(crate::proofs::LawLemmas::merge_law))]
+pub fn merge_law()
+    ensures { MergeLaw }
+{}
+
+/// The filter of a list of values contains each of them.
+#[tactic(auto, using(crate::proofs::LawLemmas::value_law))]
+pub fn value_law()
+    ensures { ValueLaw }
+{}
+
+/// Bytes begin with the header of one length at most. So a header that was written is read back.
+#[tactic(auto, using(crate::proofs::HeaderLemmas::header_law))]
+pub fn header_law()
+    ensures { HeaderLaw }
+{}

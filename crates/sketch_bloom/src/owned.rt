@@ -1,0 +1,102 @@
+//! A filter that a caller owns.
+
+ghost use Rattle.std.specs.Prelude.{◌≡◌, ℕ, ◌/◌, ◌↔◌, List, IsTrue, MatchResult, length};
+ghost use Rattle.sketch_bloom.specs.Filter.{Inserts, IsLength, IsLengthFault, IsMember, IsMergeFault, IsNewFault, Merges, hash_of};
+ghost use Rattle.sketch_bloom.specs.Laws.{empty_filter};
+
+use crate::fault::Fault;
+use crate::filter::{block_count, insert_into, is_in, is_length, merge};
+use datasketches::hash::Hash;
+use std::alloc::Global;
+use std::marker::Model;
+
+/// A split block Bloom filter of Apache Parquet.
+///
+/// It is seen as its bytes, which are what the functions of this crate work on.
+#[derive(Drop)]
+pub struct BloomFilter {
+    bytes: Vec<u8>,
+}
+
+impl Model for BloomFilter {
+    ghost Value = { List ℕ };
+
+    ghost view = { λ filter. filter.bytes.items };
+
+    ghost invariant = { λ filter. IsLength (length filter.bytes.items) };
+}
+
+impl BloomFilter {
+    /// A filter of so many bytes, without a value. [`bytes_for`](crate::bytes_for) chooses a size.
+    ///
+    /// # Memory
+    ///
+    /// One request, for the bytes.
+    ///
+    /// # Errors
+    ///
+    /// Returns [`Fault::Length`] if `bytes` is not a positive multiple of 32 below 2^37. Otherwise
+    /// returns [`Fault::OutOfMemory`] if there is no memory.
+    pub fn new(alloc: Global, bytes: usize) -> Result<BloomFilter, Fault>
+        ensures { MatchResult result
+            (λ filter. IsLength bytes × (filter ≡ empty_filter bytes)) (IsNewFault bytes) }
+    {
+        block_count(bytes)?;
+        match vec![in alloc; 0; bytes] {
+            Ok(bytes) => Ok(BloomFilter { bytes }),
+            Err(_) => Err(Fault::OutOfMemory),
+        }
+    }
+
+    /// The filter that the bytes are. They are not copied.
+    ///
+    /// # Errors
+    ///
+    /// Returns [`Fault::Length`] if they are not a positive multiple of 32 bytes, or 2^37 bytes or
+    /// more.
+    pub fn from_bytes(bytes: Vec<u8>) -> Result<BloomFilter, Fault>
+        ensures { MatchResult result
+            (λ filter. IsLength (length bytes.items) × (filter ≡ bytes.items))
+            (IsLengthFault (length bytes.items)) }
+    {
+        block_count(bytes.len())?;
+        Ok(BloomFilter { bytes })
+    }
+
+    /// The bytes of the filter.
+    pub fn as_bytes(&self) -> &[u8]
+        ensures bytes { result.now ≡ self.now }
+        ensures length { IsLength (length self.now) }
+    {
+        &self.bytes
+    }
+
+    /// Inserts a value.
+    pub fn insert<T: Hash>(&mut self, value: &T)
+        ensures { Inserts (hash_of (T.fed value.now)) self.old self.new }
+    {
+        let blocks = (self.bytes.len() / 32) as u64;
+        insert_into(&mut self.bytes, blocks, value.xxh64(0));
+    }
+
+    /// Whether the filter may contain a value. If not, it was never inserted.
+    pub fn contains<T: Hash>(&self, value: &T) -> bool
+        ensures { IsTrue result ↔ IsMember self.now (hash_of (T.fed value.now)) }
+    {
+        let blocks = (self.bytes.len() / 32) as u64;
+        is_in(&self.bytes, blocks, value.xxh64(0))
+    }
+
+    /// Merges another filter of the same length into this one, which then contains what either did.
+    ///
+    /// # Errors
+    ///
+    /// Returns [`Fault::OtherLength`] if the lengths differ. The filter is then unchanged.
+    pub fn merge(&mut self, other: &BloomFilter) -> Result<(), Fault>
+        ensures { MatchResult result (λ _. Merges other.now self.old self.new)
+            (λ fault. (self.new ≡ self.old)
+            × IsMergeFault (length self.old) (length other.now) fault) }
+    {
+        merge(&mut self.bytes, &other.bytes)
+    }
+}
