@@ -1,9 +1,10 @@
 -- Variable-length numbers, and headers.
 use Rattle.std.proofs.Common.{◌≡◌, ℕ, zero, suc, ◌+◌, ◌*◌, ◌/◌, ◌%◌, ◌^◌, ◌<◌, ◌≤◌, ◌-◌, List, [], ◌∷◌, ◌++◌, length, drop, set, take, refl, sym, ap, ◌∙◌, inl, inr, arith, le_refl}
 use Rattle.std.proofs.Math.Nat.{one-le-pow, pow-le-pow_right, pow-suc}
+use Rattle.std.proofs.Math.Seq.{drop-append_seam}
 use borrow.Rule.Slice.PartMut.{put_mid}
 use Rattle.std.proofs.lemmas.Bool.{cases_lt, lt-ltb, le-ltb}
-use Rattle.std.proofs.lemmas.List.{append-nil, append_assoc, append_cancel_left, drop_all, take-append-drop, take-append-le, take_all}
+use Rattle.std.proofs.lemmas.List.{append-nil, append_assoc, append_cancel_left, drop-drop, drop_all, length-append, take-append-drop, take-append-le, take_all}
 use Rattle.sketch_bloom.specs.Header.{HeaderLaw, IsHeaderLength, header, union_fields, varint, varint_number}
 
 -- a number of one byte, and of more
@@ -15,6 +16,10 @@ varint_short (suc more) n small = rw (lt-ltb n 128 small)
 pub varint_long : (more n : ℕ) → 128 ≤ n → varint (suc more) n ≡ (n % 128 + 128) ∷ varint more (n / 128)
 unfolding varint
 varint_long more n large = rw (le-ltb n 128 large)
+
+varint_last : (n : ℕ) → varint 0 n ≡ n ∷ []
+unfolding varint
+varint_last n = refl
 
 number_short : (most byte : ℕ) (bytes : List ℕ) → byte < 128 → varint_number (suc most) (byte ∷ bytes) ≡ byte
 unfolding varint_number
@@ -130,12 +135,72 @@ written_long more less n count (x ∷ out) rest is large space after long =
     ∙ ap (λ l. varint less (n / 128) ++ l) (ap (drop count) all ∙ sym next) in
     rw form (ap (λ l. (n % 128 + 128) ∷ l) tail, omega (arith, long))
 
+-- the header: its first byte, the number, and the other fields
+pub header_written : (n count : ℕ) (out first fields : List ℕ) → count ≡ length (varint 4 n) + 14 →
+    count ≤ length out → fields ≡ union_fields →
+    first ≡ varint 4 n ++ drop (length (varint 4 n)) (take (length (set out 0 21) - 1) (drop 1 (set out 0 21))) →
+    put_mid (count - 13) (count - (count - 13)) (put_mid 1 (length (set out 0 21) - 1) (set out 0 21) first) fields
+    ≡ 21 ∷ (varint 4 n ++ union_fields ++ drop count out)
+header_written n count [] first fields is room are e = absurd (omega (arith, is, room))
+header_written n count (x ∷ out) first fields is room are e =
+    let none : drop (suc (length out) - 1) out ≡ [] = drop_all (suc (length out) - 1) out (omega arith) in
+    let all : take (suc (length out) - 1) out ≡ out = take_all (suc (length out) - 1) out (omega arith) in
+    let number : put_mid 1 (suc (length out) - 1) (21 ∷ out) first
+    ≡ 21 ∷ (varint 4 n ++ drop (length (varint 4 n)) out) =
+    ap (λ l. 21 ∷ l) (ap (λ l. first ++ l) none ∙ append-nil first ∙ e
+    ∙ ap (λ l. varint 4 n ++ drop (length (varint 4 n)) l) all) in
+    let place : count - 13 ≡ suc (length (varint 4 n)) = omega (arith, is) in
+    let size : count - (count - 13) ≡ 13 = omega (arith, is) in
+    let prefix : take (length (varint 4 n)) (varint 4 n ++ drop (length (varint 4 n)) out) ≡ varint 4 n =
+    take-append-le (length (varint 4 n)) (varint 4 n) (drop (length (varint 4 n)) out)
+    (le_refl (length (varint 4 n))) ∙ take_all (length (varint 4 n)) (varint 4 n) (le_refl (length (varint 4 n))) in
+    let end : count ≡ suc (length (varint 4 n) + 13) = omega (arith, is) in
+    let rest : drop 13 (drop (length (varint 4 n)) (varint 4 n ++ drop (length (varint 4 n)) out))
+    ≡ drop count (x ∷ out) =
+    ap (drop 13) (drop-append_seam (varint 4 n) (drop (length (varint 4 n)) out))
+    ∙ drop-drop 13 (length (varint 4 n)) out ∙ ap (λ k. drop k (x ∷ out)) (sym end) in
+    ap (λ k. put_mid (count - 13) k (put_mid 1 (suc (length out) - 1) (21 ∷ out) first) fields) size
+    ∙ ap (λ k. put_mid k 13 (put_mid 1 (suc (length out) - 1) (21 ∷ out) first) fields) place
+    ∙ ap (λ l. put_mid (suc (length (varint 4 n))) 13 l fields) number
+    ∙ ap (put_mid (suc (length (varint 4 n))) 13 (21 ∷ (varint 4 n ++ drop (length (varint 4 n)) out))) are
+    ∙ ap (λ l. 21 ∷ (l ++ (union_fields
+    ++ drop 13 (drop (length (varint 4 n)) (varint 4 n ++ drop (length (varint 4 n)) out))))) prefix
+    ∙ ap (λ l. 21 ∷ (varint 4 n ++ (union_fields ++ l))) rest
+    ∙ ap (λ l. 21 ∷ l) (sym (append_assoc (varint 4 n) union_fields (drop count (x ∷ out))))
+
+pub length-varint_short : (more n : ℕ) → n < 128 → 1 ≡ length (varint more n)
+length-varint_short more n small = ap length (sym (varint_short more n small))
+
+pub length-varint_long : (more less n : ℕ) → more ≡ suc less → 128 ≤ n →
+    1 + length (varint less (n / 128)) ≡ length (varint more n)
+length-varint_long more less n is large =
+    let form : varint more n ≡ (n % 128 + 128) ∷ varint less (n / 128) = rw is (varint_long less n large) in
+    rw form (omega arith)
+
+pub length-varint_most : (more n : ℕ) → length (varint more n) ≤ more + 1
+length-varint_most zero n = rw (varint_last n) (omega arith)
+length-varint_most (suc more) n = elim (cases_lt n 128) [
+  | inl short ↦ omega (arith, length-varint_short (suc more) n short)
+  | inr long ↦ omega (arith, length-varint_long (suc more) more n refl long, length-varint_most more (n / 128))
+]
+
+-- a header has at most 19 bytes
+pub length-header_most : (bytes : ℕ) → length (header bytes) ≤ 19
+length-header_most bytes =
+    omega (arith, length-varint_most 4 (bytes * 2), length-append (varint 4 (bytes * 2)) union_fields)
+
+-- the header in a buffer that it was written to
+pub header_made : (bytes count : ℕ) (out rest : List ℕ) → count ≡ length (header bytes) →
+    out ≡ header bytes ++ rest → take count out ≡ header bytes
+header_made bytes count out rest long is =
+    rw (long, is) (take-append-le (length (header bytes)) (header bytes) rest (le_refl (length (header bytes)))
+    ∙ take_all (length (header bytes)) (header bytes) (le_refl (length (header bytes))))
+
 -- what the code compares: the first bytes are the header exactly if the bytes begin with it
 pub take_header : (bytes : ℕ) (made input after : List ℕ) → made ≡ header bytes →
     input ≡ header bytes ++ after → take (length made) input ≡ made
 take_header bytes made input after is e =
-    rw (is, e) (take-append-le (length (header bytes)) (header bytes) after (le_refl (length (header bytes)))
-    ∙ take_all (length (header bytes)) (header bytes) (le_refl (length (header bytes))))
+    header_made bytes (length made) input after (ap length is) e ∙ sym is
 
 pub header_taken : (bytes count : ℕ) (made input : List ℕ) → made ≡ header bytes → count ≡ length (header bytes) →
     take (length made) input ≡ made → input ≡ header bytes ++ drop count input

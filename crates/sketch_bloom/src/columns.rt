@@ -15,7 +15,7 @@ use datasketches::hash::{Hash, Offset, XxHash64, check_offsets};
 
 // Keys are hashed this many at a time, before the filter is read for any of them. Then a processor
 // waits for many blocks of a large filter at once: 0.6 times as long per key in 128 MiB.
-const AHEAD: usize = 128;
+const AHEAD: usize = 32;
 
 /// Inserts the keys of a column: key i is the bytes of `keys` from offset i up to offset i + 1, as
 /// Apache Arrow lays strings out. `n` offsets are of `n - 1` keys.
@@ -182,7 +182,7 @@ fn hash_ahead<O: Offset>(
 ) -> usize
     requires bounds { AreBounds keys.now (map O.place offsets.now) count }
     requires more { start < count }
-    ensures few { result ≤ 128 }
+    ensures few { result ≤ 32 }
     ensures some { 0 < result }
     ensures within { start + result ≤ count }
     ensures hashes { let all = key_hashes keys.now (map O.place offsets.now) count in

@@ -23,11 +23,17 @@ pub fn write_header(bytes: usize, out: &mut [u8]) -> Option<usize>
         (λ count. IsHeaderLength bytes × (count ≡ length (header bytes))
         × (out.new ≡ header bytes ++ drop count out.old)) }
 {
-    let (header, count) = header_of(bytes)?;
+    if !is_length(bytes) || bytes >= 1 << 31 {
+        return None;
+    }
+    let number = bytes as u64 * 2;
+    let count = varint_length(number, 4) + 14;
     if out.len() < count {
         return None;
     }
-    out[..count].copy_from_slice(&header[..count]);
+    out[0] = 0x15;
+    write_varint(number, 4, &mut out[1..]);
+    out[count - 13..count].copy_from_slice(&UNION_FIELDS);
     Some(count)
 }
 
@@ -46,13 +52,14 @@ pub fn read_header(input: &[u8]) -> Option<(usize, usize)>
         return None;
     };
     let bytes = (varint_number(rest, 5) / 2) as usize;
-    let Some(made) = header_of(bytes) else {
+    let mut header = [0; MOST];
+    let Some(count) = write_header(bytes, &mut header) else {
         return None;
     };
-    if !has_prefix(input, &made.0[..made.1]) {
+    if !has_prefix(input, &header[..count]) {
         return None;
     }
-    Some((bytes, made.1))
+    Some((bytes, count))
 }
 
 fn has_prefix(input: &[u8], prefix: &[u8]) -> bool
@@ -61,20 +68,18 @@ fn has_prefix(input: &[u8], prefix: &[u8]) -> bool
     prefix.len() <= input.len() && &input[..prefix.len()] == prefix
 }
 
-// The header of a filter of so many bytes, at the beginning of the array, and its length.
-fn header_of(bytes: usize) -> Option<([u8; MOST], usize)>
-    ensures { MatchOption result (IsHeaderLength bytes → ⊥)
-        (λ made. IsHeaderLength bytes × (take made.1 made.0 ≡ header bytes)
-        × (made.1 ≡ length (header bytes)) × (length made.0 ≡ 19) × (made.1 ≤ 19)) }
+// How many bytes a variable-length number of at most `more + 1` bytes has.
+fn varint_length(n: u64, more: usize) -> usize
+    requires small { n < 128 ^ (more + 1) }
+    requires few { more ≤ 4 }
+    ensures length { result ≡ length (varint more n) }
+    ensures some { 0 < result }
+    ensures most { result ≤ more + 1 }
 {
-    if !is_length(bytes) || bytes >= 1 << 31 {
-        return None;
+    if n < 128 {
+        return 1;
     }
-    let mut header = [0; MOST];
-    header[0] = 0x15;
-    let end = 1 + write_varint(bytes as u64 * 2, 4, &mut header[1..]);
-    header[end..end + 13].copy_from_slice(&UNION_FIELDS);
-    Some((header, end + 13))
+    1 + varint_length(n / 128, more - 1)
 }
 
 // Writes a variable-length number of at most `more + 1` bytes, and returns how many it has.
