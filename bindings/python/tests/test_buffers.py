@@ -83,6 +83,23 @@ def test_a_str_is_refused_with_the_reason():
         assert "encode" not in str(found.value)
 
 
+class Broken(bytes):
+    @property
+    def dtype(self):
+        raise LookupError("this array has no type")
+
+
+def test_an_error_of_the_buffer_is_raised():
+    """And not only printed, after which the bytes would be hashed."""
+    table, released = sketch_hash.MemberTable(10, 3), memoryview(DATA)
+    released.release()
+    for call in (*KINDS, *ONE_CALL, xxh64().update, table.insert, table.__contains__):
+        with pytest.raises(LookupError, match="this array has no type"):
+            call(Broken(DATA))
+        with pytest.raises(ValueError, match="released memoryview"):
+            call(released)
+
+
 def test_empty_input():
     for empty in (b"", bytearray(), memoryview(b""), array.array("Q"), numpy.zeros(0)):
         assert xxh64(empty).hexdigest() == "ef46db3751d8e999"

@@ -65,6 +65,7 @@ def test_lines_come_as_soon_as_a_file_is_read():
                 program.kill()  # it waits for what is late
             assert ready
             first = os.read(program.stdout.fileno(), 100)
+            assert first  # a program that has ended does not open the pipe, and the next line would wait for ever
             with open("late", "wb") as late:
                 late.write(FOX)
             lines = first + program.stdout.read()
@@ -261,21 +262,21 @@ def test_the_command_that_is_installed():
 
 
 def test_a_bar_is_drawn_on_a_terminal_alone():
-    """Of a pipe that stays open for a second."""
+    """It is drawn from half a second on, so bytes come until it is there."""
     terminal, standard_error = pty.openpty()
-    command = ["sh", "-c", "cat fox; sleep 1; cat fox"]
-    feeder = subprocess.Popen(command, stdout=subprocess.PIPE)
-    words = [sys.executable, "-m", "sketch_hash"]
-    done = subprocess.run(
-        words, stdin=feeder.stdout, stdout=subprocess.PIPE, stderr=standard_error
-    )
-    feeder.stdout.close()
-    feeder.wait()
-    os.close(standard_error)
+    command = [sys.executable, "-m", "sketch_hash"]
+    with subprocess.Popen(command, stdin=subprocess.PIPE, stdout=subprocess.PIPE, stderr=standard_error) as program:
+        os.close(standard_error)
+        for _ in range(1000):
+            program.stdin.write(FOX)
+            program.stdin.flush()
+            if select.select([terminal], [], [], 0.1)[0]:
+                break
+        program.communicate()
     drawn = os.read(terminal, 10000)
     os.close(terminal)
-    assert done.returncode == 0 and b"[" in drawn and drawn.endswith(b"\r\033[K")
-    feeder = subprocess.Popen(command, stdout=subprocess.PIPE)
+    assert program.returncode == 0 and b"[" in drawn and drawn.endswith(b"\r\033[K")
+    feeder = subprocess.Popen(["sh", "-c", "cat fox; sleep 1; cat fox"], stdout=subprocess.PIPE)
     assert run(stdin=feeder.stdout) == run(input=FOX * 2)
     feeder.stdout.close()
     feeder.wait()
