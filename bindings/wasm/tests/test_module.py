@@ -8,7 +8,6 @@ import sys
 
 import pytest
 
-xxhash = pytest.importorskip("xxhash")
 HERE = pathlib.Path(__file__).resolve().parent
 DIST = HERE.parents[2] / "dist"
 sys.path.append(str(HERE.parent.parent / "python/tests"))
@@ -23,12 +22,15 @@ def case(noise, longest):
 
 
 @pytest.fixture(scope="session")
-def cases():
+def cases(need):
+    need("python:xxhash")
     noise = random.Random(1)
     return [case(noise, 2000 if n % 100 == 0 else 100) for n in range(20_000)]
 
 
 def both(data, seed):
+    import xxhash
+
     return [xxhash.xxh64_hexdigest(data, seed), f"{peers.murmur3_x64_128(data, seed):032x}"]
 
 
