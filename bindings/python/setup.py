@@ -11,8 +11,8 @@ target = sysconfig.get_platform()
 folder = os.environ.get("SKETCH_HASH_LIB_DIR")
 if sys.implementation.name != "cpython" or sysconfig.get_config_var("Py_GIL_DISABLED"):
     raise SystemExit(
-        "sketch-hash needs CPython with the GIL, which keeps threads from changing one object at the same time; "
-        "a free-threaded Python and PyPy have none that an extension can rely on"
+        "sketch-hash needs CPython with the GIL, by which calls of several threads on one object take turns; "
+        "a free-threaded Python has no GIL"
     )
 if not folder and target not in ("linux-x86_64", "linux-aarch64"):
     raise SystemExit(
@@ -41,7 +41,7 @@ setup(
     license="Apache-2.0",
     license_files=["LICENSE", "NOTICE"],
     classifiers=["Programming Language :: Python :: Implementation :: CPython"],
-    python_requires=">=3.8",
+    python_requires=">=3.9",
     packages=["sketch_hash"],
     package_dir={"": "src"},
     package_data={"sketch_hash": ["py.typed", "*.pyi"]},

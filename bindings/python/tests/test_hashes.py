@@ -92,10 +92,10 @@ def test_what_they_are_called():
     assert sketch_hash.algorithms_available == {"xxh64", "murmur3_x64_128"}
     about = importlib.metadata.metadata("sketch-hash")
     assert about["Version"] == sketch_hash.__version__
-    assert about["Requires-Python"] == ">=3.8"
+    assert about["Requires-Python"] == ">=3.9"
     for name in ("__init__.py", "__main__.py"):
         with open(os.path.join(os.path.dirname(sketch_hash.__file__), name)) as file:
-            ast.parse(file.read(), feature_version=(3, 8))
+            ast.parse(file.read(), feature_version=(3, 9))
     assert about.get_all("Requires-Dist") is None
     assert about.get_all("License-File") == ["LICENSE", "NOTICE"]
 

@@ -55,6 +55,13 @@ def test_a_folder_without_the_library_is_named(source, tmp_path):
     assert done.returncode and f"{tmp_path}/libsketch_hash.a is missing: set SKETCH_HASH_LIB_DIR" in done.stdout
 
 
+def test_a_free_threaded_python_is_refused_with_the_reason(source):
+    """No Debian has one, so this Python says that it is."""
+    build = "import runpy, sysconfig; sysconfig.get_config_vars()['Py_GIL_DISABLED'] = 1; runpy.run_path('setup.py')"
+    done = subprocess.run([sys.executable, "-c", build], cwd=source, capture_output=True, text=True)
+    assert done.returncode == 1 and "a free-threaded Python has no GIL" in done.stderr
+
+
 def test_stubs_fit_the_module(need, tmp_path):
     """Each name, argument and default of the stubs is that of the module, by mypy's own comparison."""
     need("python:mypy", "python:sketch_hash")
