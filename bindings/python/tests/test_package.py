@@ -69,7 +69,14 @@ def test_stubs_fit_the_module(need, tmp_path):
 
     (tmp_path / "mypy.ini").write_text("[mypy]\n[mypy-sketch_hash.__main__]\nignore_errors = True\n")  # a program, without stubs
     folder = str(pathlib.Path(sketch_hash.__file__).parents[1])
-    done = run([sys.executable, "-m", "mypy.stubtest", "sketch_hash", "--mypy-config-file", tmp_path / "mypy.ini"], MYPYPATH=folder, PYTHONPATH=folder)
+    # From Python 3.14 on __new__, which takes any arguments, is said to have those of __init__.
+    (tmp_path / "allowed").write_text(r"sketch_hash\.\w+\.__new__")
+    stubtest = [sys.executable, "-m", "mypy.stubtest"]
+    options = ["--mypy-config-file", tmp_path / "mypy.ini", "--allowlist", tmp_path / "allowed", "--ignore-unused-allowlist"]
+    # @disjoint_base in a stub is an error for type checkers that are older than it.
+    if "--ignore-disjoint-bases" in run([*stubtest, "--help"]).stdout:
+        options.append("--ignore-disjoint-bases")
+    done = run([*stubtest, "sketch_hash", *options], MYPYPATH=folder, PYTHONPATH=folder)
     assert done.returncode == 0 and "Success: no issues found" in done.stdout, done.stdout
 
 
