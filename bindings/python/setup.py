@@ -3,8 +3,8 @@ import os
 import sys
 import sysconfig
 
-from Cython.Build import cythonize
 from setuptools import Extension, setup
+from Cython.Build import cythonize  # after setuptools, which brings its own distutils
 
 here = os.path.dirname(os.path.abspath(__file__))
 target = sysconfig.get_platform()

@@ -1,4 +1,5 @@
 """The program: python3 -m sketch_hash."""
+import contextlib
 import os
 import pty
 import random
@@ -273,7 +274,10 @@ def test_a_bar_is_drawn_on_a_terminal_alone():
             if select.select([terminal], [], [], 0.1)[0]:
                 break
         program.communicate()
-    drawn = os.read(terminal, 10000)
+    drawn = b""
+    with contextlib.suppress(OSError):  # the terminal ends with EIO
+        while True:
+            drawn += os.read(terminal, 10000)
     os.close(terminal)
     assert program.returncode == 0 and b"[" in drawn and drawn.endswith(b"\r\033[K")
     feeder = subprocess.Popen(["sh", "-c", "cat fox; sleep 1; cat fox"], stdout=subprocess.PIPE)
