@@ -44,8 +44,7 @@ cdef extern from "Python.h":
     void PyType_Modified(PyTypeObject *)
     object PyNumber_Index(object)
     uint64_t PyLong_AsUnsignedLongLong(object) except? -1
-    object PyUnicode_New(Py_ssize_t, Py_UCS4)
-    unsigned char *PyUnicode_1BYTE_DATA(object)
+    object PyUnicode_FromStringAndSize(const char *, Py_ssize_t)
 
 cdef extern from "sketch_hash.h" nogil:
     ctypedef struct sketch_xxh64_state_t:
@@ -183,14 +182,14 @@ cdef extern from *:
 cdef inline object shown(const uint64_t *words, int count, Form form):
     """A hash of one word or two: the first word's highest byte or digit comes first."""
     cdef uint64_t *turned
+    cdef unsigned char digits[32]
     cdef int i
     if form == NUMBER:
         return words[0] if count == 1 else (<object>words[0] << 64) + words[1]
     if form == HEX:
-        made = PyUnicode_New(16 * count, 127)
         for i in range(count):
-            write_digits(words[i], PyUnicode_1BYTE_DATA(made) + 16 * i)
-        return made
+            write_digits(words[i], digits + 16 * i)
+        return PyUnicode_FromStringAndSize(<char *>digits, 16 * count)
     made = PyBytes_FromStringAndSize(NULL, 8 * count)
     turned = <uint64_t *>PyBytes_AS_STRING(made)
     for i in range(count):
