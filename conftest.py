@@ -68,11 +68,11 @@ class NotBuilt(pytest.Module):
     and else, or where CI is set, it fails with pip's output."""
 
     def collect(self):
-        missing = [it for it in BUILD_PYTHON if not is_there(it)]
+        name, missing = self.path.relative_to(ROOT), [it for it in BUILD_PYTHON if not is_there(it)]
         if missing and not IS_CI:
-            pytest.skip(f"{self.path.relative_to(ROOT)} needs {', '.join(missing)}", allow_module_level=True)
+            pytest.skip(f"{name} needs {', '.join(missing)}", allow_module_level=True)
         output = BUILD_LOG.read_text() if BUILD_LOG.exists() else "bash .ci/test builds it"
-        raise self.CollectError(f"The Python package is not built.\n{output}")
+        raise self.CollectError(f"{name} needs the Python package, which is not built:\n{output}")
 
 
 def pytest_pycollect_makemodule(module_path, parent):
