@@ -11,11 +11,7 @@ numpy = pytest.importorskip("numpy")
 
 DATA = bytes(range(240))
 KINDS = [xxh64, murmur3_x64_128]
-ONE_CALL = [
-    getattr(sketch_hash, f"{kind.__name__}_{digest}")
-    for kind in KINDS
-    for digest in ("digest", "hexdigest", "intdigest")
-]
+ONE_CALL = [getattr(sketch_hash, f"{kind.__name__}_{form}") for kind in KINDS for form in ("digest", "hexdigest", "intdigest")]
 
 
 def anonymous(data):

@@ -170,12 +170,8 @@ cdef extern from *:
         digits += '0' * each + ('a' - '0' - 10) * letters;
         memcpy(to, &digits, 8);
     }
-    static inline void write_digits(uint64_t word, unsigned char *to) {
-        write_eight(word >> 32, to);
-        write_eight((uint32_t)word, to + 8);
-    }
     """
-    void write_digits(uint64_t, unsigned char *)
+    void write_eight(uint32_t, unsigned char *)
     uint64_t __builtin_bswap64(uint64_t)
 
 
@@ -188,7 +184,8 @@ cdef inline object shown(const uint64_t *words, int count, Form form):
         return words[0] if count == 1 else (<object>words[0] << 64) + words[1]
     if form == HEX:
         for i in range(count):
-            write_digits(words[i], digits + 16 * i)
+            write_eight(words[i] >> 32, digits + 16 * i)
+            write_eight(<uint32_t>words[i], digits + 16 * i + 8)
         return PyUnicode_FromStringAndSize(<char *>digits, 16 * count)
     made = PyBytes_FromStringAndSize(NULL, 8 * count)
     turned = <uint64_t *>PyBytes_AS_STRING(made)
