@@ -91,7 +91,8 @@ def test_in_chromium(cases, chromium, server):
     check(cases, answers)
 
 
-def test_past_4_gibibytes_in_chromium(chromium, server):
+def test_past_4_gibibytes_in_chromium(need, chromium, server):
+    need("chromium 156")  # 150, which Debian 12 has without its security updates, makes no array of this size
     chromium.get(server.replace("index.html", "sketch_hash.mjs"))
     script = """
         const ask = (library) => library.xxh64(new Uint8Array(2 ** 32 + 37), 2n ** 64n - 1n).toString(16);
