@@ -13,8 +13,12 @@ import pytest
 
 ROOT = pathlib.Path(__file__).parent
 PROVED = os.environ.get("PROVED")  # the folder of what `rt ci` has just proved and built, as .ci/run names it
-if os.environ.get("CI"):
+IS_CI = bool(os.environ.get("CI"))
+if IS_CI:
     pytest.importorskip = importlib.import_module  # a module that is missing fails
+PYTHON_TESTS = ROOT / "bindings/python/tests"
+BUILD_PYTHON = "gcc", "Python.h", "python:Cython", "python:pip", "python:setuptools", "python:wheel"
+BUILD_LOG = ROOT / "out/python.log"  # which .ci/test leaves if the Python package cannot be built
 
 
 def version_of(program):
@@ -45,7 +49,8 @@ def need():
     def need(*tools):
         for tool in tools:
             if not is_there(tool):
-                (pytest.fail if os.environ.get("CI") else pytest.skip)(f"needs {tool}: bash .ci/setup tells where it is from")
+                test = os.environ["PYTEST_CURRENT_TEST"].partition("::")[0]
+                (pytest.fail if IS_CI else pytest.skip)(f"{test} needs {tool}: bash .ci/setup tells where it is from")
 
     return need
 
@@ -56,3 +61,20 @@ def proved():
     if not PROVED:
         pytest.skip("needs what rt ci proves and builds: bash .ci/run")
     return pathlib.Path(PROVED)
+
+
+class NotBuilt(pytest.Module):
+    """A file of tests of the Python package where that is not built. It is skipped if something to build it with is missing,
+    and else, or where CI is set, it fails with pip's output."""
+
+    def collect(self):
+        name, missing = self.path.relative_to(ROOT), [it for it in BUILD_PYTHON if not is_there(it)]
+        if missing and not IS_CI:
+            pytest.skip(f"{name} needs {', '.join(missing)}", allow_module_level=True)
+        output = BUILD_LOG.read_text() if BUILD_LOG.exists() else "bash .ci/test builds it"
+        raise self.CollectError(f"{name} needs the Python package, which is not built:\n{output}")
+
+
+def pytest_pycollect_makemodule(module_path, parent):
+    if module_path.parent == PYTHON_TESTS and (BUILD_LOG.exists() or not is_there("python:sketch_hash")):
+        return NotBuilt.from_parent(parent, path=module_path)

@@ -25,7 +25,7 @@ if not os.environ.get("PROVED"):  # else rt ci has run them, as it has proved th
 def made(need, proved, tmp_path_factory):
     need("rt")
     folder = tmp_path_factory.mktemp("made") / "a folder"
-    subprocess.run([ROOT / "bindings/dist", folder], check=True)
+    subprocess.run([ROOT / "tools/make_dist", folder], check=True)
     return folder
 
 
@@ -44,7 +44,7 @@ def test_proved_names_the_sum_of_this_text():
     said = (DIST / "PROVED").read_text()
     command = "".join(re.findall(r"^    (.*\n)", said, re.M))
     of_text = subprocess.check_output(["bash", "-c", command], cwd=ROOT, text=True).split()[0]
-    assert of_text == re.search(r"^text +(\w+)$", said, re.M)[1], "write dist/ anew: bindings/dist"
+    assert of_text == re.search(r"^text +(\w+)$", said, re.M)[1], "write dist/ anew: tools/make_dist"
 
 
 def test_a_call_takes_at_most_a_kilobyte_of_stack(made):

@@ -17,7 +17,7 @@ USAGE = b"usage: sketchsum murmur|xx SEED\n"
 
 def answer(command, **how):
     """Its status, standard output and standard error."""
-    done = subprocess.run(command, input=FOX, capture_output=True, timeout=60, **how)
+    done = subprocess.run(command, input=FOX, capture_output=True, timeout=600, **how)
     return done.returncode, done.stdout, done.stderr
 
 

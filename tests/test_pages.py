@@ -65,7 +65,7 @@ def test_files_that_a_page_names_are_there(page):
 
 
 VERSION = re.search(r"^## \[?(\d+\.\d+\.\d+)", text_of("CHANGELOG.md"), re.M)[1]
-VERSIONED = [it for it in FILES if re.search(r"sketch_hash(-config-version)?\.(3|h|pc|cmake|mjs)$|pyproject\.toml$|rust/Cargo\.(toml|lock)$", it)]
+VERSIONED = [it for it in FILES if re.search(r"sketch_hash(-config-version)?\.(3|h|pc|cmake|mjs)$|python/setup\.py$|rust/Cargo\.(toml|lock)$", it)]
 
 
 @pytest.mark.parametrize("name", [*VERSIONED, "README.md"])

@@ -67,7 +67,7 @@ def test_rust(need, tmp_path):
 
 def test_python(need, tmp_path):
     """Installed by the page's commands, from a copy, beside which they make the environment."""
-    need("gcc", "Python.h", "python:setuptools", "python:ensurepip", "python:wheel")
+    need("gcc", "Python.h", "python:Cython", "python:setuptools", "python:ensurepip", "python:wheel")
     copy = tmp_path / "repository"
     for folder in ("dist", "bindings/python"):
         shutil.copytree(ROOT / folder, copy / folder)

@@ -1,13 +1,19 @@
 """Builds the calls over the proved archive: that of dist/, or that of the folder whose absolute path SKETCH_HASH_LIB_DIR is."""
 import os
+import sys
 import sysconfig
 
-from Cython.Build import cythonize
 from setuptools import Extension, setup
+from Cython.Build import cythonize  # after setuptools, which brings its own distutils
 
 here = os.path.dirname(os.path.abspath(__file__))
 target = sysconfig.get_platform()
 folder = os.environ.get("SKETCH_HASH_LIB_DIR")
+if sys.implementation.name != "cpython" or sysconfig.get_config_var("Py_GIL_DISABLED"):
+    raise SystemExit(
+        "sketch-hash needs CPython with the GIL, by which calls of several threads on one object take turns; "
+        "a free-threaded Python has no GIL"
+    )
 if not folder and target not in ("linux-x86_64", "linux-aarch64"):
     raise SystemExit(
         f"sketch-hash has no library for {target}, but for Linux on x86-64 and aarch64; "
@@ -24,4 +30,21 @@ core = Extension(
     extra_objects=[archive],
     depends=[archive],
 )
-setup(ext_modules=cythonize([core], build_dir="build"))
+with open(os.path.join(here, "README.md"), encoding="utf-8") as page:
+    readme = page.read()
+setup(
+    name="sketch-hash",
+    version="1.2.0",
+    description="XXH64, MurmurHash3 x64 128 and a Bloom filter from functions that are proved",
+    long_description=readme,
+    long_description_content_type="text/markdown",
+    license="Apache-2.0",
+    license_files=["LICENSE", "NOTICE"],
+    classifiers=["Programming Language :: Python :: Implementation :: CPython"],
+    python_requires=">=3.9",
+    packages=["sketch_hash"],
+    package_dir={"": "src"},
+    package_data={"sketch_hash": ["py.typed", "*.pyi"]},
+    entry_points={"console_scripts": ["sketch-hash = sketch_hash.__main__:command"]},
+    ext_modules=cythonize([core], build_dir="build"),
+)

@@ -33,7 +33,7 @@ def version():
 @pytest.fixture
 def copy(tmp_path):
     """A copy of the crate, which is told where the library is."""
-    return pathlib.Path(shutil.copytree(HERE, tmp_path / "crate", ignore=shutil.ignore_patterns("target")))
+    return pathlib.Path(shutil.copytree(HERE, tmp_path / "crate", ignore=shutil.ignore_patterns("target", "__pycache__")))
 
 
 @pytest.mark.parametrize("words", [[], ["--release", "--features", "std"]], ids=["debug", "release"])
@@ -66,7 +66,7 @@ def test_without_std(tmp_path):
     libraries = pathlib.Path(subprocess.check_output(["rustc", "--print", "sysroot"], text=True).strip(), "lib/rustlib", triple, "lib")
     own = tmp_path / "lib/rustlib" / triple / "lib"
     own.mkdir(parents=True)
-    for kind in ("core", "alloc", "compiler_builtins"):
+    for kind in ("core", "alloc", "compiler_builtins", "rustc_std_workspace_core"):
         for it in libraries.glob(f"lib{kind}-*"):
             shutil.copy(it, own)
     words = ["--edition", "2021", "--crate-type", "lib", "--emit", "metadata", "--out-dir", tmp_path, HERE / "src/lib.rs"]

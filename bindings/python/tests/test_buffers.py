@@ -11,11 +11,7 @@ numpy = pytest.importorskip("numpy")
 
 DATA = bytes(range(240))
 KINDS = [xxh64, murmur3_x64_128]
-ONE_CALL = [
-    getattr(sketch_hash, f"{kind.__name__}_{digest}")
-    for kind in KINDS
-    for digest in ("digest", "hexdigest", "intdigest")
-]
+ONE_CALL = [getattr(sketch_hash, f"{kind.__name__}_{form}") for kind in KINDS for form in ("digest", "hexdigest", "intdigest")]
 
 
 def anonymous(data):
@@ -81,6 +77,23 @@ def test_a_str_is_refused_with_the_reason():
         with pytest.raises(TypeError) as found:
             call(5)
         assert "encode" not in str(found.value)
+
+
+class Broken(bytes):
+    @property
+    def dtype(self):
+        raise LookupError("this array has no type")
+
+
+def test_an_error_of_the_buffer_is_raised():
+    """And not only printed, after which the bytes would be hashed."""
+    table, released = sketch_hash.MemberTable(10, 3), memoryview(DATA)
+    released.release()
+    for call in (*KINDS, *ONE_CALL, xxh64().update, table.insert, table.__contains__):
+        with pytest.raises(LookupError, match="this array has no type"):
+            call(Broken(DATA))
+        with pytest.raises(ValueError, match="released memoryview"):
+            call(released)
 
 
 def test_empty_input():

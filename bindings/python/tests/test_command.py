@@ -1,4 +1,5 @@
 """The program: python3 -m sketch_hash."""
+import contextlib
 import os
 import pty
 import random
@@ -58,13 +59,12 @@ def test_lines_come_as_soon_as_a_file_is_read():
     for words in (["fox", "late"], ["--check", "list"]):
         with open("list", "wb") as file:
             file.write(XXH64 + b"  fox\n" + XXH64 + b"  late\n")
-        command = [sys.executable, "-m", "sketch_hash", *words]
-        with subprocess.Popen(command, stdout=subprocess.PIPE) as program:
-            ready = select.select([program.stdout], [], [], 30)[0]
-            if not ready:
-                program.kill()  # it waits for what is late
-            assert ready
-            first = os.read(program.stdout.fileno(), 100)
+        with subprocess.Popen([sys.executable, "-m", "sketch_hash", *words], stdout=subprocess.PIPE) as program:
+            ready = select.select([program.stdout], [], [], 300)[0]
+            first = os.read(program.stdout.fileno(), 100) if ready else b""
+            if not first:
+                program.kill()  # else it waits for what is late
+            assert first  # else the program has ended, and nothing would ever read what is late
             with open("late", "wb") as late:
                 late.write(FOX)
             lines = first + program.stdout.read()
@@ -122,9 +122,7 @@ def test_help():
 
 
 def test_names_are_printed_as_sha256sum_does():
-    for name, printed in (
-        (b"new\nline", rb"new\nline"), (b"return\rline", rb"return\rline"), (b"back\\slash", rb"back\\slash"),
-    ):
+    for name, printed in ((b"new\nline", rb"new\nline"), (b"return\rline", rb"return\rline"), (b"back\\slash", rb"back\\slash")):
         with open(name, "wb") as file:
             file.write(FOX)
         assert run(name)[1] == b"\\" + XXH64 + b"  " + printed + b"\n"
@@ -154,9 +152,7 @@ def test_names_and_options_in_any_order():
 def test_a_file_that_cannot_be_read():
     status, output, complaint = run("missing", "fox", ".")
     assert (status, output) == (1, XXH64 + b"  fox\n")
-    assert complaint == (
-        b"sketch_hash: missing: No such file or directory\nsketch_hash: .: Is a directory\n"
-    )
+    assert complaint == b"sketch_hash: missing: No such file or directory\nsketch_hash: .: Is a directory\n"
     assert run("missing", "fox")[0] == run(".", "fox")[0] == run(*["missing"] * 256)[0] == 1
     # A name in no encoding is told by its bytes.
     assert run(b"\xff-none")[2] == b"sketch_hash: \xff-none: No such file or directory\n"
@@ -261,21 +257,24 @@ def test_the_command_that_is_installed():
 
 
 def test_a_bar_is_drawn_on_a_terminal_alone():
-    """Of a pipe that stays open for a second."""
+    """It is drawn from half a second on, so bytes come until it is there."""
     terminal, standard_error = pty.openpty()
-    command = ["sh", "-c", "cat fox; sleep 1; cat fox"]
-    feeder = subprocess.Popen(command, stdout=subprocess.PIPE)
-    words = [sys.executable, "-m", "sketch_hash"]
-    done = subprocess.run(
-        words, stdin=feeder.stdout, stdout=subprocess.PIPE, stderr=standard_error
-    )
-    feeder.stdout.close()
-    feeder.wait()
-    os.close(standard_error)
-    drawn = os.read(terminal, 10000)
+    command = [sys.executable, "-m", "sketch_hash"]
+    with subprocess.Popen(command, stdin=subprocess.PIPE, stdout=subprocess.PIPE, stderr=standard_error) as program:
+        os.close(standard_error)
+        for _ in range(1000):
+            program.stdin.write(FOX)
+            program.stdin.flush()
+            if select.select([terminal], [], [], 0.1)[0]:
+                break
+        program.communicate()
+    drawn = b""
+    with contextlib.suppress(OSError):  # the terminal ends with EIO
+        while True:
+            drawn += os.read(terminal, 10000)
     os.close(terminal)
-    assert done.returncode == 0 and b"[" in drawn and drawn.endswith(b"\r\033[K")
-    feeder = subprocess.Popen(command, stdout=subprocess.PIPE)
+    assert program.returncode == 0 and b"[" in drawn and drawn.endswith(b"\r\033[K")
+    feeder = subprocess.Popen(["sh", "-c", "cat fox; sleep 1; cat fox"], stdout=subprocess.PIPE)
     assert run(stdin=feeder.stdout) == run(input=FOX * 2)
     feeder.stdout.close()
     feeder.wait()

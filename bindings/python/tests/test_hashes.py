@@ -11,7 +11,7 @@ import peers
 import pytest
 import sketch_hash
 from sketch_hash import murmur3_x64_128, xxh64
-from test_buffers import KINDS
+from test_buffers import KINDS, ONE_CALL
 from test_sharing import ZEROS, waits
 
 xxhash = pytest.importorskip("xxhash")
@@ -92,12 +92,32 @@ def test_what_they_are_called():
     assert sketch_hash.algorithms_available == {"xxh64", "murmur3_x64_128"}
     about = importlib.metadata.metadata("sketch-hash")
     assert about["Version"] == sketch_hash.__version__
-    assert about["Requires-Python"] == ">=3.8"
+    assert about["Requires-Python"] == ">=3.9"
     for name in ("__init__.py", "__main__.py"):
         with open(os.path.join(os.path.dirname(sketch_hash.__file__), name)) as file:
-            ast.parse(file.read(), feature_version=(3, 8))
+            ast.parse(file.read(), feature_version=(3, 9))
     assert about.get_all("Requires-Dist") is None
     assert about.get_all("License-File") == ["LICENSE", "NOTICE"]
+
+
+def test_which_arguments_have_names():
+    """As in hashlib, the only argument of a method has none. Cython 3 alone would give it one."""
+    table, pair = sketch_hash.MemberTable(log2_bits=10, hashes=3, seed=7), sketch_hash.column([FOX])
+    assert sketch_hash.MemberTable.for_keys(keys=10, one_in=100, seed=7).seed == table.seed
+    for kind in KINDS:
+        assert kind(data=FOX, seed=7).digest() == kind(FOX, 7).digest()
+    for call in ONE_CALL:
+        assert call(data=FOX, seed=7) == call(FOX, 7)
+    for call in (sketch_hash.xxh64_each, sketch_hash.murmur3_x64_128_each):
+        assert call(keys=pair, seed=7) == call(pair, 7)
+    for call, name, value in [
+        *((kind().update, "data", FOX) for kind in KINDS), (table.insert, "key", FOX), (table.update, "keys", [FOX]),
+        (table.insert_each, "keys", pair), (table.contains_each, "keys", pair), (table.merge, "other", table.copy()),
+        (table.from_bytes, "data", table.to_bytes()), (table.view, "buffer", bytearray(table.to_bytes())), (sketch_hash.column, "texts", [FOX]),
+    ]:
+        call(value)
+        with pytest.raises(TypeError, match="keyword"):
+            call(**{name: value})
 
 
 @pytest.mark.parametrize("call", ["digest", "hexdigest", "intdigest", "copy", "reset", "__reduce__", "__repr__", "update"])

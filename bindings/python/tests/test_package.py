@@ -18,7 +18,7 @@ FOX = "import sketch_hash; print(sketch_hash.xxh64_hexdigest(b'The quick brown f
 @pytest.fixture
 def source(need, tmp_path):
     """A copy of the package, which is told where the library is."""
-    need("gcc", "Python.h", "python:setuptools", "python:wheel")
+    need("gcc", "Python.h", "python:Cython", "python:setuptools", "python:wheel")
     ignored = shutil.ignore_patterns("build", "*.egg-info", "tests", "__pycache__")
     return pathlib.Path(shutil.copytree(PACKAGE, tmp_path / "source", ignore=ignored))
 
@@ -55,6 +55,13 @@ def test_a_folder_without_the_library_is_named(source, tmp_path):
     assert done.returncode and f"{tmp_path}/libsketch_hash.a is missing: set SKETCH_HASH_LIB_DIR" in done.stdout
 
 
+def test_a_free_threaded_python_is_refused_with_the_reason(source):
+    """No Debian has one, so this Python says that it is."""
+    build = "import runpy, sysconfig; sysconfig.get_config_vars()['Py_GIL_DISABLED'] = 1; runpy.run_path('setup.py')"
+    done = subprocess.run([sys.executable, "-c", build], cwd=source, capture_output=True, text=True)
+    assert done.returncode == 1 and "a free-threaded Python has no GIL" in done.stderr
+
+
 def test_stubs_fit_the_module(need, tmp_path):
     """Each name, argument and default of the stubs is that of the module, by mypy's own comparison."""
     need("python:mypy", "python:sketch_hash")
@@ -62,7 +69,14 @@ def test_stubs_fit_the_module(need, tmp_path):
 
     (tmp_path / "mypy.ini").write_text("[mypy]\n[mypy-sketch_hash.__main__]\nignore_errors = True\n")  # a program, without stubs
     folder = str(pathlib.Path(sketch_hash.__file__).parents[1])
-    done = run([sys.executable, "-m", "mypy.stubtest", "sketch_hash", "--mypy-config-file", tmp_path / "mypy.ini"], MYPYPATH=folder, PYTHONPATH=folder)
+    # From Python 3.14 on __new__, which takes any arguments, is said to have those of __init__.
+    (tmp_path / "allowed").write_text(r"sketch_hash\.\w+\.__new__")
+    stubtest = [sys.executable, "-m", "mypy.stubtest"]
+    options = ["--mypy-config-file", tmp_path / "mypy.ini", "--allowlist", tmp_path / "allowed", "--ignore-unused-allowlist"]
+    # @disjoint_base in a stub is an error for type checkers that are older than it.
+    if "--ignore-disjoint-bases" in run([*stubtest, "--help"]).stdout:
+        options.append("--ignore-disjoint-bases")
+    done = run([*stubtest, "sketch_hash", *options], MYPYPATH=folder, PYTHONPATH=folder)
     assert done.returncode == 0 and "Success: no issues found" in done.stdout, done.stdout
 
 

@@ -1,5 +1,4 @@
-"""Faults that would give a wrong hash silently: a shared copy, two threads, a cut seed; and when
-Python's lock is given up."""
+"""Faults that would give a wrong hash silently: a shared copy, two threads, a cut seed; and when the GIL is released."""
 import array
 import copy
 import fractions
@@ -56,13 +55,10 @@ def test_a_copy_goes_its_own_way(kind, way):
 
 
 def test_a_checkpoint_has_its_words_in_order():
-    """As the state stands in C's memory, so that other languages take it up. The words were computed
-    apart."""
+    """As the state is in C's memory, so that other languages resume it. The words were computed apart."""
     data, seed = bytes(range(35)), 0x1122334455667788
     x, m = xxh64(data, seed), murmur3_x64_128(data[:19], seed)
-    words = struct.pack(
-        "<6Q", seed, 0x9B07F8FFF4DFB707, 0x6A2608F9D4377DCF, 0x71797DB07D15ADAD, 0x40978DAA5C6D7475, 35
-    )
+    words = struct.pack("<6Q", seed, 0x9B07F8FFF4DFB707, 0x6A2608F9D4377DCF, 0x71797DB07D15ADAD, 0x40978DAA5C6D7475, 35)
     assert x.__reduce__()[1][2][:51] == words + data[32:]
     words = struct.pack("<3Q", 0xCBA402A70E176085, 0xD929CE6211B7B955, 19)
     assert m.__reduce__()[1][2][:27] == words + data[16:19]
@@ -167,11 +163,8 @@ def test_long_calls_give_up_the_lock_of_python(ticks):
         lambda data: xxh64_each((data, array.array("Q", range(100000)))),
         lambda data: murmur3_x64_128_each((data, array.array("I", range(100000)))),
         lambda data: murmur3_x64_128_each((data, array.array("Q", range(100000)))),
-        *(
-            lambda _, each=each, width=width: each((b"", array.array(width, bytes(1 << 20))))
-            for each in (xxh64_each, murmur3_x64_128_each)
-            for width in "IQ"
-        ),
+        *(lambda _, each=each, width=width: each((b"", array.array(width, bytes(1 << 20))))
+          for each in (xxh64_each, murmur3_x64_128_each) for width in "IQ"),
     ]
     whole = [*ONE_CALL, *[it.update for it in hashers]]
     for given, calls in ((data, whole + columns), (data[:65536], whole)):

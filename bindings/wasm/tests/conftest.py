@@ -3,6 +3,7 @@ import functools
 import http.server
 import os
 import pathlib
+import shutil
 import threading
 
 import pytest
@@ -33,12 +34,15 @@ def server():
 
 @pytest.fixture(scope="session")
 def chromium(need):
-    need("chromium", "chromedriver")
+    need("chromium", "chromedriver", "python:selenium")
     from selenium import webdriver
+    from selenium.webdriver.chrome.service import Service
 
     options = webdriver.ChromeOptions()
     for word in ("--headless=new", "--no-sandbox", "--disable-gpu", "--disable-dev-shm-usage"):
         options.add_argument(word)
     options.set_capability("goog:loggingPrefs", {"browser": "ALL"})
-    with webdriver.Chrome(options=options) as it:
+    # Newer versions of Selenium would ask the network for a driver.
+    with webdriver.Chrome(options=options, service=Service(shutil.which("chromedriver"))) as it:
+        it.set_script_timeout(600)
         yield it

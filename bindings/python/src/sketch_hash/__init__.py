@@ -12,40 +12,16 @@ Murmur's hexadecimal is its two words, each with the highest digit first. Other 
 memory: murmur3_x64_128_bytes has these.
 """
 from ._core import (
-    MemberTable,
-    _Hash,
-    _seed,
-    _take_up,
-    column,
-    murmur3_x64_128,
-    murmur3_x64_128_bytes,
-    murmur3_x64_128_digest,
-    murmur3_x64_128_each,
-    murmur3_x64_128_hexdigest,
-    murmur3_x64_128_intdigest,
-    xxh64,
-    xxh64_digest,
-    xxh64_each,
-    xxh64_hexdigest,
-    xxh64_intdigest,
+    MemberTable, _Hash, _seed, _take_up, column, murmur3_x64_128, murmur3_x64_128_bytes, murmur3_x64_128_digest,
+    murmur3_x64_128_each, murmur3_x64_128_hexdigest, murmur3_x64_128_intdigest, xxh64, xxh64_digest, xxh64_each,
+    xxh64_hexdigest, xxh64_intdigest,
 )
 
 __version__ = "1.2.0"
 __all__ = [
-    "MemberTable",
-    "algorithms_available",
-    "column",
-    "murmur3_x64_128",
-    "murmur3_x64_128_bytes",
-    "murmur3_x64_128_digest",
-    "murmur3_x64_128_each",
-    "murmur3_x64_128_hexdigest",
-    "murmur3_x64_128_intdigest",
-    "xxh64",
-    "xxh64_digest",
-    "xxh64_each",
-    "xxh64_hexdigest",
-    "xxh64_intdigest",
+    "MemberTable", "algorithms_available", "column", "murmur3_x64_128", "murmur3_x64_128_bytes",
+    "murmur3_x64_128_digest", "murmur3_x64_128_each", "murmur3_x64_128_hexdigest", "murmur3_x64_128_intdigest",
+    "xxh64", "xxh64_digest", "xxh64_each", "xxh64_hexdigest", "xxh64_intdigest",
 ]
 
 algorithms_available = {"xxh64", "murmur3_x64_128"}

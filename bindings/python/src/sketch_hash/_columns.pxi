@@ -46,10 +46,10 @@ cdef class Column:
             raise ValueError("a column of numbers has to lie at a multiple of their width")
         return 0
 
-    cdef size_t count(self) nogil:
+    cdef size_t count(self) noexcept nogil:
         return self.places - 1 if self.places else 0
 
-    cdef size_t hash(self, bint is_murmur, uint64_t seed, void *out) nogil:
+    cdef size_t hash(self, bint is_murmur, uint64_t seed, void *out) noexcept nogil:
         if not self.is_pair:
             return sketch_xxh64_each_u64(<const uint64_t *>self.numbers.buf, self.count(), seed, out, self.count())
         cdef const uint32_t *narrow = <const uint32_t *>self.offsets
@@ -62,12 +62,12 @@ cdef class Column:
             return sketch_xxh64_each32(self.data.buf, self.data.len, narrow, self.places, seed, out, self.count())
         return sketch_xxh64_each64(self.data.buf, self.data.len, wide, self.places, seed, out, self.count())
 
-    cdef inline size_t offset(self, size_t at) nogil:
+    cdef inline size_t offset(self, size_t at) noexcept nogil:
         if not self.is_pair:
             return self.width * at
         return (<const uint32_t *>self.offsets)[at] if self.width == 4 else (<const uint64_t *>self.offsets)[at]
 
-    cdef Py_ssize_t walk(self, void *table, size_t length, char *found, bint is_asked) nogil:
+    cdef Py_ssize_t walk(self, void *table, size_t length, char *found, bint is_asked) noexcept nogil:
         """Inserts each key into a table, or tells of each whether it is contained; without a table it looks at the
         offsets alone. Each offset is compared before it is used, so nothing outside of the bytes is read, whatever other
         threads do to them. Answers 0, a fault as the calls for columns do, or a status of the table. Each insert and
@@ -131,7 +131,7 @@ def murmur3_x64_128_each(keys, seed=0):
 
 
 def column(texts):
-    """column(texts)\n--\n\nA column of texts or bytes: a pair of their bytes and offsets, for the calls that take columns.
+    """column(texts, /)\n--\n\nA column of texts or bytes: a pair of their bytes and offsets, for the calls that take columns.
 
     texts is any iterable of str, which become UTF-8, or of bytes: a list, an array of numpy, a Series of pandas. Anything
     else in it, as a missing value, raises TypeError with its index.

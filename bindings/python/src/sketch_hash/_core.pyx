@@ -1,4 +1,4 @@
-# cython: language_level=3, binding=False, auto_pickle=False
+# cython: language_level=3, binding=False, auto_pickle=False, always_allow_keywords=False
 """The calls of the package, over the proved library for C.
 
 An object is hashed, filled or asked by one call at a time. A call on 64 KiB or more gives up Python's lock, the GIL, and
@@ -20,13 +20,6 @@ from libc.string cimport memcpy
 import array
 import itertools
 
-cdef extern from *:
-    """
-    #if defined(PYPY_VERSION) || defined(Py_GIL_DISABLED)
-    #error "sketch_hash is for CPython with a GIL"
-    #endif
-    """
-
 cdef extern from "Python.h":
     # Under another name, so that Cython counts no references of it: obj may be NULL.
     ctypedef struct View "Py_buffer":
@@ -41,9 +34,8 @@ cdef extern from "Python.h":
         pass
     PyThreadState *PyEval_SaveThread()
     void PyEval_RestoreThread(PyThreadState *)
-    ctypedef object (*newfunc)(object, object, PyObject *)
     ctypedef struct PyTypeObject:
-        newfunc tp_new
+        object (*tp_new)(PyTypeObject *, object, PyObject *)
         const char *tp_name
         PyObject *tp_dict
     ctypedef struct PyMethodDescrObject:
@@ -51,9 +43,8 @@ cdef extern from "Python.h":
     object PyDescr_NewMethod(PyTypeObject *, void *)
     void PyType_Modified(PyTypeObject *)
     object PyNumber_Index(object)
-    uint64_t PyLong_AsUnsignedLongLong(object) except? 0xFFFF_FFFF_FFFF_FFFF
-    object PyUnicode_New(Py_ssize_t, Py_UCS4)
-    unsigned char *PyUnicode_1BYTE_DATA(object)
+    uint64_t PyLong_AsUnsignedLongLong(object) except? -1
+    object PyUnicode_FromStringAndSize(const char *, Py_ssize_t)
 
 cdef extern from "sketch_hash.h" nogil:
     ctypedef struct sketch_xxh64_state_t:
@@ -91,16 +82,16 @@ cdef enum:
     LONG = 65536  # bytes
 
 
-cdef inline PyThreadState *without_gil(size_t length):
+cdef inline PyThreadState *without_gil(size_t length) noexcept:
     return PyEval_SaveThread() if length >= LONG else NULL
 
 
-cdef inline void with_gil(PyThreadState *thread):
+cdef inline void with_gil(PyThreadState *thread) noexcept:
     if thread is not NULL:
         PyEval_RestoreThread(thread)
 
 
-cdef inline PyThreadState *begin(PyThread_type_lock *lock, size_t length):
+cdef inline PyThreadState *begin(PyThread_type_lock *lock, size_t length) noexcept:
     """Begins a call on an object, whose lock is made by the first long call. Short calls alone need none: they keep the
     GIL. If there is no memory for a lock, a long call keeps it too."""
     if lock[0] is NULL:
@@ -116,7 +107,7 @@ cdef inline PyThreadState *begin(PyThread_type_lock *lock, size_t length):
     return without_gil(length)
 
 
-cdef inline void end(PyThread_type_lock *lock, PyThreadState *thread):
+cdef inline void end(PyThread_type_lock *lock, PyThreadState *thread) noexcept:
     with_gil(thread)
     if lock[0] is not NULL:
         PyThread_release_lock(lock[0])
@@ -140,13 +131,13 @@ cdef int look_at_other(object data, View *memory) except -1:
     return PyObject_GetBuffer(data, memory, PyBUF_SIMPLE)
 
 
-cdef bint holds_objects(object data):
+cdef bint holds_objects(object data) except -1:
     if isinstance(data, memoryview):
         return "O" in "".join(data.format.split(":")[::2])  # names of fields stand between colons
     return getattr(getattr(data, "dtype", None), "hasobject", False)
 
 
-cdef uint64_t word_of(object number, str name) except? 0xFFFF_FFFF_FFFF_FFFF:
+cdef uint64_t word_of(object number, str name) except? -1:
     number = PyNumber_Index(number)
     try:
         return PyLong_AsUnsignedLongLong(number)
@@ -154,7 +145,7 @@ cdef uint64_t word_of(object number, str name) except? 0xFFFF_FFFF_FFFF_FFFF:
         raise OverflowError(f"{name} is from 0 to 2**64 - 1") from None
 
 
-cdef uint64_t seed_of(object seed) except? 0xFFFF_FFFF_FFFF_FFFF:
+cdef uint64_t seed_of(object seed) except? -1:
     return word_of(seed, "a seed")
 
 
@@ -168,27 +159,34 @@ cdef enum Form:
 
 cdef extern from *:
     """
-    /* A word in sixteen digits, the highest first. */
-    static void write_digits(uint64_t word, unsigned char *to) {
-        int i;
-        for (i = 0; i < 16; i++) to[i] = "0123456789abcdef"[word >> (60 - 4 * i) & 15];
+    /* Eight hexadecimal digits. Each has a byte of `digits`, the highest one the lowest, so that no step needs a loop. */
+    static inline void write_eight(uint32_t word, unsigned char *to) {
+        const uint64_t each = 0x0101010101010101;
+        uint64_t digits = __builtin_bswap32(word), letters;
+        digits = (digits | digits << 16) & 0x0000FFFF0000FFFF;
+        digits = (digits | digits << 8) & 0x00FF00FF00FF00FF;
+        digits = (digits >> 4 | digits << 8) & 15 * each;
+        letters = (digits + 118 * each) >> 7 & each; /* 1 for a digit of 10 and above */
+        digits += '0' * each + ('a' - '0' - 10) * letters;
+        memcpy(to, &digits, 8);
     }
     """
-    void write_digits(uint64_t, unsigned char *)
+    void write_eight(uint32_t, unsigned char *)
     uint64_t __builtin_bswap64(uint64_t)
 
 
 cdef inline object shown(const uint64_t *words, int count, Form form):
     """A hash of one word or two: the first word's highest byte or digit comes first."""
     cdef uint64_t *turned
+    cdef unsigned char digits[32]
     cdef int i
     if form == NUMBER:
         return words[0] if count == 1 else (<object>words[0] << 64) + words[1]
     if form == HEX:
-        made = PyUnicode_New(16 * count, 127)
         for i in range(count):
-            write_digits(words[i], PyUnicode_1BYTE_DATA(made) + 16 * i)
-        return made
+            write_eight(words[i] >> 32, digits + 16 * i)
+            write_eight(<uint32_t>words[i], digits + 16 * i + 8)
+        return PyUnicode_FromStringAndSize(<char *>digits, 16 * count)
     made = PyBytes_FromStringAndSize(NULL, 8 * count)
     turned = <uint64_t *>PyBytes_AS_STRING(made)
     for i in range(count):

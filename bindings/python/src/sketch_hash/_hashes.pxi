@@ -20,7 +20,7 @@ cdef class _Hash:
         append(self, data)
 
     def update(self, data):
-        """update($self, data)\n--\n\nAppends data. Splitting the input into several calls gives the same hash."""
+        """update($self, data, /)\n--\n\nAppends data. Splitting the input into several calls gives the same hash."""
         append(self, data)
 
     def digest(self):
@@ -66,21 +66,22 @@ cdef class _Hash:
         return f"<sketch_hash.{type(self).__name__} with seed {self.own_seed}, now {self.hexdigest()}>"
 
 
-cdef void free_lock(object capsule):
+cdef void free_lock(object capsule) noexcept:
     PyThread_free_lock(PyCapsule_GetPointer(capsule, NULL))
 
 
 cdef inline _Hash new_of(object kind):
-    return (<PyTypeObject *>kind).tp_new(kind, (), NULL)
+    cdef PyTypeObject *of = <PyTypeObject *>kind
+    return of.tp_new(of, (), NULL)
 
 
-cdef void start(_Hash self, uint64_t seed):
+cdef void start(_Hash self, uint64_t seed) noexcept:
     thread = begin(&self.lock, 0)
     restart(self, seed)
     end(&self.lock, thread)
 
 
-cdef void restart(_Hash self, uint64_t seed):
+cdef void restart(_Hash self, uint64_t seed) noexcept:
     self.own_seed = seed
     self.words = 2 if isinstance(self, murmur3_x64_128) else 1
     if self.words == 2:
@@ -89,12 +90,12 @@ cdef void restart(_Hash self, uint64_t seed):
         sketch_xxh64_reset(&self.state.xxh64, seed)
 
 
-cdef inline void begin_stream(_Hash self):
+cdef inline void begin_stream(_Hash self) noexcept:
     if self.words == 0:
         restart(self, 0)
 
 
-cdef inline size_t size_of(_Hash self):
+cdef inline size_t size_of(_Hash self) noexcept:
     begin_stream(self)
     return sizeof(sketch_murmur3_x64_128_state_t) if self.words == 2 else sizeof(sketch_xxh64_state_t)
 
@@ -116,7 +117,7 @@ cdef inline int append(_Hash self, object data) except -1:
     return 0
 
 
-cdef inline sketch_murmur3_x64_128_hash_t answer(_Hash self):
+cdef inline sketch_murmur3_x64_128_hash_t answer(_Hash self) noexcept:
     """The hash: XXH64 has the first word alone."""
     cdef sketch_murmur3_x64_128_hash_t hash
     thread = begin(&self.lock, 0)

@@ -25,7 +25,7 @@ cdef int check(Py_ssize_t status) except -1:
     return 0
 
 
-cdef inline bint overlap(const void *one, size_t length, const void *other, size_t other_length) nogil:
+cdef inline bint overlap(const void *one, size_t length, const void *other, size_t other_length) noexcept nogil:
     return other_length > 0 and <uintptr_t>other < <uintptr_t>one + length and <uintptr_t>one < <uintptr_t>other + other_length
 
 
@@ -72,7 +72,7 @@ cdef class MemberTable:
         PyBuffer_Release(&table)
         return check(status)
 
-    cdef void exchange(self, View *table):
+    cdef void exchange(self, View *table) noexcept:
         cdef View before
         thread = begin(&self.lock, 0)
         before, self.table = self.table, table[0]
@@ -99,7 +99,7 @@ cdef class MemberTable:
 
     @classmethod
     def from_bytes(cls, data):
-        """from_bytes($type, data)\n--\n\nThe table of bytes that to_bytes, another language or another machine wrote.
+        """from_bytes($type, data, /)\n--\n\nThe table of bytes that to_bytes, another language or another machine wrote.
 
         Bytes that are none of version 2 raise ValueError with the first fault.
         """
@@ -111,7 +111,7 @@ cdef class MemberTable:
 
     @classmethod
     def view(cls, buffer):
-        """view($type, buffer)\n--\n\nThe table in a writable buffer, as a file that is mapped, where it stays.
+        """view($type, buffer, /)\n--\n\nThe table in a writable buffer, as a file that is mapped, where it stays.
 
         Nothing else may change the buffer during a call. Two views of one buffer do not wait for each other. Bytes that
         are no table of version 2 raise ValueError, here and in each later call. The buffer keeps its length until the view
@@ -137,7 +137,7 @@ cdef class MemberTable:
         self.release()
 
     def insert(self, key):
-        """insert($self, key)\n--\n\nInserts a key. A known count grows by one and stays at 2**64 - 1.
+        """insert($self, key, /)\n--\n\nInserts a key. A known count grows by one and stays at 2**64 - 1.
 
         A key that lies in the bytes of the table raises ValueError.
         """
@@ -170,7 +170,7 @@ cdef class MemberTable:
         return status == 1
 
     def update(self, keys):
-        """update($self, keys)\n--\n\nInserts each key of an iterable. Where one is refused, those before it stay inserted.
+        """update($self, keys, /)\n--\n\nInserts each key of an iterable. Where one is refused, those before it stay inserted.
 
         One key and a column raise TypeError: insert takes one, and insert_each a column.
         """
@@ -202,7 +202,7 @@ cdef class MemberTable:
         return check(answer)
 
     def insert_each(self, keys):
-        """insert_each($self, keys)\n--\n\nInserts each key of a column, as xxh64_each takes it.
+        """insert_each($self, keys, /)\n--\n\nInserts each key of a column, as xxh64_each takes it.
 
         Where an offset does not fit, or the column lies in the bytes of the table, ValueError is raised and nothing is
         inserted. Each insert is proved. The loop over them, and the check of the offsets, are this package's and tested.
@@ -210,7 +210,7 @@ cdef class MemberTable:
         self.walk(Column(keys, True), None)
 
     def contains_each(self, keys):
-        """contains_each($self, keys)\n--\n\nOf each key of a column, as xxh64_each takes it, whether it is contained: a
+        """contains_each($self, keys, /)\n--\n\nOf each key of a column, as xxh64_each takes it, whether it is contained: a
         memoryview of bools."""
         cdef Column taken = Column(keys, True)
         found = bytearray(taken.count())
@@ -251,7 +251,7 @@ cdef class MemberTable:
         return int.from_bytes(header[16:], "little") if header[5] else None
 
     def merge(self, other):
-        """merge($self, other)\n--\n\nMerges a table of the same seed and sizes into this one, which then contains the keys
+        """merge($self, other, /)\n--\n\nMerges a table of the same seed and sizes into this one, which then contains the keys
         of both. Known counts add and stay at 2**64 - 1; an unknown one makes the sum unknown.
 
         Where the seed or the sizes differ, ValueError is raised, and this table stays as it was.

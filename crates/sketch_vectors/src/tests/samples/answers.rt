@@ -1,4 +1,4 @@
-//! What DataSketches' Rust component answers, version 0.6.0. `bindings/samples/run` asks it again.
+//! What DataSketches' Rust component answers, version 0.6.0. `tools/samples/run` asks it again.
 
 /// A line a sample: the question, `=`, and the words of the answer, in hexadecimal. Other numbers
 /// are decimal, and bytes hexadecimal, where `-` is none.

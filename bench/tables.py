@@ -7,7 +7,7 @@ import re
 from html import escape
 from pathlib import Path
 
-docs = Path(__file__).resolve().parents[2] / "docs"
+docs = Path(__file__).resolve().parents[1] / "docs"
 cells = {}
 for line in (docs / "speed.tsv").read_text(encoding="utf-8").splitlines():
     group, case, peer, *ratios = line.split("\t")

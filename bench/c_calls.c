@@ -1,7 +1,7 @@
 /* The calls for C beside xxHash, which is inlined or called, and beside Debian's libmurmurhash, a C
  * port of the reference, which is called. */
 #define XXH_INLINE_ALL
-#include "../c/sketch_hash.h"
+#include "../bindings/c/sketch_hash.h"
 #include "measure.h"
 #include <murmurhash.h>
 #include <xxhash.h>
