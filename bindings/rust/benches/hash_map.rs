@@ -2,7 +2,6 @@
 //! in each of 51 rounds. The table has the nanoseconds of a lookup, and the median of the rounds'
 //! ratios to std's hasher.
 
-#[path = "../tests/plain/mod.rs"]
 mod plain;
 
 use sketch_hash::{BuildMurmur3X64_128, BuildXxh64};

@@ -1,6 +1,4 @@
-//! Both hashes in plain Rust, written from their published definitions and independent of the
-//! library: the peers of the tests, and a contestant of the benchmark.
-#![allow(dead_code)]
+//! XXH64 in plain Rust, written from its published definition: a contestant of the benchmark.
 
 use std::hash::Hasher;
 
@@ -97,44 +95,4 @@ impl Hasher for Xxh64 {
         hash = (hash ^ (hash >> 29)).wrapping_mul(P3);
         hash ^ (hash >> 32)
     }
-}
-
-pub fn xxh64(input: &[u8], seed: u64) -> u64 {
-    let mut hasher = Xxh64::new(seed);
-    hasher.write(input);
-    hasher.finish()
-}
-
-const C1: u64 = 0x87c3_7b91_1142_53d5;
-const C2: u64 = 0x4cf5_ad43_2745_937f;
-
-fn mix(word: u64, first: u64, places: u32, second: u64) -> u64 {
-    word.wrapping_mul(first).rotate_left(places).wrapping_mul(second)
-}
-
-fn end(mut word: u64) -> u64 {
-    word = (word ^ (word >> 33)).wrapping_mul(0xff51_afd7_ed55_8ccd);
-    word = (word ^ (word >> 33)).wrapping_mul(0xc4ce_b9fe_1a85_ec53);
-    word ^ (word >> 33)
-}
-
-pub fn murmur3_x64_128(input: &[u8], seed: u64) -> (u64, u64) {
-    let (mut h1, mut h2) = (seed, seed);
-    let blocks = input.chunks_exact(16);
-    let mut last = [0; 16];
-    last[..blocks.remainder().len()].copy_from_slice(blocks.remainder());
-    for block in blocks {
-        h1 ^= mix(word(block), C1, 31, C2);
-        h1 = h1.rotate_left(27).wrapping_add(h2).wrapping_mul(5).wrapping_add(0x52dc_e729);
-        h2 ^= mix(word(&block[8..]), C2, 33, C1);
-        h2 = h2.rotate_left(31).wrapping_add(h1).wrapping_mul(5).wrapping_add(0x3849_5ab5);
-    }
-    let length = input.len() as u64;
-    h1 ^= mix(word(&last), C1, 31, C2) ^ length;
-    h2 ^= mix(word(&last[8..]), C2, 33, C1) ^ length;
-    h1 = h1.wrapping_add(h2);
-    h2 = h2.wrapping_add(h1);
-    let (e1, e2) = (end(h1), end(h2));
-    let first = e1.wrapping_add(e2);
-    (first, e2.wrapping_add(first))
 }
