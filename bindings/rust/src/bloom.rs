@@ -203,10 +203,7 @@ impl<B: AsRef<[u8]>> BloomFilter<B> {
     /// Returns [`Error::Offset`] with the index of the first offset that is missing, past the end of
     /// `keys`, or below the one before. Nothing is written.
     pub fn contains_each<O: Offset>(
-        &self,
-        keys: &[u8],
-        offsets: &[O],
-        found: &mut [bool],
+        &self, keys: &[u8], offsets: &[O], found: &mut [bool],
     ) -> Result<(), Error> {
         let (bits, mut wrong_offset) = (self.bits.as_ref(), 0);
         // SAFETY: `found` is borrowed alone.
@@ -243,9 +240,7 @@ impl<B: AsRef<[u8]>> BloomFilter<B> {
     ///
     /// Returns [`Error::Count`] if `numbers` is shorter than `found`. Nothing is written.
     pub fn contains_each_number<N: Number>(
-        &self,
-        numbers: &[N],
-        found: &mut [bool],
+        &self, numbers: &[N], found: &mut [bool],
     ) -> Result<(), Error> {
         self.contains_values(N::Bits::CONTAINS_VALUES, numbers, found)
     }
@@ -271,10 +266,7 @@ impl<B: AsRef<[u8]>> BloomFilter<B> {
     }
 
     fn contains_values<W: Width>(
-        &self,
-        call: ContainsValues<W::Bits>,
-        values: &[W],
-        found: &mut [bool],
+        &self, call: ContainsValues<W::Bits>, values: &[W], found: &mut [bool],
     ) -> Result<(), Error> {
         let bits = self.bits.as_ref();
         // SAFETY: `found` is borrowed alone.
@@ -461,9 +453,7 @@ impl<B: AsRef<[u8]> + AsMut<[u8]>> BloomFilter<B> {
     }
 
     fn insert_values<W: Width>(
-        &mut self,
-        call: InsertValues<W::Bits>,
-        values: &[W],
+        &mut self, call: InsertValues<W::Bits>, values: &[W],
     ) -> Result<(), Error> {
         let bits = self.bits.as_mut();
         // SAFETY: the bits are borrowed alone, so the values do not overlap them.

@@ -113,11 +113,7 @@ pub(crate) mod sealed {
 use sealed::{Calls, Width};
 
 fn each<O: Calls, H>(
-    call: HashEach<O, H>,
-    input: &[u8],
-    offsets: &[impl Width<Bits = O>],
-    seed: u64,
-    out: &mut [H],
+    call: HashEach<O, H>, input: &[u8], offsets: &[impl Width<Bits = O>], seed: u64, out: &mut [H],
 ) -> Result<(), Error> {
     let mut wrong_offset = 0;
     // SAFETY: a slice is readable for its length, which is below 2^63, and does not change while it
@@ -156,10 +152,7 @@ fn each<O: Calls, H>(
 /// Returns [`Error::Offset`] with the index of the first offset that is missing, past the end of
 /// `input`, or below the one before. Nothing is written.
 pub fn xxh64_each<O: Offset>(
-    input: &[u8],
-    offsets: &[O],
-    seed: u64,
-    out: &mut [u64],
+    input: &[u8], offsets: &[O], seed: u64, out: &mut [u64],
 ) -> Result<(), Error> {
     each(O::Bits::XXH64, input, offsets, seed, out)
 }
@@ -201,10 +194,7 @@ pub fn xxh64_each_u64(values: &[u64], seed: u64, out: &mut [u64]) -> Result<(), 
 ///
 /// As [`xxh64_each`].
 pub fn murmur3_x64_128_each<O: Offset>(
-    input: &[u8],
-    offsets: &[O],
-    seed: u64,
-    out: &mut [[u64; 2]],
+    input: &[u8], offsets: &[O], seed: u64, out: &mut [[u64; 2]],
 ) -> Result<(), Error> {
     each(O::Bits::MURMUR, input, offsets, seed, out)
 }

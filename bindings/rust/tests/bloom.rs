@@ -206,13 +206,9 @@ fn a_file_that_ends_early_is_truncated() {
 }
 
 #[test]
-fn errors_are_read_by_people() {
+fn an_error_says_where() {
     let error: Box<dyn std::error::Error> = Box::new(Error::Offset { index: usize::MAX });
     assert!(error.to_string().contains("at 18446744073709551615 is missing"));
-    for error in [Error::Length, Error::Count, Error::TooManyKeys, Error::Header, Error::Truncated]
-    {
-        assert!(error.to_string().len() > 20);
-    }
 }
 
 #[test]

@@ -4,7 +4,6 @@ use sketch_hash::{
     murmur3_x64_128, murmur3_x64_128_bytes, xxh64, xxh64_u64, BuildMurmur3X64_128, BuildXxh64,
     Murmur3X64_128, Xxh64,
 };
-use std::collections::HashMap;
 use std::hash::{BuildHasher, Hasher};
 
 const FOX: &[u8] = b"The quick brown fox jumps over the lazy dog";
@@ -157,32 +156,31 @@ fn streams_are_equal_if_they_will_hash_alike() {
 
 #[test]
 fn a_hasher_feeds_the_bytes_of_a_number() {
-    let word = 0x8f1e_2d3c_4b5a_6978_8796_a5b4_c3d2_e1f0_u128;
-    type Feed = fn(&mut dyn Hasher, u128);
-    let feeds: [(usize, Feed); 12] = [
+    let n = 0x8f1e_2d3c_4b5a_6978_8796_a5b4_c3d2_e1f0_u128;
+    type Feed = fn(&mut Xxh64, u128);
+    let feeds: [(usize, Feed); 6] = [
         (1, |it, n| it.write_u8(n as u8)),
-        (2, |it, n| it.write_u16(n as u16)),
-        (4, |it, n| it.write_u32(n as u32)),
-        (8, |it, n| it.write_u64(n as u64)),
-        (16, |it, n| it.write_u128(n)),
-        (8, |it, n| it.write_usize(n as usize)),
-        (1, |it, n| it.write_i8(n as i8)),
         (2, |it, n| it.write_i16(n as i16)),
-        (4, |it, n| it.write_i32(n as i32)),
+        (4, |it, n| it.write_u32(n as u32)),
         (8, |it, n| it.write_i64(n as i64)),
-        (16, |it, n| it.write_i128(n as i128)),
-        (8, |it, n| it.write_isize(n as isize)),
+        (8, |it, n| it.write_usize(n as usize)),
+        (16, |it, n| it.write_u128(n)),
     ];
-    for (row, (width, feed)) in feeds.into_iter().enumerate() {
-        let (mut x, mut m) = (Xxh64::new(7), Murmur3X64_128::new(7));
+    for (width, feed) in feeds {
+        let mut hasher = Xxh64::new(7);
         for count in 1..=100 {
-            feed(&mut x, word);
-            feed(&mut m, word);
-            let bytes = word.to_le_bytes()[..width].repeat(count);
-            assert_eq!(x.finish(), xxh64(&bytes, 7), "row {row}");
-            assert_eq!(m.finish(), murmur3_x64_128(&bytes, 7)[0], "row {row}");
+            feed(&mut hasher, n);
+            let bytes = n.to_le_bytes()[..width].repeat(count);
+            assert_eq!(hasher.finish(), xxh64(&bytes, 7), "{width} bytes, {count} times");
         }
     }
+}
+
+#[test]
+fn murmur_finishes_with_its_first_word() {
+    let mut hasher = BuildMurmur3X64_128::new(7).build_hasher();
+    hasher.write(FOX);
+    assert_eq!(hasher.finish(), murmur3_x64_128(FOX, 7)[0]);
 }
 
 #[test]
@@ -190,20 +188,6 @@ fn a_number_is_its_eight_bytes() {
     for value in [0, 1, u64::MAX, 0x0123_4567_89ab_cdef] {
         assert_eq!(xxh64_u64(value, SEED), xxh64(&value.to_le_bytes(), SEED));
         assert_eq!(BuildXxh64::new(SEED).hash_one(value), xxh64_u64(value, SEED));
-    }
-}
-
-#[test]
-fn a_map_finds_its_keys() {
-    let mut of_xxh64: HashMap<String, usize, BuildXxh64> = HashMap::default();
-    let mut of_murmur = HashMap::with_hasher(BuildMurmur3X64_128::new(7));
-    for n in 0..1000 {
-        of_xxh64.insert(format!("key {n}"), n);
-        of_murmur.insert(format!("key {n}"), n);
-    }
-    for n in 0..1000 {
-        let key = format!("key {n}");
-        assert_eq!((of_xxh64[&key], of_murmur[&key]), (n, n));
     }
 }
 
