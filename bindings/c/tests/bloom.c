@@ -17,10 +17,10 @@ static const unsigned char header_of_1024[16] = {0x15, 0x80, 0x10, 0x1c, 0x1c, 0
 static void bytes_are_those_of_arrow(void) {
     unsigned char *block = malloc(33), *bits = block + 1; /* of an odd address */
     memset(bits, 0, 32);
-    for (int i = 0; i < 10; i++) {
-        const char key[2] = {'a', (char)('0' + i)};
-        same("an insert", sketch_bloom_insert(bits, 32, key, 2), SKETCH_OK);
-        same("a key that was inserted", sketch_bloom_contains(bits, 32, key, 2), 1);
+    for (char digit = '0'; digit <= '9'; digit++) {
+        const char key[2] = {'a', digit};
+        same("an insert", (uint64_t)sketch_bloom_insert(bits, 32, key, 2), SKETCH_OK);
+        same("a key that was inserted", (uint64_t)sketch_bloom_contains(bits, 32, key, 2), 1);
     }
     same("the bytes of Arrow", memcmp(bits, of_arrow, 32), 0);
     same("another key", sketch_bloom_contains(bits, 32, "fox", 3), 0);
@@ -57,16 +57,11 @@ static void lay_out(void) {
     for (int i = 0; i < KEYS; i++) hashes[i] = sketch_xxh64(keys + wide[i], wide[i + 1] - wide[i], 0);
 }
 
-/* The plain bytes of a value of column `kind` at i. */
-static const void *plain(int kind, int i, size_t *length) {
-    static unsigned char bytes[8];
-    *length = kind == 2 ? 4 : 8;
-    if (kind != 2 && kind != 3) {
-        *length = wide[i + 1] - wide[i];
-        return keys + wide[i];
-    }
+/* The hash of a value of column `kind` at i, whose plain bytes begin as those of values64[i] do. */
+static uint64_t hash_of(int kind, int i) {
+    unsigned char bytes[8];
     for (int b = 0; b < 8; b++) bytes[b] = (unsigned char)(values64[i] >> 8 * b);
-    return bytes;
+    return kind == 2 ? sketch_xxh64(bytes, 4, 0) : kind == 3 ? sketch_xxh64(bytes, 8, 0) : hashes[i];
 }
 
 static int insert_each(int kind, size_t length, size_t *wrong) {
@@ -90,26 +85,16 @@ static int contains_each(int kind, size_t length, size_t there, size_t *wrong) {
 }
 
 static void columns_are_as_single_calls(int kind) {
-    size_t length, wrong = 77;
+    size_t wrong = 77;
     memset(bits, 0, LENGTH);
     memset(single, 0, LENGTH);
-    for (int i = 0; i < KEYS; i++) {
-        const void *key = plain(kind, i, &length);
-        if (kind == 4)
-            sketch_bloom_insert_hash(single, LENGTH, hashes[i]);
-        else
-            sketch_bloom_insert(single, LENGTH, key, length);
-    }
+    for (int i = 0; i < KEYS; i++) sketch_bloom_insert_hash(single, LENGTH, hash_of(kind, i));
     same("a column of inserts", (uint64_t)insert_each(kind, LENGTH, &wrong), SKETCH_OK);
     same("its bytes", memcmp(bits, single, LENGTH), 0);
     memset(bits, 0, LENGTH / 2); /* now some are absent */
     same("a column of look-ups", (uint64_t)contains_each(kind, LENGTH, KEYS, &wrong), SKETCH_OK);
-    for (int i = 0; i < KEYS; i++) {
-        const void *key = plain(kind, i, &length);
-        same("found", found[i],
-             (uint64_t)(kind == 4 ? sketch_bloom_contains_hash(bits, LENGTH, hashes[i])
-                                  : sketch_bloom_contains(bits, LENGTH, key, length)));
-    }
+    for (int i = 0; i < KEYS; i++)
+        same("found", found[i], (uint64_t)sketch_bloom_contains_hash(bits, LENGTH, hash_of(kind, i)));
     same("no wrong offset", wrong, 77);
 }
 

@@ -60,13 +60,9 @@ static void all_calls(size_t offset_count, uint64_t seed, size_t index) {
 }
 
 static void each_key(void) {
-    for (unsigned least = 0; least <= 100; least++) {
-        lay_out(least, 0);
-        all_calls(KEYS + 1, least, KEYS + 1);
-    }
-    for (unsigned spread = 1; spread <= 100; spread++) {
-        lay_out(0, spread);
-        all_calls(KEYS + 1, ~(uint64_t)spread, KEYS + 1);
+    for (unsigned n = 0; n <= 200; n++) {
+        lay_out(n <= 100 ? n : 0, n <= 100 ? 0 : n - 100);
+        all_calls(KEYS + 1, ~(uint64_t)n, KEYS + 1);
     }
 }
 
