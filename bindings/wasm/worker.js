@@ -38,10 +38,10 @@ function hashText({ text, seed }) {
 
 // Both hashers of one input.
 function begun(seed) {
-    const both = [new loaded.Xxh64(seed), new loaded.Murmur3X64_128(seed)];
+    const both = [new loaded.Xxh64(seed), new loaded.Murmur128(seed)];
     return {
         update: (bytes) => both.forEach((hasher) => hasher.update(bytes)),
-        answer: () => ({ xxh64: both[0].hexdigest(), murmur3: both[1].hexdigest() }),
+        answer: () => ({ xxh64: both[0].hexDigest(), murmur3: both[1].hexDigest() }),
     };
 }
 

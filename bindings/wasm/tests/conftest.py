@@ -8,7 +8,7 @@ import threading
 import pytest
 
 DIST = pathlib.Path(__file__).resolve().parents[3] / "dist"
-os.environ["DIST"] = str(DIST)  # for Node's part of the tests
+os.environ["DIST"] = str(DIST)  # for the test of the worker under Node
 
 
 def pytest_collection_modifyitems(items):
@@ -20,6 +20,11 @@ def pytest_collection_modifyitems(items):
 class Quiet(http.server.SimpleHTTPRequestHandler):
     def log_message(self, *_):
         pass
+
+
+@pytest.fixture(scope="session")
+def dist():
+    return DIST
 
 
 @pytest.fixture(scope="session")

@@ -20,17 +20,14 @@ FOX = b"The quick brown fox jumps over the lazy dog"
 FOX_HASHES = ("0b242d361fda71bc", "e34bbc7bbc071b6c7a433ca9c49a9347")
 
 
-class Pair(ctypes.Structure):
-    _fields_ = [("h1", ctypes.c_uint64), ("h2", ctypes.c_uint64)]
-
-
-murmur = ctypes.CDLL(str(DIST / "linux-x86_64/libsketch_hash.so.1")).sketch_murmur3_x64_128
-murmur.restype, murmur.argtypes = Pair, (ctypes.c_char_p, ctypes.c_size_t, ctypes.c_uint64)
+murmur = ctypes.CDLL(str(DIST / "linux-x86_64/libsketch_hash.so.2")).sketch_murmur3_x64_128
+murmur.argtypes = (ctypes.c_char_p, ctypes.c_size_t, ctypes.c_uint64, ctypes.POINTER(ctypes.c_uint64))
 
 
 def hashes(data, seed=0):
-    pair = murmur(data, len(data), seed)
-    return xxhash.xxh64_hexdigest(data, seed), f"{pair.h1:016x}{pair.h2:016x}"
+    hash = (ctypes.c_uint64 * 2)()
+    murmur(data, len(data), seed, hash)
+    return xxhash.xxh64_hexdigest(data, seed), f"{hash[0]:016x}{hash[1]:016x}"
 
 
 @pytest.fixture(params=["file", "server"])

@@ -1,10 +1,9 @@
 // The page's worker under Node: what it says of texts and files, in which order, and of files that change.
 import assert from 'node:assert/strict';
 import { readFileSync } from 'node:fs';
+import { library } from './helpers.mjs';
 
 const dist = new URL(`file://${process.env.DIST}/wasm/`);
-const { load } = await import(new URL('sketch_hash.mjs', dist));
-const library = await load();
 const page = readFileSync(new URL('index.html', dist), 'utf8');
 const [, worker] = page.match(/<script type="text\/plain" id="worker">\n(.*?)<\/script>/s);
 
@@ -23,8 +22,8 @@ const soon = () => new Promise(setImmediate);
 
 // Both hashes of bytes, as they are told of an id.
 function told(id, bytes) {
-    const [xxh64, murmur3] = [new library.Xxh64(7n), new library.Murmur3X64_128(7n)];
-    return { id, xxh64: xxh64.update(bytes).hexdigest(), murmur3: murmur3.update(bytes).hexdigest() };
+    const [xxh64, murmur3] = [new library.Xxh64(7n), new library.Murmur128(7n)];
+    return { id, xxh64: xxh64.update(bytes).hexDigest(), murmur3: murmur3.update(bytes).hexDigest() };
 }
 
 // A file of zeros whose reads end when the test says so.
@@ -107,13 +106,13 @@ function hash(size, count) {
 }
 
 for (const size of [10, piece, 3 * piece + 1]) {
-    assert.equal((await hash(size, size)).xxh64, library.xxh64(new Uint8Array(size), 7n).toString(16).padStart(16, '0'));
+    assert.equal((await hash(size, size)).xxh64, library.xxh64Hex(new Uint8Array(size), 7n));
     assert.equal((await hash(size, size - 1)).fault, 'it has changed');
 }
 assert.equal((await hash(10, 11)).fault, 'it has changed');
 // As many files that fail as are read at the same time keep no place, and the next one is read.
 for (let n = 0; n < 4; n += 1) assert.equal((await hash(10, 9)).fault, 'it has changed');
-assert.equal((await hash(0, 0)).xxh64, library.xxh64(new Uint8Array(0), 7n).toString(16).padStart(16, '0'));
+assert.equal((await hash(0, 0)).xxh64, library.xxh64Hex(new Uint8Array(0), 7n));
 
 // A file past 2^32 bytes is read from each of its places. These pieces are empty.
 const places = [];
