@@ -1,14 +1,12 @@
 """A headless Chromium, and a server of dist/wasm. Both are for one worker of pytest alone."""
 import functools
 import http.server
-import os
 import pathlib
 import threading
 
 import pytest
 
 DIST = pathlib.Path(__file__).resolve().parents[3] / "dist"
-os.environ["DIST"] = str(DIST)  # for the test of the worker under Node
 
 
 def pytest_collection_modifyitems(items):

@@ -18,11 +18,6 @@ def test_module_under_node(name, need):
     assert done.returncode == 0, done.stdout
 
 
-def test_worker_of_the_page_under_node(need):
-    need("node 20")
-    subprocess.run(["node", HERE / "worker.mjs"], check=True)
-
-
 @pytest.mark.parametrize("old, new, error", [
     ("", "", ""),
     ("xxh64(bytes: Input", "xxh64(bytes: Key", "TS2578"),
