@@ -363,10 +363,9 @@ impl<B: AsRef<[u8]> + AsMut<[u8]>> BloomFilter<B> {
     /// ```
     pub fn insert(&mut self, key: &[u8]) {
         let bits = self.bits.as_mut();
+        // Only a wrong length is an error, which from_bytes has ruled out.
         // SAFETY: the bits are borrowed alone, so the key does not overlap them.
-        let status =
-            unsafe { sketch_bloom_insert(bits.as_mut_ptr(), bits.len(), key.as_ptr(), key.len()) };
-        debug_assert_eq!(status, OK);
+        unsafe { sketch_bloom_insert(bits.as_mut_ptr(), bits.len(), key.as_ptr(), key.len()) };
     }
 
     /// Inserts the key with this [`xxh64`](crate::xxh64), of the seed 0.
@@ -381,8 +380,7 @@ impl<B: AsRef<[u8]> + AsMut<[u8]>> BloomFilter<B> {
     pub fn insert_hash(&mut self, hash: u64) {
         let bits = self.bits.as_mut();
         // SAFETY: the bits are borrowed alone.
-        let status = unsafe { sketch_bloom_insert_hash(bits.as_mut_ptr(), bits.len(), hash) };
-        debug_assert_eq!(status, OK);
+        unsafe { sketch_bloom_insert_hash(bits.as_mut_ptr(), bits.len(), hash) };
     }
 
     /// Inserts each key of a column, laid out as for [`xxh64_each`](crate::xxh64_each).
