@@ -43,6 +43,14 @@ test('a column that the memory has to grow for', () => {
     assert.equal(stream.update(long.subarray(99)).digest(), xxh64(long, 5));
 });
 
+test('the memory of a column is used again', (t) => {
+    const numbers = new BigUint64Array(1e6);
+    xxh64EachU64(numbers);
+    const grow = t.mock.method(WebAssembly.Memory.prototype, 'grow');
+    for (let n = 0; n < 3; n += 1) xxh64EachU64(numbers);
+    assert.equal(grow.mock.callCount(), 0);
+});
+
 for (const type of [BigUint64Array, BigInt64Array]) {
     test(`each number of ${type.name} is hashed`, () => {
         const numbers = type.from([0n, 1n, last]);
