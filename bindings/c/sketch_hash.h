@@ -249,10 +249,10 @@ int sketch_bloom_merge(void *into, size_t length, const void *from, size_t from_
 /** How many bytes sketch_bloom_header_write writes at most. */
 #define SKETCH_BLOOM_HEADER_MAX 19
 
-/** Writes what stands before a filter of so many bytes in a Parquet file, and returns how many
- * bytes that takes: 15 to 19. Returns 0, and writes nothing, if `length` is too small, or `bytes`
- * is 2^31 or more or no filter's length. The file's bloom_filter_length is that of the header and
- * the filter. */
+/** Writes the header that is before a filter of so many bytes in a Parquet file, and returns its
+ * length: 15 to 19. Returns 0, and writes nothing, if `length` is too small, or `bytes` is 2^31 or
+ * more or no filter's length. The file's bloom_filter_length is that of the header and the filter.
+ */
 size_t sketch_bloom_header_write(uint64_t bytes, unsigned char *header, size_t length);
 
 /** Reads the header of a split block filter with XXH64, uncompressed. Writes the filter's length to

@@ -165,7 +165,7 @@ def test_cmake_builds_with_both_libraries(by_a_link, prefix, need, tmp_path):
     project = tmp_path / "project"
     shutil.copytree(HERE / "cmake", project)
     (project / "sum.c").write_text(examples()[0])
-    if by_a_link:  # as /lib leads to /usr/lib: no include lies beside it
+    if by_a_link:  # as /lib leads to /usr/lib: there is no include beside it
         (tmp_path / "linked").mkdir()
         (tmp_path / "linked/lib").symlink_to(prefix / "lib")
     done = cmake(project, tmp_path / "linked" if by_a_link else prefix)
@@ -188,7 +188,7 @@ def test_cmake_finds_it_from_two_folders_of_a_project(prefix, need, tmp_path):
 
 
 @pytest.mark.parametrize("processor, says", [("", ""), ("x86_64", ""), ("aarch64", "(Linux, x86-64)")])
-def test_cmake_is_told_what_the_library_runs_on(processor, says, prefix, need, tmp_path):
+def test_cmake_knows_what_the_library_runs_on(processor, says, prefix, need, tmp_path):
     """Also in a project that has no language yet."""
     need("cmake")
     (tmp_path / "CMakeLists.txt").write_text("cmake_minimum_required(VERSION 3.7)\nproject(none NONE)\nfind_package(sketch_hash REQUIRED)\n")
