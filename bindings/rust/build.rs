@@ -1,4 +1,4 @@
-//! Links the proved archive: that of `dist/`, or that of the folder whose absolute path SKETCH_HASH_LIB_DIR is.
+//! Links the proved archive: that of `lib/`, or that of the folder that `SKETCH_HASH_LIB_DIR` names.
 
 use std::env;
 use std::path::{self, PathBuf};
@@ -18,17 +18,17 @@ fn main() {
     println!("cargo:rustc-link-lib=static=sketch_hash");
 }
 
-/// The folder of `dist/` for the target.
+/// The folder of the archive for the target.
 fn of_target() -> PathBuf {
-    let [os, processor, endian, bits] = ["os", "arch", "endian", "pointer_width"].map(|word| {
-        env::var(format!("CARGO_CFG_TARGET_{}", word.to_uppercase())).unwrap_or_default()
-    });
-    let target = format!("{os}-{processor}");
+    let [os, processor, endian, bits] = ["OS", "ARCH", "ENDIAN", "POINTER_WIDTH"]
+        .map(|name| env::var(format!("CARGO_CFG_TARGET_{name}")).unwrap_or_default());
+    let folder = PathBuf::from(env::var_os("CARGO_MANIFEST_DIR").unwrap())
+        .join("lib")
+        .join(format!("{os}-{processor}"));
     assert!(
-        ["linux-x86_64", "linux-aarch64"].contains(&target.as_str()) && endian == "little" && bits == "64",
-        "sketch-hash has no library for {} ({endian} endian, {bits} bits), but for Linux on x86-64 and aarch64; \
-         elsewhere use its WebAssembly module, dist/wasm/sketch_hash.wasm",
-        env::var("TARGET").unwrap_or(target),
+        folder.is_dir() && endian == "little" && bits == "64",
+        "sketch-hash has no library for {} ({endian} endian, {bits} bits)",
+        env::var("TARGET").unwrap_or_default(),
     );
-    PathBuf::from(env::var_os("CARGO_MANIFEST_DIR").unwrap()).join("../../dist").join(target)
+    folder
 }

@@ -1,10 +1,9 @@
-// The page: a row for each file, whose hashes come from the worker.
+// The page: a card for the text and for each file, whose hashes come from the worker.
 'use strict';
 
 const at = (name) => document.getElementById(name);
-const rows = new Map(); // id -> { file, row }
+const jobs = new Map(); // id -> { file or text, card, id }
 let ids = 0;
-let textId = 0;
 
 const source = `${at('library').textContent}\n${at('worker').textContent}`;
 const blob = new Blob([source], { type: 'text/javascript' });
@@ -13,112 +12,137 @@ const wasm = Uint8Array.from(atob(at('wasm').textContent.trim()), (letter) => le
 worker.onerror = (event) => unable(`The worker did not start: ${event.message || 'an error in it'}.`);
 worker.onmessage = ({ data }) => {
     if (data.unable) unable(data.unable);
-    else if (data.ready) hashText();
-    else if (data.id === textId) showText(data);
-    else if (rows.has(data.id)) show(rows.get(data.id), data);
+    else if (data.ready) ready(data.version);
+    else if (jobs.has(data.id)) show(jobs.get(data.id), data);
 };
 worker.postMessage({ wasm });
 
 function unable(why) {
     at('unable').textContent = why;
     at('unable').hidden = false;
-    for (const job of rows.values()) end(job, 'cannot be hashed here');
+    for (const job of jobs.values()) end(job, 'cannot be hashed here');
+}
+
+function ready(version) {
+    at('version').textContent = version;
+    start(text);
 }
 
 // The seed as a BigInt, or null.
 function seed() {
-    const text = at('seed').value.trim();
-    if (!/^(\d+|0x[0-9a-f]+)$/i.test(text)) return null;
-    const number = BigInt(text);
+    const digits = at('seed').value.trim();
+    if (!/^(\d+|0x[0-9a-f]+)$/i.test(digits)) return null;
+    const number = BigInt(digits);
     return number < 1n << 64n ? number : null;
 }
 
+function newCard(name) {
+    const card = at('card').content.firstElementChild.cloneNode(true);
+    card.dataset.name = name;
+    card.querySelector('h3').textContent = name;
+    for (const code of card.querySelectorAll('code')) {
+        const copy = code.parentNode.nextElementSibling.firstElementChild;
+        const label = code.parentNode.previousElementSibling.textContent;
+        copy.setAttribute('aria-label', `Copy ${label} of ${name}`);
+        copy.onclick = () => copyHash(code, copy);
+    }
+    at('cards').append(card);
+    return card;
+}
+
 function add(file) {
-    const row = at('row').content.firstElementChild.cloneNode(true);
-    row.dataset.name = file.name;
-    row.querySelector('.name').textContent = file.name;
-    row.querySelector('.size').textContent = size(file.size);
-    row.querySelector('progress').setAttribute('aria-label', `How far ${file.name} is read`);
-    const job = { file, row, id: 0 };
-    const stop = row.querySelector('.stop');
+    const card = newCard(file.name);
+    const job = { file, card, id: 0 };
+    card.querySelector('.size').textContent = size(file.size);
+    card.querySelector('progress').setAttribute('aria-label', `How far ${file.name} is read`);
+    const [stop, remove] = ['.stop', '.remove'].map((it) => card.querySelector(it));
     stop.setAttribute('aria-label', `Stop ${file.name}`);
     stop.onclick = () => worker.postMessage({ stop: job.id });
-    const copy = row.querySelector('.copy');
-    copy.setAttribute('aria-label', `Copy the XXH64 of ${file.name}`);
-    copy.onclick = () => copyLine(job);
-    at('rows').tBodies[0].append(row);
-    at('rows').hidden = false;
+    remove.setAttribute('aria-label', `Remove ${file.name}`);
+    remove.onclick = () => {
+        worker.postMessage({ stop: job.id });
+        jobs.delete(job.id);
+        card.remove();
+        compare();
+    };
     start(job);
 }
 
-// Hashes a file under the seed, from its beginning.
+// Hashes a file or the text with the seed, from its beginning.
 function start(job) {
     worker.postMessage({ stop: job.id });
-    rows.delete(job.id);
+    jobs.delete(job.id);
     job.id = ++ids;
-    rows.set(job.id, job);
-    fill(job, '', '');
-    job.row.querySelector('.copy').disabled = true;
+    jobs.set(job.id, job);
+    fill(job, {});
     if (!at('unable').hidden) return end(job, 'cannot be hashed here');
     if (seed() === null) return end(job, 'no hash without a seed');
-    job.row.querySelector('.stop').disabled = false;
-    progress(job, 0);
-    status(job, 'waiting');
-    worker.postMessage({ id: job.id, file: job.file, seed: seed() });
+    if (job.file) {
+        job.card.querySelector('.stop').hidden = false;
+        progress(job, 0, 'waiting');
+        worker.postMessage({ id: job.id, file: job.file, seed: seed() });
+    } else {
+        end(job, '');
+        worker.postMessage({ id: job.id, text: at('text').value, seed: seed() });
+    }
 }
 
-function show(job, { done, xxh64, murmur3, fault, stopped }) {
-    if (xxh64) {
-        fill(job, xxh64, murmur3);
-        progress(job, job.file.size || 1);
-        job.row.querySelector('.copy').disabled = false;
-        end(job, 'done');
-    } else if (fault) {
-        end(job, `cannot be read: ${fault}`);
-    } else if (stopped) {
-        rows.delete(job.id); // another seed leaves it as it is
+function show(job, data) {
+    if (data.xxh64) {
+        fill(job, data);
+        end(job, '');
+    } else if (data.fault) {
+        end(job, `cannot be read: ${data.fault}`);
+    } else if (data.stopped) {
+        jobs.delete(job.id); // another seed leaves it as it is
         end(job, 'stopped');
     } else {
-        progress(job, done);
-        status(job, `${Math.floor(100 * done / (job.file.size || 1))} %`);
+        progress(job, data.done, `${Math.floor(100 * data.done / (job.file.size || 1))} %`);
     }
 }
 
 function end(job, what) {
-    status(job, what);
-    const [stop, copy, name] = ['.stop', '.copy', '.name'].map((it) => job.row.querySelector(it));
-    if (document.activeElement === stop) (copy.disabled ? name : copy).focus();
-    stop.disabled = true;
+    const [stop, name, bar] = ['.stop', 'h3', 'progress'].map((it) => job.card.querySelector(it));
+    if (document.activeElement === stop) name.focus();
+    stop.hidden = bar.hidden = true;
+    job.card.querySelector('.status').textContent = what;
 }
 
-function status(job, what) {
-    job.row.querySelector('.status span').textContent = what;
+function progress(job, done, what) {
+    const bar = job.card.querySelector('progress');
+    [bar.max, bar.value, bar.hidden] = [job.file.size || 1, done, false];
+    job.card.querySelector('.status').textContent = what;
 }
 
-function progress(job, done) {
-    const bar = job.row.querySelector('progress');
-    bar.max = job.file.size || 1;
-    bar.value = done;
-}
-
-function fill(job, xxh64, murmur3) {
-    job.row.querySelector('.xxh64').textContent = xxh64;
-    job.row.querySelector('.murmur3').textContent = murmur3;
-}
-
-// Copies a line that `xxhsum -c` reads. A name with a line break is escaped, as sha256sum has it.
-async function copyLine(job) {
-    const place = job.row.querySelector('.xxh64');
-    const isBroken = /[\n\r]/.test(job.file.name);
-    const escaped = job.file.name.replace(/\\/g, '\\\\').replace(/\n/g, '\\n').replace(/\r/g, '\\r');
-    const line = `${place.textContent}  ${isBroken ? escaped : job.file.name}\n`;
-    try {
-        await navigator.clipboard.writeText(isBroken ? `\\${line}` : line);
-        status(job, 'copied');
-    } catch {
-        getSelection().selectAllChildren(place);
-        status(job, document.execCommand('copy') ? 'copied' : 'selected, to be copied');
+function fill(job, hashes) {
+    for (const code of job.card.querySelectorAll('code')) {
+        code.textContent = hashes[code.className.split(' ')[0]] ?? '';
+        code.parentNode.nextElementSibling.firstElementChild.hidden = !code.textContent;
     }
+    compare();
+}
+
+// Marks each hash that is the expected one.
+function compare() {
+    const expected = at('expected').value.trim().toLowerCase();
+    const codes = [...document.querySelectorAll('#cards code')];
+    const equal = codes.filter((code) => code.textContent && code.textContent === expected);
+    codes.forEach((code) => code.classList.toggle('good', equal.includes(code)));
+    at('verdict').className = equal.length > 0 ? 'good' : '';
+    if (!expected) at('verdict').textContent = '';
+    else if (equal.length === 0) at('verdict').textContent = 'No hash on this page is equal.';
+    else at('verdict').textContent = `Equal: ${equal.map((it) => it.closest('article').dataset.name).join(', ')}`;
+}
+
+async function copyHash(code, button) {
+    try {
+        await navigator.clipboard.writeText(code.textContent);
+        button.textContent = 'Copied';
+    } catch {
+        getSelection().selectAllChildren(code);
+        button.textContent = document.execCommand('copy') ? 'Copied' : 'Selected';
+    }
+    setTimeout(() => { button.textContent = 'Copy'; }, 2000);
 }
 
 function size(bytes) {
@@ -129,28 +153,20 @@ function size(bytes) {
     return `${number.toFixed(1)} ${['', 'KiB', 'MiB', 'GiB', 'TiB'][unit]}`;
 }
 
-function hashText() {
-    textId = ++ids;
-    if (seed() === null) return showText({ xxh64: '', murmur3: '' });
-    worker.postMessage({ id: textId, text: at('text').value, seed: seed() });
-}
-
-function showText({ xxh64, murmur3 }) {
-    at('text-xxh64').textContent = xxh64;
-    at('text-murmur3').textContent = murmur3;
-}
+const text = { card: newCard('Text'), id: 0 };
+text.card.querySelector('.remove').remove();
 
 at('files').onchange = () => {
     [...at('files').files].forEach(add);
     at('files').value = '';
 };
-at('text').oninput = hashText;
+at('text').oninput = () => start(text);
+at('expected').oninput = compare;
 at('seed').oninput = () => {
     const isBad = seed() === null;
     at('seed').setAttribute('aria-invalid', isBad);
     at('seed-fault').textContent = isBad ? 'A seed is a whole number from 0 to 18446744073709551615, or hexadecimal digits after 0x.' : '';
-    hashText();
-    [...rows.values()].forEach(start);
+    [...jobs.values()].forEach(start);
 };
 // Text goes into a field on which it is dropped. Anything else, as a link, the browser would open in place of the page.
 const isText = ({ dataTransfer, target }) => !dataTransfer.types.includes('Files') && target.matches?.('input, textarea');
@@ -168,4 +184,3 @@ addEventListener('drop', (event) => {
     at('drop').classList.remove('over');
     [...event.dataTransfer.files].forEach(add);
 });
-document.querySelector('a[href="#contract"]').onclick = () => { at('contract').open = true; };

@@ -1,7 +1,7 @@
 // The page's worker: hashes files and texts, and tells how far it is. `load` is that of sketch_hash.mjs.
 //
-// It takes {wasm}, once; {id, file, seed} or {id, text, seed}; and {stop: id}. It answers {ready} or
-// {unable}, and of an id {done} bytes, {xxh64, murmur3}, {fault} or {stopped}.
+// It takes {wasm}, once; {id, file, seed} or {id, text, seed}; and {stop: id}. It answers {ready, version} or
+// {unable}, and of an id {done} bytes, {xxh64, murmur3, memory}, {fault} or {stopped}.
 
 const READ = 4 << 20; // bytes read at a time
 const AHEAD = 4; // reads of one file at the same time
@@ -23,7 +23,7 @@ onmessage = async ({ data }) => {
 async function begin(wasm) {
     try {
         loaded = await load(wasm);
-        postMessage({ ready: true });
+        postMessage({ ready: true, version: loaded.version });
         next();
     } catch (error) {
         postMessage({ unable: error.message });
@@ -36,12 +36,14 @@ function hashText({ text, seed }) {
     return hashers.answer();
 }
 
+const hex = (bytes) => Array.from(bytes, (byte) => byte.toString(16).padStart(2, '0')).join('');
+
 // Both hashers of one input.
 function begun(seed) {
-    const both = [new loaded.Xxh64(seed), new loaded.Murmur3X64_128(seed)];
+    const both = [new loaded.Xxh64(seed), new loaded.Murmur128(seed)];
     return {
         update: (bytes) => both.forEach((hasher) => hasher.update(bytes)),
-        answer: () => ({ xxh64: both[0].hexdigest(), murmur3: both[1].hexdigest() }),
+        answer: () => ({ xxh64: both[0].hexDigest(), murmur3: both[1].hexDigest(), memory: hex(both[1].digestBytes()) }),
     };
 }
 

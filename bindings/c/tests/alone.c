@@ -11,7 +11,7 @@ int main(void) {
     const char *text = "The quick brown fox jumps over the lazy dog";
     sketch_xxh64_state_t x = constant_x;
     sketch_murmur3_x64_128_state_t m = constant_m;
-    sketch_murmur3_x64_128_hash_t whole = sketch_murmur3_x64_128(text, 43, 7), pieces;
+    uint64_t whole[2], pieces[2];
 #ifdef __cplusplus
     int seed = 7;
     sketch_xxh64_state_t other_x = SKETCH_XXH64_INIT(seed);
@@ -22,6 +22,7 @@ int main(void) {
     sketch_xxh64_update(&x, text + 40, 3);
     sketch_murmur3_x64_128_update(&m, text, 40);
     sketch_murmur3_x64_128_update(&m, text + 40, 3);
-    pieces = sketch_murmur3_x64_128_digest(&m);
-    return sketch_xxh64_digest(&x) != sketch_xxh64(text, 43, 7) || pieces.h1 != whole.h1 || pieces.h2 != whole.h2;
+    sketch_murmur3_x64_128_digest(&m, pieces);
+    sketch_murmur3_x64_128(text, 43, 7, whole);
+    return sketch_xxh64_digest(&x) != sketch_xxh64(text, 43, 7) || pieces[0] != whole[0] || pieces[1] != whole[1];
 }

@@ -1,5 +1,5 @@
-/* Columns of keys: each place beside the call on its key, and offsets that lie. Each array stands in
- * a block of its own, so that valgrind sees what is read or written outside. */
+/* Columns of keys: each result beside the call on its key, and wrong offsets. Each array is a block
+ * of its own, so that valgrind sees what is read or written outside of it. */
 #include "sketch_hash.h"
 #include "helpers.h"
 #include <stdlib.h>
@@ -10,8 +10,7 @@ enum { KEYS = 50 };
 static unsigned char *input;
 static uint64_t length;
 static uint32_t *narrow;
-static uint64_t *wide, *hashes;
-static sketch_murmur3_x64_128_hash_t *pairs;
+static uint64_t *wide, *hashes, (*pairs)[2];
 
 /* The keys of a column have `least` bytes and up to `spread` more. */
 static void lay_out(unsigned least, unsigned spread) {
@@ -29,55 +28,55 @@ static void blank(void) {
     memset(pairs, 9, KEYS * sizeof *pairs);
 }
 
-/* All calls on the column answer the same. They write each place, or none. */
-static void all_answer(size_t offset_count, uint64_t seed, uint64_t expected) {
+/* The call that hashes the column: by 0 XXH64, 1 Murmur, with 0 narrow, 2 wide offsets. */
+static int each(int call, size_t offset_count, uint64_t seed, size_t *wrong) {
+    switch (call) {
+    case 0: return sketch_xxh64_each32(input, length, narrow, offset_count, seed, hashes, KEYS, wrong);
+    case 1: return sketch_murmur3_x64_128_each32(input, length, narrow, offset_count, seed, pairs, KEYS, wrong);
+    case 2: return sketch_xxh64_each64(input, length, wide, offset_count, seed, hashes, KEYS, wrong);
+    default: return sketch_murmur3_x64_128_each64(input, length, wide, offset_count, seed, pairs, KEYS, wrong);
+    }
+}
+
+/* The first wrong offset has this index, KEYS + 1 if none is wrong. */
+static void all_calls(size_t offset_count, uint64_t seed, size_t index) {
+    int fails = index <= KEYS;
     for (int i = 0; i <= KEYS; i++) narrow[i] = (uint32_t)wide[i];
-    for (int is_wide = 0; is_wide < 2; is_wide++) {
+    for (int call = 0; call < 4; call++) {
+        size_t wrong = KEYS + 1;
         blank();
-        same("XXH64, the answer",
-             is_wide ? sketch_xxh64_each64(input, length, wide, offset_count, seed, hashes, KEYS)
-                     : sketch_xxh64_each32(input, length, narrow, offset_count, seed, hashes, KEYS),
-             expected);
-        same("Murmur, the answer",
-             is_wide ? sketch_murmur3_x64_128_each64(input, length, wide, offset_count, seed, pairs, KEYS)
-                     : sketch_murmur3_x64_128_each32(input, length, narrow, offset_count, seed, pairs, KEYS),
-             expected);
+        same("the status", (uint64_t)each(call, offset_count, seed, &wrong), (uint64_t)(fails ? SKETCH_ERROR_OFFSET : SKETCH_OK));
+        same("the wrong offset", wrong, index);
         for (int i = 0; i < KEYS; i++) {
-            sketch_murmur3_x64_128_hash_t pair = {BLANK, BLANK};
-            uint64_t hash = BLANK;
-            if (!expected) {
+            uint64_t hash = BLANK, pair[2] = {BLANK, BLANK};
+            if (!fails) {
                 hash = sketch_xxh64(input + wide[i], wide[i + 1] - wide[i], seed);
-                pair = sketch_murmur3_x64_128(input + wide[i], wide[i + 1] - wide[i], seed);
+                sketch_murmur3_x64_128(input + wide[i], wide[i + 1] - wide[i], seed, pair);
             }
-            same("XXH64 of a key", hashes[i], hash);
-            same("Murmur of a key, h1", pairs[i].h1, pair.h1);
-            same("Murmur of a key, h2", pairs[i].h2, pair.h2);
+            if (call % 2 == 0) same("XXH64 of a key", hashes[i], hash);
+            if (call % 2 == 1) same("Murmur of a key", memcmp(pairs[i], pair, sizeof pair), 0);
         }
     }
 }
 
 static void each_key(void) {
-    for (unsigned least = 0; least <= 100; least++) {
-        lay_out(least, 0);
-        all_answer(KEYS + 1, least, 0);
-    }
-    for (unsigned spread = 1; spread <= 100; spread++) {
-        lay_out(0, spread);
-        all_answer(KEYS + 1, ~(uint64_t)spread, 0);
+    for (unsigned n = 0; n <= 200; n++) {
+        lay_out(n <= 100 ? n : 0, n <= 100 ? 0 : n - 100);
+        all_calls(KEYS + 1, ~(uint64_t)n, KEYS + 1);
     }
 }
 
 static void wrong_offset(size_t i, uint64_t offset) {
     const uint64_t fits = wide[i];
     wide[i] = offset;
-    all_answer(KEYS + 1, 7, i + 1);
+    all_calls(KEYS + 1, 7, i);
     wide[i] = fits;
 }
 
 static void wrong_offsets(void) {
     lay_out(1, 40);
     for (size_t i = 0; i <= KEYS; i++) {
-        all_answer(i, 7, i + 1);
+        all_calls(i, 7, i);
         wrong_offset(i, length + 1);
         wrong_offset(i, ~(uint64_t)0);
         if (i > 0) wrong_offset(i, wide[i - 1] - 1);
@@ -85,30 +84,31 @@ static void wrong_offsets(void) {
 }
 
 /* The numbers are the offsets. */
-static void numbers_answer(size_t value_count, size_t count, uint64_t expected) {
-    blank();
-    same("numbers, the answer", sketch_xxh64_each_u64(wide, value_count, 7, hashes, count), expected);
-    for (size_t i = 0; i < KEYS; i++)
-        same("XXH64 of a number", hashes[i], i < count && !expected ? sketch_xxh64_u64(wide[i], 7) : BLANK);
-}
-
 static void numbers(void) {
     for (size_t count = 0; count <= KEYS; count++) {
-        numbers_answer(KEYS + 1, count, 0);
-        numbers_answer(count, KEYS, count < KEYS ? count + 1 : 0);
+        blank();
+        same("numbers", (uint64_t)sketch_xxh64_each_u64(wide, KEYS + 1, 7, hashes, count), SKETCH_OK);
+        for (size_t i = 0; i < KEYS; i++)
+            same("XXH64 of a number", hashes[i], i < count ? sketch_xxh64_u64(wide[i], 7) : BLANK);
     }
+    blank();
+    same("too few numbers", (uint64_t)sketch_xxh64_each_u64(wide, KEYS - 1, 7, hashes, KEYS), (uint64_t)SKETCH_ERROR_COUNT);
+    same("nothing is written", hashes[0], BLANK);
 }
 
 static void no_keys(void) {
     const uint64_t offset = 0;
-    uint64_t place = 7;
+    uint64_t out = 7;
+    size_t wrong = 77;
+    same("no keys", (uint64_t)sketch_xxh64_each64(NULL, 0, &offset, 1, 7, NULL, 0, &wrong), SKETCH_OK);
+    same("no keys and no offset", (uint64_t)sketch_xxh64_each64(NULL, 0, NULL, 0, 7, NULL, 0, &wrong), SKETCH_OK);
+    same("the same, Murmur", (uint64_t)sketch_murmur3_x64_128_each32(NULL, 0, NULL, 0, 7, NULL, 0, &wrong), SKETCH_OK);
+    same("no numbers", (uint64_t)sketch_xxh64_each_u64(NULL, 0, 7, NULL, 0), SKETCH_OK);
+    same("nothing is written", wrong, 77);
     /* `count` is what `offset_count - 1` wraps to. */
-    same("no offsets, wrapped", sketch_xxh64_each64(NULL, 0, NULL, 0, 7, &place, SIZE_MAX), 1);
-    same("no offsets, wrapped, nothing written", place, 7);
-    same("no keys", sketch_xxh64_each64(NULL, 0, &offset, 1, 7, NULL, 0), 0);
-    same("no keys and no offset", sketch_xxh64_each64(NULL, 0, NULL, 0, 7, NULL, 0), 0);
-    same("no keys and no offset, Murmur", sketch_murmur3_x64_128_each32(NULL, 0, NULL, 0, 7, NULL, 0), 0);
-    same("no numbers", sketch_xxh64_each_u64(NULL, 0, 7, NULL, 0), 0);
+    same("no offsets, wrapped", (uint64_t)sketch_xxh64_each64(NULL, 0, NULL, 0, 7, &out, SIZE_MAX, &wrong), (uint64_t)SKETCH_ERROR_OFFSET);
+    same("the first is missing", wrong, 0);
+    same("nothing is written", out, 7);
 }
 
 int main(void) {

@@ -7,22 +7,20 @@
 #include <xxhash.h>
 #include "helpers.h"
 
-static void same_pair(const char *what, sketch_murmur3_x64_128_hash_t answer, uint64_t h1,
-                      uint64_t h2) {
-    same(what, answer.h1, h1);
-    same(what, answer.h2, h2);
+static void same_pair(const char *what, const uint64_t answer[2], uint64_t h1, uint64_t h2) {
+    same(what, answer[0], h1);
+    same(what, answer[1], h2);
 }
 
 /* The peer takes seeds of 32 bits. */
 static void in_one_call(const unsigned char *bytes, size_t length, uint64_t seed) {
-    uint64_t peer[2];
-    sketch_murmur3_x64_128_hash_t pair;
+    uint64_t peer[2], pair[2];
     unsigned char out[16];
     same("xxh64 in one call", sketch_xxh64(bytes, length, seed), XXH64(bytes, length, seed));
     lmmh_x64_128(bytes, (unsigned)length, (uint32_t)seed, peer);
-    pair = sketch_murmur3_x64_128(bytes, length, (uint32_t)seed);
+    sketch_murmur3_x64_128(bytes, length, (uint32_t)seed, pair);
     same_pair("murmur in one call", pair, peer[0], peer[1]);
-    sketch_murmur3_x64_128_bytes(&pair, out);
+    sketch_murmur3_x64_128_bytes(pair, out);
     same("murmur as its bytes lie in memory", memcmp(out, peer, 16) == 0, 1);
     if (length == 8) {
         uint64_t value;
@@ -44,18 +42,20 @@ static void in_pieces(const unsigned char *bytes, size_t length, uint64_t seed, 
         sketch_murmur3_x64_128_update(&m, bytes + at, n);
         sketch_murmur3_x64_128_update(&m, NULL, 0);
         same("xxh64 on the way", sketch_xxh64_digest(&x), XXH64(bytes, at + n, seed));
-        sketch_murmur3_x64_128_hash_t whole = sketch_murmur3_x64_128(bytes, at + n, seed);
-        same_pair("murmur on the way", sketch_murmur3_x64_128_digest(&m), whole.h1, whole.h2);
+        uint64_t whole[2], pair[2];
+        sketch_murmur3_x64_128(bytes, at + n, seed, whole);
+        sketch_murmur3_x64_128_digest(&m, pair);
+        same_pair("murmur on the way", pair, whole[0], whole[1]);
     }
 }
 
 static void known_answers(void) {
     static const char fox[] = "The quick brown fox jumps over the lazy dog";
-    same_pair("murmur of the fox", sketch_murmur3_x64_128(fox, strlen(fox), 0),
-              0xe34bbc7bbc071b6cULL, 0x7a433ca9c49a9347ULL);
-    same_pair("murmur under a long seed",
-              sketch_murmur3_x64_128("\xa1\xd8\x2b", 3, 0xcdde8d516301bbfcULL),
-              0x72d4dcbfd199ad6fULL, 0x5170f4d9e50bb254ULL);
+    uint64_t pair[2];
+    sketch_murmur3_x64_128(fox, strlen(fox), 0, pair);
+    same_pair("murmur of the fox", pair, 0xe34bbc7bbc071b6cULL, 0x7a433ca9c49a9347ULL);
+    sketch_murmur3_x64_128("\xa1\xd8\x2b", 3, 0xcdde8d516301bbfcULL, pair);
+    same_pair("murmur with a seed of 64 bits", pair, 0x72d4dcbfd199ad6fULL, 0x5170f4d9e50bb254ULL);
     same("xxh64 of nothing", sketch_xxh64(NULL, 0, 0), 0xef46db3751d8e999ULL);
 }
 

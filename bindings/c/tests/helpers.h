@@ -1,4 +1,4 @@
-/* What the tests share: comparisons that are counted, each failing one told, and numbers at random. */
+/* What the tests share: comparisons, which are counted and reported if they fail, and random numbers. */
 #include <inttypes.h>
 #include <stdio.h>
 

@@ -1,7 +1,8 @@
 /* Lengths past 2^32: XXH64 in one call and in one update beside libxxhash, Murmur in two updates beside
- * one call, and columns whose second key begins behind them. The zeros are never written, so they take no memory. */
+ * one call, columns whose second key begins after them, and a key of a filter. The zeros are never written, so they take no memory. */
 #include "sketch_hash.h"
 #include <stdlib.h>
+#include <string.h>
 #include <xxhash.h>
 #include "helpers.h"
 
@@ -14,25 +15,29 @@ int main(void) {
     same("xxh64 in one call", sketch_xxh64(zeros, length, UINT64_MAX), expected);
     sketch_xxh64_update(&x, zeros, length);
     same("xxh64 in one update", sketch_xxh64_digest(&x), expected);
-    sketch_murmur3_x64_128_hash_t whole = sketch_murmur3_x64_128(zeros, length, UINT64_MAX);
+    uint64_t whole[2], hash[2];
+    sketch_murmur3_x64_128(zeros, length, UINT64_MAX, whole);
     sketch_murmur3_x64_128_update(&m, zeros, length - 37);
     sketch_murmur3_x64_128_update(&m, zeros, 37);
-    same("murmur, h1", sketch_murmur3_x64_128_digest(&m).h1, whole.h1);
-    same("murmur, h2", sketch_murmur3_x64_128_digest(&m).h2, whole.h2);
+    sketch_murmur3_x64_128_digest(&m, hash);
+    same("murmur", memcmp(hash, whole, sizeof hash), 0);
     same("murmur, total", m.total, length);
     const uint64_t offsets[] = {0, length - 5, length};
-    uint64_t x_out[2];
-    sketch_murmur3_x64_128_hash_t m_out[2], key = sketch_murmur3_x64_128(zeros, 5, UINT64_MAX);
-    whole = sketch_murmur3_x64_128(zeros, length - 5, UINT64_MAX);
-    same("xxh64, a column", sketch_xxh64_each64(zeros, length, offsets, 3, UINT64_MAX, x_out, 2), 0);
+    uint64_t x_out[2], m_out[2][2];
+    size_t wrong = 7;
+    same("xxh64, a column", (uint64_t)sketch_xxh64_each64(zeros, length, offsets, 3, UINT64_MAX, x_out, 2, &wrong), 0);
     same("its first key", x_out[0], XXH64(zeros, length - 5, UINT64_MAX));
     same("its second key", x_out[1], XXH64(zeros, 5, UINT64_MAX));
-    same("murmur, a column", sketch_murmur3_x64_128_each64(zeros, length, offsets, 3, UINT64_MAX, m_out, 2), 0);
-    same("its first key, h1", m_out[0].h1, whole.h1);
-    same("its first key, h2", m_out[0].h2, whole.h2);
-    same("its second key, h1", m_out[1].h1, key.h1);
-    same("its second key, h2", m_out[1].h2, key.h2);
-    same("bytes that end before 2^32", sketch_xxh64_each64(zeros, 37, offsets, 3, UINT64_MAX, x_out, 2), 2);
+    same("murmur, a column", (uint64_t)sketch_murmur3_x64_128_each64(zeros, length, offsets, 3, UINT64_MAX, m_out, 2, &wrong), 0);
+    sketch_murmur3_x64_128(zeros, length - 5, UINT64_MAX, hash);
+    same("its first key", memcmp(m_out[0], hash, sizeof hash), 0);
+    sketch_murmur3_x64_128(zeros, 5, UINT64_MAX, hash);
+    same("its second key", memcmp(m_out[1], hash, sizeof hash), 0);
+    same("bytes that end before 2^32", (uint64_t)sketch_xxh64_each64(zeros, 37, offsets, 3, UINT64_MAX, x_out, 2, &wrong), (uint64_t)SKETCH_ERROR_OFFSET);
+    same("the wrong offset", wrong, 1);
+    unsigned char bits[32] = {0};
+    sketch_bloom_insert(bits, 32, zeros, length);
+    same("a long key of a filter", (uint64_t)sketch_bloom_contains_hash(bits, 32, XXH64(zeros, length, 0)), 1);
     free(zeros);
     return conclude();
 }

@@ -38,13 +38,17 @@ def test_header_is_taken_by(compiler, standard, need, tmp_path):
 def test_header_refuses_a_state_laid_out_otherwise(old, new, need, tmp_path):
     need("gcc")
     (tmp_path / "other.h").write_text(re.sub(old, new, HEADER, count=1))
-    said = subprocess.run(["gcc", "-fsyntax-only", "-xc", tmp_path / "other.h"], stderr=subprocess.PIPE, text=True)
-    assert said.returncode and "size of array" in said.stderr
+    done = subprocess.run(["gcc", "-fsyntax-only", "-xc", tmp_path / "other.h"], stderr=subprocess.PIPE, text=True)
+    assert done.returncode and "size of array" in done.stderr
 
 
-# ---- the calls: each program compares, and its status tells
+def test_lines_of_the_header_fit():
+    assert [it for it in HEADER.splitlines() if len(it) > 100] == []
 
-PEERS = {"compare": ["xxhash", "murmurhash"], "long": ["xxhash"], "member": ["xxhash"]}
+
+# ---- the calls: each program compares, and its exit status is the result
+
+PEERS = {"compare": ["xxhash", "murmurhash"], "long": ["xxhash"]}
 TARGETS = {
     "linux-x86_64": (["gcc"], []),
     "linux-aarch64": (["aarch64-linux-gnu-gcc"], ["qemu-aarch64", "-L", "/usr/aarch64-linux-gnu"]),
@@ -66,25 +70,25 @@ def built(need, tmp_path):
     return built
 
 
-@pytest.mark.parametrize("name", ["layout", "compare", "long", "member", "columns", "answers"])
-def test_calls(name, built):
+@pytest.mark.parametrize("name", ["layout", "compare", "long", "bloom", "columns", "answers"])
+def test_calls_compare_equal(name, built):
     assert output(*built(name))
 
 
-@pytest.mark.parametrize("name", ["layout", "columns"])
+@pytest.mark.parametrize("name", ["layout", "bloom", "columns"])
 def test_calls_on_aarch64(name, built):
     assert output(*built(name, "linux-aarch64"))
 
 
 def test_aarch64_answers_as_x86_64(built):
-    """Streams, states, columns and tables at random."""
+    """Random streams, states, columns and filters."""
     assert output(*built("answers", "linux-aarch64")) == output(*built("answers"))
 
 
-@pytest.mark.parametrize("name, words", [("compare", []), ("member", ["9"]), ("columns", []), ("answers", ["10000"])])
-def test_calls_read_and_write_only_what_they_are_given(name, words, built, need):
+@pytest.mark.parametrize("name, args", [("compare", []), ("bloom", []), ("columns", []), ("answers", ["10000"])])
+def test_calls_read_and_write_only_what_they_are_given(name, args, built, need):
     need("valgrind")
-    output("valgrind", "-q", "--error-exitcode=9", "--leak-check=full", *built(name), *words)
+    output("valgrind", "-q", "--error-exitcode=9", "--leak-check=full", *built(name), *args)
 
 
 @pytest.mark.parametrize("name", ["layout", "columns", "answers"])
@@ -93,11 +97,6 @@ def test_calls_take_a_stack_of_256_kib(name, built):
 
 
 # ---- the files
-
-OF_1_2 = ["sketch_member_for_keys", "sketch_murmur3_x64_128_bytes"]
-OF_1_0 = """sketch_hash_version sketch_xxh64 sketch_xxh64_reset sketch_xxh64_update sketch_xxh64_digest sketch_xxh64_u64
-    sketch_murmur3_x64_128 sketch_murmur3_x64_128_reset sketch_murmur3_x64_128_update sketch_murmur3_x64_128_digest""".split()
-
 
 @pytest.fixture(params=TARGETS)
 def folder(request):
@@ -111,22 +110,22 @@ def test_archive_has_the_calls_and_no_other_name(folder, need):
 
 
 def test_shared_library_has_the_calls_by_their_versions(folder, need):
-    """A program that was linked with an older library asks for each name by the version that it came with."""
+    """A program asks for each name by the version that it was linked with."""
     need("nm")
-    names = re.findall(r" [B-Zb-z] (\S+)$", output("nm", "-D", folder / "libsketch_hash.so.1"), re.M)
-    assert sorted(names) == sorted(f"{it}@@SKETCH_HASH_{'1.0' if it in OF_1_0 else '1.2' if it in OF_1_2 else '1.1'}" for it in CALLS)
+    names = re.findall(r" [B-Zb-z] (\S+)$", output("nm", "-D", folder / "libsketch_hash.so.2"), re.M)
+    assert sorted(names) == [f"{it}@@SKETCH_HASH_2.0" for it in CALLS]
 
 
 def test_shared_library_needs_no_other(folder, need):
     need("readelf")
-    dynamic = output("readelf", "-d", folder / "libsketch_hash.so.1")
-    assert "[libsketch_hash.so.1]" in dynamic and "(NEEDED)" not in dynamic
+    dynamic = output("readelf", "-d", folder / "libsketch_hash.so.2")
+    assert "[libsketch_hash.so.2]" in dynamic and "(NEEDED)" not in dynamic
 
 
 def test_shared_library_is_hardened(folder, need):
     need("readelf")
-    said = output("readelf", "-Wld", folder / "libsketch_hash.so.1")
-    assert re.search(r"GNU_STACK .* RW +0", said) and "GNU_RELRO" in said and "BIND_NOW" in said
+    headers = output("readelf", "-Wld", folder / "libsketch_hash.so.2")
+    assert re.search(r"GNU_STACK .* RW +0", headers) and "GNU_RELRO" in headers and "BIND_NOW" in headers
 
 
 # What every x86-64 can do: integers, and moves and sums of SSE2.
@@ -137,5 +136,5 @@ KNOWN = r"""mov([bwlq]|abs|[sz][bw][wlq]|slq)? lea xchg push pop j\w+ call ret n
 
 def test_runs_on_each_x86_64(need):
     need("objdump")
-    code = re.findall(r"^ *[0-9a-f]+:\t(\S+)", output("objdump", "-d", "--no-show-raw-insn", NATIVE / "libsketch_hash.so.1"), re.M)
+    code = re.findall(r"^ *[0-9a-f]+:\t(\S+)", output("objdump", "-d", "--no-show-raw-insn", NATIVE / "libsketch_hash.so.2"), re.M)
     assert len(code) > 1000 and {it for it in code if not re.fullmatch("|".join(KNOWN), it)} == set()

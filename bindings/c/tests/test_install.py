@@ -14,7 +14,7 @@ CALLS = sorted(set(re.findall(r"\b(sketch_\w+)\(", (DIST / "include/sketch_hash.
 MAN_PAGE = (DIST / "sketch_hash.3").read_text()
 
 INSTALLED = {
-    "include/sketch_hash.h", "lib/libsketch_hash.a", "lib/libsketch_hash.so", "lib/libsketch_hash.so.1",
+    "include/sketch_hash.h", "lib/libsketch_hash.a", "lib/libsketch_hash.so", "lib/libsketch_hash.so.2",
     "lib/pkgconfig/sketch_hash.pc", "lib/cmake/sketch_hash/sketch_hash-config.cmake",
     "lib/cmake/sketch_hash/sketch_hash-config-version.cmake", "share/man/man3/sketch_hash.3",
     "bin/sketchsum", "share/man/man1/sketchsum.1",
@@ -23,8 +23,8 @@ INSTALLED = {
 }
 
 
-def make(*words, folder=DIST, **how):
-    return subprocess.run(["make", "-C", folder, *words], capture_output=True, text=True, **how)
+def make(*args, folder=DIST, **kwargs):
+    return subprocess.run(["make", "-C", folder, *args], capture_output=True, text=True, **kwargs)
 
 
 def files_in(folder):
@@ -46,10 +46,10 @@ def prefix(tmp_path):
 
 # ---- make
 
-@pytest.mark.parametrize("words, place", [([], "usr/local"), (["PREFIX=/usr"], "usr")])
-def test_install_goes_to_the_stage(words, place, tmp_path):
+@pytest.mark.parametrize("args, place", [([], "usr/local"), (["PREFIX=/usr"], "usr")], ids=["by default", "a prefix"])
+def test_install_goes_to_the_stage(args, place, tmp_path):
     stage = tmp_path / "a stage"
-    assert make("install", f"DESTDIR={stage}", *words).returncode == 0
+    assert make("install", f"DESTDIR={stage}", *args).returncode == 0
     assert files_in(stage) == {f"{place}/{it}" for it in INSTALLED}
 
 
@@ -58,7 +58,7 @@ def test_install_has_the_files_of_dist_for_all_to_read(tmp_path):
     assert make("install", f"PREFIX={prefix}", umask=0o077).returncode == 0
     assert files_in(prefix) == INSTALLED
     for name in INSTALLED:
-        of_dist = "libsketch_hash.so.1" if name.endswith(".so") else "sketch_hash.3" if name.endswith(".3") else pathlib.Path(name).name
+        of_dist = "libsketch_hash.so.2" if name.endswith(".so") else "sketch_hash.3" if name.endswith(".3") else pathlib.Path(name).name
         (source,) = (it for folder in (".", "include", "linux-x86_64") for it in DIST.glob(f"{folder}/{of_dist}"))
         assert (prefix / name).read_bytes() == source.read_bytes()
         assert (prefix / name).stat().st_mode & 0o777 == (0o755 if name == "bin/sketchsum" else 0o644)
@@ -66,7 +66,7 @@ def test_install_has_the_files_of_dist_for_all_to_read(tmp_path):
 
 
 def test_an_upgrade_leaves_the_library_that_programs_run(prefix, tmp_path):
-    library = prefix / "lib/libsketch_hash.so.1"
+    library = prefix / "lib/libsketch_hash.so.2"
     os.link(library, tmp_path / "in_use")
     assert make("install", f"PREFIX={prefix}").returncode == 0
     assert not library.samefile(tmp_path / "in_use")
@@ -79,8 +79,8 @@ def test_install_for_another_machine(tmp_path):
 
 
 def test_install_tells_that_a_machine_has_no_library(tmp_path):
-    said = make("install", f"PREFIX={tmp_path}", "TARGET=linux-riscv64")
-    assert said.returncode and "no library for linux-riscv64" in said.stderr and "WebAssembly" in said.stderr
+    done = make("install", f"PREFIX={tmp_path}", "TARGET=linux-riscv64")
+    assert done.returncode and "no library for linux-riscv64" in done.stderr and "WebAssembly" in done.stderr
 
 
 def test_make_alone_installs_nothing_and_checks_the_sums(tmp_path):
@@ -89,19 +89,19 @@ def test_make_alone_installs_nothing_and_checks_the_sums(tmp_path):
     with open(copy / "linux-x86_64/libsketch_hash.a", "ab") as archive:
         archive.write(b"x")
     for goal in ("all", "check", "install"):
-        said = make(goal, f"PREFIX={tmp_path / 'prefix'}", folder=copy)
-        assert said.returncode and "libsketch_hash.a" in said.stdout + said.stderr
+        done = make(goal, f"PREFIX={tmp_path / 'prefix'}", folder=copy)
+        assert done.returncode and "libsketch_hash.a" in done.stdout + done.stderr
     sums = re.findall(r"^\w{64}  \./(.*)$", (DIST / "SHA256SUMS").read_text(), re.M)
     assert {*sums, "SHA256SUMS"} == files_in(DIST)
 
 
 def test_a_relative_prefix_is_refused(tmp_path):
-    said = make("install", "PREFIX=here", f"DESTDIR={tmp_path}/")
-    assert said.returncode and "not an absolute path: here" in said.stderr and files_in(tmp_path) == set()
+    done = make("install", "PREFIX=here", f"DESTDIR={tmp_path}/")
+    assert done.returncode and "not an absolute path: here" in done.stderr and files_in(tmp_path) == set()
 
 
 def test_uninstall_leaves_the_files_of_others(prefix):
-    others = {"include/sketch_hash2.h", "lib/libsketch_hash.so.2", "lib/pkgconfig/other.pc", "share/man/man3/sketch_hash2.3", "share/doc/other/README"}
+    others = {"include/sketch_hash2.h", "lib/libsketch_hash.so.1", "lib/pkgconfig/other.pc", "share/man/man3/sketch_hash2.3", "share/doc/other/README"}
     for name in others:
         (prefix / name).parent.mkdir(parents=True, exist_ok=True)
         (prefix / name).touch()
@@ -122,11 +122,10 @@ def examples():
 
 
 def test_man_page_declares_what_the_header_does():
-    header = re.sub(r"\s+", " ", (DIST / "include/sketch_hash.h").read_text())
-    declared = re.findall(r"(?:const )?\w+ sketch_\w+\([^();]*\);", header)
-    shown = [re.sub(r'" ?(\w+) ?"', r"\1", it) for it in re.findall(r'^\.BI? "?(.*\);)$', section("SYNOPSIS"), re.M)]
-    shown = [re.sub(r'" (\w+) \);$', r"\1);", it) for it in shown]
-    assert sorted(it for it in shown if "_INIT(" not in it) == sorted(declared)
+    header = re.sub(r"/\*.*?\*/|\s", "", (DIST / "include/sketch_hash.h").read_text(), flags=re.S)
+    shown = [re.sub(r'["\s]', "", it) for it in re.findall(r"^\.BI? (.*\).*;\"?)$", section("SYNOPSIS"), re.M)]
+    assert sorted(re.search(r"(sketch_\w+)\(", it)[1] for it in shown if "_INIT(" not in it) == CALLS
+    assert [it for it in shown if it not in header and "_INIT(" not in it] == []
     assert sorted(re.findall(r"\bsketch_\w+", section("NAME"))) == CALLS
 
 
@@ -136,20 +135,28 @@ def test_pkg_config(prefix, need, tmp_path, monkeypatch):
     need("pkg-config")
     monkeypatch.setenv("PKG_CONFIG_LIBDIR", str(prefix / "lib/pkgconfig"))
     monkeypatch.setenv("LD_LIBRARY_PATH", str(prefix / "lib"))
-    (tmp_path / "table.c").write_text(examples()[1])
+    (tmp_path / "filter.c").write_text(examples()[1])
     flags = shlex.split(subprocess.check_output(["pkg-config", "--cflags", "--libs", "sketch_hash"], text=True))
-    subprocess.run(["gcc", "-Wall", "-Wextra", "-Werror", "-o", tmp_path / "table", tmp_path / "table.c", *flags], check=True)
-    assert subprocess.check_output(tmp_path / "table") == b"1 0\n"
+    subprocess.run(["gcc", "-Wall", "-Wextra", "-Werror", "-o", tmp_path / "filter", tmp_path / "filter.c", *flags], check=True)
+    assert subprocess.check_output(tmp_path / "filter") == b"1 0\n"
     assert subprocess.check_output(["pkg-config", "--static", "--libs-only-l", "sketch_hash"]).split() == [b"-lsketch_hash"]
 
 
-def cmake(project, prefix, *words):
+def test_filter_of_the_page(tmp_path):
+    (program,) = re.findall(r"^```c bloom\n(.*?)^```", (DIST / "README.md").read_text(), re.M | re.S)
+    (tmp_path / "filter.c").write_text(program)
+    archive = DIST / "linux-x86_64/libsketch_hash.a"
+    subprocess.run(["gcc", "-Wall", "-Wextra", "-Werror", "-I", DIST / "include", "-o", tmp_path / "filter", tmp_path / "filter.c", archive], check=True)
+    assert subprocess.check_output(tmp_path / "filter") == b"certainly not\n"
+
+
+def cmake(project, prefix, *args):
     """Configures and builds a project that finds only what was installed in the prefix."""
     finds = [f"-DCMAKE_PREFIX_PATH={prefix}", "-DCMAKE_FIND_USE_CMAKE_SYSTEM_PATH=OFF"]
-    said = subprocess.run(["cmake", "-S", project, "-B", project / "build", *finds, *words], capture_output=True, text=True)
-    if said.returncode == 0:
+    done = subprocess.run(["cmake", "-S", project, "-B", project / "build", *finds, *args], capture_output=True, text=True)
+    if done.returncode == 0:
         subprocess.run(["cmake", "--build", project / "build"], check=True)
-    return said
+    return done
 
 
 @pytest.mark.parametrize("by_a_link", [False, True], ids=["by its folder", "by a link to lib"])
@@ -158,11 +165,11 @@ def test_cmake_builds_with_both_libraries(by_a_link, prefix, need, tmp_path):
     project = tmp_path / "project"
     shutil.copytree(HERE / "cmake", project)
     (project / "sum.c").write_text(examples()[0])
-    if by_a_link:  # as /lib leads to /usr/lib: no include lies beside it
+    if by_a_link:  # as /lib leads to /usr/lib: there is no include beside it
         (tmp_path / "linked").mkdir()
         (tmp_path / "linked/lib").symlink_to(prefix / "lib")
-    said = cmake(project, tmp_path / "linked" if by_a_link else prefix)
-    assert said.returncode == 0, said.stderr
+    done = cmake(project, tmp_path / "linked" if by_a_link else prefix)
+    assert done.returncode == 0, done.stderr
     for name in ("sum", "sum_static"):
         fox = subprocess.check_output(project / "build" / name, input=b"The quick brown fox jumps over the lazy dog")
         assert fox == b"0b242d361fda71bc\n"
@@ -181,9 +188,9 @@ def test_cmake_finds_it_from_two_folders_of_a_project(prefix, need, tmp_path):
 
 
 @pytest.mark.parametrize("processor, says", [("", ""), ("x86_64", ""), ("aarch64", "(Linux, x86-64)")])
-def test_cmake_is_told_what_the_library_runs_on(processor, says, prefix, need, tmp_path):
+def test_cmake_knows_what_the_library_runs_on(processor, says, prefix, need, tmp_path):
     """Also in a project that has no language yet."""
     need("cmake")
     (tmp_path / "CMakeLists.txt").write_text("cmake_minimum_required(VERSION 3.7)\nproject(none NONE)\nfind_package(sketch_hash REQUIRED)\n")
-    said = cmake(tmp_path, prefix, *([f"-DCMAKE_SYSTEM_NAME=Linux", f"-DCMAKE_SYSTEM_PROCESSOR={processor}"] if processor else []))
-    assert bool(said.returncode) == bool(says) and says in said.stderr
+    done = cmake(tmp_path, prefix, *([f"-DCMAKE_SYSTEM_NAME=Linux", f"-DCMAKE_SYSTEM_PROCESSOR={processor}"] if processor else []))
+    assert bool(done.returncode) == bool(says) and says in done.stderr

@@ -1,9 +1,6 @@
-//! Lookups in a `HashMap` of 2^16 keys under four hashers: `cargo bench`. The maps are timed in turns
+//! Lookups in a `HashMap` of 2^16 keys under three hashers: `cargo bench`. The maps are timed in turns
 //! in each of 51 rounds. The table has the nanoseconds of a lookup, and the median of the rounds'
 //! ratios to std's hasher.
-
-#[path = "../tests/plain/mod.rs"]
-mod plain;
 
 use sketch_hash::{BuildMurmur3X64_128, BuildXxh64};
 use std::collections::hash_map::RandomState;
@@ -15,22 +12,9 @@ use std::time::Instant;
 const KEYS: u64 = 1 << 16;
 const ROUNDS: usize = 51;
 
-#[derive(Clone, Copy)]
-struct BuildPlain;
-
-impl BuildHasher for BuildPlain {
-    type Hasher = plain::Xxh64;
-
-    #[inline(always)]
-    fn build_hasher(&self) -> plain::Xxh64 {
-        plain::Xxh64::new(0)
-    }
-}
-
 /// A round under one hasher: the nanoseconds of a lookup.
 fn round_of<'a, K: Hash + Eq>(
-    keys: &'a [K],
-    hasher: impl BuildHasher + 'a,
+    keys: &'a [K], hasher: impl BuildHasher + 'a,
 ) -> Box<dyn FnMut() -> f64 + 'a> {
     let mut map = HashMap::with_hasher(hasher);
     map.extend(keys.iter().zip(0_u64..));
@@ -51,7 +35,6 @@ fn compare<K: Hash + Eq>(case: &str, keys: Vec<K>) {
     let mut maps = [
         ("std's DefaultHasher", round_of(&keys, RandomState::new())),
         ("Xxh64", round_of(&keys, BuildXxh64::new(0))),
-        ("plain XXH64, inlined", round_of(&keys, BuildPlain)),
         ("Murmur3X64_128", round_of(&keys, BuildMurmur3X64_128::new(0))),
     ];
     let mut times = vec![Vec::new(); maps.len()];

@@ -1,10 +1,16 @@
 //! The library's calls, as `sketch_hash.h` declares them. Those that take no pointer but to one
 //! state are safe: a reference to a state is valid, and nothing else touches the state meanwhile.
 
-use core::ffi::{c_int, c_uint};
+use core::ffi::c_int;
+
+pub const OK: c_int = 0;
+pub const ERROR_LENGTH: c_int = -1;
+pub const ERROR_OFFSET: c_int = -2;
+pub const ERROR_COUNT: c_int = -3;
+pub const BLOOM_HEADER_MAX: usize = 19;
 
 #[repr(C)]
-#[derive(Clone, PartialEq)]
+#[derive(Clone, Copy, PartialEq)]
 pub struct Xxh64State {
     pub seed: u64,
     pub v1: u64,
@@ -16,7 +22,7 @@ pub struct Xxh64State {
 }
 
 #[repr(C)]
-#[derive(Clone, PartialEq)]
+#[derive(Clone, Copy, PartialEq)]
 pub struct Murmur3X64_128State {
     pub h1: u64,
     pub h2: u64,
@@ -24,114 +30,129 @@ pub struct Murmur3X64_128State {
     pub waiting: [u8; 16],
 }
 
-#[repr(C)]
-pub struct Murmur3X64_128Hash {
-    pub h1: u64,
-    pub h2: u64,
-}
+/// Hashes each key: input, length, offsets, offset_count, seed, out, count, wrong_offset.
+pub type HashEach<O, H> = unsafe extern "C" fn(
+    *const u8,
+    usize,
+    *const O,
+    usize,
+    u64,
+    *mut H,
+    usize,
+    &mut usize,
+) -> c_int;
 
-const _: () = assert!(size_of::<Xxh64State>() == 80);
-const _: () = assert!(size_of::<Murmur3X64_128State>() == 40);
+/// Inserts each key: bits, length, keys, keys_length, offsets, offset_count, wrong_offset.
+pub type InsertEach<O> =
+    unsafe extern "C" fn(*mut u8, usize, *const u8, usize, *const O, usize, &mut usize) -> c_int;
 
-/// A call that hashes each key of a column: the bytes, the offsets, the seed and the hashes.
-pub type Each<O, H> =
-    unsafe extern "C" fn(*const u8, usize, *const O, usize, u64, *mut H, usize) -> usize;
+/// Looks up each key: bits, length, keys, keys_length, offsets, offset_count, found, count,
+/// wrong_offset.
+pub type ContainsEach<O> = unsafe extern "C" fn(
+    *const u8,
+    usize,
+    *const u8,
+    usize,
+    *const O,
+    usize,
+    *mut bool,
+    usize,
+    &mut usize,
+) -> c_int;
+
+/// Inserts each value: bits, length, values, count.
+pub type InsertValues<V> = unsafe extern "C" fn(*mut u8, usize, *const V, usize) -> c_int;
+
+/// Looks up each value: bits, length, values, value_count, found, count.
+pub type ContainsValues<V> =
+    unsafe extern "C" fn(*const u8, usize, *const V, usize, *mut bool, usize) -> c_int;
 
 unsafe extern "C" {
     pub safe fn sketch_hash_version() -> u32;
 
     pub fn sketch_xxh64(input: *const u8, length: usize, seed: u64) -> u64;
     pub safe fn sketch_xxh64_u64(value: u64, seed: u64) -> u64;
-    pub safe fn sketch_xxh64_reset(state: &mut Xxh64State, seed: u64);
     pub fn sketch_xxh64_update(state: &mut Xxh64State, input: *const u8, length: usize);
     pub safe fn sketch_xxh64_digest(state: &Xxh64State) -> u64;
 
     pub fn sketch_xxh64_each32(
-        input: *const u8,
-        length: usize,
-        offsets: *const u32,
-        offset_count: usize,
-        seed: u64,
-        out: *mut u64,
-        count: usize,
-    ) -> usize;
+        input: *const u8, length: usize, offsets: *const u32, offset_count: usize, seed: u64,
+        out: *mut u64, count: usize, wrong_offset: &mut usize,
+    ) -> c_int;
     pub fn sketch_xxh64_each64(
-        input: *const u8,
-        length: usize,
-        offsets: *const u64,
-        offset_count: usize,
-        seed: u64,
-        out: *mut u64,
-        count: usize,
-    ) -> usize;
+        input: *const u8, length: usize, offsets: *const u64, offset_count: usize, seed: u64,
+        out: *mut u64, count: usize, wrong_offset: &mut usize,
+    ) -> c_int;
     pub fn sketch_xxh64_each_u64(
-        values: *const u64,
-        value_count: usize,
-        seed: u64,
-        out: *mut u64,
-        count: usize,
-    ) -> usize;
+        values: *const u64, value_count: usize, seed: u64, out: *mut u64, count: usize,
+    ) -> c_int;
 
-    pub fn sketch_murmur3_x64_128(input: *const u8, length: usize, seed: u64)
-        -> Murmur3X64_128Hash;
-    pub safe fn sketch_murmur3_x64_128_reset(state: &mut Murmur3X64_128State, seed: u64);
+    pub fn sketch_murmur3_x64_128(input: *const u8, length: usize, seed: u64, hash: &mut [u64; 2]);
     pub fn sketch_murmur3_x64_128_update(
-        state: &mut Murmur3X64_128State,
-        input: *const u8,
-        length: usize,
+        state: &mut Murmur3X64_128State, input: *const u8, length: usize,
     );
-    pub safe fn sketch_murmur3_x64_128_digest(state: &Murmur3X64_128State) -> Murmur3X64_128Hash;
+    pub safe fn sketch_murmur3_x64_128_digest(state: &Murmur3X64_128State, hash: &mut [u64; 2]);
+    pub safe fn sketch_murmur3_x64_128_bytes(hash: &[u64; 2], out: &mut [u8; 16]);
     pub fn sketch_murmur3_x64_128_each32(
-        input: *const u8,
-        length: usize,
-        offsets: *const u32,
-        offset_count: usize,
-        seed: u64,
-        out: *mut [u64; 2],
-        count: usize,
-    ) -> usize;
+        input: *const u8, length: usize, offsets: *const u32, offset_count: usize, seed: u64,
+        out: *mut [u64; 2], count: usize, wrong_offset: &mut usize,
+    ) -> c_int;
     pub fn sketch_murmur3_x64_128_each64(
-        input: *const u8,
-        length: usize,
-        offsets: *const u64,
-        offset_count: usize,
-        seed: u64,
-        out: *mut [u64; 2],
-        count: usize,
-    ) -> usize;
+        input: *const u8, length: usize, offsets: *const u64, offset_count: usize, seed: u64,
+        out: *mut [u64; 2], count: usize, wrong_offset: &mut usize,
+    ) -> c_int;
 
-    pub safe fn sketch_member_size(log2_bits: c_uint) -> usize;
-    pub safe fn sketch_member_for_keys(
-        keys: u64,
-        one_in: u64,
-        log2_bits: &mut c_uint,
-        hashes: &mut c_uint,
+    pub safe fn sketch_bloom_bytes_for(keys: u64, one_in: u64) -> usize;
+    pub safe fn sketch_bloom_check(length: usize) -> c_int;
+    pub fn sketch_bloom_insert(
+        bits: *mut u8, length: usize, key: *const u8, key_length: usize,
     ) -> c_int;
-    pub fn sketch_member_init(
-        bytes: *mut u8,
-        length: usize,
-        seed: u64,
-        log2_bits: c_uint,
-        hashes: c_uint,
+    pub fn sketch_bloom_contains(
+        bits: *const u8, length: usize, key: *const u8, key_length: usize,
     ) -> c_int;
-    pub fn sketch_member_check(bytes: *const u8, length: usize) -> c_int;
-    pub fn sketch_member_insert(
-        bytes: *mut u8,
-        length: usize,
-        key: *const u8,
-        key_length: usize,
+    pub fn sketch_bloom_insert_hash(bits: *mut u8, length: usize, hash: u64) -> c_int;
+    pub fn sketch_bloom_contains_hash(bits: *const u8, length: usize, hash: u64) -> c_int;
+    pub fn sketch_bloom_insert_each32(
+        bits: *mut u8, length: usize, keys: *const u8, keys_length: usize, offsets: *const u32,
+        offset_count: usize, wrong_offset: &mut usize,
     ) -> c_int;
-    pub fn sketch_member_contains(
-        bytes: *const u8,
-        length: usize,
-        key: *const u8,
-        key_length: usize,
+    pub fn sketch_bloom_insert_each64(
+        bits: *mut u8, length: usize, keys: *const u8, keys_length: usize, offsets: *const u64,
+        offset_count: usize, wrong_offset: &mut usize,
     ) -> c_int;
-    pub fn sketch_member_merge(
-        into: *mut u8,
-        length: usize,
-        from: *const u8,
-        from_length: usize,
+    pub fn sketch_bloom_insert_each_u32(
+        bits: *mut u8, length: usize, values: *const u32, count: usize,
     ) -> c_int;
-    pub fn sketch_member_count(bytes: *const u8, length: usize, count: &mut u64) -> c_int;
+    pub fn sketch_bloom_insert_each_u64(
+        bits: *mut u8, length: usize, values: *const u64, count: usize,
+    ) -> c_int;
+    pub fn sketch_bloom_insert_each_hash(
+        bits: *mut u8, length: usize, hashes: *const u64, count: usize,
+    ) -> c_int;
+    // A `bool` is one byte, 1 or 0, and the library writes no other.
+    pub fn sketch_bloom_contains_each32(
+        bits: *const u8, length: usize, keys: *const u8, keys_length: usize, offsets: *const u32,
+        offset_count: usize, found: *mut bool, count: usize, wrong_offset: &mut usize,
+    ) -> c_int;
+    pub fn sketch_bloom_contains_each64(
+        bits: *const u8, length: usize, keys: *const u8, keys_length: usize, offsets: *const u64,
+        offset_count: usize, found: *mut bool, count: usize, wrong_offset: &mut usize,
+    ) -> c_int;
+    pub fn sketch_bloom_contains_each_u32(
+        bits: *const u8, length: usize, values: *const u32, value_count: usize, found: *mut bool,
+        count: usize,
+    ) -> c_int;
+    pub fn sketch_bloom_contains_each_u64(
+        bits: *const u8, length: usize, values: *const u64, value_count: usize, found: *mut bool,
+        count: usize,
+    ) -> c_int;
+    pub fn sketch_bloom_contains_each_hash(
+        bits: *const u8, length: usize, hashes: *const u64, hash_count: usize, found: *mut bool,
+        count: usize,
+    ) -> c_int;
+    pub fn sketch_bloom_merge(
+        into: *mut u8, length: usize, from: *const u8, from_length: usize,
+    ) -> c_int;
+    pub fn sketch_bloom_header_write(bytes: u64, header: *mut u8, length: usize) -> usize;
+    pub fn sketch_bloom_header_read(input: *const u8, length: usize, bytes: &mut u64) -> usize;
 }

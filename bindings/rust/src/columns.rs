@@ -1,179 +1,200 @@
 //! Columns of keys.
 
-use crate::calls::{
-    sketch_murmur3_x64_128_each32, sketch_murmur3_x64_128_each64, sketch_xxh64_each32,
-    sketch_xxh64_each64, sketch_xxh64_each_u64, Each,
-};
-use core::error::Error;
-use core::fmt;
+use crate::calls::*;
+use crate::Error;
 
-/// An offset of a column: `u32` or `u64`. Apache Arrow's are signed: cast their slice to the unsigned
-/// type of the same width. Without that:
+/// An offset of a column: `u32`, `u64`, and `i32` and `i64`, as Apache Arrow has them.
+///
+/// A negative offset is past the end.
+///
+/// ```
+/// let mut hashes = [0; 2];
+/// sketch_hash::xxh64_each(b"foxdog", &[0_i32, 3, 6], 7, &mut hashes)?;
+/// # Ok::<(), sketch_hash::Error>(())
+/// ```
 ///
 /// ```compile_fail
-/// sketch_hash::xxh64_each(b"", &[0_i64, 0], 7, &mut [0]);
+/// sketch_hash::xxh64_each(b"foxdog", &[0_u16, 3, 6], 7, &mut [0; 2]);
 /// ```
-pub trait Offset: sealed::Calls {}
+pub trait Offset: sealed::Width {}
 
 impl Offset for u32 {}
+impl Offset for i32 {}
 impl Offset for u64 {}
+impl Offset for i64 {}
 
-mod sealed {
+/// A number whose plain bytes Apache Parquet hashes: of 4 bytes or of 8, the lowest first.
+///
+/// Parquet stores integers of 8 and 16 bits, dates and small decimals as `i32`; times and larger
+/// decimals as `i64`. `0.0` and `-0.0` are two values.
+///
+/// ```
+/// use sketch_hash::BloomFilter;
+/// let mut filter = BloomFilter::with_len(1024)?;
+/// filter.insert_each_number(&[1_i32, -5])?;
+/// assert!(filter.contains(&(-5_i32).to_le_bytes()));
+/// # Ok::<(), sketch_hash::Error>(())
+/// ```
+pub trait Number: sealed::Width {}
+
+impl Number for u32 {}
+impl Number for i32 {}
+impl Number for f32 {}
+impl Number for u64 {}
+impl Number for i64 {}
+impl Number for f64 {}
+
+pub(crate) mod sealed {
     use super::*;
 
-    pub trait Calls: Copy {
-        /// The offset as an index: the greatest if it does not fit one.
-        fn at(self) -> usize;
-        const XXH64: Each<Self, u64>;
-        const MURMUR: Each<Self, [u64; 2]>;
+    /// A type of 4 or 8 bytes, which the library reads as a `u32` or a `u64`.
+    ///
+    /// # Safety
+    ///
+    /// The type has the size and the alignment of `Bits`, and no bits that are uninitialized.
+    pub unsafe trait Width: Copy {
+        type Bits: Calls;
+    }
+
+    // SAFETY: each has the size and the alignment that it names.
+    unsafe impl Width for u32 {
+        type Bits = u32;
+    }
+    // SAFETY: as above.
+    unsafe impl Width for i32 {
+        type Bits = u32;
+    }
+    // SAFETY: as above.
+    unsafe impl Width for f32 {
+        type Bits = u32;
+    }
+    // SAFETY: as above.
+    unsafe impl Width for u64 {
+        type Bits = u64;
+    }
+    // SAFETY: as above.
+    unsafe impl Width for i64 {
+        type Bits = u64;
+    }
+    // SAFETY: as above.
+    unsafe impl Width for f64 {
+        type Bits = u64;
+    }
+
+    /// The calls that read offsets or numbers of a width.
+    pub trait Calls: Sized {
+        const XXH64: HashEach<Self, u64>;
+        const MURMUR: HashEach<Self, [u64; 2]>;
+        const INSERT: InsertEach<Self>;
+        const CONTAINS: ContainsEach<Self>;
+        const INSERT_VALUES: InsertValues<Self>;
+        const CONTAINS_VALUES: ContainsValues<Self>;
     }
 
     impl Calls for u32 {
-        fn at(self) -> usize {
-            self.try_into().unwrap_or(usize::MAX)
-        }
-        const XXH64: Each<u32, u64> = sketch_xxh64_each32;
-        const MURMUR: Each<u32, [u64; 2]> = sketch_murmur3_x64_128_each32;
+        const XXH64: HashEach<u32, u64> = sketch_xxh64_each32;
+        const MURMUR: HashEach<u32, [u64; 2]> = sketch_murmur3_x64_128_each32;
+        const INSERT: InsertEach<u32> = sketch_bloom_insert_each32;
+        const CONTAINS: ContainsEach<u32> = sketch_bloom_contains_each32;
+        const INSERT_VALUES: InsertValues<u32> = sketch_bloom_insert_each_u32;
+        const CONTAINS_VALUES: ContainsValues<u32> = sketch_bloom_contains_each_u32;
     }
 
     impl Calls for u64 {
-        fn at(self) -> usize {
-            self.try_into().unwrap_or(usize::MAX)
-        }
-        const XXH64: Each<u64, u64> = sketch_xxh64_each64;
-        const MURMUR: Each<u64, [u64; 2]> = sketch_murmur3_x64_128_each64;
+        const XXH64: HashEach<u64, u64> = sketch_xxh64_each64;
+        const MURMUR: HashEach<u64, [u64; 2]> = sketch_murmur3_x64_128_each64;
+        const INSERT: InsertEach<u64> = sketch_bloom_insert_each64;
+        const CONTAINS: ContainsEach<u64> = sketch_bloom_contains_each64;
+        const INSERT_VALUES: InsertValues<u64> = sketch_bloom_insert_each_u64;
+        const CONTAINS_VALUES: ContainsValues<u64> = sketch_bloom_contains_each_u64;
     }
 }
 
-/// The index of the first offset that does not fit, or of the first number that is missing.
-#[derive(Clone, Copy, Debug, PartialEq, Eq, Hash)]
-pub struct ColumnError {
-    /// The index.
-    pub index: usize,
-}
+use sealed::{Calls, Width};
 
-impl fmt::Display for ColumnError {
-    fn fmt(&self, f: &mut fmt::Formatter<'_>) -> fmt::Result {
-        write!(f, "the entry at {} of the column is missing or does not fit", self.index)
-    }
-}
-
-impl Error for ColumnError {}
-
-/// The index of the first offset that is past the end of the bytes or below the one before.
-pub(crate) fn place_of_fault<O: Offset>(input: &[u8], offsets: &[O]) -> Result<(), ColumnError> {
-    let mut before = 0;
-    for (index, offset) in offsets.iter().enumerate() {
-        if offset.at() < before || offset.at() > input.len() {
-            return Err(ColumnError { index });
-        }
-        before = offset.at();
-    }
-    Ok(())
-}
-
-fn done(fault: usize) -> Result<(), ColumnError> {
-    match fault.checked_sub(1) {
-        None => Ok(()),
-        Some(index) => Err(ColumnError { index }),
-    }
-}
-
-fn each<O, H>(
-    call: Each<O, H>,
-    input: &[u8],
-    offsets: &[O],
-    seed: u64,
-    out: &mut [H],
-) -> Result<(), ColumnError> {
-    // SAFETY: slices are readable for their lengths, which no address space has above the limits,
-    // and do not change while they are borrowed. `out` is borrowed alone, and any words are an H.
-    done(unsafe {
+fn each<O: Calls, H>(
+    call: HashEach<O, H>, input: &[u8], offsets: &[impl Width<Bits = O>], seed: u64, out: &mut [H],
+) -> Result<(), Error> {
+    let mut wrong_offset = 0;
+    // SAFETY: a slice is readable for its length, which is below 2^63, and does not change while it
+    // is borrowed. `out` is borrowed alone, and any words are an H.
+    let status = unsafe {
         call(
             input.as_ptr(),
             input.len(),
-            offsets.as_ptr(),
+            offsets.as_ptr().cast(),
             offsets.len(),
             seed,
             out.as_mut_ptr(),
             out.len(),
+            &mut wrong_offset,
         )
-    })
+    };
+    Error::check(status, wrong_offset)
 }
 
-/// XXH64 of each key of a column, laid out as Apache Arrow does strings.
+/// Hashes each key of a column by XXH64.
 ///
-/// Key `i` is the bytes of `input` from `offsets[i]` up to `offsets[i + 1]`, and its hash goes to
-/// `out[i]`. So `offsets` has one more than `out`, or none if `out` is empty; those beyond are not read.
+/// A column is laid out as Apache Arrow does strings: key `i` is the bytes of `input` from
+/// `offsets[i]` up to `offsets[i + 1]`. Its hash is written to `out[i]`. So `offsets` has one more
+/// than `out`; it may be empty if `out` is. Further offsets are not read.
 ///
 /// ```
 /// use sketch_hash::{xxh64, xxh64_each};
 /// let mut hashes = [0; 2];
 /// xxh64_each(b"foxdog", &[0_u32, 3, 6], 7, &mut hashes)?;
 /// assert_eq!(hashes, [xxh64(b"fox", 7), xxh64(b"dog", 7)]);
-/// # Ok::<(), sketch_hash::ColumnError>(())
+/// # Ok::<(), sketch_hash::Error>(())
 /// ```
 ///
 /// # Errors
 ///
-/// The index of the first offset that is missing, is past the end of `input`, or is below the one
-/// before. Nothing is then written.
+/// Returns [`Error::Offset`] with the index of the first offset that is missing, past the end of
+/// `input`, or below the one before. Nothing is written.
 pub fn xxh64_each<O: Offset>(
-    input: &[u8],
-    offsets: &[O],
-    seed: u64,
-    out: &mut [u64],
-) -> Result<(), ColumnError> {
-    each(O::XXH64, input, offsets, seed, out)
+    input: &[u8], offsets: &[O], seed: u64, out: &mut [u64],
+) -> Result<(), Error> {
+    each(O::Bits::XXH64, input, offsets, seed, out)
 }
 
-/// XXH64 of each number of a column, as [`xxh64_u64`](crate::xxh64_u64) hashes it.
+/// Hashes each number of a column, as [`xxh64_u64`](crate::xxh64_u64) does.
 ///
-/// The hash of `values[i]` goes to `out[i]`. Values beyond those of `out` are not read.
+/// The hash of `values[i]` is written to `out[i]`. Further values are not read.
+///
+/// ```
+/// let mut hashes = [0; 2];
+/// sketch_hash::xxh64_each_u64(&[2026, 7], 0, &mut hashes)?;
+/// assert_eq!(hashes[0], sketch_hash::xxh64_u64(2026, 0));
+/// # Ok::<(), sketch_hash::Error>(())
+/// ```
 ///
 /// # Errors
 ///
-/// The index of the first number that is missing, if `values` is shorter than `out`. Nothing is then
-/// written.
-pub fn xxh64_each_u64(values: &[u64], seed: u64, out: &mut [u64]) -> Result<(), ColumnError> {
+/// Returns [`Error::Count`] if `values` is shorter than `out`. Nothing is written.
+pub fn xxh64_each_u64(values: &[u64], seed: u64, out: &mut [u64]) -> Result<(), Error> {
     // SAFETY: as in `each`.
-    done(unsafe {
+    let status = unsafe {
         sketch_xxh64_each_u64(values.as_ptr(), values.len(), seed, out.as_mut_ptr(), out.len())
-    })
+    };
+    Error::check(status, 0)
 }
 
-/// The two words of MurmurHash3 x64 128 of each key of a column, laid out as for [`xxh64_each`].
+/// Hashes each key of a column by MurmurHash3 x64 128. The column is laid out as for
+/// [`xxh64_each`].
 ///
 /// ```
 /// use sketch_hash::{murmur3_x64_128, murmur3_x64_128_each};
 /// let mut hashes = [[0; 2]];
 /// murmur3_x64_128_each(b"the fox", &[4_u64, 7], 7, &mut hashes)?;
-/// assert_eq!(hashes, [<[u64; 2]>::from(murmur3_x64_128(b"fox", 7))]);
-/// # Ok::<(), sketch_hash::ColumnError>(())
+/// assert_eq!(hashes, [murmur3_x64_128(b"fox", 7)]);
+/// # Ok::<(), sketch_hash::Error>(())
 /// ```
 ///
 /// # Errors
 ///
 /// As [`xxh64_each`].
 pub fn murmur3_x64_128_each<O: Offset>(
-    input: &[u8],
-    offsets: &[O],
-    seed: u64,
-    out: &mut [[u64; 2]],
-) -> Result<(), ColumnError> {
-    each(O::MURMUR, input, offsets, seed, out)
-}
-
-#[cfg(test)]
-mod tests {
-    use super::*;
-
-    /// A column of that many offsets would take gigabytes.
-    #[test]
-    fn an_index_past_32_bits_is_told() {
-        for index in [0, (1 << 32) - 1, 1 << 32, (1 << 32) + 7, usize::MAX - 1] {
-            assert_eq!(done(index + 1), Err(ColumnError { index }));
-        }
-        assert_eq!(done(0), Ok(()));
-    }
+    input: &[u8], offsets: &[O], seed: u64, out: &mut [[u64; 2]],
+) -> Result<(), Error> {
+    each(O::Bits::MURMUR, input, offsets, seed, out)
 }

@@ -1,49 +1,50 @@
 //! MurmurHash3 x64 128.
 
 use crate::calls::{
-    sketch_murmur3_x64_128, sketch_murmur3_x64_128_digest, sketch_murmur3_x64_128_reset,
+    sketch_murmur3_x64_128, sketch_murmur3_x64_128_bytes, sketch_murmur3_x64_128_digest,
     sketch_murmur3_x64_128_update, Murmur3X64_128State,
 };
-use crate::{join, word, writes};
 use core::fmt;
 use core::hash::{BuildHasher, Hasher};
+use core::mem::transmute;
 
-/// The two words of MurmurHash3 x64 128 of `input` under a seed.
+/// Returns the two words of MurmurHash3 x64 128 of `input`.
 ///
-/// A seed below 2^32 gives the hash that the original in C++ gives under it.
+/// A seed below 2^32 gives the same hash as the original in C++.
 ///
 /// ```
-/// let (h1, h2) = sketch_hash::murmur3_x64_128(b"\0", 0);
-/// assert_eq!((h1, h2), (0x4610_abe5_6eff_5cb5, 0x5162_2daa_78f8_3583));
+/// let hash = sketch_hash::murmur3_x64_128(b"\0", 0);
+/// assert_eq!(hash, [0x4610_abe5_6eff_5cb5, 0x5162_2daa_78f8_3583]);
 /// ```
-pub fn murmur3_x64_128(input: &[u8], seed: u64) -> (u64, u64) {
+pub fn murmur3_x64_128(input: &[u8], seed: u64) -> [u64; 2] {
+    let mut hash = [0; 2];
     // SAFETY: a slice is readable for its length, which is below 2^63, and does not change while
     // it is borrowed.
-    let hash = unsafe { sketch_murmur3_x64_128(input.as_ptr(), input.len(), seed) };
-    (hash.h1, hash.h2)
+    unsafe { sketch_murmur3_x64_128(input.as_ptr(), input.len(), seed, &mut hash) };
+    hash
 }
 
-/// MurmurHash3 x64 128 of `input` under a seed, as its 16 bytes lie in memory: each word's lowest
-/// byte first. Other tools print these.
+/// Returns MurmurHash3 x64 128 of `input` in the byte order that most tools print: each word's
+/// lowest byte first.
 ///
 /// ```
 /// let bytes = sketch_hash::murmur3_x64_128_bytes(b"foo", 0);
 /// assert_eq!(&bytes, b"aE\xf5\x01W\x86q\xe2\x87}\xba+\xe4\x87\xaf~");
 /// ```
 pub fn murmur3_x64_128_bytes(input: &[u8], seed: u64) -> [u8; 16] {
-    in_memory(murmur3_x64_128(input, seed))
+    bytes_of(&murmur3_x64_128(input, seed))
 }
 
-fn in_memory((h1, h2): (u64, u64)) -> [u8; 16] {
-    join(&[h1, h2], &[])
+fn bytes_of(hash: &[u64; 2]) -> [u8; 16] {
+    let mut bytes = [0; 16];
+    sketch_murmur3_x64_128_bytes(hash, &mut bytes);
+    bytes
 }
 
 /// MurmurHash3 x64 128 of a stream that comes in pieces.
 ///
-/// Two streams are equal if they have the same words, length and bytes that wait for the rest of a
-/// block: they hash alike whatever comes.
-///
 /// As a [`Hasher`] it hashes the bytes that it is fed, and finishes with the first of both words.
+/// Two streams are equal if they will hash alike, whatever comes.
 ///
 /// ```
 /// let mut hasher = sketch_hash::Murmur3X64_128::new(7);
@@ -57,7 +58,13 @@ pub struct Murmur3X64_128 {
 }
 
 impl Murmur3X64_128 {
-    /// A stream with a seed, and no bytes.
+    /// Starts a stream with a seed.
+    ///
+    /// ```
+    /// use sketch_hash::Murmur3X64_128;
+    /// const SEVEN: Murmur3X64_128 = Murmur3X64_128::new(7);
+    /// assert_eq!(SEVEN.digest(), sketch_hash::murmur3_x64_128(b"", 7));
+    /// ```
     #[inline]
     pub const fn new(seed: u64) -> Self {
         let state = Murmur3X64_128State { h1: seed, h2: seed, total: 0, waiting: [0; 16] };
@@ -65,12 +72,27 @@ impl Murmur3X64_128 {
     }
 
     /// Starts again with a seed, and no bytes.
+    ///
+    /// ```
+    /// use sketch_hash::Murmur3X64_128;
+    /// let mut hasher = Murmur3X64_128::new(7);
+    /// hasher.update(b"other bytes");
+    /// hasher.reset(9);
+    /// assert_eq!(hasher, Murmur3X64_128::new(9));
+    /// ```
     #[inline]
     pub fn reset(&mut self, seed: u64) {
-        sketch_murmur3_x64_128_reset(&mut self.state, seed);
+        *self = Self::new(seed);
     }
 
     /// Appends bytes to the stream. Splitting the input into several calls gives the same hash.
+    ///
+    /// ```
+    /// use sketch_hash::Murmur3X64_128;
+    /// let mut hasher = Murmur3X64_128::new(7);
+    /// hasher.update(b"fox");
+    /// assert_eq!(hasher.digest(), sketch_hash::murmur3_x64_128(b"fox", 7));
+    /// ```
     #[inline]
     pub fn update(&mut self, input: &[u8]) {
         // SAFETY: a slice is readable for its length, which is below 2^63. It does not change
@@ -78,45 +100,69 @@ impl Murmur3X64_128 {
         unsafe { sketch_murmur3_x64_128_update(&mut self.state, input.as_ptr(), input.len()) }
     }
 
-    /// The two words of the hash of all bytes so far. The stream may go on.
+    /// Returns the two words of the hash of all bytes so far. The stream may go on.
+    ///
+    /// ```
+    /// let [h1, h2] = sketch_hash::Murmur3X64_128::new(0).digest();
+    /// assert_eq!(format!("{h1:016x}{h2:016x}"), "0".repeat(32));
+    /// ```
     #[inline]
-    pub fn digest(&self) -> (u64, u64) {
-        let hash = sketch_murmur3_x64_128_digest(&self.state);
-        (hash.h1, hash.h2)
+    pub fn digest(&self) -> [u64; 2] {
+        let mut hash = [0; 2];
+        sketch_murmur3_x64_128_digest(&self.state, &mut hash);
+        hash
     }
 
-    /// The digest as its 16 bytes lie in memory: each word's lowest byte first.
+    /// Returns the digest in the byte order of
+    /// [`murmur3_x64_128_bytes`](crate::murmur3_x64_128_bytes).
+    ///
+    /// ```
+    /// use sketch_hash::{murmur3_x64_128_bytes, Murmur3X64_128};
+    /// assert_eq!(Murmur3X64_128::new(7).digest_bytes(), murmur3_x64_128_bytes(b"", 7));
+    /// ```
     pub fn digest_bytes(&self) -> [u8; 16] {
-        in_memory(self.digest())
+        bytes_of(&self.digest())
     }
 
-    /// The stream as a checkpoint of 40 bytes, from which [`from_bytes`](Self::from_bytes) goes on.
+    /// Returns the stream as a checkpoint, from which [`from_bytes`](Self::from_bytes) goes on.
+    ///
+    /// ```
+    /// use sketch_hash::{murmur3_x64_128, Murmur3X64_128};
+    /// let mut hasher = Murmur3X64_128::new(7);
+    /// hasher.update(b"in ");
+    /// let mut later = Murmur3X64_128::from_bytes(&hasher.to_bytes());
+    /// later.update(b"pieces");
+    /// assert_eq!(later.digest(), murmur3_x64_128(b"in pieces", 7));
+    /// ```
     pub fn to_bytes(&self) -> [u8; 40] {
-        join(&[self.state.h1, self.state.h2, self.state.total], &self.state.waiting)
+        // SAFETY: a state has no padding.
+        unsafe { transmute(self.state) }
     }
 
-    /// The stream of a checkpoint. Any other bytes are safe too, and give some hash.
+    /// Returns the stream of a checkpoint. Any other bytes are safe too, and give some hash.
+    ///
+    /// ```
+    /// use sketch_hash::Murmur3X64_128;
+    /// let hasher = Murmur3X64_128::from_bytes(&[5; 40]);
+    /// assert_eq!(hasher.to_bytes(), [5; 40]);
+    /// ```
     pub fn from_bytes(bytes: &[u8; 40]) -> Self {
-        let [h1, h2, total] = [0, 1, 2].map(|place| word(bytes, place));
-        let mut waiting = [0; 16];
-        waiting.copy_from_slice(&bytes[24..]);
-        Murmur3X64_128 { state: Murmur3X64_128State { h1, h2, total, waiting } }
+        // SAFETY: any bytes are a state.
+        Murmur3X64_128 { state: unsafe { transmute::<[u8; 40], Murmur3X64_128State>(*bytes) } }
     }
 }
 
 impl PartialEq for Murmur3X64_128 {
     fn eq(&self, other: &Self) -> bool {
-        let [mut one, mut two] = [self, other].map(|it| it.state.clone());
-        for state in [&mut one, &mut two] {
+        let [one, two] = [self.state, other.state].map(|mut state| {
             state.waiting[(state.total % 16) as usize..].fill(0);
-        }
+            state
+        });
         one == two
     }
 }
 
 impl Eq for Murmur3X64_128 {}
-
-writes!(Murmur3X64_128);
 
 impl Default for Murmur3X64_128 {
     /// A stream with the seed 0.
@@ -139,11 +185,31 @@ impl Hasher for Murmur3X64_128 {
 
     #[inline]
     fn finish(&self) -> u64 {
-        self.digest().0
+        self.digest()[0]
+    }
+}
+
+/// Appends all bytes, and never fails.
+#[cfg(feature = "std")]
+impl std::io::Write for Murmur3X64_128 {
+    fn write(&mut self, bytes: &[u8]) -> std::io::Result<usize> {
+        self.update(bytes);
+        Ok(bytes.len())
+    }
+
+    fn flush(&mut self) -> std::io::Result<()> {
+        Ok(())
     }
 }
 
 /// Makes the hashers of a map: [`Murmur3X64_128`] with one seed.
+///
+/// ```
+/// use sketch_hash::BuildMurmur3X64_128;
+/// use std::collections::HashSet;
+/// let mut seen = HashSet::with_hasher(BuildMurmur3X64_128::new(7));
+/// assert!(seen.insert("fox"));
+/// ```
 #[derive(Clone, Copy, Debug, Default, PartialEq, Eq)]
 pub struct BuildMurmur3X64_128 {
     seed: u64,

@@ -1,7 +1,6 @@
 """A headless Chromium, and a server of dist/wasm. Both are for one worker of pytest alone."""
 import functools
 import http.server
-import os
 import pathlib
 import shutil
 import threading
@@ -9,7 +8,6 @@ import threading
 import pytest
 
 DIST = pathlib.Path(__file__).resolve().parents[3] / "dist"
-os.environ["DIST"] = str(DIST)  # for Node's part of the tests
 
 
 def pytest_collection_modifyitems(items):
@@ -21,6 +19,11 @@ def pytest_collection_modifyitems(items):
 class Quiet(http.server.SimpleHTTPRequestHandler):
     def log_message(self, *_):
         pass
+
+
+@pytest.fixture(scope="session")
+def dist():
+    return DIST
 
 
 @pytest.fixture(scope="session")

@@ -1,0 +1,86 @@
+use crate::calls;
+use core::ffi::c_int;
+use core::fmt;
+
+/// Why a call failed. A call that fails has changed nothing.
+///
+/// ```
+/// use sketch_hash::{xxh64_each, Error};
+/// let error = xxh64_each(b"foxdog", &[0_u32, 3, 7], 0, &mut [0; 2]).unwrap_err();
+/// assert_eq!(error, Error::Offset { index: 2 });
+/// ```
+#[derive(Clone, Copy, Debug, PartialEq, Eq, Hash)]
+#[non_exhaustive]
+pub enum Error {
+    /// No Bloom filter has this length, or two filters to be merged have different lengths.
+    Length,
+    /// An offset of a column is missing, past the end of the keys, or below the offset before it.
+    Offset {
+        /// The index of the first such offset.
+        index: usize,
+    },
+    /// There are fewer values than places for results.
+    Count,
+    /// No filter of at most 128 MiB keeps the rate that was asked for.
+    TooManyKeys,
+    /// The input does not begin with the header of a filter.
+    Header,
+    /// The input ends before the filter does.
+    Truncated,
+    /// The library returned a status that this version of the crate does not know.
+    Unknown(i32),
+}
+
+impl Error {
+    /// The result of a call that returned `status`, and wrote the index of a wrong offset.
+    pub(crate) fn check(status: c_int, index: usize) -> Result<(), Error> {
+        Err(match status {
+            calls::OK => return Ok(()),
+            calls::ERROR_LENGTH => Error::Length,
+            calls::ERROR_OFFSET => Error::Offset { index },
+            calls::ERROR_COUNT => Error::Count,
+            _ => Error::Unknown(status),
+        })
+    }
+}
+
+impl fmt::Display for Error {
+    fn fmt(&self, f: &mut fmt::Formatter<'_>) -> fmt::Result {
+        match self {
+            Error::Length => f.write_str(
+                "the length of a Bloom filter must be a positive multiple of 32 bytes, \
+                 and that of both filters of a merge",
+            ),
+            Error::Offset { index } => write!(
+                f,
+                "the offset at {index} is missing, past the end of the keys, or below the one before"
+            ),
+            Error::Count => f.write_str("there are fewer values than places for results"),
+            Error::TooManyKeys => {
+                f.write_str("no Bloom filter of at most 128 MiB keeps this rate for so many keys")
+            }
+            Error::Header => f.write_str("the input does not begin with a Bloom filter's header"),
+            Error::Truncated => f.write_str("the input ends before the Bloom filter does"),
+            Error::Unknown(status) => write!(f, "the library returned the unknown status {status}"),
+        }
+    }
+}
+
+impl core::error::Error for Error {}
+
+#[cfg(test)]
+mod tests {
+    use super::*;
+
+    #[test]
+    fn an_unknown_status_is_an_error() {
+        assert_eq!(Error::check(-99, 7), Err(Error::Unknown(-99)));
+    }
+
+    /// A column of so many offsets would take gigabytes.
+    #[test]
+    fn an_index_past_32_bits_is_reported() {
+        let index = (1 << 32) + 7;
+        assert_eq!(Error::check(calls::ERROR_OFFSET, index), Err(Error::Offset { index }));
+    }
+}

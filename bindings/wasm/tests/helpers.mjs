@@ -1,0 +1,23 @@
+// What the tests share: the module, as it is loaded by default, and inputs.
+import v8 from 'node:v8';
+import { load } from '../sketch_hash.mjs';
+
+const memory64 = Uint8Array.of(0, 0x61, 0x73, 0x6d, 1, 0, 0, 0, 5, 3, 1, 4, 0);
+if (!WebAssembly.validate(memory64)) v8.setFlagsFromString('--experimental-wasm-memory64'); // Node 20 and 22
+
+export const library = await load();
+export const fox = new TextEncoder().encode('The quick brown fox jumps over the lazy dog');
+export const last = 2n ** 64n - 1n;
+/** Longer than what the module's memory takes at a time. */
+export const long = new Uint8Array(1_000_001).map((_, at) => Math.imul(at, 2654435761) >>> 24);
+export const bytes = (text) => new TextEncoder().encode(text);
+
+/** Views whose memory was given away, or ends before they begin. */
+export function lost(kind) {
+    const givenAway = new kind(new ArrayBuffer(16));
+    structuredClone(givenAway.buffer, { transfer: [givenAway.buffer] });
+    const buffer = new ArrayBuffer(16, { maxByteLength: 16 });
+    const shrunk = new kind(buffer, 8);
+    buffer.resize(0);
+    return [givenAway, shrunk];
+}
