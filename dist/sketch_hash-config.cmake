@@ -8,8 +8,8 @@ get_filename_component(sketch_hash_prefix "${sketch_hash_prefix}/../../.." ABSOL
 if(NOT TARGET sketch_hash::sketch_hash)
     add_library(sketch_hash::sketch_hash SHARED IMPORTED)
     set_target_properties(sketch_hash::sketch_hash PROPERTIES
-        IMPORTED_LOCATION "${sketch_hash_prefix}/lib/libsketch_hash.so.1"
-        IMPORTED_SONAME libsketch_hash.so.1
+        IMPORTED_LOCATION "${sketch_hash_prefix}/lib/libsketch_hash.so.2"
+        IMPORTED_SONAME libsketch_hash.so.2
         INTERFACE_INCLUDE_DIRECTORIES "${sketch_hash_prefix}/include")
     add_library(sketch_hash::sketch_hash_static STATIC IMPORTED)
     set_target_properties(sketch_hash::sketch_hash_static PROPERTIES

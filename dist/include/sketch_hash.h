@@ -1,31 +1,27 @@
-/* sketch_hash 1.2.0: XXH64 and MurmurHash3_x64_128 of bytes, and a Bloom filter (a table, below), from
- * functions that are proved.
+/* sketch_hash 2.0.0: XXH64, MurmurHash3_x64_128 and the Bloom filter of Apache Parquet, from
+ * functions that are proved. Licence: Apache-2.0.
  *
- * Proved of the library: for every seed, and however a stream is cut into updates, a digest is the
- * hash of all bytes since the last reset (tests, and no proof, show that its definition is the
- * published algorithm); a table contains each key that was inserted; no call reads or writes
- * outside of what it is given; only calls on tables fail, with a negative status
- * (sketch_member_size: with 0), and calls on columns, at an offset that does not fit or a number
- * that is missing; every content of a state, a table or an array of offsets is safe, even noise.
- * The library imports nothing, so no call can allocate.
+ * Proved: for every seed, a digest is the hash of all bytes since the reset, however they were
+ * split into updates; a Bloom filter contains each key that was inserted; no call reads or writes
+ * outside of what it is given, for any content of it. The library imports nothing, so no call
+ * allocates. Tests, and no proof, show that the definitions are the published algorithms.
  *
- * What a caller owes, which no compiler checks:
- *   - A state starts by its _INIT or its _reset. A state of zeros is safe, but XXH64 of it is
- *     wrong from 32 bytes on.
- *   - A pointer to a state or a count is valid, and nothing else touches it during a call.
- *   - `input`, `key` and the bytes of a table point to as many readable bytes as their length says,
- *     which nothing else changes during the call, and overlap nothing that the call writes. They
- *     may be NULL only if the length is 0. A length is below 2^63.
- *   - The same holds of each array that is passed with a count of its elements, which is below 2^60;
- *     it is aligned for its type, unless its count is 0. `out` is writable, and overlaps nothing else
- *     that is passed.
- *   - The bytes of a table that a call changes are writable too.
+ * What a call returns:
+ *   - An `int` is 0 if all is done, or a negative `enum sketch_status`. After an error, nothing
+ *     that the call was given has changed, but for *wrong_offset.
+ *   - sketch_bloom_contains and sketch_bloom_contains_hash return 1 or 0.
+ *   - A count or a size is a `size_t`. It is 0 if there is none.
  *
- * A state or a table owns nothing: declare it, copy it, write it to a file (a state, for the same
- * kind of machine), forget it. Threads may share the library, and each state and each table that is
- * changed needs one owner at a time.
+ * What a caller must ensure, which no compiler checks:
+ *   - A pointer with a length or a count points to that much memory, which is aligned for its type
+ *     and may be NULL only if the count is 0. A length is below 2^63, a count below 2^60.
+ *   - Any other pointer is valid.
+ *   - What a call writes does not overlap anything else that it is given, and nobody else reads or
+ *     writes it during the call. Nobody else writes what a call reads.
+ *   - A state starts with its _INIT or its _reset.
  *
- * Licence: Apache-2.0.
+ * A state or a filter is plain data: copy it, save it, forget it. There is nothing to free. Threads
+ * may share what they only read.
  */
 #ifndef SKETCH_HASH_H
 #define SKETCH_HASH_H
@@ -40,19 +36,38 @@ extern "C" {
 #define SKETCH_HASH_U64(number) ((uint64_t)(number))
 #endif
 
-/* 1.2.0: major * 10000 + minor * 100 + patch. The function returns that of the library. */
-#define SKETCH_HASH_VERSION 10200
+/** The version of this header: major * 10000 + minor * 100 + patch. */
+#define SKETCH_HASH_VERSION 20000
+
+/** Returns the version of the library. */
 uint32_t sketch_hash_version(void);
 
-/* ---- XXH64, after Yann Collet's xxHash specification. As hexadecimal: printf("%016" PRIx64). */
+/** What an `int` call returns. */
+enum sketch_status {
+    /** All is done. */
+    SKETCH_OK = 0,
+    /** No Bloom filter has this length, which must be a positive multiple of 32 below 2^37. Or two
+     * filters to be merged have different lengths. */
+    SKETCH_ERROR_LENGTH = -1,
+    /** An offset is missing, past the end, or below the one before it. */
+    SKETCH_ERROR_OFFSET = -2,
+    /** There are fewer values than places for results. */
+    SKETCH_ERROR_COUNT = -3
+};
 
+/* ---- XXH64, after Yann Collet's specification */
+
+/** An XXH64 in progress. */
 typedef struct sketch_xxh64_state {
     uint64_t seed, v1, v2, v3, v4;
     uint64_t total;            /* bytes since the reset, modulo 2^64 */
-    unsigned char waiting[32]; /* the first total % 32 are bytes of the stream */
+    unsigned char waiting[32]; /* the first total % 32 are bytes of the input */
 } sketch_xxh64_state_t;
 
-/* The same state as after a reset. It names `seed` five times. */
+#define SKETCH_XXH64_PRIME1 ((SKETCH_HASH_U64(0x9E3779B1u) << 32) | SKETCH_HASH_U64(0x85EBCA87u))
+#define SKETCH_XXH64_PRIME2 ((SKETCH_HASH_U64(0xC2B2AE3Du) << 32) | SKETCH_HASH_U64(0x27D4EB4Fu))
+
+/** Initializes a state, as sketch_xxh64_reset does. It evaluates `seed` five times. */
 #define SKETCH_XXH64_INIT(seed)                                                                   \
     {                                                                                             \
         SKETCH_HASH_U64(seed), SKETCH_HASH_U64(seed) + SKETCH_XXH64_PRIME1 + SKETCH_XXH64_PRIME2, \
@@ -60,141 +75,193 @@ typedef struct sketch_xxh64_state {
             SKETCH_HASH_U64(seed) - SKETCH_XXH64_PRIME1, 0, { 0 }                                 \
     }
 
-/* In one call, of bytes, and of the eight bytes of a number as a little-endian machine has them. */
+/** Returns XXH64 of `length` bytes. It prints as "%016" PRIx64. */
 uint64_t sketch_xxh64(const void *input, size_t length, uint64_t seed);
+
+/** Returns XXH64 of the eight bytes of a number, the lowest first. */
 uint64_t sketch_xxh64_u64(uint64_t value, uint64_t seed);
 
+/** Starts a state with a seed, and no bytes. */
 void sketch_xxh64_reset(sketch_xxh64_state_t *state, uint64_t seed);
+
+/** Appends bytes to the input. Splitting it into several calls gives the same hash. */
 void sketch_xxh64_update(sketch_xxh64_state_t *state, const void *input, size_t length);
+
+/** Returns XXH64 of all bytes since the reset. The state is unchanged, so more may follow. */
 uint64_t sketch_xxh64_digest(const sketch_xxh64_state_t *state);
 
-/* ---- MurmurHash3_x64_128, after Austin Appleby, with a seed of 64 bits.
- * A seed below 2^32 gives the hash that the original gives under it.
- * As hexadecimal: h1, then h2, each of 16 digits with the highest first, "%016" PRIx64 "%016"
- * PRIx64. Other tools print the 16 bytes as they lie in memory: there each word's bytes are the
- * other way round. */
+/* ---- MurmurHash3_x64_128, after Austin Appleby, with a seed of 64 bits */
 
-typedef struct sketch_murmur3_x64_128_hash {
-    uint64_t h1, h2; /* out[0] and out[1] of the original */
-} sketch_murmur3_x64_128_hash_t;
-
+/** A MurmurHash3_x64_128 in progress. */
 typedef struct sketch_murmur3_x64_128_state {
     uint64_t h1, h2;
     uint64_t total;            /* bytes since the reset, modulo 2^64 */
-    unsigned char waiting[16]; /* the first total % 16 are bytes of the stream */
+    unsigned char waiting[16]; /* the first total % 16 are bytes of the input */
 } sketch_murmur3_x64_128_state_t;
 
-/* The same state as after a reset. It names `seed` twice. */
+/** Initializes a state, as sketch_murmur3_x64_128_reset does. It evaluates `seed` twice. */
 #define SKETCH_MURMUR3_X64_128_INIT(seed)                                                         \
     {                                                                                             \
         SKETCH_HASH_U64(seed), SKETCH_HASH_U64(seed), 0, { 0 }                                    \
     }
 
-sketch_murmur3_x64_128_hash_t sketch_murmur3_x64_128(const void *input, size_t length,
-                                                     uint64_t seed);
+/** Writes the two words of MurmurHash3_x64_128 of `length` bytes, as the original's `out`. A seed
+ * below 2^32 gives the original's hash. hash[0] and then hash[1], each as "%016" PRIx64, are the 32
+ * digits that sketchsum prints; for those of most other tools see sketch_murmur3_x64_128_bytes. */
+void sketch_murmur3_x64_128(const void *input, size_t length, uint64_t seed, uint64_t hash[2]);
 
+/** Starts a state with a seed, and no bytes. */
 void sketch_murmur3_x64_128_reset(sketch_murmur3_x64_128_state_t *state, uint64_t seed);
+
+/** Appends bytes to the input. Splitting it into several calls gives the same hash. */
 void sketch_murmur3_x64_128_update(sketch_murmur3_x64_128_state_t *state, const void *input,
                                    size_t length);
-sketch_murmur3_x64_128_hash_t
-sketch_murmur3_x64_128_digest(const sketch_murmur3_x64_128_state_t *state);
 
-/* Writes the hash as its 16 bytes lie in memory, which other tools print: h1 and then h2, each with its lowest byte
- * first. */
-void sketch_murmur3_x64_128_bytes(const sketch_murmur3_x64_128_hash_t *hash, unsigned char *out);
+/** Writes the two words of the hash of all bytes since the reset. The state is unchanged, so more
+ * may follow. */
+void sketch_murmur3_x64_128_digest(const sketch_murmur3_x64_128_state_t *state, uint64_t hash[2]);
 
-/* ---- Columns of keys: one call hashes all keys of a column, as Apache Arrow lays out strings.
+/** Writes a hash in the byte order that most tools print: the lowest byte of each word first. */
+void sketch_murmur3_x64_128_bytes(const uint64_t hash[2], unsigned char out[16]);
+
+/* ---- Columns of keys, as Apache Arrow lays out strings
  *
- * Key i is the bytes of `input` from offsets[i] up to offsets[i + 1], and its hash goes to out[i], for
- * each i below `count`. `offsets` has count + 1 offsets; one or none if there are no keys. `offset_count` says
- * how many may be read; those beyond are not. Arrow's own are signed: cast their pointer.
+ * Key i is the bytes input[offsets[i]] up to, and without, input[offsets[i + 1]]. So `count` keys
+ * have count + 1 offsets, and no keys one or none. `offset_count` says how many may be read;
+ * further ones are not. Arrow's offsets are signed: cast the pointer.
  *
- * A call returns 0 when all is done. Otherwise it has written nothing, and returns 1 + the index of
- * the first offset that is missing, is above `length`, or is below the offset before it. */
+ * If an offset is missing, above `length`, or below the one before it, a call returns
+ * SKETCH_ERROR_OFFSET and writes its index to *wrong_offset, which is otherwise unchanged. */
 
-size_t sketch_xxh64_each32(const void *input, size_t length, const uint32_t *offsets,
-                           size_t offset_count, uint64_t seed, uint64_t *out, size_t count);
-size_t sketch_xxh64_each64(const void *input, size_t length, const uint64_t *offsets,
-                           size_t offset_count, uint64_t seed, uint64_t *out, size_t count);
+/** Writes XXH64 of key i to out[i], for each i below `count`. The offsets have 32 bits.
+ * Returns 0 or SKETCH_ERROR_OFFSET. */
+int sketch_xxh64_each32(const void *input, size_t length, const uint32_t *offsets,
+                        size_t offset_count, uint64_t seed, uint64_t *out, size_t count,
+                        size_t *wrong_offset);
 
-size_t sketch_murmur3_x64_128_each32(const void *input, size_t length, const uint32_t *offsets,
-                                     size_t offset_count, uint64_t seed,
-                                     sketch_murmur3_x64_128_hash_t *out, size_t count);
-size_t sketch_murmur3_x64_128_each64(const void *input, size_t length, const uint64_t *offsets,
-                                     size_t offset_count, uint64_t seed,
-                                     sketch_murmur3_x64_128_hash_t *out, size_t count);
+/** Writes XXH64 of key i to out[i], for each i below `count`. The offsets have 64 bits.
+ * Returns 0 or SKETCH_ERROR_OFFSET. */
+int sketch_xxh64_each64(const void *input, size_t length, const uint64_t *offsets,
+                        size_t offset_count, uint64_t seed, uint64_t *out, size_t count,
+                        size_t *wrong_offset);
 
-/* A column of numbers, each hashed as sketch_xxh64_u64 does. With fewer values than `count` it writes
- * nothing, and returns 1 + value_count. */
-size_t sketch_xxh64_each_u64(const uint64_t *values, size_t value_count, uint64_t seed,
-                             uint64_t *out, size_t count);
+/** Writes sketch_xxh64_u64 of values[i] to out[i], for each i below `count`.
+ * Returns 0, or SKETCH_ERROR_COUNT if `value_count` is below `count`. */
+int sketch_xxh64_each_u64(const uint64_t *values, size_t value_count, uint64_t seed, uint64_t *out,
+                          size_t count);
 
-/* ---- A table, which is a Bloom filter: it tells whether a key was inserted. It has no false
- * negatives. The false positive rate with 7 hashes is about 1 in 100 where the table has 10 bits
- * for each key, and 1 in 1000 where it has 15.
+/** Writes MurmurHash3_x64_128 of key i to out[i], for each i below `count`. The offsets have 32
+ * bits. Returns 0 or SKETCH_ERROR_OFFSET. */
+int sketch_murmur3_x64_128_each32(const void *input, size_t length, const uint32_t *offsets,
+                                  size_t offset_count, uint64_t seed, uint64_t (*out)[2],
+                                  size_t count, size_t *wrong_offset);
+
+/** Writes MurmurHash3_x64_128 of key i to out[i], for each i below `count`. The offsets have 64
+ * bits. Returns 0 or SKETCH_ERROR_OFFSET. */
+int sketch_murmur3_x64_128_each64(const void *input, size_t length, const uint64_t *offsets,
+                                  size_t offset_count, uint64_t seed, uint64_t (*out)[2],
+                                  size_t count, size_t *wrong_offset);
+
+/* ---- The split block Bloom filter of Apache Parquet, which Spark, Arrow and DuckDB read
  *
- * A table is its bytes, which any machine reads and writes alike. They lie where the caller wants,
- * as in a file that is mapped. Each call but sketch_member_size, _init and _for_keys checks the
- * header, 24 bytes, and makes no pass over the bits to do so. A call that fails changes nothing. */
+ * A filter is `length` bytes at `bits`, the same on every machine, of any alignment. Bytes of 0 are
+ * the filter without keys. The length is a positive multiple of 32 below 2^37, else a call returns
+ * SKETCH_ERROR_LENGTH; Arrow reads only powers of two up to 128 MiB. Any bytes of such a length are
+ * a filter.
+ *
+ * A key is the value's plain bytes in Parquet: those of a text without a length, those of a number
+ * with the lowest first. */
 
-/* What a call returns: the first fault in this order, or -1 where the header ends before it. */
-enum sketch_member_status {
-    SKETCH_MEMBER_OK = 0,
-    SKETCH_MEMBER_HEADER_ENDS = -1,     /* the header is truncated */
-    SKETCH_MEMBER_PREAMBLE_LONGS = -2,  /* byte 0 is neither 2 nor 3 */
-    SKETCH_MEMBER_SERIAL_VERSION = -3,  /* byte 1 is not one less than byte 0 */
-    SKETCH_MEMBER_FAMILY = -4,          /* byte 2 is not 200 */
-    SKETCH_MEMBER_LOG2_BITS = -5,       /* log2_bits is not 6 to 20 */
-    SKETCH_MEMBER_HASHES = -6,          /* hashes is not 1 to 16 */
-    SKETCH_MEMBER_RESERVED = -7,        /* byte 5 is not 0 (or 1 in version 2), or byte
-                                         * 6 or 7 is not 0 */
-    SKETCH_MEMBER_UNKNOWN_COUNT = -8,   /* the count is unknown and not 0 */
-    SKETCH_MEMBER_MISSING_BITS = -9,    /* there are fewer bytes than the bits need */
-    SKETCH_MEMBER_TRAILING_BYTES = -10, /* there are more */
-    SKETCH_MEMBER_VERSION_1 = -11,      /* a table of version 1, which has no place for a count; no
-                                         * call here reads it */
-    SKETCH_MEMBER_OTHER_SEED = -12,     /* two tables to be merged have different seeds, */
-    SKETCH_MEMBER_OTHER_LOG2_BITS = -13, /* different sizes, */
-    SKETCH_MEMBER_OTHER_HASHES = -14     /* or different numbers of hashes */
-};
+/** Returns how many bytes the smallest filter has of which at most one in `one_in` other keys is
+ * found, once it has `keys` keys: a power of two, 32 bytes to 128 MiB. 0 if there is none. */
+size_t sketch_bloom_bytes_for(uint64_t keys, uint64_t one_in);
 
-/* How many bytes a table of 2^log2_bits bits has: 24 + 2^log2_bits / 8; 0 outside of 6 to 20. */
-size_t sketch_member_size(unsigned log2_bits);
+/** Returns 0 if a filter may have this length, or SKETCH_ERROR_LENGTH. */
+int sketch_bloom_check(size_t length);
 
-/* Writes the sizes of the smallest table that reports at most one in `one_in` of other keys, once it has
- * so many, and returns 0. Returns 1, and writes nothing, where no table does (the largest has 2^20 bits:
- * 109,000 keys at 1 in 100), or one of the two is above 2^31. */
-int sketch_member_for_keys(uint64_t keys, uint64_t one_in, unsigned *log2_bits, unsigned *hashes);
+/** Inserts a key. Returns 0 or SKETCH_ERROR_LENGTH. */
+int sketch_bloom_insert(void *bits, size_t length, const void *key, size_t key_length);
 
-/* Makes bytes a table without keys. It refuses, in this order: log2_bits outside of 6 to 20, hashes
- * outside of 1 to 16, and a length other than that of sketch_member_size (HEADER_ENDS below 24, else
- * MISSING_BITS or TRAILING_BYTES). */
-int sketch_member_init(void *bytes, size_t length, uint64_t seed, unsigned log2_bits,
-                       unsigned hashes);
+/** Returns 1 if the filter may contain the key, and 0 if it was certainly not inserted. Returns 1
+ * too if no filter has this length: such bytes rule nothing out. */
+int sketch_bloom_contains(const void *bits, size_t length, const void *key, size_t key_length);
 
-/* 0 where the bytes are a table of version 2, else a negative status. */
-int sketch_member_check(const void *bytes, size_t length);
+/** Inserts the key with this XXH64 of the seed 0. Returns 0 or SKETCH_ERROR_LENGTH. */
+int sketch_bloom_insert_hash(void *bits, size_t length, uint64_t hash);
 
-/* Inserts a key. */
-int sketch_member_insert(void *bytes, size_t length, const void *key, size_t key_length);
+/** Returns what sketch_bloom_contains does for the key with this XXH64 of the seed 0. */
+int sketch_bloom_contains_hash(const void *bits, size_t length, uint64_t hash);
 
-/* 1 where the table contains the key, 0 where it does not, or a negative status: compare with == 1, since a fault is not
- * zero, and so `if (sketch_member_contains(..))` takes it for a yes. */
-int sketch_member_contains(const void *bytes, size_t length, const void *key, size_t key_length);
+/** Inserts the offset_count - 1 keys of a column with offsets of 32 bits.
+ * Returns 0, SKETCH_ERROR_LENGTH or SKETCH_ERROR_OFFSET. */
+int sketch_bloom_insert_each32(void *bits, size_t length, const void *keys, size_t keys_length,
+                               const uint32_t *offsets, size_t offset_count, size_t *wrong_offset);
 
-/* Merges the table at `from`, of the same seed and sizes, into the one at `into`: the result is the
- * table of the keys of both. A fault of `into` is told before one of `from`. */
-int sketch_member_merge(void *into, size_t length, const void *from, size_t from_length);
+/** Inserts the offset_count - 1 keys of a column with offsets of 64 bits.
+ * Returns 0, SKETCH_ERROR_LENGTH or SKETCH_ERROR_OFFSET. */
+int sketch_bloom_insert_each64(void *bits, size_t length, const void *keys, size_t keys_length,
+                               const uint64_t *offsets, size_t offset_count, size_t *wrong_offset);
 
-/* Writes to `count` how many inserts were counted, at most 2^64 - 1, and returns 0. Returns 1 where
- * that is unknown, or a negative status; `count` is then unchanged. */
-int sketch_member_count(const void *bytes, size_t length, uint64_t *count);
+/** Inserts the four bytes of each value: Parquet's INT32 and FLOAT.
+ * Returns 0 or SKETCH_ERROR_LENGTH. */
+int sketch_bloom_insert_each_u32(void *bits, size_t length, const uint32_t *values, size_t count);
 
-/* ---- For the initializers, and the layouts that the library was built for: with another one an
- * array below has the size -1, and does not compile. */
+/** Inserts the eight bytes of each value: Parquet's INT64 and DOUBLE.
+ * Returns 0 or SKETCH_ERROR_LENGTH. */
+int sketch_bloom_insert_each_u64(void *bits, size_t length, const uint64_t *values, size_t count);
 
-#define SKETCH_XXH64_PRIME1 ((SKETCH_HASH_U64(0x9E3779B1u) << 32) | SKETCH_HASH_U64(0x85EBCA87u))
-#define SKETCH_XXH64_PRIME2 ((SKETCH_HASH_U64(0xC2B2AE3Du) << 32) | SKETCH_HASH_U64(0x27D4EB4Fu))
+/** Inserts the keys with these XXH64 of the seed 0. Returns 0 or SKETCH_ERROR_LENGTH. */
+int sketch_bloom_insert_each_hash(void *bits, size_t length, const uint64_t *hashes, size_t count);
+
+/** Writes 1 or 0 to found[i], as sketch_bloom_contains returns it for key i of a column with
+ * offsets of 32 bits, for each i below `count`. Returns 0, SKETCH_ERROR_LENGTH or
+ * SKETCH_ERROR_OFFSET. */
+int sketch_bloom_contains_each32(const void *bits, size_t length, const void *keys,
+                                 size_t keys_length, const uint32_t *offsets, size_t offset_count,
+                                 unsigned char *found, size_t count, size_t *wrong_offset);
+
+/** Writes 1 or 0 to found[i], as sketch_bloom_contains returns it for key i of a column with
+ * offsets of 64 bits, for each i below `count`. Returns 0, SKETCH_ERROR_LENGTH or
+ * SKETCH_ERROR_OFFSET. */
+int sketch_bloom_contains_each64(const void *bits, size_t length, const void *keys,
+                                 size_t keys_length, const uint64_t *offsets, size_t offset_count,
+                                 unsigned char *found, size_t count, size_t *wrong_offset);
+
+/** Writes 1 or 0 to found[i] for the four bytes of values[i], for each i below `count`. Returns 0,
+ * SKETCH_ERROR_LENGTH, or SKETCH_ERROR_COUNT if `value_count` is below `count`. */
+int sketch_bloom_contains_each_u32(const void *bits, size_t length, const uint32_t *values,
+                                   size_t value_count, unsigned char *found, size_t count);
+
+/** Writes 1 or 0 to found[i] for the eight bytes of values[i], for each i below `count`. Returns 0,
+ * SKETCH_ERROR_LENGTH, or SKETCH_ERROR_COUNT if `value_count` is below `count`. */
+int sketch_bloom_contains_each_u64(const void *bits, size_t length, const uint64_t *values,
+                                   size_t value_count, unsigned char *found, size_t count);
+
+/** Writes 1 or 0 to found[i] for the key with the XXH64 hashes[i], for each i below `count`.
+ * Returns 0, SKETCH_ERROR_LENGTH, or SKETCH_ERROR_COUNT if `hash_count` is below `count`. */
+int sketch_bloom_contains_each_hash(const void *bits, size_t length, const uint64_t *hashes,
+                                    size_t hash_count, unsigned char *found, size_t count);
+
+/** Merges the filter at `from` into the one at `into`, which then contains the keys of both.
+ * Returns 0, or SKETCH_ERROR_LENGTH, also if the lengths are different. */
+int sketch_bloom_merge(void *into, size_t length, const void *from, size_t from_length);
+
+/** How many bytes sketch_bloom_header_write writes at most. */
+#define SKETCH_BLOOM_HEADER_MAX 19
+
+/** Writes the header that is before a filter of so many bytes in a Parquet file, and returns its
+ * length: 15 to 19. Returns 0, and writes nothing, if `length` is too small, or `bytes` is 2^31 or
+ * more or no filter's length. The file's bloom_filter_length is that of the header and the filter.
+ */
+size_t sketch_bloom_header_write(uint64_t bytes, unsigned char *header, size_t length);
+
+/** Reads the header of a split block filter with XXH64, uncompressed. Writes the filter's length to
+ * *bytes, and returns the header's, after which the filter is. Returns 0, and writes nothing, if
+ * `input` does not begin with such a header. The filter may end after `input` does. */
+size_t sketch_bloom_header_read(const void *input, size_t length, uint64_t *bytes);
+
+/* ---- The layouts that the library was built for. With another one an array below has the size -1,
+ * and does not compile. */
 
 typedef char sketch_hash_xxh64_state_has_no_padding
     [sizeof(sketch_xxh64_state_t) == 80 && offsetof(sketch_xxh64_state_t, waiting) == 48 ? 1 : -1];

@@ -1,85 +1,145 @@
-/** XXH64 and MurmurHash3 x64 128, from functions that are proved. */
+/** XXH64, MurmurHash3 x64 128 and the Bloom filter of Apache Parquet, from functions that are proved. */
 
-/** What is hashed: its bytes, as they lie in memory. */
+/** What is hashed: its bytes, as they are in memory. */
 export type Input = ArrayBuffer | ArrayBufferView;
+
+/** A key of a Bloom filter: bytes, or a text, of which the filter takes the UTF-8. */
+export type Key = Input | string;
+
+/** A whole number from 0 to 2^64 - 1: a BigInt, or a number that is a safe integer. */
+export type Whole = bigint | number;
 
 /** Where each key of a column begins, and then where the last one ends: one more than keys. */
 export type Offsets = Uint32Array | Int32Array | BigUint64Array | BigInt64Array;
+
+/** Numbers of 4 or of 8 bytes. */
+export type Numbers = Offsets | Float32Array | Float64Array;
 
 /**
  * A stream that comes in pieces. Splitting the input into several updates gives the same hash. A file in
  * a browser: `for await (const piece of file.stream()) stream.update(piece);`
  */
 export interface Stream {
-    /** The seed of the last reset, from 0n to 2n ** 64n - 1n. */
+    /** The seed of the last reset. */
     readonly seed: bigint;
     /** Appends bytes, and returns the stream. */
     update(bytes: Input): this;
     /** The hash of all bytes so far: 64 bits, or Murmur's 128 with its first word above the second. */
     digest(): bigint;
     /** The digest in lower-case hexadecimal, 16 or 32 digits, the highest first. */
-    hexdigest(): string;
-    /** A stream of the same bytes so far, which goes on independently. */
+    hexDigest(): string;
+    /** A stream with the same bytes so far, which goes on independently. */
     copy(): this;
-    /** Drops all bytes, and keeps the seed where none is given. */
-    reset(seed?: bigint): this;
+    /** Drops all bytes, and keeps the seed if none is given. */
+    reset(seed?: Whole): this;
 }
 
 /** A stream of MurmurHash3 x64 128. */
 export interface MurmurStream extends Stream {
-    /** The digest as its 16 bytes lie in memory: each word's lowest byte first. */
+    /** The digest in the byte order that most tools print: each word's lowest byte first. */
     digestBytes(): Uint8Array;
 }
 
 /**
- * The calls. Each throws a TypeError where an input, a column or a seed is of another type, and a
- * RangeError where a seed is not from 0n to 2n ** 64n - 1n; so do streams.
+ * The split block Bloom filter of Apache Parquet, which Spark, Arrow and DuckDB read. It contains each key that was added,
+ * and reports some others too. Its bytes are in the module's memory, until the filter is collected as garbage.
+ *
+ * A key is the value's plain bytes in Parquet: those of a text without a length, those of a number with the lowest first.
  */
-export interface Library {
-    /** XXH64 of the bytes under a seed, 0n if left out. */
-    xxh64(bytes: Input, seed?: bigint): bigint;
-    /** The same in 16 hexadecimal digits. */
-    xxh64Hex(bytes: Input, seed?: bigint): string;
-    /** MurmurHash3 x64 128 of the bytes under a seed, 0n if left out. */
-    murmur3X64_128(bytes: Input, seed?: bigint): bigint;
-    /** The same in 32 hexadecimal digits, those of the first word first, the highest digit first. */
-    murmur3X64_128Hex(bytes: Input, seed?: bigint): string;
-    /** The same as the 16 bytes lie in memory, which other tools print: each word's lowest byte first. */
-    murmur3X64_128Bytes(bytes: Input, seed?: bigint): Uint8Array;
+export interface BloomFilter {
+    /** How many bytes the filter has. */
+    readonly length: number;
+    /** Adds a key, and returns the filter. */
+    add(key: Key): this;
+    /** Whether the filter may contain the key: false means that it was not added. */
+    has(key: Key): boolean;
+    /** Adds the key with this xxh64, of the seed 0. */
+    addHash(hash: Whole): this;
+    /** What `has` returns for the key with this xxh64, of the seed 0. */
+    hasHash(hash: Whole): boolean;
+    /** Adds each key of a column, which is as for xxh64Each. @throws {RangeError} as xxh64Each does */
+    addEach(bytes: Input, offsets: Offsets): this;
+    /** 1 or 0 for each key of a column: what `has` returns. @throws {RangeError} as xxh64Each does */
+    hasEach(bytes: Input, offsets: Offsets): Uint8Array;
+    /** Adds the bytes of each number, the lowest first. */
+    addEachNumber(numbers: Numbers): this;
+    /** 1 or 0 for each number: what `has` returns for its bytes. */
+    hasEachNumber(numbers: Numbers): Uint8Array;
+    /** Adds the keys with these xxh64, of the seed 0. */
+    addEachHash(hashes: BigUint64Array): this;
+    /** 1 or 0 for each hash: what `hasHash` returns. */
+    hasEachHash(hashes: BigUint64Array): Uint8Array;
+    /** Adds the keys of another filter. @throws {RangeError} if the lengths are different */
+    merge(other: BloomFilter): this;
+    /** A copy of the bytes, without a header. */
+    toBytes(): Uint8Array;
+    /** The filter as it is in a Parquet file: a header, and then the bytes. */
+    toParquet(): Uint8Array;
+}
+
+export interface BloomFilterConstructor {
+    /** A filter of so many bytes without keys. @throws {RangeError} if `length` is not a positive multiple of 32 */
+    new (length: Whole): BloomFilter;
     /**
-     * XXH64 of each key of a column, laid out as Apache Arrow does strings: key i is the bytes from
-     * offsets[i] up to offsets[i + 1]. The column is copied into the module's memory, which does not
-     * shrink afterwards.
+     * The smallest filter of which at most one in `oneIn` other keys is found, once it has `keys` keys.
      *
-     * @throws {RangeError} with the index of the first offset that is missing, past the end or below
-     * the one before; or where there is no memory for the column
+     * @throws {RangeError} if no filter of at most 128 MiB keeps this rate
      */
-    xxh64Each(bytes: Input, offsets: Offsets, seed?: bigint): BigUint64Array;
+    forKeys(keys: Whole, oneIn: Whole): BloomFilter;
+    /** The length of the filter that forKeys makes. @throws {RangeError} as forKeys does */
+    bytesFor(keys: Whole, oneIn: Whole): number;
+    /** The filter with a copy of these bytes, without a header. @throws {RangeError} as the constructor does */
+    fromBytes(bytes: Input): BloomFilter;
     /**
-     * XXH64 of the eight bytes of each number, the lowest first.
+     * The filter of a Parquet file, copied: the input begins with its header, and may go on after the filter.
      *
-     * @throws {RangeError} where there is no memory for the column
+     * @throws {RangeError} if it begins with no such header, or ends before the filter does
      */
-    xxh64EachU64(values: BigUint64Array | BigInt64Array, seed?: bigint): BigUint64Array;
-    /**
-     * MurmurHash3 x64 128 of each key, as xxh64Each takes them: two words for each, the first one first.
-     *
-     * @throws {RangeError} as xxh64Each does
-     */
-    murmur3X64_128Each(bytes: Input, offsets: Offsets, seed?: bigint): BigUint64Array;
-    /** An empty stream under a seed, 0n if left out. */
-    Xxh64: new (seed?: bigint) => Stream;
-    /** An empty stream under a seed, 0n if left out. */
-    Murmur3X64_128: new (seed?: bigint) => MurmurStream;
-    /** major * 10000 + minor * 100 + patch */
-    version: number;
+    fromParquet(bytes: Input): BloomFilter;
 }
 
 /**
- * Loads the module: from sketch_hash.wasm beside this file, or from another URL, which is relative to
- * this file, or from its bytes. A page with a content security policy needs `script-src
- * 'wasm-unsafe-eval'`, and `connect-src` for where the module lies.
+ * The calls. Each throws a TypeError if an input, a column or a seed is of another type, and a RangeError if a seed is not
+ * from 0 to 2^64 - 1, or if there is no memory. A seed is 0 if left out.
+ */
+export interface Library {
+    /** The module's version, as '2.0.0'. */
+    readonly version: string;
+
+    /** XXH64 of the bytes. */
+    xxh64(bytes: Input, seed?: Whole): bigint;
+    /** XXH64 of the bytes in 16 hexadecimal digits. */
+    xxh64Hex(bytes: Input, seed?: Whole): string;
+    /**
+     * XXH64 of each key of a column, laid out as Apache Arrow does strings: key i is the bytes from offsets[i] up to
+     * offsets[i + 1]. The column is copied into the module's memory, which does not shrink afterwards.
+     *
+     * @throws {RangeError} with the index of the first offset that is missing, past the end or below the one before
+     */
+    xxh64Each(bytes: Input, offsets: Offsets, seed?: Whole): BigUint64Array;
+    /** XXH64 of the eight bytes of each number, the lowest first. */
+    xxh64EachU64(values: BigUint64Array | BigInt64Array, seed?: Whole): BigUint64Array;
+    /** An empty stream. */
+    Xxh64: new (seed?: Whole) => Stream;
+
+    /** MurmurHash3 x64 128 of the bytes: 128 bits, the first word above the second. */
+    murmur128(bytes: Input, seed?: Whole): bigint;
+    /** MurmurHash3 x64 128 in 32 hexadecimal digits: those of the first word first, the highest digit first. */
+    murmur128Hex(bytes: Input, seed?: Whole): string;
+    /** MurmurHash3 x64 128 in the byte order that most tools print: each word's lowest byte first. */
+    murmur128Bytes(bytes: Input, seed?: Whole): Uint8Array;
+    /** MurmurHash3 x64 128 of each key of a column: two words for each. @throws {RangeError} as xxh64Each does */
+    murmur128Each(bytes: Input, offsets: Offsets, seed?: Whole): BigUint64Array;
+    /** An empty stream. */
+    Murmur128: new (seed?: Whole) => MurmurStream;
+
+    BloomFilter: BloomFilterConstructor;
+}
+
+/**
+ * Loads the module: from sketch_hash.wasm beside this file, or from another URL, which is relative to this file, or from its
+ * bytes.
  *
- * @throws {Error} where the engine lacks 64-bit memories, or the module cannot be read, or is none
+ * @throws {Error} if the engine lacks 64-bit memories, or the module cannot be read, or is not one
  */
 export function load(source?: URL | string | Input): Promise<Library>;

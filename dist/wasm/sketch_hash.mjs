@@ -1,27 +1,15 @@
-// sketch_hash 1.2.0: XXH64 and MurmurHash3 x64 128, from functions that are proved, for browsers and
-// Node. Licence: Apache-2.0.
-//
-//     import { load } from './sketch_hash.mjs';
-//     const { xxh64, xxh64Hex, Xxh64, xxh64Each } = await load();
-//     const foxes = new TextEncoder().encode('foxes');
-//     xxh64(foxes, 0n);                                    // the hash is a BigInt
-//     xxh64Hex(foxes, 0n);                                 // in hexadecimal
-//     new Xxh64(0n).update(foxes).update(foxes).hexdigest();
-//     xxh64Each(foxes, Uint32Array.of(0, 3, 5));           // a BigUint64Array: the hashes of fox and es
-//
-// Input is an ArrayBuffer or a view of one; a string is refused. A seed is a BigInt from 0n to
-// 2n ** 64n - 1n, and 0n if left out. sketch_hash.d.mts has the types.
+// sketch_hash 2.0.0: XXH64, MurmurHash3 x64 128 and the Bloom filter of Apache Parquet, from functions
+// that are proved, for browsers and Node. Licence: Apache-2.0. sketch_hash.d.mts describes each call.
 
 const PAGE = 65536;
-const PIECE = 4 * PAGE; // of the input, copied into the module's memory at a time
+const PIECE = 4 * PAGE; // bytes of a long input that are copied into the module's memory at a time
 
 const UNABLE = 'This engine lacks WebAssembly with 64-bit memories. Chrome and Edge have them from 133 on, Firefox '
-    + 'from 134 on, Node from 24 on, Node 20 and 22 under --experimental-wasm-memory64; Safari has none.';
+    + 'from 134 on, Node from 24 on, Node 20 and 22 with --experimental-wasm-memory64; Safari has none.';
 
 // A module that has such a memory and nothing else.
 const MEMORY64 = Uint8Array.of(0, 0x61, 0x73, 0x6d, 1, 0, 0, 0, 5, 3, 1, 4, 0);
 
-/** Loads the module: from sketch_hash.wasm beside this file, or from another URL or its bytes. */
 export async function load(source = new URL('sketch_hash.wasm', import.meta.url)) {
     const bytes = source instanceof URL || typeof source === 'string' ? await read(source) : source;
     if (!globalThis.WebAssembly?.validate(MEMORY64)) throw new Error(UNABLE);
@@ -40,87 +28,140 @@ async function read(place) {
     return response.arrayBuffer();
 }
 
-// A built-in object's type, also where it is another frame's.
+// A built-in object's type, also if another frame made it.
 const typeOf = (value) => Object.prototype.toString.call(value).slice(8, -1);
 
 /** The bytes of an input, without a copy. */
 function view(input) {
     if (ArrayBuffer.isView(input)) {
-        input.keys?.(); // refuses an array whose buffer was shrunk below it, and which then has no bytes
+        input.keys?.(); // throws if the buffer was shrunk below the array, which then has no bytes
         return new Uint8Array(input.buffer, input.byteOffset, input.byteLength);
     }
     if (typeOf(input) === 'ArrayBuffer') return view(new DataView(input));
-    throw new TypeError('the input is an ArrayBuffer or a view of one; encode a string by TextEncoder');
+    throw new TypeError('the input must be an ArrayBuffer or a view of one; encode a string with TextEncoder');
 }
 
-function checked(seed) {
-    if (typeof seed !== 'bigint') throw new TypeError('a seed is a BigInt, as 0n');
-    if (seed !== BigInt.asUintN(64, seed)) throw new RangeError('a seed is from 0n to 2n ** 64n - 1n');
-    return seed;
+const encoder = new TextEncoder();
+const keyView = (key) => typeof key === 'string' ? encoder.encode(key) : view(key);
+
+/** A whole number from 0 to 2^64 - 1 as a BigInt. */
+function checked(number, name) {
+    if (typeof number === 'bigint' ? number !== BigInt.asUintN(64, number) : !Number.isSafeInteger(number) || number < 0) {
+        const isNumber = typeof number === 'bigint' || typeof number === 'number';
+        throw new (isNumber ? RangeError : TypeError)(`${name} must be a BigInt or a whole number, from 0 to 2^64 - 1`);
+    }
+    return BigInt(number);
 }
 
-const NUMBERS = ['BigUint64Array', 'BigInt64Array'];
-const OFFSETS = ['Uint32Array', 'Int32Array', ...NUMBERS];
+const HASHES = ['BigUint64Array'];
+const WIDE = [...HASHES, 'BigInt64Array'];
+const OFFSETS = ['Uint32Array', 'Int32Array', ...WIDE];
+const NUMBERS = [...OFFSETS, 'Float32Array', 'Float64Array'];
 
-function checkedColumn(column, types) {
+function checkedColumn(column, types, name) {
     if (ArrayBuffer.isView(column) && types.includes(typeOf(column))) return column;
-    throw new TypeError(`numbers or offsets must be one of ${types.join(', ')}`);
+    throw new TypeError(`${name} must be one of ${types.join(', ')}`);
+}
+
+const byWidth = (column, narrow, wide) => column.BYTES_PER_ELEMENT === 4 ? narrow : wide;
+
+/** Throws the error that a status of the library stands for. */
+function check(status, wrongOffset) {
+    if (status === 0) return;
+    throw new RangeError({
+        [-1]: 'the length of a Bloom filter must be a positive multiple of 32 bytes, and that of both filters of a merge',
+        [-2]: `the offset at ${wrongOffset} is missing, past the end or below the one before`,
+        [-3]: 'there are fewer values than places for results',
+    }[status] ?? `the library returned the unknown status ${status}`);
 }
 
 function library(calls) {
-    // After the module's own data: a hash of 16 bytes, a state of up to 80 bytes, and the input.
-    const hash = (calls.__heap_base.value + 15n) & ~15n;
-    const state = hash + 16n;
-    const input = state + 80n;
-    const begin = Number(input);
+    // After the module's own data: a hash or another result, a state, an input, and then blocks.
+    const result = (Number(calls.__heap_base.value) + 15) & ~15;
+    const state = result + 16;
+    const input = state + 80;
+    let end = input + PIECE;
     let memory = new Uint8Array(0);
-    makeRoom(PIECE);
+    makeRoom(end);
 
-    // Makes room for `length` bytes of input. Views of the memory end when it grows.
+    // Makes the memory at least so long. Views of it end when it grows.
     function makeRoom(length) {
-        if (memory.length >= begin + length) return;
-        grow(calls.memory, begin + length);
+        if (memory.length >= length) return;
+        grow(calls.memory, length);
         memory = new Uint8Array(calls.memory.buffer);
     }
 
-    // Runs a call over the input, piece by piece.
-    function pieces(bytes, call) {
-        for (let at = 0; at < bytes.length; at += PIECE) {
-            const piece = bytes.subarray(at, at + PIECE);
-            memory.set(piece, begin);
-            call(state, input, BigInt(piece.length));
+    const unused = new Map(); // the size of blocks -> their addresses
+    const blocks = new FinalizationRegistry(({ at, size }) => unused.get(size).push(at));
+
+    // Uses a block of the memory, of at least so many bytes, at a multiple of 64.
+    function allocate(length) {
+        const size = Math.max(64, 2 ** Math.ceil(Math.log2(length)));
+        if (!unused.has(size)) unused.set(size, []);
+        let at = unused.get(size).pop();
+        if (at === undefined) {
+            at = 64 * Math.ceil(end / 64);
+            makeRoom(at + size);
+            end = at + size;
+        }
+        return { at, size };
+    }
+
+    const place = (at) => BigInt(at);
+    const resultWord = () => new BigUint64Array(memory.buffer, result, 1)[0];
+
+    function put(bytes, at) {
+        memory.set(bytes, at);
+        return [place(at), BigInt(bytes.length)];
+    }
+
+    // Runs a call over columns. In a block are the results, offsets or numbers, and then bytes, so that each array is
+    // at a multiple of its width. Returns the results.
+    function overColumns(columns, resultBytes, call) {
+        const { at, size } = allocate(columns.reduce((sum, { byteLength }) => sum + byteLength, resultBytes + 8));
+        try {
+            let next = at + 8 * Math.ceil(resultBytes / 8);
+            const args = columns.map((column) => {
+                const [address] = put(view(column), next);
+                next += column.byteLength;
+                return [address, BigInt(column.length)];
+            });
+            check(call(place(at), ...args), resultWord());
+            return memory.slice(at, at + resultBytes);
+        } finally {
+            unused.get(size).push(at);
         }
     }
 
+    function hashEachKey(call32, call64, width) {
+        return (bytes, offsets, seed = 0n) => {
+            const seedWord = checked(seed, 'a seed');
+            const call = byWidth(checkedColumn(offsets, OFFSETS, 'offsets'), call32, call64);
+            const count = Math.max(offsets.length - 1, 0);
+            return new BigUint64Array(overColumns([offsets, view(bytes)], count * width, (out, ofOffsets, ofBytes) =>
+                call(...ofBytes, ...ofOffsets, seedWord, out, BigInt(count), place(result))).buffer);
+        };
+    }
+
+    function xxh64EachU64(values, seed = 0n) {
+        const seedWord = checked(seed, 'a seed');
+        const count = checkedColumn(values, WIDE, 'numbers').length;
+        return new BigUint64Array(overColumns([values], 8 * count, (out, ofValues) =>
+            calls.sketch_xxh64_each_u64(...ofValues, seedWord, out, BigInt(count))).buffer);
+    }
+
+    const unsigned = (word) => BigInt.asUintN(64, word);
+
     function pair() {
-        const [h1, h2] = new BigUint64Array(memory.buffer, Number(hash), 2);
+        const [h1, h2] = new BigUint64Array(memory.buffer, result, 2);
         return h1 << 64n | h2;
     }
 
-    // Runs a call over columns. The hashes lie where the input does, and after them the columns, the last
-    // one first: offsets before bytes, so that they lie at multiples of their width.
-    function each(call, columns, seed, count, size) {
-        checked(seed); // first, since the memory never shrinks
-        makeRoom(columns.reduce((sum, { byteLength }) => sum + byteLength, count * size));
-        let end = begin + count * size;
-        const places = [];
-        for (const column of columns.reverse()) {
-            memory.set(view(column), end);
-            places.unshift(BigInt(end), BigInt(column.length));
-            end += column.byteLength;
-        }
-        const fault = call(...places, seed, input, BigInt(count));
-        if (fault) {
-            throw new RangeError(`the offset at ${fault - 1n} is missing, past the end or below the one before`);
-        }
-        return new BigUint64Array(memory.slice(begin, begin + count * size).buffer);
-    }
+    const hex = (hash, digits) => hash.toString(16).padStart(digits, '0');
 
-    function eachKey(call32, call64, size) {
-        return (bytes, offsets, seed = 0n) => {
-            const call = checkedColumn(offsets, OFFSETS).BYTES_PER_ELEMENT === 4 ? call32 : call64;
-            return each(call, [view(bytes), offsets], seed, Math.max(offsets.length - 1, 0), size);
-        };
+    function inMemoryOrder() {
+        calls.sketch_murmur3_x64_128_bytes(place(result), place(state));
+        return memory.slice(state, state + 16);
     }
 
     // A stream, whose state is kept outside of the module's memory between calls.
@@ -135,26 +176,28 @@ function library(calls) {
         get seed() { return this.#seed; }
 
         reset(seed = this.#seed) {
-            this.#seed = checked(seed);
-            this.#kind.reset(state, seed);
-            this.#kept = memory.slice(Number(state), Number(state) + this.#kind.size);
+            this.#seed = checked(seed, 'a seed');
+            this.#kind.reset(place(state), this.#seed);
+            this.#kept = memory.slice(state, state + this.#kind.size);
             return this;
         }
 
         update(bytes) {
             const all = view(bytes);
-            memory.set(this.#kept, Number(state));
-            pieces(all, this.#kind.update);
-            this.#kept.set(memory.subarray(Number(state), Number(state) + this.#kind.size));
+            memory.set(this.#kept, state);
+            for (let at = 0; at < all.length; at += PIECE) {
+                this.#kind.update(place(state), ...put(all.subarray(at, at + PIECE), input));
+            }
+            this.#kept.set(memory.subarray(state, state + this.#kind.size));
             return this;
         }
 
         digest() {
-            memory.set(this.#kept, Number(state));
-            return this.#kind.digest(state);
+            memory.set(this.#kept, state);
+            return this.#kind.digest();
         }
 
-        hexdigest() { return this.digest().toString(16).padStart(this.#kind.digits, '0'); }
+        hexDigest() { return hex(this.digest(), this.#kind.digits); }
 
         copy() {
             const other = new this.constructor(this.#seed);
@@ -168,38 +211,187 @@ function library(calls) {
         digits: 16,
         reset: calls.sketch_xxh64_reset,
         update: calls.sketch_xxh64_update,
-        digest: (state) => BigInt.asUintN(64, calls.sketch_xxh64_digest(state)),
+        digest: () => unsigned(calls.sketch_xxh64_digest(place(state))),
     };
     const ofMurmur = {
         size: 40,
         digits: 32,
         reset: calls.sketch_murmur3_x64_128_reset,
         update: calls.sketch_murmur3_x64_128_update,
-        digest: (state) => { calls.sketch_murmur3_x64_128_digest(hash, state); return pair(); },
+        digest: () => { calls.sketch_murmur3_x64_128_digest(place(state), place(result)); return pair(); },
     };
+
     class Xxh64 extends Stream { constructor(seed) { super(ofXxh64, seed); } }
-    class Murmur3X64_128 extends Stream {
+
+    class Murmur128 extends Stream {
         constructor(seed) { super(ofMurmur, seed); }
 
         digestBytes() {
             this.digest();
-            return memory.slice(Number(hash), Number(hash) + 16);
+            return inMemoryOrder();
         }
     }
+
+    // One call, or a stream if the input is long.
+    function xxh64(bytes, seed = 0n) {
+        const all = view(bytes);
+        if (all.length > PIECE) return new Xxh64(seed).update(all).digest();
+        const seedWord = checked(seed, 'a seed');
+        return unsigned(calls.sketch_xxh64(...put(all, input), seedWord));
+    }
+
+    function murmur128(bytes, seed = 0n) {
+        const all = view(bytes);
+        if (all.length > PIECE) return new Murmur128(seed).update(all).digest();
+        const seedWord = checked(seed, 'a seed');
+        calls.sketch_murmur3_x64_128(...put(all, input), seedWord, place(result));
+        return pair();
+    }
+
+    // The bits are a block of the module's memory, which another filter uses when this one was collected.
+    class BloomFilter {
+        #at; #length;
+
+        constructor(length) {
+            const bytes = checked(length, 'a length');
+            check(calls.sketch_bloom_check(bytes));
+            this.#length = Number(bytes);
+            const block = allocate(this.#length);
+            blocks.register(this, block);
+            this.#at = block.at;
+            memory.fill(0, this.#at, this.#at + this.#length);
+        }
+
+        static bytesFor(keys, oneIn) {
+            const length = calls.sketch_bloom_bytes_for(checked(keys, 'keys'), checked(oneIn, 'oneIn'));
+            if (length) return Number(length);
+            throw new RangeError('no Bloom filter of at most 128 MiB keeps this rate for so many keys');
+        }
+
+        static forKeys(keys, oneIn) { return new this(this.bytesFor(keys, oneIn)); }
+
+        static fromBytes(bytes) {
+            const all = view(bytes);
+            const filter = new this(all.length);
+            memory.set(all, filter.#at);
+            return filter;
+        }
+
+        static fromParquet(bytes) {
+            const all = view(bytes);
+            const header = Number(calls.sketch_bloom_header_read(...put(all.subarray(0, PIECE), input), place(result)));
+            if (!header) throw new RangeError('the input does not begin with the header of a Bloom filter');
+            const last = header + Number(resultWord());
+            if (last > all.length) throw new RangeError('the input ends before the Bloom filter does');
+            return this.fromBytes(all.subarray(header, last));
+        }
+
+        get #bits() { return [place(this.#at), BigInt(this.#length)]; }
+
+        get length() { return this.#length; }
+
+        // One call, or that of the hash if the key is long.
+        #one(ofKey, ofHash, key) {
+            const bytes = keyView(key);
+            if (bytes.length > PIECE) return ofHash(...this.#bits, xxh64(bytes));
+            return ofKey(...this.#bits, ...put(bytes, input));
+        }
+
+        add(key) {
+            check(this.#one(calls.sketch_bloom_insert, calls.sketch_bloom_insert_hash, key));
+            return this;
+        }
+
+        has(key) {
+            return this.#one(calls.sketch_bloom_contains, calls.sketch_bloom_contains_hash, key) !== 0;
+        }
+
+        addHash(hash) {
+            check(calls.sketch_bloom_insert_hash(...this.#bits, checked(hash, 'a hash')));
+            return this;
+        }
+
+        hasHash(hash) {
+            return calls.sketch_bloom_contains_hash(...this.#bits, checked(hash, 'a hash')) !== 0;
+        }
+
+        addEach(bytes, offsets) {
+            checkedColumn(offsets, OFFSETS, 'offsets');
+            const call = byWidth(offsets, calls.sketch_bloom_insert_each32, calls.sketch_bloom_insert_each64);
+            overColumns([offsets, view(bytes)], 0, (_, ofOffsets, ofBytes) =>
+                call(...this.#bits, ...ofBytes, ...ofOffsets, place(result)));
+            return this;
+        }
+
+        hasEach(bytes, offsets) {
+            checkedColumn(offsets, OFFSETS, 'offsets');
+            const call = byWidth(offsets, calls.sketch_bloom_contains_each32, calls.sketch_bloom_contains_each64);
+            const count = Math.max(offsets.length - 1, 0);
+            return overColumns([offsets, view(bytes)], count, (found, ofOffsets, ofBytes) =>
+                call(...this.#bits, ...ofBytes, ...ofOffsets, found, BigInt(count), place(result)));
+        }
+
+        #addValues(call, values) {
+            overColumns([values], 0, (_, ofValues) => call(...this.#bits, ...ofValues));
+            return this;
+        }
+
+        #hasValues(call, values) {
+            return overColumns([values], values.length, (found, ofValues) =>
+                call(...this.#bits, ...ofValues, found, BigInt(values.length)));
+        }
+
+        addEachNumber(numbers) {
+            checkedColumn(numbers, NUMBERS, 'numbers');
+            const call = byWidth(numbers, calls.sketch_bloom_insert_each_u32, calls.sketch_bloom_insert_each_u64);
+            return this.#addValues(call, numbers);
+        }
+
+        hasEachNumber(numbers) {
+            checkedColumn(numbers, NUMBERS, 'numbers');
+            const call = byWidth(numbers, calls.sketch_bloom_contains_each_u32, calls.sketch_bloom_contains_each_u64);
+            return this.#hasValues(call, numbers);
+        }
+
+        addEachHash(hashes) {
+            return this.#addValues(calls.sketch_bloom_insert_each_hash, checkedColumn(hashes, HASHES, 'hashes'));
+        }
+
+        hasEachHash(hashes) {
+            return this.#hasValues(calls.sketch_bloom_contains_each_hash, checkedColumn(hashes, HASHES, 'hashes'));
+        }
+
+        merge(other) {
+            check(calls.sketch_bloom_merge(...this.#bits, ...other.#bits));
+            return this;
+        }
+
+        toBytes() { return memory.slice(this.#at, this.#at + this.#length); }
+
+        toParquet() {
+            const header = Number(calls.sketch_bloom_header_write(BigInt(this.#length), place(input), BigInt(PIECE)));
+            if (!header) throw new RangeError('the filter is too long for a header of Parquet');
+            const bytes = new Uint8Array(header + this.#length);
+            bytes.set(memory.subarray(input, input + header));
+            bytes.set(memory.subarray(this.#at, this.#at + this.#length), header);
+            return bytes;
+        }
+    }
+
+    const version = calls.sketch_hash_version();
     return {
+        version: [version / 10000, version / 100 % 100, version % 100].map(Math.floor).join('.'),
+        xxh64,
+        xxh64Hex: (bytes, seed) => hex(xxh64(bytes, seed), 16),
+        xxh64Each: hashEachKey(calls.sketch_xxh64_each32, calls.sketch_xxh64_each64, 8),
+        xxh64EachU64,
         Xxh64,
-        Murmur3X64_128,
-        xxh64: (bytes, seed) => new Xxh64(seed).update(bytes).digest(),
-        xxh64Hex: (bytes, seed) => new Xxh64(seed).update(bytes).hexdigest(),
-        murmur3X64_128: (bytes, seed) => new Murmur3X64_128(seed).update(bytes).digest(),
-        murmur3X64_128Hex: (bytes, seed) => new Murmur3X64_128(seed).update(bytes).hexdigest(),
-        murmur3X64_128Bytes: (bytes, seed) => new Murmur3X64_128(seed).update(bytes).digestBytes(),
-        xxh64Each: eachKey(calls.sketch_xxh64_each32, calls.sketch_xxh64_each64, 8),
-        xxh64EachU64: (values, seed = 0n) =>
-            each(calls.sketch_xxh64_each_u64, [checkedColumn(values, NUMBERS)], seed, values.length, 8),
-        murmur3X64_128Each:
-            eachKey(calls.sketch_murmur3_x64_128_each32, calls.sketch_murmur3_x64_128_each64, 16),
-        version: calls.sketch_hash_version(),
+        murmur128,
+        murmur128Hex: (bytes, seed) => hex(murmur128(bytes, seed), 32),
+        murmur128Bytes: (bytes, seed) => { murmur128(bytes, seed); return inMemoryOrder(); },
+        murmur128Each: hashEachKey(calls.sketch_murmur3_x64_128_each32, calls.sketch_murmur3_x64_128_each64, 16),
+        Murmur128,
+        BloomFilter,
     };
 }
 

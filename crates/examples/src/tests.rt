@@ -1,15 +1,14 @@
+use crate::bloom_filter::{fill, load, merge_worker, save, see_in_place};
 use crate::items::there_and_back;
 use crate::keys::{hash_texts, is_same_key, pair_of, pair_of_value};
+use crate::membership_table::{load_keys, read_back, read_upgraded, see_key};
 use crate::own::{BigEndian, Point};
-use crate::seen::{
-    build_table_in, load_keys, merge_worker, read_back, read_upgraded, see_key, see_key_in,
-};
 use crate::sketch::{check_preamble, write_preamble};
 use crate::streams::{checkpoint, murmur_of_pieces, xxh64_from};
 use datasketches::codec::{Item, Kind};
 use datasketches::hash::XxHash64;
 use datasketches::hash::value::raw_bytes;
-use sketch_member::{Fault, MemberTable};
+use sketch_bloom::{BloomFilter, contains};
 use std::test::Fail;
 
 #[test]
@@ -64,26 +63,41 @@ fn items_and_a_preamble_are_read_back(rt: HostRuntime) -> Result<(), Fail> {
 }
 
 #[test]
-fn keys_are_seen_where_the_bytes_lie(rt: HostRuntime) {
-    let mut bytes = [0xff; 152];
-    let keys = [raw_bytes::from_str("a")];
-    assert_eq!(rt; build_table_in(&mut bytes, 0, 10, 7, &keys), Ok(()));
-    assert_eq!(rt; see_key_in(&mut bytes, b"a"), Ok(true));
-    assert_eq!(rt; see_key_in(&mut bytes, b"b"), Ok(false));
-    assert_eq!(rt; see_key_in(&mut bytes[..23], b"b"), Err(Fault::HeaderEnds));
+fn a_membership_table_is_saved_and_loaded(rt: HostRuntime) -> Result<(), Fail> {
+    let mut seen = load_keys(rt.alloc(), &[])?;
+    assert!(rt; !see_key(&mut seen, b"a"));
+    let mut read = read_back(rt.alloc(), &seen)?;
+    assert!(rt; see_key(&mut read, b"a"));
+    assert_eq!(rt; read.count(), Some(2));
     let version1 = b"\x02\x01\xc8\x06\x01\0\0\0\0\0\0\0\0\0\0\0\0\0\0\0\0\0\0\0";
     assert!(rt; read_upgraded(rt.alloc(), version1).is_ok());
+    Ok(())
 }
 
 #[test]
-fn keys_are_seen_once_saved(rt: HostRuntime) -> Result<(), Fail> {
-    let mut seen = load_keys(rt.alloc(), &[])?;
-    assert!(rt; !see_key(&mut seen, b"a"));
-    let read = read_back(rt.alloc(), &seen)?;
-    merge_worker(rt.alloc(), &mut seen, &read)?;
-    assert!(rt; see_key(&mut seen, b"a"));
-    assert_eq!(rt; seen.count(), Some(3));
-    let unlike = MemberTable::new(rt.alloc(), 1, 10, 7)?;
-    assert!(rt; merge_worker(rt.alloc(), &mut seen, &unlike).is_err());
+fn a_bloom_filter_is_filled_saved_and_merged(rt: HostRuntime) -> Result<(), Fail> {
+    let keys = [raw_bytes::from_str("a"), raw_bytes::from_str("b")];
+    let mut filter = fill(rt.alloc(), &keys, 1000)?;
+    let mut other = BloomFilter::new(rt.alloc(), 32)?;
+    other.insert(&raw_bytes::from_str("c"));
+    assert_eq!(rt; merge_worker(&mut filter, &other), Ok(()));
+    let mut file = [9; 50];
+    assert_eq!(rt; save(&filter, &mut file), Some(47));
+    let Some(read) = load(&file) else {
+        assert!(rt; false);
+        return Ok(());
+    };
+    assert_eq!(rt; read, filter.as_bytes());
+    for key in ["a", "b", "c"] {
+        assert_eq!(rt; contains(read, &raw_bytes::from_str(key)), Ok(true));
+    }
     Ok(())
+}
+
+#[test]
+fn a_bloom_filter_is_changed_in_place(rt: HostRuntime) {
+    let mut filter = [0; 64];
+    assert_eq!(rt; see_in_place(&mut filter, b"a"), Ok(false));
+    assert_eq!(rt; see_in_place(&mut filter, b"a"), Ok(true));
+    assert!(rt; see_in_place(&mut [0; 33], b"a").is_err());
 }

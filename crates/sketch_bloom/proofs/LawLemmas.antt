@@ -103,6 +103,8 @@ insert_law = record {
   one_more = λ before after hash hashes inserts.
       all_more before after hashes (hash ∷ []) (inserts_one hash before after inserts);
   all_more = all_more;
+  made = λ bytes filter hashes inserts.
+      all_more (empty_filter bytes) filter [] hashes inserts (none bytes);
   found = found;
   same = same;
 }

@@ -21,6 +21,9 @@ pub record InsertLaw : Type 0 where
       Inserts hash before after → StandsFor before hashes → StandsFor after (hashes ++ hash ∷ [])
   pub all_more : (before after hashes more : List ℕ) →
       InsertsAll more before after → StandsFor before hashes → StandsFor after (hashes ++ more)
+  -- so inserts into an empty filter make the filter of the values
+  pub made : (bytes : ℕ) (filter hashes : List ℕ) →
+      InsertsAll hashes (empty_filter bytes) filter → StandsFor filter hashes
   -- no inserted value is missed
   pub found : (filter : List ℕ) (hash : ℕ) (hashes : List ℕ) →
       StandsFor filter hashes → Contains hashes hash → IsMember filter hash

@@ -87,16 +87,13 @@ pub fn contains_each<O: Offset>(
 ///
 /// Returns [`Fault::Length`] if `filter` is not a positive multiple of 32 bytes, or 2^37 bytes or
 /// more. It is then unchanged.
-#[tactic(auto, using(crate::proofs::ColumnLemmas::inserts_next))]
 pub fn insert_each_value<T: Hash>(filter: &mut [u8], values: &[T]) -> Result<(), Fault>
     ensures { let hashes = map (λ value. hash_of (T.fed value)) values.now in MatchResult result
         (λ _. IsLength (length filter.old) × InsertsAll hashes filter.old filter.new)
         (λ fault. (filter.new ≡ filter.old) × IsLengthFault (length filter.old) fault) }
 {
     let blocks = block_count(filter.len())?;
-    for value in values {
-        insert_into(filter, blocks, value.xxh64(0));
-    }
+    insert_values(filter, blocks, values);
     Ok(())
 }
 
@@ -203,6 +200,18 @@ fn insert_hashes(filter: &mut [u8], blocks: u64, hashes: &[u64])
 {
     for hash in hashes {
         insert_into(filter, blocks, *hash);
+    }
+}
+
+// Inserts values into a filter of so many blocks.
+pub(crate) fn insert_values<T: Hash>(filter: &mut [u8], blocks: u64, values: &[T])
+    requires size { IsLength (length filter.old) }
+    requires blocks { blocks ≡ length filter.old / 32 }
+    ensures { let hashes = map (λ value. hash_of (T.fed value)) values.now in
+        InsertsAll hashes filter.old filter.new }
+{
+    for value in values {
+        insert_into(filter, blocks, value.xxh64(0));
     }
 }
 

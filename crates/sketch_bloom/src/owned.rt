@@ -1,9 +1,10 @@
 //! A filter that a caller owns.
 
-ghost use Rattle.std.specs.Prelude.{◌≡◌, ℕ, ◌/◌, ◌↔◌, List, IsTrue, MatchResult, length};
-ghost use Rattle.sketch_bloom.specs.Filter.{Inserts, IsLength, IsLengthFault, IsMember, IsMergeFault, IsNewFault, Merges, hash_of};
+ghost use Rattle.std.specs.Prelude.{◌≡◌, ℕ, ◌/◌, ◌↔◌, List, IsTrue, MatchResult, length, map};
+ghost use Rattle.sketch_bloom.specs.Filter.{Inserts, InsertsAll, IsLength, IsLengthFault, IsMember, IsMergeFault, IsNewFault, Merges, hash_of};
 ghost use Rattle.sketch_bloom.specs.Laws.{empty_filter};
 
+use crate::columns::insert_values;
 use crate::fault::Fault;
 use crate::filter::{block_count, insert_into, is_in, is_length, merge};
 use datasketches::hash::Hash;
@@ -77,6 +78,15 @@ impl BloomFilter {
     {
         let blocks = (self.bytes.len() / 32) as u64;
         insert_into(&mut self.bytes, blocks, value.xxh64(0));
+    }
+
+    /// Inserts each value of a slice.
+    pub fn insert_each<T: Hash>(&mut self, values: &[T])
+        ensures { let hashes = map (λ value. hash_of (T.fed value)) values.now in
+            InsertsAll hashes self.old self.new }
+    {
+        let blocks = (self.bytes.len() / 32) as u64;
+        insert_values(&mut self.bytes, blocks, values);
     }
 
     /// Whether the filter may contain a value. If not, it was never inserted.

@@ -43,7 +43,7 @@ pub fn bytes_for(keys: u64, one_in: u64) -> Option<usize>
 }
 
 // Whether a filter of 2^log2_blocks blocks keeps the rate.
-fn keeps_rate(keys: u64, log2_blocks: u32, one_in: u64) -> bool
+pub(crate) fn keeps_rate(keys: u64, log2_blocks: u32, one_in: u64) -> bool
     requires { log2_blocks ≤ 22 }
     ensures { one_in ≡ 1 → IsTrue result }
 {

@@ -7,10 +7,9 @@ use Rattle.datasketches.specs.Words.{IsWord}
 use Rattle.datasketches.proofs.BytesLemmas.{le-back}
 use Rattle.sketch_member.proofs.BitLemmas.{zeros-get}
 use Rattle.sketch_member.proofs.FormLemmas.{Places, all_pass-append, unknown_count}
-use Rattle.sketch_member.specs.Faults.{AllPass, IsFlag, bits_steps, count_number, header_length, kind_steps, number_steps, size_steps, steps, version_step, view_steps}
+use Rattle.sketch_member.specs.Faults.{AllPass, IsFlag, bits_steps, count_number, header_length, kind_steps, number_steps, size_steps, steps}
 use Rattle.sketch_member.specs.Form.{IsForm, flag_of, form, form1, form2, number_of}
-use Rattle.sketch_member.specs.Laws.{FormLaw, InsertLaw, InsertsAll, IsFormOfInserts, IsMadeOf, StandsFor, count_after}
-use Rattle.sketch_member.specs.Merge.{AreAlike}
+use Rattle.sketch_member.specs.Laws.{FormLaw, InsertLaw, InsertsAll, IsFormOfInserts, StandsFor, count_after}
 use Rattle.sketch_member.specs.Table.{Table, IsTable, byte_count, IsSet, IsIndex, IsMember, Inserts, empty_table, index, one_more}
 use Rattle.std.proofs.lemmas.List.{append-nil, append_assoc, ext_get_or}
 use Rattle.std.proofs.lemmas.List.Elements.{Contains-append_left, Contains-push, Contains-push_cases}
@@ -67,13 +66,6 @@ passes table bytes is form =
           (1, omega arith, refl) (flag_is table.count) refl
           (λ unset. back ∙ ap number_of (unknown_count table.count unset)))
     ]
-
-viewed : (table : Table) (bytes : List ℕ) → IsTable table → bytes ≡ form2 table →
-    AllPass (length bytes) (view_steps bytes)
-viewed table bytes is form =
-    let count : length bytes ≡ length (form2 table) = ap length form in
-    all_pass-append (length bytes) (steps bytes) (version_step bytes ∷ [])
-    (passes table bytes is (inr form)) ((omega (arith, count), ap (λ b. get_or b 0 0) form), tt)
 
 -- tables are the same whose parts are
 pub same_table : (table other : Table) → table.seed ≡ other.seed → table.log2_bits ≡ other.log2_bits →
@@ -137,7 +129,7 @@ version1 table read is reads form =
     once read (record table { count = None }) (form1 table) reads kept form (inl (refl, refl))
 
 pub form_law : FormLaw
-form_law = record { passes = passes; viewed = viewed; once = once; version1 = version1 }
+form_law = record { passes = passes; once = once; version1 = version1 }
 
 none : (table : Table) → ((i : ℕ) → IsSet table.bits i → ⊥) → StandsFor table []
 unfolding StandsFor
@@ -255,6 +247,17 @@ same_once table other values others is is_other seed log2_bits hashes stands sta
 
 -- ---- the table and the bytes of inserts into an empty table
 
+-- the tables have one seed and the same sizes
+record AreAlike (table other : Table) : Type 0 where
+  seed : table.seed ≡ other.seed
+  log2_bits : table.log2_bits ≡ other.log2_bits
+  hashes : table.hashes ≡ other.hashes
+
+-- the table is what these inserts make of an empty one
+abbrev IsMadeOf : List (List ℕ) → Table → Type 0
+IsMadeOf values table =
+    InsertsAll values (empty_table table.seed table.log2_bits table.hashes) table
+
 alike_if_same : {a b : Table} → a ≡ b → AreAlike a b
 alike_if_same e = record {
   seed = ap (λ t. t.seed) e;
@@ -262,14 +265,14 @@ alike_if_same e = record {
   hashes = ap (λ t. t.hashes) e;
 }
 
-pub turned : (a b : Table) → AreAlike a b → AreAlike b a
+turned : (a b : Table) → AreAlike a b → AreAlike b a
 turned a b alike = record {
   seed = sym alike.seed;
   log2_bits = sym alike.log2_bits;
   hashes = sym alike.hashes;
 }
 
-pub chained : (a b c : Table) → AreAlike a b → AreAlike b c → AreAlike a c
+chained : (a b c : Table) → AreAlike a b → AreAlike b c → AreAlike a c
 chained a b c first second = record {
   seed = first.seed ∙ second.seed;
   log2_bits = first.log2_bits ∙ second.log2_bits;
@@ -289,14 +292,14 @@ all_alike (fed ∷ values) before after (next, inserts, rest) =
     chained before next after first (all_alike values next after rest)
 
 -- so tables of inserts into one table are alike
-pub both_alike : (values others : List (List ℕ)) (start table other : Table) →
+both_alike : (values others : List (List ℕ)) (start table other : Table) →
     InsertsAll values start table → InsertsAll others start other → AreAlike table other
 both_alike values others start table other all all_other =
     chained table start other (turned start table (all_alike values start table all))
     (all_alike others start other all_other)
 
 -- inserts into an empty table make the table of their values
-pub made_of : (seed log2_bits hashes : ℕ) (values : List (List ℕ)) (table : Table) →
+made_of : (seed log2_bits hashes : ℕ) (values : List (List ℕ)) (table : Table) →
     InsertsAll values (empty_table seed log2_bits hashes) table → IsMadeOf values table
 made_of seed log2_bits hashes values table all =
     let alike = all_alike values (empty_table seed log2_bits hashes) table all in
@@ -328,13 +331,13 @@ all_inserted (fed ∷ values) earlier n before after (next, inserts, rest) stand
     one n m = omega arith
 
 -- an empty table has no bit set
-pub no_bits : (seed log2_bits hashes i : ℕ) → IsSet (empty_table seed log2_bits hashes).bits i → ⊥
+no_bits : (seed log2_bits hashes i : ℕ) → IsSet (empty_table seed log2_bits hashes).bits i → ⊥
 no_bits seed log2_bits hashes i is =
     let zero : bit_at (get_or (replicate {A = ℕ} (byte_count log2_bits) 0) (i / 8) 0) (i % 8) ≡ 0 =
     ap (λ b. bit_at b (i % 8)) (zeros-get (byte_count log2_bits) (i / 8)) ∙ bit_at-zero (i % 8) in
     suc-ne-zero 0 (sym is ∙ zero)
 
-pub made : (values : List (List ℕ)) (table : Table) → IsMadeOf values table →
+made : (values : List (List ℕ)) (table : Table) → IsMadeOf values table →
     StandsFor table values × (table.count ≡ count_after (length values))
 made values table all =
     let empty = empty_table table.seed table.log2_bits table.hashes in

@@ -7,7 +7,7 @@ use Rattle.datasketches.specs.declared.error.ErrorKind.TheVariants.{InvalidArgum
 use Rattle.datasketches.specs.ErrorValue.{ErrorValue, memory_error}
 use Rattle.datasketches.specs.Refusals.{Refuses, insufficient_data_of_text, invalid_family_text, unsupported_serial_version_text}
 use Rattle.sketch_member.specs.declared.fault.Fault.{Fault}
-use Rattle.sketch_member.specs.declared.fault.Fault.TheVariants.{HeaderEnds, PreambleLongs, SerialVersion, Family, Log2Bits, Hashes, Reserved, UnknownCount, MissingBits, TrailingBytes, Version1}
+use Rattle.sketch_member.specs.declared.fault.Fault.TheVariants.{HeaderEnds, PreambleLongs, SerialVersion, Family, Log2Bits, Hashes, Reserved, UnknownCount, MissingBits, TrailingBytes}
 use Rattle.sketch_member.specs.Table.{IsHashes, IsLog2Bits, byte_count}
 
 -- what is said of a fault
@@ -25,7 +25,6 @@ fault_text UnknownCount = codes "unknown count is not zero"
 fault_text (MissingBits need have) = insufficient_data_of_text (codes "member bits")
     (codes "expected " ++ (decimal need ++ (codes ", got " ++ decimal have)))
 fault_text (TrailingBytes n) = codes "trailing bytes: " ++ decimal n
-fault_text Version1 = codes "unsupported serial version: expected 2, got 1"
 
 -- A step: how many bytes it needs, its condition, and the fault if that does not hold.
 pub record Step : Type 1 where
@@ -159,18 +158,6 @@ steps bytes = kind_steps bytes ++ (size_steps bytes ++ (number_steps bytes
 
 -- ---- the steps of other calls
 
--- that a table is of version 2
-abbrev pub version_step : List ℕ → Step
-version_step bytes = record {
-  needs = 1;
-  Condition = slice_index bytes 0 ≡ 3;
-  fault = Version1;
-}
-
--- that the bytes are a table, and of version 2
-abbrev pub view_steps : List ℕ → List Step
-view_steps bytes = steps bytes ++ version_step bytes ∷ []
-
 -- that the sizes of a new table lie in their limits
 abbrev pub new_steps : ℕ → ℕ → List Step
 new_steps log2_bits hashes =
@@ -180,8 +167,3 @@ new_steps log2_bits hashes =
 -- the error of a call that makes a table of these sizes
 abbrev pub IsNewError : ℕ → ℕ → ErrorValue → Type 0
 IsNewError log2_bits hashes = IsStepsError InvalidArgument 0 (new_steps log2_bits hashes)
-
--- that the sizes lie in their limits, and the bytes are as many as such a table has
-abbrev pub init_steps : ℕ → ℕ → List ℕ → List Step
-init_steps log2_bits hashes bytes =
-    new_steps log2_bits hashes ++ bits_steps bytes 24 (byte_count log2_bits)

@@ -1,7 +1,7 @@
 -- How a table stands in bytes, in both versions, and how such bytes change.
 use Rattle.std.specs.Prelude.{◌≡◌, ◌⊎◌, ℕ, ◌+◌, List, [], ◌∷◌, ◌++◌, Option, None, Some}
 use Rattle.datasketches.specs.Bytes.{eight}
-use Rattle.sketch_member.specs.Table.{Table, IsTable}
+use Rattle.sketch_member.specs.Table.{Table}
 
 -- What the versions share. Byte 0: the preamble longs, one more than the version, of eight bytes
 -- each, which are the header; 1: the serial version; 2: the family; 3 and 4: the two sizes; 5: the
@@ -31,9 +31,3 @@ form2 table = form 2 (flag_of table.count) (eight (number_of table.count)) table
 -- the bytes are those of the table, in one of the versions
 abbrev pub IsForm : Table → List ℕ → Type 0
 IsForm table bytes = ((table.count ≡ None) × (bytes ≡ form1 table)) ⊎ (bytes ≡ form2 table)
-
--- the bytes of a table become those of another, and the two are in this relation
-abbrev pub TableChanges : (Table → Table → Type 0) → List ℕ → List ℕ → Type 0
-TableChanges Changes old new = (before : Table) × (after : Table)
-    × IsTable before × IsTable after × (old ≡ form2 before) × (new ≡ form2 after)
-    × Changes before after

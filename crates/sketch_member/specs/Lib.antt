@@ -1,5 +1,4 @@
 pub mod Table
 pub mod Form
 pub mod Faults
-pub mod Merge
 pub mod Laws

@@ -1,5 +1,4 @@
--- What a Bloom filter is to its callers, what it knows of a value, and which sizes serve how many
--- keys.
+-- What a membership table is to its callers, and what it knows of a value.
 use Rattle.std.specs.Prelude.{ℕ, ◌*◌, ◌-◌, ◌^◌, ◌≤◌, ◌≡◌, ◌+◌, ◌/◌, ◌%◌, ◌<◌, ◌↔◌, ◌⊎◌, min, List, length, replicate, slice_index, Option, Some, IfSome}
 use Rattle.std.specs.Option.{option_map}
 use Rattle.datasketches.specs.Words.{IsWord, plus, digit}
@@ -85,22 +84,3 @@ pub record Inserts (fed : List ℕ) (before after : Table) : Type 0 where
 -- the bits at all indexes of a value that feeds these bytes are set
 abbrev pub IsMember : Table → List ℕ → Type 0
 IsMember table fed = (i : ℕ) → IsIndex table fed i → IsSet table.bits i
-
--- ---- the sizes that keep the false positives of a number of keys below a rate
-
--- By the usual formula: of `bits` bits each is clear after n inserts of `hashes` indexes with the
--- probability ((bits - 1) / bits) ^ (hashes * n), and another key is reported if `hashes` bits are
--- set. This rate is at most 1 in `one_in`.
-unfoldable pub StaysBelow : ℕ → ℕ → ℕ → ℕ → Type 0
-StaysBelow bits hashes keys one_in =
-    let e = hashes * keys in
-    one_in * (bits ^ e - (bits - 1) ^ e) ^ hashes ≤ (bits ^ e) ^ hashes
-
--- A share of 2 ^ 31 parts that is at most ((bits - 1) / bits) ^ e
-pub record IsClearShare (bits e share : ℕ) : Type 0 where
-  pub below : share * bits ^ e ≤ 2 ^ 31 * (bits - 1) ^ e
-
--- A share of 2 ^ 31 parts that is at least (p / m) ^ times where a share of `part` parts is at
--- least p / m
-pub record IsAbove (part times share : ℕ) : Type 0 where
-  pub above : (p m : ℕ) → 2 ^ 31 * p ≤ part * m → 2 ^ 31 * p ^ times ≤ share * m ^ times

@@ -1,10 +1,9 @@
-//! What can be wrong with bytes that are to be a table, and with two tables that are to be merged.
+//! What can be wrong with bytes that are to be a table.
 
 ghost use Rattle.std.specs.Prelude.{◌++◌, Some, codes};
 ghost use Rattle.std.specs.Fmt.{DisplaysOnOk, decimal};
 ghost use Rattle.datasketches.specs.Refusals.{Refuses};
 ghost use Rattle.sketch_member.specs.Faults.{fault_text};
-ghost use Rattle.sketch_member.specs.Merge.{merge_fault_text, part_name};
 
 use crate::format::MEMBER;
 use datasketches::error::{Error, ErrorKind};
@@ -44,30 +43,6 @@ pub enum Fault {
     },
     /// This many bytes follow the bits.
     TrailingBytes(usize),
-    /// The bytes are a table of version 1, which has no place for a count.
-    Version1,
-}
-
-/// Why one table in bytes cannot be merged into another.
-#[derive(Clone, Copy, Debug, PartialEq, Eq)]
-pub enum MergeFault {
-    /// The bytes that are merged into are no table of version 2.
-    Into(Fault),
-    /// The bytes that are merged are no table of version 2.
-    From(Fault),
-    /// The tables differ in this part of their headers.
-    Unlike(Difference),
-}
-
-/// A part that has to be the same in two tables, and is not.
-#[derive(Clone, Copy, Debug, PartialEq, Eq)]
-pub enum Difference {
-    /// The seeds differ.
-    Seed,
-    /// The sizes `log2_bits` differ.
-    Log2Bits,
-    /// The numbers `hashes` differ.
-    Hashes,
 }
 
 impl fmt::Display for Fault {
@@ -98,7 +73,6 @@ impl fmt::Display for Fault {
                 "insufficient data (member bits): expected {need}, got {have}"
             ),
             Fault::TrailingBytes(n) => write!(f, "trailing bytes: {n}"),
-            Fault::Version1 => f.write_str("unsupported serial version: expected 2, got 1"),
         }
     }
 }
@@ -111,35 +85,7 @@ fn write_got<W: fmt::Write>(text: &str, n: u8, f: &mut fmt::Formatter<W>) -> fmt
     write!(f, "{text}, got {n}")
 }
 
-impl fmt::Display for MergeFault {
-    ghost output = { λ fault. Some (merge_fault_text fault) };
-
-    fn fmt<W: fmt::Write>(&self, f: &mut fmt::Formatter<W>) -> fmt::Result {
-        match self {
-            MergeFault::Into(fault) => write!(f, "table merged into: {fault}"),
-            MergeFault::From(fault) => write!(f, "table merged from: {fault}"),
-            MergeFault::Unlike(part) => write!(f, "tables differ: {part}"),
-        }
-    }
-}
-
-impl fmt::Display for Difference {
-    ghost output = { λ part. Some (part_name part) };
-
-    ghost styled_output = { λ part _. Some (part_name part) };
-
-    fn fmt<W: fmt::Write>(&self, f: &mut fmt::Formatter<W>) -> fmt::Result {
-        f.write_str(match self {
-            Difference::Seed => "seed",
-            Difference::Log2Bits => "log2 bits",
-            Difference::Hashes => "hashes",
-        })
-    }
-}
-
 impl std::error::Error for Fault {}
-
-impl std::error::Error for MergeFault {}
 
 impl Fault {
     // The error that tells of the fault, or that memory for its text ran out.

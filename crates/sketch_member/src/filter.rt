@@ -1,14 +1,13 @@
-//! The filter: a seed, two sizes and a count, by which values are inserted into bits, looked up in
-//! them, and merged.
+//! The filter: a seed, two sizes and a count, by which values are inserted into bits and looked up in
+//! them.
 
 ghost use Rattle.std.specs.Prelude.{◌≡◌, ℕ, ◌<◌, ◌^◌, ◌↔◌, List, IfSome, IsTrue, MatchOption, MatchResult, Some};
 ghost use Rattle.datasketches.specs.Bytes.{eight};
 ghost use Rattle.sketch_member.specs.Faults.{IsFirstFault, new_steps};
-ghost use Rattle.sketch_member.specs.Merge.{AreAlike, IsFirstDifference, Merges};
 ghost use Rattle.sketch_member.specs.Table.{IsHashes, IsLog2Bits, Inserts, IsMember, IsTable, byte_count, index, table_of};
 
-use crate::bits::{is_set, set, set_all};
-use crate::fault::{Difference, Fault};
+use crate::bits::{is_set, set};
+use crate::fault::Fault;
 use datasketches::hash::{Hash, XxHash64};
 
 /// All of a table but its bits.
@@ -17,7 +16,7 @@ pub(crate) struct Filter {
     pub(crate) seed: u64,
     pub(crate) log2_bits: u8,
     pub(crate) hashes: u8,
-    // None where this table, or one merged into it, was read from bytes without a count
+    // None if the table was read from bytes without a count
     pub(crate) count: Option<u64>,
 }
 
@@ -97,40 +96,6 @@ impl Filter {
             }
         }
         true
-    }
-
-    // Merges another table, which is alike, into the one with these bits.
-    pub(crate) fn merge(&mut self, bits: &mut [u8], other: &Filter, other_bits: &[u8])
-        requires is_table { IsTable (table_of self.old bits.old) }
-        requires other { IsTable (table_of other.now other_bits.now) }
-        requires alike { AreAlike (table_of self.old bits.old) (table_of other.now other_bits.now) }
-        ensures merges { Merges (table_of other.now other_bits.now) (table_of self.old bits.old)
-            (table_of self.new bits.new) }
-        ensures is_table { IsTable (table_of self.new bits.new) }
-    {
-        set_all(bits, other_bits);
-        self.count = match (self.count, other.count) {
-            (Some(m), Some(n)) => Some(m.saturating_add(n)),
-            _ => None,
-        };
-    }
-
-    // The first part that has to be the same in two filters, and is not.
-    pub(crate) fn difference(&self, other: &Filter) -> Option<Difference>
-        ensures { (bits : List ℕ) (others : List ℕ) →
-            MatchOption result (AreAlike (table_of self.now bits) (table_of other.now others))
-            (λ part. IsFirstDifference (table_of self.now bits) (table_of other.now others) part) }
-    {
-        if self.seed != other.seed {
-            return Some(Difference::Seed);
-        }
-        if self.log2_bits != other.log2_bits {
-            return Some(Difference::Log2Bits);
-        }
-        if self.hashes != other.hashes {
-            return Some(Difference::Hashes);
-        }
-        None
     }
 
     // The value's index number `j`. A value that feeds the eight bytes of a number has that number

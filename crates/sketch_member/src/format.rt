@@ -3,7 +3,7 @@
 ghost use Rattle.std.specs.Prelude.{◌≡◌, ◌+◌, ◌-◌, ◌<◌, ◌≤◌, ◌↔◌, [], ◌∷◌, Contains, length, take, drop, slice_index, IfSome, IsTrue, MatchResult};
 ghost use Rattle.datasketches.specs.Bytes.{eight, le};
 ghost use Rattle.datasketches.specs.Words.{IsWord};
-ghost use Rattle.sketch_member.specs.Faults.{AllPass, IsFirstFault, IsFlag, bits_steps, count_number, kind_steps, number_steps, size_steps, steps, view_steps};
+ghost use Rattle.sketch_member.specs.Faults.{AllPass, IsFirstFault, IsFlag, bits_steps, count_number, kind_steps, number_steps, size_steps, steps};
 ghost use Rattle.sketch_member.specs.Form.{IsForm, flag_of, form2, number_of};
 ghost use Rattle.sketch_member.specs.Table.{IsTable, table_of};
 
@@ -67,20 +67,6 @@ pub(crate) fn read(bytes: &[u8]) -> Result<(Filter, &[u8]), Fault>
         hashes,
         count,
     };
-    Ok((filter, bits))
-}
-
-// The filter and the bits of the table that the bytes are, in version 2.
-pub(crate) fn read_version2(bytes: &[u8]) -> Result<(Filter, &[u8]), Fault>
-    ensures { MatchResult result
-        (λ parts. IsTable (table_of parts.0 parts.1.now)
-        × (bytes.now ≡ form2 (table_of parts.0 parts.1.now)))
-        (λ fault. IsFirstFault (length bytes.now) (view_steps bytes.now) fault) }
-{
-    let (filter, bits) = read(bytes)?;
-    if bytes.first() == Some(&LONGS_1) {
-        return Err(Fault::Version1);
-    }
     Ok((filter, bits))
 }
 
@@ -156,7 +142,7 @@ fn is_flag(longs: u8, flag: u8, second: u8, third: u8) -> bool
 }
 
 // Accepts exactly as many bytes behind `start` as the bits need.
-pub(crate) fn ensure_bits(bytes: &[u8], start: usize, need: usize) -> Result<(), Fault>
+fn ensure_bits(bytes: &[u8], start: usize, need: usize) -> Result<(), Fault>
     ensures { MatchResult result (λ _. length bytes.now ≡ start + need)
         (λ fault. IsFirstFault (length bytes.now) (bits_steps bytes.now start need) fault) }
 {

@@ -1,6 +1,6 @@
 //! What follows for users of tables and their bytes.
 
-ghost use Rattle.sketch_member.specs.Laws.{FormLaw, InsertLaw, MergeLaw};
+ghost use Rattle.sketch_member.specs.Laws.{FormLaw, InsertLaw};
 
 pub use crate::table::table_law;
 
@@ -16,11 +16,4 @@ pub fn form_law()
 #[tactic(auto, using(crate::proofs::LawLemmas::insert_law))]
 pub fn insert_law()
     ensures { InsertLaw }
-{}
-
-/// Merging the tables of two streams of values makes the table of both streams, one after the
-/// other. Several tables may be merged in any order.
-#[tactic(auto, using(crate::proofs::MergeLemmas::merge_law))]
-pub fn merge_law()
-    ensures { MergeLaw }
 {}

@@ -3,10 +3,8 @@
 ghost use Rattle.std.specs.Prelude.{◌≡◌, ℕ, ◌↔◌, length, IfOk, IsTrue, MatchResult};
 ghost use Rattle.sketch_member.specs.Faults.{IsNewError, IsStepsError, steps};
 ghost use Rattle.sketch_member.specs.Form.{IsForm, form2};
-ghost use Rattle.sketch_member.specs.Merge.{FirstDifference, Merges};
 ghost use Rattle.sketch_member.specs.Table.{IsHashes, IsLog2Bits, Inserts, IsMember, IsSet, IsTable, Table, empty_table, table_of};
 
-use crate::fault::MergeFault;
 use crate::filter::{Filter, byte_count};
 use crate::format::{HEADER_BYTES, read};
 use datasketches::codec::SketchBytes;
@@ -15,7 +13,7 @@ use datasketches::hash::Hash;
 use std::alloc::{AllocError, Global};
 use std::marker::Model;
 
-/// A Bloom filter: a set of values that keeps some bits of each value, and no value.
+/// A set of values that keeps some bits of each value, and no value.
 ///
 /// It has 2^`log2_bits` bits, for a `log2_bits` of 6 to 20: at least 64 bits in 8 bytes, and at
 /// most 1,048,576 bits in 131,072 bytes. Each value has `hashes` indexes, 1 to 16. Index j is the
@@ -23,9 +21,7 @@ use std::marker::Model;
 /// modulo 2^64. An insert sets the bits at the value's indexes, and is counted.
 ///
 /// There are no false negatives: a value that was inserted is contained. There may be false
-/// positives: after inserts of n values, some (1 - e^(-hashes * n / bits))^hashes of the other
-/// values are contained, too. With 7 hashes and 2^20 bits that is one in a hundred at 110,000
-/// values. No proof covers this rate.
+/// positives: other values are contained, too. No proof covers their rate.
 ///
 /// Tables in bytes have a format of their own ([`MEMBER`](crate::MEMBER)). It is not that of the
 /// Bloom filters of [Apache DataSketches](https://datasketches.apache.org/), and neither can be
@@ -111,39 +107,12 @@ impl MemberTable {
         self.filter.contains(&self.bits, value)
     }
 
-    /// How many inserts were counted. `None` if that is unknown: this table, or one that was merged
-    /// into it, was read from bytes without a count.
+    /// How many inserts were counted. `None` if that is unknown: the table was read from bytes
+    /// without a count.
     pub fn count(&self) -> Option<u64>
         ensures { result ≡ self.now.count }
     {
         self.filter.count
-    }
-
-    /// Merges another table of the same seed and sizes into this one, which then contains what
-    /// either did.
-    ///
-    /// Known counts add and stay at the greatest `u64`; an unknown one makes the sum unknown.
-    ///
-    /// # Memory
-    ///
-    /// None, but for the text of a refusal.
-    ///
-    /// # Errors
-    ///
-    /// Where the seed, `log2_bits` or `hashes` differ: `InvalidArgument`, which names the first of
-    /// them that does. Where memory for that text runs out: `OutOfMemory`, with no message. The
-    /// table is then as it was.
-    pub fn merge(&mut self, alloc: Global, other: &MemberTable) -> Result<(), Error>
-        ensures { MatchResult result (λ _. Merges other.now self.old self.new)
-            (λ error. (self.new ≡ self.old) × FirstDifference self.old other.now error) }
-    {
-        if let Some(part) = self.filter.difference(&other.filter) {
-            let text = MergeFault::Unlike(part).to_string(alloc);
-            return Err(Error::from_text(alloc, ErrorKind::InvalidArgument, text));
-        }
-        self.filter
-            .merge(&mut self.bits, &other.filter, &other.bits);
-        Ok(())
     }
 
     /// The table in bytes of version 2: a header of 24 bytes, and then the bits.

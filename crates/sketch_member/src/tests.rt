@@ -1,7 +1,6 @@
 //! Tables in numbers that are known from elsewhere, printed texts, and refused requests for memory.
 
 mod format;
-mod in_place;
 mod table;
 
 use datasketches::error::{Error, ErrorKind};

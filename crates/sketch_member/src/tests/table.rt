@@ -1,5 +1,5 @@
 use super::{ONE_VALUE_1, ONE_VALUE_2, UNKNOWN_COUNT, assert_done_or_no_memory, refuse};
-use crate::{MemberTable, sizes_for};
+use crate::MemberTable;
 use datasketches::error::{Error, ErrorKind};
 use datasketches::hash::value::raw_bytes;
 use std::alloc::Global;
@@ -40,20 +40,7 @@ fn try_bytes(rt: &impl Abort, alloc: Global, it: &MemberTable, bytes: &[u8]) -> 
     Ok(())
 }
 
-// Inserts each value into a table of its own that is merged into another one.
-fn try_merged(rt: &impl Abort, alloc: Global, row: &Row, bytes: &[u8]) -> Result<(), Error> {
-    let (seed, log2_bits, hashes, values, _) = *row;
-    let mut merged = MemberTable::new(alloc, seed, log2_bits, hashes)?;
-    for value in values {
-        let mut other = MemberTable::new(alloc, seed, log2_bits, hashes)?;
-        other.insert(&raw_bytes::from_slice(value));
-        merged.merge(alloc, &other)?;
-    }
-    assert_eq!(rt; merged.count(), Some(values.len() as u64));
-    try_bytes(rt, alloc, &merged, bytes)
-}
-
-// Inserts each value into one table, whose bytes are those of the merged one.
+// Inserts each value into one table.
 fn try_row(rt: &impl Abort, alloc: Global, row: &Row) -> Result<(), Error> {
     let (seed, log2_bits, hashes, values, bits) = *row;
     let mut table = MemberTable::new(alloc, seed, log2_bits, hashes)?;
@@ -62,7 +49,7 @@ fn try_row(rt: &impl Abort, alloc: Global, row: &Row) -> Result<(), Error> {
     }
     let bytes = table.to_bytes(alloc)?;
     assert_eq!(rt; bytes.get(24..), Some(bits), "under {seed}");
-    try_merged(rt, alloc, row, &bytes)
+    Ok(())
 }
 
 fn try_tables(rt: &impl Abort, alloc: Global) -> Result<(), Error> {
@@ -78,23 +65,9 @@ const SIZES: [(u8, u8, &'static str); 2] = [
     (20, 17, "invalid hashes: expected 1 to 16, got 17"),
 ];
 
-// A seed and two sizes, and how a table of them is not merged into one of seed 9001 with 2^8 bits
-// and 3 hashes: the first difference is told.
-const UNLIKE: [(u64, u8, u8, &'static str); 3] = [
-    (9001 + (1 << 63), 7, 2, "tables differ: seed"),
-    (9001, 7, 4, "tables differ: log2 bits"),
-    (9001, 8, 2, "tables differ: hashes"),
-];
-
 fn try_refusals(rt: &impl Abort, alloc: Global) -> Result<(), Error> {
     for (log2_bits, hashes, message) in SIZES {
         let answer = MemberTable::new(alloc, 0, log2_bits, hashes);
-        refuse(rt, answer, ErrorKind::InvalidArgument, message)?;
-    }
-    let mut table = MemberTable::new(alloc, 9001, 8, 3)?;
-    for (seed, log2_bits, hashes, message) in UNLIKE {
-        let other = MemberTable::new(alloc, seed, log2_bits, hashes)?;
-        let answer = table.merge(alloc, &other);
         refuse(rt, answer, ErrorKind::InvalidArgument, message)?;
     }
     Ok(())
@@ -181,18 +154,4 @@ fn tables_of_every_size_make_240_requests(rt: HostRuntime) -> Result<(), Fail> {
         insert_new(&rt, &mut table, b"a");
     }
     Ok(())
-}
-
-// The sizes of a table for a number of keys, as exact fractions give them.
-#[test]
-fn the_smallest_sizes_below_a_rate(rt: HostRuntime) {
-    assert_eq!(rt; sizes_for(0, 10), Some((6, 1)));
-    assert_eq!(rt; sizes_for(1, 100), Some((6, 2)));
-    assert_eq!(rt; sizes_for(1_000, 100), Some((14, 3)));
-    assert_eq!(rt; sizes_for(10_000, 1_000_000), Some((19, 7)));
-    assert_eq!(rt; sizes_for(109_000, 100), Some((20, 6)));
-    assert_eq!(rt; sizes_for(110_000, 100), None);
-    assert_eq!(rt; sizes_for(1, 1 << 31), Some((6, 13)));
-    assert_eq!(rt; sizes_for(1, (1 << 31) + 1), None);
-    assert_eq!(rt; sizes_for(u64::MAX, 1), None);
 }

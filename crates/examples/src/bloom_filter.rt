@@ -1,0 +1,93 @@
+//! A Bloom filter of Apache Parquet that is filled, saved with its header, read, and merged.
+
+ghost use Rattle.std.specs.Prelude.{ℕ, List, ◌≡◌, ◌+◌, ◌++◌, ◌∷◌, [], IfOk, IfSome, IsTrue, drop, length, map, take};
+ghost use Rattle.sketch_bloom.specs.Filter.{Inserts, IsLength, IsMember, hash_of};
+ghost use Rattle.sketch_bloom.specs.Header.{IsHeaderLength, header};
+ghost use Rattle.sketch_bloom.specs.Laws.{StandsFor};
+
+use datasketches::hash::Hash;
+use datasketches::hash::value::raw_bytes;
+use sketch_bloom::laws::{insert_law, merge_law};
+use sketch_bloom::{
+    BloomFilter, Fault, bytes_for, contains, insert, insert_each_value, read_header, write_header,
+};
+use std::alloc::Global;
+
+/// A filter of these values, in which at most one in `one_in` of other values is found by chance; or
+/// of 128 MiB, if that is too little.
+///
+/// # Errors
+///
+/// Returns [`Fault::OutOfMemory`] if there is no memory.
+pub fn fill<T: Hash>(alloc: Global, values: &[T], one_in: u64) -> Result<BloomFilter, Fault>
+    ensures { IfOk result (λ filter.
+        StandsFor filter (map (λ value. hash_of (T.fed value)) values.now)) }
+{
+    insert_law();
+    let bytes = bytes_for(values.len() as u64, one_in).unwrap_or(1 << 27);
+    let mut filter = BloomFilter::new(alloc, bytes)?;
+    filter.insert_each(values);
+    Ok(filter)
+}
+
+/// Adds what another worker inserted.
+///
+/// # Errors
+///
+/// Returns [`Fault::OtherLength`] if the lengths differ. The filter is then unchanged.
+pub fn merge_worker(filter: &mut BloomFilter, worker: &BloomFilter) -> Result<(), Fault>
+    ensures { (hashes others : List ℕ) →
+        StandsFor filter.old hashes → StandsFor worker.now others →
+        IfOk result (λ _. StandsFor filter.new (hashes ++ others)) }
+{
+    merge_law();
+    filter.merge(worker)
+}
+
+/// Writes the filter with its header, as it is in a file of Parquet, and returns how many bytes that
+/// are. `None` if `out` is too short, or the filter has 2^31 bytes or more.
+pub fn save(filter: &BloomFilter, out: &mut [u8]) -> Option<usize>
+    ensures { IfSome result (λ count.
+        take count out.new ≡ header (length filter.now) ++ filter.now) }
+{
+    let bytes = filter.as_bytes();
+    let start = write_header(bytes.len(), out)?;
+    if out.len() - start < bytes.len() {
+        return None;
+    }
+    let end = start + bytes.len();
+    out[start..end].copy_from_slice(bytes);
+    Some(end)
+}
+
+/// The filter at the beginning of bytes with a header. `None` if they begin with no header, or are
+/// fewer than it says.
+pub fn load(input: &[u8]) -> Option<&[u8]>
+    ensures { IfSome result (λ filter. IsHeaderLength (length filter.now)
+        × ((rest : List ℕ) × (input.now ≡ header (length filter.now) ++ (filter.now ++ rest)))) }
+{
+    let (bytes, start) = read_header(input)?;
+    let (_, rest) = input.split_at(start);
+    if rest.len() < bytes {
+        return None;
+    }
+    Some(&rest[..bytes])
+}
+
+/// Whether a filter contains a key, which may be a false positive. It contains the key from then on.
+/// The filter is changed where it is, as in a file that is mapped.
+///
+/// # Errors
+///
+/// Returns [`Fault::Length`] if no filter has so many bytes. They are then unchanged.
+pub fn see_in_place(filter: &mut [u8], key: &[u8]) -> Result<bool, Fault>
+    ensures inserts { IfOk result (λ _. Inserts (hash_of key.now) filter.old filter.new) }
+    ensures stands { (hashes : List ℕ) → StandsFor filter.old hashes →
+        IfOk result (λ _. StandsFor filter.new (hashes ++ hash_of key.now ∷ [])) }
+{
+    insert_law();
+    let value = raw_bytes::from_slice(key);
+    let is_seen = contains(filter, &value)?;
+    insert(filter, &value)?;
+    Ok(is_seen)
+}

@@ -1,0 +1,86 @@
+//! Keys that were seen, in a membership table that is saved and loaded.
+
+ghost use Rattle.std.specs.Prelude.{ℕ, List, None, ◌≡◌, ◌⊎◌, ◌↔◌, ◌+◌, [], ◌∷◌, ◌++◌, IfErr, IfOk, IsTrue, MatchResult, length};
+ghost use Rattle.datasketches.specs.ErrorValue.{memory_error};
+ghost use Rattle.datasketches.specs.Refusals.{Refuses};
+ghost use Rattle.sketch_member.specs.declared.fault.Fault.{Fault};
+ghost use Rattle.sketch_member.specs.Faults.{IsFirstFault, IsStepsError, fault_text, steps};
+ghost use Rattle.sketch_member.specs.Form.{IsForm, form1};
+ghost use Rattle.sketch_member.specs.Laws.{StandsFor, count_after};
+ghost use Rattle.sketch_member.specs.Table.{Inserts, IsMember, IsTable, Table, empty_table};
+
+use datasketches::error::{Error, ErrorKind};
+use datasketches::hash::value::raw_bytes;
+use sketch_member::MemberTable;
+use sketch_member::laws::{form_law, insert_law, table_law};
+use std::alloc::Global;
+
+/// The table of the keys seen so far, from the bytes that were saved; a new one, of 1024 bits with
+/// seven indexes a key, where there are none.
+///
+/// # Errors
+///
+/// Where the bytes are no table: `InvalidData`, with the first fault in them. Where memory runs
+/// out: `OutOfMemory`, with no message.
+pub fn load_keys(alloc: Global, saved: &[u8]) -> Result<MemberTable, Error>
+    ensures loaded { IfOk result (λ seen.
+        ((saved.now ≡ []) × (seen ≡ empty_table 0 10 7)) ⊎ IsForm seen saved.now) }
+    ensures refused { IfErr result (λ error. (error ≡ memory_error) ⊎ ((fault : Fault)
+        × IsFirstFault (length saved.now) (steps saved.now) fault
+        × Refuses ErrorKind.InvalidData (fault_text fault) error)) }
+{
+    if saved.is_empty() {
+        return MemberTable::new(alloc, 0, 10, 7);
+    }
+    MemberTable::from_bytes(alloc, saved)
+}
+
+/// Whether the table contains a key, which may be a false positive. It contains the key from then
+/// on.
+pub fn see_key(seen: &mut MemberTable, key: &[u8]) -> bool
+    ensures told { IsTrue result ↔ IsMember seen.old key.now }
+    ensures seen { Inserts key.now seen.old seen.new }
+    ensures stands { (keys : List (List ℕ)) → StandsFor seen.old keys →
+        StandsFor seen.new (keys ++ key.now ∷ []) }
+    ensures counted { (n : ℕ) → seen.old.count ≡ count_after n →
+        seen.new.count ≡ count_after (n + 1) }
+{
+    insert_law();
+    let value = raw_bytes::from_slice(key);
+    let is_seen = seen.contains(&value);
+    seen.insert(&value);
+    is_seen
+}
+
+/// A table that is saved and read back: it is the same, count and all.
+///
+/// # Errors
+///
+/// Where memory runs out, and nowhere else: `OutOfMemory`, with no message.
+pub fn read_back(alloc: Global, table: &MemberTable) -> Result<MemberTable, Error>
+    ensures { MatchResult result (λ read. read ≡ table.now) (λ error. error ≡ memory_error) }
+{
+    form_law();
+    table_law(table);
+    let bytes = table.to_bytes(alloc)?;
+    MemberTable::from_bytes(alloc, &bytes)
+}
+
+/// The table that was in the bytes, written in version 2 and read again. Bytes of version 1 have
+/// no count.
+///
+/// # Errors
+///
+/// As those of [`MemberTable::from_bytes`]; memory may run out in the writing too.
+pub fn read_upgraded(alloc: Global, bytes: &[u8]) -> Result<MemberTable, Error>
+    ensures same { MatchResult result
+        (λ again. IsTable again × IsForm again bytes.now)
+        (IsStepsError ErrorKind.InvalidData (length bytes.now) (steps bytes.now)) }
+    ensures version1 { (table : Table) → IsTable table → bytes.now ≡ form1 table →
+        IfOk result (λ again. (again.count ≡ None)
+        × ((fed : List ℕ) → IsMember again fed ↔ IsMember table fed)) }
+{
+    form_law();
+    let table = MemberTable::from_bytes(alloc, bytes)?;
+    read_back(alloc, &table)
+}
