@@ -40,6 +40,12 @@ def test_dist_is_what_the_proved_text_gives(made):
     assert not any((DIST / it).is_symlink() for it in names)
 
 
+@pytest.mark.parametrize("target", ["linux-x86_64", "linux-aarch64"])
+def test_rust_package_has_the_archive_of_dist(target):
+    name = f"{target}/libsketch_hash.a"
+    assert filecmp.cmp(ROOT / "bindings/rust/lib" / name, DIST / name, shallow=False)
+
+
 def test_proved_names_the_sum_of_this_text():
     said = (DIST / "PROVED").read_text()
     command = "".join(re.findall(r"^    (.*\n)", said, re.M))
@@ -51,7 +57,7 @@ def test_a_call_takes_at_most_a_kilobyte_of_stack(made):
     assert 0 < int((made / "stack").read_text()) <= 1024
 
 
-@pytest.mark.parametrize("program, libraries", [("answers", []), ("member", ["xxhash"])])
+@pytest.mark.parametrize("program, libraries", [("answers", []), ("bloom", [])])
 def test_the_second_compiler_answers_alike(program, libraries, made, need, tmp_path):
     need("gcc", "ar", *(f"{it}.h" for it in libraries))
     archives = [DIST / "linux-x86_64/libsketch_hash.a", made / "second.a"]

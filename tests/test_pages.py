@@ -65,7 +65,7 @@ def test_files_that_a_page_names_are_there(page):
 
 
 VERSION = re.search(r"^## \[?(\d+\.\d+\.\d+)", text_of("CHANGELOG.md"), re.M)[1]
-VERSIONED = [it for it in FILES if re.search(r"sketch_hash(-config-version)?\.(3|h|pc|cmake|mjs)$|python/setup\.py$|rust/Cargo\.(toml|lock)$", it)]
+VERSIONED = [it for it in FILES if re.search(r"sketch_hash(-config-version)?\.(3|h|pc|cmake|mjs)$|python/setup\.py$|rust/Cargo\.(toml|lock)$|wasm/package\.json$", it)]
 
 
 @pytest.mark.parametrize("name", [*VERSIONED, "README.md"])
@@ -78,12 +78,6 @@ def test_families_of_the_page_are_those_of_the_code():
     rows = re.findall(r"^\| (\w+) \| (\d+) \| `(\w+)` \| (\d+) \| (\d+) \|$", text_of("docs/formats.md"), re.M)
     fields = r"const (\w+): Family = family!\((\d+), \"(\w+)\", (\d+)\.\.=(\d+)\);"
     assert rows == re.findall(fields, text_of("crates/sketch_base/src/codec/family.rt")) and len(rows) == 10
-
-
-def test_statuses_of_the_page_are_those_of_the_header():
-    of_page = re.findall(r"\| (-\d+), `(SKETCH_\w+)` \|$", text_of("docs/formats.md"), re.M)
-    of_header = re.findall(r"(SKETCH_MEMBER_\w+) = (-\d+)", text_of("bindings/c/sketch_hash.h"))
-    assert sorted(of_page) == sorted((number, name) for name, number in of_header) and of_page
 
 
 @pytest.mark.parametrize("package", ["bindings/python", "bindings/rust", "dist"])

@@ -131,7 +131,8 @@ def test_shared_library_is_hardened(folder, need):
 # What every x86-64 can do: integers, and moves and sums of SSE2.
 KNOWN = r"""mov([bwlq]|abs|[sz][bw][wlq]|slq)? lea xchg push pop j\w+ call ret nop[wl]? data16 cs int3 add adc sub sbb and or xor
     not neg inc dec imul mul sh[lr]d? sar ro[lr] bt cmp[bwlq]? test[bwlq]? set\w+ cmov\w+
-    mov[au]p[sd] movdq[au] movd x?orps pxor por pand padd[dq] psubq pshufd punpck[lh]\w+ psrlq psllq pmuludq""".split()
+    mov[au]p[sd] movdq[au] movd x?orps pxor por pandn? padd[dq] psubq pshufd punpck[lh]\w+ ps[rl]l[dq] pmuludq
+    pcmpeq[bd] pmovmskb cvttps2dq div""".split()
 
 
 def test_runs_on_each_x86_64(need):

@@ -1,6 +1,6 @@
 // What the tests share: the module, as it is loaded by default, and inputs.
 import v8 from 'node:v8';
-import { load } from '../sketch_hash.mjs';
+import { load } from '../../../dist/wasm/sketch_hash.mjs';
 
 const memory64 = Uint8Array.of(0, 0x61, 0x73, 0x6d, 1, 0, 0, 0, 5, 3, 1, 4, 0);
 if (!WebAssembly.validate(memory64)) v8.setFlagsFromString('--experimental-wasm-memory64'); // Node 20 and 22

@@ -1,10 +1,10 @@
 import assert from 'node:assert/strict';
 import { readFileSync } from 'node:fs';
 import test from 'node:test';
-import { load } from '../sketch_hash.mjs';
+import { load } from '../../../dist/wasm/sketch_hash.mjs';
 import { fox, library } from './helpers.mjs';
 
-const url = new URL('../sketch_hash.wasm', import.meta.url);
+const url = new URL('../../../dist/wasm/sketch_hash.wasm', import.meta.url);
 const module = readFileSync(url);
 const works = (it) => it.xxh64(fox) === library.xxh64(fox);
 
