@@ -35,7 +35,12 @@ static unsigned char mixed[KEYS]; /* lengths of 1 to 64 */
 #define OURS_XXH64(bytes, length) sketch_xxh64(bytes, length, 7)
 #define INLINED_XXH64(bytes, length) XXH64(bytes, length, 7)
 #define CALLED_XXH64(bytes, length) called_xxh64(bytes, length, 7)
-#define OURS_MURMUR(bytes, length) sketch_murmur3_x64_128(bytes, length, 7).h1
+#define OURS_MURMUR(bytes, length) ours_murmur_of(bytes, length)
+static inline uint64_t ours_murmur_of(const void *bytes, size_t length) {
+    uint64_t hash[2];
+    sketch_murmur3_x64_128(bytes, length, 7, hash);
+    return hash[0];
+}
 KEYS_BY(ours_xxh64, OURS_XXH64)
 KEYS_BY(inlined_xxh64, INLINED_XXH64)
 KEYS_BY(their_xxh64, CALLED_XXH64)
@@ -60,7 +65,8 @@ FLAT their_stream(size_t total, size_t length) {
 static uint64_t offsets[KEYS + 1], numbers[KEYS], hashes[KEYS];
 
 static uint64_t ours_column(size_t total, size_t length) {
-    sketch_xxh64_each64(input, total, offsets, KEYS + 1, 7, hashes, KEYS);
+    size_t wrong;
+    sketch_xxh64_each64(input, total, offsets, KEYS + 1, 7, hashes, KEYS, &wrong);
     return hashes[KEYS - 1];
 }
 

@@ -13,8 +13,8 @@ use sketch_bloom::{
 };
 use std::alloc::Global;
 
-/// A filter of these values, in which at most one in `one_in` of other values is found by chance; or
-/// of 128 MiB, if that is too little.
+/// A filter of these values, in which at most one in `one_in` of other values is found by chance;
+/// or of 128 MiB, if that is too little.
 ///
 /// # Errors
 ///
@@ -44,8 +44,8 @@ pub fn merge_worker(filter: &mut BloomFilter, worker: &BloomFilter) -> Result<()
     filter.merge(worker)
 }
 
-/// Writes the filter with its header, as it is in a file of Parquet, and returns how many bytes that
-/// are. `None` if `out` is too short, or the filter has 2^31 bytes or more.
+/// Writes the filter with its header, as it is in a file of Parquet, and returns how many bytes
+/// that are. `None` if `out` is too short, or the filter has 2^31 bytes or more.
 pub fn save(filter: &BloomFilter, out: &mut [u8]) -> Option<usize>
     ensures { IfSome result (λ count.
         take count out.new ≡ header (length filter.now) ++ filter.now) }
@@ -74,8 +74,8 @@ pub fn load(input: &[u8]) -> Option<&[u8]>
     Some(&rest[..bytes])
 }
 
-/// Whether a filter contains a key, which may be a false positive. It contains the key from then on.
-/// The filter is changed where it is, as in a file that is mapped.
+/// Whether a filter contains a key, which may be a false positive. It contains the key from then
+/// on. The filter is changed where it is, as in a file that is mapped.
 ///
 /// # Errors
 ///

@@ -122,7 +122,8 @@ moved_bit start i mask = elim (cases_lt (i / 8) start) [
       let is : bit_at (get_or (moved start mask) (i / 8) 0) (i % 8)
       ≡ bit_at (get_or mask ((i - start * 8) / 8) 0) ((i - start * 8) % 8) =
       rw (byte, digit) (ap (λ b. bit_at b (i % 8))
-      (get_or-append_right (replicate {A = ℕ} start 0) mask start (i / 8) 0 (length-replicate {A = ℕ} start 0) from)) in (
+      (get_or-append_right (replicate {A = ℕ} start 0) mask start (i / 8) 0
+      (length-replicate {A = ℕ} start 0) from)) in (
         (λ set. (omega (arith, from), sym is ∙ set)),
         (λ of. is ∙ of.1),
       )

@@ -126,7 +126,8 @@ answers_part filter all hashes before after start n few same first second others
           let place : start + (k - start) ≡ k = omega (arith, late) in
           let low : k - start < n = omega (arith, late, below) in
           let P : ℕ → Type 0 = λ i. IsAnswer filter (get_or all i 0) (get_or after i 0) in
-          let here : IsAnswer filter (get_or (take n hashes) (k - start) 0) (get_or after (start + (k - start)) 0) =
+          let here : IsAnswer filter (get_or (take n hashes) (k - start) 0)
+          (get_or after (start + (k - start)) 0) =
           second (k - start) (omega (arith, low, length-take-le n hashes few)) in
           subst P place (rw (get_or-take n hashes (k - start) 0 low, same (k - start) low) at here)
     ]

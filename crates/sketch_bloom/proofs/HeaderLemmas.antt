@@ -40,7 +40,8 @@ number_of_varint (suc more) n after small = elim (cases_lt n 128) [
   | inl short ↦ rw (varint_short (suc more) n short) (number_short (suc more) n after short)
   | inr long ↦
       let rest : n / 128 < 128 ^ suc more = omega (arith, small, pow-suc 128 (suc more)) in
-      rw (varint_long more n long) (number_long (suc more) (n % 128 + 128) (varint more (n / 128) ++ after) (omega arith)
+      rw (varint_long more n long) (number_long (suc more) (n % 128 + 128) (varint more (n / 128) ++ after)
+      (omega arith)
       ∙ ap (λ m. n % 128 + 128 - 128 + 128 * m) (number_of_varint more (n / 128) after rest)
       ∙ omega arith)
 ]
@@ -138,8 +139,10 @@ written_long more less n count (x ∷ out) rest is large space after long =
 -- the header: its first byte, the number, and the other fields
 pub header_written : (n count : ℕ) (out first fields : List ℕ) → count ≡ length (varint 4 n) + 14 →
     count ≤ length out → fields ≡ union_fields →
-    first ≡ varint 4 n ++ drop (length (varint 4 n)) (take (length (set out 0 21) - 1) (drop 1 (set out 0 21))) →
-    put_mid (count - 13) (count - (count - 13)) (put_mid 1 (length (set out 0 21) - 1) (set out 0 21) first) fields
+    first ≡ varint 4 n
+    ++ drop (length (varint 4 n)) (take (length (set out 0 21) - 1) (drop 1 (set out 0 21))) →
+    put_mid (count - 13) (count - (count - 13))
+    (put_mid 1 (length (set out 0 21) - 1) (set out 0 21) first) fields
     ≡ 21 ∷ (varint 4 n ++ union_fields ++ drop count out)
 header_written n count [] first fields is room are e = absurd (omega (arith, is, room))
 header_written n count (x ∷ out) first fields is room are e =
@@ -153,7 +156,8 @@ header_written n count (x ∷ out) first fields is room are e =
     let size : count - (count - 13) ≡ 13 = omega (arith, is) in
     let prefix : take (length (varint 4 n)) (varint 4 n ++ drop (length (varint 4 n)) out) ≡ varint 4 n =
     take-append-le (length (varint 4 n)) (varint 4 n) (drop (length (varint 4 n)) out)
-    (le_refl (length (varint 4 n))) ∙ take_all (length (varint 4 n)) (varint 4 n) (le_refl (length (varint 4 n))) in
+    (le_refl (length (varint 4 n)))
+    ∙ take_all (length (varint 4 n)) (varint 4 n) (le_refl (length (varint 4 n))) in
     let end : count ≡ suc (length (varint 4 n) + 13) = omega (arith, is) in
     let rest : drop 13 (drop (length (varint 4 n)) (varint 4 n ++ drop (length (varint 4 n)) out))
     ≡ drop count (x ∷ out) =
@@ -181,7 +185,9 @@ pub length-varint_most : (more n : ℕ) → length (varint more n) ≤ more + 1
 length-varint_most zero n = rw (varint_last n) (omega arith)
 length-varint_most (suc more) n = elim (cases_lt n 128) [
   | inl short ↦ omega (arith, length-varint_short (suc more) n short)
-  | inr long ↦ omega (arith, length-varint_long (suc more) more n refl long, length-varint_most more (n / 128))
+  | inr long ↦
+      let most = length-varint_most more (n / 128) in
+      omega (arith, length-varint_long (suc more) more n refl long, most)
 ]
 
 -- a header has at most 19 bytes
@@ -193,7 +199,8 @@ length-header_most bytes =
 pub header_made : (bytes count : ℕ) (out rest : List ℕ) → count ≡ length (header bytes) →
     out ≡ header bytes ++ rest → take count out ≡ header bytes
 header_made bytes count out rest long is =
-    rw (long, is) (take-append-le (length (header bytes)) (header bytes) rest (le_refl (length (header bytes)))
+    rw (long, is)
+    (take-append-le (length (header bytes)) (header bytes) rest (le_refl (length (header bytes)))
     ∙ take_all (length (header bytes)) (header bytes) (le_refl (length (header bytes))))
 
 -- what the code compares: the first bytes are the header exactly if the bytes begin with it
@@ -202,7 +209,8 @@ pub take_header : (bytes : ℕ) (made input after : List ℕ) → made ≡ heade
 take_header bytes made input after is e =
     header_made bytes (length made) input after (ap length is) e ∙ sym is
 
-pub header_taken : (bytes count : ℕ) (made input : List ℕ) → made ≡ header bytes → count ≡ length (header bytes) →
+pub header_taken : (bytes count : ℕ) (made input : List ℕ) → made ≡ header bytes →
+    count ≡ length (header bytes) →
     take (length made) input ≡ made → input ≡ header bytes ++ drop count input
 header_taken bytes count made input is long taken =
     sym (take-append-drop (length made) input)

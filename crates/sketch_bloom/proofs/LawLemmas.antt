@@ -138,7 +138,8 @@ streams : (before other after whole hashes others : List ℕ) →
     AreBytes after → AreBytes whole → length whole ≡ length before →
     Merges other before after → StandsFor before hashes → StandsFor other others →
     StandsFor whole (hashes ++ others) → after ≡ whole
-streams before other after whole hashes others bytes whole_bytes count merges stands stands_other stands_whole =
+streams before other after whole hashes others bytes whole_bytes count merges stands stands_other
+    stands_whole =
     same after whole (hashes ++ others) (hashes ++ others) bytes whole_bytes (merges.1.size ∙ sym count)
     (both before other after hashes others merges stands stands_other) stands_whole
     (λ hash. ((λ is. is), (λ is. is)))

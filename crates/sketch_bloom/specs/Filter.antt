@@ -89,7 +89,8 @@ IsNewFault bytes fault = IsLengthFault bytes fault ⊎ (IsLength bytes × (fault
 
 -- what a fault prints
 abbrev pub fault_text : Fault → List ℕ
-fault_text (Length bytes) = codes "invalid filter length: expected a positive multiple of 32 below 2^37, got "
+fault_text (Length bytes) =
+    codes "invalid filter length: expected a positive multiple of 32 below 2^37, got "
     ++ decimal bytes
 fault_text (OtherLength bytes) =
     codes "filters of two lengths: the other has " ++ decimal bytes ++ codes " bytes"

@@ -36,5 +36,6 @@ varint_number (suc most) (byte ∷ bytes) =
 
 -- Bytes begin with the header of one length at most, and it ends at one place.
 pub record HeaderLaw : Type 0 where
-  pub once : (bytes other : ℕ) (after others : List ℕ) → IsHeaderLength bytes → IsHeaderLength other →
+  pub once : (bytes other : ℕ) (after others : List ℕ) →
+      IsHeaderLength bytes → IsHeaderLength other →
       header bytes ++ after ≡ header other ++ others → (bytes ≡ other) × (after ≡ others)

@@ -1,4 +1,5 @@
-//! Columns of values that are inserted or looked up in one call: keys in a buffer, values, or hashes.
+//! Columns of values that are inserted or looked up in one call: keys in a buffer, values, or
+//! hashes.
 //!
 //! Each call checks the filter's length, and the offsets of a column of keys, once and before
 //! anything changes.
@@ -23,8 +24,8 @@ const AHEAD: usize = 32;
 /// # Errors
 ///
 /// Returns [`Fault::Length`] if `filter` is not a positive multiple of 32 bytes, or 2^37 bytes or
-/// more. Otherwise returns [`Fault::Offset`] with the index of the first offset that is past the end
-/// of `keys`, or below the offset before it. `filter` is then unchanged.
+/// more. Otherwise returns [`Fault::Offset`] with the index of the first offset that is past the
+/// end of `keys`, or below the offset before it. `filter` is then unchanged.
 pub fn insert_each<O: Offset>(filter: &mut [u8], keys: &[u8], offsets: &[O]) -> Result<(), Fault>
     ensures { let places = map O.place offsets.now in let n = key_count places in
         MatchResult result

@@ -1,4 +1,5 @@
-//! Values that are inserted into a filter and looked up, one at a time, and filters that are merged.
+//! Values that are inserted into a filter and looked up, one at a time, and filters that are
+//! merged.
 
 ghost use Rattle.std.specs.Prelude.{◌≡◌, ◌/◌, ◌↔◌, IsTrue, MatchResult, length};
 ghost use Rattle.sketch_bloom.specs.Filter.{Inserts, IsLength, IsLengthFault, IsMember, IsMergeFault, Merges, hash_of};

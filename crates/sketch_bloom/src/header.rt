@@ -44,7 +44,8 @@ pub fn write_header(bytes: usize, out: &mut [u8]) -> Option<usize>
 /// that Parquet's writers write. It is then the header of another kind of filter, or no header.
 pub fn read_header(input: &[u8]) -> Option<(usize, usize)>
     ensures { MatchOption result
-        ((bytes : ℕ) (after : List ℕ) → IsHeaderLength bytes → input.now ≡ header bytes ++ after → ⊥)
+        ((bytes : ℕ) (after : List ℕ) → IsHeaderLength bytes → input.now ≡ header bytes ++ after →
+        ⊥)
         (λ read. IsHeaderLength read.0 × (read.1 ≡ length (header read.0))
         × (input.now ≡ header read.0 ++ drop read.1 input.now)) }
 {

@@ -2,11 +2,11 @@
 //!
 //! A Bloom filter answers whether a value was inserted. It has no false negatives, and may have
 //! false positives. This one is bytes that Spark, Arrow, DuckDB, Impala and others read and write:
-//! blocks of 32 bytes, of which each value has one, chosen by its hash. The hash is XXH64, with seed
-//! 0, of the bytes that the value feeds, which for Parquet are its plain encoding: `i32` and `i64`
-//! for INT32 and INT64, [`raw_bytes`] for BYTE_ARRAY without its length and for FIXED_LEN_BYTE_ARRAY,
-//! and the bits of a FLOAT or DOUBLE as `u32` or `u64`. Parquet's writers insert the empty text, and
-//! no null.
+//! blocks of 32 bytes, of which each value has one, chosen by its hash. The hash is XXH64, with
+//! seed 0, of the bytes that the value feeds, which for Parquet are its plain encoding: `i32` and
+//! `i64` for INT32 and INT64, [`raw_bytes`] for BYTE_ARRAY without its length and for
+//! FIXED_LEN_BYTE_ARRAY, and the bits of a FLOAT or DOUBLE as `u32` or `u64`. Parquet's writers
+//! insert the empty text, and no null.
 //!
 //! The functions work on the bytes of a filter where they are: in a buffer, or in a mapped file.
 //! [`BloomFilter`] owns them. In a file a header comes before the bytes: [`write_header`],

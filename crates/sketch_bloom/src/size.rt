@@ -24,11 +24,12 @@ const SCALE: u32 = 48;
 /// The smallest number of bytes, of the powers of two from 32 to 128 MiB, for a filter in which at
 /// most one in `one_in` of other values is found by chance once it has `keys` different values.
 ///
-/// Returns `None` if 128 MiB, the largest filter that Arrow reads, are too few, or if `one_in` is 0.
+/// Returns `None` if 128 MiB, the largest filter that Arrow reads, are too few, or if `one_in` is
+/// 0.
 ///
 /// The rate is the exact one for this filter, up to the rounding of its sum. Parquet's writers size
-/// by m = -8 n / ln(1 - p^(1/8)) bits, which ignores that blocks fill unevenly. At exactly that size
-/// the rate is up to half as high again as the one that was asked for: 0.0147 for 0.01.
+/// by m = -8 n / ln(1 - p^(1/8)) bits, which ignores that blocks fill unevenly. At exactly that
+/// size the rate is up to half as high again as the one that was asked for: 0.0147 for 0.01.
 pub fn bytes_for(keys: u64, one_in: u64) -> Option<usize>
     ensures size { IfSome result (λ bytes. (log2_blocks : ℕ) × (log2_blocks ≤ 22)
         × (bytes ≡ 32 * 2 ^ log2_blocks)) }

@@ -5,9 +5,11 @@ use Rattle.sketch_bloom.specs.declared.fault.Fault.{Fault}
 use Rattle.sketch_c.specs.{ReportsOffset, error_offset, index_of, status}
 
 -- a column of keys that was hashed
-pub reports_offset : (Outcome : Result Unit ℕ → Type 0) (hashed : Result Unit ℕ) (before after : ℕ) (result : ℤ) →
+pub reports_offset : (Outcome : Result Unit ℕ → Type 0) (hashed : Result Unit ℕ) (before after : ℕ)
+    (result : ℤ) →
     Outcome hashed →
-    MatchResult hashed (λ _. (result ≡ pos 0) × (after ≡ before)) (λ i. (result ≡ error_offset) × (after ≡ i)) →
+    MatchResult hashed (λ _. (result ≡ pos 0) × (after ≡ before))
+    (λ i. (result ≡ error_offset) × (after ≡ i)) →
     ReportsOffset Outcome before after result
 reports_offset Outcome (Ok tt) before after result outcome is = inl (is.0, is.1, outcome)
 reports_offset Outcome (Err i) before after result outcome is = inr (is.0, rw is.1 outcome)

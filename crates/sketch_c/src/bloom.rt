@@ -15,9 +15,9 @@ use sketch_bloom::{
     is_length, merge, read_header, write_header,
 };
 
-/// The smallest number of bytes for a filter in which at most one in `one_in` of other keys is found
-/// by chance once it has so many different keys: a power of two, 32 bytes to 128 MiB. 0 if there is
-/// none.
+/// The smallest number of bytes for a filter in which at most one in `one_in` of other keys is
+/// found by chance once it has so many different keys: a power of two, 32 bytes to 128 MiB. 0 if
+/// there is none.
 #[unsafe(no_mangle)]
 pub extern "C" fn sketch_bloom_bytes_for(keys: u64, one_in: u64) -> usize
     ensures size { (result ≡ 0) ⊎ ((log2_blocks : ℕ) × (log2_blocks ≤ 22)
@@ -182,8 +182,8 @@ pub extern "C" fn sketch_bloom_contains_each64(
     reported(contains_each(bits, keys, offsets, found), wrong_offset)
 }
 
-/// Writes 1 or 0 for the four little-endian bytes of each number, for as many numbers as `found` has
-/// places.
+/// Writes 1 or 0 for the four little-endian bytes of each number, for as many numbers as `found`
+/// has places.
 #[unsafe(no_mangle)]
 pub extern "C" fn sketch_bloom_contains_each_u32(
     bits: &[u8],
@@ -216,8 +216,8 @@ pub extern "C" fn sketch_bloom_contains_each_u64(
     done(contains_each_value(bits, values, found))
 }
 
-/// Writes 1 or 0 for each key of a column, given by its hash: XXH64, with seed 0. For as many hashes
-/// as `found` has places.
+/// Writes 1 or 0 for each key of a column, given by its hash: XXH64, with seed 0. For as many
+/// hashes as `found` has places.
 #[unsafe(no_mangle)]
 pub extern "C" fn sketch_bloom_contains_each_hash(
     bits: &[u8],

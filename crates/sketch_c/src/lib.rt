@@ -1,5 +1,5 @@
-//! The library `sketch_hash` for C: the hashers and the Bloom filter of Apache Parquet, as calls that
-//! C and what calls C can make.
+//! The library `sketch_hash` for C: the hashers and the Bloom filter of Apache Parquet, as calls
+//! that C and what calls C can make.
 //!
 //! A state and a filter are in the caller's memory. Any bytes are a safe content of either, and
 //! nothing allocates, so no call requires more than its types say. Numbers and pointers alone are

@@ -1,5 +1,5 @@
-//! The filter: a seed, two sizes and a count, by which values are inserted into bits and looked up in
-//! them.
+//! The filter: a seed, two sizes and a count, by which values are inserted into bits and looked up
+//! in them.
 
 ghost use Rattle.std.specs.Prelude.{◌≡◌, ℕ, ◌<◌, ◌^◌, ◌↔◌, List, IfSome, IsTrue, MatchOption, MatchResult, Some};
 ghost use Rattle.datasketches.specs.Bytes.{eight};

@@ -15,7 +15,12 @@ returns c =
     ap (take start) wrote.2 ∙ take-append-le start (header (length bytes)) _ (omega (arith, wrote.1))
     ∙ take_all start (header (length bytes)) (omega (arith, wrote.1)) in
     take-put_mid start (start + length bytes - start) out c.copy_from_slice.new.self (start + length bytes)
-    (omega (arith, ap length copied)) (omega (arith, wrote.1, c.if-out-start.false, c.copy_from_slice.ensures.len))
+    (omega (arith, ap length copied)) (omega (
+      arith,
+      wrote.1,
+      c.if-out-start.false,
+      c.copy_from_slice.ensures.len,
+    ))
     ∙ ap (λ l. l ++ c.copy_from_slice.new.self) prefix
     ∙ ap (λ l. header (length bytes) ++ l) copied
     ∙ ap (λ b. header (length b) ++ b) c.as_bytes-bytes.ensures.bytes

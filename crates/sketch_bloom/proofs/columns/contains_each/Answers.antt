@@ -13,6 +13,7 @@ loop-start-preserved g c =
       answers_part c.args.filter.now
           (key_hashes c.args.keys.now (map g.O.Offset.place c.args.offsets.now) (length c.args.found.now))
           c.hash_ahead-n.new.hashes c.loop-start.found c.find_hashes.new.found c.loop-start.start n
-          (omega (arith, ahead.few, c.hash_ahead-n.array_long)) ahead.hashes c.loop-start.invariant.2 finds.each
+          (omega (arith, ahead.few, c.hash_ahead-n.array_long)) ahead.hashes c.loop-start.invariant.2
+          finds.each
           finds.before,
     )

@@ -10,7 +10,8 @@ returns-in_default-clause-number t c =
     sym (number_empty c.args.most c.args.input.now c.in_default.ensures.cases)
 
 pub returns-in_default-clause-small : goal.returns-in_default-clause-small
-returns-in_default-clause-small t c = below_first c.args.most 0 (omega (arith, c.if-most-eq0.false)) (omega arith)
+returns-in_default-clause-small t c =
+    below_first c.args.most 0 (omega (arith, c.if-most-eq0.false)) (omega arith)
 
 pub returns-then-low-lt128-clause-number : goal.returns-then-low-lt128-clause-number
 returns-then-low-lt128-clause-number t c =

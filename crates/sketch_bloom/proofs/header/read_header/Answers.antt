@@ -34,6 +34,7 @@ returns c =
     let made = header_made (c.varint_number.result / 2) count c.write_header.new.out _ wrote.1 wrote.2 in (
       wrote.0,
       wrote.1,
-      header_taken (c.varint_number.result / 2) count (take count c.write_header.new.out) c.args.input.now made
+      header_taken (c.varint_number.result / 2) count (take count c.write_header.new.out) c.args.input.now
+          made
           wrote.1 (c.has_prefix.ensures.0 c.if-not-has_prefix.false),
     )

@@ -8,6 +8,7 @@ pub returns : goal.returns
 returns c =
     let same : to_z w32 (of_z w32 c.reported.result) ≡ c.reported.result = search rules in
     rw same (reports_offset
-    (HashesEach (murmur_words c.args.seed) c.args.input.now c.args.offsets.now c.args.out.now c.hash_each.new.out)
+    (HashesEach (murmur_words c.args.seed) c.args.input.now c.args.offsets.now c.args.out.now
+    c.hash_each.new.out)
     c.hash_each.result c.args.wrong_offset.now c.reported.new.wrong_offset c.reported.result
     (rw (map-id c.args.offsets.now) at c.hash_each.ensures) c.reported.ensures)
