@@ -6,7 +6,7 @@ import random
 import peers
 import pytest
 import sketch_hash
-from sketch_hash import MemberTable, murmur3_x64_128_each, xxh64_each
+from sketch_hash import murmur3_x64_128_each, xxh64_each
 
 numpy = pytest.importorskip("numpy")
 xxhash = pytest.importorskip("xxhash")
@@ -70,7 +70,7 @@ def test_texts_of_one_width():
 def test_columns_of_no_keys():
     # The place of an array without numbers tells nothing.
     for numbers in (numpy.zeros(0, "uint64"), array.array("Q")):
-        assert xxh64_each(numbers).tolist() == MemberTable(6, 1).contains_each(numbers).tolist() == []
+        assert xxh64_each(numbers).tolist() == []
     for each in EACH:
         assert each((b"", array.array("I", [0]))).tolist() == []
     nothing = murmur3_x64_128_each((b"", array.array("I", [0])))
@@ -119,35 +119,54 @@ def test_refused(keys):
             each(keys)
 
 
-def test_what_is_refused_is_told():
-    row = "one row of whole numbers of {} bits in the machine's byte order, as array.array has"
-    column = "^a column is a pair of bytes and offsets, or " + row.format("64")
-    for keys in (numpy.zeros(4, "u4"), numpy.array(5, "u8"), numpy.zeros(4, ">u8"), [1, 2], [b"fox"], "fox", 5, None):
-        with pytest.raises(TypeError, match=column):
-            xxh64_each(keys)
-    offsets = "^offsets are " + row.format("32 or 64")
-    for keys in ((DATA, DATA), (DATA, numpy.array(5, "u8")), (DATA, [0, 3]), (b"fox", b"dog")):
-        for each in EACH:
-            with pytest.raises(TypeError, match=offsets):
-                each(keys)
-    objects = numpy.array(["fox", "dog"], dtype=object)
-    for call in (
-        sketch_hash.xxh64, sketch_hash.murmur3_x64_128_digest, MemberTable(10, 7).insert,
-        lambda keys: xxh64_each((keys, [0, 8])), lambda keys: MemberTable(10, 7).insert_each((keys, [0, 8])),
-    ):
-        for array in (objects, numpy.zeros(2, [("text", object), ("number", "u8")])):
-            for keys in (array, memoryview(array)):
-                with pytest.raises(TypeError, match="^an array of Python objects holds their addresses: encode each"):
-                    call(keys)
+ROW = "one row of whole numbers of {} bits in the machine's byte order, as array.array has"
+COLUMN = "^a column is a pair of bytes and offsets, as column.texts. makes it, or " + ROW.format("64")
+
+
+@pytest.mark.parametrize("keys, text", [
+    (numpy.zeros(4, "u4"), COLUMN + r': numbers.astype."uint64". makes it$'),
+    (numpy.array(5, "u8"), COLUMN + "$"),
+    (numpy.zeros(4, ">u8"), COLUMN + "$"),
+    ([1, 2], COLUMN + "$"),
+    ("fox", COLUMN + "$"),
+    (None, COLUMN + "$"),
+    ((DATA, DATA), "^offsets are " + ROW.format("32 or 64")),
+    ((DATA, numpy.array(5, "u8")), "^offsets are "),
+    ((DATA, [0, 3]), "^offsets are "),
+    ((DATA,), "^a column of bytes is a pair of bytes and offsets, as column"),
+    ((DATA, OFFSETS, 0), "^a column of bytes is a pair"),
+    (("text", [0, 4]), "^a str has no bytes until it is encoded"),
+    ((numpy.array(["fox"], dtype=object), [0, 8]), "^an array of Python objects holds their addresses"),
+], ids=range(13))
+def test_what_is_refused_is_told(keys, text):
+    with pytest.raises(TypeError, match=text):
+        xxh64_each(keys)
+
+
+def test_a_column_of_murmur_has_offsets():
+    with pytest.raises(TypeError, match="^a column of bytes is a pair of bytes and offsets, as column"):
+        murmur3_x64_128_each(numpy.zeros(4, "u8"))
+
+
+@pytest.mark.parametrize("keys", [
+    memoryview(bytearray(20))[4:12].cast("Q"), (b"", memoryview(bytearray(20))[2:10].cast("I")),
+], ids=["numbers", "offsets"])
+def test_numbers_that_are_not_aligned_are_refused(keys):
+    with pytest.raises(ValueError, match="^a column of numbers has to lie at a multiple of their width: pass a copy$"):
+        xxh64_each(keys)
+
+
+@pytest.mark.parametrize("dtype", [object, [("text", object), ("number", "u8")]], ids=["objects", "a field of objects"])
+@pytest.mark.parametrize("view", [lambda it: it, memoryview], ids=["array", "memoryview"])
+def test_arrays_of_objects_are_refused(dtype, view):
+    for call in (sketch_hash.xxh64, sketch_hash.murmur3_x64_128_digest):
+        with pytest.raises(TypeError, match="^an array of Python objects holds their addresses: encode each"):
+            call(view(numpy.zeros(2, dtype)))
+
+
+def test_a_field_may_be_named_as_the_type_of_objects():
     others = numpy.zeros(2, [("O", "S3"), ("number", "u8")])
     assert sketch_hash.xxh64_digest(memoryview(others)) == sketch_hash.xxh64_digest(others.tobytes())
-    for keys in (numpy.zeros(4, "u8"), (DATA,), (DATA, OFFSETS, 0)):
-        with pytest.raises(TypeError, match="^a column of bytes is a pair of bytes and offsets, as column"):
-            murmur3_x64_128_each(keys)
-    text = "a column of numbers has to lie at a multiple of their width"
-    for keys in (memoryview(bytearray(20))[4:12].cast("Q"), (b"", memoryview(bytearray(20))[2:10].cast("I"))):
-        with pytest.raises(ValueError, match=f"^{text}$"):
-            xxh64_each(keys)
 
 
 def test_a_seed_outside_of_64_bits_is_refused():
@@ -164,11 +183,11 @@ def test_texts_become_a_column():
         assert sketch_hash.column(same) == (data, offsets)
     assert xxh64_each(sketch_hash.column(texts)).tolist() == [sketch_hash.xxh64_intdigest(it.encode()) for it in texts]
     assert xxh64_each(sketch_hash.column([])).tolist() == []
-    for wrong, why in ((["fox", None], "the key at 1 is neither str nor bytes, but NoneType"), ("fox", "column takes many texts, and not one")):
-        with pytest.raises(TypeError, match=why):
-            sketch_hash.column(wrong)
 
 
-def test_numbers_of_another_width_are_told_how_to_mend():
-    with pytest.raises(TypeError, match=r'numbers\.astype\("uint64"\) makes it$'):
-        xxh64_each(numpy.zeros(3, "i4"))
+@pytest.mark.parametrize("texts, text", [
+    (["fox", None], "^the key at 1 is neither str nor bytes, but NoneType$"), ("fox", "^column takes many texts, and not one$"),
+], ids=["a missing value", "one text"])
+def test_what_becomes_no_column(texts, text):
+    with pytest.raises(TypeError, match=text):
+        sketch_hash.column(texts)

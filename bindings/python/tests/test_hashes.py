@@ -35,7 +35,7 @@ def test_known_answers():
 
 
 def test_the_examples_of_the_module():
-    assert doctest.testmod(sketch_hash) == (0, 2)
+    assert doctest.testmod(sketch_hash) == (0, 5)
 
 
 @pytest.mark.parametrize("kind", KINDS)
@@ -82,7 +82,7 @@ def test_attributes():
     assert len(murmur.digest()) == murmur.digest_size
     with pytest.raises(AttributeError):
         murmur.seed = 8
-    for it in (ours, murmur, sketch_hash.MemberTable(10, 3)):
+    for it in (ours, murmur, sketch_hash.BloomFilter(32)):
         with pytest.raises(AttributeError):
             it.other = 8
 
@@ -102,8 +102,8 @@ def test_what_they_are_called():
 
 def test_which_arguments_have_names():
     """As in hashlib, the only argument of a method has none. Cython 3 alone would give it one."""
-    table, pair = sketch_hash.MemberTable(log2_bits=10, hashes=3, seed=7), sketch_hash.column([FOX])
-    assert sketch_hash.MemberTable.for_keys(keys=10, one_in=100, seed=7).seed == table.seed
+    bloom, pair = sketch_hash.BloomFilter(num_bytes=32), sketch_hash.column([FOX])
+    assert sketch_hash.BloomFilter.for_keys(keys=10, one_in=100) == bloom
     for kind in KINDS:
         assert kind(data=FOX, seed=7).digest() == kind(FOX, 7).digest()
     for call in ONE_CALL:
@@ -111,16 +111,17 @@ def test_which_arguments_have_names():
     for call in (sketch_hash.xxh64_each, sketch_hash.murmur3_x64_128_each):
         assert call(keys=pair, seed=7) == call(pair, 7)
     for call, name, value in [
-        *((kind().update, "data", FOX) for kind in KINDS), (table.insert, "key", FOX), (table.update, "keys", [FOX]),
-        (table.insert_each, "keys", pair), (table.contains_each, "keys", pair), (table.merge, "other", table.copy()),
-        (table.from_bytes, "data", table.to_bytes()), (table.view, "buffer", bytearray(table.to_bytes())), (sketch_hash.column, "texts", [FOX]),
+        *((kind().update, "data", FOX) for kind in KINDS), (bloom.add, "key", FOX), (bloom.update, "keys", [FOX]),
+        (bloom.add_each, "keys", pair), (bloom.contains_each, "keys", pair), (bloom.from_bytes, "data", bytes(32)),
+        (bloom.add_hashes, "hashes", array.array("Q", [1])), (bloom.contains_hashes, "hashes", array.array("Q", [1])),
+        (bloom.from_parquet, "data", bloom.to_parquet()), (bloom.view, "buffer", bytes(32)), (sketch_hash.column, "texts", [FOX]),
     ]:
         call(value)
         with pytest.raises(TypeError, match="keyword"):
             call(**{name: value})
 
 
-@pytest.mark.parametrize("call", ["digest", "hexdigest", "intdigest", "copy", "reset", "__reduce__", "__repr__", "update"])
+@pytest.mark.parametrize("call", ["digest", "hexdigest", "intdigest", "copy", "reset", "__init__", "__reduce__", "__repr__", "update"])
 @pytest.mark.parametrize("kind", KINDS)
 def test_each_call_waits_for_a_long_one(kind, call):
     hasher = kind()
@@ -149,9 +150,8 @@ def test_murmur_in_the_forms_of_other_tools():
     assert sketch_hash.murmur3_x64_128_hexdigest(b"hello") == "cbd8a7b341bd9b025b1e906a48ae1d19"
 
 
-def test_objects_show_what_they_are():
+def test_an_object_shows_what_it_is():
     assert repr(xxh64(FOX, 7)) == f"<sketch_hash.xxh64 with seed 7, now {xxh64(FOX, 7).hexdigest()}>"
-    assert repr(sketch_hash.MemberTable(6, 1)) == "<sketch_hash.MemberTable with log2_bits 6, hashes 1, seed 0, count 0>"
 
 
 @pytest.mark.parametrize("kind", KINDS)
@@ -186,19 +186,3 @@ def test_lengths_past_32_bits(kind):
         each = getattr(sketch_hash, f"{kind.__name__}_each")
         hashes = each((zeros, array.array("Q", [0, len(zeros)])), (1 << 64) - 1)
         assert int.from_bytes(b"".join(word.to_bytes(8, "big") for word in hashes), "big") == answers[kind]
-        if kind is xxh64:
-            tables = [sketch_hash.MemberTable(6, 1, seed=(1 << 64) - 1) for _ in range(2)]
-            tables[0].insert(zeros)
-            tables[1].insert_each((zeros, array.array("Q", [0, len(zeros)])))
-            # Offsets of 32 bits have no sign.
-            short = sketch_hash.MemberTable(6, 1)
-            short.insert_each((zeros, array.array("I", [1 << 31, (1 << 31) + 3])))
-            assert bytes(3) in short and bytes(5) not in short and short.count == 1
-            short.insert_each((zeros, array.array("Q", [1 << 32, (1 << 32) + 5])))
-            assert bytes(5) in short
-            for table in tables:
-                assert int.from_bytes(table.to_bytes()[24:], "little") == 1 << answers[kind] % 64
-                assert zeros in table and b"fox" not in table
-                columns = [(zeros, array.array("Q", [0, end])) for end in (len(zeros), 37)]
-                found = [table.contains_each(column).tolist() for column in columns]
-                assert found == [[True], [False]]

@@ -8,7 +8,7 @@ import signal
 import sys
 import time
 
-from . import __version__, _seed, murmur3_x64_128, xxh64
+from . import __version__, murmur3_x64_128, xxh64
 
 HASHES = {"xxh64": xxh64, "murmur3_x64_128": murmur3_x64_128}
 PIECE = 1 << 20
@@ -42,7 +42,7 @@ def main():
 
 def whole_number(text):
     try:
-        return _seed(int(text, 10 if text.isdecimal() else 0))
+        return xxh64(seed=int(text, 10 if text.isdecimal() else 0)).seed
     except OverflowError as error:
         raise argparse.ArgumentTypeError(error) from None
     except ValueError:
