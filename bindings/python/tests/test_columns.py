@@ -93,32 +93,6 @@ def test_wrong_offsets(dtype, each):
         assert len(each((DATA, nothing))) == 0  # no keys, as a column may be sent
 
 
-REFUSED = [
-    DATA,
-    numpy.zeros(4, "float64"),
-    numpy.zeros(4, "uint32"),
-    numpy.zeros((2, 2), "uint64"),
-    numpy.zeros(4, "uint64")[::2],
-    memoryview(bytes(17))[1:].cast("Q"),
-    numpy.zeros(4, ">u8"),
-    [1, 2],
-    (DATA, DATA),
-    (DATA, numpy.zeros(4, "uint16")),
-    (DATA, numpy.zeros(4, "float32")),
-    (DATA, memoryview(bytearray(20))[2:10].cast("I")),
-    memoryview(bytearray(20))[4:12].cast("Q"),
-    ("text", numpy.zeros(4, "uint32")),
-    5,
-]
-
-
-@pytest.mark.parametrize("keys", REFUSED, ids=range(len(REFUSED)))
-def test_refused(keys):
-    for each in EACH:
-        with pytest.raises((TypeError, ValueError, BufferError)):
-            each(keys)
-
-
 ROW = "one row of whole numbers of {} bits in the machine's byte order, as array.array has"
 COLUMN = "^a column is a pair of bytes and offsets, as column.texts. makes it, or " + ROW.format("64")
 
@@ -130,6 +104,11 @@ COLUMN = "^a column is a pair of bytes and offsets, as column.texts. makes it, o
     ([1, 2], COLUMN + "$"),
     ("fox", COLUMN + "$"),
     (None, COLUMN + "$"),
+    (DATA, COLUMN + "$"),
+    (numpy.zeros(4, "f8"), COLUMN + "$"),
+    (numpy.zeros((2, 2), "u8"), COLUMN + "$"),
+    ((DATA, numpy.zeros(4, "u2")), "^offsets are "),
+    ((DATA, numpy.zeros(4, "f4")), "^offsets are "),
     ((DATA, DATA), "^offsets are " + ROW.format("32 or 64")),
     ((DATA, numpy.array(5, "u8")), "^offsets are "),
     ((DATA, [0, 3]), "^offsets are "),
@@ -137,7 +116,7 @@ COLUMN = "^a column is a pair of bytes and offsets, as column.texts. makes it, o
     ((DATA, OFFSETS, 0), "^a column of bytes is a pair"),
     (("text", [0, 4]), "^a str has no bytes until it is encoded"),
     ((numpy.array(["fox"], dtype=object), [0, 8]), "^an array of Python objects holds their addresses"),
-], ids=range(13))
+], ids=range(18))
 def test_what_is_refused_is_told(keys, text):
     with pytest.raises(TypeError, match=text):
         xxh64_each(keys)

@@ -1,5 +1,5 @@
 """The Bloom filter of Apache Parquet."""
-from cpython.buffer cimport PyBUF_C_CONTIGUOUS, PyBUF_SIMPLE, PyBuffer_FillInfo
+from cpython.buffer cimport PyBUF_C_CONTIGUOUS, PyBUF_SIMPLE, PyBUF_WRITABLE, PyBuffer_FillInfo
 from cpython.bytearray cimport PyByteArray_AS_STRING, PyByteArray_FromStringAndSize
 from cpython.bytes cimport PyBytes_FromStringAndSize
 from cpython.ref cimport Py_DECREF
@@ -413,6 +413,8 @@ cdef class BloomFilter:
 
     def __getbuffer__(self, Py_buffer *buffer, int flags):
         self.check(0)
+        if self.bits.readonly and flags & PyBUF_WRITABLE:
+            raise BufferError("the filter is a view of read-only memory")
         Py_DECREF(None)  # which Cython has put into buffer.obj, and PyBuffer_FillInfo replaces
         PyBuffer_FillInfo(buffer, self, self.bits.buf, self.bits.len, self.bits.readonly, flags)
         self.exports += 1
