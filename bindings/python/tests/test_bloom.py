@@ -84,21 +84,11 @@ def test_an_error_rate_is_that_of_one_in_its_reciprocal():
     steps = [one_in for one_in in sizes if sizes[one_in] != sizes.get(one_in - 1)]
     assert len(steps) > 3
     for one_in in {*steps[1:], *[step - 1 for step in steps[1:]], 49, 98, 103}:
-        assert BloomFilter.for_keys(1000, error_rate=1 / one_in).num_bytes == sizes[one_in]
+        for rate in (1 / one_in, fractions.Fraction(1, one_in), numpy.float64(1 / one_in)):
+            assert BloomFilter.for_keys(1000, error_rate=rate).num_bytes == sizes[one_in]
         # A rate that is a little smaller is kept by one more.
         below = math.nextafter(1 / one_in, 0)
         assert BloomFilter.for_keys(1000, error_rate=below).num_bytes == sizes.get(one_in + 1)
-
-
-@pytest.mark.parametrize("kind", [float, fractions.Fraction, numpy.float32, numpy.float64])
-def test_an_error_rate_is_any_real_number(kind):
-    assert BloomFilter.for_keys(1000, error_rate=kind(0.25)) == BloomFilter.for_keys(1000, one_in=4)
-
-
-@pytest.mark.parametrize("error_rate", [0, 1, 1.5, -0.01, math.nan, math.inf])
-def test_other_error_rates_are_refused(error_rate):
-    with pytest.raises(ValueError, match="^error_rate is above 0 and below 1, as 0.01 for one key in a hundred"):
-        BloomFilter.for_keys(1000, error_rate=error_rate)
 
 
 @pytest.mark.parametrize("keys, kwargs, error, text", [
@@ -111,8 +101,9 @@ def test_other_error_rates_are_refused(error_rate):
     (1000, {"one_in": 2**64}, OverflowError, "one_in is from 0 to"),
     (1000.0, {"one_in": 100}, TypeError, "integer"),
     (1000, {"one_in": 0.01}, TypeError, "integer"),
-    (1000, {"error_rate": "0.01%"}, ValueError, "float"),
-], ids=["no rate", "both", "too many", "too rare", "one in none", "negative", "too wide", "float keys", "float one_in", "text"])
+    *((1000, {"error_rate": rate}, ValueError, "^error_rate is above 0 and below 1, as 0.01 for one key in a hundred")
+      for rate in (0, 1, -0.01, math.nan, math.inf)),
+], ids=range(14))
 def test_what_for_keys_refuses(keys, kwargs, error, text):
     with pytest.raises(error, match=text):
         BloomFilter.for_keys(keys, **kwargs)
@@ -120,15 +111,11 @@ def test_what_for_keys_refuses(keys, kwargs, error, text):
 
 @pytest.mark.parametrize("num_bytes", [-32, 0, 1, 31, 33, 1000, 2**37, 2**64 + 32])
 def test_other_sizes_are_refused(num_bytes):
-    with pytest.raises(ValueError, match=f"a positive multiple of 32 bytes, below 2..37, and not {num_bytes}: BloomFilter.for_keys"):
-        BloomFilter(num_bytes)
+    for call in (BloomFilter, lambda n: BloomFilter.from_bytes(bytes(n)), lambda n: BloomFilter.view(bytes(n))):
+        if call is BloomFilter or 0 <= num_bytes < 2**37:
+            with pytest.raises(ValueError, match=f"multiple of 32 bytes, below 2..37, and not {num_bytes}: BloomFilter.for_keys"):
+                call(num_bytes)
 
-
-@pytest.mark.parametrize("call", [BloomFilter.from_bytes, BloomFilter.view])
-@pytest.mark.parametrize("length", [0, 31, 33])
-def test_bytes_of_other_lengths_are_refused(call, length):
-    with pytest.raises(ValueError, match=f"a positive multiple of 32 bytes, below 2..37, and not {length}"):
-        call(bytearray(length))
 
 
 # ---- Keys
@@ -146,32 +133,22 @@ def test_keys_that_are_taken(key, data):
 
 
 @pytest.mark.parametrize("key", [
-    5, None, 1.5, ["fox"], memoryview(b"f-o-")[::2], array.array("d", [1]), numpy.int64(5), numpy.zeros(2, object),
-    memoryview(bytes(8)).cast("I"),
-], ids=range(9))
+    5, None, ["fox"], array.array("d", [1]), numpy.int64(5), numpy.zeros(2, object), memoryview(bytes(8)).cast("I"),
+], ids=range(7))
 def test_keys_that_are_refused(key):
     bloom = filled()
     for call in (bloom.add, bloom.__contains__):
-        with pytest.raises((TypeError, BufferError)):
+        with pytest.raises(TypeError, match="^a key is a str or bytes, and not .*: add_each and contains_each take numbers"):
             call(key)
     assert bloom == filled()
 
 
-def test_a_number_is_told_where_it_goes():
-    with pytest.raises(TypeError, match="^a key is a str or bytes, and not int: add_each and contains_each take numbers"):
-        BloomFilter(32).add(5)
-
-
-def test_a_str_without_utf8_is_refused():
-    with pytest.raises(UnicodeEncodeError):
-        BloomFilter(32).add("\ud800")
-
-
-def test_keys_before_one_that_is_refused_stay_added():
+@pytest.mark.parametrize("key, error", [(5, TypeError), ("\ud800", UnicodeEncodeError), (memoryview(b"f-o-")[::2], BufferError)])
+def test_keys_before_one_that_is_refused_stay_added(key, error):
     bloom = filled([])
-    with pytest.raises(TypeError):
-        bloom.update([b"fox", 5, b"cat"])
-    assert bloom.to_bytes() == bits([b"fox"])
+    with pytest.raises(error):
+        bloom.update([b"fox", key, b"cat"])
+    assert bloom == filled([b"fox"])
 
 
 @pytest.mark.parametrize("keys", [
@@ -219,12 +196,13 @@ def test_a_column_of_hashes():
     assert bloom.contains_hashes(xxh64_each(PAIR, 1)).tolist() != [True] * len(KEYS)
 
 
-def test_columns_of_no_keys():
+@pytest.mark.parametrize("keys", [
+    numpy.zeros(0, "u8"), array.array("I"), (b"", array.array("I", [0])), (b"fox", array.array("Q")),
+], ids=range(4))
+def test_columns_of_no_keys(keys):
     bloom = BloomFilter(32)
-    for keys in (numpy.zeros(0, "u8"), array.array("I"), (b"", array.array("I", [0])), (b"fox", array.array("Q"))):
-        bloom.add_each(keys)
-        assert bloom.contains_each(keys).tolist() == []
-    assert bloom == BloomFilter(32)
+    bloom.add_each(keys)
+    assert bloom.contains_each(keys).tolist() == [] and bloom == BloomFilter(32)
 
 
 @pytest.mark.parametrize("call", [BloomFilter.add_each, BloomFilter.contains_each])
@@ -272,13 +250,12 @@ def test_merged_filters_have_the_keys_of_both():
     assert one is same and one == filled()
 
 
-def test_a_filter_merged_with_itself_stays_the_same():
-    bloom = filled()
-    bloom |= bloom
-    buffer = bytearray(bloom.to_bytes())
+def test_a_filter_merged_with_its_own_memory_stays_the_same():
+    buffer = bytearray(bits())
     view = BloomFilter.view(buffer)
     view |= BloomFilter.view(buffer)
-    assert bloom.to_bytes() == buffer == bits()
+    view |= view
+    assert buffer == bits()
 
 
 def test_filters_of_other_sizes_are_not_merged():
@@ -315,10 +292,7 @@ def test_a_copy_goes_its_own_way(way, make):
 
 
 def test_what_a_filter_shows():
-    bloom = BloomFilter(64)
-    assert repr(bloom) == "<sketch_hash.BloomFilter of 64 bytes>"
-    bloom.release()
-    assert repr(bloom) == "<sketch_hash.BloomFilter, released>"
+    assert repr(BloomFilter(64)) == "<sketch_hash.BloomFilter of 64 bytes>"
 
 
 # ---- Memory

@@ -1,9 +1,8 @@
-"""Columns of keys beside python3-xxhash and a Murmur in Python, key by key, and offsets that lie."""
+"""Columns of keys beside single calls, and what is refused."""
 import array
 import itertools
 import random
 
-import peers
 import pytest
 import sketch_hash
 from sketch_hash import murmur3_x64_128_each, xxh64_each
@@ -15,82 +14,54 @@ KEYS = [random.Random(7).randbytes(length % 101) for length in range(1000)]
 DATA = b"".join(KEYS)
 OFFSETS = [0, *itertools.accumulate(map(len, KEYS))]
 PAIR = DATA, array.array("Q", OFFSETS)
-WIDTHS = ["int32", "uint32", "int64", "uint64"]
-
-
+WIDTHS = pytest.mark.parametrize("dtype", ["int32", "uint32", "int64", "uint64"])
 EACH = [xxh64_each, murmur3_x64_128_each]
 
 
-def expected(keys, seed):
-    return [xxhash.xxh64_intdigest(key, seed) for key in keys]
+def expected(each, keys, seed):
+    if each is xxh64_each:
+        return [xxhash.xxh64_intdigest(key, seed) for key in keys]
+    pairs = [divmod(sketch_hash.murmur3_x64_128_intdigest(key, seed), 2**64) for key in keys]
+    return [word for pair in pairs for word in pair]
 
 
-@pytest.mark.parametrize("dtype", WIDTHS)
-def test_each_key(dtype):
+@pytest.mark.parametrize("each", EACH)
+@WIDTHS
+def test_each_key(each, dtype):
     offsets = numpy.array(OFFSETS, dtype)
     for data in (DATA, bytearray(DATA), numpy.frombuffer(DATA, "uint8")):
-        assert xxh64_each((data, offsets), 9).tolist() == expected(KEYS, 9)
+        assert each((data, offsets), 2**64 - 1).tolist() == expected(each, KEYS, 2**64 - 1)
     # From any place on: offsets of 32 bits may lie at 4 modulo 8.
     for begin in (500, 501):
-        some = xxh64_each((DATA, offsets[begin:601]))
-        assert some.tolist() == expected(KEYS[begin:600], 0)
-
-
-@pytest.mark.parametrize("dtype", WIDTHS)
-def test_each_key_by_murmur(dtype):
-    offsets = numpy.array(OFFSETS, dtype)
-    seeds = (0, 2**64 - 1)
-    for seed, hashes in zip(seeds, [murmur3_x64_128_each((DATA, offsets), seed) for seed in seeds]):
-        pairs = [h1 << 64 | h2 for h1, h2 in zip(hashes[::2], hashes[1::2])]
-        assert pairs == [peers.murmur3_x64_128(key, seed) for key in KEYS]
-        assert numpy.asarray(hashes).reshape(-1, 2)[7].tolist() == hashes[14:16].tolist()
-    some = murmur3_x64_128_each((numpy.frombuffer(DATA, "uint8"), offsets[500:601]), seed=seed)
-    assert some == hashes[1000:1200]
+        assert each((DATA, offsets[begin:601])).tolist() == expected(each, KEYS[begin:600], 0)
 
 
 @pytest.mark.parametrize("dtype", ["int64", "uint64"])
 def test_each_number(dtype):
     numbers = numpy.array([0, 1, 2**40, 2**62, *range(1000)], dtype)
-    seeds = (2**64 - 1, 0)
-    # Each answer has memory of its own.
-    for seed, hashes in zip(seeds, [xxh64_each(numbers, seed) for seed in seeds]):
-        assert hashes.tolist() == expected([word.tobytes() for word in numbers], seed)
-    assert numpy.asarray(hashes).dtype == numpy.uint64
-    assert xxh64_each(array.array("Q", [5])).tolist() == expected([b"\5" + bytes(7)], 0)
+    hashes = [xxh64_each(numbers, seed) for seed in (2**64 - 1, 0)]  # each has memory of its own
+    for seed, found in zip((2**64 - 1, 0), hashes):
+        assert found.tolist() == expected(xxh64_each, [number.tobytes() for number in numbers], seed)
+    assert numpy.asarray(found).dtype == numpy.uint64
 
 
-def test_texts_of_one_width():
-    """As README tells it: the padding of each is part of its key."""
-    texts = numpy.array([b"", b"fox", b"eight888", b"dog"], "S8")
-    offsets = numpy.arange(0, 8 * len(texts) + 1, 8, dtype="u8")
-    padded = [bytes(text).ljust(8, b"\0") for text in texts]
-    assert xxh64_each((texts.tobytes(), offsets), 3).tolist() == expected(padded, 3)
-
-
-def test_columns_of_no_keys():
-    # The place of an array without numbers tells nothing.
-    for numbers in (numpy.zeros(0, "uint64"), array.array("Q")):
-        assert xxh64_each(numbers).tolist() == []
-    for each in EACH:
-        assert each((b"", array.array("I", [0]))).tolist() == []
-    nothing = murmur3_x64_128_each((b"", array.array("I", [0])))
-    assert numpy.asarray(nothing).reshape(-1, 2).shape == (0, 2)
+@pytest.mark.parametrize("each, keys", [
+    (xxh64_each, numpy.zeros(0, "uint64")), (xxh64_each, array.array("Q")),  # whose place tells nothing
+    *((each, (data, array.array("I", offsets))) for each in EACH for data, offsets in ((b"", [0]), (DATA, []))),
+], ids=range(6))
+def test_columns_of_no_keys(each, keys):
+    assert each(keys).tolist() == []
 
 
 @pytest.mark.parametrize("each", EACH)
-@pytest.mark.parametrize("dtype", WIDTHS)
-def test_wrong_offsets(dtype, each):
+@WIDTHS
+@pytest.mark.parametrize("place", [0, 1, 500, 1000])
+@pytest.mark.parametrize("wrong", [len(DATA) + 1, -1], ids=["past the end", "negative"])
+def test_a_wrong_offset_is_named(each, dtype, place, wrong):
     offsets = numpy.array(OFFSETS, dtype)
-    for place in (0, 1, 500, 1000):
-        for lie in (len(DATA) + 1, -1):
-            wrong = offsets.copy()
-            wrong[place] = numpy.array(lie).astype(dtype)
-            with pytest.raises(ValueError, match=f"the offset at {place} is"):
-                each((DATA, wrong))
-    with pytest.raises(ValueError, match="the offset at 2 is"):
-        each((DATA, offsets[[0, 9, 8]]))
-    for nothing in (offsets[:0], array.array("I"), array.array("Q")):
-        assert len(each((DATA, nothing))) == 0  # no keys, as a column may be sent
+    offsets[place] = numpy.array(wrong).astype(dtype)
+    with pytest.raises(ValueError, match=f"^the offset at {place} is missing, past the end or below the one before$"):
+        each((DATA, offsets))
 
 
 ROW = "one row of whole numbers of {} bits in the machine's byte order, as array.array has"

@@ -176,24 +176,14 @@ def test_long_calls_give_up_the_lock_of_python(ticks):
             assert len(ticks) > before
 
 
-@pytest.mark.parametrize("seed", [-1, 2**64, 2**64 + 7, 2**70, -(2**64)])
-def test_a_seed_outside_of_64_bits_is_refused(seed):
-    for call in KINDS:
-        with pytest.raises(OverflowError, match="a seed is from 0 to"):
-            call(seed=seed)
-    for call in ONE_CALL:
-        with pytest.raises(OverflowError, match="a seed is from 0 to"):
-            call(b"", seed)
-
-
-@pytest.mark.parametrize("seed", [7.0, "7", None, b"7", fractions.Fraction(7)])
-def test_a_seed_is_a_whole_number(seed):
-    for call in KINDS:
-        with pytest.raises(TypeError):
-            call(seed=seed)
-    for call in ONE_CALL:
-        with pytest.raises(TypeError):
-            call(b"", seed)
+@pytest.mark.parametrize("call", [*KINDS, *ONE_CALL])
+@pytest.mark.parametrize("seed, error", [
+    *((seed, OverflowError) for seed in (-1, 2**64, 2**64 + 7, 2**70, -(2**64))),
+    *((seed, TypeError) for seed in (7.0, "7", None, b"7", fractions.Fraction(7))),
+])
+def test_other_seeds_are_refused(call, seed, error):
+    with pytest.raises(error):
+        call(b"", seed)
 
 
 def test_a_seed_is_a_whole_number_of_any_type():

@@ -215,15 +215,13 @@ cdef class murmur3_x64_128:
         self.append(data)
 
     def digest(self):
-        """digest($self)\n--\n\nReturns the hash of all data so far as 16 bytes: the first word, then the second, each with
-        its highest byte first."""
+        """digest($self)\n--\n\nReturns the hash of all data so far as 16 bytes, each word with the highest first."""
         cdef uint64_t hash[2]
         self.answer(hash)
         return digest_of(hash, 2)
 
     def digest_bytes(self):
-        """digest_bytes($self)\n--\n\nReturns the hash as the 16 bytes that most other tools print: each word has its lowest
-        byte first."""
+        """digest_bytes($self)\n--\n\nReturns the 16 bytes that most tools print: each word with the lowest first."""
         cdef uint64_t hash[2]
         self.answer(hash)
         return lowest_first(hash)
@@ -333,32 +331,28 @@ def xxh64_hexdigest(data, seed=0):
 
 
 def murmur3_x64_128_intdigest(data, seed=0):
-    """murmur3_x64_128_intdigest(data, seed=0)\n--\n\nReturns MurmurHash3 x64 128 of data as a whole number: the first word
-    is above the second."""
+    """murmur3_x64_128_intdigest(data, seed=0)\n--\n\nReturns the hash as a whole number, the first word above the second."""
     cdef uint64_t hash[2]
     murmur_of(data, seed, hash)
     return int_of(hash)
 
 
 def murmur3_x64_128_digest(data, seed=0):
-    """murmur3_x64_128_digest(data, seed=0)\n--\n\nReturns MurmurHash3 x64 128 of data as 16 bytes: the first word, then the
-    second, each with its highest byte first."""
+    """murmur3_x64_128_digest(data, seed=0)\n--\n\nReturns the hash as 16 bytes, each word with the highest first."""
     cdef uint64_t hash[2]
     murmur_of(data, seed, hash)
     return digest_of(hash, 2)
 
 
 def murmur3_x64_128_hexdigest(data, seed=0):
-    """murmur3_x64_128_hexdigest(data, seed=0)\n--\n\nReturns MurmurHash3 x64 128 of data as 32 hexadecimal digits: those of
-    the first word come first."""
+    """murmur3_x64_128_hexdigest(data, seed=0)\n--\n\nReturns the hash as 32 hexadecimal digits, the first word first."""
     cdef uint64_t hash[2]
     murmur_of(data, seed, hash)
     return hex_of(hash, 2)
 
 
 def murmur3_x64_128_bytes(data, seed=0):
-    """murmur3_x64_128_bytes(data, seed=0)\n--\n\nReturns MurmurHash3 x64 128 of data as the 16 bytes that most other tools
-    print, as mmh3.hash_bytes: each word has its lowest byte first."""
+    """murmur3_x64_128_bytes(data, seed=0)\n--\n\nReturns the 16 bytes of mmh3.hash_bytes: each word with the lowest first."""
     cdef uint64_t hash[2]
     murmur_of(data, seed, hash)
     return lowest_first(hash)
