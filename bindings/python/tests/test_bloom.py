@@ -160,7 +160,7 @@ def test_update_takes_any_iterable(keys):
 
 @pytest.mark.parametrize("keys", [b"fox", "fox", bytearray(b"fox"), memoryview(b"fox")])
 def test_update_does_not_take_one_key(keys):
-    with pytest.raises(TypeError, match="add takes one key, and add_each a column$"):
+    with pytest.raises(TypeError, match="^update takes an iterable of keys: add takes one key, and add_each a column$"):
         BloomFilter(32).update(keys)
 
 

@@ -5,7 +5,6 @@ import fractions
 import mmap
 import pickle
 import signal
-import struct
 import sys
 import threading
 import time
@@ -16,7 +15,7 @@ from test_buffers import KINDS, ONE_CALL
 
 numpy = pytest.importorskip("numpy")
 
-WAYS = [copy.copy, copy.deepcopy, lambda it: it.copy(), lambda it: pickle.loads(pickle.dumps(it))]
+WAYS = [copy.copy, copy.deepcopy, lambda it: it.copy(), *(lambda it, n=n: pickle.loads(pickle.dumps(it, n)) for n in range(6))]
 
 # They are never written, so they take no memory. A call on them takes a tenth of a second and more.
 ZEROS = mmap.mmap(-1, 1 << 31, flags=mmap.MAP_PRIVATE | mmap.MAP_ANONYMOUS | 0x4000, prot=mmap.PROT_READ)
@@ -52,16 +51,6 @@ def test_a_copy_goes_its_own_way(kind, way):
         assert second.seed == seed and type(second) is kind
         second.reset()
         assert second.digest() == kind(seed=seed).digest()
-
-
-def test_a_checkpoint_has_its_words_in_order():
-    """As the state is in C's memory, so that other languages resume it. The words were computed apart."""
-    data, seed = bytes(range(35)), 0x1122334455667788
-    x, m = xxh64(data, seed), murmur3_x64_128(data[:19], seed)
-    words = struct.pack("<6Q", seed, 0x9B07F8FFF4DFB707, 0x6A2608F9D4377DCF, 0x71797DB07D15ADAD, 0x40978DAA5C6D7475, 35)
-    assert x.__reduce__()[2][1][:51] == words + data[32:]
-    words = struct.pack("<3Q", 0xCBA402A70E176085, 0xD929CE6211B7B955, 19)
-    assert m.__reduce__()[2][1][:27] == words + data[16:19]
 
 
 @pytest.mark.parametrize("kind, size", [(xxh64, 80), (murmur3_x64_128, 40)])
@@ -158,15 +147,10 @@ def test_short_calls_keep_the_lock_of_python(ticks):
 def test_long_calls_give_up_the_lock_of_python(ticks):
     """From 64 KiB on. The other thread may be late on a busy machine, so it is given ten seconds."""
     data, hashers = bytes(1 << 24), [kind() for kind in KINDS]
-    columns = [
-        lambda data: xxh64_each(memoryview(data).cast("Q")),
-        lambda data: xxh64_each((data, array.array("I", range(100000)))),
-        lambda data: xxh64_each((data, array.array("Q", range(100000)))),
-        lambda data: murmur3_x64_128_each((data, array.array("I", range(100000)))),
-        lambda data: murmur3_x64_128_each((data, array.array("Q", range(100000)))),
-        *(lambda _, each=each, width=width: each((b"", array.array(width, bytes(1 << 20))))
-          for each in (xxh64_each, murmur3_x64_128_each) for width in "IQ"),
-    ]
+    columns = [lambda data, each=each: each(memoryview(data).cast("Q")) for each in (xxh64_each, BloomFilter(32).add_each)]
+    for each in (xxh64_each, murmur3_x64_128_each, BloomFilter(32).add_each, BloomFilter(32).contains_each):
+        columns.append(lambda data, each=each: each((data, array.array("I", range(100000)))))
+        columns.append(lambda _, each=each: each((b"", array.array("Q", bytes(1 << 20)))))
     whole = [*ONE_CALL, *[it.update for it in hashers]]
     for given, calls in ((data, whole + columns), (data[:65536], whole)):
         for call in calls:

@@ -13,6 +13,7 @@ from ._memory cimport (
 
 import math
 import operator
+import pickle
 
 cdef extern from "Python.h":
     const char *PyUnicode_AsUTF8AndSize(object, Py_ssize_t *) except NULL
@@ -167,10 +168,8 @@ cdef class BloomFilter:
     @classmethod
     def for_keys(cls, keys, *, error_rate=None, one_in=None):
         """for_keys($type, keys, *, error_rate=None, one_in=None)\n--\n\nReturns the smallest filter that reports at most this
-        share of other keys, once it has so many keys: error_rate=0.01, or one_in=100.
-
-        Its size is a power of two. If more than 128 MiB would be needed, ValueError is raised.
-        """
+        share of other keys, once it has so many keys: error_rate=0.01, or one_in=100. Its size is a power of two. If more
+        than 128 MiB would be needed, ValueError is raised."""
         if (error_rate is None) == (one_in is None):
             raise TypeError("for_keys takes one of error_rate, as 0.01, and one_in, as 100")
         if one_in is None:
@@ -184,10 +183,8 @@ cdef class BloomFilter:
 
     @classmethod
     def from_bytes(cls, data):
-        """from_bytes($type, data, /)\n--\n\nReturns a filter with a copy of the bits that to_bytes or another language wrote.
-
-        Their number has to be one that BloomFilter takes, else ValueError is raised.
-        """
+        """from_bytes($type, data, /)\n--\n\nReturns a filter with a copy of the bits that to_bytes or another language
+        wrote. Their number has to be one that BloomFilter takes, else ValueError is raised."""
         cdef View memory
         get_bytes(data, &memory)
         try:
@@ -198,10 +195,8 @@ cdef class BloomFilter:
     @classmethod
     def from_parquet(cls, data):
         """from_parquet($type, data, /)\n--\n\nReturns the filter at the begin of data, which is a Parquet file's from its
-        bloom_filter_offset on: a header, and the bits. What is after them is ignored.
-
-        A header of anything but a split block filter with XXH64, uncompressed, and missing bits raise ValueError.
-        """
+        bloom_filter_offset on: a header, and the bits. What is after them is ignored. A header of anything but a split
+        block filter with XXH64, uncompressed, and missing bits raise ValueError."""
         cdef View memory
         cdef uint64_t num_bytes = 0
         cdef size_t header
@@ -408,8 +403,9 @@ cdef class BloomFilter:
         """copy($self)\n--\n\nReturns a filter with the same keys and memory of its own."""
         return type(self).from_bytes(self.to_bytes())
 
-    def __reduce__(self):
-        return type(self).from_bytes, (self.to_bytes(),)
+    def __reduce_ex__(self, protocol):
+        data = self.to_bytes()
+        return type(self).from_bytes, (pickle.PickleBuffer(data) if protocol >= 5 else data,)
 
     def __getbuffer__(self, Py_buffer *buffer, int flags):
         self.check(0)
