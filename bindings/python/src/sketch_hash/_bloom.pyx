@@ -8,7 +8,7 @@ from libc.stdint cimport uint32_t, uint64_t, uintptr_t
 from ._columns cimport HASHES, NUMBERS32, NUMBERS64, OFFSETS32, OFFSETS64, Column, check_offsets
 from ._library cimport *
 from ._memory cimport (
-    LONG, Lock, PyBuffer_Release, PyObject_GetBuffer, View, acquire, get_bytes, release, word_of,
+    LONG, Lock, PyBuffer_Release, PyObject_GetBuffer, View, acquire, get_bytes, release, wait, word_of,
 )
 
 import math
@@ -145,15 +145,20 @@ cdef class BloomFilter:
 
     cdef int exchange(self, View *bits) except -1:
         cdef View before
-        cdef bint is_exported
-        acquire(<void *>self.lock)
-        is_exported = self.exports > 0
-        if not is_exported:
-            before, self.bits = self.bits, bits[0]
-            bits[0] = before
-        release(<void *>self.lock)
-        if is_exported:
+        wait(<void *>self.lock)
+        if self.exports:
             raise BufferError("memoryviews of the filter exist: release them first")
+        before, self.bits = self.bits, bits[0]
+        bits[0] = before
+        return 0
+
+    cdef int begin(self, bint is_long) except -1:
+        """Begins a call. A long one ends with release(self.lock)."""
+        if is_long:
+            self.lock = self.lock or Lock()
+            acquire(self.lock)
+        else:
+            wait(<void *>self.lock)
         return 0
 
     cdef int check(self, int status) except -1:
@@ -251,9 +256,8 @@ cdef class BloomFilter:
         """add($self, key, /)\n--\n\nAdds a key."""
         cdef uint64_t hash = hash_of(key)
         cdef int status
-        acquire(<void *>self.lock)
+        wait(<void *>self.lock)
         status = READ_ONLY if self.bits.readonly else sketch_bloom_insert_hash(self.bits.buf, self.bits.len, hash)
-        release(<void *>self.lock)
         if status:
             self.check(status)
 
@@ -261,9 +265,8 @@ cdef class BloomFilter:
         """Whether the filter may have the key. If not, it was certainly not added."""
         cdef uint64_t hash = hash_of(key)
         cdef bint found
-        acquire(<void *>self.lock)
+        wait(<void *>self.lock)
         found = sketch_bloom_contains_hash(self.bits.buf, self.bits.len, hash)
-        release(<void *>self.lock)
         if self.bits.buf is NULL:
             self.check(0)
         return found
@@ -279,9 +282,7 @@ cdef class BloomFilter:
         cdef size_t wrong = 0
         cdef int status
         cdef bint is_long = keys.size() >= LONG
-        if is_long:
-            self.lock = self.lock or Lock()
-        acquire(<void *>self.lock)
+        self.begin(is_long)
         if self.bits.readonly:
             status = READ_ONLY
         elif overlap(&self.bits, &keys.data) or overlap(&self.bits, &keys.numbers):
@@ -291,7 +292,8 @@ cdef class BloomFilter:
                 status = insert_column(self.bits.buf, self.bits.len, keys, &wrong)
         else:
             status = insert_column(self.bits.buf, self.bits.len, keys, &wrong)
-        release(<void *>self.lock)
+        if is_long:
+            release(self.lock)
         check_offsets(status, wrong)
         return self.check(status)
 
@@ -301,15 +303,14 @@ cdef class BloomFilter:
         found = bytearray(keys.count)
         cdef unsigned char *to = <unsigned char *>PyByteArray_AS_STRING(found)
         is_long = keys.size() >= LONG
-        if is_long:
-            self.lock = self.lock or Lock()
-        acquire(<void *>self.lock)
+        self.begin(is_long)
         if is_long:
             with nogil:
                 status = contains_column(self.bits.buf, self.bits.len, keys, to, &wrong)
         else:
             status = contains_column(self.bits.buf, self.bits.len, keys, to, &wrong)
-        release(<void *>self.lock)
+        if is_long:
+            release(self.lock)
         check_offsets(status, wrong)
         self.check(status)
         return memoryview(found).cast("?")
@@ -345,9 +346,7 @@ cdef class BloomFilter:
         cdef const char *bits = data
         cdef size_t length = len(data), own_length
         cdef int status
-        if length >= LONG:
-            self.lock = self.lock or Lock()
-        acquire(<void *>self.lock)
+        self.begin(length >= LONG)
         own_length = self.bits.len
         if self.bits.readonly:
             status = READ_ONLY
@@ -356,7 +355,8 @@ cdef class BloomFilter:
         else:
             with nogil:
                 status = sketch_bloom_merge(self.bits.buf, self.bits.len, bits, length)
-        release(<void *>self.lock)
+        if length >= LONG:
+            release(self.lock)
         if status and own_length and status != READ_ONLY:
             raise ValueError(f"filters of {own_length} and {length} bytes cannot be merged: create both with one size")
         self.check(status)
@@ -380,13 +380,9 @@ cdef class BloomFilter:
 
     def to_bytes(self):
         """to_bytes($self)\n--\n\nReturns a copy of the bits, which are the same on every machine."""
-        acquire(<void *>self.lock)
-        try:  # without memory for the bytes the lock is given back too
-            data = PyBytes_FromStringAndSize(<char *>self.bits.buf, self.bits.len)
-        finally:
-            release(<void *>self.lock)
+        wait(<void *>self.lock)
         self.check(0)
-        return data
+        return PyBytes_FromStringAndSize(<char *>self.bits.buf, self.bits.len)
 
     def to_parquet(self):
         """to_parquet($self)\n--\n\nReturns the filter as it is in a Parquet file: a header and the bits. Their length is the

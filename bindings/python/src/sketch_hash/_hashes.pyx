@@ -6,7 +6,7 @@ from libc.string cimport memcpy
 
 from ._library cimport *
 from ._memory cimport (
-    LONG, Lock, PyBuffer_Release, View, acquire, get_bytes, release, word_of,
+    LONG, Lock, PyBuffer_Release, View, acquire, get_bytes, release, wait, word_of,
 )
 
 from copyreg import __newobj__
@@ -72,34 +72,31 @@ cdef class xxh64:
 
     @cython.final
     cdef inline void restart(self, uint64_t seed) noexcept:
-        acquire(<void *>self.lock)
+        wait(<void *>self.lock)
         sketch_xxh64_reset(&self.state, seed)
-        release(<void *>self.lock)
 
     @cython.final
     cdef inline int append(self, object data) except -1:
         cdef View memory
         get_bytes(data, &memory)
         try:
-            if memory.len < LONG and self.lock is None:
+            if memory.len < LONG:
+                wait(<void *>self.lock)
                 sketch_xxh64_update(&self.state, memory.buf, memory.len)
             else:
-                if self.lock is None:
-                    self.lock = Lock()
-                acquire(<void *>self.lock)
+                self.lock = self.lock or Lock()
+                acquire(self.lock)
                 with nogil:
                     sketch_xxh64_update(&self.state, memory.buf, memory.len)
-                release(<void *>self.lock)
+                release(self.lock)
         finally:
             PyBuffer_Release(&memory)
         return 0
 
     @cython.final
     cdef inline uint64_t answer(self) noexcept:
-        acquire(<void *>self.lock)
-        word = sketch_xxh64_digest(&self.state)
-        release(<void *>self.lock)
-        return word
+        wait(<void *>self.lock)
+        return sketch_xxh64_digest(&self.state)
 
     def update(self, data):
         """update($self, data, /)\n--\n\nAppends data. Splitting the input into several calls gives the same hash."""
@@ -132,24 +129,21 @@ cdef class xxh64:
         """copy($self)\n--\n\nReturns an independent object of the same class with the same seed and data."""
         cdef type kind = type(self)
         cdef xxh64 other = kind.__new__(kind)
-        acquire(<void *>self.lock)
+        wait(<void *>self.lock)
         other.state = self.state
-        release(<void *>self.lock)
         return other
 
     def __reduce__(self):
-        acquire(<void *>self.lock)
+        wait(<void *>self.lock)
         state = self.state
-        release(<void *>self.lock)
         return __newobj__, (type(self),), (state.seed, (<char *>&state)[:sizeof(state)])
 
     def __setstate__(self, checkpoint):
         seed, state = checkpoint
         cdef xxh64 other = xxh64(seed=seed)
         take_checkpoint(self, state, &other.state, sizeof(other.state))
-        acquire(<void *>self.lock)
+        wait(<void *>self.lock)
         self.state = other.state
-        release(<void *>self.lock)
 
     def __repr__(self):
         return f"<sketch_hash.{type(self).__name__} with seed {self.seed}, now {self.hexdigest()}>"
@@ -181,34 +175,32 @@ cdef class murmur3_x64_128:
 
     @cython.final
     cdef inline void restart(self, uint64_t seed) noexcept:
-        acquire(<void *>self.lock)
+        wait(<void *>self.lock)
         self.own_seed = seed
         sketch_murmur3_x64_128_reset(&self.state, seed)
-        release(<void *>self.lock)
 
     @cython.final
     cdef inline int append(self, object data) except -1:
         cdef View memory
         get_bytes(data, &memory)
         try:
-            if memory.len < LONG and self.lock is None:
+            if memory.len < LONG:
+                wait(<void *>self.lock)
                 sketch_murmur3_x64_128_update(&self.state, memory.buf, memory.len)
             else:
-                if self.lock is None:
-                    self.lock = Lock()
-                acquire(<void *>self.lock)
+                self.lock = self.lock or Lock()
+                acquire(self.lock)
                 with nogil:
                     sketch_murmur3_x64_128_update(&self.state, memory.buf, memory.len)
-                release(<void *>self.lock)
+                release(self.lock)
         finally:
             PyBuffer_Release(&memory)
         return 0
 
     @cython.final
     cdef inline void answer(self, uint64_t *hash) noexcept:
-        acquire(<void *>self.lock)
+        wait(<void *>self.lock)
         sketch_murmur3_x64_128_digest(&self.state, hash)
-        release(<void *>self.lock)
 
     def update(self, data):
         """update($self, data, /)\n--\n\nAppends data. Splitting the input into several calls gives the same hash."""
@@ -251,24 +243,21 @@ cdef class murmur3_x64_128:
         """copy($self)\n--\n\nReturns an independent object of the same class with the same seed and data."""
         cdef type kind = type(self)
         cdef murmur3_x64_128 other = kind.__new__(kind)
-        acquire(<void *>self.lock)
+        wait(<void *>self.lock)
         other.state, other.own_seed = self.state, self.own_seed
-        release(<void *>self.lock)
         return other
 
     def __reduce__(self):
-        acquire(<void *>self.lock)
+        wait(<void *>self.lock)
         state, seed = self.state, self.own_seed
-        release(<void *>self.lock)
         return __newobj__, (type(self),), (seed, (<char *>&state)[:sizeof(state)])
 
     def __setstate__(self, checkpoint):
         seed, state = checkpoint
         cdef murmur3_x64_128 other = murmur3_x64_128(seed=seed)
         take_checkpoint(self, state, &other.state, sizeof(other.state))
-        acquire(<void *>self.lock)
+        wait(<void *>self.lock)
         self.state, self.own_seed = other.state, other.own_seed
-        release(<void *>self.lock)
 
     def __repr__(self):
         return f"<sketch_hash.{type(self).__name__} with seed {self.seed}, now {self.hexdigest()}>"

@@ -28,17 +28,28 @@ cdef enum:
 
 cdef class Lock:
     cdef PyThread_type_lock handle
+    cdef bint is_held  # by a long call
 
 
-cdef inline void acquire(void *lock) noexcept:
-    """Waits until no other call holds the lock of an object, or returns at once for None."""
-    if lock is not <void *>None and not PyThread_acquire_lock((<Lock>lock).handle, NOWAIT_LOCK):
+cdef inline void acquire(Lock lock) noexcept:
+    """Begins a long call on the object that has the lock."""
+    if not PyThread_acquire_lock(lock.handle, NOWAIT_LOCK):
         with nogil:  # the holder needs the GIL before it lets go
+            PyThread_acquire_lock(lock.handle, WAIT_LOCK)
+    lock.is_held = True
+
+
+cdef inline void release(Lock lock) noexcept:
+    lock.is_held = False
+    PyThread_release_lock(lock.handle)
+
+
+cdef inline void wait(void *lock) noexcept:
+    """Begins a short call, which keeps the GIL, so that no long call begins before it is done. None is the lock of an object
+    that had no long call. The lock is lent, since counting references to it takes a tenth of a call."""
+    if lock is not <void *>None and (<Lock>lock).is_held:
+        with nogil:
             PyThread_acquire_lock((<Lock>lock).handle, WAIT_LOCK)
-
-
-cdef inline void release(void *lock) noexcept:
-    if lock is not <void *>None:
         PyThread_release_lock((<Lock>lock).handle)
 
 
