@@ -14,13 +14,13 @@ CASES = [
     ("`digest()`", "hasher.digest()", 16),
     ("`copy()`", "hasher.copy()", 16),
 ]
-table = sketch_hash.MemberTable(17, 7, seed=9001)
-table.insert(bytes(16))
+seen = sketch_hash.BloomFilter.for_keys(100_000, error_rate=0.01)
+seen.add(bytes(16))
 
 
 def timer(call, length, module=xxhash):
     data = bytes(length)
-    names = {"module": module, "hash": module.xxh64_intdigest, "hasher": module.xxh64(data), "table": table, "data": data}
+    names = {"module": module, "hash": module.xxh64_intdigest, "hasher": module.xxh64(data), "seen": seen, "data": data}
     it = timeit.Timer(call, globals=names, timer=time.thread_time)
     return lambda: it.timeit(1000)
 
@@ -33,7 +33,7 @@ def compare(case, peer, ours, theirs):
 for case, call, length in CASES:
     compare(case, "python3-xxhash", *(timer(call, length, module) for module in (sketch_hash, xxhash)))
 
-# A filter of seven hashes beside what it would take of python3-xxhash's.
-seven = timer("; ".join(f"hash(data, {seed})" for seed in range(7)), 16)
-for case, call in (("insert", "table.insert(data)"), ("look-up", "data in table")):
-    compare(f"{case} of a filter, 16 bytes", "seven hashes", timer(call, 16), seven)
+# A filter, which takes one hash of a key, beside that hash of python3-xxhash.
+one = timer("hash(data)", 16)
+for case, call in (("add", "seen.add(data)"), ("look-up", "data in seen")):
+    compare(f"{case} of a filter, 16 bytes", "`xxh64_intdigest`", timer(call, 16), one)

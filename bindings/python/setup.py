@@ -23,19 +23,23 @@ folder = os.path.abspath(folder or os.path.join(here, "..", "..", "dist", target
 archive = os.path.join(folder, "libsketch_hash.a")
 if not os.path.isfile(archive):
     raise SystemExit(f"{archive} is missing: set SKETCH_HASH_LIB_DIR to the absolute path of its folder")
-core = Extension(
-    "sketch_hash._core",
-    ["src/sketch_hash/_core.pyx"],
-    include_dirs=[folder, os.path.join(folder, "..", "include")],
-    extra_objects=[archive],
-    depends=[archive],
-)
+modules = [
+    Extension(
+        f"sketch_hash.{name}",
+        [f"src/sketch_hash/{name}.pyx"],
+        include_dirs=[folder, os.path.join(folder, "..", "include")],
+        extra_objects=[archive],
+        depends=[archive],
+    )
+    for name in ("_memory", "_hashes", "_columns", "_bloom")
+]
+directives = {"language_level": 3, "binding": False, "auto_pickle": False, "always_allow_keywords": False}
 with open(os.path.join(here, "README.md"), encoding="utf-8") as page:
     readme = page.read()
 setup(
     name="sketch-hash",
-    version="1.2.0",
-    description="XXH64, MurmurHash3 x64 128 and a Bloom filter from functions that are proved",
+    version="2.0.0",
+    description="XXH64, MurmurHash3 x64 128 and the Bloom filter of Apache Parquet, from functions that are proved",
     long_description=readme,
     long_description_content_type="text/markdown",
     license="Apache-2.0",
@@ -46,5 +50,5 @@ setup(
     package_dir={"": "src"},
     package_data={"sketch_hash": ["py.typed", "*.pyi"]},
     entry_points={"console_scripts": ["sketch-hash = sketch_hash.__main__:command"]},
-    ext_modules=cythonize([core], build_dir="build"),
+    ext_modules=cythonize(modules, build_dir="build", compiler_directives=directives),
 )

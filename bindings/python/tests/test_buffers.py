@@ -58,16 +58,11 @@ def test_taken(kind, name):
 
 @pytest.mark.parametrize("name", REFUSED)
 def test_refused(name):
-    for kind in KINDS:
-        with pytest.raises((TypeError, ValueError, BufferError)):
-            kind(REFUSED[name])
-        hasher = kind(b"a")
-        with pytest.raises((TypeError, ValueError, BufferError)):
-            hasher.update(REFUSED[name])
-        assert hasher.digest() == kind(b"a").digest()
-    for call in ONE_CALL:
+    hashers = [kind(b"a") for kind in KINDS]
+    for call in (*KINDS, *ONE_CALL, *[it.update for it in hashers], sketch_hash.BloomFilter.from_bytes):
         with pytest.raises((TypeError, ValueError, BufferError)):
             call(REFUSED[name])
+    assert [it.digest() for it in hashers] == [kind(b"a").digest() for kind in KINDS]
 
 
 def test_a_str_is_refused_with_the_reason():
@@ -87,9 +82,9 @@ class Broken(bytes):
 
 def test_an_error_of_the_buffer_is_raised():
     """And not only printed, after which the bytes would be hashed."""
-    table, released = sketch_hash.MemberTable(10, 3), memoryview(DATA)
+    bloom, released = sketch_hash.BloomFilter(32), memoryview(DATA)
     released.release()
-    for call in (*KINDS, *ONE_CALL, xxh64().update, table.insert, table.__contains__):
+    for call in (*KINDS, *ONE_CALL, xxh64().update, bloom.add, bloom.__contains__, bloom.from_bytes, bloom.from_parquet):
         with pytest.raises(LookupError, match="this array has no type"):
             call(Broken(DATA))
         with pytest.raises(ValueError, match="released memoryview"):

@@ -86,7 +86,7 @@ def test_glue_under_sanitizers(source, tmp_path):
     flags = "-fsanitize=address,undefined -fno-sanitize-recover=all -fno-omit-frame-pointer -g"
     assert install(source, made, CFLAGS=flags, LDFLAGS=flags).returncode == 0
     library = subprocess.check_output(["gcc", "-print-file-name=libasan.so"], text=True).strip()
-    tests = [HERE / f"test_{it}.py" for it in ("buffers", "columns", "hashes", "member", "sharing")]
+    tests = [HERE / f"test_{it}.py" for it in ("bloom", "buffers", "columns", "hashes", "sharing")]
     done = run([sys.executable, "-m", "pytest", "-q", "-x", "-p", "no:cacheprovider", "-p", "no:xdist", "-k", "not past_32_bits", *tests], PYTHONPATH=str(made),
                LD_PRELOAD=library, ASAN_OPTIONS="detect_leaks=0:allocator_may_return_null=1", PYTHONMALLOC="malloc")
     assert done.returncode == 0 and re.search(r"^\d+ passed", done.stdout, re.M), done.stdout[-5000:]
@@ -95,14 +95,16 @@ def test_glue_under_sanitizers(source, tmp_path):
 def test_objects_give_back_their_memory():
     """A million bytes and more would be left of these, were one not given back at each turn."""
     code = """if True:
-        import array, resource, sketch_hash as it
+        import array, pickle, resource, sketch_hash as it
         column = b"foxdog", array.array("I", [0, 3, 6])
         def turn():
-            table = it.MemberTable(10, 3)
-            table.insert_each(column); table.contains_each(column); table.copy().merge(table)
-            it.MemberTable.from_bytes(table.to_bytes()); it.xxh64_each(column); it.xxh64(b"fox").copy().hexdigest()
-            try: table.insert("fox")
-            except TypeError: pass
+            bloom = it.BloomFilter(1024)
+            bloom.add_each(column); bloom.contains_each(column); bloom |= bloom.copy(); memoryview(bloom).tobytes()
+            it.BloomFilter.from_parquet(bloom.to_parquet()); it.xxh64_each(column); it.xxh64(b"fox").copy().hexdigest()
+            bloom.add_hashes(it.xxh64_each(column)); pickle.loads(pickle.dumps([bloom, it.murmur3_x64_128(b"fox")]))
+            for wrong in (5, memoryview(b"foxdog").cast("H")):
+                try: bloom.add(wrong)
+                except TypeError: pass
         for _ in range(2000): turn()
         before = resource.getrusage(resource.RUSAGE_SELF).ru_maxrss
         for _ in range(20000): turn()

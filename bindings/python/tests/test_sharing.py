@@ -5,18 +5,17 @@ import fractions
 import mmap
 import pickle
 import signal
-import struct
 import sys
 import threading
 import time
 
 import pytest
-from sketch_hash import MemberTable, murmur3_x64_128, murmur3_x64_128_each, xxh64, xxh64_each
+from sketch_hash import BloomFilter, murmur3_x64_128, murmur3_x64_128_each, xxh64, xxh64_each
 from test_buffers import KINDS, ONE_CALL
 
 numpy = pytest.importorskip("numpy")
 
-WAYS = [copy.copy, copy.deepcopy, lambda it: it.copy(), lambda it: pickle.loads(pickle.dumps(it))]
+WAYS = [copy.copy, copy.deepcopy, lambda it: it.copy(), *(lambda it, n=n: pickle.loads(pickle.dumps(it, n)) for n in range(6))]
 
 # They are never written, so they take no memory. A call on them takes a tenth of a second and more.
 ZEROS = mmap.mmap(-1, 1 << 31, flags=mmap.MAP_PRIVATE | mmap.MAP_ANONYMOUS | 0x4000, prot=mmap.PROT_READ)
@@ -54,29 +53,20 @@ def test_a_copy_goes_its_own_way(kind, way):
         assert second.digest() == kind(seed=seed).digest()
 
 
-def test_a_checkpoint_has_its_words_in_order():
-    """As the state is in C's memory, so that other languages resume it. The words were computed apart."""
-    data, seed = bytes(range(35)), 0x1122334455667788
-    x, m = xxh64(data, seed), murmur3_x64_128(data[:19], seed)
-    words = struct.pack("<6Q", seed, 0x9B07F8FFF4DFB707, 0x6A2608F9D4377DCF, 0x71797DB07D15ADAD, 0x40978DAA5C6D7475, 35)
-    assert x.__reduce__()[1][2][:51] == words + data[32:]
-    words = struct.pack("<3Q", 0xCBA402A70E176085, 0xD929CE6211B7B955, 19)
-    assert m.__reduce__()[1][2][:27] == words + data[16:19]
-
-
-def test_a_checkpoint_of_another_length_is_refused():
-    rebuild, (kind, seed, checkpoint) = xxh64().__reduce__()
-    for other in (checkpoint[:-1], checkpoint + b"\0", b""):
-        text = f"^a checkpoint of xxh64 does not have {len(other)} bytes$"
-        with pytest.raises(ValueError, match=text):
-            rebuild(kind, seed, other)
+@pytest.mark.parametrize("kind, size", [(xxh64, 80), (murmur3_x64_128, 40)])
+def test_a_checkpoint_of_another_length_is_refused(kind, size):
+    hasher = kind(b"fox", 7)
+    for length in (0, size - 1, size + 1):
+        with pytest.raises(ValueError, match=f"^a checkpoint of {kind.__name__} does not have {length} bytes$"):
+            hasher.__setstate__((7, bytes(length)))
+    assert hasher.digest() == kind(b"fox", 7).digest()
 
 
 @pytest.mark.parametrize("kind", KINDS)
-def test_pickles_of_1_1_0_are_read(kind):
+def test_pickles_of_versions_1_are_read(kind):
     """Which name what takes up a checkpoint, the kind, a seed and the checkpoint."""
     hasher = kind(bytes(35), 7)
-    checkpoint = hasher.__reduce__()[1][2]
+    checkpoint = hasher.__reduce__()[2][1]
     old = b"\x80\x03csketch_hash\n_take_up\n(csketch_hash\n%b\nK\x07C%c%btR."
     read = pickle.loads(old % (kind.__name__.encode(), len(checkpoint), checkpoint))
     assert read.digest() == hasher.digest() and read.seed == 7
@@ -107,7 +97,7 @@ def test_threads_that_share_an_object(kind):
 @pytest.mark.parametrize("make, append, ask", [
     (xxh64, xxh64.update, xxh64.digest),
     (murmur3_x64_128, murmur3_x64_128.update, murmur3_x64_128.digest),
-    (lambda: MemberTable(10, 3), MemberTable.insert, MemberTable.to_bytes),
+    (lambda: BloomFilter(1024), lambda bloom, data: bloom.add_each((data, numpy.array([0, len(data)]))), BloomFilter.to_bytes),
 ])
 def test_a_handler_asks_during_a_call(make, append, ask):
     """It runs when the call of C is over and the object's lock still held."""
@@ -157,15 +147,10 @@ def test_short_calls_keep_the_lock_of_python(ticks):
 def test_long_calls_give_up_the_lock_of_python(ticks):
     """From 64 KiB on. The other thread may be late on a busy machine, so it is given ten seconds."""
     data, hashers = bytes(1 << 24), [kind() for kind in KINDS]
-    columns = [
-        lambda data: xxh64_each(memoryview(data).cast("Q")),
-        lambda data: xxh64_each((data, array.array("I", range(100000)))),
-        lambda data: xxh64_each((data, array.array("Q", range(100000)))),
-        lambda data: murmur3_x64_128_each((data, array.array("I", range(100000)))),
-        lambda data: murmur3_x64_128_each((data, array.array("Q", range(100000)))),
-        *(lambda _, each=each, width=width: each((b"", array.array(width, bytes(1 << 20))))
-          for each in (xxh64_each, murmur3_x64_128_each) for width in "IQ"),
-    ]
+    columns = [lambda data, each=each: each(memoryview(data).cast("Q")) for each in (xxh64_each, BloomFilter(32).add_each)]
+    for each in (xxh64_each, murmur3_x64_128_each, BloomFilter(32).add_each, BloomFilter(32).contains_each):
+        columns.append(lambda data, each=each: each((data, array.array("I", range(100000)))))
+        columns.append(lambda _, each=each: each((b"", array.array("Q", bytes(1 << 20)))))
     whole = [*ONE_CALL, *[it.update for it in hashers]]
     for given, calls in ((data, whole + columns), (data[:65536], whole)):
         for call in calls:
@@ -175,24 +160,14 @@ def test_long_calls_give_up_the_lock_of_python(ticks):
             assert len(ticks) > before
 
 
-@pytest.mark.parametrize("seed", [-1, 2**64, 2**64 + 7, 2**70, -(2**64)])
-def test_a_seed_outside_of_64_bits_is_refused(seed):
-    for call in KINDS:
-        with pytest.raises(OverflowError, match="a seed is from 0 to"):
-            call(seed=seed)
-    for call in ONE_CALL:
-        with pytest.raises(OverflowError, match="a seed is from 0 to"):
-            call(b"", seed)
-
-
-@pytest.mark.parametrize("seed", [7.0, "7", None, b"7", fractions.Fraction(7)])
-def test_a_seed_is_a_whole_number(seed):
-    for call in KINDS:
-        with pytest.raises(TypeError):
-            call(seed=seed)
-    for call in ONE_CALL:
-        with pytest.raises(TypeError):
-            call(b"", seed)
+@pytest.mark.parametrize("call", [*KINDS, *ONE_CALL])
+@pytest.mark.parametrize("seed, error", [
+    *((seed, OverflowError) for seed in (-1, 2**64, 2**64 + 7, 2**70, -(2**64))),
+    *((seed, TypeError) for seed in (7.0, "7", None, b"7", fractions.Fraction(7))),
+])
+def test_other_seeds_are_refused(call, seed, error):
+    with pytest.raises(error):
+        call(b"", seed)
 
 
 def test_a_seed_is_a_whole_number_of_any_type():

@@ -1,4 +1,4 @@
-"""XXH64, MurmurHash3 x64 128 and a Bloom filter, from functions that are proved.
+"""XXH64, MurmurHash3 x64 128 and the Bloom filter of Apache Parquet, from functions that are proved.
 
 The classes of hashes are used as those of hashlib and of python-xxhash. Input is any bytes-like object whose memory is
 C-contiguous; a str is refused. A seed is a whole number from 0 to 2**64 - 1. Digests have the highest byte first.
@@ -8,20 +8,33 @@ C-contiguous; a str is refused. A seed is a whole number from 0 to 2**64 - 1. Di
 >>> murmur3_x64_128_hexdigest(b"The quick brown fox jumps over the lazy dog", seed=0)
 'e34bbc7bbc071b6c7a433ca9c49a9347'
 
-Murmur's hexadecimal is its two words, each with the highest digit first. Other tools print the 16 bytes as they lie in
-memory: murmur3_x64_128_bytes has these.
+Murmur's hexadecimal is its two words, each with the highest digit first. Most other tools print the lowest byte of each
+word first: murmur3_x64_128_bytes has these bytes.
+
+>>> seen = BloomFilter.for_keys(1_000_000, error_rate=0.01)
+>>> seen.add("fox")
+>>> "fox" in seen, "dog" in seen
+(True, False)
 """
-from ._core import (
-    MemberTable, _Hash, _seed, _take_up, column, murmur3_x64_128, murmur3_x64_128_bytes, murmur3_x64_128_digest,
-    murmur3_x64_128_each, murmur3_x64_128_hexdigest, murmur3_x64_128_intdigest, xxh64, xxh64_digest, xxh64_each,
-    xxh64_hexdigest, xxh64_intdigest,
+from ._bloom import BloomFilter
+from ._columns import column, murmur3_x64_128_each, xxh64_each
+from ._hashes import (
+    murmur3_x64_128, murmur3_x64_128_bytes, murmur3_x64_128_digest, murmur3_x64_128_hexdigest,
+    murmur3_x64_128_intdigest, xxh64, xxh64_digest, xxh64_hexdigest, xxh64_intdigest,
 )
 
-__version__ = "1.2.0"
+__version__ = "2.0.0"
 __all__ = [
-    "MemberTable", "algorithms_available", "column", "murmur3_x64_128", "murmur3_x64_128_bytes",
+    "BloomFilter", "algorithms_available", "column", "murmur3_x64_128", "murmur3_x64_128_bytes",
     "murmur3_x64_128_digest", "murmur3_x64_128_each", "murmur3_x64_128_hexdigest", "murmur3_x64_128_intdigest",
     "xxh64", "xxh64_digest", "xxh64_each", "xxh64_hexdigest", "xxh64_intdigest",
 ]
 
 algorithms_available = {"xxh64", "murmur3_x64_128"}
+
+
+def _take_up(kind, seed, checkpoint):
+    """The hash object of a pickle of versions 1."""
+    hasher = kind()
+    hasher.__setstate__((seed, checkpoint))
+    return hasher

@@ -1,0 +1,433 @@
+"""The Bloom filter of Apache Parquet."""
+from cpython.buffer cimport PyBUF_C_CONTIGUOUS, PyBUF_SIMPLE, PyBUF_WRITABLE, PyBuffer_FillInfo
+from cpython.bytearray cimport PyByteArray_AS_STRING, PyByteArray_FromStringAndSize
+from cpython.bytes cimport PyBytes_FromStringAndSize
+from cpython.ref cimport Py_DECREF
+from libc.stdint cimport uint32_t, uint64_t, uintptr_t
+
+from ._columns cimport HASHES, NUMBERS32, NUMBERS64, OFFSETS32, OFFSETS64, Column, check_offsets
+from ._library cimport *
+from ._memory cimport (
+    LONG, Lock, PyBuffer_Release, PyObject_GetBuffer, View, acquire, get_bytes, release, wait, word_of,
+)
+
+import math
+import operator
+import pickle
+
+cdef extern from "Python.h":
+    const char *PyUnicode_AsUTF8AndSize(object, Py_ssize_t *) except NULL
+
+cdef enum:
+    READ_ONLY = -100  # beside the errors of the library
+    OVERLAP = -101
+
+
+cdef inline uint64_t hash_of(object key) except? -1:
+    """XXH64 of a key. The filter takes the hash, so a key may lie in the filter's own memory."""
+    cdef View memory
+    cdef uint64_t hash
+    if isinstance(key, str):
+        memory.obj = NULL  # the str keeps its UTF-8
+        memory.buf = <void *>PyUnicode_AsUTF8AndSize(key, &memory.len)
+    elif isinstance(key, bytes):
+        get_bytes(key, &memory)
+    else:
+        get_key(key, &memory)
+    if memory.len < LONG:
+        hash = sketch_xxh64(memory.buf, memory.len, 0)
+    else:
+        with nogil:
+            hash = sketch_xxh64(memory.buf, memory.len, 0)
+    PyBuffer_Release(&memory)
+    return hash
+
+
+cdef int get_key(object key, View *memory) except -1:
+    memory.obj = NULL
+    try:
+        PyObject_GetBuffer(key, memory, PyBUF_C_CONTIGUOUS)
+        is_bytes = memory.itemsize == 1
+    except TypeError:
+        is_bytes = False
+    if not is_bytes:
+        PyBuffer_Release(memory)
+        raise TypeError(
+            f"a key is a str or bytes, and not {type(key).__name__}: add_each and contains_each take numbers and columns")
+    return 0
+
+
+cdef inline bint overlap(const View *one, const View *other) noexcept:
+    return (<uintptr_t>other.buf < <uintptr_t>one.buf + <size_t>one.len
+            and <uintptr_t>one.buf < <uintptr_t>other.buf + <size_t>other.len)
+
+
+cdef int insert_column(void *bits, size_t length, Column keys, size_t *wrong) noexcept nogil:
+    cdef void *numbers = keys.numbers.buf
+    if keys.kind == OFFSETS32:
+        return sketch_bloom_insert_each32(
+            bits, length, keys.data.buf, keys.data.len, <uint32_t *>numbers, keys.items, wrong)
+    if keys.kind == OFFSETS64:
+        return sketch_bloom_insert_each64(
+            bits, length, keys.data.buf, keys.data.len, <uint64_t *>numbers, keys.items, wrong)
+    if keys.kind == NUMBERS32:
+        return sketch_bloom_insert_each_u32(bits, length, <uint32_t *>numbers, keys.count)
+    if keys.kind == NUMBERS64:
+        return sketch_bloom_insert_each_u64(bits, length, <uint64_t *>numbers, keys.count)
+    return sketch_bloom_insert_each_hash(bits, length, <uint64_t *>numbers, keys.count)
+
+
+cdef int contains_column(
+    const void *bits, size_t length, Column keys, unsigned char *found, size_t *wrong
+) noexcept nogil:
+    cdef void *numbers = keys.numbers.buf
+    cdef size_t items = keys.items, count = keys.count
+    if keys.kind == OFFSETS32:
+        return sketch_bloom_contains_each32(
+            bits, length, keys.data.buf, keys.data.len, <uint32_t *>numbers, items, found, count, wrong)
+    if keys.kind == OFFSETS64:
+        return sketch_bloom_contains_each64(
+            bits, length, keys.data.buf, keys.data.len, <uint64_t *>numbers, items, found, count, wrong)
+    if keys.kind == NUMBERS32:
+        return sketch_bloom_contains_each_u32(bits, length, <uint32_t *>numbers, items, found, count)
+    if keys.kind == NUMBERS64:
+        return sketch_bloom_contains_each_u64(bits, length, <uint64_t *>numbers, items, found, count)
+    return sketch_bloom_contains_each_hash(bits, length, <uint64_t *>numbers, items, found, count)
+
+
+cdef int check_length(object length) except -1:
+    if not 0 < length < 2**37 or sketch_bloom_check(length):
+        raise ValueError(
+            f"a Bloom filter has a positive multiple of 32 bytes, below 2**37, and not {length}: "
+            "BloomFilter.for_keys finds the number for keys and an error rate")
+    return 0
+
+
+cdef object copied(object kind, const void *bits, size_t length):
+    """A filter of a kind, with a copy of the bits."""
+    check_length(length)
+    cdef BloomFilter filter = kind.__new__(kind)
+    filter.hold(PyByteArray_FromStringAndSize(<char *>bits, length))
+    return filter
+
+
+cdef class BloomFilter:
+    """BloomFilter(num_bytes)\n--\n\nThe split block Bloom filter of Apache Parquet, without keys: it tells whether a key was
+    added. It has no false negatives, and may have false positives.
+
+    A key is a str, which counts as its UTF-8, or a bytes-like object. num_bytes is a positive multiple of 32 below 2**37,
+    else ValueError is raised. Arrow reads only powers of two up to 128 MiB, which for_keys chooses. memoryview(filter) has
+    the bits. Calls of several threads on one filter take turns, so threads and signal handlers may share it.
+    """
+
+    cdef View bits  # of a bytearray of its own, or of the buffer that it is a view of
+    cdef Lock lock  # made by the first long call
+    cdef Py_ssize_t exports  # how many memoryviews of the bits there are
+
+    def __init__(self, num_bytes):
+        num_bytes = operator.index(num_bytes)
+        check_length(num_bytes)
+        self.hold(bytearray(num_bytes))
+
+    def __dealloc__(self):
+        PyBuffer_Release(&self.bits)
+
+    cdef int hold(self, object buffer) except -1:
+        """Takes the memory of a filter, and lets go of what it had."""
+        cdef View bits
+        PyObject_GetBuffer(buffer, &bits, PyBUF_SIMPLE)
+        try:
+            check_length(bits.len)
+            self.exchange(&bits)
+        finally:
+            PyBuffer_Release(&bits)
+        return 0
+
+    cdef int exchange(self, View *bits) except -1:
+        cdef View before
+        wait(<void *>self.lock)
+        if self.exports:
+            raise BufferError("memoryviews of the filter exist: release them first")
+        before, self.bits = self.bits, bits[0]
+        bits[0] = before
+        return 0
+
+    cdef int begin(self, bint is_long) except -1:
+        """Begins a call. A long one ends with release(self.lock)."""
+        if is_long:
+            self.lock = self.lock or Lock()
+            acquire(self.lock)
+        else:
+            wait(<void *>self.lock)
+        return 0
+
+    cdef int check(self, int status) except -1:
+        if status == READ_ONLY:
+            raise TypeError("this filter is a view of read-only memory: copy() makes one that can be changed")
+        if status == OVERLAP:
+            raise ValueError("the column is in the filter's own memory: pass a copy of it")
+        if status or self.bits.buf is NULL:
+            raise ValueError("the filter was released")
+        return 0
+
+    @classmethod
+    def for_keys(cls, keys, *, error_rate=None, one_in=None):
+        """for_keys($type, keys, *, error_rate=None, one_in=None)\n--\n\nReturns the smallest filter that reports at most this
+        share of other keys, once it has so many keys: error_rate=0.01, or one_in=100. Its size is a power of two. If more
+        than 128 MiB would be needed, ValueError is raised."""
+        if (error_rate is None) == (one_in is None):
+            raise TypeError("for_keys takes one of error_rate, as 0.01, and one_in, as 100")
+        if one_in is None:
+            one_in = one_in_of(error_rate)
+        cdef size_t num_bytes = sketch_bloom_bytes_for(word_of(keys, "keys"), word_of(one_in, "one_in"))
+        if num_bytes == 0:
+            raise ValueError(
+                f"no filter of up to 128 MiB has {keys} keys and reports one in {one_in} others: "
+                "allow more, or split the keys over several filters")
+        return cls(num_bytes)
+
+    @classmethod
+    def from_bytes(cls, data):
+        """from_bytes($type, data, /)\n--\n\nReturns a filter with a copy of the bits that to_bytes or another language
+        wrote. Their number has to be one that BloomFilter takes, else ValueError is raised."""
+        cdef View memory
+        get_bytes(data, &memory)
+        try:
+            return copied(cls, memory.buf, memory.len)
+        finally:
+            PyBuffer_Release(&memory)
+
+    @classmethod
+    def from_parquet(cls, data):
+        """from_parquet($type, data, /)\n--\n\nReturns the filter at the begin of data, which is a Parquet file's from its
+        bloom_filter_offset on: a header, and the bits. What is after them is ignored. A header of anything but a split
+        block filter with XXH64, uncompressed, and missing bits raise ValueError."""
+        cdef View memory
+        cdef uint64_t num_bytes = 0
+        cdef size_t header
+        get_bytes(data, &memory)
+        try:
+            header = sketch_bloom_header_read(memory.buf, memory.len, &num_bytes)
+            if header == 0:
+                raise ValueError(
+                    "data does not begin with the header of an uncompressed split block Bloom filter with XXH64: "
+                    "it is at the column's bloom_filter_offset; from_bytes takes bits alone")
+            if num_bytes > memory.len - header:
+                raise ValueError(f"the filter is truncated: it has {num_bytes} bytes after its header, and here are "
+                                 f"{memory.len - header}")
+            return copied(cls, <char *>memory.buf + header, num_bytes)
+        finally:
+            PyBuffer_Release(&memory)
+
+    @classmethod
+    def view(cls, buffer):
+        """view($type, buffer, /)\n--\n\nReturns the filter in a buffer, as a file that is mapped, which is not copied.
+
+        A filter in a read-only buffer can be asked, and raises TypeError when a key is added. Nothing else may change the
+        buffer during a call: two views of one buffer do not wait for each other. The buffer keeps its length until the
+        view is released: by release, at the end of a with block, or with the view itself.
+        """
+        cdef BloomFilter filter = cls.__new__(cls)
+        filter.hold(buffer)
+        return filter
+
+    def release(self):
+        """release($self)\n--\n\nLets go of the memory. Later calls raise ValueError; another release does nothing."""
+        cdef View nothing
+        nothing.buf, nothing.obj, nothing.len, nothing.readonly = NULL, NULL, 0, 0
+        self.exchange(&nothing)
+        PyBuffer_Release(&nothing)
+
+    def __enter__(self):
+        """__enter__($self)\n--\n\n"""
+        return self
+
+    def __exit__(self, kind, value, traceback):
+        """__exit__($self, kind, value, traceback)\n--\n\n"""
+        self.release()
+
+    @property
+    def num_bytes(self):
+        """How many bytes the bits have."""
+        self.check(0)
+        return self.bits.len
+
+    def add(self, key):
+        """add($self, key, /)\n--\n\nAdds a key."""
+        cdef uint64_t hash = hash_of(key)
+        cdef int status
+        wait(<void *>self.lock)
+        status = READ_ONLY if self.bits.readonly else sketch_bloom_insert_hash(self.bits.buf, self.bits.len, hash)
+        if status:
+            self.check(status)
+
+    def __contains__(self, key):
+        """Whether the filter may have the key. If not, it was certainly not added."""
+        cdef uint64_t hash = hash_of(key)
+        cdef bint found
+        wait(<void *>self.lock)
+        found = sketch_bloom_contains_hash(self.bits.buf, self.bits.len, hash)
+        if self.bits.buf is NULL:
+            self.check(0)
+        return found
+
+    def update(self, keys):
+        """update($self, keys, /)\n--\n\nAdds each key of an iterable. If one raises TypeError, those before it stay added."""
+        if isinstance(keys, (str, bytes, bytearray, memoryview)):
+            raise TypeError("update takes an iterable of keys: add takes one key, and add_each a column")
+        for key in keys:
+            self.add(key)
+
+    cdef int insert(self, Column keys) except -1:
+        cdef size_t wrong = 0
+        cdef int status
+        cdef bint is_long = keys.size() >= LONG
+        self.begin(is_long)
+        if self.bits.readonly:
+            status = READ_ONLY
+        elif overlap(&self.bits, &keys.data) or overlap(&self.bits, &keys.numbers):
+            status = OVERLAP
+        elif is_long:
+            with nogil:
+                status = insert_column(self.bits.buf, self.bits.len, keys, &wrong)
+        else:
+            status = insert_column(self.bits.buf, self.bits.len, keys, &wrong)
+        if is_long:
+            release(self.lock)
+        check_offsets(status, wrong)
+        return self.check(status)
+
+    cdef object contains(self, Column keys):
+        cdef size_t wrong = 0
+        cdef int status
+        found = bytearray(keys.count)
+        cdef unsigned char *to = <unsigned char *>PyByteArray_AS_STRING(found)
+        is_long = keys.size() >= LONG
+        self.begin(is_long)
+        if is_long:
+            with nogil:
+                status = contains_column(self.bits.buf, self.bits.len, keys, to, &wrong)
+        else:
+            status = contains_column(self.bits.buf, self.bits.len, keys, to, &wrong)
+        if is_long:
+            release(self.lock)
+        check_offsets(status, wrong)
+        self.check(status)
+        return memoryview(found).cast("?")
+
+    def add_each(self, keys):
+        """add_each($self, keys, /)\n--\n\nAdds each key of a column.
+
+        The keys are a pair of bytes and offsets, as xxh64_each takes it. Or they are numbers of 32 or 64 bits: any buffer,
+        as an array of numpy. Each counts as its four or eight little-endian bytes, which is how Parquet stores numbers of
+        that width; so ask with numbers of the same width. If ValueError is raised, nothing was added.
+        """
+        self.insert(Column(keys, "keys"))
+
+    def contains_each(self, keys):
+        """contains_each($self, keys, /)\n--\n\nReturns whether the filter may have each key of a column, as add_each takes
+        it: a memoryview of bools."""
+        return self.contains(Column(keys, "keys"))
+
+    def add_hashes(self, hashes):
+        """add_hashes($self, hashes, /)\n--\n\nAdds the keys with these XXH64 of the seed 0, as xxh64_each returns them."""
+        self.insert(Column(hashes, "hashes"))
+
+    def contains_hashes(self, hashes):
+        """contains_hashes($self, hashes, /)\n--\n\nReturns whether the filter may have each key with these XXH64 of the seed
+        0: a memoryview of bools."""
+        return self.contains(Column(hashes, "hashes"))
+
+    def __ior__(self, other):
+        if not isinstance(other, BloomFilter):
+            return NotImplemented
+        # A copy, which lies elsewhere even if both are views of one buffer; and no call waits for two locks.
+        cdef bytes data = other.to_bytes()
+        cdef const char *bits = data
+        cdef size_t length = len(data), own_length
+        cdef int status
+        self.begin(length >= LONG)
+        own_length = self.bits.len
+        if self.bits.readonly:
+            status = READ_ONLY
+        elif length < LONG:
+            status = sketch_bloom_merge(self.bits.buf, self.bits.len, bits, length)
+        else:
+            with nogil:
+                status = sketch_bloom_merge(self.bits.buf, self.bits.len, bits, length)
+        if length >= LONG:
+            release(self.lock)
+        if status and own_length and status != READ_ONLY:
+            raise ValueError(f"filters of {own_length} and {length} bytes cannot be merged: create both with one size")
+        self.check(status)
+        return self
+
+    def __or__(self, other):
+        """A new filter with the keys of both; both stay as they were."""
+        if not isinstance(self, BloomFilter) or not isinstance(other, BloomFilter):
+            return NotImplemented
+        filter = self.copy()
+        filter |= other
+        return filter
+
+    def __eq__(self, other):
+        """Whether both have the same bits."""
+        if not isinstance(other, BloomFilter):
+            return NotImplemented
+        return self.to_bytes() == other.to_bytes()
+
+    __hash__ = None
+
+    def to_bytes(self):
+        """to_bytes($self)\n--\n\nReturns a copy of the bits, which are the same on every machine."""
+        wait(<void *>self.lock)
+        self.check(0)
+        return PyBytes_FromStringAndSize(<char *>self.bits.buf, self.bits.len)
+
+    def to_parquet(self):
+        """to_parquet($self)\n--\n\nReturns the filter as it is in a Parquet file: a header and the bits. Their length is the
+        column's bloom_filter_length. A filter of 2**31 bytes or more raises ValueError."""
+        cdef unsigned char header[SKETCH_BLOOM_HEADER_MAX]
+        cdef size_t length
+        data = self.to_bytes()
+        length = sketch_bloom_header_write(len(data), header, sizeof(header))
+        if length == 0:
+            raise ValueError(f"a filter in a Parquet file has less than 2**31 bytes, and not {len(data)}")
+        return (<char *>header)[:length] + data
+
+    def copy(self):
+        """copy($self)\n--\n\nReturns a filter with the same keys and memory of its own."""
+        return type(self).from_bytes(self.to_bytes())
+
+    def __reduce_ex__(self, protocol):
+        data = self.to_bytes()
+        return type(self).from_bytes, (pickle.PickleBuffer(data) if protocol >= 5 else data,)
+
+    def __getbuffer__(self, Py_buffer *buffer, int flags):
+        self.check(0)
+        if self.bits.readonly and flags & PyBUF_WRITABLE:
+            raise BufferError("the filter is a view of read-only memory")
+        Py_DECREF(None)  # which Cython has put into buffer.obj, and PyBuffer_FillInfo replaces
+        PyBuffer_FillInfo(buffer, self, self.bits.buf, self.bits.len, self.bits.readonly, flags)
+        self.exports += 1
+
+    def __releasebuffer__(self, Py_buffer *buffer):
+        self.exports -= 1
+
+    def __repr__(self):
+        if self.bits.buf is NULL:
+            return f"<sketch_hash.{type(self).__name__}, released>"
+        return f"<sketch_hash.{type(self).__name__} of {self.bits.len} bytes>"
+
+
+cdef object one_in_of(object error_rate):
+    """The smallest number whose reciprocal, as a float, is at most the error rate."""
+    rate = float(error_rate)
+    if not 0 < rate < 1:
+        raise ValueError(f"error_rate is above 0 and below 1, as 0.01 for one key in a hundred, and not {error_rate}")
+    if rate < 2.0**-63:
+        return 2**64 - 1
+    one_in = math.ceil(1 / rate)
+    if one_in > 2 and 1 / (one_in - 1) <= rate:  # 1 / rate was rounded up
+        return one_in - 1
+    return one_in if 1 / one_in <= rate else one_in + 1

@@ -1,0 +1,151 @@
+"""Many keys in a call."""
+from cpython.buffer cimport PyBUF_C_CONTIGUOUS, PyBUF_FORMAT
+from cpython.bytearray cimport PyByteArray_AS_STRING
+from libc.stdint cimport uint32_t, uint64_t, uintptr_t
+
+from ._library cimport *
+from ._memory cimport LONG, PyBuffer_Release, PyObject_GetBuffer, View, get_bytes, word_of
+
+import array
+import itertools
+
+ROW = "in the machine's byte order, as array.array has"
+PAIR = "a pair of bytes and offsets, as column(texts) makes it"
+WHAT = {
+    "offsets": (4, b"iIlLqQ", f"offsets are one row of whole numbers of 32 or 64 bits {ROW}", ""),
+    "hashes": (8, b"lLqQ", f"hashes are one row of whole numbers of 64 bits {ROW}", ""),
+    "wide keys": (8, b"lLqQ", f"a column is {PAIR}, or one row of whole numbers of 64 bits {ROW}",
+                  ': numbers.astype("uint64") makes it'),
+    "keys": (4, b"iIlLqQfd", f"a column is {PAIR}, or one row of numbers of 32 or 64 bits {ROW}",
+             ': numbers.astype("int32") makes it, as Parquet stores smaller ones'),
+}
+
+
+cdef class Column:
+    """The keys of a call: texts with the offsets where they begin and end, or numbers.
+
+    `what` is the kind of numbers that may be keys, by its name in WHAT, or None if only texts may be.
+    """
+
+    def __cinit__(self, object keys, str what):
+        is_pair = isinstance(keys, tuple) and len(keys) == 2
+        if is_pair and what != "hashes":
+            get_bytes(keys[0], &self.data)
+            self.kind = OFFSETS32 if self.get_numbers(keys[1], "offsets") == 4 else OFFSETS64
+            self.count = self.items - 1 if self.items else 0
+        elif what and not isinstance(keys, tuple):
+            self.kind = NUMBERS32 if self.get_numbers(keys, what) == 4 else HASHES if what == "hashes" else NUMBERS64
+            self.count = self.items
+        else:
+            raise TypeError(WHAT["hashes"][2] if what == "hashes" else f"a column of bytes is {PAIR}")
+
+    def __dealloc__(self):
+        PyBuffer_Release(&self.data)
+        PyBuffer_Release(&self.numbers)
+
+    cdef size_t get_numbers(self, object numbers, str what) except 0:
+        """Returns the width of each number."""
+        narrowest, formats, text, cure = WHAT[what]
+        format, is_row = b"", False
+        try:
+            PyObject_GetBuffer(numbers, &self.numbers, PyBUF_C_CONTIGUOUS | PyBUF_FORMAT)
+        except TypeError:
+            pass
+        else:
+            format = b"B" if self.numbers.format is NULL else (<bytes>self.numbers.format).lstrip(b"@=<")
+            is_row = len(format) == 1 and self.numbers.ndim == 1
+        if not is_row or format not in formats or self.numbers.itemsize < narrowest:
+            is_small = is_row and format in b"bBhHiI" and not isinstance(numbers, (bytes, bytearray))
+            raise TypeError(text + cure if is_small else text)
+        if self.numbers.len and <uintptr_t>self.numbers.buf % self.numbers.itemsize:
+            raise ValueError("a column of numbers has to lie at a multiple of their width: pass a copy")
+        self.items = self.numbers.len // self.numbers.itemsize
+        return self.numbers.itemsize
+
+    cdef Py_ssize_t size(self) noexcept:
+        return self.data.len + self.numbers.len
+
+
+cdef int check_offsets(int status, size_t wrong) except -1:
+    if status == SKETCH_ERROR_OFFSET:
+        raise ValueError(f"the offset at {wrong} is missing, past the end or below the one before")
+    return 0
+
+
+cdef int hash_xxh64(Column keys, uint64_t seed, void *out, size_t *wrong) noexcept nogil:
+    cdef void *numbers = keys.numbers.buf
+    if keys.kind == OFFSETS32:
+        return sketch_xxh64_each32(
+            keys.data.buf, keys.data.len, <uint32_t *>numbers, keys.items, seed, out, keys.count, wrong)
+    if keys.kind == OFFSETS64:
+        return sketch_xxh64_each64(
+            keys.data.buf, keys.data.len, <uint64_t *>numbers, keys.items, seed, out, keys.count, wrong)
+    return sketch_xxh64_each_u64(<uint64_t *>numbers, keys.items, seed, out, keys.count)
+
+
+cdef int hash_murmur(Column keys, uint64_t seed, void *out, size_t *wrong) noexcept nogil:
+    cdef void *offsets = keys.numbers.buf
+    if keys.kind == OFFSETS32:
+        return sketch_murmur3_x64_128_each32(
+            keys.data.buf, keys.data.len, <uint32_t *>offsets, keys.items, seed, out, keys.count, wrong)
+    return sketch_murmur3_x64_128_each64(
+        keys.data.buf, keys.data.len, <uint64_t *>offsets, keys.items, seed, out, keys.count, wrong)
+
+
+ctypedef int (*Hash)(Column, uint64_t, void *, size_t *) noexcept nogil
+
+
+cdef object hashes_of(Column keys, Hash hash, object seed, size_t width):
+    cdef uint64_t number = word_of(seed, "a seed")
+    cdef size_t wrong = 0
+    hashes = bytearray(width * keys.count)
+    cdef void *out = PyByteArray_AS_STRING(hashes)
+    if keys.size() < LONG:
+        status = hash(keys, number, out, &wrong)
+    else:
+        with nogil:
+            status = hash(keys, number, out, &wrong)
+    check_offsets(status, wrong)
+    return memoryview(hashes).cast("Q")
+
+
+def xxh64_each(keys, seed=0):
+    """xxh64_each(keys, seed=0)\n--\n\nReturns XXH64 of each key of a column, as a memoryview of whole numbers.
+
+    The keys are numbers of 64 bits, each hashed as its eight little-endian bytes: any buffer, as an array of numpy. Or
+    they are a pair of bytes and offsets of 32 or 64 bits, one more than keys: a key is the bytes from its offset up to
+    the next. Nothing is copied. Offsets that are past the end of the bytes or below the one before raise a ValueError.
+    column(texts) makes such a pair of texts.
+    """
+    return hashes_of(Column(keys, "wide keys"), hash_xxh64, seed, 8)
+
+
+def murmur3_x64_128_each(keys, seed=0):
+    """murmur3_x64_128_each(keys, seed=0)\n--\n\nReturns MurmurHash3 x64 128 of each key of a column, as a memoryview of
+    whole numbers, two for a key.
+
+    The keys are a pair of bytes and offsets, as xxh64_each takes it. The words of key i are at 2 * i and 2 * i + 1:
+    numpy.asarray(hashes).reshape(-1, 2) has a row for a key.
+    """
+    return hashes_of(Column(keys, None), hash_murmur, seed, 16)
+
+
+def column(texts):
+    """column(texts, /)\n--\n\nReturns a column of texts or bytes: a pair of their bytes and offsets, for the calls that
+    take columns.
+
+    texts is any iterable of str, which become UTF-8, or of bytes: a list, an array of numpy, a Series of pandas. Anything
+    else in it, as a missing value, raises TypeError with its index.
+    """
+    if isinstance(texts, (str, bytes)):
+        raise TypeError("column takes many texts, and not one")
+    keys = [text_bytes(i, text) for i, text in enumerate(texts)]
+    return b"".join(keys), array.array("Q", itertools.accumulate(map(len, keys), initial=0))
+
+
+cdef bytes text_bytes(i, text):
+    if isinstance(text, str):
+        return text.encode()
+    if isinstance(text, bytes):
+        return bytes(text)
+    raise TypeError(f"the key at {i} is neither str nor bytes, but {type(text).__name__}")

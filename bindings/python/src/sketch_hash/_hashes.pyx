@@ -1,0 +1,347 @@
+"""XXH64 and MurmurHash3 x64 128: streams, and hashes in one call."""
+cimport cython
+from cpython.bytes cimport PyBytes_AS_STRING, PyBytes_FromStringAndSize
+from libc.stdint cimport uint32_t, uint64_t
+from libc.string cimport memcpy
+
+from ._library cimport *
+from ._memory cimport (
+    LONG, Lock, PyBuffer_Release, View, acquire, get_bytes, release, wait, word_of,
+)
+
+from copyreg import __newobj__
+
+cdef extern from "Python.h":
+    object PyUnicode_FromStringAndSize(const char *, Py_ssize_t)
+    uint32_t __builtin_bswap32(uint32_t)
+    uint64_t __builtin_bswap64(uint64_t)
+
+
+cdef inline object digest_of(const uint64_t *words, int count):
+    """The bytes of words, the highest byte of each first. All machines that this runs on keep the lowest first."""
+    cdef int i
+    cdef uint64_t swapped[2]
+    for i in range(count):
+        swapped[i] = __builtin_bswap64(words[i])
+    return PyBytes_FromStringAndSize(<char *>swapped, 8 * count)
+
+
+cdef inline uint64_t hex_digits(uint32_t word) noexcept:
+    """Eight digits as bytes, the highest digit lowest. Each step works on all digits at once: a loop takes longer."""
+    cdef uint64_t ones = 0x0101010101010101ULL, digits = __builtin_bswap32(word)
+    digits = (digits | digits << 16) & 0x0000FFFF0000FFFFULL
+    digits = (digits | digits << 8) & 0x00FF00FF00FF00FFULL
+    digits = (digits >> 4 | digits << 8) & 15 * ones
+    cdef uint64_t is_letter = (digits + 118 * ones) >> 7 & ones
+    return digits + 48 * ones + 39 * is_letter  # 48 is "0", and 48 + 39 + 10 is "a"
+
+
+cdef inline object hex_of(const uint64_t *words, int count):
+    cdef int i
+    cdef uint64_t digits[4]
+    for i in range(count):
+        digits[2 * i], digits[2 * i + 1] = hex_digits(words[i] >> 32), hex_digits(<uint32_t>words[i])
+    return PyUnicode_FromStringAndSize(<char *>digits, 16 * count)
+
+
+cdef inline object int_of(const uint64_t *words):
+    return (<object>words[0] << 64) + words[1]
+
+
+@cython.no_gc
+@cython.freelist(8)
+cdef class xxh64:
+    """xxh64(data=b'', seed=0)\n--\n\nXXH64 of a stream that comes in pieces.
+
+    Calls of several threads on one object take turns, so threads and signal handlers may share it.
+    """
+
+    cdef sketch_xxh64_state_t state
+    cdef Lock lock  # made by the first long call
+
+    name = "XXH64"
+    digest_size = digestsize = 8
+    block_size = 32
+
+    def __cinit__(self):
+        sketch_xxh64_reset(&self.state, 0)
+
+    def __init__(self, data=b"", seed=0):
+        self.restart(word_of(seed, "a seed"))
+        self.append(data)
+
+    @cython.final
+    cdef inline void restart(self, uint64_t seed) noexcept:
+        wait(<void *>self.lock)
+        sketch_xxh64_reset(&self.state, seed)
+
+    @cython.final
+    cdef inline int append(self, object data) except -1:
+        cdef View memory
+        get_bytes(data, &memory)
+        try:
+            if memory.len < LONG:
+                wait(<void *>self.lock)
+                sketch_xxh64_update(&self.state, memory.buf, memory.len)
+            else:
+                self.lock = self.lock or Lock()
+                acquire(self.lock)
+                with nogil:
+                    sketch_xxh64_update(&self.state, memory.buf, memory.len)
+                release(self.lock)
+        finally:
+            PyBuffer_Release(&memory)
+        return 0
+
+    @cython.final
+    cdef inline uint64_t answer(self) noexcept:
+        wait(<void *>self.lock)
+        return sketch_xxh64_digest(&self.state)
+
+    def update(self, data):
+        """update($self, data, /)\n--\n\nAppends data. Splitting the input into several calls gives the same hash."""
+        self.append(data)
+
+    def digest(self):
+        """digest($self)\n--\n\nReturns the hash of all data so far as 8 bytes, the highest first."""
+        word = self.answer()
+        return digest_of(&word, 1)
+
+    def hexdigest(self):
+        """hexdigest($self)\n--\n\nReturns the digest in lower-case hexadecimal."""
+        word = self.answer()
+        return hex_of(&word, 1)
+
+    def intdigest(self):
+        """intdigest($self)\n--\n\nReturns the digest as a whole number."""
+        return self.answer()
+
+    def reset(self):
+        """reset($self)\n--\n\nDrops all data, and keeps the seed."""
+        self.restart(self.state.seed)
+
+    @property
+    def seed(self):
+        """The seed."""
+        return self.state.seed
+
+    def copy(self):
+        """copy($self)\n--\n\nReturns an independent object of the same class with the same seed and data."""
+        cdef type kind = type(self)
+        cdef xxh64 other = kind.__new__(kind)
+        wait(<void *>self.lock)
+        other.state = self.state
+        return other
+
+    def __reduce__(self):
+        wait(<void *>self.lock)
+        state = self.state
+        return __newobj__, (type(self),), (state.seed, (<char *>&state)[:sizeof(state)])
+
+    def __setstate__(self, checkpoint):
+        seed, state = checkpoint
+        cdef xxh64 other = xxh64(seed=seed)
+        take_checkpoint(self, state, &other.state, sizeof(other.state))
+        wait(<void *>self.lock)
+        self.state = other.state
+
+    def __repr__(self):
+        return f"<sketch_hash.{type(self).__name__} with seed {self.seed}, now {self.hexdigest()}>"
+
+
+@cython.no_gc
+@cython.freelist(8)
+cdef class murmur3_x64_128:
+    """murmur3_x64_128(data=b'', seed=0)\n--\n\nMurmurHash3 x64 128 of a stream that comes in pieces.
+
+    Its seed has 64 bits; one below 2**32 gives the hash of Austin Appleby's MurmurHash3_x64_128 with that seed. Calls of
+    several threads on one object take turns, so threads and signal handlers may share it.
+    """
+
+    cdef sketch_murmur3_x64_128_state_t state
+    cdef uint64_t own_seed
+    cdef Lock lock  # made by the first long call
+
+    name = "MURMUR3_X64_128"
+    digest_size = digestsize = 16
+    block_size = 16
+
+    def __cinit__(self):
+        sketch_murmur3_x64_128_reset(&self.state, 0)
+
+    def __init__(self, data=b"", seed=0):
+        self.restart(word_of(seed, "a seed"))
+        self.append(data)
+
+    @cython.final
+    cdef inline void restart(self, uint64_t seed) noexcept:
+        wait(<void *>self.lock)
+        self.own_seed = seed
+        sketch_murmur3_x64_128_reset(&self.state, seed)
+
+    @cython.final
+    cdef inline int append(self, object data) except -1:
+        cdef View memory
+        get_bytes(data, &memory)
+        try:
+            if memory.len < LONG:
+                wait(<void *>self.lock)
+                sketch_murmur3_x64_128_update(&self.state, memory.buf, memory.len)
+            else:
+                self.lock = self.lock or Lock()
+                acquire(self.lock)
+                with nogil:
+                    sketch_murmur3_x64_128_update(&self.state, memory.buf, memory.len)
+                release(self.lock)
+        finally:
+            PyBuffer_Release(&memory)
+        return 0
+
+    @cython.final
+    cdef inline void answer(self, uint64_t *hash) noexcept:
+        wait(<void *>self.lock)
+        sketch_murmur3_x64_128_digest(&self.state, hash)
+
+    def update(self, data):
+        """update($self, data, /)\n--\n\nAppends data. Splitting the input into several calls gives the same hash."""
+        self.append(data)
+
+    def digest(self):
+        """digest($self)\n--\n\nReturns the hash of all data so far as 16 bytes, each word with the highest first."""
+        cdef uint64_t hash[2]
+        self.answer(hash)
+        return digest_of(hash, 2)
+
+    def digest_bytes(self):
+        """digest_bytes($self)\n--\n\nReturns the 16 bytes that most tools print: each word with the lowest first."""
+        cdef uint64_t hash[2]
+        self.answer(hash)
+        return lowest_first(hash)
+
+    def hexdigest(self):
+        """hexdigest($self)\n--\n\nReturns the digest in lower-case hexadecimal."""
+        cdef uint64_t hash[2]
+        self.answer(hash)
+        return hex_of(hash, 2)
+
+    def intdigest(self):
+        """intdigest($self)\n--\n\nReturns the digest as a whole number: the first word is above the second."""
+        cdef uint64_t hash[2]
+        self.answer(hash)
+        return int_of(hash)
+
+    def reset(self):
+        """reset($self)\n--\n\nDrops all data, and keeps the seed."""
+        self.restart(self.own_seed)
+
+    @property
+    def seed(self):
+        """The seed."""
+        return self.own_seed
+
+    def copy(self):
+        """copy($self)\n--\n\nReturns an independent object of the same class with the same seed and data."""
+        cdef type kind = type(self)
+        cdef murmur3_x64_128 other = kind.__new__(kind)
+        wait(<void *>self.lock)
+        other.state, other.own_seed = self.state, self.own_seed
+        return other
+
+    def __reduce__(self):
+        wait(<void *>self.lock)
+        state, seed = self.state, self.own_seed
+        return __newobj__, (type(self),), (seed, (<char *>&state)[:sizeof(state)])
+
+    def __setstate__(self, checkpoint):
+        seed, state = checkpoint
+        cdef murmur3_x64_128 other = murmur3_x64_128(seed=seed)
+        take_checkpoint(self, state, &other.state, sizeof(other.state))
+        wait(<void *>self.lock)
+        self.state, self.own_seed = other.state, other.own_seed
+
+    def __repr__(self):
+        return f"<sketch_hash.{type(self).__name__} with seed {self.seed}, now {self.hexdigest()}>"
+
+
+cdef int take_checkpoint(object hasher, bytes checkpoint, void *state, size_t size) except -1:
+    if <size_t>len(checkpoint) != size:
+        raise ValueError(f"a checkpoint of {type(hasher).__name__} does not have {len(checkpoint)} bytes")
+    memcpy(state, PyBytes_AS_STRING(checkpoint), size)
+    return 0
+
+
+cdef object lowest_first(const uint64_t *hash):
+    cdef unsigned char out[16]
+    sketch_murmur3_x64_128_bytes(hash, out)
+    return PyBytes_FromStringAndSize(<char *>out, 16)
+
+
+cdef inline uint64_t xxh64_of(object data, object seed) except? -1:
+    cdef View memory
+    cdef uint64_t number = word_of(seed, "a seed"), word
+    get_bytes(data, &memory)
+    if memory.len < LONG:
+        word = sketch_xxh64(memory.buf, memory.len, number)
+    else:
+        with nogil:
+            word = sketch_xxh64(memory.buf, memory.len, number)
+    PyBuffer_Release(&memory)
+    return word
+
+
+cdef inline int murmur_of(object data, object seed, uint64_t *hash) except -1:
+    cdef View memory
+    cdef uint64_t number = word_of(seed, "a seed")
+    get_bytes(data, &memory)
+    if memory.len < LONG:
+        sketch_murmur3_x64_128(memory.buf, memory.len, number, hash)
+    else:
+        with nogil:
+            sketch_murmur3_x64_128(memory.buf, memory.len, number, hash)
+    PyBuffer_Release(&memory)
+    return 0
+
+
+def xxh64_intdigest(data, seed=0):
+    """xxh64_intdigest(data, seed=0)\n--\n\nReturns XXH64 of data as a whole number."""
+    return xxh64_of(data, seed)
+
+
+def xxh64_digest(data, seed=0):
+    """xxh64_digest(data, seed=0)\n--\n\nReturns XXH64 of data as 8 bytes, the highest first."""
+    word = xxh64_of(data, seed)
+    return digest_of(&word, 1)
+
+
+def xxh64_hexdigest(data, seed=0):
+    """xxh64_hexdigest(data, seed=0)\n--\n\nReturns XXH64 of data as 16 hexadecimal digits."""
+    word = xxh64_of(data, seed)
+    return hex_of(&word, 1)
+
+
+def murmur3_x64_128_intdigest(data, seed=0):
+    """murmur3_x64_128_intdigest(data, seed=0)\n--\n\nReturns the hash as a whole number, the first word above the second."""
+    cdef uint64_t hash[2]
+    murmur_of(data, seed, hash)
+    return int_of(hash)
+
+
+def murmur3_x64_128_digest(data, seed=0):
+    """murmur3_x64_128_digest(data, seed=0)\n--\n\nReturns the hash as 16 bytes, each word with the highest first."""
+    cdef uint64_t hash[2]
+    murmur_of(data, seed, hash)
+    return digest_of(hash, 2)
+
+
+def murmur3_x64_128_hexdigest(data, seed=0):
+    """murmur3_x64_128_hexdigest(data, seed=0)\n--\n\nReturns the hash as 32 hexadecimal digits, the first word first."""
+    cdef uint64_t hash[2]
+    murmur_of(data, seed, hash)
+    return hex_of(hash, 2)
+
+
+def murmur3_x64_128_bytes(data, seed=0):
+    """murmur3_x64_128_bytes(data, seed=0)\n--\n\nReturns the 16 bytes of mmh3.hash_bytes: each word with the lowest first."""
+    cdef uint64_t hash[2]
+    murmur_of(data, seed, hash)
+    return lowest_first(hash)
