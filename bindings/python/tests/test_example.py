@@ -1,6 +1,7 @@
 """The example for a cluster, with a worker that is killed while it has results, and its filter in DuckDB."""
 import os
 import pathlib
+import shutil
 import signal
 import subprocess
 import sys
@@ -66,22 +67,23 @@ def test_a_killed_worker_changes_nothing(tmp_path):
     assert sum(str(key) in bloom for key in range(20_000, 120_000)) < 1_100
 
 
-def test_duckdb_asks_the_filter_that_the_workers_filled(need, tmp_path):
-    """In place of the filter that DuckDB wrote for other keys of the same number."""
-    need("duckdb")
-    (tmp_path / "keys").write_text("".join(f"fox{n}\n" for n in range(1000)))
-    subprocess.run([sys.executable, EXAMPLE, "--keys", "1000", "--out", "out", "keys"], cwd=tmp_path, check=True, timeout=120)
+if shutil.which("duckdb"):  # which of Debian's suites sid alone has
 
-    def ask(query):
-        output = subprocess.check_output(["duckdb", "-csv", "-noheader", "-c", query], cwd=tmp_path, text=True)
-        return output.split()
+    def test_duckdb_asks_the_filter_that_the_workers_filled(tmp_path):
+        """In place of the filter that DuckDB wrote for other keys of the same number."""
+        (tmp_path / "keys").write_text("".join(f"fox{n}\n" for n in range(1000)))
+        subprocess.run([sys.executable, EXAMPLE, "--keys", "1000", "--out", "out", "keys"], cwd=tmp_path, check=True, timeout=120)
 
-    ask("copy (select 'dog' || (range % 1000) as key from range(10000)) to 'dogs.parquet'")
-    (place,) = ask("select bloom_filter_offset, bloom_filter_length from parquet_metadata('dogs.parquet')")
-    offset, length = map(int, place.split(","))
-    ours, file = (tmp_path / "out").read_bytes(), bytearray((tmp_path / "dogs.parquet").read_bytes())
-    assert len(ours) == length
-    file[offset : offset + length] = ours
-    (tmp_path / "dogs.parquet").write_bytes(file)
-    excluded = "select count(*) from parquet_bloom_probe('dogs.parquet', 'key', '{}') where bloom_filter_excludes"
-    assert [ask(excluded.format(key)) for key in ("fox0", "fox999", "dog0", "dog999")] == [["0"], ["0"], ["1"], ["1"]]
+        def ask(query):
+            output = subprocess.check_output(["duckdb", "-csv", "-noheader", "-c", query], cwd=tmp_path, text=True)
+            return output.split()
+
+        ask("copy (select 'dog' || (range % 1000) as key from range(10000)) to 'dogs.parquet'")
+        (place,) = ask("select bloom_filter_offset, bloom_filter_length from parquet_metadata('dogs.parquet')")
+        offset, length = map(int, place.split(","))
+        ours, file = (tmp_path / "out").read_bytes(), bytearray((tmp_path / "dogs.parquet").read_bytes())
+        assert len(ours) == length
+        file[offset : offset + length] = ours
+        (tmp_path / "dogs.parquet").write_bytes(file)
+        excluded = "select count(*) from parquet_bloom_probe('dogs.parquet', 'key', '{}') where bloom_filter_excludes"
+        assert [ask(excluded.format(key)) for key in ("fox0", "fox999", "dog0", "dog999")] == [["0"], ["0"], ["1"], ["1"]]
