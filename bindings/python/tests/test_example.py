@@ -67,7 +67,7 @@ def test_a_killed_worker_changes_nothing(tmp_path):
     assert sum(str(key) in bloom for key in range(20_000, 120_000)) < 1_100
 
 
-@pytest.mark.skipif(not shutil.which("duckdb"), reason="needs duckdb, which Debian has from version 14 on")
+@pytest.mark.skipif(not shutil.which("duckdb"), reason="needs duckdb, which Debian 12 does not have")
 def test_duckdb_asks_the_filter_that_the_workers_filled(tmp_path):
     """In place of the filter that DuckDB wrote for other keys of the same number."""
     (tmp_path / "keys").write_text("".join(f"fox{n}\n" for n in range(1000)))
