@@ -7,8 +7,8 @@ that it has in a Parquet file. Whether a key was seen:
 
     key in sketch_hash.BloomFilter.from_parquet(open("seen.bloom", "rb").read())
 
-A task adds some of the files to a filter, and a tree of merges joins the filters, in any order to the same bytes. No task
-changes what it is given. So Dask may run a task again, as it does when a worker is lost.
+A task adds some of the files to a filter, and a tree of merges joins the filters, in any order to the same bytes. No
+task changes what it is given. So Dask may run a task again, as it does when a worker is lost.
 """
 import argparse
 import os
@@ -61,7 +61,7 @@ def main():
     parser.add_argument("files", nargs="+", metavar="FILE")
     parser.add_argument("--keys", type=int, required=True, help="about how many different keys there are")
     parser.add_argument("--out", required=True, help="where the filter goes")
-    parser.add_argument("--address", help="of a scheduler whose workers see the same files; else this machine's cores work")
+    parser.add_argument("--address", help="of a scheduler whose workers see the same files; else this machine works")
     parser.add_argument("--check", action="store_true", help="compare with one process, byte for byte")
     args = parser.parse_args()
     paths = list(map(os.path.abspath, args.files))

@@ -302,15 +302,14 @@ cdef class BloomFilter:
         cdef int status
         found = bytearray(keys.count)
         cdef unsigned char *to = <unsigned char *>PyByteArray_AS_STRING(found)
-        is_long = keys.size() >= LONG
+        cdef bint is_long = keys.size() >= LONG
         self.begin(is_long)
         if is_long:
             with nogil:
                 status = contains_column(self.bits.buf, self.bits.len, keys, to, &wrong)
+            release(self.lock)
         else:
             status = contains_column(self.bits.buf, self.bits.len, keys, to, &wrong)
-        if is_long:
-            release(self.lock)
         check_offsets(status, wrong)
         self.check(status)
         return memoryview(found).cast("?")

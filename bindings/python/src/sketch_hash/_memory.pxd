@@ -45,8 +45,8 @@ cdef inline void release(Lock lock) noexcept:
 
 
 cdef inline void wait(void *lock) noexcept:
-    """Begins a short call, which keeps the GIL, so that no long call begins before it is done. None is the lock of an object
-    that had no long call. The lock is lent, since counting references to it takes a tenth of a call."""
+    """Begins a short call, which keeps the GIL, so that no long call begins before it is done. None is the lock of an
+    object that had no long call. The lock is lent: to count references to it takes a twentieth of a call."""
     if lock is not <void *>None and (<Lock>lock).is_held:
         with nogil:
             PyThread_acquire_lock((<Lock>lock).handle, WAIT_LOCK)
