@@ -54,7 +54,12 @@ def test_proved_names_the_sum_of_this_text():
 
 
 def test_a_call_takes_at_most_a_kilobyte_of_stack(made):
-    assert 0 < int((made / "stack").read_text()) <= 1024
+    shown = subprocess.check_output(["objdump", "-d", made / "second.a"], text=True)
+    bodies = re.findall(r"^\w+ <(.+)>:\n((?:.+\n)+)", shown, re.M)
+    call_themselves = {name for name, body in bodies if re.search(rf"call .*<{re.escape(name)}>", body)}
+    # Up to four times more, for a number of at most five bytes, in 16 bytes of stack each, which is not counted.
+    assert call_themselves == {f"sketch_bloom::header::{it}" for it in ("varint_length", "varint_number", "write_varint")}
+    assert 0 < int((made / "stack").read_text().strip("+\n")) + 4 * 16 <= 1024
 
 
 @pytest.mark.parametrize("program, libraries", [("answers", []), ("bloom", [])])

@@ -307,7 +307,7 @@ def test_a_name_that_looks_like_html_is_a_text(page, files):
 
 def test_the_contract_of_each_call_is_shown(page):
     page.one("summary").click()
-    for call in ("xxh64", "xxh64_update", "murmur3_x64_128_digest", "xxh64_each32"):
+    for call in ("xxh64", "xxh64_update", "murmur3_x64_128_digest"):
         assert f"fn sketch_{call}(" in page.one("pre").text
 
 

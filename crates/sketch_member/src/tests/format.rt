@@ -100,7 +100,7 @@ fn says<E: std::error::Error + Copy>(fault: E, text: &str) -> bool {
 }
 
 #[test]
-fn a_fault_prints_what_is_wrong_without_memory(rt: HostRuntime) {
+fn a_fault_prints_what_is_wrong_with_no_memory(rt: HostRuntime) {
     assert!(rt;
         says(
             Fault::TrailingBytes(1 << 40),
