@@ -63,7 +63,7 @@ def test_a_filter_goes_to_parquet_and_back():
     (filled().to_bytes(), "does not begin with the header"),
     (filled().to_parquet()[:-1], "is truncated: it has 1024 bytes after its header, and here are 1023$"),
     (filled().to_parquet()[:16], "is truncated: it has 1024 bytes after its header, and here are 0$"),
-], ids=["nothing", "the file's begin", "bits alone", "a byte missing", "header alone"])
+], ids=["nothing", "the file's beginning", "bits alone", "a byte missing", "header alone"])
 def test_what_from_parquet_refuses(data, text):
     with pytest.raises(ValueError, match=text):
         BloomFilter.from_parquet(data)
@@ -115,7 +115,6 @@ def test_other_sizes_are_refused(num_bytes):
         if call is BloomFilter or 0 <= num_bytes < 2**37:
             with pytest.raises(ValueError, match=f"multiple of 32 bytes, below 2..37, and not {num_bytes}: BloomFilter.for_keys"):
                 call(num_bytes)
-
 
 
 # ---- Keys

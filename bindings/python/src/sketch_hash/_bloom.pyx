@@ -199,8 +199,8 @@ cdef class BloomFilter:
 
     @classmethod
     def from_parquet(cls, data):
-        """from_parquet($type, data, /)\n--\n\nReturns the filter at the begin of data, which is a Parquet file's from its
-        bloom_filter_offset on: a header, and the bits. What is after them is ignored. A header of anything but a split
+        """from_parquet($type, data, /)\n--\n\nReturns the filter at the beginning of data, which is a Parquet file's from
+        its bloom_filter_offset on: a header, and the bits. What is after them is ignored. A header of anything but a split
         block filter with XXH64, uncompressed, and missing bits raise ValueError."""
         cdef View memory
         cdef uint64_t num_bytes = 0
