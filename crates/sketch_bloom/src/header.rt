@@ -1,7 +1,7 @@
 //! The header that is before a filter in a file.
 
-ghost use Rattle.std.specs.Prelude.{◌≡◌, ℕ, ◌+◌, ◌*◌, ◌^◌, ◌<◌, ◌≤◌, ◌++◌, ◌↔◌, List, IsTrue, MatchOption, drop, length, take};
-ghost use Rattle.sketch_bloom.specs.Header.{IsHeaderLength, header, number_field, union_fields, varint, varint_number};
+ghost use Rattle.std.specs.Prelude.{◌≡◌, ℕ, ◌+◌, ◌%◌, ◌^◌, ◌<◌, ◌≤◌, ◌++◌, ◌↔◌, List, IsTrue, MatchOption, drop, length, take};
+ghost use Rattle.sketch_bloom.specs.Header.{IsHeaderLength, header, varint_number};
 
 use crate::filter::is_length;
 
@@ -23,17 +23,14 @@ pub fn write_header(bytes: usize, out: &mut [u8]) -> Option<usize>
         (λ count. IsHeaderLength bytes × (count ≡ length (header bytes))
         × (out.new ≡ header bytes ++ drop count out.old)) }
 {
-    if !is_length(bytes) || bytes >= 1 << 31 {
+    if !is_header_length(bytes) {
         return None;
     }
-    let number = bytes as u64 * 2;
-    let count = varint_length(number, 4) + 14;
+    let (header, count) = header_of(bytes);
     if out.len() < count {
         return None;
     }
-    out[0] = 0x15;
-    write_varint(number, 4, &mut out[1..]);
-    out[count - 13..count].copy_from_slice(&UNION_FIELDS);
+    out[..count].copy_from_slice(&header[..count]);
     Some(count)
 }
 
@@ -53,10 +50,10 @@ pub fn read_header(input: &[u8]) -> Option<(usize, usize)>
         return None;
     };
     let bytes = (varint_number(rest, 5) / 2) as usize;
-    let mut header = [0; MOST];
-    let Some(count) = write_header(bytes, &mut header) else {
+    if !is_header_length(bytes) {
         return None;
-    };
+    }
+    let (header, count) = header_of(bytes);
     if !has_prefix(input, &header[..count]) {
         return None;
     }
@@ -69,42 +66,40 @@ fn has_prefix(input: &[u8], prefix: &[u8]) -> bool
     prefix.len() <= input.len() && &input[..prefix.len()] == prefix
 }
 
-// How many bytes a variable-length number of at most `more + 1` bytes has.
-fn varint_length(n: u64, more: usize) -> usize
-    requires small { n < 128 ^ (more + 1) }
-    requires few { more ≤ 4 }
-    ensures length { result ≡ length (varint more n) }
-    ensures some { 0 < result }
-    ensures most { result ≤ more + 1 }
+// Whether a header can tell of so many bytes.
+fn is_header_length(bytes: usize) -> bool
+    ensures { IsTrue result ↔ IsHeaderLength bytes }
 {
-    if n < 128 {
-        return 1;
-    }
-    1 + varint_length(n / 128, more - 1)
+    is_length(bytes) && bytes < 1 << 31
 }
 
-// Writes a variable-length number of at most `more + 1` bytes, and returns how many it has.
-fn write_varint(n: u64, more: usize, out: &mut [u8]) -> usize
-    requires small { n < 128 ^ (more + 1) }
-    requires space { more < length out.old }
-    requires few { more ≤ 4 }
-    ensures written { (out.new ≡ varint more n ++ drop result out.old)
-        × (result ≡ length (varint more n)) }
-    ensures most { result ≤ more + 1 }
+// The header of a filter of so many bytes, and how many bytes the header has.
+fn header_of(bytes: usize) -> ([u8; MOST], usize)
+    requires { IsHeaderLength bytes }
+    ensures long { length result.0 ≡ 19 }
+    ensures most { result.1 ≤ 19 }
+    ensures header { take result.1 result.0 ≡ header bytes }
 {
-    if n < 128 {
-        out[0] = n as u8;
-        return 1;
+    let mut header = [0; MOST];
+    header[0] = 0x15;
+    let mut count = 1;
+    let mut number = bytes as u64 * 2;
+    while number >= 128 {
+        header[count] = (number % 128 + 128) as u8;
+        number /= 128;
+        count += 1;
     }
-    out[0] = (n % 128 + 128) as u8;
-    1 + write_varint(n / 128, more - 1, &mut out[1..])
+    header[count] = number as u8;
+    let end = count + 14;
+    header[count + 1..end].copy_from_slice(&UNION_FIELDS);
+    (header, end)
 }
 
-// The variable-length number at the beginning of `input`, of which at most `most` bytes are read.
+// The variable-length number at the beginning of `input`, of which at most `most` bytes are read. It
+// is exact as far as it is below 2^64, as each number in a header is.
+#[tactic(auto, using(crate::proofs::HeaderLemmas::number_read))]
 fn varint_number(input: &[u8], most: usize) -> u64
-    requires { most ≤ 5 }
-    ensures number { result ≡ varint_number most input.now }
-    ensures small { result < 128 ^ most }
+    ensures { result ≡ varint_number most input.now % 2 ^ 64 }
 {
     if most == 0 {
         return 0;
@@ -116,5 +111,7 @@ fn varint_number(input: &[u8], most: usize) -> u64
     if low < 128 {
         return low;
     }
-    low - 128 + 128 * varint_number(rest, most - 1)
+    varint_number(rest, most - 1)
+        .wrapping_mul(128)
+        .wrapping_add(low - 128)
 }
