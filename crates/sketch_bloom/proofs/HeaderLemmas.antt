@@ -1,10 +1,10 @@
 -- Variable-length numbers, and headers.
-use Rattle.std.proofs.Common.{◌≡◌, ℕ, zero, suc, ◌+◌, ◌*◌, ◌/◌, ◌%◌, ◌^◌, ◌<◌, ◌≤◌, ◌-◌, List, [], ◌∷◌, ◌++◌, length, drop, set, take, refl, sym, ap, ◌∙◌, inl, inr, arith, le_refl}
-use Rattle.std.proofs.Math.Nat.{one-le-pow, pow-le-pow_right, pow-suc}
+use Rattle.std.proofs.Common.{◌≡◌, ℕ, zero, suc, ◌+◌, ◌*◌, ◌/◌, ◌%◌, ◌^◌, ◌<◌, ◌≤◌, ◌-◌, List, [], ◌∷◌, ◌++◌, length, drop, set, take, refl, sym, ap, ◌∙◌, inl, inr, arith}
+use Rattle.std.proofs.Math.Nat.{pow-suc}
 use Rattle.std.proofs.Math.Seq.{take-append_seam}
 use borrow.Rule.Slice.PartMut.{put_mid}
 use Rattle.std.proofs.lemmas.Bool.{cases_lt, lt-ltb, le-ltb}
-use Rattle.std.proofs.lemmas.List.{append-nil, append_assoc, append_cancel_left, drop-drop, drop_all, length-append, take-append-drop, take-append-le, take_all, take_more_set}
+use Rattle.std.proofs.lemmas.List.{append_assoc, append_cancel_left, take_more_set}
 use Rattle.std.proofs.lemmas.Slice.{take-put_mid}
 use Rattle.std.proofs.Math.ListN.{length-set}
 use Rattle.sketch_bloom.specs.Header.{HeaderLaw, IsHeaderLength, header, union_fields, varint, varint_number}

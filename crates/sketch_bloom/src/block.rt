@@ -30,6 +30,7 @@ pub(crate) fn block_start(blocks: u64, hash: u64) -> usize
 
 // The bit of a hash in each of the eight words of its block.
 #[inline(always)]
+#[tactic(auto, using(crate::proofs::BlockLemmas::mask_word))]
 fn mask_words(hash: u64) -> u32x8
     ensures count { length result ≡ 8 }
     ensures each { (w : ℕ) → w < 8 → slice_index result w ≡ 2 ^ mask_bit hash w }
@@ -48,6 +49,7 @@ pub(crate) fn mask(hash: u64) -> u8x32
 
 // Sets the bits of a mask in the block that begins at `start`.
 #[inline(always)]
+#[tactic(auto, using(crate::proofs::BlockLemmas::mask_inserted))]
 pub(crate) fn insert_mask(filter: &mut [u8], start: usize, mask: u8x32)
     requires { start + 32 ≤ length filter.old }
     ensures { Sets (λ i. (start * 8 ≤ i) × IsSet mask (i - start * 8)) filter.old filter.new }
@@ -58,6 +60,7 @@ pub(crate) fn insert_mask(filter: &mut [u8], start: usize, mask: u8x32)
 // Whether the bits of a mask are set in the block that begins at `start`: whether setting them
 // would change nothing.
 #[inline(always)]
+#[tactic(auto, using(crate::proofs::BlockLemmas::mask_is_in))]
 pub(crate) fn contains_mask(filter: &[u8], start: usize, mask: u8x32) -> bool
     requires { start + 32 ≤ length filter.now }
     ensures { IsTrue result ↔ ((i : ℕ) → IsSet mask i → IsSet filter.now (start * 8 + i)) }

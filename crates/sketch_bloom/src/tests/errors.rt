@@ -43,12 +43,10 @@ fn returns_an_error_for_too_few_values_and_another_length(rt: HostRuntime) {
 #[test]
 fn prints_what_is_wrong(rt: HostRuntime) -> Result<(), Fail> {
     let text = "invalid filter length: expected a positive multiple of 32 below 2^37, got 33";
+    let other = "filters of two lengths: the other has 64 bytes";
     for (error, text) in [
         (Fault::Length(33), text),
-        (
-            Fault::OtherLength(64),
-            "filters of two lengths: the other has 64 bytes",
-        ),
+        (Fault::OtherLength(64), other),
         (Fault::Offset(2), "invalid offset at index 2"),
         (Fault::Count(1), "more places than values: 1 values"),
         (Fault::OutOfMemory, "out of memory"),

@@ -4,28 +4,29 @@ use crate::{read_header, write_header};
 use std::process::Abort;
 
 // What follows the number.
-const FIELDS: [u8; 13] = [0x1c, 0x1c, 0, 0, 0x1c, 0x1c, 0, 0, 0x1c, 0x1c, 0, 0, 0];
+const FIELDS: &[u8] = b"\x1c\x1c\0\0\x1c\x1c\0\0\x1c\x1c\0\0\0";
 
-// The lengths of filters, the numbers in their headers, and how many bytes these are.
-const NUMBERS: [(usize, [u8; 5], usize); 6] = [
-    (32, [0x40, 0, 0, 0, 0], 1),
-    (1024, [0x80, 0x10, 0, 0, 0], 2),
-    (1 << 19, [0x80, 0x80, 0x40, 0, 0], 3),
-    (1 << 20, [0x80, 0x80, 0x80, 0x01, 0], 4),
-    (1 << 27, [0x80, 0x80, 0x80, 0x80, 0x01], 5),
-    ((1 << 31) - 32, [0xc0, 0xff, 0xff, 0xff, 0x0f], 5),
+// The lengths of filters, and the numbers in their headers.
+const NUMBERS: [(usize, &[u8]); 6] = [
+    (32, b"\x40"),
+    (1024, b"\x80\x10"),
+    (1 << 19, b"\x80\x80\x40"),
+    (1 << 20, b"\x80\x80\x80\x01"),
+    (1 << 27, b"\x80\x80\x80\x80\x01"),
+    ((1 << 31) - 32, b"\xc0\xff\xff\xff\x0f"),
 ];
 
 #[test]
 fn writes_and_reads_the_header_of_each_length(rt: HostRuntime) {
-    for (bytes, number, digits) in NUMBERS {
-        let (mut out, digits) = ([9; 24], digits.min(5));
-        assert_eq!(rt; write_header(bytes, &mut out), Some(digits + 14));
-        assert_eq!(rt; out[0], 0x15);
-        assert_eq!(rt; &out[1..=digits], &number[..digits]);
-        assert_eq!(rt; &out[digits + 1..digits + 14], FIELDS.as_slice());
-        assert_eq!(rt; out[digits + 14], 9);
-        assert_eq!(rt; read_header(&out), Some((bytes, digits + 14)));
+    for (bytes, number) in NUMBERS {
+        let mut out = [9; 24];
+        let count = write_header(bytes, &mut out).unwrap_or(0);
+        assert_eq!(rt; read_header(&out), Some((bytes, count)));
+        let rest = out
+            .strip_prefix(b"\x15")
+            .and_then(|rest| rest.strip_prefix(number));
+        let rest = rest.and_then(|rest| rest.strip_prefix(FIELDS));
+        assert!(rt; rest == [9; 24].get(count..));
     }
 }
 

@@ -66,12 +66,7 @@ fn sizes_are_arrows_or_twice_them(rt: HostRuntime) {
 
 #[test]
 fn no_size_keeps_some_rates(rt: HostRuntime) {
-    for (keys, one_in) in [
-        (0, 0),
-        (100_000_000, 1_000),
-        (1_000_000_000, 2),
-        (u64::MAX, 2),
-    ] {
+    for (keys, one_in) in [(0, 0), (100_000_000, 1_000), (1 << 30, 2), (u64::MAX, 2)] {
         assert_eq!(rt; bytes_for(keys, one_in), None);
     }
     assert_eq!(rt; bytes_for(u64::MAX, 1), Some(32));

@@ -1,4 +1,4 @@
-use Rattle.std.proofs.Common.{◌≡◌, ◌+◌, ◌-◌, ◌*◌, ◌^◌, ◌<◌, ◌≤◌, ◌++◌, length, suc, take}
+use Rattle.std.proofs.Common.{◌≡◌, ◌-◌, ◌^◌, ◌<◌, ◌≤◌, ◌++◌, length, suc, take}
 use Rattle.sketch_bloom.specs.Header.{number_field, varint}
 use Rattle.sketch_bloom.proofs.header.header_of.Given as goal
 

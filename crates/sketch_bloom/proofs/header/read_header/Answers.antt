@@ -1,4 +1,4 @@
-use Rattle.std.proofs.Common.{◌≡◌, ◌/◌, ◌++◌, ◌∙◌, IsTrue, sym, ap, drop, subst, arith, length, take}
+use Rattle.std.proofs.Common.{◌++◌, ◌∙◌, IsTrue, sym, ap, drop, subst, arith, length, take}
 use Rattle.std.proofs.lemmas.List.{length-take-le, take-append-drop}
 use Rattle.sketch_bloom.proofs.HeaderLemmas.{header_length, header_taken}
 use Rattle.sketch_bloom.specs.Header.{IsHeaderLength, header}
@@ -25,8 +25,7 @@ pub returns : goal.returns
 returns c =
     let count = c.header_of-count.result.1 in
     let made = c.header_of-count.ensures.header in
-    let long = length-take-le count c.header_of-count.result.0 (omega arith) in
-    (
+    let long = length-take-le count c.header_of-count.result.0 (omega arith) in (
       c.is_header_length.ensures.0 c.if-not-is_header_length.false,
       sym long ∙ ap length made,
       sym (take-append-drop count c.args.input.now)
