@@ -39,7 +39,7 @@ printed_text bytes output (Ok it) prints = (bytes it, prints, refl)
 printed_text bytes None (Err error) prints = ([], tt, tt)
 printed_text bytes (Some printed) (Err error) prints = (printed, refl, tt)
 
--- the numbers behind the first one, each after a comma
+-- the numbers after the first one, each after a comma
 debug_items-is : (numbers : List ℕ) →
     debug_items (λ n. Some (decimal n)) comma_space numbers
     ≡ Some (flat_map (λ other. codes ", " ++ decimal other) numbers)

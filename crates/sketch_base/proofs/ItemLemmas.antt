@@ -55,7 +55,7 @@ pub spell_all-more : (items : List Item) (i : ℕ) (item : Item) → i < length 
 spell_all-more items i item within = ap spell_all (take_more items i item within)
     ∙ spell_all-push (take i items) (get_or items i item)
 
--- behind what is written stand the bytes of the items so far, and then those of one more
+-- after what is written stand the bytes of the items so far, and then those of one more
 pub written-more : (before bytes : List ℕ) (items : List Item) (i : ℕ) (item : Item) → i < length items →
     bytes ≡ before ++ spell_all (take i items) →
     bytes ++ spell (get_or items i item) ≡ before ++ spell_all (take (i + 1) items)
@@ -262,26 +262,26 @@ length-spell_all (i ∷ items) h =
     ∙ ap (λ n. n + length (spell_all items)) ((spell_holds i (All-head InType i items h)).count)
     ∙ ap (λ n. width (item_kind i) + n) (length-spell_all items (All-tail InType i items h))
 
--- items are read back, whatever stands behind their bytes
-pub read_back : (items : List Item) (behind : List ℕ) → All InType items →
-    unspell_all (map item_kind items) (spell_all items ++ behind) ≡ items
-read_back [] behind h = refl
-read_back (i ∷ items) behind h =
+-- items are read back, whatever stands after their bytes
+pub read_back : (items : List Item) (after : List ℕ) → All InType items →
+    unspell_all (map item_kind items) (spell_all items ++ after) ≡ items
+read_back [] after h = refl
+read_back (i ∷ items) after h =
     let first = spell_holds i (All-head InType i items h) in
-    let others = spell_all items ++ behind in
-    let whole : (spell i ++ spell_all items) ++ behind
-    ≡ spell i ++ others = append_assoc (spell i) (spell_all items) behind in
+    let others = spell_all items ++ after in
+    let whole : (spell i ++ spell_all items) ++ after
+    ≡ spell i ++ others = append_assoc (spell i) (spell_all items) after in
     let front : take (width (item_kind i)) (spell i ++ others) ≡ spell i =
     ap (λ n. take n (spell i ++ others)) (sym first.count) ∙ take-append_seam (spell i) others in
     let back : drop (width (item_kind i)) (spell i ++ others) ≡ others =
     ap (λ n. drop n (spell i ++ others)) (sym first.count) ∙ drop-append_seam (spell i) others in
-    rw (whole, front, back, first.item, read_back items behind (All-tail InType i items h)) refl
+    rw (whole, front, back, first.item, read_back items after (All-tail InType i items h)) refl
 
-pub leave_rest : (items : List Item) (behind : List ℕ) → All InType items →
-    drop (widths (map item_kind items)) (spell_all items ++ behind) ≡ behind
-leave_rest items behind h =
-    ap (λ n. drop n (spell_all items ++ behind)) (sym (length-spell_all items h))
-    ∙ drop-append_seam (spell_all items) behind
+pub leave_rest : (items : List Item) (after : List ℕ) → All InType items →
+    drop (widths (map item_kind items)) (spell_all items ++ after) ≡ after
+leave_rest items after h =
+    ap (λ n. drop n (spell_all items ++ after)) (sym (length-spell_all items h))
+    ∙ drop-append_seam (spell_all items) after
 
 pub item_law : ItemLaw
 item_law = record {

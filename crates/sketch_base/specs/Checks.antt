@@ -1,4 +1,4 @@
--- What a check answers: the numbers that it accepts, and what it says of the others.
+-- What a check returns: which numbers it accepts, and the error for the others.
 use Rattle.std.specs.Prelude.{ℕ, List, [], ◌++◌, Bool, true, ◌&&◌, nat_lt, nat_le, codes, Result, MatchResult}
 use Rattle.std.specs.Fmt.{decimal}
 use Rattle.std.specs.declared.ops.Bound.{Bound}
@@ -7,7 +7,7 @@ use Rattle.sketch_base.specs.declared.error.ErrorKind.TheVariants.{InvalidData}
 use Rattle.sketch_base.specs.ErrorValue.{ErrorValue}
 use Rattle.sketch_base.specs.Refusals.{Refuses}
 
--- Ok exactly where the condition holds; where it does not, a refusal with this text
+-- Ok exactly if the condition holds, and otherwise an error with this text
 abbrev pub AcceptsExactly : Type 0 → List ℕ → Result (Unit {0}) ErrorValue → Type 0
 AcceptsExactly Condition text result = MatchResult result
     (λ _. Condition) (λ error. (Condition → ⊥) × Refuses InvalidData text error)
@@ -29,7 +29,7 @@ is_below (Included b) x = nat_le x b
 is_below (Excluded b) x = nat_lt x b
 is_below Unbounded x = true
 
--- how the range between two ends prints; the one that is open at both ends never does
+-- the text of the range between two ends; that of a range with two open ends is never printed
 abbrev pub range_text : Bound ℕ → Bound ℕ → List ℕ
 range_text (Included a) (Included b) =
     codes "[" ++ (decimal a ++ (codes ", " ++ (decimal b ++ codes "]")))

@@ -1,10 +1,10 @@
--- What an error is to its callers, and the line that it displays.
+-- An error as its callers see it, and the line that it displays.
 use Rattle.std.specs.Prelude.{ℕ, List, [], ◌∷◌, ◌++◌, length, codes, ◌==◌, if◌then◌else◌}
 use Rattle.std.specs.List.{flat_map}
 use Rattle.sketch_base.specs.declared.error.ErrorKind.{ErrorKind}
 use Rattle.sketch_base.specs.declared.error.ErrorKind.TheVariants.{InvalidArgument, InvalidData, OutOfMemory}
 
--- where an error came up: a key, and the text that a value printed
+-- a context of an error: a key, and the text that a value printed
 pub record ContextValue : Type 0 where
   pub key : List ℕ
   pub text : List ℕ
@@ -19,7 +19,7 @@ pub record ErrorValue : Type 0 where
 abbrev pub error_of : ErrorKind → List ℕ → ErrorValue
 error_of kind message = record { kind = kind; message = message; contexts = [] }
 
--- the error in place of a refusal for whose text memory ran out
+-- the error if there is no memory for the text of another
 abbrev pub memory_error : ErrorValue
 memory_error = error_of OutOfMemory []
 

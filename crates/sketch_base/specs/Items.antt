@@ -1,4 +1,4 @@
--- How items stand in bytes, and the law of items and their bytes.
+-- Items as bytes, and the law of items and their bytes.
 use Rattle.std.specs.Prelude.{◌≡◌, ℕ, ◌+◌, ◌^◌, ◌<◌, FitsSigned, List, [], ◌∷◌, ◌++◌, length, take, drop, map, reverse}
 use Rattle.std.specs.Int.{w8, w16, w32, w64}
 use Rattle.std.specs.List.{All}
@@ -42,7 +42,7 @@ width kind.U64Be = 8
 width kind.I64Le = 8
 width kind.I64Be = 8
 
--- the item's number lies in its type
+-- the item's number is in the range of its type
 abbrev pub InType : Item → Type 0
 InType (item.U8 n) = n < 2 ^ 8
 InType (item.I8 n) = FitsSigned w8 n
@@ -98,7 +98,7 @@ abbrev pub widths : List Kind → ℕ
 widths [] = 0
 widths (k ∷ kinds) = width k + widths kinds
 
--- the items of these kinds that bytes hold, one after another
+-- the items of these kinds that bytes store, one after another
 abbrev pub unspell_all : List Kind → List ℕ → List Item
 unspell_all [] bytes = []
 unspell_all (k ∷ kinds) bytes =
@@ -109,15 +109,15 @@ abbrev pub spell_all : List Item → List ℕ
 spell_all [] = []
 spell_all (i ∷ items) = spell i ++ spell_all items
 
--- These bytes hold the item: there are as many as its kind has, and read as that kind they give
+-- These bytes store the item: there are as many as its kind has, and read as that kind they give
 -- the item.
 pub record Spells (bytes : List ℕ) (i : Item) : Type 0 where
   pub are_bytes : AreBytes bytes
   pub count : length bytes ≡ width (item_kind i)
   pub item : unspell (item_kind i) bytes ≡ i
 
--- An item has one form in bytes, and so has a list of items of known kinds, as long as these say. A
--- list is read back from its bytes, whatever follows them, and what follows remains.
+-- An item has exactly one form in bytes. So has a list of items of known kinds, which give its length.
+-- A list is read back from its bytes, whatever follows them, and what follows remains.
 pub record ItemLaw : Type 0 where
   pub spell_holds : (i : Item) → InType i → Spells (spell i) i
   pub spell_only : (i : Item) (bytes : List ℕ) → InType i → Spells bytes i → bytes ≡ spell i
@@ -125,7 +125,7 @@ pub record ItemLaw : Type 0 where
       map item_kind xs ≡ map item_kind ys → spell_all xs ≡ spell_all ys → xs ≡ ys
   pub count : (items : List Item) → All InType items →
       length (spell_all items) ≡ widths (map item_kind items)
-  pub read_back : (items : List Item) (behind : List ℕ) → All InType items →
-      unspell_all (map item_kind items) (spell_all items ++ behind) ≡ items
-  pub leave_rest : (items : List Item) (behind : List ℕ) → All InType items →
-      drop (widths (map item_kind items)) (spell_all items ++ behind) ≡ behind
+  pub read_back : (items : List Item) (after : List ℕ) → All InType items →
+      unspell_all (map item_kind items) (spell_all items ++ after) ≡ items
+  pub leave_rest : (items : List Item) (after : List ℕ) → All InType items →
+      drop (widths (map item_kind items)) (spell_all items ++ after) ≡ after

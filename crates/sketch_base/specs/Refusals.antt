@@ -1,12 +1,12 @@
--- The texts of refusals, each as it is printed. Their pieces are grouped from the right, as the
--- library groups what it prints.
+-- The texts of errors. Their pieces are grouped from the right, as the library groups what it
+-- prints.
 use Rattle.std.specs.Prelude.{ℕ, List, [], ◌∷◌, ◌++◌, codes, ◌≡◌, ◌⊎◌, Option, IfSome}
 use Rattle.std.specs.List.{flat_map}
 use Rattle.std.specs.Fmt.{decimal}
 use Rattle.sketch_base.specs.declared.error.ErrorKind.{ErrorKind}
 use Rattle.sketch_base.specs.ErrorValue.{ErrorValue, error_of, memory_error}
 
--- the error has this kind and text and no context, or memory for its text ran out
+-- the error has this kind and text and no context, or there was no memory for its text
 unfoldable pub Refuses : ErrorKind → List ℕ → ErrorValue → Type 0
 Refuses kind text error = (error ≡ error_of kind text) ⊎ (error ≡ memory_error)
 
@@ -14,7 +14,7 @@ Refuses kind text error = (error ≡ error_of kind text) ⊎ (error ≡ memory_e
 abbrev pub Prints : Option (List ℕ) → List ℕ → Type 0
 Prints output text = IfSome output (λ printed. text ≡ printed)
 
--- a list of numbers as it is displayed: `[1, 2]`, `[]`
+-- a displayed list of numbers: `[1, 2]`, `[]`
 abbrev pub list_text : List ℕ → List ℕ
 list_text [] = codes "[]"
 list_text (first ∷ others) =

@@ -1,5 +1,5 @@
-//! Errors of the sketches, as [Apache DataSketches](https://datasketches.apache.org/) words them: a
-//! kind, a message, and the contexts that callers add on the way up.
+//! Errors, with the texts of [Apache DataSketches](https://datasketches.apache.org/): a kind, a
+//! message, and contexts that callers add on the way up.
 
 ghost use Rattle.std.specs.Prelude.{◌≡◌, ℕ, List, IfOk, IfErr, map, MatchResult, Some, string_bytes};
 ghost use Rattle.std.specs.Fmt.{DisplaysOnOk};
@@ -9,14 +9,14 @@ use std::alloc::{AllocError, Global};
 use std::fmt;
 use std::marker::Model;
 
-/// What kind of fault an error tells of.
+/// The kind of an error.
 #[derive(Clone, Copy, Debug, PartialEq, Eq, Hash)]
 pub enum ErrorKind {
     /// An argument is invalid.
     InvalidArgument,
     /// Serialized data is malformed.
     InvalidData,
-    /// Memory ran out.
+    /// There is no memory.
     OutOfMemory,
 }
 
@@ -47,12 +47,13 @@ impl fmt::Display for ErrorKind {
 ///
 /// # Memory
 ///
-/// A constructor with an allocator asks for its text, and before that for what the value prints. If
-/// it is refused, or the value fails to print, the error is of kind `OutOfMemory`, with no message.
+/// A constructor that takes an allocator requests memory for its text, and before that for what the
+/// value prints. If there is none, or the value fails to print, it returns an error of kind
+/// `OutOfMemory` with an empty message.
 #[derive(Drop)]
 pub struct Error {
     kind: ErrorKind,
-    // Both are None in an error that `?` made of a refused request, which brings no allocator.
+    // Both are None in an error that `?` makes of an `AllocError`, which has no allocator.
     message: Option<String>,
     context: Option<Vec<(&'static str, String)>>,
 }
@@ -109,15 +110,15 @@ impl Error {
         self.context.as_deref().unwrap_or(&[])
     }
 
-    /// Adds a context, the key and what the value prints, after those that the error has.
+    /// Adds a context after those that the error has: the key, and what the value prints.
     ///
     /// # Errors
     ///
-    /// If memory runs out, or the value fails to print: the error as it was.
+    /// Returns the error unchanged if there is no memory, or the value fails to print.
     ///
     /// # Memory
     ///
-    /// The printed text, and a place in the list of contexts.
+    /// The printed text, and room for one more context in the list.
     pub fn with_context<V: fmt::Display + Drop>(
         self,
         alloc: Global,
@@ -145,8 +146,8 @@ impl Error {
         }
     }
 
-    /// An error of this kind with the text as its message; or, if memory for the text ran out, one
-    /// of kind `OutOfMemory`, with no message.
+    /// An error of this kind with the text as its message. If there was no memory for the text, an
+    /// error of kind `OutOfMemory` with an empty message.
     #[tactic(auto, unfolding(crate::specs::Refusals::Refuses))]
     pub fn from_text(alloc: Global, kind: ErrorKind, text: Result<String, AllocError>) -> Error
         ensures error { MatchResult text
@@ -234,7 +235,7 @@ impl Error {
     }
 }
 
-// So `?` passes on a refusal of memory: kind `OutOfMemory`, no message, no context.
+// For `?`: the error has kind `OutOfMemory`, an empty message and no context.
 impl From<AllocError> for Error {
     ghost use Rattle.sketch_base.specs.ErrorValue.{memory_error};
 
@@ -261,7 +262,7 @@ impl fmt::Display for Error {
     }
 }
 
-// The contexts as the displayed line has them.
+// Writes the contexts as in the displayed line.
 fn write_contexts<W: fmt::Write>(
     contexts: &[(&'static str, String)],
     f: &mut fmt::Formatter<W>,
@@ -280,7 +281,7 @@ fn write_contexts<W: fmt::Write>(
     write!(f, " }}")
 }
 
-// The message as the displayed line has it.
+// Writes the message as in the displayed line.
 fn write_message<W: fmt::Write>(message: &str, f: &mut fmt::Formatter<W>) -> fmt::Result
     ensures { DisplaysOnOk W.write_str_gives f.old result (Some (message_text message.now)) f.new }
 {
@@ -306,7 +307,7 @@ impl fmt::Debug for Error {
     }
 }
 
-// The contexts as the debug text has them.
+// Writes the contexts as in the debug text.
 fn write_context_lines<W: fmt::Write>(
     contexts: &[(&'static str, String)],
     f: &mut fmt::Formatter<W>,
@@ -325,7 +326,7 @@ fn write_context_lines<W: fmt::Write>(
     Ok(())
 }
 
-// The alternate form of the debug text, as of a derived one.
+// Writes the alternate form of the debug text, which is that of a derived `Debug`.
 fn write_fields<W: fmt::Write>(error: &Error, f: &mut fmt::Formatter<W>) -> fmt::Result {
     let mut fields = f.debug_struct("Error");
     fields.field("kind", &error.kind);

@@ -1,5 +1,5 @@
-//! The base of the sketches: errors that say where they came up, and the reading and writing of
-//! serialized sketches.
+//! The base of the sketches: errors with contexts, and the reading and writing of serialized
+//! sketches.
 #![tactic(auto)]
 
 pub mod codec;

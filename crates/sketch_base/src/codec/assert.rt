@@ -1,5 +1,5 @@
-//! Checks that a reader of serialized sketches makes of their preambles. A check that accepts takes
-//! no memory; one that refuses asks for the text of its error.
+//! Checks of the preambles of serialized sketches. A check that accepts takes no memory. One that
+//! fails requests memory for the text of its error.
 
 ghost use Rattle.std.specs.Prelude.{◌≡◌, ℕ, List, Contains, IsTrue, IfOk, string_bytes};
 ghost use Rattle.sketch_base.specs.Checks.{AcceptsExactly, range};
@@ -11,11 +11,11 @@ use std::io;
 use std::ops::Bound::{self, Excluded, Included, Unbounded};
 use std::ops::RangeBounds;
 
-/// The error for data that ended too early in the part that the tag names: `insufficient data
-/// (TAG): TEXT`, with the text that `error` prints. No clause says that the text is the error's;
-/// that is tested.
+/// The error for data that ended too early: `insufficient data (TAG): TEXT`. The tag names the part
+/// that was cut off, and the text is what `error` prints. No clause says that the text is the
+/// error's; a test shows it.
 ///
-/// As [`Error::insufficient_data_of`], it may answer `OutOfMemory` in its place.
+/// Returns an error of kind `OutOfMemory` with an empty message if there is no memory for the text.
 pub fn insufficient_data(alloc: Global, tag: &'static str, error: io::Error) -> Error
     ensures { (text : List ℕ)
         × Refuses ErrorKind.InvalidData (insufficient_data_of_text tag.entry.now text) result }
@@ -27,7 +27,8 @@ pub fn insufficient_data(alloc: Global, tag: &'static str, error: io::Error) -> 
 ///
 /// # Errors
 ///
-/// At any other: `InvalidData`, or `OutOfMemory` with no message if memory for the text runs out.
+/// Returns `InvalidData` for any other, or `OutOfMemory` with an empty message if there is no memory
+/// for the text.
 pub fn ensure_serial_version_is(alloc: Global, expected: u8, actual: u8) -> Result<(), Error>
     ensures { AcceptsExactly (actual ≡ expected)
         (unsupported_serial_version_text expected actual) result }
@@ -43,7 +44,8 @@ pub fn ensure_serial_version_is(alloc: Global, expected: u8, actual: u8) -> Resu
 ///
 /// # Errors
 ///
-/// At any other: `InvalidData`, or `OutOfMemory` with no message if memory for the text runs out.
+/// Returns `InvalidData` for any other, or `OutOfMemory` with an empty message if there is no memory
+/// for the text.
 pub fn ensure_preamble_longs_in(alloc: Global, expected: &[u8], actual: u8) -> Result<(), Error>
     ensures { AcceptsExactly (Contains expected.now actual)
         (invalid_preamble_longs_text expected.now actual) result }
@@ -54,12 +56,13 @@ pub fn ensure_preamble_longs_in(alloc: Global, expected: &[u8], actual: u8) -> R
     Err(Error::invalid_preamble_longs(alloc, expected, actual))
 }
 
-/// Accepts exactly the numbers of preamble longs between the two ends: none where they are
-/// reversed, and all where both are open.
+/// Accepts exactly the numbers of preamble longs between the two ends: none if the ends are
+/// reversed, all if both are open.
 ///
 /// # Errors
 ///
-/// At any other: `InvalidData`, or `OutOfMemory` with no message if memory for the text runs out.
+/// Returns `InvalidData` for any other, or `OutOfMemory` with an empty message if there is no memory
+/// for the text.
 pub fn ensure_preamble_longs_in_range(
     alloc: Global,
     start: Bound<u8>,
@@ -78,7 +81,8 @@ pub fn ensure_preamble_longs_in_range(
     Err(Error::from_text(alloc, ErrorKind::InvalidData, text))
 }
 
-// How the range between the two ends prints: nothing where both are open, as it has every number.
+// The text of the range between the two ends. A range with two open ends has none, as it accepts
+// every number.
 fn printed_range(alloc: Global, start: Bound<u8>, end: Bound<u8>) -> Result<String, AllocError>
     ensures { IfOk result (λ text. string_bytes text ≡ (range start end).text) }
 {

@@ -11,8 +11,8 @@ use std::{fmt, io, mem};
 
 /// Reads numbers from a borrowed slice of bytes, without copying it.
 ///
-/// A read that finds too few bytes fails with the kind `UnexpectedEof`, or with [`Short`] where it
-/// reads a list. Nothing remains to be read then.
+/// A read fails if too few bytes remain: with the error kind `UnexpectedEof`, or with [`Short`] if
+/// it reads a list. Nothing remains to be read then.
 #[derive(Drop)]
 pub struct SketchSlice<'a> {
     slice: &'a [u8],
@@ -24,7 +24,7 @@ impl<'a> Model for SketchSlice<'a> {
     ghost view = { λ s. s.slice.now };
 }
 
-/// A list of items ended too early.
+/// The bytes ended before the last item of a list.
 #[derive(Clone, Copy, Debug, PartialEq, Eq)]
 pub struct Short {
     /// How many items were read.
@@ -49,7 +49,7 @@ impl SketchSlice<'_> {
         SketchSlice { slice }
     }
 
-    /// Skips `n` bytes, or all that remain where these are fewer.
+    /// Skips `n` bytes, or all that remain if these are fewer.
     pub fn advance(&mut self, n: u64)
         ensures { self.new ≡ drop n self.old }
     {
@@ -68,18 +68,18 @@ impl SketchSlice<'_> {
     ///
     /// # Errors
     ///
-    /// If fewer bytes remain than the buffer holds: `UnexpectedEof`. The buffer is as it was,
-    /// and nothing remains to be read.
+    /// Returns `UnexpectedEof` if fewer bytes remain than the buffer holds. The buffer is then
+    /// unchanged, and nothing remains to be read.
     pub fn read_exact(&mut self, buf: &mut [u8]) -> io::Result<()>
         ensures read { Reads (length buf.old) (λ _. tt) self.old result self.new }
         ensures filled { buf.new
             ≡ (if is_ok result then take (length buf.old) self.old else buf.old) }
     {
         let slice = mem::take(&mut self.slice);
-        let (front, rest) = slice
+        let (prefix, rest) = slice
             .split_at_checked(buf.len())
             .ok_or(io::ErrorKind::UnexpectedEof)?;
-        buf.copy_from_slice(front);
+        buf.copy_from_slice(prefix);
         self.slice = rest;
         Ok(())
     }
@@ -92,105 +92,117 @@ impl SketchSlice<'_> {
         Ok(buf)
     }
 
-    /// Reads an unsigned number of one byte. `UnexpectedEof` if none remains.
+    /// Reads an unsigned number of one byte. Fails with `UnexpectedEof` if none remains.
     pub fn read_u8(&mut self) -> io::Result<u8>
         ensures { Reads 1 le self.old result self.new }
     {
         Ok(u8::from_le_bytes(self.read_array()?))
     }
 
-    /// Reads a signed number of one byte. `UnexpectedEof` if none remains.
+    /// Reads a signed number of one byte. Fails with `UnexpectedEof` if none remains.
     pub fn read_i8(&mut self) -> io::Result<i8>
         ensures { Reads 1 (λ bytes. twos_complement 8 (le bytes)) self.old result self.new }
     {
         Ok(i8::from_le_bytes(self.read_array()?))
     }
 
-    /// Reads an unsigned number of 2 bytes, the lowest first. `UnexpectedEof` if fewer remain.
+    /// Reads an unsigned number of 2 bytes, the lowest first. Fails with `UnexpectedEof` if fewer
+    /// remain.
     pub fn read_u16_le(&mut self) -> io::Result<u16>
         ensures { Reads 2 le self.old result self.new }
     {
         Ok(u16::from_le_bytes(self.read_array()?))
     }
 
-    /// Reads an unsigned number of 2 bytes, the highest first. `UnexpectedEof` if fewer remain.
+    /// Reads an unsigned number of 2 bytes, the highest first. Fails with `UnexpectedEof` if fewer
+    /// remain.
     pub fn read_u16_be(&mut self) -> io::Result<u16>
         ensures { Reads 2 be self.old result self.new }
     {
         Ok(u16::from_be_bytes(self.read_array()?))
     }
 
-    /// Reads a signed number of 2 bytes, the lowest first. `UnexpectedEof` if fewer remain.
+    /// Reads a signed number of 2 bytes, the lowest first. Fails with `UnexpectedEof` if fewer
+    /// remain.
     pub fn read_i16_le(&mut self) -> io::Result<i16>
         ensures { Reads 2 (λ bytes. twos_complement 16 (le bytes)) self.old result self.new }
     {
         Ok(i16::from_le_bytes(self.read_array()?))
     }
 
-    /// Reads a signed number of 2 bytes, the highest first. `UnexpectedEof` if fewer remain.
+    /// Reads a signed number of 2 bytes, the highest first. Fails with `UnexpectedEof` if fewer
+    /// remain.
     pub fn read_i16_be(&mut self) -> io::Result<i16>
         ensures { Reads 2 (λ bytes. twos_complement 16 (be bytes)) self.old result self.new }
     {
         Ok(i16::from_be_bytes(self.read_array()?))
     }
 
-    /// Reads an unsigned number of 4 bytes, the lowest first. `UnexpectedEof` if fewer remain.
+    /// Reads an unsigned number of 4 bytes, the lowest first. Fails with `UnexpectedEof` if fewer
+    /// remain.
     pub fn read_u32_le(&mut self) -> io::Result<u32>
         ensures { Reads 4 le self.old result self.new }
     {
         Ok(u32::from_le_bytes(self.read_array()?))
     }
 
-    /// Reads an unsigned number of 4 bytes, the highest first. `UnexpectedEof` if fewer remain.
+    /// Reads an unsigned number of 4 bytes, the highest first. Fails with `UnexpectedEof` if fewer
+    /// remain.
     pub fn read_u32_be(&mut self) -> io::Result<u32>
         ensures { Reads 4 be self.old result self.new }
     {
         Ok(u32::from_be_bytes(self.read_array()?))
     }
 
-    /// Reads a signed number of 4 bytes, the lowest first. `UnexpectedEof` if fewer remain.
+    /// Reads a signed number of 4 bytes, the lowest first. Fails with `UnexpectedEof` if fewer
+    /// remain.
     pub fn read_i32_le(&mut self) -> io::Result<i32>
         ensures { Reads 4 (λ bytes. twos_complement 32 (le bytes)) self.old result self.new }
     {
         Ok(i32::from_le_bytes(self.read_array()?))
     }
 
-    /// Reads a signed number of 4 bytes, the highest first. `UnexpectedEof` if fewer remain.
+    /// Reads a signed number of 4 bytes, the highest first. Fails with `UnexpectedEof` if fewer
+    /// remain.
     pub fn read_i32_be(&mut self) -> io::Result<i32>
         ensures { Reads 4 (λ bytes. twos_complement 32 (be bytes)) self.old result self.new }
     {
         Ok(i32::from_be_bytes(self.read_array()?))
     }
 
-    /// Reads an unsigned number of 8 bytes, the lowest first. `UnexpectedEof` if fewer remain.
+    /// Reads an unsigned number of 8 bytes, the lowest first. Fails with `UnexpectedEof` if fewer
+    /// remain.
     pub fn read_u64_le(&mut self) -> io::Result<u64>
         ensures { Reads 8 le self.old result self.new }
     {
         Ok(u64::from_le_bytes(self.read_array()?))
     }
 
-    /// Reads an unsigned number of 8 bytes, the highest first. `UnexpectedEof` if fewer remain.
+    /// Reads an unsigned number of 8 bytes, the highest first. Fails with `UnexpectedEof` if fewer
+    /// remain.
     pub fn read_u64_be(&mut self) -> io::Result<u64>
         ensures { Reads 8 be self.old result self.new }
     {
         Ok(u64::from_be_bytes(self.read_array()?))
     }
 
-    /// Reads a signed number of 8 bytes, the lowest first. `UnexpectedEof` if fewer remain.
+    /// Reads a signed number of 8 bytes, the lowest first. Fails with `UnexpectedEof` if fewer
+    /// remain.
     pub fn read_i64_le(&mut self) -> io::Result<i64>
         ensures { Reads 8 (λ bytes. twos_complement 64 (le bytes)) self.old result self.new }
     {
         Ok(i64::from_le_bytes(self.read_array()?))
     }
 
-    /// Reads a signed number of 8 bytes, the highest first. `UnexpectedEof` if fewer remain.
+    /// Reads a signed number of 8 bytes, the highest first. Fails with `UnexpectedEof` if fewer
+    /// remain.
     pub fn read_i64_be(&mut self) -> io::Result<i64>
         ensures { Reads 8 (λ bytes. twos_complement 64 (be bytes)) self.old result self.new }
     {
         Ok(i64::from_be_bytes(self.read_array()?))
     }
 
-    // The next item, of this kind.
+    // Reads one item of this kind.
     pub(super) fn read_item(&mut self, kind: Kind) -> io::Result<Item>
         ensures { Reads (width kind) (unspell kind) self.old result self.new }
     {
@@ -216,8 +228,9 @@ impl SketchSlice<'_> {
     ///
     /// # Errors
     ///
-    /// At the first item for which too few bytes remain: how many were read. Their places are
-    /// filled, the others are as they were, and nothing remains to be read.
+    /// Returns [`Short`] with the number of items read if too few bytes remain for the next one.
+    /// The places of those read are filled, the others are unchanged, and nothing remains to be
+    /// read.
     #[tactic(auto, using(crate::proofs::ItemLemmas::one_item_more))]
     pub fn read_items(&mut self, kinds: &[Kind], out: &mut [Item]) -> Result<(), Short>
         requires { length kinds.now ≡ length out.old }

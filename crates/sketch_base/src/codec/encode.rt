@@ -12,12 +12,12 @@ use std::marker::Model;
 
 /// Writes numbers into bytes that grow as they are needed.
 ///
-/// A write is refused only if there is no room and memory for more runs out. It then changes
-/// nothing; a refused [`SketchBytes::write_items`] keeps the items before the refused one.
+/// A write fails only if its bytes do not fit the capacity and there is no memory for more. It then
+/// changes nothing, but [`SketchBytes::write_items`] keeps the items before the one that failed.
 ///
 /// # Memory
 ///
-/// The bytes, in one piece. A write that goes past the room asks for a larger one.
+/// One buffer. A write that does not fit requests a larger one.
 #[derive(Drop)]
 pub struct SketchBytes {
     bytes: Vec<u8>,
@@ -34,7 +34,7 @@ impl Model for SketchBytes {
     ghost invariant = { λ s. length s.bytes.items ≤ vec_capacity s.bytes };
 }
 
-/// A list of items was written in part: for the next one there is no room, and memory ran out.
+/// A list of items was written in part: there was no memory for the next one.
 #[derive(Clone, Copy, Debug, PartialEq, Eq)]
 pub struct Stopped {
     /// How many items were written.
@@ -52,11 +52,11 @@ impl fmt::Display for Stopped {
 impl std::error::Error for Stopped {}
 
 impl SketchBytes {
-    /// A writer that has no bytes yet, with room for `capacity` of them.
+    /// An empty writer that takes `capacity` bytes without growing.
     ///
     /// # Errors
     ///
-    /// If memory runs out.
+    /// Returns `AllocError` if there is no memory.
     ///
     /// # Memory
     ///
@@ -81,7 +81,7 @@ impl SketchBytes {
     ///
     /// # Errors
     ///
-    /// If there is no room and memory runs out, as at every write: the writer is as it was.
+    /// Returns `AllocError` if they do not fit and there is no memory. The writer is then unchanged.
     pub fn write(&mut self, buf: &[u8]) -> Result<(), AllocError>
         ensures { Writes buf.now self.old result self.new }
     {
@@ -89,98 +89,98 @@ impl SketchBytes {
         self.bytes.extend_from_slice(buf)
     }
 
-    /// Writes an unsigned number as one byte. Fails only when memory runs out.
+    /// Writes an unsigned number as one byte. Fails only if there is no memory.
     pub fn write_u8(&mut self, n: u8) -> Result<(), AllocError>
         ensures { Writes (low_bytes 1 n) self.old result self.new }
     {
         self.write(&n.to_le_bytes())
     }
 
-    /// Writes a signed number as one byte. Fails only when memory runs out.
+    /// Writes a signed number as one byte. Fails only if there is no memory.
     pub fn write_i8(&mut self, n: i8) -> Result<(), AllocError>
         ensures { Writes (low_bytes 1 (modulo 8 n)) self.old result self.new }
     {
         self.write(&n.to_le_bytes())
     }
 
-    /// Writes an unsigned number as 2 bytes, the lowest first. Fails only when memory runs out.
+    /// Writes an unsigned number as 2 bytes, the lowest first. Fails only if there is no memory.
     pub fn write_u16_le(&mut self, n: u16) -> Result<(), AllocError>
         ensures { Writes (low_bytes 2 n) self.old result self.new }
     {
         self.write(&n.to_le_bytes())
     }
 
-    /// Writes an unsigned number as 2 bytes, the highest first. Fails only when memory runs out.
+    /// Writes an unsigned number as 2 bytes, the highest first. Fails only if there is no memory.
     pub fn write_u16_be(&mut self, n: u16) -> Result<(), AllocError>
         ensures { Writes (reverse (low_bytes 2 n)) self.old result self.new }
     {
         self.write(&n.to_be_bytes())
     }
 
-    /// Writes a signed number as 2 bytes, the lowest first. Fails only when memory runs out.
+    /// Writes a signed number as 2 bytes, the lowest first. Fails only if there is no memory.
     pub fn write_i16_le(&mut self, n: i16) -> Result<(), AllocError>
         ensures { Writes (low_bytes 2 (modulo 16 n)) self.old result self.new }
     {
         self.write(&n.to_le_bytes())
     }
 
-    /// Writes a signed number as 2 bytes, the highest first. Fails only when memory runs out.
+    /// Writes a signed number as 2 bytes, the highest first. Fails only if there is no memory.
     pub fn write_i16_be(&mut self, n: i16) -> Result<(), AllocError>
         ensures { Writes (reverse (low_bytes 2 (modulo 16 n))) self.old result self.new }
     {
         self.write(&n.to_be_bytes())
     }
 
-    /// Writes an unsigned number as 4 bytes, the lowest first. Fails only when memory runs out.
+    /// Writes an unsigned number as 4 bytes, the lowest first. Fails only if there is no memory.
     pub fn write_u32_le(&mut self, n: u32) -> Result<(), AllocError>
         ensures { Writes (low_bytes 4 n) self.old result self.new }
     {
         self.write(&n.to_le_bytes())
     }
 
-    /// Writes an unsigned number as 4 bytes, the highest first. Fails only when memory runs out.
+    /// Writes an unsigned number as 4 bytes, the highest first. Fails only if there is no memory.
     pub fn write_u32_be(&mut self, n: u32) -> Result<(), AllocError>
         ensures { Writes (reverse (low_bytes 4 n)) self.old result self.new }
     {
         self.write(&n.to_be_bytes())
     }
 
-    /// Writes a signed number as 4 bytes, the lowest first. Fails only when memory runs out.
+    /// Writes a signed number as 4 bytes, the lowest first. Fails only if there is no memory.
     pub fn write_i32_le(&mut self, n: i32) -> Result<(), AllocError>
         ensures { Writes (low_bytes 4 (modulo 32 n)) self.old result self.new }
     {
         self.write(&n.to_le_bytes())
     }
 
-    /// Writes a signed number as 4 bytes, the highest first. Fails only when memory runs out.
+    /// Writes a signed number as 4 bytes, the highest first. Fails only if there is no memory.
     pub fn write_i32_be(&mut self, n: i32) -> Result<(), AllocError>
         ensures { Writes (reverse (low_bytes 4 (modulo 32 n))) self.old result self.new }
     {
         self.write(&n.to_be_bytes())
     }
 
-    /// Writes an unsigned number as 8 bytes, the lowest first. Fails only when memory runs out.
+    /// Writes an unsigned number as 8 bytes, the lowest first. Fails only if there is no memory.
     pub fn write_u64_le(&mut self, n: u64) -> Result<(), AllocError>
         ensures { Writes (low_bytes 8 n) self.old result self.new }
     {
         self.write(&n.to_le_bytes())
     }
 
-    /// Writes an unsigned number as 8 bytes, the highest first. Fails only when memory runs out.
+    /// Writes an unsigned number as 8 bytes, the highest first. Fails only if there is no memory.
     pub fn write_u64_be(&mut self, n: u64) -> Result<(), AllocError>
         ensures { Writes (reverse (low_bytes 8 n)) self.old result self.new }
     {
         self.write(&n.to_be_bytes())
     }
 
-    /// Writes a signed number as 8 bytes, the lowest first. Fails only when memory runs out.
+    /// Writes a signed number as 8 bytes, the lowest first. Fails only if there is no memory.
     pub fn write_i64_le(&mut self, n: i64) -> Result<(), AllocError>
         ensures { Writes (low_bytes 8 (modulo 64 n)) self.old result self.new }
     {
         self.write(&n.to_le_bytes())
     }
 
-    /// Writes a signed number as 8 bytes, the highest first. Fails only when memory runs out.
+    /// Writes a signed number as 8 bytes, the highest first. Fails only if there is no memory.
     pub fn write_i64_be(&mut self, n: i64) -> Result<(), AllocError>
         ensures { Writes (reverse (low_bytes 8 (modulo 64 n))) self.old result self.new }
     {
@@ -213,12 +213,13 @@ impl SketchBytes {
     ///
     /// # Errors
     ///
-    /// If there is no room for an item at that moment, and memory runs out: how many items were
-    /// written before it. Nothing is written of the others.
+    /// Returns [`Stopped`] with the number of items written if the next one does not fit and there
+    /// is no memory. Nothing is written of that one and those after it.
     #[tactic(auto, using(crate::proofs::ItemLemmas::one_item_more))]
     pub fn write_items(&mut self, items: &[Item]) -> Result<(), Stopped>
         ensures { WritesItems items.now self.old result self.new }
     {
+        let _ = &self.bytes;
         for (accepted, item) in items.iter().enumerate() {
             self.write_item(*item).map_err(|_| Stopped { accepted })?;
         }

@@ -68,8 +68,8 @@ impl Family {
     ///
     /// # Errors
     ///
-    /// At any other id: `InvalidData`, or `OutOfMemory` with no message if memory for the text runs
-    /// out.
+    /// Returns `InvalidData` for any other, or `OutOfMemory` with an empty message if there is no
+    /// memory for the text.
     pub fn validate_id(&self, alloc: Global, family_id: u8) -> Result<(), Error>
         ensures { AcceptsExactly (family_id ≡ self.now.id)
             (invalid_family_text self.now.id family_id self.now.name.now) result }
@@ -81,8 +81,8 @@ impl Family {
     }
 }
 
-// Nothing calls this. Its clause is the table of the format's families, so that the check refuses a
-// constant that departs from it.
+// Nothing calls this. Its clause is the format's table of families, so the prover rejects a constant
+// that differs from it.
 fn families() -> [Family; 10]
     ensures { map {B = ℕ × List ℕ × ℕ × ℕ}
         (λ family. (family.id, family.name.now, family.min_pre_longs, family.max_pre_longs)) result

@@ -1,10 +1,10 @@
-//! Numbers in the forms in which serialized sketches hold them.
+//! Numbers in the forms in which serialized sketches store them.
 
 ghost use Rattle.std.specs.Prelude.{◌≡◌};
 ghost use Rattle.sketch_base.specs.Items.{item_kind, width};
 
-/// A number and the form in which it stands in bytes: its width in bits, its sign, and for more
-/// than one byte whether the lowest byte comes first (`Le`) or the highest (`Be`).
+/// A number with its form in bytes: the width in bits, whether it is signed, and the byte order if
+/// there are several bytes, with the lowest first (`Le`) or the highest first (`Be`).
 #[derive(Clone, Copy, Debug, PartialEq, Eq)]
 pub enum Item {
     U8(u8),

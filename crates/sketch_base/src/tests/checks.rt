@@ -47,6 +47,20 @@ fn ranges_refuse_without_memory(rt: HostRuntime) {
 }
 
 #[test]
+fn each_check_fails_with_invalid_data(rt: HostRuntime) {
+    let alloc = rt.alloc();
+    for error in [
+        Family::HLL.validate_id(alloc, 8).err(),
+        ensure_serial_version_is(alloc, 3, 2).err(),
+        ensure_preamble_longs_in(alloc, &[], 1).err(),
+        ensure_preamble_longs_in_range(alloc, Included(5), Included(3), 4).err(),
+    ] {
+        let kind = error.map(|error| error.kind());
+        assert_same(&rt, kind, Some(ErrorKind::InvalidData));
+    }
+}
+
+#[test]
 fn an_empty_range_refuses_every_number(rt: HostRuntime) {
     for x in 0..=255 {
         let answer = ensure_preamble_longs_in_range(rt.alloc(), Excluded(5), Excluded(5), x);

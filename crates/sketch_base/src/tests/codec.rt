@@ -32,6 +32,10 @@ fn a_reader_advances_no_further_than_the_end(rt: HostRuntime) {
         assert!(rt; reader.remaining().is_empty(), "after {n}");
     }
     assert!(rt; reader.read_exact(&mut []).is_ok() && reader.read_u8().is_err());
+    let mut reader = SketchSlice::new(&[1, 2, 3]);
+    reader.advance(u64::MAX);
+    reader.advance(u64::MAX);
+    assert!(rt; reader.remaining().is_empty());
 }
 
 #[test]

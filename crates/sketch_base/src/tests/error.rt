@@ -70,6 +70,19 @@ fn texts_that_are_built_without_memory(rt: HostRuntime) {
     assert_line_or_refusal(&rt, error, line);
 }
 
+#[test]
+fn texts_that_are_built_have_their_kind(rt: HostRuntime) {
+    let alloc = rt.alloc();
+    for error in [
+        Error::insufficient_data(alloc, "x"),
+        Error::insufficient_data_of(alloc, "header", 5u8),
+        Error::invalid_preamble_longs(alloc, &[1, 2], 3),
+        Error::invalid_preamble_ints(alloc, 2, 9),
+    ] {
+        assert_same(&rt, error.kind(), InvalidData);
+    }
+}
+
 // The error that an attempt to add a context left, and whether it was added.
 fn after_attempt(rt: &impl Eprint, added: Result<Error, Error>) -> (Error, bool) {
     match added {
