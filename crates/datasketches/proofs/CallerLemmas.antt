@@ -7,7 +7,7 @@ use Rattle.sketch_base.specs.Items.{InType, item_kind, spell_all, widths}
 use Rattle.sketch_base.proofs.ItemLemmas.{item_law}
 use Rattle.sketch_hash.specs.Pieces.{State}
 use Rattle.sketch_hash.specs.Murmur.{murmur, murmur_after, murmur_answer, MurmurStands}
-use Rattle.sketch_hash.proofs.MurmurLemmas.{murmur_answer-stands, murmur_stands_after}
+use Rattle.sketch_hash.proofs.MurmurAnswers.{murmur_answer-stands, murmur_stands_after}
 
 -- a new Murmur hasher that is written to once answers for what was written
 pub murmur_of_one_write : (seed : ℕ) (bytes : List ℕ) (start state : State (ℕ × ℕ)) (answer : ℕ × ℕ) →

@@ -5,5 +5,5 @@ pub mod CallerLemmas
 pub mod KnownAnswers
 -- lemmas of the crates below, for the crates above
 pub use Rattle.sketch_base.proofs.BytesLemmas
-pub use Rattle.sketch_hash.proofs.MurmurLemmas
-pub use Rattle.sketch_hash.proofs.Xxh64Lemmas
+pub use Rattle.sketch_hash.proofs.MurmurAnswers
+pub use Rattle.sketch_hash.proofs.Xxh64Answers

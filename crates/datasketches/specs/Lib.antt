@@ -9,11 +9,11 @@ pub use Rattle.sketch_base.specs.ErrorValue
 pub use Rattle.sketch_base.specs.Items
 pub use Rattle.sketch_base.specs.Refusals
 pub use Rattle.sketch_hash.specs.Columns
-pub use Rattle.sketch_hash.specs.Held
 pub use Rattle.sketch_hash.specs.Murmur
 pub use Rattle.sketch_hash.specs.Laws as StepLaws
 pub use Rattle.sketch_hash.specs.Words
 pub use Rattle.sketch_hash.specs.Pieces
 pub use Rattle.sketch_hash.specs.PiecesWriteLemmas
 pub use Rattle.sketch_hash.specs.SeedHash
+pub use Rattle.sketch_hash.specs.States
 pub use Rattle.sketch_hash.specs.Xxh64

@@ -2,7 +2,7 @@
 
 ghost use Rattle.std.specs.Prelude.{◌≡◌, ℕ, List, ◌++◌};
 ghost use Rattle.std.specs.List.{flat_map};
-ghost use Rattle.datasketches.specs.Held.{Xxh64Holds};
+ghost use Rattle.datasketches.specs.States.{Xxh64StateStands};
 ghost use Rattle.datasketches.specs.Murmur.{murmur};
 ghost use Rattle.datasketches.specs.Xxh64.{xxh64};
 
@@ -22,7 +22,7 @@ pub fn murmur_of_pieces(seed: u64, pieces: &[RawBytes<&[u8]>]) -> (u64, u64)
 
 /// A checkpoint of a stream: what the hasher of its first bytes holds.
 pub fn checkpoint(seed: u64, front: &[u8]) -> XxHash64State
-    ensures { Xxh64Holds result seed front.now }
+    ensures { Xxh64StateStands result seed front.now }
 {
     let mut hasher = XxHash64::with_seed(seed);
     hasher.write(front);
@@ -31,7 +31,7 @@ pub fn checkpoint(seed: u64, front: &[u8]) -> XxHash64State
 
 /// The XXH64 hash of a stream that goes on from a checkpoint.
 pub fn xxh64_from(state: &XxHash64State, back: &[u8]) -> u64
-    ensures { (seed : ℕ) (front : List ℕ) → Xxh64Holds state.now seed front →
+    ensures { (seed : ℕ) (front : List ℕ) → Xxh64StateStands state.now seed front →
         result ≡ xxh64 seed (front ++ back.now) }
 {
     let mut hasher = XxHash64::resume(state);

@@ -3,7 +3,7 @@
 ghost use Rattle.std.specs.Prelude.{◌≡◌, ◌+◌, ◌*◌, ◌^◌, ℕ, List, [], ◌∷◌, ◌++◌, replicate, slice_index};
 ghost use Rattle.datasketches.specs.Columns.{murmur_words};
 ghost use Rattle.datasketches.specs.Bytes.{low_bytes};
-ghost use Rattle.datasketches.specs.Held.{murmur_held, MurmurHolds};
+ghost use Rattle.datasketches.specs.States.{murmur_state_of, MurmurStateStands};
 ghost use Rattle.datasketches.specs.Murmur.{murmur_after, murmur_answer};
 
 use datasketches::hash::{Hasher, MurmurHash3X64128, MurmurState};
@@ -22,7 +22,7 @@ pub extern "C" fn sketch_murmur3_x64_128(input: &[u8], seed: u64, hash: &mut [u6
 #[unsafe(no_mangle)]
 #[tactic(auto, using(crate::proofs::InitLemmas::started))]
 pub extern "C" fn sketch_murmur3_x64_128_reset(state: &mut MurmurState, seed: u64)
-    ensures holds { MurmurHolds state.new seed [] }
+    ensures stands { MurmurStateStands state.new seed [] }
     ensures zeros { state.new.waiting ≡ replicate 16 0 }
 {
     *state = MurmurHash3X64128::with_seed(seed).state();
@@ -33,9 +33,9 @@ pub extern "C" fn sketch_murmur3_x64_128_reset(state: &mut MurmurState, seed: u6
 /// Adds bytes to the stream.
 #[unsafe(no_mangle)]
 pub extern "C" fn sketch_murmur3_x64_128_update(state: &mut MurmurState, input: &[u8])
-    ensures after { murmur_held state.new ≡ murmur_after (murmur_held state.old) input.now }
-    ensures holds { (seed : ℕ) (before : List ℕ) → MurmurHolds state.old seed before →
-        MurmurHolds state.new seed (before ++ input.now) }
+    ensures after { murmur_state_of state.new ≡ murmur_after (murmur_state_of state.old) input.now }
+    ensures stands { (seed : ℕ) (before : List ℕ) → MurmurStateStands state.old seed before →
+        MurmurStateStands state.new seed (before ++ input.now) }
 {
     state.write(input);
 }
@@ -43,9 +43,9 @@ pub extern "C" fn sketch_murmur3_x64_128_update(state: &mut MurmurState, input: 
 /// Writes MurmurHash3 x64 128 of the stream so far, which may go on.
 #[unsafe(no_mangle)]
 pub extern "C" fn sketch_murmur3_x64_128_digest(state: &MurmurState, hash: &mut [u64; 2])
-    ensures answer { let pair = murmur_answer (murmur_held state.now) in
+    ensures answer { let pair = murmur_answer (murmur_state_of state.now) in
         hash.new ≡ (pair.0 ∷ pair.1 ∷ []) }
-    ensures holds { (seed : ℕ) (bytes : List ℕ) → MurmurHolds state.now seed bytes →
+    ensures stands { (seed : ℕ) (bytes : List ℕ) → MurmurStateStands state.now seed bytes →
         hash.new ≡ murmur_words seed bytes }
 {
     let (h1, h2) = MurmurHash3X64128::resume(state).finish128();

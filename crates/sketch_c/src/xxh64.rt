@@ -2,7 +2,7 @@
 
 ghost use Rattle.std.specs.Prelude.{◌≡◌, ℕ, List, [], ◌++◌, replicate};
 ghost use Rattle.datasketches.specs.Bytes.{eight};
-ghost use Rattle.datasketches.specs.Held.{xxh64_held, Xxh64Holds};
+ghost use Rattle.datasketches.specs.States.{xxh64_state_of, Xxh64StateStands};
 ghost use Rattle.datasketches.specs.Xxh64.{xxh64, xxh64_after, xxh64_answer};
 
 use datasketches::hash::{Hasher, XxHash64, XxHash64State};
@@ -28,7 +28,7 @@ pub extern "C" fn sketch_xxh64_u64(value: u64, seed: u64) -> u64
 #[unsafe(no_mangle)]
 #[tactic(auto, using(crate::proofs::InitLemmas::started))]
 pub extern "C" fn sketch_xxh64_reset(state: &mut XxHash64State, seed: u64)
-    ensures holds { Xxh64Holds state.new seed [] }
+    ensures stands { Xxh64StateStands state.new seed [] }
     ensures zeros { state.new.waiting ≡ replicate 32 0 }
 {
     *state = XxHash64::with_seed(seed).state();
@@ -39,9 +39,9 @@ pub extern "C" fn sketch_xxh64_reset(state: &mut XxHash64State, seed: u64)
 /// Adds bytes to the stream.
 #[unsafe(no_mangle)]
 pub extern "C" fn sketch_xxh64_update(state: &mut XxHash64State, input: &[u8])
-    ensures after { xxh64_held state.new ≡ xxh64_after (xxh64_held state.old) input.now }
-    ensures holds { (seed : ℕ) (before : List ℕ) → Xxh64Holds state.old seed before →
-        Xxh64Holds state.new seed (before ++ input.now) }
+    ensures after { xxh64_state_of state.new ≡ xxh64_after (xxh64_state_of state.old) input.now }
+    ensures stands { (seed : ℕ) (before : List ℕ) → Xxh64StateStands state.old seed before →
+        Xxh64StateStands state.new seed (before ++ input.now) }
 {
     state.write(input);
 }
@@ -49,8 +49,8 @@ pub extern "C" fn sketch_xxh64_update(state: &mut XxHash64State, input: &[u8])
 /// XXH64 of the stream so far, which may go on.
 #[unsafe(no_mangle)]
 pub extern "C" fn sketch_xxh64_digest(state: &XxHash64State) -> u64
-    ensures answer { result ≡ xxh64_answer (xxh64_held state.now) }
-    ensures holds { (seed : ℕ) (bytes : List ℕ) → Xxh64Holds state.now seed bytes →
+    ensures answer { result ≡ xxh64_answer (xxh64_state_of state.now) }
+    ensures stands { (seed : ℕ) (bytes : List ℕ) → Xxh64StateStands state.now seed bytes →
         result ≡ xxh64 seed bytes }
 {
     XxHash64::resume(state).finish64()

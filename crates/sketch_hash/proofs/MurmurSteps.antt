@@ -1,17 +1,18 @@
--- Murmur's steps map words onto words, and pairs of words onto pairs of words, each exactly once;
--- sixteen bytes and two words stand for each other.
+-- Murmur's steps map words onto words, and pairs of words onto pairs of words, each exactly once. So do
+-- the sixteen bytes of a block and its two words.
 use Rattle.std.proofs.Common.{◌≡◌, ℕ, ◌^◌, ◌<◌, List, ◌++◌, length, take, drop, refl, sym, ap, ◌∙◌, arith, subst, ◌+◌, ◌-◌, replicate, length-append}
-use Rattle.std.proofs.lemmas.List.{take_all, length-take-le, length-drop, take-append-drop, take_at, drop_at, append_cancel_right, length-replicate}
-use Rattle.std.proofs.lemmas.List.Elements.{All-take, All-drop, All-append, All-map, All-weaker, All-replicate}
+use Rattle.std.proofs.lemmas.List.{take-append-drop, append_cancel_right, length-replicate}
+use Rattle.std.proofs.lemmas.List.Elements.{All-append, All-map, All-weaker, All-replicate}
 use Rattle.sketch_base.specs.Bytes.{le, eight, AreBytes}
 use Rattle.sketch_base.proofs.BytesLemmas.{le-lt, low_bytes-are, le-back, le-again, length-low_bytes, IsByte}
 use Rattle.sketch_hash.specs.Words.{IsWord, plus, times, rotate, OneToOne}
-use Rattle.sketch_hash.specs.Pieces.{word_at, pieces}
+use Rattle.sketch_hash.specs.Pieces.{pieces}
 use Rattle.sketch_hash.specs.Murmur.{block_words, c1, c2, mix1, mix2, fmix, step1, step2, step, blocks, with_tail, cross, finalize}
-use Rattle.sketch_hash.specs.Laws.{AreWords, IsBlock, PieceLaws, MurmurStepLaws}
+use Rattle.sketch_hash.specs.Laws.{AreWords, IsBlock, MurmurStepLaws}
 use Rattle.sketch_hash.proofs.WordLemmas.{Undoes, one_to_one, times-once, plus-once, xor-once, xor_word-once, rotate-once, shifted-once, ◌▸◌, on_first, on_second, on_both, along}
-use Rattle.sketch_hash.proofs.PiecesLemmas.{IsPiece, rest-whole, pieces-aligned, rest-aligned, pieces_short, rest_short, pieces_one, rest-are, rest-lt, length_rest_same, pieces-are}
+use Rattle.sketch_hash.proofs.PiecesLemmas.{IsPiece, pieces-are}
 use Rattle.std.specs.List.{All, fold}
+use Rattle.sketch_hash.proofs.NumberLemmas.{first_half, halves, joined_words, second_half}
 
 -- eight bytes and their number
 pub word_of_bytes : Undoes (IsPiece 8) IsWord le eight
@@ -22,29 +23,9 @@ word_of_bytes = record {
   forth = le-back 8;
 }
 
--- the first eight of a block's bytes, and the last
-first_half : (bytes : List ℕ) → IsBlock bytes → IsPiece 8 (take 8 bytes)
-first_half bytes h = (All-take IsByte 8 bytes h.0, length-take-le 8 bytes (omega arith))
-
-second_half : (bytes : List ℕ) → IsBlock bytes → IsPiece 8 (drop 8 bytes)
-second_half bytes h = (All-drop IsByte 8 bytes h.0, length-drop 8 bytes ∙ omega arith)
-
--- the two words of two joined halves
-joined_words : (low high : List ℕ) → length low ≡ 8 → length high ≡ 8 →
-    block_words (low ++ high) ≡ (le low, le high)
-joined_words low high e f =
-    let second = ap (take 8) (drop_at low high 8 e) ∙ take_all 8 high (omega arith) in
-    ap (λ t. (le t, word_at 1 (low ++ high))) (take_at low high 8 e) ∙ ap (λ t. (le low, le t)) second
-
 -- a block and its two words
 block_of_words : ℕ × ℕ → List ℕ
 block_of_words k = eight k.0 ++ eight k.1
-
--- a block's words are the numbers of its halves
-pub halves : (bytes : List ℕ) → IsBlock bytes → block_words bytes ≡ (le (take 8 bytes), le (drop 8 bytes))
-halves bytes h =
-    ap block_words (sym (take-append-drop 8 bytes))
-    ∙ joined_words (take 8 bytes) (drop 8 bytes) (first_half bytes h).1 (second_half bytes h).1
 
 block_words-undone : Undoes IsBlock AreWords block_words block_of_words
 unfolding block_of_words
@@ -69,21 +50,6 @@ block_words-undone = record {
 pub block_words-once : OneToOne IsBlock AreWords block_words
 block_words-once = one_to_one block_words-undone
 
-pub piece_laws : PieceLaws
-piece_laws = record {
-  whole_rest = rest-whole;
-  pieces_behind = pieces-aligned;
-  rest_behind = rest-aligned;
-  short_pieces = pieces_short;
-  short_rest = rest_short;
-  one_piece = pieces_one;
-  rest_bytes = rest-are;
-  rest_below = rest-lt;
-  rest_length = length_rest_same;
-  eight_are = low_bytes-are 8;
-  eight_read = word_of_bytes.forth;
-}
-
 times_c1 : OneToOne IsWord IsWord (λ x. times x c1)
 times_c1 = times-once c1 0xa98409e882ce4d7d refl
 
@@ -106,18 +72,18 @@ fmix-once =
     ▸ shifted ▸ times-once 0xc4ceb9fe1a85ec53 0x9cb4b2f8129337db refl ▸ shifted
 
 -- what a step does to a word of the pair once a word of the block has entered it
-turned-once : (a b other c : ℕ) → a + b ≡ 64 → IsWord other → IsWord c →
+rest_of_step-once : (a b other c : ℕ) → a + b ≡ 64 → IsWord other → IsWord c →
     OneToOne IsWord IsWord (λ h. plus (times (plus (rotate h a) other) 5) c)
-turned-once a b other c e p q =
+rest_of_step-once a b other c e p q =
     rotate-once a b e ▸ plus-once other p ▸ times-once 5 0xcccccccccccccccd refl ▸ plus-once c q
 
-turned1-once : (h2 : ℕ) → IsWord h2 →
+rest_of_step1-once : (h2 : ℕ) → IsWord h2 →
     OneToOne IsWord IsWord (λ h. plus (times (plus (rotate h 27) h2) 5) 0x52dce729)
-turned1-once h2 p = turned-once 27 37 h2 0x52dce729 refl p (omega arith)
+rest_of_step1-once h2 p = rest_of_step-once 27 37 h2 0x52dce729 refl p (omega arith)
 
-turned2-once : (h1 : ℕ) → IsWord h1 →
+rest_of_step2-once : (h1 : ℕ) → IsWord h1 →
     OneToOne IsWord IsWord (λ h. plus (times (plus (rotate h 31) h1) 5) 0x38495ab5)
-turned2-once h1 p = turned-once 31 33 h1 0x38495ab5 refl p (omega arith)
+rest_of_step2-once h1 p = rest_of_step-once 31 33 h1 0x38495ab5 refl p (omega arith)
 
 -- a step, for one block
 pub step-on_state : (k : ℕ × ℕ) → AreWords k → OneToOne AreWords AreWords (λ h. step h k)
@@ -125,8 +91,8 @@ unfolding step step1 step2
 step-on_state k p =
     let first = xor-once (mix1 k.0) (mix1-once.lands k.0 p.0) in
     let second = xor-once (mix2 k.1) (mix2-once.lands k.1 p.1) in
-    on_first (λ h1 h2. step1 h1 h2 k.0) (λ h2 q. first ▸ turned1-once h2 q)
-    ▸ on_second (λ h1 h2. step2 h1 h2 k.1) (λ h1 q. second ▸ turned2-once h1 q)
+    on_first (λ h1 h2. step1 h1 h2 k.0) (λ h2 q. first ▸ rest_of_step1-once h2 q)
+    ▸ on_second (λ h1 h2. step2 h1 h2 k.1) (λ h1 q. second ▸ rest_of_step2-once h1 q)
 
 -- a step, from one state
 pub step-on_block : (h : ℕ × ℕ) → AreWords h → OneToOne AreWords AreWords (λ k. step h k)
@@ -134,8 +100,8 @@ unfolding step step1 step2
 step-on_block h p =
     let first = mix1-once ▸ xor_word-once h.0 p.0 in
     let second = mix2-once ▸ xor_word-once h.1 p.1 in
-    on_first (λ k1 k2. step1 h.0 h.1 k1) (λ k2 q. first ▸ turned1-once h.1 p.1)
-    ▸ on_second (λ h1 k2. step2 h1 h.1 k2) (λ h1 q. second ▸ turned2-once h1 q)
+    on_first (λ k1 k2. step1 h.0 h.1 k1) (λ k2 q. first ▸ rest_of_step1-once h.1 p.1)
+    ▸ on_second (λ h1 k2. step2 h1 h.1 k2) (λ h1 q. second ▸ rest_of_step2-once h1 q)
 
 -- all steps, for one list of blocks
 pub steps-on_state : (blocks : List (ℕ × ℕ)) → All AreWords blocks →

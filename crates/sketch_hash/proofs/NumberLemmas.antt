@@ -5,12 +5,34 @@ use Rattle.std.proofs.Math.Pow.{pow-lt}
 use Rattle.std.proofs.lemmas.Bool.{cases_lt}
 use Rattle.std.proofs.lemmas.Nat.{pow-add, shl_whole, shr_le}
 use Rattle.std.specs.Int.Bits.{bit_or, or_shifted_r}
-use Rattle.std.proofs.lemmas.List.{length-take, length-take-le, take-append-drop, drop-drop, take-take, length-replicate, take_rest}
+use Rattle.std.proofs.lemmas.List.{length-take, length-take-le, take-append-drop, drop-drop, take-take, length-replicate, take_rest, take_all, take_at, drop_at}
 use Rattle.std.proofs.lemmas.List.Elements.{All-append, All-take, All-drop, All-replicate}
 use Rattle.sketch_base.specs.Bytes.{AreBytes, le, low_bytes}
 use Rattle.sketch_base.proofs.BytesLemmas.{le-cons, le-lt, low_bytes-are, le-back, le-again, length-low_bytes, low_bytes-le, bytes_known, IsByte}
 use Rattle.sketch_hash.specs.Murmur.{block_words}
-use Rattle.sketch_hash.proofs.MurmurSteps.{halves}
+use Rattle.sketch_hash.specs.Laws.{IsBlock}
+use Rattle.sketch_hash.specs.Pieces.{word_at}
+use Rattle.sketch_hash.proofs.PiecesLemmas.{IsPiece}
+
+-- the first eight of a block's bytes, and the last
+pub first_half : (bytes : List ℕ) → IsBlock bytes → IsPiece 8 (take 8 bytes)
+first_half bytes h = (All-take IsByte 8 bytes h.0, length-take-le 8 bytes (omega arith))
+
+pub second_half : (bytes : List ℕ) → IsBlock bytes → IsPiece 8 (drop 8 bytes)
+second_half bytes h = (All-drop IsByte 8 bytes h.0, length-drop 8 bytes ∙ omega arith)
+
+-- the two words of two joined halves
+pub joined_words : (low high : List ℕ) → length low ≡ 8 → length high ≡ 8 →
+    block_words (low ++ high) ≡ (le low, le high)
+joined_words low high e f =
+    let second = ap (take 8) (drop_at low high 8 e) ∙ take_all 8 high (omega arith) in
+    ap (λ t. (le t, word_at 1 (low ++ high))) (take_at low high 8 e) ∙ ap (λ t. (le low, le t)) second
+
+-- a block's words are the numbers of its halves
+pub halves : (bytes : List ℕ) → IsBlock bytes → block_words bytes ≡ (le (take 8 bytes), le (drop 8 bytes))
+halves bytes h =
+    ap block_words (sym (take-append-drop 8 bytes))
+    ∙ joined_words (take 8 bytes) (drop 8 bytes) (first_half bytes h).1 (second_half bytes h).1
 
 -- eight places are a byte
 pub pow_eight : (n : ℕ) → 2 ^ (8 * n) ≡ 256 ^ n

@@ -1,5 +1,7 @@
 -- Lists cut into pieces: what the pieces and the rest of a list are; and what a write leaves in a
 -- state in which fewer than w bytes wait.
+use Rattle.sketch_base.proofs.BytesLemmas.{le-back, low_bytes-are, IsByte}
+use Rattle.sketch_hash.specs.Laws.{PieceLaws}
 use Rattle.std.proofs.Common.{◌≡◌, ℕ, zero, suc, ◌+◌, ◌-◌, ◌*◌, ◌/◌, ◌<◌, ◌≤◌, List, [], ◌∷◌, ◌++◌, length, take, drop, refl, sym, ap, ◌∙◌, arith, suc-mul, mul-div_cancel, mul_comm, div-mul-le_self, ◌%◌, ◌^◌, map, length-append, length-drop}
 use Rattle.std.proofs.Math.Nat.{div-eq_of_lt, div_self, zero-mul}
 use Rattle.std.specs.List.{All, fold}
@@ -7,7 +9,6 @@ use Rattle.std.specs.Simd.{first_chunks}
 use Rattle.std.proofs.lemmas.List.{take_all, drop_all, length-take-le, length-drop, length-append, take-append-drop, append-nil}
 use Rattle.std.proofs.lemmas.List.Elements.{All-nil, All-cons, All-take, All-drop}
 use Rattle.sketch_base.specs.Bytes.{AreBytes}
-use Rattle.sketch_base.proofs.BytesLemmas.{IsByte}
 use Rattle.sketch_hash.specs.Pieces.{first_pieces, pieces, rest, State, absorb, state_after}
 use Rattle.sketch_hash.specs.PiecesWriteLemmas.{pieces-append, rest-append, state_after-append}
 use Rattle.std.proofs.lemmas.Nat.{mod_below}
@@ -213,3 +214,18 @@ state_after-through w read f state bytes k p t short h full =
     ∙ ap
     (λ n. record { folded = fold f filled (map read (pieces w behind)); total = n; waiting = rest w behind })
     counted
+
+pub piece_laws : PieceLaws
+piece_laws = record {
+  whole_rest = rest-whole;
+  pieces_behind = pieces-aligned;
+  rest_behind = rest-aligned;
+  short_pieces = pieces_short;
+  short_rest = rest_short;
+  one_piece = pieces_one;
+  rest_bytes = rest-are;
+  rest_below = rest-lt;
+  rest_length = length_rest_same;
+  eight_are = low_bytes-are 8;
+  eight_read = le-back 8;
+}

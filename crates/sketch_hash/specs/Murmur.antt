@@ -4,8 +4,9 @@
 --
 -- Two departures: a seed has 64 bits, where his has 32 (a seed below 2 ^ 32 gives his hash), and a
 -- length counts modulo 2 ^ 64, where his is an `int`.
-use Rattle.std.specs.Prelude.{◌≡◌, ℕ, ◌-◌, ◌%◌, ◌^◌, List, [], ◌++◌, length, map, replicate}
+use Rattle.std.specs.Prelude.{◌≡◌, ℕ, ◌+◌, ◌-◌, ◌*◌, ◌%◌, ◌^◌, ◌<◌, List, [], ◌++◌, length, map, min, replicate}
 use Rattle.std.specs.List.{fold}
+use Rattle.sketch_base.specs.Bytes.{low_bytes}
 use Rattle.sketch_hash.specs.Words.{plus, times, xor, rotate, xor_shift}
 use Rattle.sketch_hash.specs.Pieces.{pieces, rest, word_at, State, state_after}
 
@@ -91,3 +92,12 @@ murmur_answer state = finalize (with_tail state.folded state.waiting) state.tota
 -- the state is that of a hasher with the seed to which the bytes were written, in any pieces
 abbrev pub MurmurStands : State (ℕ × ℕ) → ℕ → List ℕ → Type 0
 MurmurStands state seed bytes = state ≡ murmur_after (murmur_start seed) bytes
+
+-- ---- the hasher's fields
+
+-- The waiting bytes as two words: the first eight of `count` bytes in `low`, those after them in
+-- `high`. Absent bytes are zeros.
+pub record Waits (count low high : ℕ) (bytes : List ℕ) : Type 0 where
+  pub first : low < 256 ^ min count 8
+  pub second : high < 256 ^ (count - 8)
+  pub bytes_are : low_bytes count (low + high * 2 ^ 64) ≡ bytes

@@ -5,7 +5,7 @@
 --
 -- One departure: the length counts modulo 2 ^ 64, and what is counted chooses between the two forms
 -- of step 1, so 2 ^ 64 to 2 ^ 64 + 31 bytes have the form of short inputs.
-use Rattle.std.specs.Prelude.{◌≡◌, ℕ, ◌%◌, ◌^◌, List, [], ◌++◌, length, map, nat_lt, ◌==◌, if◌then◌else◌}
+use Rattle.std.specs.Prelude.{◌≡◌, ℕ, ◌-◌, ◌%◌, ◌^◌, List, [], ◌∷◌, ◌++◌, length, map, nat_lt, slice_index, ◌==◌, if◌then◌else◌}
 use Rattle.std.specs.List.{fold}
 use Rattle.sketch_base.specs.Bytes.{le}
 use Rattle.sketch_hash.specs.Words.{plus, minus, times, xor, rotate, xor_shift}
@@ -160,3 +160,26 @@ xxh64_answer state = finalize state.folded.0 state.folded.1 state.total state.wa
 -- the state is that of a hasher with the seed to which the bytes were written, in any pieces
 abbrev pub Xxh64Stands : State (ℕ × Lanes) → ℕ → List ℕ → Type 0
 Xxh64Stands state seed bytes = state ≡ xxh64_after (xxh64_start seed) bytes
+
+-- ---- the hasher's fields
+
+-- a list of four lanes
+abbrev pub lanes_of : List ℕ → Lanes
+lanes_of v = record {
+  v1 = slice_index v 0;
+  v2 = slice_index v 1;
+  v3 = slice_index v 2;
+  v4 = slice_index v 3;
+}
+
+-- the four words of a stripe
+abbrev pub stripe_words : List ℕ → List ℕ
+stripe_words stripe = word_at 0 stripe ∷ word_at 1 stripe ∷ word_at 2 stripe ∷ word_at 3 stripe ∷ []
+
+-- the state of a stream with a seed and these lanes
+abbrev pub lanes_state : ℕ → Lanes → ℕ → List ℕ → State (ℕ × Lanes)
+lanes_state seed v total waiting = record { folded = (seed, v); total = total; waiting = waiting }
+
+-- how many bytes the partial stripe lacks, if `count` bytes wait; 0 if none do
+abbrev pub missing : ℕ → ℕ
+missing count = (32 - count) % 32

@@ -1,6 +1,6 @@
-//! Hashing for sketches: hashers, columns of keys, values and the bytes that they feed, and seed
-//! hashes, as in [Apache DataSketches](https://datasketches.apache.org/). Only the text of a
-//! refused seed, and the clone of a value, take memory.
+//! Hashing for sketches, as in [Apache DataSketches](https://datasketches.apache.org/): hashers,
+//! columns of keys, values and the bytes that they feed, and seed hashes. Only the text of an error,
+//! and the clone of a value, take memory.
 
 mod columns;
 mod copy;
@@ -18,9 +18,7 @@ pub use self::seed::{check_seed_hash, compute_seed_hash};
 pub use self::value::Hash;
 pub use self::xxhash::{XxHash64, XxHash64State};
 
-/// The seed of the hashes that update a sketch, 9001.
-///
-/// Two sketches can be merged only where they hash with one seed.
+/// The default seed of the hashes that update a sketch. Only sketches with the same seed can be merged.
 pub const DEFAULT_UPDATE_SEED: u64 = 9001;
 
 const _: () = prove!(DEFAULT_UPDATE_SEED == 9001);

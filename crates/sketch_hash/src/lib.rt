@@ -1,4 +1,4 @@
-//! The hashes that sketches stand on: MurmurHash3 x64 128 and XXH64, proved to answer their plain
+//! The hashes that sketches use, MurmurHash3 x64 128 and XXH64, proved to equal their written
 //! definitions.
 #![tactic(auto)]
 

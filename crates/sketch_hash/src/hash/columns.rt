@@ -7,11 +7,11 @@ ghost use Rattle.sketch_hash.specs.Xxh64.{xxh64};
 use super::murmurhash::MurmurHash3X64128;
 use super::xxhash::{XxHash64, hash_one_of_many};
 
-/// An offset into the bytes of a column: `u32`, `u64`, or a type of one's own.
+/// An offset into the bytes of a column: `u32`, `u64`, or a custom type.
 pub trait Offset: Copy {
     ghost place: { Self → ℕ };
 
-    /// How many bytes of the column stand before the offset.
+    /// How many bytes of the column are before the offset.
     fn place(self) -> usize
         ensures { result ≡ place self };
 }
@@ -37,11 +37,11 @@ impl Offset for u64 {
 impl XxHash64 {
     /// The 64-bit hash of each key of a column under a seed, each at its place of `out`.
     ///
-    /// The column has as many keys as `out` has places, and one offset more; further ones are not
-    /// read. A column of no keys may have no offsets. The key at a place is the bytes of `bytes`
-    /// from the offset there, which may be above 0 at the first, up to the next offset, as Apache
-    /// Arrow lays strings out. Arrow's offsets are signed: a negative one, read as unsigned, is at
-    /// least 2^31 or 2^63, so past the end of all shorter columns.
+    /// Key i is the bytes from offset i up to offset i + 1, as Apache Arrow lays out strings. The
+    /// first offset may be above 0. The column has as many keys as `out` has places, and one offset
+    /// more; further offsets are not read. A column without keys may have no offsets. Arrow's offsets
+    /// are signed: a negative one, read as unsigned, is at least 2^31 or 2^63, which is past the end
+    /// of all shorter columns.
     ///
     /// # Errors
     ///
@@ -69,8 +69,7 @@ impl XxHash64 {
     ///
     /// # Errors
     ///
-    /// Returns how many numbers there are if they are fewer than the places. `out` is then
-    /// unchanged.
+    /// Returns the number of values if `out` has more places. `out` is then unchanged.
     #[inline(always)]
     pub fn hash_each_u64(input: &[u64], seed: u64, out: &mut [u64]) -> Result<(), usize>
         ensures { HashesEachNumber (xxh64 seed) input.now out.old out.new result }
@@ -93,7 +92,8 @@ impl MurmurHash3X64128 {
     ///
     /// # Errors
     ///
-    /// The same as of [`XxHash64::hash_each`].
+    /// Returns the index of the first offset that is missing, is past the end of `bytes`, or is
+    /// below the offset before it. `out` is then unchanged.
     #[inline(always)]
     pub fn hash_each<O: Offset>(
         bytes: &[u8],
@@ -115,7 +115,7 @@ impl MurmurHash3X64128 {
 
 /// Checks the offsets of a column of this many keys, laid out as for [`XxHash64::hash_each`].
 ///
-/// Any number of keys may be asked for, also the greatest `usize`: nothing is added to it.
+/// `keys` may be any number, also `usize::MAX`: nothing is added to it.
 ///
 /// # Errors
 ///
@@ -137,7 +137,7 @@ pub fn check_offsets<O: Offset>(bytes: &[u8], offsets: &[O], keys: usize) -> Res
     Ok(())
 }
 
-// The offset at a place, which may not be below the last one.
+// Checks the offset at index `i`, which must not be below the last one, and returns its place.
 #[inline(always)]
 fn check_offset<O: Offset>(
     bytes: &[u8],
@@ -160,7 +160,7 @@ fn check_offset<O: Offset>(
     Ok(place)
 }
 
-// The bytes of the key at a place of a column.
+// The bytes of key `i`.
 #[inline(always)]
 fn key_at<'a, O: Offset>(bytes: &'a [u8], offsets: &[O], i: usize) -> &'a [u8]
     requires start { IsBound bytes.now (map O.place offsets.now) i }

@@ -1,9 +1,9 @@
-//! Bytes copied into a stripe or a block.
+//! Copies of a few bytes into a stripe or a block.
 
 ghost use Rattle.std.specs.Prelude.{◌≡◌, ◌+◌, ◌<◌, ◌≤◌, ◌++◌, length, take, drop};
 
-/// Writes bytes at a place. A `copy_from_slice` of any length is a call of `memcpy`, with which
-/// XXH64's writes of 1 to 100 bytes take a sixth to a third longer.
+/// Copies at most 32 bytes to `buffer[at..]`. A `copy_from_slice` of unknown length is a call of
+/// `memcpy`, which makes XXH64's writes of 1 to 100 bytes 17 to 33 % slower.
 #[inline(always)]
 pub(crate) fn copy_small(buffer: &mut [u8], at: usize, bytes: &[u8])
     requires within { at + length bytes.now ≤ length buffer.old }
@@ -19,7 +19,7 @@ pub(crate) fn copy_small(buffer: &mut [u8], at: usize, bytes: &[u8])
     }
 }
 
-// The same of one to seven bytes.
+// Copies one to seven bytes to `buffer[at..]`.
 #[inline(always)]
 fn copy_tiny(buffer: &mut [u8], at: usize, bytes: &[u8])
     requires within { at + length bytes.now ≤ length buffer.old }
@@ -35,9 +35,9 @@ fn copy_tiny(buffer: &mut [u8], at: usize, bytes: &[u8])
     }
 }
 
-// The same by two copies, of the first K bytes and of the last.
+// Copies K to 2 K bytes to `buffer[at..]`: first the first K bytes, then the last K.
 #[inline(always)]
-#[tactic(auto, using(crate::proofs::BufferLemmas::overlapped))]
+#[tactic(auto, using(crate::proofs::BufferLemmas::for_copy_overlapping))]
 fn copy_overlapping<const K: usize>(buffer: &mut [u8], at: usize, bytes: &[u8])
     requires low { K ≤ length bytes.now }
     requires high { length bytes.now ≤ K + K }
@@ -50,7 +50,7 @@ fn copy_overlapping<const K: usize>(buffer: &mut [u8], at: usize, bytes: &[u8])
     copy_array::<K>(&mut buffer[at + count - K..at + count], &bytes[count - K..]);
 }
 
-// A copy of an array is one move, where `copy_from_slice` is a loop.
+// Copies K bytes. The copy of an array is one move; `copy_from_slice` is a loop.
 #[inline(always)]
 fn copy_array<const K: usize>(place: &mut [u8], bytes: &[u8])
     requires place { length place.old ≡ K }

@@ -8,11 +8,11 @@ ghost use Rattle.sketch_hash.specs.Pieces.{State};
 ghost use Rattle.sketch_hash.specs.Murmur.{mix1, mix2, fmix, cross, step, with_tail, finalize, block_words, murmur, murmur_after, murmur_answer, MurmurStands};
 ghost use Rattle.sketch_hash.specs.PiecesWriteLemmas.{murmur_after-append, murmur_after-empty};
 
+mod numbers;
 mod state;
-mod tail;
 
+use self::numbers::{join_words, place_after, read_partial_le, read_partial_words, split_words};
 pub use self::state::MurmurState;
-use self::tail::{join_words, place_behind, read_partial_le, read_partial_words, split_words};
 use super::DEFAULT_UPDATE_SEED;
 use super::hasher::Hasher;
 use super::words::{read_u128_le, rotate, split_pieces, xor_shift};
@@ -46,14 +46,14 @@ impl Model for MurmurHash3X64128 {
       waiting = low_bytes h.count (h.low + h.high * 2 ^ 64);
     } };
 
-    // As many bytes wait as the total has beyond its whole blocks. The first eight of them are in
-    // `low`, those after them in `high`, absent ones as zeros.
+    // The bytes after the last full block wait: the first eight in `low`, those after them in `high`.
+    // Absent bytes are zeros.
     ghost invariant = { λ h. (h.count ≡ h.total % 16)
         × (h.low < 256 ^ min h.count 8) × (h.high < 256 ^ (h.count - 8)) };
 }
 
 impl MurmurHash3X64128 {
-    /// A hasher with a seed, and no bytes.
+    /// A hasher with this seed, and no bytes.
     #[inline(always)]
     #[tactic(auto, unfolding(crate::specs::Murmur::murmur_after))]
     pub fn with_seed(seed: u64) -> Self
@@ -71,22 +71,22 @@ impl MurmurHash3X64128 {
 
     /// The 128-bit hash of all bytes so far, as its first and its second word.
     #[inline(always)]
-    #[tactic(auto, using(crate::proofs::MurmurLemmas::answered))]
+    #[tactic(auto, using(crate::proofs::MurmurAnswers::for_finish128))]
     pub fn finish128(&self) -> (u64, u64)
         ensures answer { result ≡ murmur_answer self.now }
         ensures stands { (seed : ℕ) (bytes : List ℕ) → MurmurStands self.now seed bytes →
             result ≡ murmur seed bytes }
     {
-        finalize_hasher(
+        finalize_unvectorized(
             self.h1 ^ mix1(self.low),
             self.h2 ^ mix2(self.high),
             self.total,
         )
     }
 
-    /// A 128-bit hash as its 16 bytes lie in memory, which other tools print: each word's lowest
-    /// byte first.
-    #[tactic(auto, using(crate::proofs::BufferLemmas::block_bytes))]
+    /// The 16 bytes of a 128-bit hash in the order that the reference code leaves in memory and other
+    /// tools print: each word's lowest byte first.
+    #[tactic(auto, using(crate::proofs::MurmurWrites::block_bytes))]
     pub fn bytes_of(hash: (u64, u64)) -> [u8; 16]
         ensures { result ≡ low_bytes 16 (hash.0 + hash.1 * 2 ^ 64) }
     {
@@ -105,46 +105,47 @@ impl MurmurHash3X64128 {
         finalize(h1, h2, bytes.len() as u64)
     }
 
-    // Takes bytes that fill no block, and their number.
+    // Appends bytes to the partial block, which stays partial. `number` is their little-endian number.
     #[inline(always)]
-    #[tactic(auto, using(crate::proofs::MurmurLemmas::buffered))]
-    fn buffer_bytes(&mut self, bytes: &[u8], number: u128)
+    #[tactic(auto, using(crate::proofs::MurmurWrites::for_write_within))]
+    fn write_within(&mut self, bytes: &[u8], number: u128)
         requires number { number ≡ le bytes.now }
         requires few { length self.old.waiting + length bytes.now < 16 }
         ensures { self.new ≡ murmur_after self.old bytes.now }
     {
-        (self.low, self.high) = place_behind(self.low, self.high, self.count, number);
+        (self.low, self.high) = place_after(self.low, self.high, self.count, number);
         self.total = self.total.wrapping_add(bytes.len() as u64);
         self.count += bytes.len();
     }
 
-    // Takes fewer bytes than a block has, and their number, which fill the block that is begun.
+    // Completes the partial block, and goes on after it. `number` is the little-endian number of the
+    // bytes, which are fewer than a block.
     #[inline(always)]
-    #[tactic(auto, using(crate::proofs::MurmurLemmas::completed))]
+    #[tactic(auto, using(crate::proofs::MurmurWrites::for_complete_block))]
     fn complete_block(&mut self, bytes: &[u8], number: u128)
         requires number { number ≡ le bytes.now }
         requires few { length bytes.now < 16 }
         requires enough { 16 ≤ length self.old.waiting + length bytes.now }
         ensures { self.new ≡ murmur_after self.old bytes.now }
     {
-        let (k1, k2) = place_behind(self.low, self.high, self.count, number);
+        let (k1, k2) = place_after(self.low, self.high, self.count, number);
         (self.h1, self.h2) = step(self.h1, self.h2, k1, k2);
-        // Without the bytes that went into the block.
+        // The shift drops the bytes that are in the block.
         (self.low, self.high) = split_words(number >> (8 * (BLOCK - self.count)));
         self.total = self.total.wrapping_add(bytes.len() as u64);
         self.count = self.count + bytes.len() - BLOCK;
     }
 
-    // Takes at least as many bytes as a block has: all blocks but the first straight from the
-    // slice.
+    // Appends a block's bytes or more. The first block completes the waiting bytes; the others are
+    // folded straight from the slice.
     #[inline(always)]
-    #[tactic(auto, using(crate::proofs::MurmurLemmas::in_blocks))]
+    #[tactic(auto, using(crate::proofs::MurmurWrites::for_write_blocks))]
     fn write_blocks(&mut self, bytes: &[u8])
         requires { 16 ≤ length bytes.now }
         ensures { self.new ≡ murmur_after self.old bytes.now }
     {
-        let front = read_u128_le(&bytes[..BLOCK]);
-        let (k1, k2) = place_behind(self.low, self.high, self.count, front);
+        let first = read_u128_le(&bytes[..BLOCK]);
+        let (k1, k2) = place_after(self.low, self.high, self.count, first);
         let (h1, h2) = step(self.h1, self.h2, k1, k2);
         let (blocks, last) = split_pieces::<BLOCK>(&bytes[BLOCK - self.count..]);
         (self.h1, self.h2) = fold_blocks(h1, h2, blocks);
@@ -157,7 +158,7 @@ impl MurmurHash3X64128 {
 impl Default for MurmurHash3X64128 {
     ghost is_default = { λ h. MurmurStands h 9001 [] };
 
-    /// A hasher with the seed of sketch updates, [`DEFAULT_UPDATE_SEED`].
+    /// A hasher with [`DEFAULT_UPDATE_SEED`], the seed of sketch updates.
     #[inline(always)]
     fn default() -> Self {
         MurmurHash3X64128::with_seed(DEFAULT_UPDATE_SEED)
@@ -180,7 +181,7 @@ impl Hasher for MurmurHash3X64128 {
     ghost answer = { λ h. (murmur_answer h).0 };
 
     #[inline(always)]
-    #[tactic(auto, using(crate::proofs::MurmurLemmas::partial))]
+    #[tactic(auto, using(crate::proofs::MurmurWrites::for_write))]
     fn write(&mut self, bytes: &[u8])
         ensures after { self.new ≡ murmur_after self.old bytes.now }
         ensures stands { (seed : ℕ) (before : List ℕ) → MurmurStands self.old seed before →
@@ -189,7 +190,7 @@ impl Hasher for MurmurHash3X64128 {
         if bytes.len() < BLOCK {
             let number = read_partial_le(bytes);
             if self.count + bytes.len() < BLOCK {
-                self.buffer_bytes(bytes, number);
+                self.write_within(bytes, number);
             } else {
                 self.complete_block(bytes, number);
             }
@@ -230,8 +231,7 @@ fn mix2(k2: u64) -> u64
     rotate::<33>(k2.wrapping_mul(C2)).wrapping_mul(C1)
 }
 
-// A word of a block. It is copied: where it is read in place, LLVM's loop over blocks takes a tenth
-// longer.
+// A word of a block. It is copied: if it is read in place, LLVM's loop over blocks is 10 % slower.
 #[inline(always)]
 fn block_word(bytes: &[u8]) -> u64
     requires { length bytes.now ≡ 8 }
@@ -244,10 +244,10 @@ fn block_word(bytes: &[u8]) -> u64
 
 // The pair after one block of the words `k1` and `k2`.
 //
-// The second word needs the first, whose last step adds a constant. It takes the first from before
-// that sum, and adds five times the constant at its own end, so it need not wait for the sum.
+// h2 depends on h1. Using h1 before its constant is added, and adding five times that constant to h2
+// at the end, takes one addition off the critical path.
 #[inline(always)]
-#[tactic(auto, using(crate::proofs::MurmurLemmas::stepped))]
+#[tactic(auto, using(crate::proofs::MurmurAnswers::for_step))]
 fn step(h1: u64, h2: u64, k1: u64, k2: u64) -> (u64, u64)
     ensures { result ≡ step (h1, h2) (k1, k2) }
 {
@@ -269,9 +269,9 @@ fn fold_blocks(h1: u64, h2: u64, blocks: &[[u8; BLOCK]]) -> (u64, u64)
     })
 }
 
-// The pair after the tail. A word of it that has no bytes would change nothing.
+// The pair after the tail. A word of the tail without bytes changes nothing, so it is left out.
 #[inline(always)]
-#[tactic(auto, using(crate::proofs::MurmurLemmas::tails))]
+#[tactic(auto, using(crate::proofs::MurmurAnswers::for_mix_tail))]
 fn mix_tail(h1: u64, h2: u64, tail: &[u8]) -> (u64, u64)
     requires { length tail.now < 16 }
     ensures { result ≡ with_tail (h1, h2) tail.now }
@@ -296,7 +296,7 @@ fn fmix(word: u64) -> u64
     xor_shift(twice, 33)
 }
 
-// The first word takes the sum of both, and then the second does.
+// Adds the second word to the first, and then the first to the second.
 #[inline(always)]
 fn cross(h1: u64, h2: u64) -> (u64, u64)
     ensures { result ≡ cross (h1, h2) }
@@ -305,7 +305,7 @@ fn cross(h1: u64, h2: u64) -> (u64, u64)
     (h1, h2.wrapping_add(h1))
 }
 
-// The hash of `total` bytes, from the pair that their blocks and their tail left.
+// The hash of `total` bytes, from the pair after their blocks and their tail.
 #[inline(always)]
 #[tactic(auto, unfolding(crate::specs::Murmur::finalize), using(crate::proofs::WordLemmas::xors))]
 fn finalize(h1: u64, h2: u64, total: u64) -> (u64, u64)
@@ -315,12 +315,12 @@ fn finalize(h1: u64, h2: u64, total: u64) -> (u64, u64)
     cross(fmix(h1), fmix(h2))
 }
 
-// The same where a hasher is inlined. With the test LLVM makes no vector code of a caller's loop
-// over keys of 8 bytes: there a multiplication of 64 bits is three, which takes a third longer. In
-// one call the test would cost keys of 1 to 8 bytes a tenth.
+// `finalize` with a branch that changes nothing, as `fmix(0)` is 0. It keeps LLVM from vectorizing a
+// caller's loop over keys of 8 bytes, which is a third slower without AVX-512. `hash` does without:
+// there the branch makes keys of 1 to 8 bytes 10 % slower.
 #[inline(always)]
-#[tactic(auto, unfolding(crate::specs::Murmur::finalize), using(crate::proofs::MurmurLemmas::ends))]
-fn finalize_hasher(h1: u64, h2: u64, total: u64) -> (u64, u64)
+#[tactic(auto, unfolding(crate::specs::Murmur::finalize), using(crate::proofs::MurmurAnswers::for_finalize_unvectorized))]
+fn finalize_unvectorized(h1: u64, h2: u64, total: u64) -> (u64, u64)
     ensures { result ≡ finalize (h1, h2) total }
 {
     let (h1, h2) = cross(h1 ^ total, h2 ^ total);

@@ -1,5 +1,5 @@
-//! The 16-bit hash of a seed. Sketches with different seed hashes were made with different seeds;
-//! equal seed hashes do not show that the seeds are equal.
+//! The 16-bit hash of a seed. Sketches with different seed hashes have different seeds. Equal seed
+//! hashes do not show that the seeds are equal.
 
 ghost use Rattle.std.specs.Prelude.{◌≡◌, ◌≢◌, MatchResult};
 ghost use Rattle.sketch_base.specs.Refusals.{Refuses};
@@ -17,8 +17,8 @@ use std::alloc::Global;
 ///
 /// # Errors
 ///
-/// Exactly if the seed hash is zero: of kind `error_kind`, or `OutOfMemory` with no message if
-/// memory for the text runs out.
+/// Returns an error of kind `error_kind` if the seed hash is zero, or of kind `OutOfMemory` with an
+/// empty message if there is no memory for the text.
 pub fn compute_seed_hash(alloc: Global, seed: u64, error_kind: ErrorKind) -> Result<u16, Error>
     ensures { MatchResult result
         (λ hash. (hash ≡ seed_hash seed) × (hash ≢ 0))
@@ -39,8 +39,8 @@ pub fn compute_seed_hash(alloc: Global, seed: u64, error_kind: ErrorKind) -> Res
 ///
 /// # Errors
 ///
-/// At any other: of kind `kind`, with `name`, the sketch's, in its text; or `OutOfMemory` with no
-/// message if memory for the text runs out.
+/// Returns an error of kind `kind` for any other, with the sketch's `name` in its text, or of kind
+/// `OutOfMemory` with an empty message if there is no memory for the text.
 pub fn check_seed_hash(
     alloc: Global,
     expected: u16,

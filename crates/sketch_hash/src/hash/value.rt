@@ -1,8 +1,8 @@
-//! Values, and the bytes that they feed to a hasher. These do not depend on the machine, so that
+//! Values, and the bytes that they feed to a hasher. The bytes do not depend on the machine, so
 //! sketches in other languages can feed the same.
 //!
 //! * [`natural_extend`]: integers as eight bytes, by their value.
-//! * [`sign_extend`]: integers as eight bytes, their highest bit taken for a sign.
+//! * [`sign_extend`]: integers as eight bytes, with the highest bit taken as a sign.
 //! * [`raw_bytes`]: bytes and text as they are, with no length and no end mark.
 
 pub mod natural_extend;
@@ -26,12 +26,12 @@ use std::ops::{Deref, DerefMut};
 pub trait Hash {
     ghost fed: { Self → List ℕ };
 
-    /// Feeds the value's bytes, in one write or several.
+    /// Feeds the value's bytes, in one or several writes.
     fn hash<H: Hasher>(&self, state: &mut H)
         ensures { state.new ≡ H.after state.old (fed self.now) };
 
-    /// `Some(n)` where the value feeds just the eight bytes of `n`, the lowest first; a type may
-    /// always return `None`. So a caller that hashes the value under many seeds reads it once.
+    /// `Some(n)` if the value feeds the eight little-endian bytes of `n`. A type may always return
+    /// `None`. A caller that hashes the value under several seeds reads it only once by this.
     #[inline(always)]
     fn word(&self) -> Option<u64>
         ensures { IfSome result (λ n. fed self.now ≡ eight n) }
@@ -39,10 +39,10 @@ pub trait Hash {
         None
     }
 
-    /// XXH64 of the value's bytes under a seed. A type whose bytes lie in one place can answer it
-    /// by [`XxHash64::hash`], which takes less time than a hasher.
+    /// XXH64 of the value's bytes under a seed. A type whose bytes are contiguous can implement it by
+    /// [`XxHash64::hash`], which is faster than a hasher.
     #[inline(always)]
-    #[tactic(auto, using(crate::proofs::Xxh64Lemmas::of_one_write))]
+    #[tactic(auto, using(crate::proofs::Xxh64Answers::of_one_write))]
     fn xxh64(&self, seed: u64) -> u64
         ensures { result ≡ xxh64 seed (fed self.now) }
     {
@@ -55,16 +55,16 @@ pub trait Hash {
     }
 }
 
-/// A way to feed values of the type `T`, under which equal values feed equal bytes.
+/// A way to feed values of the type `T`. Equal values feed equal bytes.
 pub trait HashStrategy<T: Eq> {
     ghost fed: { T → List ℕ };
 
-    /// Feeds the value's bytes, in one write or several.
+    /// Feeds the value's bytes, in one or several writes.
     fn hash<H: Hasher>(value: &T, state: &mut H)
         ensures { state.new ≡ H.after state.old (fed value.now) };
 
-    /// `Some(n)` where the value feeds just the eight bytes of `n`, the lowest first; a strategy
-    /// may always return `None`.
+    /// `Some(n)` if the value feeds the eight little-endian bytes of `n`. A strategy may always
+    /// return `None`.
     #[inline(always)]
     fn word(value: &T) -> Option<u64>
         ensures { IfSome result (λ n. fed value.now ≡ eight n) }
@@ -74,7 +74,7 @@ pub trait HashStrategy<T: Eq> {
 
     /// XXH64 of the value's bytes under a seed.
     #[inline(always)]
-    #[tactic(auto, using(crate::proofs::Xxh64Lemmas::of_one_write))]
+    #[tactic(auto, using(crate::proofs::Xxh64Answers::of_one_write))]
     fn xxh64(value: &T, seed: u64) -> u64
         ensures { result ≡ xxh64 seed (fed value.now) }
     {
@@ -89,7 +89,7 @@ pub trait HashStrategy<T: Eq> {
     ghost respects_eq: { (x y : T) → IsTrue (T.eq x y) → fed x ≡ fed y };
 }
 
-/// A value that is fed to hashers by the strategy `S`. It compares, clones and prints as the value
+/// A value that is fed to hashers by the strategy `S`. It compares, clones and prints like the value
 /// itself, and dereferences to it.
 #[derive(Drop)]
 #[derive_where(Clone, Copy, PartialEq, Eq, PartialOrd, Ord; T)]
@@ -117,7 +117,7 @@ impl<T, S> Value<T, S> {
         }
     }
 
-    /// Gives the value back.
+    /// Unwraps the value.
     pub fn into_inner(self) -> T
         ensures { result ≡ self }
     {
@@ -186,12 +186,13 @@ impl<T: Eq, S: HashStrategy<T>> Hash for Value<T, S> {
     }
 }
 
-/// Equal values feed equal bytes, under every strategy. It does nothing: its contract is the law.
+/// Equal values feed equal bytes under every strategy. The function does nothing: its contract is the
+/// law.
 pub fn value_law<T: Eq, S: HashStrategy<T>>()
     ensures { (x y : T) → IsTrue (T.eq x y) → S.fed x ≡ S.fed y }
 {}
 
-/// Feeds the values in order, after whatever the hasher was fed before.
+/// Feeds the values in order.
 pub fn feed_all<T: Hash, H: Hasher>(values: &[T], state: &mut H)
     ensures fed { state.new ≡ H.after state.old (flat_map T.fed values.now) }
     ensures stands { (start : H) (before : List ℕ) → state.old ≡ H.after start before →
@@ -203,7 +204,7 @@ pub fn feed_all<T: Hash, H: Hasher>(values: &[T], state: &mut H)
 }
 
 /// The first word of MurmurHash3's hash of the value, under the seed of sketch updates.
-#[tactic(auto, using(crate::proofs::MurmurLemmas::of_one_write))]
+#[tactic(auto, using(crate::proofs::MurmurAnswers::of_one_write))]
 pub fn calculate_hash<T: Hash + Drop>(t: T) -> u64
     ensures { result ≡ (murmur 9001 (T.fed t)).0 }
 {

@@ -1,4 +1,7 @@
 //! Arithmetic of 64-bit words, words read from bytes, and bytes cut into pieces.
+//!
+//! A word is read in place by `as_array`, which is never `None` here. The 16 bytes of a block are
+//! copied, since the library has no words of 128 bits for `as_array` to give.
 
 ghost use Rattle.std.specs.Prelude.{◌≡◌, ◌^◌, ◌<◌, length};
 ghost use Rattle.sketch_base.specs.Bytes.{le};
@@ -52,7 +55,7 @@ pub(crate) fn xor_shift(word: u64, places: u32) -> u64
 /// A word rotated to the left.
 ///
 /// Next to a multiplication LLVM turns a shift of the rotation into a second multiplication. In a
-/// function of its own, and with a constant number of places, it sees the rotation first.
+/// separate function, with a constant number of places, it recognizes the rotation first.
 #[tactic(auto, using(crate::proofs::WordLemmas::rotation))]
 pub(crate) fn rotate<const PLACES: u32>(word: u64) -> u64
     requires above { 0 < PLACES }
@@ -62,7 +65,7 @@ pub(crate) fn rotate<const PLACES: u32>(word: u64) -> u64
     word.rotate_left(PLACES)
 }
 
-/// The whole pieces of `WIDTH` bytes, and the bytes after them.
+/// The full pieces of `WIDTH` bytes, and the bytes after them.
 #[inline(always)]
 #[tactic(auto, using(crate::proofs::PiecesLemmas::cut))]
 pub(super) fn split_pieces<const WIDTH: usize>(bytes: &[u8]) -> (&[[u8; WIDTH]], &[u8])

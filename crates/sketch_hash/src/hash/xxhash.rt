@@ -6,17 +6,18 @@ ghost use Rattle.std.specs.List.{fold};
 ghost use Rattle.sketch_base.specs.Bytes.{eight};
 ghost use Rattle.sketch_hash.specs.Pieces.{State, pieces};
 ghost use Rattle.sketch_hash.specs.Words.{plus};
-ghost use Rattle.sketch_hash.specs.Xxh64.{Lanes, prime5, lanes_start, merge, tail_step, steps, avalanche, xxh64, xxh64_after, xxh64_answer, Xxh64Stands, each_lane};
-ghost use Rattle.sketch_hash.specs.Held.{lanes_of, state_of};
+ghost use Rattle.sketch_hash.specs.Xxh64.{Lanes, lanes_of, lanes_start, merge, missing, tail_step, steps, avalanche, xxh64, xxh64_after, xxh64_answer, Xxh64Stands, each_lane};
 ghost use Rattle.sketch_hash.specs.PiecesWriteLemmas.{xxh64_after-append, xxh64_after-empty};
 
 mod lanes;
 mod state;
+mod steps;
 mod tail;
 
-use self::lanes::{ScalarLanes, fold_run, fold_stripes, merge, vector_round};
+use self::lanes::{ScalarLanes, consume, fold_run, fold_stripes, merge, vector_round};
 pub use self::state::XxHash64State;
-use self::tail::{avalanche, eight_step, fold_below_16, fold_from_16, fold_tail};
+use self::steps::{PRIME5, avalanche, eight_step};
+use self::tail::{fold_below_16, fold_from_16, fold_tail};
 use super::copy::copy_small;
 use super::hasher::Hasher;
 use super::words::split_pieces;
@@ -24,30 +25,20 @@ use std::fmt;
 use std::marker::Model;
 use std::simd::prelude::*;
 
-// The five primes.
-
-const PRIME1: u64 = 0x9E37_79B1_85EB_CA87;
-
-const PRIME2: u64 = 0xC2B2_AE3D_27D4_EB4F;
-
-const PRIME3: u64 = 0x1656_67B1_9E37_79F9;
-
-const PRIME4: u64 = 0x85EB_CA77_C2B2_AE63;
-
-const PRIME5: u64 = 0x27D4_EB2F_1656_67C5;
-
 const STRIPE: usize = 32;
 
 const TWO_STRIPES: usize = 2 * STRIPE;
 
 /// XXH64: a fast hash of 64 bits for data that no adversary chooses.
 ///
-/// The number of bytes is counted modulo 2^64, and the count chooses between the forms of the hash
-/// for inputs of fewer than 32 bytes and for longer ones. So an input of 2^64 to 2^64 + 31 bytes
-/// has the form for short ones.
+/// The number of bytes counts modulo 2^64. The count chooses between the two forms of the hash, for
+/// inputs of fewer than 32 bytes and for longer ones, so an input of 2^64 to 2^64 + 31 bytes has the
+/// short form.
 #[derive(Drop)]
 pub struct XxHash64 {
     seed: u64,
+    // One SIMD vector. Only `vector_round` computes with it: processors before AVX-512 multiply four
+    // words faster, so all other paths convert it to `ScalarLanes` and back.
     lanes: u64x4,
     total: u64,
     buffer: [u8; STRIPE],
@@ -67,7 +58,7 @@ impl Model for XxHash64 {
 }
 
 impl XxHash64 {
-    /// A hasher with a seed, and no bytes.
+    /// A hasher with this seed, and no bytes.
     #[inline(always)]
     #[tactic(auto, unfolding(crate::specs::Xxh64::xxh64_after))]
     pub fn with_seed(seed: u64) -> Self
@@ -84,7 +75,7 @@ impl XxHash64 {
 
     /// The 64-bit hash of all bytes so far.
     #[inline(always)]
-    #[tactic(auto, using(crate::proofs::Xxh64Lemmas::answers))]
+    #[tactic(auto, using(crate::proofs::Xxh64Answers::for_finish64))]
     pub fn finish64(&self) -> u64
         ensures answer { result ≡ xxh64_answer self.now }
         ensures stands { (seed : ℕ) (bytes : List ℕ) → Xxh64Stands self.now seed bytes →
@@ -101,9 +92,9 @@ impl XxHash64 {
 
     /// The 64-bit hash of bytes under a seed, in one call.
     ///
-    /// It reads the bytes where they lie, which takes less time than a hasher for short keys.
+    /// It reads the bytes in place, which is faster than a hasher for short keys.
     #[inline(always)]
-    #[tactic(auto, using(crate::proofs::Xxh64Lemmas::of_short))]
+    #[tactic(auto, using(crate::proofs::Xxh64Answers::of_short))]
     pub fn hash(bytes: &[u8], seed: u64) -> u64
         ensures { result ≡ xxh64 seed bytes.now }
     {
@@ -118,18 +109,18 @@ impl XxHash64 {
 
     /// The 64-bit hash of the eight little-endian bytes of `input`, under a seed.
     #[inline(always)]
-    #[tactic(auto, using(crate::proofs::Xxh64Lemmas::eight_bytes))]
+    #[tactic(auto, using(crate::proofs::Xxh64Answers::for_hash_u64))]
     pub fn hash_u64(input: u64, seed: u64) -> u64
         ensures { result ≡ xxh64 seed (eight input) }
     {
         avalanche(eight_step(seed.wrapping_add(PRIME5).wrapping_add(8), input))
     }
 
-    // Takes bytes that fill no stripe. The fields are set after the copy: what was set before it
-    // LLVM would read again from memory, since it does not know where the copy goes.
+    // Appends bytes to the partial stripe, which stays partial. Sets the fields after the copy: LLVM
+    // cannot tell that the copy does not alias them, and would reload fields that were set before.
     #[inline(always)]
-    #[tactic(auto, using(crate::proofs::BufferLemmas::buffered))]
-    fn buffer_bytes(&mut self, bytes: &[u8])
+    #[tactic(auto, using(crate::proofs::Xxh64Writes::for_write_within))]
+    fn write_within(&mut self, bytes: &[u8])
         requires { length self.old.waiting + length bytes.now < 32 }
         ensures { self.new ≡ xxh64_after self.old bytes.now }
     {
@@ -140,10 +131,10 @@ impl XxHash64 {
         self.total = total;
     }
 
-    // Takes the bytes that fill the stripe that is begun.
+    // Appends the bytes that complete the partial stripe, and folds it.
     #[inline(always)]
-    #[tactic(auto, using(crate::proofs::BufferLemmas::completed))]
-    fn complete_stripe(&mut self, bytes: &[u8])
+    #[tactic(auto, using(crate::proofs::Xxh64Writes::for_write_to_the_end))]
+    fn write_to_the_end(&mut self, bytes: &[u8])
         requires short { length self.old.waiting < 32 }
         requires fills { length self.old.waiting + length bytes.now ≡ 32 }
         ensures { self.new ≡ xxh64_after self.old bytes.now }
@@ -155,11 +146,11 @@ impl XxHash64 {
         self.lanes = vector_round(self.lanes, &self.buffer);
     }
 
-    // Takes whole stripes straight from the slice, and then the bytes after them, where no byte
-    // waits. Here too the fields are set after the copy.
+    // Folds full stripes straight from the slice, as no stripe is partial, and buffers the bytes
+    // after them. Sets the fields after the copy, which LLVM cannot tell from an alias of them.
     #[inline(always)]
-    #[tactic(auto, using(crate::proofs::BufferLemmas::fresh))]
-    fn consume_stripes(&mut self, bytes: &[u8])
+    #[tactic(auto, using(crate::proofs::Xxh64Writes::for_write_aligned))]
+    fn write_aligned(&mut self, bytes: &[u8])
         requires { length self.old.waiting ≡ 0 }
         ensures { self.new ≡ xxh64_after self.old bytes.now }
     {
@@ -172,12 +163,12 @@ impl XxHash64 {
         self.lanes = lanes.into_vector();
     }
 
-    // Takes bytes that go beyond the stripe that is begun. The lanes are moved from the vector to
-    // four words once. The count is set before, so that it needs no register in between.
+    // Completes the partial stripe, and goes on after it. Converts the lanes to four words once, and
+    // sets the count first, so that it needs no register in between.
     #[inline(never)]
-    fn complete_and_consume(&mut self, bytes: &[u8])
+    fn write_across(&mut self, bytes: &[u8])
         requires short { length self.old.waiting < 32 }
-        requires fills { (32 - length self.old.waiting) % 32 ≤ length bytes.now }
+        requires fills { missing (length self.old.waiting) ≤ length bytes.now }
         ensures { self.new ≡ xxh64_after self.old bytes.now }
     {
         let count = self.count;
@@ -188,55 +179,10 @@ impl XxHash64 {
     }
 }
 
-// Takes the lanes through bytes that come after `count` bytes of `buffer`: those that complete
-// the stripe that is begun, then whole stripes straight from the slice. The last bytes, which fill
-// no stripe, go to the front of `buffer`.
-//
-// The last bytes are stored before the run of stripes: the next write reads them, and a processor
-// is slow to read what it has just stored.
-#[inline(always)]
-#[tactic(auto, using(crate::proofs::BufferLemmas::through))]
-fn consume(lanes: ScalarLanes, buffer: &mut [u8; STRIPE], count: usize, bytes: &[u8]) -> ScalarLanes
-    requires short { count < 32 }
-    requires fills { (32 - count) % 32 ≤ length bytes.now }
-    ensures { (seed total : ℕ) → total < 2 ^ 64 →
-        xxh64_after (state_of seed lanes total (take count buffer.old)) bytes.now
-        ≡ state_of seed result ((total + length bytes.now) % 2 ^ 64)
-        (take ((count + length bytes.now) % 32) buffer.new) }
-{
-    let missing = (STRIPE - count) % STRIPE;
-    let (front, behind) = bytes.split_at(missing);
-    let mut lanes = complete(lanes, buffer, count, front);
-    let (stripes, last) = split_pieces::<STRIPE>(behind);
-    copy_small(buffer, 0, last);
-    fold_stripes(&mut lanes, stripes);
-    lanes
-}
-
-// The lanes after the stripe that `front` fills, where one is begun.
-#[inline(always)]
-#[tactic(auto, using(crate::proofs::BufferLemmas::first_stripe))]
-fn complete(
-    mut lanes: ScalarLanes,
-    buffer: &mut [u8; STRIPE],
-    count: usize,
-    front: &[u8],
-) -> ScalarLanes
-    requires short { count < 32 }
-    requires fills { length front.now ≡ (32 - count) % 32 }
-    ensures { result ≡ each_lane lanes (pieces 32 (take count buffer.old ++ front.now)) }
-{
-    if !front.is_empty() {
-        copy_small(buffer, count, front);
-        lanes.stripe_round(buffer);
-    }
-    lanes
-}
-
 impl Default for XxHash64 {
     ghost is_default = { λ h. Xxh64Stands h 0 [] };
 
-    /// A hasher with the seed 0.
+    /// A hasher with seed 0.
     #[inline(always)]
     fn default() -> Self {
         XxHash64::with_seed(0)
@@ -259,7 +205,7 @@ impl Hasher for XxHash64 {
     ghost answer = { xxh64_answer };
 
     #[inline(always)]
-    #[tactic(auto, using(crate::proofs::Xxh64Lemmas::written_after))]
+    #[tactic(auto, using(crate::proofs::Xxh64Answers::written_after))]
     fn write(&mut self, bytes: &[u8])
         ensures after { self.new ≡ xxh64_after self.old bytes.now }
         ensures stands { (seed : ℕ) (before : List ℕ) → Xxh64Stands self.old seed before →
@@ -267,13 +213,17 @@ impl Hasher for XxHash64 {
     {
         let missing = STRIPE - self.count;
         if bytes.len() < missing {
-            self.buffer_bytes(bytes);
+            // The stripe stays partial.
+            self.write_within(bytes);
         } else if missing == STRIPE {
-            self.consume_stripes(bytes);
+            // No stripe is partial: no byte of a full one is copied.
+            self.write_aligned(bytes);
         } else if bytes.len() == missing {
-            self.complete_stripe(bytes);
+            // The stripe becomes full.
+            self.write_to_the_end(bytes);
         } else {
-            self.complete_and_consume(bytes);
+            // The stripe becomes full, and bytes follow it.
+            self.write_across(bytes);
         }
     }
 
@@ -291,10 +241,10 @@ impl Hasher for XxHash64 {
     ghost empty_write = { xxh64_after-empty };
 }
 
-/// The hash of one key of many. Long keys are hashed in line too, and the last words go through a
-/// loop, of whose branches processors mispredict fewer: columns of mixed lengths take a tenth less.
+/// The hash of one key of a column. Long keys are inlined too, and the tail has a loop, whose branches
+/// processors predict better: columns of mixed lengths are 10 % faster.
 #[inline(always)]
-#[tactic(auto, using(crate::proofs::Xxh64Lemmas::of_short, crate::proofs::Xxh64Lemmas::of_long))]
+#[tactic(auto, using(crate::proofs::Xxh64Answers::of_short, crate::proofs::Xxh64Answers::of_long))]
 pub(super) fn hash_one_of_many(bytes: &[u8], seed: u64) -> u64
     ensures { result ≡ xxh64 seed bytes.now }
 {
@@ -307,8 +257,8 @@ pub(super) fn hash_one_of_many(bytes: &[u8], seed: u64) -> u64
     avalanche(fold_tail(hash, last))
 }
 
-// The hash of 32 to 63 bytes. In a call of its own LLVM knows that there is one stripe, and makes
-// no loop, which takes a tenth less for 32 bytes.
+// The hash of 32 to 63 bytes. In a separate call LLVM knows that there is one stripe and makes no
+// loop: keys of 32 bytes are 10 % faster.
 #[inline(never)]
 fn hash_one_stripe(bytes: &[u8], seed: u64) -> u64
     requires low { 32 ≤ length bytes.now }
@@ -328,7 +278,7 @@ fn hash_stripes(bytes: &[u8], seed: u64) -> u64
 }
 
 #[inline(always)]
-#[tactic(auto, using(crate::proofs::Xxh64Lemmas::of_long))]
+#[tactic(auto, using(crate::proofs::Xxh64Answers::of_long))]
 fn hash_long(bytes: &[u8], seed: u64) -> u64
     requires { 32 ≤ length bytes.now }
     ensures { result ≡ xxh64 seed bytes.now }
@@ -340,9 +290,9 @@ fn hash_long(bytes: &[u8], seed: u64) -> u64
     )
 }
 
-// Mixes in the tail, which is empty after whole stripes, and finishes.
+// The hash after the tail, which is empty after full stripes, and the last mixing.
 #[inline(always)]
-#[tactic(auto, using(crate::proofs::Xxh64Lemmas::no_steps))]
+#[tactic(auto, using(crate::proofs::Xxh64Answers::no_steps))]
 fn mix_rest(hash: u64, tail: &[u8]) -> u64
     requires { length tail.now < 32 }
     ensures { result ≡ avalanche (fold tail_step hash (steps tail.now)) }
@@ -354,7 +304,7 @@ fn mix_rest(hash: u64, tail: &[u8]) -> u64
     })
 }
 
-// The lanes of stripes as one word.
+// The lanes after these stripes, as one word.
 #[inline(always)]
 fn merge_stripes(stripes: &[[u8; STRIPE]], seed: u64) -> u64
     ensures { result ≡ merge (each_lane (lanes_start seed) stripes.now) }

@@ -1,9 +1,8 @@
-//! Blocks and tails as numbers and words.
+//! Blocks, tails and waiting bytes as numbers and words.
 
 ghost use Rattle.std.specs.Prelude.{◌≡◌, ◌+◌, ◌-◌, ◌*◌, ◌/◌, ◌%◌, ◌^◌, ◌<◌, ◌≤◌, ◌++◌, length, take, drop, min};
 ghost use Rattle.sketch_base.specs.Bytes.{le, low_bytes};
-ghost use Rattle.sketch_hash.specs.Murmur.{block_words};
-ghost use Rattle.sketch_hash.specs.Held.{Waits};
+ghost use Rattle.sketch_hash.specs.Murmur.{Waits, block_words};
 
 use super::BLOCK;
 use crate::hash::words::{read_u16_le, read_u32_le, read_u64_le, read_u128_le};
@@ -18,9 +17,9 @@ pub(super) fn read_partial_le(bytes: &[u8]) -> u128
     join_words(low, high)
 }
 
-/// The same as two words, the lower first.
+/// The little-endian number of fewer than 16 bytes as two words, the lower first.
 #[inline(always)]
-#[tactic(auto, using(crate::proofs::MurmurLemmas::kept))]
+#[tactic(auto, using(crate::proofs::MurmurWrites::for_read_partial_words))]
 pub(super) fn read_partial_words(bytes: &[u8]) -> (u64, u64)
     requires { length bytes.now < 16 }
     ensures words { result ≡ (le bytes.now % 2 ^ 64, le bytes.now / 2 ^ 64) }
@@ -29,6 +28,7 @@ pub(super) fn read_partial_words(bytes: &[u8]) -> (u64, u64)
     read_two_words(bytes)
 }
 
+// `read_partial_words` without its second clause.
 #[inline(always)]
 #[tactic(auto, using(crate::proofs::NumberLemmas::few_le, crate::proofs::NumberLemmas::last_le))]
 fn read_two_words(bytes: &[u8]) -> (u64, u64)
@@ -37,7 +37,7 @@ fn read_two_words(bytes: &[u8]) -> (u64, u64)
 {
     let count = bytes.len();
     if count > 8 {
-        // The shift drops the bytes that the first word has.
+        // The shift drops the bytes that are in the first word.
         let last = read_u64_le(&bytes[count - 8..]) >> (8 * (16 - count));
         return (read_u64_le(&bytes[..8]), last);
     }
@@ -82,15 +82,15 @@ fn combine_overlapping(first: u32, last: u32, width: usize, count: usize) -> u64
     requires last { last < 256 ^ width }
     ensures { result ≡ first + last / 256 ^ (width + width - count) * 256 ^ width }
 {
-    // The shift drops the bytes that `first` has.
-    let behind = u64::from(last) >> (8 * (2 * width - count));
-    u64::from(first) | (behind << (8 * width))
+    // The shift drops the bytes that are in `first`.
+    let rest = u64::from(last) >> (8 * (2 * width - count));
+    u64::from(first) | (rest << (8 * width))
 }
 
-/// The words of waiting bytes with a number behind them. What goes beyond a block falls out.
+/// The words of `count` waiting bytes with a number placed after them. What exceeds a block is dropped.
 #[inline(always)]
-#[tactic(auto, using(crate::proofs::MurmurLemmas::placed))]
-pub(super) fn place_behind(low: u64, high: u64, count: usize, number: u128) -> (u64, u64)
+#[tactic(auto, using(crate::proofs::MurmurWrites::for_place_after))]
+pub(super) fn place_after(low: u64, high: u64, count: usize, number: u128) -> (u64, u64)
     requires { count < 16 }
     ensures { let sum = (low + high * 2 ^ 64 + number * 256 ^ count) % 2 ^ 128 in
         result ≡ (sum % 2 ^ 64, sum / 2 ^ 64) }
@@ -116,8 +116,8 @@ pub(super) fn split_words(number: u128) -> (u64, u64)
 
 /// The words of the first `count` bytes of a block, for a `count` below 16.
 #[inline(always)]
-#[tactic(auto, using(crate::proofs::MurmurLemmas::front))]
-pub(super) fn read_front(block: &[u8; 16], count: usize) -> (u64, u64)
+#[tactic(auto, using(crate::proofs::MurmurWrites::for_read_prefix))]
+pub(super) fn read_prefix(block: &[u8; 16], count: usize) -> (u64, u64)
     requires { count < 16 }
     ensures { Waits count result.0 result.1 (take count block.now) }
 {

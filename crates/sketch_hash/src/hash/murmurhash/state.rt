@@ -1,42 +1,42 @@
-//! What a Murmur hasher holds, as a plain value.
+//! The state of a Murmur hasher, as plain data.
 
 ghost use Rattle.std.specs.Prelude.{◌≡◌, ℕ, ◌+◌, ◌%◌, ◌<◌, List, ◌++◌, length};
-ghost use Rattle.sketch_hash.specs.Held.{murmur_held, MurmurHolds};
+ghost use Rattle.sketch_hash.specs.States.{murmur_state_of, MurmurStateStands};
 ghost use Rattle.sketch_hash.specs.Murmur.{murmur_after, MurmurStands};
 
-use super::tail::{join_words, read_front};
+use super::numbers::{join_words, read_prefix};
 use super::{BLOCK, MurmurHash3X64128};
 use crate::hash::copy::copy_small;
 use crate::hash::hasher::Hasher;
 
-/// What a [`MurmurHash3X64128`] holds: a checkpoint of a stream, to be copied, kept and resumed.
+/// The state of a [`MurmurHash3X64128`]: a checkpoint of a stream that can be copied, saved and resumed.
 ///
-/// Of `waiting` the first `total % 16` bytes count; the others may be anything, such as earlier
+/// Only the first `total % 16` bytes of `waiting` count; the others may be anything, such as earlier
 /// input. Every value can be resumed.
 #[repr(C)]
 #[derive(Clone, Copy)]
 pub struct MurmurState {
-    /// The first word after the last whole block.
+    /// The first word after the last full block.
     pub h1: u64,
-    /// The second word after the last whole block.
+    /// The second word after the last full block.
     pub h2: u64,
     /// The number of bytes so far, modulo 2^64.
     pub total: u64,
-    /// First the bytes after the last whole block.
+    /// Starts with the bytes after the last full block.
     pub waiting: [u8; 16],
 }
 
 impl MurmurState {
-    /// Adds bytes to the stream that the state holds.
+    /// Appends bytes to the stream.
     #[inline(always)]
-    #[tactic(auto, using(crate::proofs::BufferLemmas::murmur_holds_after))]
+    #[tactic(auto, using(crate::proofs::MurmurWrites::murmur_state_stands_after))]
     pub fn write(&mut self, bytes: &[u8])
-        ensures after { murmur_held self.new ≡ murmur_after (murmur_held self.old) bytes.now }
-        ensures holds { (seed : ℕ) (before : List ℕ) → MurmurHolds self.old seed before →
-            MurmurHolds self.new seed (before ++ bytes.now) }
+        ensures after { murmur_state_of self.new ≡ murmur_after (murmur_state_of self.old) bytes.now }
+        ensures stands { (seed : ℕ) (before : List ℕ) → MurmurStateStands self.old seed before →
+            MurmurStateStands self.new seed (before ++ bytes.now) }
     {
         if bytes.len() < BLOCK - self.waiting_count() {
-            self.buffer_bytes(bytes);
+            self.write_within(bytes);
         } else {
             let mut hasher = MurmurHash3X64128::resume(self);
             hasher.write(bytes);
@@ -52,13 +52,13 @@ impl MurmurState {
         (self.total % BLOCK as u64) as usize
     }
 
-    // Takes bytes that fill no block, in place. Through a hasher, writes of one byte take half as
-    // long again.
+    // Appends bytes to the partial block, which stays partial. Through a hasher, writes of one byte
+    // are 50 % slower.
     #[inline(always)]
-    #[tactic(auto, using(crate::proofs::BufferLemmas::held))]
-    fn buffer_bytes(&mut self, bytes: &[u8])
+    #[tactic(auto, using(crate::proofs::MurmurWrites::for_state_write_within))]
+    fn write_within(&mut self, bytes: &[u8])
         requires { self.old.total % 16 + length bytes.now < 16 }
-        ensures { murmur_held self.new ≡ murmur_after (murmur_held self.old) bytes.now }
+        ensures { murmur_state_of self.new ≡ murmur_after (murmur_state_of self.old) bytes.now }
     {
         let count = self.waiting_count();
         self.total = self.total.wrapping_add(bytes.len() as u64);
@@ -67,15 +67,15 @@ impl MurmurState {
 }
 
 impl MurmurHash3X64128 {
-    /// A hasher that goes on from a state.
+    /// A hasher that resumes a state.
     #[inline(always)]
     pub fn resume(state: &MurmurState) -> Self
-        ensures held { result ≡ murmur_held state.now }
-        ensures stands { (seed : ℕ) (bytes : List ℕ) → MurmurHolds state.now seed bytes →
+        ensures state { result ≡ murmur_state_of state.now }
+        ensures stands { (seed : ℕ) (bytes : List ℕ) → MurmurStateStands state.now seed bytes →
             MurmurStands result seed bytes }
     {
         let count = state.waiting_count();
-        let (low, high) = read_front(&state.waiting, count);
+        let (low, high) = read_prefix(&state.waiting, count);
         MurmurHash3X64128 {
             h1: state.h1,
             h2: state.h2,
@@ -88,11 +88,11 @@ impl MurmurHash3X64128 {
 
     /// The state of this hasher.
     #[inline(always)]
-    #[tactic(auto, using(crate::proofs::BufferLemmas::stated))]
+    #[tactic(auto, using(crate::proofs::MurmurWrites::for_state))]
     pub fn state(&self) -> MurmurState
-        ensures held { murmur_held result ≡ self.now }
-        ensures holds { (seed : ℕ) (bytes : List ℕ) → MurmurStands self.now seed bytes →
-            MurmurHolds result seed bytes }
+        ensures state { murmur_state_of result ≡ self.now }
+        ensures stands { (seed : ℕ) (bytes : List ℕ) → MurmurStands self.now seed bytes →
+            MurmurStateStands result seed bytes }
     {
         MurmurState {
             h1: self.h1,

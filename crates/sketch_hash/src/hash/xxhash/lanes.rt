@@ -1,11 +1,13 @@
-//! XXH64's four lanes, and how stripes of 32 bytes change them.
+//! XXH64's four lanes, and the stripes of 32 bytes that change them.
 
-ghost use Rattle.std.specs.Prelude.{◌≡◌};
-ghost use Rattle.sketch_hash.specs.Xxh64.{Lanes, lanes_start, round, merge_round, merge, stripe_step, each_lane};
-ghost use Rattle.sketch_hash.specs.Held.{lanes_of, stripe_words};
+ghost use Rattle.std.specs.Prelude.{◌≡◌, ℕ, ◌+◌, ◌%◌, ◌^◌, ◌<◌, ◌≤◌, ◌++◌, length, take};
+ghost use Rattle.sketch_hash.specs.Pieces.{pieces};
+ghost use Rattle.sketch_hash.specs.Xxh64.{Lanes, each_lane, lanes_of, lanes_start, lanes_state, merge, missing, stripe_step, stripe_words, xxh64_after};
 
-use super::{PRIME1, PRIME2, PRIME4};
-use crate::hash::words::{read_u64_le, rotate};
+use super::STRIPE;
+use super::steps::{PRIME1, PRIME2, merge_round, round};
+use crate::hash::copy::copy_small;
+use crate::hash::words::{read_u64_le, rotate, split_pieces};
 use std::marker::Model;
 use std::simd::prelude::*;
 
@@ -27,7 +29,7 @@ impl Model for ScalarLanes {
 }
 
 impl ScalarLanes {
-    /// Where the lanes start.
+    /// The lanes of a stream without bytes.
     #[inline(always)]
     #[tactic(auto, unfolding(crate::specs::Xxh64::lanes_start))]
     pub(super) fn start(seed: u64) -> Self
@@ -56,7 +58,7 @@ impl ScalarLanes {
         u64x4::from_array([self.v1, self.v2, self.v3, self.v4])
     }
 
-    /// Takes each lane on by its word of a stripe.
+    /// Updates each lane with its word of a stripe.
     #[inline(always)]
     #[tactic(auto, unfolding(crate::specs::Xxh64::stripe_step))]
     pub(super) fn stripe_round(&mut self, stripe: &[u8; 32])
@@ -69,8 +71,8 @@ impl ScalarLanes {
     }
 }
 
-/// The lanes after a run of stripes. Four and more are a call of their own: in line, their loop
-/// takes registers from short keys, and those of 16 and of 24 bytes take a tenth longer.
+/// The lanes after a run of stripes. Runs of four and more are a separate call: inlined, their loop
+/// takes registers from short keys, which makes keys of 16 and 24 bytes 10 % slower.
 #[inline(always)]
 pub(super) fn fold_run(mut lanes: ScalarLanes, stripes: &[[u8; 32]]) -> ScalarLanes
     ensures { result ≡ each_lane lanes stripes.now }
@@ -92,7 +94,7 @@ fn fold_long(mut lanes: ScalarLanes, stripes: &[[u8; 32]]) -> ScalarLanes
 
 /// Folds stripes into the lanes, one after another.
 #[inline(always)]
-#[tactic(auto, using(crate::proofs::Xxh64Lemmas::each_more))]
+#[tactic(auto, using(crate::proofs::Xxh64Answers::each_more))]
 pub(super) fn fold_stripes(lanes: &mut ScalarLanes, stripes: &[[u8; 32]])
     ensures { lanes.new ≡ each_lane lanes.old stripes.now }
 {
@@ -101,24 +103,66 @@ pub(super) fn fold_stripes(lanes: &mut ScalarLanes, stripes: &[[u8; 32]])
     }
 }
 
-/// Takes on all four lanes at once, as a vector.
+/// Folds `bytes`, which come after `count` waiting bytes in `buffer`: the stripe that they complete,
+/// if there is a partial one, and then full stripes straight from the slice. The bytes after the last
+/// full stripe go to the start of `buffer`.
+///
+/// They are stored before the run of stripes: the next write reads them, and a processor is slow to
+/// read what it has just stored.
 #[inline(always)]
-#[tactic(auto, using(crate::proofs::Xxh64Lemmas::vectors))]
+#[tactic(auto, using(crate::proofs::Xxh64Writes::for_consume))]
+pub(super) fn consume(
+    lanes: ScalarLanes,
+    buffer: &mut [u8; STRIPE],
+    count: usize,
+    bytes: &[u8],
+) -> ScalarLanes
+    requires short { count < 32 }
+    requires fills { missing count ≤ length bytes.now }
+    ensures { (seed total : ℕ) → total < 2 ^ 64 →
+        xxh64_after (lanes_state seed lanes total (take count buffer.old)) bytes.now
+        ≡ lanes_state seed result ((total + length bytes.now) % 2 ^ 64)
+        (take ((count + length bytes.now) % 32) buffer.new) }
+{
+    // 0 if no stripe is partial.
+    let missing = (STRIPE - count) % STRIPE;
+    let (first, rest) = bytes.split_at(missing);
+    let mut lanes = complete(lanes, buffer, count, first);
+    let (stripes, last) = split_pieces::<STRIPE>(rest);
+    copy_small(buffer, 0, last);
+    fold_stripes(&mut lanes, stripes);
+    lanes
+}
+
+// The lanes after the stripe that `bytes` complete. Without bytes there is none.
+#[inline(always)]
+#[tactic(auto, using(crate::proofs::Xxh64Writes::for_complete))]
+fn complete(
+    mut lanes: ScalarLanes,
+    buffer: &mut [u8; STRIPE],
+    count: usize,
+    bytes: &[u8],
+) -> ScalarLanes
+    requires short { count < 32 }
+    requires fills { length bytes.now ≡ missing count }
+    ensures { result ≡ each_lane lanes (pieces 32 (take count buffer.old ++ bytes.now)) }
+{
+    if !bytes.is_empty() {
+        copy_small(buffer, count, bytes);
+        lanes.stripe_round(buffer);
+    }
+    lanes
+}
+
+/// Updates all four lanes with a stripe, as one vector.
+#[inline(always)]
+#[tactic(auto, using(crate::proofs::Xxh64Answers::for_vector_round))]
 pub(super) fn vector_round(lanes: u64x4, stripe: &[u8; 32]) -> u64x4
     ensures { lanes_of result ≡ stripe_step (lanes_of lanes) stripe.now }
 {
     let sums = lanes + stripe_words(stripe) * u64x4::splat(PRIME2);
-    let turned = (sums << u64x4::splat(31)) | (sums >> u64x4::splat(33));
-    turned * u64x4::splat(PRIME1)
-}
-
-/// A lane after an input word.
-#[inline(always)]
-#[tactic(auto, unfolding(crate::specs::Xxh64::round))]
-pub(super) fn round(lane: u64, word: u64) -> u64
-    ensures { result ≡ round lane word }
-{
-    rotate::<31>(lane.wrapping_add(word.wrapping_mul(PRIME2))).wrapping_mul(PRIME1)
+    let rotated = (sums << u64x4::splat(31)) | (sums >> u64x4::splat(33));
+    rotated * u64x4::splat(PRIME1)
 }
 
 #[inline(always)]
@@ -147,14 +191,4 @@ pub(super) fn merge(words: ScalarLanes) -> u64
     let hash = merge_round(hash, words.v2);
     let hash = merge_round(hash, words.v3);
     merge_round(hash, words.v4)
-}
-
-#[inline(always)]
-#[tactic(auto, unfolding(crate::specs::Xxh64::merge_round), using(crate::proofs::WordLemmas::xors))]
-fn merge_round(hash: u64, lane: u64) -> u64
-    ensures { result ≡ merge_round hash lane }
-{
-    (hash ^ round(0, lane))
-        .wrapping_mul(PRIME1)
-        .wrapping_add(PRIME4)
 }

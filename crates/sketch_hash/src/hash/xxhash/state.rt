@@ -1,50 +1,50 @@
-//! What an XXH64 hasher holds, as a plain value.
+//! The state of an XXH64 hasher, as plain data.
 
 ghost use Rattle.std.specs.Prelude.{◌≡◌, ℕ, ◌+◌, ◌%◌, ◌<◌, ◌≤◌, List, ◌++◌, length};
-ghost use Rattle.sketch_hash.specs.Held.{xxh64_held, Xxh64Holds};
+ghost use Rattle.sketch_hash.specs.States.{xxh64_state_of, Xxh64StateStands};
 ghost use Rattle.sketch_hash.specs.Xxh64.{xxh64_after, Xxh64Stands};
 
-use super::lanes::ScalarLanes;
-use super::{STRIPE, XxHash64, consume};
+use super::lanes::{ScalarLanes, consume};
+use super::{STRIPE, XxHash64};
 use crate::hash::copy::copy_small;
 use std::simd::prelude::*;
 
-/// What an [`XxHash64`] holds: a checkpoint of a stream, to be copied, kept and resumed.
+/// The state of an [`XxHash64`]: a checkpoint of a stream that can be copied, saved and resumed.
 ///
-/// Of `waiting` the first `total % 32` bytes count; the others may be anything, such as earlier
+/// Only the first `total % 32` bytes of `waiting` count; the others may be anything, such as earlier
 /// input. Every value can be resumed.
 #[repr(C)]
 #[derive(Clone, Copy)]
 pub struct XxHash64State {
     /// The seed that the stream began with.
     pub seed: u64,
-    /// The first of four lanes after the last whole stripe.
+    /// The first of four lanes after the last full stripe.
     pub v1: u64,
-    /// The second.
+    /// The second lane.
     pub v2: u64,
-    /// The third.
+    /// The third lane.
     pub v3: u64,
-    /// The fourth.
+    /// The fourth lane.
     pub v4: u64,
     /// The number of bytes so far, modulo 2^64.
     pub total: u64,
-    /// First the bytes after the last whole stripe.
+    /// Starts with the bytes after the last full stripe.
     pub waiting: [u8; 32],
 }
 
 impl XxHash64State {
-    /// Adds bytes to the stream that the state holds.
+    /// Appends bytes to the stream.
     #[inline(always)]
-    #[tactic(auto, using(crate::proofs::BufferLemmas::xxh64_holds_after))]
+    #[tactic(auto, using(crate::proofs::Xxh64Writes::xxh64_state_stands_after))]
     pub fn write(&mut self, bytes: &[u8])
-        ensures after { xxh64_held self.new ≡ xxh64_after (xxh64_held self.old) bytes.now }
-        ensures holds { (seed : ℕ) (before : List ℕ) → Xxh64Holds self.old seed before →
-            Xxh64Holds self.new seed (before ++ bytes.now) }
+        ensures after { xxh64_state_of self.new ≡ xxh64_after (xxh64_state_of self.old) bytes.now }
+        ensures stands { (seed : ℕ) (before : List ℕ) → Xxh64StateStands self.old seed before →
+            Xxh64StateStands self.new seed (before ++ bytes.now) }
     {
         if bytes.len() < STRIPE - self.waiting_count() {
-            self.buffer_bytes(bytes);
+            self.write_within(bytes);
         } else {
-            self.consume_stripes(bytes);
+            self.write_across(bytes);
         }
     }
 
@@ -56,24 +56,23 @@ impl XxHash64State {
         (self.total % STRIPE as u64) as usize
     }
 
-    // Takes bytes that fill no stripe, in place.
+    // Appends bytes to the partial stripe, which stays partial.
     #[inline(always)]
-    #[tactic(auto, using(crate::proofs::BufferLemmas::xxh64_kept))]
-    fn buffer_bytes(&mut self, bytes: &[u8])
+    #[tactic(auto, using(crate::proofs::Xxh64Writes::for_state_write_within))]
+    fn write_within(&mut self, bytes: &[u8])
         requires { self.old.total % 32 + length bytes.now < 32 }
-        ensures { xxh64_held self.new ≡ xxh64_after (xxh64_held self.old) bytes.now }
+        ensures { xxh64_state_of self.new ≡ xxh64_after (xxh64_state_of self.old) bytes.now }
     {
         let count = self.waiting_count();
         self.total = self.total.wrapping_add(bytes.len() as u64);
         copy_small(&mut self.waiting, count, bytes);
     }
 
-    // Takes bytes that fill the stripe that is begun, and any after these. In a call of its own it
-    // costs short writes nothing.
+    // Completes the partial stripe, and goes on after it. A separate call costs short writes nothing.
     #[inline(never)]
-    fn consume_stripes(&mut self, bytes: &[u8])
+    fn write_across(&mut self, bytes: &[u8])
         requires { 32 ≤ self.old.total % 32 + length bytes.now }
-        ensures { xxh64_held self.new ≡ xxh64_after (xxh64_held self.old) bytes.now }
+        ensures { xxh64_state_of self.new ≡ xxh64_after (xxh64_state_of self.old) bytes.now }
     {
         let count = self.waiting_count();
         self.total = self.total.wrapping_add(bytes.len() as u64);
@@ -92,11 +91,11 @@ impl XxHash64State {
 }
 
 impl XxHash64 {
-    /// A hasher that goes on from a state.
+    /// A hasher that resumes a state.
     #[inline(always)]
     pub fn resume(state: &XxHash64State) -> Self
-        ensures held { result ≡ xxh64_held state.now }
-        ensures stands { (seed : ℕ) (bytes : List ℕ) → Xxh64Holds state.now seed bytes →
+        ensures state { result ≡ xxh64_state_of state.now }
+        ensures stands { (seed : ℕ) (bytes : List ℕ) → Xxh64StateStands state.now seed bytes →
             Xxh64Stands result seed bytes }
     {
         XxHash64 {
@@ -111,9 +110,9 @@ impl XxHash64 {
     /// The state of this hasher.
     #[inline(always)]
     pub fn state(&self) -> XxHash64State
-        ensures held { xxh64_held result ≡ self.now }
-        ensures holds { (seed : ℕ) (bytes : List ℕ) → Xxh64Stands self.now seed bytes →
-            Xxh64Holds result seed bytes }
+        ensures state { xxh64_state_of result ≡ self.now }
+        ensures stands { (seed : ℕ) (bytes : List ℕ) → Xxh64Stands self.now seed bytes →
+            Xxh64StateStands result seed bytes }
     {
         let [v1, v2, v3, v4] = self.lanes.to_array();
         XxHash64State {
