@@ -1,6 +1,6 @@
-//! A proved port of the lowest layer of Apache DataSketches' Rust component: errors, the codec of
-//! serialized sketches without floats, and the hashes, under their original paths; and beside them
-//! the laws of collisions.
+//! A proved port of the lowest layer of Apache DataSketches' Rust component, under its original
+//! paths: errors, the codec of serialized sketches without floats, and the hashes. [`laws`] has the
+//! laws of collisions.
 #![tactic(auto)]
 
 pub use sketch_base::{codec, error};

@@ -13,8 +13,8 @@ use sketch_bloom::{
 };
 use std::alloc::Global;
 
-/// A filter of these values, in which at most one in `one_in` of other values is found by chance;
-/// or of 128 MiB, if that is too little.
+/// A filter of these values with a false positive rate of at most one in `one_in`, or of 128 MiB if
+/// a larger one is needed.
 ///
 /// # Errors
 ///
@@ -30,7 +30,7 @@ pub fn fill<T: Hash>(alloc: Global, values: &[T], one_in: u64) -> Result<BloomFi
     Ok(filter)
 }
 
-/// Adds what another worker inserted.
+/// Merges the filter of another worker.
 ///
 /// # Errors
 ///
@@ -44,8 +44,8 @@ pub fn merge_worker(filter: &mut BloomFilter, worker: &BloomFilter) -> Result<()
     filter.merge(worker)
 }
 
-/// Writes the filter with its header, as it is in a file of Parquet, and returns how many bytes
-/// that are. `None` if `out` is too short, or the filter has 2^31 bytes or more.
+/// Writes the header and the filter, as in a Parquet file, and returns their number of bytes.
+/// Returns `None` if `out` is too short, or the filter has 2^31 bytes or more.
 pub fn save(filter: &BloomFilter, out: &mut [u8]) -> Option<usize>
     ensures { IfSome result (λ count.
         take count out.new ≡ header (length filter.now) ++ filter.now) }
@@ -60,8 +60,8 @@ pub fn save(filter: &BloomFilter, out: &mut [u8]) -> Option<usize>
     Some(end)
 }
 
-/// The filter at the beginning of bytes with a header. `None` if they begin with no header, or are
-/// fewer than it says.
+/// The filter in bytes that start with its header. Returns `None` if there is no header, or fewer
+/// bytes than it says.
 pub fn load(input: &[u8]) -> Option<&[u8]>
     ensures { IfSome result (λ filter. IsHeaderLength (length filter.now)
         × ((rest : List ℕ) × (input.now ≡ header (length filter.now) ++ (filter.now ++ rest)))) }
@@ -74,12 +74,12 @@ pub fn load(input: &[u8]) -> Option<&[u8]>
     Some(&rest[..bytes])
 }
 
-/// Whether a filter contains a key, which may be a false positive. It contains the key from then
-/// on. The filter is changed where it is, as in a file that is mapped.
+/// Whether a filter contains a key, which may be a false positive. The key is then inserted, in
+/// place, as in a mapped file.
 ///
 /// # Errors
 ///
-/// Returns [`Fault::Length`] if no filter has so many bytes. They are then unchanged.
+/// Returns [`Fault::Length`] if no filter has this length. The bytes are then unchanged.
 pub fn see_in_place(filter: &mut [u8], key: &[u8]) -> Result<bool, Fault>
     ensures inserts { IfOk result (λ _. Inserts (hash_of key.now) filter.old filter.new) }
     ensures stands { (hashes : List ℕ) → StandsFor filter.old hashes →

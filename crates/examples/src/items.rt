@@ -1,6 +1,6 @@
-//! Items written, and read back as a list.
+//! Items that are written, and read back as a list.
 
-ghost use Rattle.std.specs.Prelude.{◌≡◌, ◌++◌, map, length, IfOk};
+ghost use Rattle.std.specs.Prelude.{◌≡◌, ◌++◌, map, length, IfOk, IsOk};
 ghost use Rattle.std.specs.List.{All};
 ghost use Rattle.datasketches.specs.Items.{InType, item_kind, spell_all};
 
@@ -8,14 +8,14 @@ use datasketches::codec::{Item, Kind, Short, SketchBytes, SketchSlice, Stopped};
 use datasketches::laws;
 use std::alloc::{AllocError, Global};
 
-/// Writes items, reads them back into the places, and answers what remains: the rest that was put
-/// after them.
+/// Writes items and the rest after them, reads the items back into the places, and returns what
+/// remains: the rest.
 ///
 /// # Errors
 ///
-/// If memory runs out.
+/// Returns `AllocError` if there is no memory.
 #[tactic(auto, using(datasketches::proofs::CallerLemmas::items_fit))]
-pub fn there_and_back(
+pub fn round_trip(
     alloc: Global,
     items: &[Item],
     kinds: &[Kind],
@@ -48,4 +48,11 @@ fn write_all(alloc: Global, items: &[Item], rest: &[u8]) -> Result<Vec<u8>, Allo
     let mut bytes = writer.into_bytes();
     bytes.extend_from_slice(rest)?;
     Ok(bytes)
+}
+
+/// Writes no bytes, which never fails.
+pub fn write_nothing(writer: &mut SketchBytes) -> Result<(), AllocError>
+    ensures { IsOk result }
+{
+    writer.write(&[])
 }

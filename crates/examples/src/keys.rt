@@ -1,4 +1,4 @@
-//! Hashes of keys, one by one or in a column, and keys that are known by their hashes.
+//! Hashes of keys, one by one or in a column, and keys that are identified by their hashes.
 
 ghost use Rattle.std.specs.Prelude.{◌≡◌, ◌↔◌, IsTrue};
 ghost use Rattle.datasketches.specs.Columns.{HashesEach};
@@ -20,7 +20,7 @@ pub fn pair_of_value<T: Hash>(seed: u64, value: &T) -> (u64, u64)
     hasher.finish128()
 }
 
-/// The Murmur pair by which a distinct counter knows an integer key.
+/// The Murmur pair by which a distinct counter identifies an integer key.
 pub fn pair_of(seed: u64, key: i32) -> (u64, u64)
     ensures { result ≡ murmur seed (integer_bytes key) }
 {
@@ -39,7 +39,7 @@ pub fn is_same_key(seed: u64, x: i32, y: i32) -> bool
 ///
 /// # Errors
 ///
-/// The index of the first offset that does not fit; then nothing is written.
+/// Returns the index of the first offset that does not fit. Nothing is written then.
 pub fn hash_texts(texts: &[u8], offsets: &[u64], out: &mut [u64]) -> Result<(), usize>
     ensures { HashesEach (xxh64 9001) texts.now offsets.now out.old out.new result }
 {

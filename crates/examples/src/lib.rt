@@ -1,12 +1,13 @@
-//! Callers of the library, each proved from its public contracts alone, to be copied and changed.
+//! Examples of the library's use, to copy. Each is proved from the library's public contracts
+//! alone.
 #![tactic(auto)]
 
 pub mod bloom_filter;
+pub mod custom_types;
 pub mod items;
 pub mod keys;
 pub mod membership_table;
-pub mod own;
-pub mod sketch;
+pub mod preamble;
 pub mod streams;
 #[cfg(test)]
 mod tests;

@@ -1,4 +1,4 @@
-//! Keys that were seen, in a membership table that is saved and loaded.
+//! A membership table of the keys seen so far, which is saved and loaded.
 
 ghost use Rattle.std.specs.Prelude.{ℕ, List, None, ◌≡◌, ◌⊎◌, ◌↔◌, ◌+◌, [], ◌∷◌, ◌++◌, IfErr, IfOk, IsTrue, MatchResult, length};
 ghost use Rattle.datasketches.specs.ErrorValue.{memory_error};
@@ -15,13 +15,13 @@ use sketch_member::MemberTable;
 use sketch_member::laws::{form_law, insert_law, table_law};
 use std::alloc::Global;
 
-/// The table of the keys seen so far, from the bytes that were saved; a new one, of 1024 bits with
-/// seven indexes a key, where there are none.
+/// The table of the keys seen so far, from saved bytes. Without bytes a new one, of 1024 bits with
+/// seven indexes a key.
 ///
 /// # Errors
 ///
-/// Where the bytes are no table: `InvalidData`, with the first fault in them. Where memory runs
-/// out: `OutOfMemory`, with no message.
+/// Returns `InvalidData` with the first fault if the bytes are not a table, and `OutOfMemory` with
+/// an empty message if there is no memory.
 pub fn load_keys(alloc: Global, saved: &[u8]) -> Result<MemberTable, Error>
     ensures loaded { IfOk result (λ seen.
         ((saved.now ≡ []) × (seen ≡ empty_table 0 10 7)) ⊎ IsForm seen saved.now) }
@@ -35,11 +35,10 @@ pub fn load_keys(alloc: Global, saved: &[u8]) -> Result<MemberTable, Error>
     MemberTable::from_bytes(alloc, saved)
 }
 
-/// Whether the table contains a key, which may be a false positive. It contains the key from then
-/// on.
+/// Whether the table contains a key, which may be a false positive. The key is then inserted.
 pub fn see_key(seen: &mut MemberTable, key: &[u8]) -> bool
-    ensures told { IsTrue result ↔ IsMember seen.old key.now }
-    ensures seen { Inserts key.now seen.old seen.new }
+    ensures found { IsTrue result ↔ IsMember seen.old key.now }
+    ensures inserted { Inserts key.now seen.old seen.new }
     ensures stands { (keys : List (List ℕ)) → StandsFor seen.old keys →
         StandsFor seen.new (keys ++ key.now ∷ []) }
     ensures counted { (n : ℕ) → seen.old.count ≡ count_after n →
@@ -52,11 +51,11 @@ pub fn see_key(seen: &mut MemberTable, key: &[u8]) -> bool
     is_seen
 }
 
-/// A table that is saved and read back: it is the same, count and all.
+/// Saves a table and reads it back: it is the same, with its count.
 ///
 /// # Errors
 ///
-/// Where memory runs out, and nowhere else: `OutOfMemory`, with no message.
+/// Returns `OutOfMemory` with an empty message if there is no memory, and no other error.
 pub fn read_back(alloc: Global, table: &MemberTable) -> Result<MemberTable, Error>
     ensures { MatchResult result (λ read. read ≡ table.now) (λ error. error ≡ memory_error) }
 {
@@ -66,12 +65,13 @@ pub fn read_back(alloc: Global, table: &MemberTable) -> Result<MemberTable, Erro
     MemberTable::from_bytes(alloc, &bytes)
 }
 
-/// The table that was in the bytes, written in version 2 and read again. Bytes of version 1 have
-/// no count.
+/// Reads a serialized table, writes it in version 2 and reads it again. Bytes of version 1 have no
+/// count.
 ///
 /// # Errors
 ///
-/// As those of [`MemberTable::from_bytes`]; memory may run out in the writing too.
+/// Returns `InvalidData` with the first fault if the bytes are not a table, and `OutOfMemory` with
+/// an empty message if there is no memory.
 pub fn read_upgraded(alloc: Global, bytes: &[u8]) -> Result<MemberTable, Error>
     ensures same { MatchResult result
         (λ again. IsTable again × IsForm again bytes.now)

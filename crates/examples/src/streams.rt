@@ -1,4 +1,4 @@
-//! Streams that come in pieces, and hashes that are continued from a checkpoint.
+//! Streams that come in pieces, and hashes that resume from a checkpoint.
 
 ghost use Rattle.std.specs.Prelude.{◌≡◌, ℕ, List, ◌++◌};
 ghost use Rattle.std.specs.List.{flat_map};
@@ -20,21 +20,21 @@ pub fn murmur_of_pieces(seed: u64, pieces: &[RawBytes<&[u8]>]) -> (u64, u64)
     hasher.finish128()
 }
 
-/// A checkpoint of a stream: what the hasher of its first bytes holds.
-pub fn checkpoint(seed: u64, front: &[u8]) -> XxHash64State
-    ensures { Xxh64StateStands result seed front.now }
+/// A checkpoint of a stream: the state after its first bytes.
+pub fn checkpoint(seed: u64, prefix: &[u8]) -> XxHash64State
+    ensures { Xxh64StateStands result seed prefix.now }
 {
     let mut hasher = XxHash64::with_seed(seed);
-    hasher.write(front);
+    hasher.write(prefix);
     hasher.state()
 }
 
-/// The XXH64 hash of a stream that goes on from a checkpoint.
-pub fn xxh64_from(state: &XxHash64State, back: &[u8]) -> u64
-    ensures { (seed : ℕ) (front : List ℕ) → Xxh64StateStands state.now seed front →
-        result ≡ xxh64 seed (front ++ back.now) }
+/// The XXH64 hash of a stream that resumes from a checkpoint.
+pub fn xxh64_from(state: &XxHash64State, rest: &[u8]) -> u64
+    ensures { (seed : ℕ) (prefix : List ℕ) → Xxh64StateStands state.now seed prefix →
+        result ≡ xxh64 seed (prefix ++ rest.now) }
 {
     let mut hasher = XxHash64::resume(state);
-    hasher.write(back);
+    hasher.write(rest);
     hasher.finish64()
 }

@@ -1,18 +1,20 @@
+//! Each example once.
+
 use crate::bloom_filter::{fill, load, merge_worker, save, see_in_place};
-use crate::items::there_and_back;
+use crate::custom_types::{BigEndian, Point};
+use crate::items::{round_trip, write_nothing};
 use crate::keys::{hash_texts, is_same_key, pair_of, pair_of_value};
 use crate::membership_table::{load_keys, read_back, read_upgraded, see_key};
-use crate::own::{BigEndian, Point};
-use crate::sketch::{check_preamble, write_preamble};
+use crate::preamble::{check_preamble, write_preamble};
 use crate::streams::{checkpoint, murmur_of_pieces, xxh64_from};
-use datasketches::codec::{Item, Kind};
+use datasketches::codec::{Item, Kind, SketchBytes};
 use datasketches::hash::XxHash64;
 use datasketches::hash::value::raw_bytes;
 use sketch_bloom::{BloomFilter, contains};
 use std::test::Fail;
 
 #[test]
-fn keys_are_told_apart(rt: HostRuntime) {
+fn keys_have_different_pairs(rt: HostRuntime) {
     assert!(rt; is_same_key(9001, -1, -1));
     assert!(rt; !is_same_key(9001, -1, 1));
     assert!(rt; pair_of(0, 1) != pair_of(1, 1));
@@ -31,7 +33,7 @@ fn streams_have_the_hash_of_all_bytes(rt: HostRuntime) {
 }
 
 #[test]
-fn own_types_feed_their_bytes(rt: HostRuntime) {
+fn custom_types_feed_their_bytes(rt: HostRuntime) {
     let bytes = raw_bytes::from_slice(&[1, 0, 0, 0, 0xff, 0xff, 0xff, 0xff]);
     let point = Point { x: 1, y: -1 };
     assert_eq!(rt; pair_of_value(7, &point), pair_of_value(7, &bytes));
@@ -53,8 +55,10 @@ fn items_and_a_preamble_are_read_back(rt: HostRuntime) -> Result<(), Fail> {
     let items = [Item::U8(1), Item::U32Be(2)];
     let mut places = [Item::U8(0); 2];
     let kinds = [Kind::U8, Kind::U32Be];
-    let rest = there_and_back(rt.alloc(), &items, &kinds, &[7, 8], &mut places)?;
+    let rest = round_trip(rt.alloc(), &items, &kinds, &[7, 8], &mut places)?;
     assert_eq!(rt; (rest.as_slice(), places), ([7, 8].as_slice(), items));
+    let mut writer = SketchBytes::with_capacity(rt.alloc(), 0)?;
+    assert_eq!(rt; write_nothing(&mut writer), Ok(()));
     let preamble = write_preamble(rt.alloc(), 9001)?;
     assert_eq!(rt; preamble.as_slice(), [1, 3, 7, 0xcc, 0x93].as_slice());
     assert!(rt; check_preamble(rt.alloc(), &preamble, 9001).is_ok());

@@ -12,16 +12,16 @@ use Rattle.sketch_base.specs.declared.codec.item.Item.{Item}
 use Rattle.sketch_base.specs.declared.codec.item.Kind.{Kind}
 use Rattle.sketch_base.specs.Items.{InType, widths, spell_all, unspell_all}
 
--- A read of count bytes returns their value and consumes them. If fewer remain, it fails and nothing
--- remains.
+-- A read of count bytes returns their value and consumes them. If fewer remain, it fails and
+-- nothing remains.
 abbrev pub Reads : {X : Type 0} → ℕ → (List ℕ → X) → List ℕ → Result X Error → List ℕ → Type 0
 Reads count value before result after = MatchResult result
     (λ x. (count ≤ length before) × (x ≡ value (take count before)) × (after ≡ drop count before))
     (λ error. (length before < count) × (error_kind error ≡ UnexpectedEof) × (after ≡ []))
 
 -- A read of one item of each kind into places fills each place and consumes the bytes. If too few
--- remain, it fills the places before the first item that is cut off, leaves the others unchanged, and
--- nothing remains.
+-- remain, it fills the places before the first item that is cut off, leaves the others unchanged,
+-- and nothing remains.
 abbrev pub ReadsItems : List Kind → List ℕ → List Item → Result (Unit {0}) Short → List ℕ →
     List Item → Type 0
 ReadsItems kinds before places result after placed = MatchResult result
@@ -43,8 +43,8 @@ pub record WriterValue : Type 0 where
   pub bytes : List ℕ
   pub room : ℕ
 
--- A write appends its bytes, or fails because they do not fit, and then changes nothing. The capacity
--- never shrinks, and what was written fits it.
+-- A write appends its bytes, or fails because they do not fit, and then changes nothing. The
+-- capacity never shrinks, and what was written fits it.
 pub record Writes (bytes : List ℕ) (before : WriterValue) (result : Result (Unit {0}) AllocError)
     (after : WriterValue) : Type 0 where
   pub outcome : MatchResult result

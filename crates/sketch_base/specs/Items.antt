@@ -116,8 +116,8 @@ pub record Spells (bytes : List ℕ) (i : Item) : Type 0 where
   pub count : length bytes ≡ width (item_kind i)
   pub item : unspell (item_kind i) bytes ≡ i
 
--- An item has exactly one form in bytes. So has a list of items of known kinds, which give its length.
--- A list is read back from its bytes, whatever follows them, and what follows remains.
+-- An item has exactly one form in bytes. So has a list of items of known kinds, which give its
+-- length. A list is read back from its bytes, whatever follows them, and what follows remains.
 pub record ItemLaw : Type 0 where
   pub spell_holds : (i : Item) → InType i → Spells (spell i) i
   pub spell_only : (i : Item) (bytes : List ℕ) → InType i → Spells bytes i → bytes ≡ spell i

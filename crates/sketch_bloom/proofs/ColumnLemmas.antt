@@ -11,16 +11,6 @@ use Rattle.datasketches.specs.Columns.{AreBounds, IsBound, key_at}
 use Rattle.sketch_bloom.specs.Columns.{IsAnswer, key_hashes}
 use Rattle.sketch_bloom.specs.Filter.{Inserts, InsertsAll, hash_of}
 
--- Without values nothing changes.
-pub inserts_none : (filter : List ℕ) → InsertsAll [] filter filter
-inserts_none filter = record {
-  size = refl;
-  bits = λ i. (
-    (λ set. inl set),
-    (λ either. elim either [ inl was ↦ was | inr new ↦ absurd (omega (arith, new.1.1)) ]),
-  );
-}
-
 -- Two columns, one after the other, are one column.
 inserts_append : (first second before next after : List ℕ) →
     InsertsAll first before next → InsertsAll second next after → InsertsAll (first ++ second) before after

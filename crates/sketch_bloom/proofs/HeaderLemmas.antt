@@ -19,10 +19,6 @@ pub varint_long : (more n : ℕ) → 128 ≤ n → varint (suc more) n ≡ (n % 
 unfolding varint
 varint_long more n large = rw (le-ltb n 128 large)
 
-varint_last : (n : ℕ) → varint 0 n ≡ n ∷ []
-unfolding varint
-varint_last n = refl
-
 number_short : (most byte : ℕ) (bytes : List ℕ) → byte < 128 → varint_number (suc most) (byte ∷ bytes) ≡ byte
 unfolding varint_number
 number_short most byte bytes small = rw (lt-ltb byte 128 small)

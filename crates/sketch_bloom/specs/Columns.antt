@@ -6,7 +6,7 @@ use Rattle.sketch_bloom.specs.declared.fault.Fault.{Fault}
 use Rattle.sketch_bloom.specs.declared.fault.Fault.TheVariants.{Offset, Count}
 use Rattle.sketch_bloom.specs.Filter.{IsLength, IsLengthFault, IsMember, hash_of}
 
--- A column of offsets has a key between each two neighbours.
+-- the number of keys: there is a key between each two neighbouring offsets
 abbrev pub key_count : List ℕ → ℕ
 key_count offsets = length offsets - 1
 
@@ -24,13 +24,12 @@ pub record FindsEach (filter hashes : List ℕ) (n : ℕ) (found : List ℕ) : T
   pub size : length found ≡ n
   pub each : (k : ℕ) → k < n → IsAnswer filter (slice_index hashes k) (slice_index found k)
 
--- A column of n keys is not read: by the filter's length, or the first wrong offset.
+-- Why a column of n keys is not read: the filter's length, or the first wrong offset.
 abbrev pub IsKeysFault : ℕ → List ℕ → List ℕ → ℕ → Fault → Type 0
 IsKeysFault bytes keys offsets n fault = IsLengthFault bytes fault
     ⊎ (IsLength bytes × (i : ℕ) × IsFirstWrongOffset keys offsets n i × (fault ≡ Offset i))
 
--- A column of values is not looked up: by the filter's length, or since it has fewer values than
--- there are places.
+-- Why a column of values is not looked up: the filter's length, or fewer values than places.
 abbrev pub IsValuesFault : ℕ → ℕ → ℕ → Fault → Type 0
 IsValuesFault bytes values places fault = IsLengthFault bytes fault
     ⊎ (IsLength bytes × (values < places) × (fault ≡ Count values))

@@ -13,9 +13,9 @@ use Rattle.sketch_bloom.specs.declared.fault.Fault.TheVariants.{Length, OtherLen
 abbrev pub IsLength : ℕ → Type 0
 IsLength bytes = (0 < bytes) × (bytes % 32 ≡ 0) × (bytes / 32 < 2 ^ 32)
 
--- A block is eight words of 32 bits, the lowest byte of a word first. So bit b of word w of block k
--- is bit 256 * k + 32 * w + b of the filter, and bit i of the filter is the digit that is worth
--- 2 ^ (i % 8) in its byte i / 8.
+-- A block is eight words of 32 bits, each with the lowest byte first. So bit b of word w of block k
+-- is bit 256 * k + 32 * w + b of the filter. Bit i of the filter is set if the binary digit of
+-- weight 2 ^ (i % 8) of its byte i / 8 is 1.
 abbrev pub IsSet : List ℕ → ℕ → Type 0
 IsSet filter i = digit (slice_index filter (i / 8)) (i % 8) ≡ 1
 
@@ -31,7 +31,7 @@ salt =
     0x47b6137b ∷ 0x44974d91 ∷ 0x8824ad5b ∷ 0xa2b7289d ∷ 0x705495c7 ∷ 0x2df1424b ∷ 0x9efc4947
     ∷ 0x5c6bfb31 ∷ []
 
--- The upper 32 bits of a hash choose one of so many blocks.
+-- The upper 32 bits of a hash choose one of the blocks.
 abbrev pub block_of : ℕ → ℕ → ℕ
 block_of blocks hash = hash / 2 ^ 32 * blocks / 2 ^ 32
 
@@ -44,13 +44,13 @@ mask_bit hash w = hash % 2 ^ 32 * slice_index salt w % 2 ^ 32 / 2 ^ 27
 abbrev pub IsMaskBit : ℕ → ℕ → Type 0
 IsMaskBit hash i = (w : ℕ) × (w < 8) × (i ≡ w * 32 + mask_bit hash w)
 
--- i is one of the eight bits of a hash in a filter of so many blocks
+-- i is one of the eight bits of a hash in a filter with this many blocks
 unfoldable pub IsBitOf : ℕ → ℕ → ℕ → Type 0
 IsBitOf blocks hash i = (b : ℕ) × IsMaskBit hash b × (i ≡ block_of blocks hash * 256 + b)
 
 -- ---- insert, check and merge
 
--- A filter changes by these bits: they are set, and all others are as they were.
+-- These bits of a filter are set, and all others are unchanged.
 pub record Sets (Bits : ℕ → Type 0) (before after : List ℕ) : Type 0 where
   pub size : length after ≡ length before
   pub bits : (i : ℕ) → IsSet after i ↔ (IsSet before i ⊎ Bits i)
@@ -74,16 +74,16 @@ Merges other before after = (length other ≡ length before) × Sets (IsSet othe
 
 -- ---- errors
 
--- No filter has so many bytes.
+-- No filter has this many bytes.
 abbrev pub IsLengthFault : ℕ → Fault → Type 0
 IsLengthFault bytes fault = (IsLength bytes → ⊥) × (fault ≡ Length bytes)
 
--- A filter of the second length is not merged into one of the first.
+-- A filter of length `from` is not merged into one of length `into`.
 abbrev pub IsMergeFault : ℕ → ℕ → Fault → Type 0
 IsMergeFault into from fault =
     IsLengthFault into fault ⊎ (IsLength into × (from ≢ into) × (fault ≡ OtherLength from))
 
--- A filter of so many bytes is not made.
+-- A filter of this many bytes is not created.
 abbrev pub IsNewFault : ℕ → Fault → Type 0
 IsNewFault bytes fault = IsLengthFault bytes fault ⊎ (IsLength bytes × (fault ≡ OutOfMemory))
 

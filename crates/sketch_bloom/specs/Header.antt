@@ -1,10 +1,10 @@
--- BloomFilterHeader, which is before a filter in a file, in Thrift's compact protocol:
+-- BloomFilterHeader, which precedes a filter in a file, in Thrift's compact protocol:
 -- https://github.com/apache/thrift/blob/master/doc/specs/thrift-compact-protocol.md
 use Rattle.std.specs.Prelude.{◌≡◌, ℕ, zero, suc, ◌*◌, ◌+◌, ◌-◌, ◌/◌, ◌%◌, ◌^◌, ◌<◌, ◌++◌, List, [], ◌∷◌, if◌then◌else◌, nat_lt}
 use Rattle.sketch_bloom.specs.Filter.{IsLength}
 
--- A variable-length number: seven bits a byte, the lowest first, and 128 is added to each byte but
--- the last. It has at most so many bytes more than one.
+-- A variable-length number: seven bits a byte, the lowest first, with 128 added to each byte but
+-- the last. It has at most 1 + `more` bytes.
 unfoldable pub varint : ℕ → ℕ → List ℕ
 varint zero n = n ∷ []
 varint (suc more) n = if nat_lt n 128 then n ∷ [] else (n % 128 + 128) ∷ varint more (n / 128)
@@ -19,22 +19,22 @@ abbrev pub union_fields : List ℕ
 union_fields =
     0x1c ∷ 0x1c ∷ 0 ∷ 0 ∷ 0x1c ∷ 0x1c ∷ 0 ∷ 0 ∷ 0x1c ∷ 0x1c ∷ 0 ∷ 0 ∷ 0 ∷ []
 
--- the header of a filter of so many bytes
+-- the header of a filter with this many bytes
 abbrev pub header : ℕ → List ℕ
 header bytes = number_field bytes ++ union_fields
 
--- the lengths that a header can tell of
+-- the lengths of filters that have a header
 abbrev pub IsHeaderLength : ℕ → Type 0
 IsHeaderLength bytes = IsLength bytes × (bytes < 2 ^ 31)
 
--- The number at the beginning of bytes, of which at most so many are read.
+-- The number at the start of bytes, of which at most `most` are read.
 unfoldable pub varint_number : ℕ → List ℕ → ℕ
 varint_number zero bytes = 0
 varint_number (suc most) [] = 0
 varint_number (suc most) (byte ∷ bytes) =
     if nat_lt byte 128 then byte else byte - 128 + 128 * varint_number most bytes
 
--- Bytes begin with the header of one length at most, and it ends at one place.
+-- Bytes start with the header of at most one length, and it ends at one place.
 pub record HeaderLaw : Type 0 where
   pub once : (bytes other : ℕ) (after others : List ℕ) →
       IsHeaderLength bytes → IsHeaderLength other →

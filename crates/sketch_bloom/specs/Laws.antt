@@ -1,9 +1,9 @@
--- What follows for users of filters.
+-- Facts about filters.
 use Rattle.std.specs.Prelude.{◌≡◌, ◌↔◌, ◌⊎◌, ℕ, ◌/◌, List, [], ◌∷◌, ◌++◌, length, map, replicate, Contains}
 use Rattle.datasketches.specs.Bytes.{AreBytes}
 use Rattle.sketch_bloom.specs.Filter.{Inserts, InsertsAll, IsBitOf, IsMember, IsSet, Merges, hash_of}
 
--- a filter of so many bytes without a value
+-- the empty filter with this many bytes
 abbrev pub empty_filter : ℕ → List ℕ
 empty_filter bytes = replicate bytes 0
 

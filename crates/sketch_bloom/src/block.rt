@@ -1,4 +1,4 @@
-//! The eight bits of a hash in its block, all at once.
+//! The eight bits of a hash in its block, set or tested at once.
 
 ghost use Rattle.std.specs.Prelude.{◌≡◌, ℕ, ◌+◌, ◌*◌, ◌-◌, ◌<◌, ◌≤◌, ◌^◌, ◌↔◌, ◌⊎◌, IsTrue, length, slice_index};
 ghost use Rattle.sketch_bloom.specs.Filter.{IsMaskBit, IsSet, Sets, block_of, mask_bit};
@@ -17,7 +17,7 @@ const SALT: [u32; 8] = [
     0x5c6b_fb31,
 ];
 
-// Where the block of a hash begins in a filter of so many blocks.
+// The offset of a hash's block in a filter with this many blocks.
 #[inline(always)]
 pub(crate) fn block_start(blocks: u64, hash: u64) -> usize
     requires some { 0 < blocks }
@@ -28,7 +28,7 @@ pub(crate) fn block_start(blocks: u64, hash: u64) -> usize
     ((((hash >> 32) * blocks) >> 32) * 32) as usize
 }
 
-// The bit of a hash in each of the eight words of its block.
+// The mask of a hash: one bit in each of the eight words of its block.
 #[inline(always)]
 #[tactic(auto, using(crate::proofs::BlockLemmas::mask_word))]
 fn mask_words(hash: u64) -> u32x8
@@ -39,7 +39,7 @@ fn mask_words(hash: u64) -> u32x8
     u32x8::splat(1) << (product >> u32x8::splat(27))
 }
 
-// The same as the bytes of the block.
+// The mask of a hash as the bytes of a block.
 #[inline(always)]
 pub(crate) fn mask(hash: u64) -> u8x32
     ensures { (i : ℕ) → IsSet result i ↔ IsMaskBit hash i }
@@ -47,7 +47,7 @@ pub(crate) fn mask(hash: u64) -> u8x32
     mask_words(hash).to_le_bytes()
 }
 
-// Sets the bits of a mask in the block that begins at `start`.
+// Sets the bits of a mask in the block at `start`.
 #[inline(always)]
 #[tactic(auto, using(crate::proofs::BlockLemmas::mask_inserted))]
 pub(crate) fn insert_mask(filter: &mut [u8], start: usize, mask: u8x32)
@@ -57,8 +57,7 @@ pub(crate) fn insert_mask(filter: &mut [u8], start: usize, mask: u8x32)
     (u8x32::from_slice(&filter[start..]) | mask).copy_to_slice(&mut filter[start..]);
 }
 
-// Whether the bits of a mask are set in the block that begins at `start`: whether setting them
-// would change nothing.
+// Whether the bits of a mask are set in the block at `start`: setting them would change nothing.
 #[inline(always)]
 #[tactic(auto, using(crate::proofs::BlockLemmas::mask_is_in))]
 pub(crate) fn contains_mask(filter: &[u8], start: usize, mask: u8x32) -> bool

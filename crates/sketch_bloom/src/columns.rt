@@ -1,8 +1,5 @@
 //! Columns of values that are inserted or looked up in one call: keys in a buffer, values, or
-//! hashes.
-//!
-//! Each call checks the filter's length, and the offsets of a column of keys, once and before
-//! anything changes.
+//! hashes. Each call checks the filter's length and the offsets once, before it changes anything.
 
 ghost use Rattle.std.specs.Prelude.{◌≡◌, ℕ, ◌+◌, ◌-◌, ◌*◌, ◌/◌, ◌<◌, ◌≤◌, List, length, map, slice_index, MatchResult};
 ghost use Rattle.datasketches.specs.Columns.{AreBounds, IsBound, key_at};
@@ -14,18 +11,18 @@ use crate::fault::Fault;
 use crate::filter::{block_count, insert_into, is_in};
 use datasketches::hash::{Hash, Offset, XxHash64, check_offsets};
 
-// Keys are hashed this many at a time, before the filter is read for any of them. Then a processor
-// waits for many blocks of a large filter at once: 0.6 times as long per key in 128 MiB.
+// How many keys are hashed before the filter is read for any of them. A processor then waits for
+// many blocks of a large filter at once: in 128 MiB a key takes 0.6 times as long.
 const AHEAD: usize = 32;
 
-/// Inserts the keys of a column: key i is the bytes of `keys` from offset i up to offset i + 1, as
-/// Apache Arrow lays strings out. `n` offsets are of `n - 1` keys.
+/// Inserts the keys of a column. Key i is the bytes of `keys` from offset i up to offset i + 1, as
+/// Apache Arrow lays out strings. There is one key less than offsets.
 ///
 /// # Errors
 ///
-/// Returns [`Fault::Length`] if `filter` is not a positive multiple of 32 bytes, or 2^37 bytes or
-/// more. Otherwise returns [`Fault::Offset`] with the index of the first offset that is past the
-/// end of `keys`, or below the offset before it. `filter` is then unchanged.
+/// Returns [`Fault::Length`] if the length of `filter` is not a positive multiple of 32 below 2^37.
+/// Otherwise returns [`Fault::Offset`] with the index of the first offset that is past the end of
+/// `keys`, or below the offset before it. The filter is then unchanged.
 pub fn insert_each<O: Offset>(filter: &mut [u8], keys: &[u8], offsets: &[O]) -> Result<(), Fault>
     ensures { let places = map O.place offsets.now in let n = key_count places in
         MatchResult result
@@ -47,15 +44,14 @@ pub fn insert_each<O: Offset>(filter: &mut [u8], keys: &[u8], offsets: &[O]) -> 
     Ok(())
 }
 
-/// Writes to each place of `found` 1 if the filter may contain the key there, and 0 if not. The
-/// column has as many keys as `found` has places, and is laid out as for [`insert_each`]; further
-/// offsets are not read.
+/// Writes 1 to `found[i]` if the filter may contain key i, and 0 if not. The column is laid out as
+/// for [`insert_each`], and has as many keys as `found` has places. Further offsets are not read.
 ///
 /// # Errors
 ///
-/// Returns [`Fault::Length`] if `filter` is not a positive multiple of 32 bytes, or 2^37 bytes or
-/// more. Otherwise returns [`Fault::Offset`] with the index of the first offset that is missing, is
-/// past the end of `keys`, or is below the offset before it. `found` is then unchanged.
+/// Returns [`Fault::Length`] if the length of `filter` is not a positive multiple of 32 below 2^37.
+/// Otherwise returns [`Fault::Offset`] with the index of the first offset that is missing, is past
+/// the end of `keys`, or is below the offset before it. `found` is then unchanged.
 pub fn contains_each<O: Offset>(
     filter: &[u8],
     keys: &[u8],
@@ -86,8 +82,8 @@ pub fn contains_each<O: Offset>(
 ///
 /// # Errors
 ///
-/// Returns [`Fault::Length`] if `filter` is not a positive multiple of 32 bytes, or 2^37 bytes or
-/// more. It is then unchanged.
+/// Returns [`Fault::Length`] if the length of `filter` is not a positive multiple of 32 below 2^37.
+/// The filter is then unchanged.
 pub fn insert_each_value<T: Hash>(filter: &mut [u8], values: &[T]) -> Result<(), Fault>
     ensures { let hashes = map (λ value. hash_of (T.fed value)) values.now in MatchResult result
         (λ _. IsLength (length filter.old) × InsertsAll hashes filter.old filter.new)
@@ -98,12 +94,12 @@ pub fn insert_each_value<T: Hash>(filter: &mut [u8], values: &[T]) -> Result<(),
     Ok(())
 }
 
-/// Inserts each value of a column by its hash: XXH64, with seed 0, of its bytes.
+/// Inserts each value of a column by its hash: XXH64 with seed 0 of its bytes.
 ///
 /// # Errors
 ///
-/// Returns [`Fault::Length`] if `filter` is not a positive multiple of 32 bytes, or 2^37 bytes or
-/// more. It is then unchanged.
+/// Returns [`Fault::Length`] if the length of `filter` is not a positive multiple of 32 below 2^37.
+/// The filter is then unchanged.
 pub fn insert_each_hash(filter: &mut [u8], hashes: &[u64]) -> Result<(), Fault>
     ensures { MatchResult result
         (λ _. IsLength (length filter.old)
@@ -115,13 +111,13 @@ pub fn insert_each_hash(filter: &mut [u8], hashes: &[u64]) -> Result<(), Fault>
     Ok(())
 }
 
-/// Writes to each place of `found` 1 if the filter may contain the value there, and 0 if not. Of
-/// more values than places the first are looked up.
+/// Writes 1 to `found[i]` if the filter may contain value i, and 0 if not. Values without a place
+/// are not read.
 ///
 /// # Errors
 ///
-/// Returns [`Fault::Length`] if `filter` is not a positive multiple of 32 bytes, or 2^37 bytes or
-/// more. Otherwise returns [`Fault::Count`] if there are fewer values than places. `found` is then
+/// Returns [`Fault::Length`] if the length of `filter` is not a positive multiple of 32 below 2^37.
+/// Otherwise returns [`Fault::Count`] if there are fewer values than places. `found` is then
 /// unchanged.
 pub fn contains_each_value<T: Hash>(
     filter: &[u8],
@@ -145,14 +141,13 @@ pub fn contains_each_value<T: Hash>(
     Ok(())
 }
 
-/// Writes to each place of `found` 1 if the filter may contain the value there, and 0 if not. A
-/// value is given by its hash: XXH64, with seed 0, of its bytes. Of more hashes than places the
-/// first are looked up.
+/// Writes 1 to `found[i]` if the filter may contain the value with hash i, XXH64 with seed 0 of its
+/// bytes, and 0 if not. Hashes without a place are not read.
 ///
 /// # Errors
 ///
-/// Returns [`Fault::Length`] if `filter` is not a positive multiple of 32 bytes, or 2^37 bytes or
-/// more. Otherwise returns [`Fault::Count`] if there are fewer hashes than places. `found` is then
+/// Returns [`Fault::Length`] if the length of `filter` is not a positive multiple of 32 below 2^37.
+/// Otherwise returns [`Fault::Count`] if there are fewer hashes than places. `found` is then
 /// unchanged.
 pub fn contains_each_hash(filter: &[u8], hashes: &[u64], found: &mut [u8]) -> Result<(), Fault>
     ensures { let n = length found.old in MatchResult result
@@ -169,7 +164,7 @@ pub fn contains_each_hash(filter: &[u8], hashes: &[u64], found: &mut [u8]) -> Re
     Ok(())
 }
 
-// The hashes of the keys from place `start` on, up to AHEAD of them, and how many they are.
+// Hashes the keys from index `start` on, at most AHEAD of them, and returns how many.
 #[tactic(auto, using(crate::proofs::ColumnLemmas::key_columns))]
 fn hash_ahead<O: Offset>(
     keys: &[u8],
@@ -193,7 +188,7 @@ fn hash_ahead<O: Offset>(
     n
 }
 
-// Inserts hashes into a filter of so many blocks.
+// Inserts hashes into a filter with this many blocks.
 fn insert_hashes(filter: &mut [u8], blocks: u64, hashes: &[u64])
     requires size { IsLength (length filter.old) }
     requires blocks { blocks ≡ length filter.old / 32 }
@@ -204,7 +199,7 @@ fn insert_hashes(filter: &mut [u8], blocks: u64, hashes: &[u64])
     }
 }
 
-// Inserts values into a filter of so many blocks.
+// Inserts values into a filter with this many blocks.
 pub(crate) fn insert_values<T: Hash>(filter: &mut [u8], blocks: u64, values: &[T])
     requires size { IsLength (length filter.old) }
     requires blocks { blocks ≡ length filter.old / 32 }
@@ -216,7 +211,7 @@ pub(crate) fn insert_values<T: Hash>(filter: &mut [u8], blocks: u64, values: &[T
     }
 }
 
-// Writes to the places from `start` on whether a filter of so many blocks contains the hashes.
+// Writes to `found[start..]` whether a filter with this many blocks contains the hashes.
 fn find_hashes(filter: &[u8], blocks: u64, hashes: &[u64], found: &mut [u8], start: usize)
     requires size { IsLength (length filter.now) }
     requires blocks { blocks ≡ length filter.now / 32 }
@@ -231,7 +226,7 @@ fn find_hashes(filter: &[u8], blocks: u64, hashes: &[u64], found: &mut [u8], sta
     }
 }
 
-// The key at a place.
+// The bytes of key `i`.
 #[inline(always)]
 fn key_at<'a, O: Offset>(keys: &'a [u8], offsets: &[O], i: usize) -> &'a [u8]
     requires start { IsBound keys.now (map O.place offsets.now) i }

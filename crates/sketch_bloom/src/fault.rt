@@ -1,16 +1,16 @@
-//! Why a call did nothing.
+//! Errors of filters and columns.
 
 ghost use Rattle.std.specs.Prelude.{Some};
 ghost use Rattle.sketch_bloom.specs.Filter.{fault_text};
 
 use std::fmt;
 
-/// Why a call did nothing.
+/// Why a call failed. It then changed nothing.
 #[derive(Clone, Copy, Debug, PartialEq, Eq)]
 pub enum Fault {
-    /// No filter has this many bytes: they are no positive multiple of 32, or 2^37 or more.
+    /// The length, in bytes, is not a positive multiple of 32 below 2^37.
     Length(usize),
-    /// A filter of this many bytes cannot be merged into one of another length.
+    /// The other filter has this length, in bytes, and the lengths differ.
     OtherLength(usize),
     /// The offset at this index is missing, is past the end of the keys, or is below the offset
     /// before it.

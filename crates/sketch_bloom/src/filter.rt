@@ -1,5 +1,4 @@
-//! Values that are inserted into a filter and looked up, one at a time, and filters that are
-//! merged.
+//! Insert, look up and merge, on the bytes of a filter.
 
 ghost use Rattle.std.specs.Prelude.{◌≡◌, ◌/◌, ◌↔◌, IsTrue, MatchResult, length};
 ghost use Rattle.sketch_bloom.specs.Filter.{Inserts, IsLength, IsLengthFault, IsMember, IsMergeFault, Merges, hash_of};
@@ -8,7 +7,7 @@ use crate::block::{block_start, contains_mask, insert_mask, mask};
 use crate::fault::Fault;
 use datasketches::hash::Hash;
 
-/// Whether a filter has this many bytes: a positive multiple of 32, below 2^37.
+/// Whether a filter can have this many bytes: a positive multiple of 32 below 2^37.
 #[inline(always)]
 pub fn is_length(bytes: usize) -> bool
     ensures { IsTrue result ↔ IsLength bytes }
@@ -16,7 +15,7 @@ pub fn is_length(bytes: usize) -> bool
     0 < bytes && bytes % 32 == 0 && bytes < 1 << 37
 }
 
-// How many blocks a filter of so many bytes has.
+// The number of blocks of a filter with this many bytes.
 #[inline(always)]
 pub(crate) fn block_count(bytes: usize) -> Result<u64, Fault>
     ensures { MatchResult result (λ blocks. IsLength bytes × (blocks ≡ bytes / 32))
@@ -33,8 +32,8 @@ pub(crate) fn block_count(bytes: usize) -> Result<u64, Fault>
 ///
 /// # Errors
 ///
-/// Returns [`Fault::Length`] if `filter` is not a positive multiple of 32 bytes, or 2^37 bytes or
-/// more. It is then unchanged.
+/// Returns [`Fault::Length`] if the length of `filter` is not a positive multiple of 32 below 2^37.
+/// The filter is then unchanged.
 #[inline(always)]
 pub fn insert<T: Hash>(filter: &mut [u8], value: &T) -> Result<(), Fault>
     ensures { MatchResult result
@@ -49,8 +48,7 @@ pub fn insert<T: Hash>(filter: &mut [u8], value: &T) -> Result<(), Fault>
 ///
 /// # Errors
 ///
-/// Returns [`Fault::Length`] if `filter` is not a positive multiple of 32 bytes, or 2^37 bytes or
-/// more.
+/// Returns [`Fault::Length`] if the length of `filter` is not a positive multiple of 32 below 2^37.
 #[inline(always)]
 pub fn contains<T: Hash>(filter: &[u8], value: &T) -> Result<bool, Fault>
     ensures { MatchResult result
@@ -61,12 +59,12 @@ pub fn contains<T: Hash>(filter: &[u8], value: &T) -> Result<bool, Fault>
     contains_hash(filter, value.xxh64(0))
 }
 
-/// Inserts the value with this hash: XXH64, with seed 0, of its bytes.
+/// Inserts a value by its hash: XXH64 with seed 0 of its bytes.
 ///
 /// # Errors
 ///
-/// Returns [`Fault::Length`] if `filter` is not a positive multiple of 32 bytes, or 2^37 bytes or
-/// more. It is then unchanged.
+/// Returns [`Fault::Length`] if the length of `filter` is not a positive multiple of 32 below 2^37.
+/// The filter is then unchanged.
 #[inline(always)]
 pub fn insert_hash(filter: &mut [u8], hash: u64) -> Result<(), Fault>
     ensures { MatchResult result
@@ -78,12 +76,11 @@ pub fn insert_hash(filter: &mut [u8], hash: u64) -> Result<(), Fault>
     Ok(())
 }
 
-/// Whether the filter may contain the value with this hash: XXH64, with seed 0, of its bytes.
+/// Whether the filter may contain the value with this hash: XXH64 with seed 0 of its bytes.
 ///
 /// # Errors
 ///
-/// Returns [`Fault::Length`] if `filter` is not a positive multiple of 32 bytes, or 2^37 bytes or
-/// more.
+/// Returns [`Fault::Length`] if the length of `filter` is not a positive multiple of 32 below 2^37.
 #[inline(always)]
 pub fn contains_hash(filter: &[u8], hash: u64) -> Result<bool, Fault>
     ensures { MatchResult result
@@ -94,7 +91,7 @@ pub fn contains_hash(filter: &[u8], hash: u64) -> Result<bool, Fault>
     Ok(is_in(filter, blocks, hash))
 }
 
-// Inserts a hash into a filter of so many blocks.
+// Inserts a hash into a filter with this many blocks.
 #[inline(always)]
 pub(crate) fn insert_into(filter: &mut [u8], blocks: u64, hash: u64)
     requires size { IsLength (length filter.old) }
@@ -104,7 +101,7 @@ pub(crate) fn insert_into(filter: &mut [u8], blocks: u64, hash: u64)
     insert_mask(filter, block_start(blocks, hash), mask(hash));
 }
 
-// Whether a filter of so many blocks contains a hash.
+// Whether a filter with this many blocks contains a hash.
 #[inline(always)]
 pub(crate) fn is_in(filter: &[u8], blocks: u64, hash: u64) -> bool
     requires size { IsLength (length filter.now) }
@@ -114,13 +111,12 @@ pub(crate) fn is_in(filter: &[u8], blocks: u64, hash: u64) -> bool
     contains_mask(filter, block_start(blocks, hash), mask(hash))
 }
 
-/// Merges another filter of the same length into this one, which then contains what either did.
+/// Merges the filter `from` into the filter `into`, which then contains what either did.
 ///
 /// # Errors
 ///
-/// Returns [`Fault::Length`] if `into` is not a positive multiple of 32 bytes, or 2^37 bytes or
-/// more. Otherwise returns [`Fault::OtherLength`] if `from` has another length. `into` is then
-/// unchanged.
+/// Returns [`Fault::Length`] if the length of `into` is not a positive multiple of 32 below 2^37.
+/// Otherwise returns [`Fault::OtherLength`] if `from` has another length. `into` is then unchanged.
 pub fn merge(into: &mut [u8], from: &[u8]) -> Result<(), Fault>
     ensures { MatchResult result
         (λ _. IsLength (length into.old) × Merges from.now into.old into.new)
@@ -136,7 +132,6 @@ pub fn merge(into: &mut [u8], from: &[u8]) -> Result<(), Fault>
 }
 
 // Sets the bits that are set in another filter of the same length.
-
 fn join(into: &mut [u8], from: &[u8])
     requires { length from.now ≡ length into.old }
     ensures { Merges from.now into.old into.new }

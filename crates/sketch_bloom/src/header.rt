@@ -1,21 +1,21 @@
-//! The header that is before a filter in a file.
+//! The header before a filter in a Parquet file.
 
 ghost use Rattle.std.specs.Prelude.{◌≡◌, ℕ, ◌+◌, ◌%◌, ◌^◌, ◌<◌, ◌≤◌, ◌++◌, ◌↔◌, List, IsTrue, MatchOption, drop, length, take};
 ghost use Rattle.sketch_bloom.specs.Header.{IsHeaderLength, header, varint_number};
 
 use crate::filter::is_length;
 
-// The most bytes of a header.
+// The largest number of bytes of a header.
 const MOST: usize = 19;
 
-// The fields for the algorithm, the hash and the compression, and the end.
+// The fields for the algorithm, the hash and the compression, and the end of the header.
 const UNION_FIELDS: [u8; 13] = [0x1c, 0x1c, 0, 0, 0x1c, 0x1c, 0, 0, 0x1c, 0x1c, 0, 0, 0];
 
-/// Writes the header of a filter of so many bytes to the beginning of `out`, and returns how many
-/// bytes the header has: 15 to 19.
+/// Writes the header of a filter with this many bytes to the start of `out`, and returns the number
+/// of bytes of the header: 15 to 19.
 ///
-/// Returns `None`, and leaves `out` unchanged, if `bytes` is not a positive multiple of 32 below
-/// 2^31, or if `out` is shorter than the header.
+/// Returns `None` if `bytes` is not a positive multiple of 32 below 2^31, or if `out` is shorter
+/// than the header. `out` is then unchanged.
 pub fn write_header(bytes: usize, out: &mut [u8]) -> Option<usize>
     ensures { MatchOption result
         ((out.new ≡ out.old)
@@ -34,11 +34,11 @@ pub fn write_header(bytes: usize, out: &mut [u8]) -> Option<usize>
     Some(count)
 }
 
-/// Reads the header at the beginning of `input`: how many bytes the filter has, and how many the
-/// header has.
+/// Reads the header at the start of `input`, and returns the number of bytes of the filter and of
+/// the header.
 ///
-/// Returns `None` if `input` begins with no header that [`write_header`] writes, which is the one
-/// that Parquet's writers write. It is then the header of another kind of filter, or no header.
+/// Returns `None` if `input` does not start with a header that [`write_header`] writes. Parquet's
+/// writers write the same.
 pub fn read_header(input: &[u8]) -> Option<(usize, usize)>
     ensures { MatchOption result
         ((bytes : ℕ) (after : List ℕ) → IsHeaderLength bytes → input.now ≡ header bytes ++ after →
@@ -60,20 +60,21 @@ pub fn read_header(input: &[u8]) -> Option<(usize, usize)>
     Some((bytes, count))
 }
 
+// Whether `input` starts with `prefix`.
 fn has_prefix(input: &[u8], prefix: &[u8]) -> bool
     ensures { IsTrue result ↔ (take (length prefix.now) input.now ≡ prefix.now) }
 {
     prefix.len() <= input.len() && &input[..prefix.len()] == prefix
 }
 
-// Whether a header can tell of so many bytes.
+// Whether a header can say that a filter has this many bytes.
 fn is_header_length(bytes: usize) -> bool
     ensures { IsTrue result ↔ IsHeaderLength bytes }
 {
     is_length(bytes) && bytes < 1 << 31
 }
 
-// The header of a filter of so many bytes, and how many bytes the header has.
+// The header of a filter with this many bytes, and the number of bytes of the header.
 fn header_of(bytes: usize) -> ([u8; MOST], usize)
     requires { IsHeaderLength bytes }
     ensures long { length result.0 ≡ 19 }
@@ -95,8 +96,8 @@ fn header_of(bytes: usize) -> ([u8; MOST], usize)
     (header, end)
 }
 
-// The variable-length number at the beginning of `input`, of which at most `most` bytes are read. It
-// is exact as far as it is below 2^64, as each number in a header is.
+// Reads the variable-length number at the start of `input`, at most `most` bytes of it, modulo
+// 2^64.
 #[tactic(auto, using(crate::proofs::HeaderLemmas::number_read))]
 fn varint_number(input: &[u8], most: usize) -> u64
     ensures { result ≡ varint_number most input.now % 2 ^ 64 }

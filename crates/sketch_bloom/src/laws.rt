@@ -1,4 +1,4 @@
-//! What follows for users of filters. The functions do nothing: their contracts are the laws.
+//! Facts about filters, for a caller's proof. Each function does nothing: its contract is the law.
 
 ghost use Rattle.sketch_bloom.specs.Header.{HeaderLaw};
 ghost use Rattle.sketch_bloom.specs.Laws.{InsertLaw, MergeLaw, ValueLaw};
@@ -22,7 +22,7 @@ pub fn value_law()
     ensures { ValueLaw }
 {}
 
-/// Bytes begin with the header of one length at most. So a header that was written is read back.
+/// Bytes start with the header of at most one length. So a header that was written is read back.
 #[tactic(auto, using(crate::proofs::HeaderLemmas::header_law))]
 pub fn header_law()
     ensures { HeaderLaw }

@@ -1,18 +1,19 @@
 //! The split block Bloom filter of [Apache Parquet], proved.
 //!
-//! A Bloom filter answers whether a value was inserted. It has no false negatives, and may have
-//! false positives. This one is bytes that Spark, Arrow, DuckDB, Impala and others read and write:
-//! blocks of 32 bytes, of which each value has one, chosen by its hash. The hash is XXH64, with
-//! seed 0, of the bytes that the value feeds, which for Parquet are its plain encoding: `i32` and
-//! `i64` for INT32 and INT64, [`raw_bytes`] for BYTE_ARRAY without its length and for
-//! FIXED_LEN_BYTE_ARRAY, and the bits of a FLOAT or DOUBLE as `u32` or `u64`. Parquet's writers
-//! insert the empty text, and no null.
+//! A Bloom filter tells whether a value was inserted. It has no false negatives, and may have false
+//! positives. Spark, Arrow, DuckDB, Impala and others read and write this one. It is a sequence of
+//! blocks of 32 bytes. A value's hash selects one block and eight bits in it.
 //!
-//! The functions work on the bytes of a filter where they are: in a buffer, or in a mapped file.
-//! [`BloomFilter`] owns them. In a file a header comes before the bytes: [`write_header`],
-//! [`read_header`]. [`bytes_for`] chooses a size. [`laws`] has what follows for a caller's proof.
+//! The hash is XXH64 with seed 0 of the bytes that the value feeds. For Parquet these are its plain
+//! encoding: `i32` and `i64` for INT32 and INT64, [`raw_bytes`] for BYTE_ARRAY without its length
+//! and for FIXED_LEN_BYTE_ARRAY, and the bits of a FLOAT or DOUBLE as `u32` or `u64`. Parquet's
+//! writers insert empty texts, and skip nulls.
 //!
-//! No call takes memory but [`BloomFilter::new`].
+//! The functions work in place on the bytes of a filter, in a buffer or a mapped file.
+//! [`BloomFilter`] owns its bytes. In a file a header precedes them: [`write_header`],
+//! [`read_header`]. [`bytes_for`] chooses a size. [`laws`] has facts for a caller's proof.
+//!
+//! Only [`BloomFilter::new`] allocates.
 //!
 //! [Apache Parquet]: https://github.com/apache/parquet-format/blob/master/BloomFilter.md
 //! [`raw_bytes`]: datasketches::hash::value::raw_bytes

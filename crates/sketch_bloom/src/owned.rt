@@ -1,4 +1,4 @@
-//! A filter that a caller owns.
+//! A filter that owns its bytes.
 
 ghost use Rattle.std.specs.Prelude.{◌≡◌, ℕ, ◌/◌, ◌↔◌, List, IsTrue, MatchResult, length, map};
 ghost use Rattle.sketch_bloom.specs.Filter.{Inserts, InsertsAll, IsLength, IsLengthFault, IsMember, IsMergeFault, IsNewFault, Merges, hash_of};
@@ -13,7 +13,7 @@ use std::marker::Model;
 
 /// A split block Bloom filter of Apache Parquet.
 ///
-/// It is seen as its bytes, which are what the functions of this crate work on.
+/// In contracts it is its bytes.
 #[derive(Drop)]
 pub struct BloomFilter {
     bytes: Vec<u8>,
@@ -28,7 +28,7 @@ impl Model for BloomFilter {
 }
 
 impl BloomFilter {
-    /// A filter of so many bytes, without a value. [`bytes_for`](crate::bytes_for) chooses a size.
+    /// An empty filter of this many bytes. [`bytes_for`](crate::bytes_for) chooses a size.
     ///
     /// # Memory
     ///
@@ -49,12 +49,11 @@ impl BloomFilter {
         }
     }
 
-    /// The filter that the bytes are. They are not copied.
+    /// The filter with these bytes. They are not copied.
     ///
     /// # Errors
     ///
-    /// Returns [`Fault::Length`] if they are not a positive multiple of 32 bytes, or 2^37 bytes or
-    /// more.
+    /// Returns [`Fault::Length`] if their length is not a positive multiple of 32 below 2^37.
     pub fn from_bytes(bytes: Vec<u8>) -> Result<BloomFilter, Fault>
         ensures { MatchResult result
             (λ filter. IsLength (length bytes.items) × (filter ≡ bytes.items))
@@ -97,7 +96,7 @@ impl BloomFilter {
         is_in(&self.bytes, blocks, value.xxh64(0))
     }
 
-    /// Merges another filter of the same length into this one, which then contains what either did.
+    /// Merges another filter into this one, which then contains what either did.
     ///
     /// # Errors
     ///

@@ -1,39 +1,40 @@
 //! The size of a filter for a number of values.
 //!
-//! A value finds the bits of another by chance. If a filter of z blocks has n values, a block has k
-//! of them with the probability Poisson(k; n / z). Each of its words then has a given bit with the
-//! probability 1 - (31/32)^k. So the filter contains a value that was not inserted with the
-//! probability
+//! If a filter of z blocks has n values, a block has k of them with probability Poisson(k; n / z).
+//! A given bit of each of its words is then set with probability 1 - (31/32)^k. So the false
+//! positive rate is
 //!
 //! > Σ Poisson(k; n / z) (1 - (31/32)^k)^8, over all k.
 //!
-//! The sum is computed in whole numbers, since the library has no floats.
+//! The sum is computed in integers, since the library has no floats.
 
-ghost use Rattle.std.specs.Prelude.{◌≡◌, ℕ, ◌+◌, ◌*◌, ◌^◌, ◌<◌, ◌≤◌, IfSome, IsTrue, Some};
+ghost use Rattle.std.specs.Prelude.{◌≡◌, ℕ, ◌+◌, ◌*◌, ◌^◌, ◌<◌, ◌≤◌, IfSome, IsTrue, None, Some};
 ghost use Rattle.sketch_bloom.specs.Filter.{IsLength};
 
-// Blocks that are this full contain more than half of all other values.
+// The most values a block on average. With more, the rate is above one in two.
 const FULL: u64 = 128;
 
-// Terms beyond this one are too small to count, as long as blocks are not full.
+// The number of terms. Later ones are too small to count, with at most `FULL` values a block.
 const TERMS: u64 = 384;
 
-// The limit of the terms' weights, which are scaled so as not to exceed it.
+// The terms' weights are scaled to stay below 2^48.
 const SCALE: u32 = 48;
 
-/// The smallest number of bytes, of the powers of two from 32 to 128 MiB, for a filter in which at
-/// most one in `one_in` of other values is found by chance once it has `keys` different values.
+/// The smallest number of bytes, a power of two from 32 bytes to 128 MiB, for a filter of `keys`
+/// different values with a false positive rate of at most one in `one_in`.
 ///
-/// Returns `None` if 128 MiB, the largest filter that Arrow reads, are too few, or if `one_in` is
+/// Returns `None` if 128 MiB, the largest filter that Arrow reads, is too small, or if `one_in` is
 /// 0.
 ///
-/// The rate is the exact one for this filter, up to the rounding of its sum. Parquet's writers size
-/// by m = -8 n / ln(1 - p^(1/8)) bits, which ignores that blocks fill unevenly. At exactly that
-/// size the rate is up to half as high again as the one that was asked for: 0.0147 for 0.01.
+/// The rate is exact for this filter, up to rounding. Parquet's writers use m = -8 n / ln(1 -
+/// p^(1/8)) bits, which ignores that blocks fill unevenly. At exactly that size the rate is up to
+/// 50 % above the target for targets of 1 %: 0.0147 for 0.01.
 pub fn bytes_for(keys: u64, one_in: u64) -> Option<usize>
     ensures size { IfSome result (λ bytes. (log2_blocks : ℕ) × (log2_blocks ≤ 22)
         × (bytes ≡ 32 * 2 ^ log2_blocks)) }
     ensures some { one_in ≡ 1 → result ≡ Some 32 }
+    ensures load { 1 < one_in → IfSome result (λ bytes. keys ≤ 4 * bytes) }
+    ensures none { one_in ≡ 0 → result ≡ None }
 {
     for log2_blocks in 0..23 {
         if keeps_rate(keys, log2_blocks, one_in) {
@@ -46,7 +47,9 @@ pub fn bytes_for(keys: u64, one_in: u64) -> Option<usize>
 // Whether a filter of 2^log2_blocks blocks keeps the rate.
 pub(crate) fn keeps_rate(keys: u64, log2_blocks: u32, one_in: u64) -> bool
     requires { log2_blocks ≤ 22 }
-    ensures { one_in ≡ 1 → IsTrue result }
+    ensures all { one_in ≡ 1 → IsTrue result }
+    ensures load { 1 < one_in → IsTrue result → keys ≤ 128 * 2 ^ log2_blocks }
+    ensures none { one_in ≡ 0 → IsTrue result → ⊥ }
 {
     if one_in <= 1 {
         return one_in == 1;
@@ -58,7 +61,8 @@ pub(crate) fn keeps_rate(keys: u64, log2_blocks: u32, one_in: u64) -> bool
     found <= u128::from(all) * u128::from((1 << 60) / one_in)
 }
 
-// The sum for the rate, and the sum of its weights times 2^60: the rate is the first of the second.
+// The sum of the terms, and the sum of their weights. The rate is the first divided by 2^60 times
+// the second.
 fn found_by_chance(keys: u64, log2_blocks: u32) -> (u128, u64)
     requires blocks { log2_blocks ≤ 22 }
     requires keys { keys ≤ 128 * 2 ^ log2_blocks }
@@ -82,7 +86,7 @@ fn found_by_chance(keys: u64, log2_blocks: u32) -> (u128, u64)
     (found, all)
 }
 
-// The weight of the next term: times n / z / k.
+// The weight of term `k`, from the one before it: times n / z / k.
 fn next_weight(weight: u64, keys: u64, log2_blocks: u32, k: u64) -> u64
     requires weight { weight < 2 ^ 48 }
     requires blocks { log2_blocks ≤ 22 }
@@ -102,7 +106,7 @@ fn covered(clear: u64) -> u64
     square(square(square(share, 50), 50), 40)
 }
 
-// The square of a number, divided by a power of two and rounded down.
+// The square of a number, shifted right.
 #[tactic(auto, using(crate::proofs::SizeLemmas::squares))]
 fn square(n: u64, shift: u32) -> u64
     requires small { n ≤ 2 ^ 50 }

@@ -15,19 +15,21 @@ use sketch_bloom::{
     is_length, merge, read_header, write_header,
 };
 
-/// The smallest number of bytes for a filter in which at most one in `one_in` of other keys is
-/// found by chance once it has so many different keys: a power of two, 32 bytes to 128 MiB. 0 if
-/// there is none.
+/// The smallest number of bytes, a power of two from 32 bytes to 128 MiB, for a filter of `keys`
+/// different keys with a false positive rate of at most one in `one_in`. Returns 0 if there is
+/// none.
 #[unsafe(no_mangle)]
 pub extern "C" fn sketch_bloom_bytes_for(keys: u64, one_in: u64) -> usize
     ensures size { (result ≡ 0) ⊎ ((log2_blocks : ℕ) × (log2_blocks ≤ 22)
         × (result ≡ 32 * 2 ^ log2_blocks)) }
     ensures some { one_in ≡ 1 → result ≡ 32 }
+    ensures load { 1 < one_in → (result ≡ 0) ⊎ (keys ≤ 4 * result) }
+    ensures none { one_in ≡ 0 → result ≡ 0 }
 {
     bytes_for(keys, one_in).unwrap_or(0)
 }
 
-/// 0 if a filter has this many bytes, or -1.
+/// Returns 0 if a filter can have this many bytes, and -1 if not.
 #[unsafe(no_mangle)]
 pub extern "C" fn sketch_bloom_check(length: usize) -> i32
     ensures { ((result ≡ pos 0) × IsLength length)
@@ -46,8 +48,8 @@ pub extern "C" fn sketch_bloom_insert(bits: &mut [u8], key: &[u8]) -> i32
     done(insert(bits, &raw_bytes::from_slice(key)))
 }
 
-/// Whether the filter may contain a key: 1 if it may, and 0 if it certainly does not. 1 too if no
-/// filter has so many bytes: they rule nothing out.
+/// Returns 0 if the filter certainly does not contain a key, and 1 if it may. Returns 1 too if the
+/// length is not that of a filter, since such bytes rule nothing out.
 #[unsafe(no_mangle)]
 pub extern "C" fn sketch_bloom_contains(bits: &[u8], key: &[u8]) -> i32
     ensures { ((result ≡ pos 1)
@@ -58,7 +60,7 @@ pub extern "C" fn sketch_bloom_contains(bits: &[u8], key: &[u8]) -> i32
     i32::from(contains(bits, &raw_bytes::from_slice(key)).unwrap_or(true))
 }
 
-/// Inserts the key with this hash: XXH64, with seed 0.
+/// Inserts a key by its hash: XXH64 with seed 0.
 #[unsafe(no_mangle)]
 pub extern "C" fn sketch_bloom_insert_hash(bits: &mut [u8], hash: u64) -> i32
     ensures { ((result ≡ pos 0) × IsLength (length bits.old) × Inserts hash bits.old bits.new)
@@ -67,7 +69,8 @@ pub extern "C" fn sketch_bloom_insert_hash(bits: &mut [u8], hash: u64) -> i32
     done(insert_hash(bits, hash))
 }
 
-/// Whether the filter may contain the key with this hash: XXH64, with seed 0.
+/// Returns 0 if the filter certainly does not contain the key with this hash, XXH64 with seed 0,
+/// and 1 if it may or the length is not that of a filter.
 #[unsafe(no_mangle)]
 pub extern "C" fn sketch_bloom_contains_hash(bits: &[u8], hash: u64) -> i32
     ensures { ((result ≡ pos 1) × (IsLength (length bits.now) → IsMember bits.now hash))
@@ -76,7 +79,7 @@ pub extern "C" fn sketch_bloom_contains_hash(bits: &[u8], hash: u64) -> i32
     i32::from(contains_hash(bits, hash).unwrap_or(true))
 }
 
-/// Inserts the keys of a column with offsets of 32 bits: one key less than offsets.
+/// Inserts the keys of a column with 32-bit offsets. There is one key less than offsets.
 #[unsafe(no_mangle)]
 pub extern "C" fn sketch_bloom_insert_each32(
     bits: &mut [u8],
@@ -94,7 +97,7 @@ pub extern "C" fn sketch_bloom_insert_each32(
     reported(insert_each(bits, keys, offsets), wrong_offset)
 }
 
-/// Inserts the keys of a column with offsets of 64 bits: one key less than offsets.
+/// Inserts the keys of a column with 64-bit offsets. There is one key less than offsets.
 #[unsafe(no_mangle)]
 pub extern "C" fn sketch_bloom_insert_each64(
     bits: &mut [u8],
@@ -132,7 +135,7 @@ pub extern "C" fn sketch_bloom_insert_each_u64(bits: &mut [u8], values: &[u64]) 
     done(insert_each_value(bits, values))
 }
 
-/// Inserts each key of a column by its hash: XXH64, with seed 0.
+/// Inserts each key of a column by its hash: XXH64 with seed 0.
 #[unsafe(no_mangle)]
 pub extern "C" fn sketch_bloom_insert_each_hash(bits: &mut [u8], hashes: &[u64]) -> i32
     ensures { ((result ≡ pos 0) × IsLength (length bits.old)
@@ -142,8 +145,8 @@ pub extern "C" fn sketch_bloom_insert_each_hash(bits: &mut [u8], hashes: &[u64])
     done(insert_each_hash(bits, hashes))
 }
 
-/// Writes 1 or 0 for each key of a column with offsets of 32 bits, for as many keys as `found` has
-/// places.
+/// Writes to `found[i]` whether the filter may contain key i of a column with 32-bit offsets, 1 or
+/// 0.
 #[unsafe(no_mangle)]
 pub extern "C" fn sketch_bloom_contains_each32(
     bits: &[u8],
@@ -162,8 +165,8 @@ pub extern "C" fn sketch_bloom_contains_each32(
     reported(contains_each(bits, keys, offsets, found), wrong_offset)
 }
 
-/// Writes 1 or 0 for each key of a column with offsets of 64 bits, for as many keys as `found` has
-/// places.
+/// Writes to `found[i]` whether the filter may contain key i of a column with 64-bit offsets, 1 or
+/// 0.
 #[unsafe(no_mangle)]
 pub extern "C" fn sketch_bloom_contains_each64(
     bits: &[u8],
@@ -182,8 +185,8 @@ pub extern "C" fn sketch_bloom_contains_each64(
     reported(contains_each(bits, keys, offsets, found), wrong_offset)
 }
 
-/// Writes 1 or 0 for the four little-endian bytes of each number, for as many numbers as `found`
-/// has places.
+/// Writes to `found[i]` whether the filter may contain the four little-endian bytes of number i, 1
+/// or 0.
 #[unsafe(no_mangle)]
 pub extern "C" fn sketch_bloom_contains_each_u32(
     bits: &[u8],
@@ -199,8 +202,8 @@ pub extern "C" fn sketch_bloom_contains_each_u32(
     done(contains_each_value(bits, values, found))
 }
 
-/// Writes 1 or 0 for the eight little-endian bytes of each number, for as many numbers as `found`
-/// has places.
+/// Writes to `found[i]` whether the filter may contain the eight little-endian bytes of number i, 1
+/// or 0.
 #[unsafe(no_mangle)]
 pub extern "C" fn sketch_bloom_contains_each_u64(
     bits: &[u8],
@@ -216,8 +219,8 @@ pub extern "C" fn sketch_bloom_contains_each_u64(
     done(contains_each_value(bits, values, found))
 }
 
-/// Writes 1 or 0 for each key of a column, given by its hash: XXH64, with seed 0. For as many
-/// hashes as `found` has places.
+/// Writes to `found[i]` whether the filter may contain the key with hash i, XXH64 with seed 0: 1 or
+/// 0.
 #[unsafe(no_mangle)]
 pub extern "C" fn sketch_bloom_contains_each_hash(
     bits: &[u8],
@@ -233,7 +236,7 @@ pub extern "C" fn sketch_bloom_contains_each_hash(
     done(contains_each_hash(bits, hashes, found))
 }
 
-/// Merges the filter in `from` into the one of the same length in `into`.
+/// Merges the filter `from` into the filter `into` of the same length.
 #[unsafe(no_mangle)]
 pub extern "C" fn sketch_bloom_merge(into: &mut [u8], from: &[u8]) -> i32
     ensures { ((result ≡ pos 0) × IsLength (length into.old) × Merges from.now into.old into.new)
@@ -243,8 +246,8 @@ pub extern "C" fn sketch_bloom_merge(into: &mut [u8], from: &[u8]) -> i32
     done(merge(into, from))
 }
 
-/// Writes the header of a filter of so many bytes to the beginning of `out`, and returns how many
-/// bytes it has; 0 if no header can tell of so many, or `out` is too short.
+/// Writes the header of a filter with this many bytes to the start of `out`, and returns the
+/// header's length. Returns 0 if there is no such header, or `out` is too short.
 #[unsafe(no_mangle)]
 pub extern "C" fn sketch_bloom_header_write(bytes: u64, out: &mut [u8]) -> usize
     ensures { (IsHeaderLength bytes × (result ≡ length (header bytes))
@@ -255,8 +258,8 @@ pub extern "C" fn sketch_bloom_header_write(bytes: u64, out: &mut [u8]) -> usize
     write_header(bytes as usize, out).unwrap_or(0)
 }
 
-/// Reads the header at the beginning of `input`: returns how many bytes it has, and writes how many
-/// the filter has; 0 if `input` begins with no header of such a filter, and nothing is written.
+/// Reads the header at the start of `input`: returns the header's length, and writes the filter's
+/// length to `bytes`. Returns 0, and writes nothing, if `input` does not start with a header.
 #[unsafe(no_mangle)]
 pub extern "C" fn sketch_bloom_header_read(input: &[u8], bytes: &mut u64) -> usize
     ensures { (IsHeaderLength bytes.new × (result ≡ length (header bytes.new))
@@ -274,7 +277,7 @@ pub extern "C" fn sketch_bloom_header_read(input: &[u8], bytes: &mut u64) -> usi
     }
 }
 
-// The outcome of a call as a number.
+// The status of an outcome.
 #[inline(always)]
 fn done(outcome: Result<(), Fault>) -> i32
     ensures { MatchResult outcome (λ _. result ≡ pos 0) (λ fault. result ≡ status fault) }
@@ -285,7 +288,7 @@ fn done(outcome: Result<(), Fault>) -> i32
     }
 }
 
-// The outcome of a call as a number. The index of a wrong offset is written.
+// The status of an outcome. The index of a wrong offset is written.
 #[inline(always)]
 fn reported(outcome: Result<(), Fault>, wrong_offset: &mut usize) -> i32
     ensures { MatchResult outcome
@@ -299,7 +302,7 @@ fn reported(outcome: Result<(), Fault>, wrong_offset: &mut usize) -> i32
     done(outcome)
 }
 
-// The number of a fault.
+// The status of a fault.
 fn status(fault: Fault) -> i32
     ensures { result ≡ status fault }
 {

@@ -7,7 +7,7 @@ ghost use Rattle.datasketches.specs.Xxh64.{xxh64};
 
 use datasketches::hash::{MurmurHash3X64128, XxHash64};
 
-/// XXH64 of each key of a column with offsets of 32 bits, for as many keys as `out` has places.
+/// XXH64 of the keys of a column with 32-bit offsets, one for each place of `out`.
 #[unsafe(no_mangle)]
 pub extern "C" fn sketch_xxh64_each32(
     input: &[u8],
@@ -22,7 +22,7 @@ pub extern "C" fn sketch_xxh64_each32(
     reported(XxHash64::hash_each(input, offsets, seed, out), wrong_offset)
 }
 
-/// XXH64 of each key of a column with offsets of 64 bits, for as many keys as `out` has places.
+/// XXH64 of the keys of a column with 64-bit offsets, one for each place of `out`.
 #[unsafe(no_mangle)]
 pub extern "C" fn sketch_xxh64_each64(
     input: &[u8],
@@ -37,7 +37,7 @@ pub extern "C" fn sketch_xxh64_each64(
     reported(XxHash64::hash_each(input, offsets, seed, out), wrong_offset)
 }
 
-/// XXH64 of the eight little-endian bytes of each number, for as many numbers as `out` has places.
+/// XXH64 of the eight little-endian bytes of each number, one for each place of `out`.
 #[unsafe(no_mangle)]
 pub extern "C" fn sketch_xxh64_each_u64(values: &[u64], seed: u64, out: &mut [u64]) -> i32
     ensures { ReportsCount (HashesEachNumber (xxh64 seed) values.now out.old out.new) result }
@@ -48,7 +48,7 @@ pub extern "C" fn sketch_xxh64_each_u64(values: &[u64], seed: u64, out: &mut [u6
     }
 }
 
-/// MurmurHash3 x64 128 of each key of a column with offsets of 32 bits, for as many keys as `out`
+/// MurmurHash3 x64 128 of the keys of a column with 32-bit offsets, for as many keys as `out`
 /// has places.
 #[unsafe(no_mangle)]
 pub extern "C" fn sketch_murmur3_x64_128_each32(
@@ -67,7 +67,7 @@ pub extern "C" fn sketch_murmur3_x64_128_each32(
     )
 }
 
-/// MurmurHash3 x64 128 of each key of a column with offsets of 64 bits, for as many keys as `out`
+/// MurmurHash3 x64 128 of the keys of a column with 64-bit offsets, for as many keys as `out`
 /// has places.
 #[unsafe(no_mangle)]
 pub extern "C" fn sketch_murmur3_x64_128_each64(

@@ -1,13 +1,12 @@
-//! The library `sketch_hash` for C: the hashers and the Bloom filter of Apache Parquet, as calls
-//! that C and what calls C can make.
+//! The C library `sketch_hash`: the hashers and the Bloom filter of Apache Parquet.
 //!
-//! A state and a filter are in the caller's memory. Any bytes are a safe content of either, and
-//! nothing allocates, so no call requires more than its types say. Numbers and pointers alone are
-//! passed and returned, since C's rules for structs differ between systems.
+//! States and filters are in the caller's memory. Any bytes are safe content for either, and
+//! nothing allocates, so no call requires more than its types say. Calls pass and return only
+//! numbers and pointers, since the C ABI of structs differs between systems.
 //!
-//! An `i32` is 0 if all is done, or a negative error: -1 for a length that no filter has, -2 for a
-//! wrong offset, -3 for too few values. What the call was given is then unchanged, except that the
-//! index of a wrong offset is written.
+//! A result of type `i32` is 0 on success, or a negative error: -1 for a length that no filter has,
+//! -2 for a wrong offset, -3 for too few values. The call then changed nothing, except that it
+//! wrote the index of a wrong offset.
 #![tactic(auto)]
 
 ghost use Rattle.std.specs.Prelude.{◌≡◌};

@@ -1,4 +1,4 @@
-//! MurmurHash3 x64 128: in one call, or by a state that takes a stream in pieces.
+//! MurmurHash3 x64 128 in one call, and by a state for streams.
 
 ghost use Rattle.std.specs.Prelude.{◌≡◌, ◌+◌, ◌*◌, ◌^◌, ℕ, List, [], ◌∷◌, ◌++◌, replicate, slice_index};
 ghost use Rattle.datasketches.specs.Columns.{murmur_words};
@@ -17,20 +17,19 @@ pub extern "C" fn sketch_murmur3_x64_128(input: &[u8], seed: u64, hash: &mut [u6
     *hash = [h1, h2];
 }
 
-/// Starts a stream: a seed, and no bytes. All bytes of the buffer are 0, as an initializer leaves
-/// them.
+/// Starts a stream with a seed. All bytes of the buffer become 0, as after an initializer.
 #[unsafe(no_mangle)]
-#[tactic(auto, using(crate::proofs::InitLemmas::started))]
+#[tactic(auto, using(crate::proofs::InitLemmas::for_reset))]
 pub extern "C" fn sketch_murmur3_x64_128_reset(state: &mut MurmurState, seed: u64)
     ensures stands { MurmurStateStands state.new seed [] }
     ensures zeros { state.new.waiting ≡ replicate 16 0 }
 {
     *state = MurmurHash3X64128::with_seed(seed).state();
-    // So they are already, but no clause of `state` says it.
+    // They are 0 already, but no clause of `state` says so.
     state.waiting = [0; 16];
 }
 
-/// Adds bytes to the stream.
+/// Appends bytes to the stream.
 #[unsafe(no_mangle)]
 pub extern "C" fn sketch_murmur3_x64_128_update(state: &mut MurmurState, input: &[u8])
     ensures after { murmur_state_of state.new ≡ murmur_after (murmur_state_of state.old) input.now }
@@ -40,7 +39,7 @@ pub extern "C" fn sketch_murmur3_x64_128_update(state: &mut MurmurState, input: 
     state.write(input);
 }
 
-/// Writes MurmurHash3 x64 128 of the stream so far, which may go on.
+/// Writes MurmurHash3 x64 128 of the stream so far. More bytes can follow.
 #[unsafe(no_mangle)]
 pub extern "C" fn sketch_murmur3_x64_128_digest(state: &MurmurState, hash: &mut [u64; 2])
     ensures answer { let pair = murmur_answer (murmur_state_of state.now) in
@@ -52,8 +51,8 @@ pub extern "C" fn sketch_murmur3_x64_128_digest(state: &MurmurState, hash: &mut 
     *hash = [h1, h2];
 }
 
-/// Writes the 16 bytes of a hash as they are in memory, which other tools print: the lowest byte of
-/// each word first.
+/// Writes the 16 bytes of a hash in the order that the reference code leaves in memory and other
+/// tools print: each word's lowest byte first.
 #[unsafe(no_mangle)]
 pub extern "C" fn sketch_murmur3_x64_128_bytes(hash: &[u64; 2], out: &mut [u8; 16])
     ensures { out.new ≡ low_bytes 16 (slice_index hash.now 0 + slice_index hash.now 1 * 2 ^ 64) }

@@ -67,7 +67,8 @@ copy_to_end buffer bytes at h =
 
 -- bytes in front of others, as search finds them: the first part says nothing, and shows the call to
 -- look for
-pub take-copy_found : (buffer bytes : List ℕ) (at : ℕ) → length (take at buffer) + length bytes < length buffer →
+pub take-copy_found : (buffer bytes : List ℕ) (at : ℕ) →
+    length (take at buffer) + length bytes < length buffer →
     (take at buffer ++ bytes ++ drop (at + length bytes) buffer
     ≡ take at buffer ++ bytes ++ drop (at + length bytes) buffer)
     × (take (at + length bytes) (take at buffer ++ bytes ++ drop (at + length bytes) buffer)

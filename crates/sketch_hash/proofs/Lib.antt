@@ -1,5 +1,3 @@
-
-
 pub mod WordLemmas
 pub mod PiecesLemmas
 pub mod NumberLemmas

@@ -197,7 +197,8 @@ pub ruleset for_write_blocks = (waiting_size, take_rest, after_blocks, last_coun
 -- what a write makes of a state that stands for bytes
 pub murmur_state_stands_after : (state next : MurmurState) (bytes : List ℕ) →
     murmur_state_of next ≡ murmur_after (murmur_state_of state) bytes →
-    (seed : ℕ) (before : List ℕ) → MurmurStateStands state seed before → MurmurStateStands next seed (before ++ bytes)
+    (seed : ℕ) (before : List ℕ) → MurmurStateStands state seed before →
+    MurmurStateStands next seed (before ++ bytes)
 murmur_state_stands_after state next bytes written seed before stands =
     murmur_stands_after (murmur_state_of state) (murmur_state_of next) bytes written seed before stands
 
@@ -221,7 +222,8 @@ take-low_bytes_16 n count few =
     let all : count + (16 - count) ≡ 16 = omega arith in
     ap (λ k. take count (low_bytes k n)) (sym all) ∙ take-low_bytes count (16 - count) n
 
-pub take-to_le_bytes : (n total count : ℕ) (bytes : List ℕ) → bytes ≡ to_le_bytes w128 n → count ≡ total % 16 →
+pub take-to_le_bytes : (n total count : ℕ) (bytes : List ℕ) →
+    bytes ≡ to_le_bytes w128 n → count ≡ total % 16 →
     take (total % 16) bytes ≡ low_bytes count n
 take-to_le_bytes n total count bytes is at =
     let few : count < 16 = omega (arith, at) in

@@ -192,6 +192,10 @@ pub fold_word_cut : (hash : ℕ) (bytes : List ℕ) → 4 ≤ length bytes → l
     ≡ fold byte_step (four_step hash (le (take 4 bytes))) (take (length bytes - 4) (drop 4 bytes))
 fold_word_cut hash bytes low high = rw (take_rest bytes 4) (fold_word hash bytes low high)
 
+pub ruleset for_fold_from_16 = (fold_pair, no_steps)
+
+pub ruleset for_fold_below_16 = (fold_eight, no_steps)
+
 pub ruleset for_fold_words = (fold_eight, fold_eight_cut)
 
 pub ruleset for_fold_below_8 = (fold_word, fold_word_cut, fold_few)

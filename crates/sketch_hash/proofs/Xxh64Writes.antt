@@ -164,6 +164,7 @@ pub ruleset for_consume = (write_across, take-append_found, left_count, take_res
 
 pub xxh64_state_stands_after : (state next : XxHash64State) (bytes : List ℕ) →
     xxh64_state_of next ≡ xxh64_after (xxh64_state_of state) bytes →
-    (seed : ℕ) (before : List ℕ) → Xxh64StateStands state seed before → Xxh64StateStands next seed (before ++ bytes)
+    (seed : ℕ) (before : List ℕ) → Xxh64StateStands state seed before →
+    Xxh64StateStands next seed (before ++ bytes)
 xxh64_state_stands_after state next bytes written seed before stands =
     xxh64_stands_after (xxh64_state_of state) (xxh64_state_of next) bytes written seed before stands

@@ -1,5 +1,5 @@
--- A hasher's saved state, which is plain words and bytes. Of `waiting` only the first bytes count: as
--- many as the total has after its last full piece.
+-- A hasher's saved state, which is plain words and bytes. Of `waiting` only the first bytes count:
+-- as many as the total has after its last full piece.
 use Rattle.std.specs.Prelude.{ℕ, List, ◌%◌, take}
 use Rattle.sketch_hash.specs.Pieces.{State}
 use Rattle.sketch_hash.specs.Murmur.{MurmurStands}

@@ -1,11 +1,12 @@
-//! Laws of single steps: what each step of the two hashes does to words. Each function does nothing:
-//! its contract is the law.
+//! Laws of single steps: what each step of the two hashes does to words. Each function does
+//! nothing: its contract is the law.
 //!
 //! The laws of whole hashes follow from these. They are in the module `laws` of `datasketches`.
 
 ghost use Rattle.sketch_hash.specs.Laws.{MurmurStepLaws, PieceLaws, Xxh64StepLaws};
 
-/// Full pieces at the start of a stream leave the bytes after them unchanged. Eight bytes are one word.
+/// Full pieces at the start of a stream leave the bytes after them unchanged. Eight bytes are one
+/// word.
 #[tactic(auto, using(crate::proofs::PiecesLemmas::piece_laws))]
 pub fn piece_laws()
     ensures { PieceLaws }

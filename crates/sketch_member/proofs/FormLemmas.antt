@@ -1,5 +1,5 @@
 -- The steps of the reading: bytes that pass them all are the form of a table.
-use Rattle.std.proofs.Common.{◌≡◌, ◌⊎◌, ℕ, ◌+◌, ◌-◌, ◌*◌, ◌<◌, ◌≤◌, List, [], ◌∷◌, ◌++◌, length, get_or, take, drop, refl, sym, ap, ◌∙◌, inl, inr, arith, length-drop, Fits, w8, w64, zero, suc, Result, Ok, Err, IsErrAnd, MatchResult, subst}
+use Rattle.std.proofs.Common.{◌≡◌, ◌⊎◌, ℕ, ◌+◌, ◌-◌, ◌*◌, ◌<◌, ◌≤◌, List, [], ◌∷◌, ◌++◌, length, get_or, take, drop, refl, sym, ap, ◌∙◌, inl, inr, arith, length-drop, Fits, w8, w64, zero, suc}
 use Rattle.std.specs.Prelude.{Contains, IfSome, Option, None, Some}
 use Rattle.std.specs.Int.{to_le_bytes}
 use Rattle.std.proofs.lemmas.List.{take-append-drop, drop-drop, get_or-drop}
@@ -13,7 +13,7 @@ use Rattle.sketch_member.specs.Form.{IsForm, flag_of, number_of}
 use Rattle.sketch_member.specs.Table.{Table, IsTable, byte_count}
 use Rattle.sketch_member.proofs.BitLemmas.{whole_bytes}
 
--- a fault of the first steps is that of all; so is one of the others where the first pass
+-- the first fault of the first steps is that of all; if they pass, so is the first fault of the others
 pub fault-front : (count : ℕ) (front others : List Step) (fault : Fault) →
     IsFirstFault count front fault → IsFirstFault count (front ++ others) fault
 fault-front count [] others fault first = absurd first
@@ -40,7 +40,7 @@ either m n x (zero, within, is) = inl (sym is)
 either m n x (suc zero, within, is) = inr (sym is)
 either m n x (suc (suc k), within, is) = absurd (omega arith)
 
--- eight bytes or more are the first eight, and those behind them
+-- eight bytes or more are the first eight, and those after them
 first_eight : (bytes : List ℕ) → 8 ≤ length bytes → bytes
     ≡ get_or bytes 0 0 ∷ get_or bytes 1 0 ∷ get_or bytes 2 0 ∷ get_or bytes 3 0
     ∷ get_or bytes 4 0 ∷ get_or bytes 5 0 ∷ get_or bytes 6 0 ∷ get_or bytes 7 0 ∷ drop 8 bytes
@@ -54,7 +54,7 @@ first_eight (a ∷ b ∷ c ∷ d ∷ e ∷ f ∷ []) there = absurd (omega arith
 first_eight (a ∷ b ∷ c ∷ d ∷ e ∷ f ∷ g ∷ []) there = absurd (omega arith)
 first_eight (a ∷ b ∷ c ∷ d ∷ e ∷ f ∷ g ∷ h ∷ rest) there = refl
 
--- the bytes from a place on are the eight of their number, and those behind them
+-- the bytes from a place on are the eight of their number, and those after them
 next_eight : (bytes : List ℕ) (place : ℕ) → AreBytes bytes → place + 8 ≤ length bytes →
     drop place bytes ≡ eight (le (take 8 (drop place bytes))) ++ drop (place + 8) bytes
 next_eight bytes place are there =
@@ -113,7 +113,7 @@ form_read table bytes are p (kind, (version, (family, _))) (flag, (seed, (count,
           inr (start ∙ rw (three, two, ← p.flag, back, ← number, ← bits) refl)
     ]
 
--- it is a table, with as many bytes of bits as it needs
+-- a table whose parts are in bytes that pass all steps is a table, and has these bytes for its form
 pub table_read : (table : Table) (bytes : List ℕ) → ((k : ℕ) → Fits w8 (get_or bytes k 0)) →
     Places table bytes → IsWord table.seed → IfSome table.count IsWord →
     AllPass (length bytes) (kind_steps bytes) → AllPass (length bytes) (size_steps bytes) →
@@ -132,7 +132,7 @@ table_read table bytes fit p seed count kind (log2_bits, (hashes, _)) numbers ne
   form_read table bytes (bytes_known bytes fit) p kind numbers,
 )
 
--- the steps behind the sizes, and behind those of the kind
+-- the steps after the sizes, and after those of the kind
 abbrev last_steps : List ℕ → List Step
 last_steps bytes =
     number_steps bytes ++ bits_steps bytes (header_length bytes) (byte_count (get_or bytes 3 0))
@@ -141,59 +141,53 @@ abbrev later_steps : List ℕ → List Step
 later_steps bytes = size_steps bytes ++ last_steps bytes
 
 -- the first fault of a part of the header, where the parts before it pass, is that of all
-pub kind_told : (bytes : List ℕ) (fault : Fault) →
+pub first_fault-kind : (bytes : List ℕ) (fault : Fault) →
     IsFirstFault (length bytes) (kind_steps bytes) fault →
     IsFirstFault (length bytes) (steps bytes) fault
-kind_told bytes fault first =
+first_fault-kind bytes fault first =
     fault-front (length bytes) (kind_steps bytes) (later_steps bytes) fault first
 
-pub sizes_told : (bytes : List ℕ) (fault : Fault) → AllPass (length bytes) (kind_steps bytes) →
+pub first_fault-sizes : (bytes : List ℕ) (fault : Fault) → AllPass (length bytes) (kind_steps bytes) →
     IsFirstFault (length bytes) (size_steps bytes) fault →
     IsFirstFault (length bytes) (steps bytes) fault
-sizes_told bytes fault kind first =
+first_fault-sizes bytes fault kind first =
     fault-later (length bytes) (kind_steps bytes) (later_steps bytes) fault kind
     (fault-front (length bytes) (size_steps bytes) (last_steps bytes) fault first)
 
--- so is one of the steps behind the sizes
-behind_sizes : (bytes : List ℕ) (fault : Fault) → AllPass (length bytes) (kind_steps bytes) →
+-- the first fault of the steps after the sizes, if those before them pass, is that of all
+after_sizes : (bytes : List ℕ) (fault : Fault) → AllPass (length bytes) (kind_steps bytes) →
     AllPass (length bytes) (size_steps bytes) →
     IsFirstFault (length bytes) (last_steps bytes) fault →
     IsFirstFault (length bytes) (steps bytes) fault
-behind_sizes bytes fault kind sizes first =
+after_sizes bytes fault kind sizes first =
     fault-later (length bytes) (kind_steps bytes) (later_steps bytes) fault kind
     (fault-later (length bytes) (size_steps bytes) (last_steps bytes) fault sizes first)
 
-pub numbers_told : (bytes : List ℕ) (fault : Fault) → AllPass (length bytes) (kind_steps bytes) →
+pub first_fault-numbers : (bytes : List ℕ) (fault : Fault) → AllPass (length bytes) (kind_steps bytes) →
     AllPass (length bytes) (size_steps bytes) →
     IsFirstFault (length bytes) (number_steps bytes) fault →
     IsFirstFault (length bytes) (steps bytes) fault
-numbers_told bytes fault kind sizes first =
-    behind_sizes bytes fault kind sizes
+first_fault-numbers bytes fault kind sizes first =
+    after_sizes bytes fault kind sizes
     (fault-front (length bytes) (number_steps bytes) (bits_steps bytes (header_length bytes)
     (byte_count (get_or bytes 3 0))) fault first)
 
--- and one of the bits
-pub bits_told : (bytes : List ℕ) (start need : ℕ) (fault : Fault) →
+-- the first fault of the bits, if the header passes, is that of all
+pub first_fault-bits : (bytes : List ℕ) (start need : ℕ) (fault : Fault) →
     AllPass (length bytes) (kind_steps bytes) → AllPass (length bytes) (size_steps bytes) →
     AllPass (length bytes) (number_steps bytes) → start ≡ header_length bytes →
     need ≡ byte_count (get_or bytes 3 0) →
     IsFirstFault (length bytes) (bits_steps bytes start need) fault →
     IsFirstFault (length bytes) (steps bytes) fault
-bits_told bytes start need fault kind sizes numbers is_start is_need told =
-    behind_sizes bytes fault kind sizes
+first_fault-bits bytes start need fault kind sizes numbers is_start is_need told =
+    after_sizes bytes fault kind sizes
     (fault-later (length bytes) (number_steps bytes) (bits_steps bytes (header_length bytes)
     (byte_count (get_or bytes 3 0))) fault numbers (rw (is_start, is_need) at told))
 
-pub ruleset told = (kind_told, sizes_told, numbers_told, bits_told)
+pub ruleset for_read = (first_fault-kind, first_fault-sizes, first_fault-numbers, first_fault-bits)
 
 -- the bytes of a word
 pub word_bytes : (n : ℕ) → to_le_bytes w64 n ≡ eight n
 word_bytes n = to_le_bytes-is w64 n
 
-pub ruleset in_bytes = (word_bytes)
-
--- what holds of its error holds of an Err
-pub of_err : {X E : Type 0} (r : Result X E) (A : X → Type 0) (P : E → Type 0) (e : E) →
-    IsErrAnd r (λ x. x ≡ e) → P e → MatchResult r A P
-of_err (Ok x) A P e is holds = absurd is
-of_err (Err x) A P e is holds = subst P (sym is) holds
+pub ruleset for_eight_bytes = (word_bytes)

@@ -176,7 +176,7 @@ found : (table : Table) (fed : List ℕ) (values : List (List ℕ)) →
 unfolding StandsFor
 found table fed values stands is i index = (stands i).1 (fed, is, index)
 
--- digits that are 1 together are the same
+-- two digits are the same if each is 1 exactly when the other is
 same_digit : (a b : ℕ) → a < 2 → b < 2 → (a ≡ 1 → b ≡ 1) → (b ≡ 1 → a ≡ 1) → a ≡ b
 same_digit a b ha hb f g = elim (cases_eq a 1) [
   | inl one ↦ one ∙ sym (f one)
@@ -186,7 +186,7 @@ same_digit a b ha hb f g = elim (cases_eq a 1) [
   ]
 ]
 
--- packed bits that are set together are the same
+-- packed bits are the same if the same places are set
 same_bits : (bits others : List ℕ) → length bits ≡ length others →
     ((k : ℕ) → get_or bits k 0 < 256) → ((k : ℕ) → get_or others k 0 < 256) →
     ((i : ℕ) → IsSet bits i ↔ IsSet others i) → bits ≡ others
@@ -198,7 +198,7 @@ same_bits bits others count bytes other_bytes same =
     let here = rw (at, place) at (same (k * 8 + j)) in
     same_digit _ _ (bit_at-lt (get_or bits k 0) j) (bit_at-lt (get_or others k 0) j) here.0 here.1))
 
--- so are the bits of tables of one size
+-- tables of one size whose bits are set together have the same bits
 pub same_table_bits : (table other : Table) → IsTable table → IsTable other →
     table.log2_bits ≡ other.log2_bits → ((i : ℕ) → IsSet table.bits i ↔ IsSet other.bits i) →
     table.bits ≡ other.bits
@@ -265,15 +265,15 @@ alike_if_same e = record {
   hashes = ap (λ t. t.hashes) e;
 }
 
-turned : (a b : Table) → AreAlike a b → AreAlike b a
-turned a b alike = record {
+alike-sym : (a b : Table) → AreAlike a b → AreAlike b a
+alike-sym a b alike = record {
   seed = sym alike.seed;
   log2_bits = sym alike.log2_bits;
   hashes = sym alike.hashes;
 }
 
-chained : (a b c : Table) → AreAlike a b → AreAlike b c → AreAlike a c
-chained a b c first second = record {
+alike-trans : (a b c : Table) → AreAlike a b → AreAlike b c → AreAlike a c
+alike-trans a b c first second = record {
   seed = first.seed ∙ second.seed;
   log2_bits = first.log2_bits ∙ second.log2_bits;
   hashes = first.hashes ∙ second.hashes;
@@ -289,13 +289,13 @@ all_alike (fed ∷ values) before after (next, inserts, rest) =
       log2_bits = sym inserts.log2_bits;
       hashes = sym inserts.hashes;
     } in
-    chained before next after first (all_alike values next after rest)
+    alike-trans before next after first (all_alike values next after rest)
 
--- so tables of inserts into one table are alike
+-- tables of inserts into one table are alike
 both_alike : (values others : List (List ℕ)) (start table other : Table) →
     InsertsAll values start table → InsertsAll others start other → AreAlike table other
 both_alike values others start table other all all_other =
-    chained table start other (turned start table (all_alike values start table all))
+    alike-trans table start other (alike-sym start table (all_alike values start table all))
     (all_alike others start other all_other)
 
 -- inserts into an empty table make the table of their values
@@ -307,7 +307,7 @@ made_of seed log2_bits hashes values table all =
   where
     of_same : (s l h s' l' h' : ℕ) → s ≡ s' → l ≡ l' → h ≡ h' →
         InsertsAll values (empty_table s l h) table → InsertsAll values (empty_table s' l' h') table
-    of_same s l h s' l' h' e f g made = rw (← e, ← f, ← g) made
+    of_same s l h s' l' h' e f g stands-inserts = rw (← e, ← f, ← g) stands-inserts
 
 -- inserts add to the values that a table stands for, and to its count
 all_inserted : (values earlier : List (List ℕ)) (n : ℕ) (before after : Table) →
@@ -337,9 +337,9 @@ no_bits seed log2_bits hashes i is =
     ap (λ b. bit_at b (i % 8)) (zeros-get (byte_count log2_bits) (i / 8)) ∙ bit_at-zero (i % 8) in
     suc-ne-zero 0 (sym is ∙ zero)
 
-made : (values : List (List ℕ)) (table : Table) → IsMadeOf values table →
+stands-inserts : (values : List (List ℕ)) (table : Table) → IsMadeOf values table →
     StandsFor table values × (table.count ≡ count_after (length values))
-made values table all =
+stands-inserts values table all =
     let empty = empty_table table.seed table.log2_bits table.hashes in
     let stands = none empty (no_bits table.seed table.log2_bits table.hashes) in
     let done = all_inserted values [] 0 empty table all stands refl in
@@ -351,13 +351,13 @@ made_once : (seed log2_bits hashes : ℕ) (values : List (List ℕ)) (table othe
     InsertsAll values (empty_table seed log2_bits hashes) other →
     IsTable table → IsTable other → table ≡ other
 made_once seed log2_bits hashes values table other all all_other is is_other =
-    let one = made values table (made_of seed log2_bits hashes values table all) in
-    let two = made values other (made_of seed log2_bits hashes values other all_other) in
+    let one = stands-inserts values table (made_of seed log2_bits hashes values table all) in
+    let two = stands-inserts values other (made_of seed log2_bits hashes values other all_other) in
     let same = both_alike values values _ table other all all_other in
     (same_once table other values values is is_other same.seed same.log2_bits same.hashes
     one.0 two.0 (λ fed. ((λ is. is), (λ is. is)))).1 (one.1 ∙ sym two.1)
 
--- so there is one form of these inserts
+-- the same inserts into an empty table have one form in bytes
 one_form : (seed log2_bits hashes : ℕ) (values : List (List ℕ)) (bytes others : List ℕ) →
     IsFormOfInserts seed log2_bits hashes values bytes →
     IsFormOfInserts seed log2_bits hashes values others → bytes ≡ others

@@ -12,7 +12,7 @@ pub(crate) fn is_set(bits: &[u8], i: usize) -> bool
 }
 
 // Sets bit `i`.
-#[tactic(auto, using(crate::proofs::BitLemmas::one_set))]
+#[tactic(auto, using(crate::proofs::BitLemmas::for_set))]
 pub(crate) fn set(bits: &mut [u8], i: usize)
     requires { i < length bits.old * 8 }
     ensures bits { (k : ℕ) → IsSet bits.new k ↔ (IsSet bits.old k ⊎ (k ≡ i)) }

@@ -1,4 +1,4 @@
-//! What can be wrong with bytes that are to be a table.
+//! Errors of reading a serialized table, and of creating one.
 
 ghost use Rattle.std.specs.Prelude.{◌++◌, Some, codes};
 ghost use Rattle.std.specs.Fmt.{DisplaysOnOk, decimal};
@@ -10,29 +10,29 @@ use datasketches::error::{Error, ErrorKind};
 use std::alloc::Global;
 use std::fmt;
 
-/// What is wrong with bytes that are to be a table.
+/// Why bytes are not a table, or sizes are not those of one.
 #[derive(Clone, Copy, Debug, PartialEq, Eq)]
 pub enum Fault {
     /// The header ends too early.
     HeaderEnds,
     /// The preamble longs are neither 2 nor 3.
     PreambleLongs(u8),
-    /// The serial version is not the one that the preamble longs tell of.
+    /// The serial version does not match the preamble longs.
     SerialVersion {
-        /// The version that the preamble longs tell of.
+        /// The version that the preamble longs imply.
         expected: u8,
-        /// The version that stands there.
+        /// The version in the bytes.
         actual: u8,
     },
-    /// The family is another one.
+    /// The family is not [`MEMBER`].
     Family(u8),
     /// `log2_bits` is not 6 to 20.
     Log2Bits(u8),
     /// `hashes` is not 1 to 16.
     Hashes(u8),
-    /// Byte 5 is no flag that the version allows, or byte 6 or 7 is not zero.
+    /// The version does not allow the flag in byte 5, or byte 6 or 7 is not zero.
     Reserved,
-    /// The flag tells that the count is unknown, and the count is not zero.
+    /// The flag says that the count is unknown, but the count is not zero.
     UnknownCount,
     /// The bits end too early.
     MissingBits {
@@ -77,7 +77,7 @@ impl fmt::Display for Fault {
     }
 }
 
-// What is wrong, and the byte that stands there.
+// Writes what is wrong, and the actual byte.
 fn write_got<W: fmt::Write>(text: &str, n: u8, f: &mut fmt::Formatter<W>) -> fmt::Result
     ensures { DisplaysOnOk W.write_str_gives f.old result
         (Some (text.now ++ (codes ", got " ++ decimal n))) f.new }
@@ -88,7 +88,7 @@ fn write_got<W: fmt::Write>(text: &str, n: u8, f: &mut fmt::Formatter<W>) -> fmt
 impl std::error::Error for Fault {}
 
 impl Fault {
-    // The error that tells of the fault, or that memory for its text ran out.
+    // The error with the fault's text, or `OutOfMemory` if there is no memory for the text.
     pub(crate) fn into_error(self, alloc: Global, kind: ErrorKind) -> Error
         ensures { Refuses kind (fault_text self) result }
     {

@@ -1,5 +1,5 @@
-//! The filter: a seed, two sizes and a count, by which values are inserted into bits and looked up
-//! in them.
+//! The filter: a seed, two sizes and a count, by which values are inserted into bits and looked up.
+//! The bits are passed beside it, since a table owns them and serialized bytes only lend them.
 
 ghost use Rattle.std.specs.Prelude.{◌≡◌, ℕ, ◌<◌, ◌^◌, ◌↔◌, List, IfSome, IsTrue, MatchOption, MatchResult, Some};
 ghost use Rattle.datasketches.specs.Bytes.{eight};
@@ -10,7 +10,7 @@ use crate::bits::{is_set, set};
 use crate::fault::Fault;
 use datasketches::hash::{Hash, XxHash64};
 
-/// All of a table but its bits.
+/// A table without its bits.
 #[derive(Clone, Copy)]
 pub(crate) struct Filter {
     pub(crate) seed: u64,
@@ -20,29 +20,38 @@ pub(crate) struct Filter {
     pub(crate) count: Option<u64>,
 }
 
-// Accepts exactly 6 to 20.
+// The limits of a table's sizes.
+const MIN_LOG2_BITS: u8 = 6;
+
+const MAX_LOG2_BITS: u8 = 20;
+
+const MIN_HASHES: u8 = 1;
+
+const MAX_HASHES: u8 = 16;
+
+// Accepts exactly the sizes within the limits.
 pub(crate) fn ensure_log2_bits(n: u8) -> Result<(), Fault>
     ensures { MatchResult result (λ _. IsLog2Bits n)
         (λ fault. (IsLog2Bits n → ⊥) × (fault ≡ Fault.Log2Bits n)) }
 {
-    if 6 <= n && n <= 20 {
+    if MIN_LOG2_BITS <= n && n <= MAX_LOG2_BITS {
         return Ok(());
     }
     Err(Fault::Log2Bits(n))
 }
 
-// Accepts exactly 1 to 16.
+// Accepts exactly the numbers of indexes within the limits.
 pub(crate) fn ensure_hashes(n: u8) -> Result<(), Fault>
     ensures { MatchResult result (λ _. IsHashes n)
         (λ fault. (IsHashes n → ⊥) × (fault ≡ Fault.Hashes n)) }
 {
-    if 1 <= n && n <= 16 {
+    if MIN_HASHES <= n && n <= MAX_HASHES {
         return Ok(());
     }
     Err(Fault::Hashes(n))
 }
 
-// How many bytes the bits of a table fill.
+// The number of bytes that the bits of a table fill.
 pub(crate) fn byte_count(log2_bits: u8) -> usize
     requires { IsLog2Bits log2_bits }
     ensures { result ≡ byte_count log2_bits }
@@ -51,7 +60,7 @@ pub(crate) fn byte_count(log2_bits: u8) -> usize
 }
 
 impl Filter {
-    // The filter of a table of no inserts.
+    // The filter of an empty table.
     pub(crate) fn new(seed: u64, log2_bits: u8, hashes: u8) -> Result<Filter, Fault>
         ensures { MatchResult result
             (λ filter. IsLog2Bits log2_bits × IsHashes hashes × (filter ≡
@@ -68,9 +77,8 @@ impl Filter {
         })
     }
 
-    // Inserts a value into the table with these bits. The word is read before: LLVM does not know
-    // that the bits lie elsewhere than the value, and would read it and multiply it again for each
-    // index.
+    // Inserts a value into the table with these bits. The word is read before the loop: LLVM cannot
+    // tell that the bits do not alias the value, and would read and multiply it for each index.
     pub(crate) fn insert<T: Hash>(&mut self, bits: &mut [u8], value: &T)
         requires { IsTable (table_of self.old bits.old) }
         ensures inserts { Inserts (T.fed value.now) (table_of self.old bits.old)
@@ -98,9 +106,9 @@ impl Filter {
         true
     }
 
-    // The value's index number `j`. A value that feeds the eight bytes of a number has that number
-    // as its `word`.
-    #[tactic(auto, unfolding(crate::specs::Table::index), using(crate::proofs::BitLemmas::masked))]
+    // The value's index number `j`. `word` is the number whose eight bytes the value feeds, if it
+    // feeds those of one number.
+    #[tactic(auto, unfolding(crate::specs::Table::index), using(crate::proofs::BitLemmas::for_index))]
     fn index<T: Hash>(&self, value: &T, word: Option<u64>, j: u8) -> usize
         requires word { IfSome word (λ n. T.fed value.now ≡ eight n) }
         requires size { IsLog2Bits self.now.log2_bits }

@@ -1,4 +1,4 @@
-//! The format of a table in bytes, written and read by place.
+//! The format of serialized tables, written and read by place: docs/formats.md shows it.
 
 ghost use Rattle.std.specs.Prelude.{◌≡◌, ◌+◌, ◌-◌, ◌<◌, ◌≤◌, ◌↔◌, [], ◌∷◌, Contains, length, take, drop, slice_index, IfSome, IsTrue, MatchResult};
 ghost use Rattle.datasketches.specs.Bytes.{eight, le};
@@ -11,7 +11,7 @@ use crate::fault::Fault;
 use crate::filter::{Filter, byte_count, ensure_hashes, ensure_log2_bits};
 use datasketches::codec::family::Family;
 
-/// The family of these tables. Their format is this crate's own, and not that of `BLOOMFILTER`.
+/// The family of these tables. Their format is not that of `BLOOMFILTER`.
 pub const MEMBER: Family = Family {
     id: 200,
     name: "MEMBER",
@@ -21,16 +21,17 @@ pub const MEMBER: Family = Family {
 
 const _: () = prove!(MEMBER.id == 200 && MEMBER.min_pre_longs == 2 && MEMBER.max_pre_longs == 3);
 
-// The preamble longs of version 1, and of version 2, which has the count. The version is one less.
+// The preamble longs of version 1, and of version 2, which has the count. The serial version is one
+// less.
 const LONGS_1: u8 = 2;
 
 const LONGS_2: u8 = 3;
 
-// How many bytes the header of version 2 has.
+// The number of bytes in the header of version 2.
 pub(crate) const HEADER_BYTES: usize = 24;
 
 impl Filter {
-    // The header in bytes of version 2.
+    // The header of version 2.
     pub(crate) fn to_bytes(self) -> [u8; HEADER_BYTES]
         ensures { result ≡ form2 (table_of self []) }
     {
@@ -47,8 +48,8 @@ impl Filter {
     }
 }
 
-// The filter and the bits of the table that the bytes are, in either version.
-#[tactic(auto, using(crate::proofs::FormLemmas::told))]
+// Reads a serialized table of either version: its filter and its bits.
+#[tactic(auto, using(crate::proofs::FormLemmas::for_read))]
 pub(crate) fn read(bytes: &[u8]) -> Result<(Filter, &[u8]), Fault>
     ensures { MatchResult result
         (λ parts. IsTable (table_of parts.0 parts.1.now)
@@ -70,7 +71,7 @@ pub(crate) fn read(bytes: &[u8]) -> Result<(Filter, &[u8]), Fault>
     Ok((filter, bits))
 }
 
-// The preamble longs, which tell the version.
+// Reads the preamble longs, the serial version and the family.
 fn read_kind(bytes: &[u8]) -> Result<u8, Fault>
     ensures { MatchResult result
         (λ longs. (longs ≡ slice_index bytes.now 0)
@@ -93,7 +94,7 @@ fn read_kind(bytes: &[u8]) -> Result<u8, Fault>
     Ok(longs)
 }
 
-// The two sizes, `log2_bits` and `hashes`.
+// Reads the two sizes, `log2_bits` and `hashes`.
 fn read_sizes(bytes: &[u8]) -> Result<(u8, u8), Fault>
     ensures { MatchResult result
         (λ sizes. (sizes.0 ≡ slice_index bytes.now 3) × (sizes.1 ≡ slice_index bytes.now 4)
@@ -107,7 +108,7 @@ fn read_sizes(bytes: &[u8]) -> Result<(u8, u8), Fault>
     Ok((log2_bits, hashes))
 }
 
-// The seed, and the count if it is known.
+// Reads the seed, and the count if it is known.
 fn read_numbers(bytes: &[u8], longs: u8) -> Result<(u64, Option<u64>), Fault>
     requires place { longs ≡ slice_index bytes.now 0 }
     requires version { Contains (2 ∷ 3 ∷ []) longs }
@@ -118,8 +119,8 @@ fn read_numbers(bytes: &[u8], longs: u8) -> Result<(u64, Option<u64>), Fault>
         × AllPass (length bytes.now) (number_steps bytes.now))
         (λ fault. IsFirstFault (length bytes.now) (number_steps bytes.now) fault) }
 {
-    let (flag, second, third) = (byte(bytes, 5)?, byte(bytes, 6)?, byte(bytes, 7)?);
-    if !is_flag(longs, flag, second, third) {
+    let (flag, reserved6, reserved7) = (byte(bytes, 5)?, byte(bytes, 6)?, byte(bytes, 7)?);
+    if !is_flag(longs, flag, reserved6, reserved7) {
         return Err(Fault::Reserved);
     }
     let seed = long(bytes, 8)?;
@@ -134,14 +135,14 @@ fn read_numbers(bytes: &[u8], longs: u8) -> Result<(u64, Option<u64>), Fault>
     Ok((seed, None))
 }
 
-// Whether the flag is one of these preamble longs, and the two bytes behind it are zero.
-fn is_flag(longs: u8, flag: u8, second: u8, third: u8) -> bool
-    ensures { IsTrue result ↔ (IsFlag longs flag × (second ≡ 0) × (third ≡ 0)) }
+// Whether the version allows the flag, and the two reserved bytes after it are zero.
+fn is_flag(longs: u8, flag: u8, reserved6: u8, reserved7: u8) -> bool
+    ensures { IsTrue result ↔ (IsFlag longs flag × (reserved6 ≡ 0) × (reserved7 ≡ 0)) }
 {
-    (flag == 0 || (longs == LONGS_2 && flag == 1)) && second == 0 && third == 0
+    (flag == 0 || (longs == LONGS_2 && flag == 1)) && reserved6 == 0 && reserved7 == 0
 }
 
-// Accepts exactly as many bytes behind `start` as the bits need.
+// Accepts exactly as many bytes after `start` as the bits need.
 fn ensure_bits(bytes: &[u8], start: usize, need: usize) -> Result<(), Fault>
     ensures { MatchResult result (λ _. length bytes.now ≡ start + need)
         (λ fault. IsFirstFault (length bytes.now) (bits_steps bytes.now start need) fault) }
@@ -159,7 +160,7 @@ fn ensure_bits(bytes: &[u8], start: usize, need: usize) -> Result<(), Fault>
     Ok(())
 }
 
-// The byte of the header at a place.
+// Reads the byte of the header at a place.
 fn byte(bytes: &[u8], place: usize) -> Result<u8, Fault>
     ensures { MatchResult result
         (λ byte. (place < length bytes.now) × (byte ≡ slice_index bytes.now place))
@@ -168,7 +169,7 @@ fn byte(bytes: &[u8], place: usize) -> Result<u8, Fault>
     bytes.get(place).copied().ok_or(Fault::HeaderEnds)
 }
 
-// The number in the eight bytes of the header from a place on.
+// Reads the number in the eight bytes of the header at a place.
 #[inline(always)]
 fn long(bytes: &[u8], place: usize) -> Result<u64, Fault>
     requires { place ≤ 16 }
@@ -182,9 +183,9 @@ fn long(bytes: &[u8], place: usize) -> Result<u64, Fault>
     }
 }
 
-// The bytes of a word, the lowest first.
+// The little-endian bytes of a word.
 #[inline(always)]
-#[tactic(auto, using(crate::proofs::FormLemmas::in_bytes))]
+#[tactic(auto, using(crate::proofs::FormLemmas::for_eight_bytes))]
 fn eight_bytes(word: u64) -> [u8; 8]
     ensures { result ≡ eight word }
 {

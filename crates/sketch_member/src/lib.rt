@@ -1,8 +1,8 @@
-//! The membership table: it answers whether a value was inserted. It has no false negatives, and
-//! may have false positives.
+//! A membership table: it tells whether a value was inserted. It has no false negatives, and may
+//! have false positives.
 //!
-//! It sees a value as the bytes that the value feeds. [`laws`] has what follows for a caller's
-//! proof. The crate `sketch_bloom` has a Bloom filter of any size, in a format that others read.
+//! It sees a value as the bytes that the value feeds. [`laws`] has facts for a caller's proof. The
+//! crate `sketch_bloom` has a Bloom filter of any size, in the format of Apache Parquet.
 #![tactic(auto)]
 
 mod bits;

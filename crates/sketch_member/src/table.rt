@@ -1,4 +1,4 @@
-//! The table that a caller owns.
+//! A table that owns its bits.
 
 ghost use Rattle.std.specs.Prelude.{◌≡◌, ℕ, ◌↔◌, length, IfOk, IsTrue, MatchResult};
 ghost use Rattle.sketch_member.specs.Faults.{IsNewError, IsStepsError, steps};
@@ -13,19 +13,19 @@ use datasketches::hash::Hash;
 use std::alloc::{AllocError, Global};
 use std::marker::Model;
 
-/// A set of values that keeps some bits of each value, and no value.
+/// A set of values that stores some bits of each value, and no value itself.
 ///
-/// It has 2^`log2_bits` bits, for a `log2_bits` of 6 to 20: at least 64 bits in 8 bytes, and at
-/// most 1,048,576 bits in 131,072 bytes. Each value has `hashes` indexes, 1 to 16. Index j is the
-/// low `log2_bits` bits of the XXH64 of the bytes that the value feeds, under the seed plus j
-/// modulo 2^64. An insert sets the bits at the value's indexes, and is counted.
+/// It has 2^`log2_bits` bits, for a `log2_bits` of 6 to 20: 8 to 131,072 bytes. Each value has
+/// `hashes` indexes, 1 to 16. Index j is the low `log2_bits` bits of the XXH64 of the bytes that
+/// the value feeds, under the seed plus j modulo 2^64. An insert sets the bits at the value's
+/// indexes, and is counted.
 ///
-/// There are no false negatives: a value that was inserted is contained. There may be false
-/// positives: other values are contained, too. No proof covers their rate.
+/// There are no false negatives: the table contains each value that was inserted. There may be
+/// false positives: it may contain other values. No proof covers their rate.
 ///
-/// Tables in bytes have a format of their own ([`MEMBER`](crate::MEMBER)). It is not that of the
-/// Bloom filters of [Apache DataSketches](https://datasketches.apache.org/), and neither can be
-/// read as the other.
+/// Serialized tables have a custom format ([`MEMBER`](crate::MEMBER)). It is not that of the Bloom
+/// filters of [Apache DataSketches](https://datasketches.apache.org/): neither can be read as the
+/// other.
 #[derive(Drop)]
 pub struct MemberTable {
     filter: Filter,
@@ -41,7 +41,7 @@ impl Model for MemberTable {
 }
 
 impl MemberTable {
-    /// A table with no bit set, of no inserts.
+    /// An empty table.
     ///
     /// # Memory
     ///
@@ -49,10 +49,10 @@ impl MemberTable {
     ///
     /// # Errors
     ///
-    /// Where `log2_bits` is not 6 to 20, and then where `hashes` is not 1 to 16: `InvalidArgument`.
-    /// Where memory runs out, for the bits or for the text of a refusal: `OutOfMemory`, with no
-    /// message.
-    #[tactic(auto, using(crate::proofs::BitLemmas::zeros))]
+    /// Returns `InvalidArgument` if `log2_bits` is not 6 to 20, or else if `hashes` is not 1 to 16.
+    /// Returns `OutOfMemory` with an empty message if there is no memory for the bits or for the
+    /// text of an error.
+    #[tactic(auto, using(crate::proofs::BitLemmas::for_new))]
     pub fn new(alloc: Global, seed: u64, log2_bits: u8, hashes: u8) -> Result<MemberTable, Error>
         ensures answer { MatchResult result
             (λ table. IsLog2Bits log2_bits × IsHashes hashes
@@ -68,17 +68,17 @@ impl MemberTable {
         Ok(MemberTable { filter, bits })
     }
 
-    /// The table that the bytes are, in version 1 or 2. In version 1 its count is unknown.
+    /// Reads a serialized table of version 1 or 2. In version 1 its count is unknown.
     ///
     /// # Memory
     ///
-    /// One request, for the bits. It is made once all bytes are checked.
+    /// One request, for the bits, after all bytes are checked.
     ///
     /// # Errors
     ///
-    /// Where the bytes are no table: `InvalidData`, for the first fault in the order of their
-    /// places. Where memory runs out, for the bits or for the text of a refusal:
-    /// `OutOfMemory`, with no message.
+    /// Returns `InvalidData` for the first fault, in the order of the bytes, if they are not a
+    /// table. Returns `OutOfMemory` with an empty message if there is no memory for the bits or for
+    /// the text of an error.
     pub fn from_bytes(alloc: Global, bytes: &[u8]) -> Result<MemberTable, Error>
         ensures { MatchResult result
             (λ table. IsTable table × IsForm table bytes.now)
@@ -92,7 +92,7 @@ impl MemberTable {
         Ok(MemberTable { filter, bits })
     }
 
-    /// Inserts a value. A known count grows by one and stays at the greatest `u64`; an unknown one
+    /// Inserts a value. A known count grows by one, and saturates at `u64::MAX`. An unknown count
     /// stays unknown.
     pub fn insert<T: Hash>(&mut self, value: &T)
         ensures { Inserts (T.fed value.now) self.old self.new }
@@ -100,26 +100,29 @@ impl MemberTable {
         self.filter.insert(&mut self.bits, value);
     }
 
-    /// Whether all bits at the value's indexes are set, as they are once it was inserted.
+    /// Whether all bits at the value's indexes are set. If not, the value was never inserted.
     pub fn contains<T: Hash>(&self, value: &T) -> bool
         ensures { IsTrue result ↔ IsMember self.now (T.fed value.now) }
     {
         self.filter.contains(&self.bits, value)
     }
 
-    /// How many inserts were counted. `None` if that is unknown: the table was read from bytes
-    /// without a count.
+    /// The number of inserts, or `None` if the table was read from bytes without a count.
     pub fn count(&self) -> Option<u64>
         ensures { result ≡ self.now.count }
     {
         self.filter.count
     }
 
-    /// The table in bytes of version 2: a header of 24 bytes, and then the bits.
+    /// Serializes the table in version 2: a header of 24 bytes, and then the bits.
     ///
     /// # Memory
     ///
-    /// One request, for all bytes. If it is refused, the call is.
+    /// One request, for all bytes.
+    ///
+    /// # Errors
+    ///
+    /// Returns `AllocError` if there is no memory.
     pub fn to_bytes(&self, alloc: Global) -> Result<Vec<u8>, AllocError>
         ensures { IfOk result (λ bytes. bytes.items ≡ form2 self.now) }
     {
@@ -130,8 +133,8 @@ impl MemberTable {
     }
 }
 
-/// What is true of every table, for a caller's proof: its numbers lie in their limits, and its bits
-/// fill their bytes. It does nothing.
+/// The sizes of every table are within their limits, and its bits fill their bytes. The function
+/// does nothing: its contract is the law.
 pub fn table_law(table: &MemberTable)
     ensures { IsTable table.now }
 {

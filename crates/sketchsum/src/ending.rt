@@ -1,33 +1,33 @@
-//! How the program ends.
+//! The program's exit status, and its line on standard error.
 
 ghost use Rattle.std.specs.Prelude.{◌≡◌};
 ghost use Rattle.sketchsum.specs.{status_of, line_of};
 
-/// Why a run answered no hash.
+/// Why a run wrote no hash.
 #[derive(Clone, Copy, Debug, PartialEq, Eq)]
 pub enum RunFault {
     /// A read failed. Nothing was written.
     Read,
-    /// The input did not end within the reads that were allowed. Nothing was written.
+    /// The input did not end within the allowed reads. Nothing was written.
     TooLong,
-    /// A write or the flush failed. How much was written is not known.
+    /// A write or the flush failed. How much was written is unknown.
     Write,
 }
 
-/// What became of a call of the program.
+/// The outcome of a run of the program.
 #[derive(Clone, Copy, Debug, PartialEq, Eq)]
 pub enum Outcome {
     /// The hash was written.
     Done,
-    /// The run stopped at a fault.
+    /// The run failed.
     Fault(RunFault),
-    /// Memory for the words of the call, or for the read buffer, ran out.
+    /// There is no memory for the arguments or for the read buffer.
     NoMemory,
-    /// The words of the call are not what the program takes.
+    /// The arguments are wrong.
     Usage,
 }
 
-/// The status that the program ends with, and its line on standard error: none on success.
+/// The exit status, and the line on standard error, which is empty on success.
 pub fn ending(end: Outcome) -> (u8, &'static str)
     ensures status { result.0 ≡ status_of end }
     ensures line { result.1.now ≡ line_of end }

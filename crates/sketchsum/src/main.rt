@@ -16,8 +16,7 @@ use std::io::{BufReader, ErrorKind};
 use std::process::ExitCode;
 use std::rt::Env;
 
-/// The size of the read buffer. With one of 4096 bytes, the system calls would take as long as the
-/// hash.
+/// The size of the read buffer. With 4096 bytes the system calls would take as long as the hash.
 const BUFFER_BYTES: usize = 65_536;
 
 fn main(rt: HostRuntime) -> ExitCode {
@@ -27,16 +26,16 @@ fn main(rt: HostRuntime) -> ExitCode {
     };
     let (status, line) = ending(outcome);
     if !line.is_empty() {
-        // The status tells the same if standard error is closed.
+        // If standard error is closed, the status still tells the outcome.
         let _ = rt.eprintln(line);
     }
     ExitCode::from(status)
 }
 
-// Reads the words, then parses them, then runs.
+// Reads the arguments, parses them, and runs.
 fn call(rt: &HostRuntime) -> Result<(), Outcome> {
-    let words = words(rt)?;
-    let Some((algorithm, seed)) = parse(&words) else {
+    let args = args(rt)?;
+    let Some((algorithm, seed)) = parse(&args) else {
         return Err(Outcome::Usage);
     };
     let Ok(mut input) = BufReader::with_capacity(rt.alloc(), BUFFER_BYTES, rt.stdin()) else {
@@ -45,18 +44,18 @@ fn call(rt: &HostRuntime) -> Result<(), Outcome> {
     run(algorithm, seed, &mut input, &mut rt.stdout()).map_err(Outcome::Fault)
 }
 
-// The words after the program's name. Fails if memory runs out, or if one is not UTF-8.
-fn words(rt: &HostRuntime) -> Result<Vec<String>, Outcome> {
-    let words = match env::args(&(Nameless(rt), rt.alloc())) {
-        Ok(words) => words,
+// The arguments after the program's name. Fails if there is no memory, or if one is not UTF-8.
+fn args(rt: &HostRuntime) -> Result<Vec<String>, Outcome> {
+    let args = match env::args(&(Nameless(rt), rt.alloc())) {
+        Ok(args) => args,
         Err(error) if error.kind() == ErrorKind::OutOfMemory => return Err(Outcome::NoMemory),
         Err(_) => return Err(Outcome::Usage),
     };
-    words.collect(rt.alloc()).map_err(|_| Outcome::NoMemory)
+    args.collect(rt.alloc()).map_err(|_| Outcome::NoMemory)
 }
 
-// The environment without the program's name, which need not be UTF-8: argument 0 is the first word
-// after it.
+// The environment without argument 0, the program's name. `env::args` fails at any argument that is
+// not UTF-8, and a program's name need not be.
 #[derive(Drop)]
 struct Nameless<'a>(&'a HostRuntime);
 

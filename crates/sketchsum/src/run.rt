@@ -1,4 +1,4 @@
-//! The hash of an input, from its reader to its writer.
+//! Reads an input and writes its hash.
 
 ghost use Rattle.std.specs.Prelude.{◌≡◌, ◌≢◌, ◌*◌, ◌^◌, ◌≤◌, length, OnOk, OnErr, Err};
 ghost use Rattle.std.specs.Io.KnownBytes.{IsAtEnd};
@@ -16,7 +16,11 @@ const PIECE_BYTES: usize = 4096;
 /// The most reads of a run: 16 TiB at most.
 const MAX_TURNS: u64 = 1 << 32;
 
-/// Writes the hash of what `reader` gives until its end, as [`run_bounded`] with 2^32 reads.
+/// Writes the hash of all that `reader` gives, by [`run_bounded`] with 2^32 reads.
+///
+/// # Errors
+///
+/// Returns what [`run_bounded`] returns.
 pub fn run<R: Read, W: Write>(
     algorithm: Algorithm,
     seed: u64,
@@ -35,9 +39,11 @@ pub fn run<R: Read, W: Write>(
 ///
 /// # Errors
 ///
-/// - [`RunFault::Read`] if a read fails, of whatever kind the error is. Nothing is written.
-/// - [`RunFault::TooLong`] if `turns` reads found no end. Nothing is written.
-/// - [`RunFault::Write`] if a write or the flush fails.
+/// - Returns [`RunFault::Read`] if a read fails, whatever the kind of the error. Nothing is
+///   written.
+/// - Returns [`RunFault::TooLong`] if the input does not end within `turns` reads. Nothing is
+///   written.
+/// - Returns [`RunFault::Write`] if a write or the flush fails.
 pub fn run_bounded<R: Read, W: Write>(
     algorithm: Algorithm,
     seed: u64,
@@ -64,7 +70,7 @@ pub fn run_bounded<R: Read, W: Write>(
     }
 }
 
-// Feeds all that the reader gives to the hasher.
+// Feeds the hasher all that the reader gives.
 fn read_into<H: Hasher, R: Read>(hasher: &mut H, turns: u64, reader: &mut R) -> Result<(), RunFault>
     ensures pieces { HasRead (R.remaining reader.old) (R.remaining reader.new)
         (λ bytes. (hasher.new ≡ H.after hasher.old bytes) × (length bytes ≤ 4096 * turns)

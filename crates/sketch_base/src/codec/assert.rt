@@ -27,8 +27,8 @@ pub fn insufficient_data(alloc: Global, tag: &'static str, error: io::Error) -> 
 ///
 /// # Errors
 ///
-/// Returns `InvalidData` for any other, or `OutOfMemory` with an empty message if there is no memory
-/// for the text.
+/// Returns `InvalidData` for any other, or `OutOfMemory` with an empty message if there is no
+/// memory for the text.
 pub fn ensure_serial_version_is(alloc: Global, expected: u8, actual: u8) -> Result<(), Error>
     ensures { AcceptsExactly (actual ≡ expected)
         (unsupported_serial_version_text expected actual) result }
@@ -44,8 +44,8 @@ pub fn ensure_serial_version_is(alloc: Global, expected: u8, actual: u8) -> Resu
 ///
 /// # Errors
 ///
-/// Returns `InvalidData` for any other, or `OutOfMemory` with an empty message if there is no memory
-/// for the text.
+/// Returns `InvalidData` for any other, or `OutOfMemory` with an empty message if there is no
+/// memory for the text.
 pub fn ensure_preamble_longs_in(alloc: Global, expected: &[u8], actual: u8) -> Result<(), Error>
     ensures { AcceptsExactly (Contains expected.now actual)
         (invalid_preamble_longs_text expected.now actual) result }
@@ -61,8 +61,8 @@ pub fn ensure_preamble_longs_in(alloc: Global, expected: &[u8], actual: u8) -> R
 ///
 /// # Errors
 ///
-/// Returns `InvalidData` for any other, or `OutOfMemory` with an empty message if there is no memory
-/// for the text.
+/// Returns `InvalidData` for any other, or `OutOfMemory` with an empty message if there is no
+/// memory for the text.
 pub fn ensure_preamble_longs_in_range(
     alloc: Global,
     start: Bound<u8>,

@@ -81,7 +81,8 @@ impl SketchBytes {
     ///
     /// # Errors
     ///
-    /// Returns `AllocError` if they do not fit and there is no memory. The writer is then unchanged.
+    /// Returns `AllocError` if they do not fit and there is no memory. The writer is then
+    /// unchanged.
     pub fn write(&mut self, buf: &[u8]) -> Result<(), AllocError>
         ensures { Writes buf.now self.old result self.new }
     {

@@ -81,8 +81,8 @@ impl Family {
     }
 }
 
-// Nothing calls this. Its clause is the format's table of families, so the prover rejects a constant
-// that differs from it.
+// Nothing calls this. Its clause is the format's table of families, so the prover rejects a
+// constant that differs from it.
 fn families() -> [Family; 10]
     ensures { map {B = ℕ × List ℕ × ℕ × ℕ}
         (λ family. (family.id, family.name.now, family.min_pre_longs, family.max_pre_longs)) result

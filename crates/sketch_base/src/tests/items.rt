@@ -68,7 +68,11 @@ fn numbers_are_read_back_in_the_order_of_their_writes(rt: HostRuntime) -> Result
     writer.write_i64_be(-2)?;
     writer.write_i32_le(-2147483648)?;
     let bytes = writer.into_bytes();
-    assert_same(&rt, bytes.as_slice(), b"\xff\xff\xff\xff\xff\xff\xff\xfe\0\0\0\x80");
+    assert_same(
+        &rt,
+        bytes.as_slice(),
+        b"\xff\xff\xff\xff\xff\xff\xff\xfe\0\0\0\x80",
+    );
     let mut reader = SketchSlice::new(&bytes);
     assert_same(&rt, reader.read_i64_be().ok(), Some(-2));
     assert_same(&rt, reader.read_i32_le().ok(), Some(-2147483648));

@@ -39,9 +39,9 @@ impl XxHash64 {
     ///
     /// Key i is the bytes from offset i up to offset i + 1, as Apache Arrow lays out strings. The
     /// first offset may be above 0. The column has as many keys as `out` has places, and one offset
-    /// more; further offsets are not read. A column without keys may have no offsets. Arrow's offsets
-    /// are signed: a negative one, read as unsigned, is at least 2^31 or 2^63, which is past the end
-    /// of all shorter columns.
+    /// more; further offsets are not read. A column without keys may have no offsets. Arrow's
+    /// offsets are signed: a negative one, read as unsigned, is at least 2^31 or 2^63, which is
+    /// past the end of all shorter columns.
     ///
     /// # Errors
     ///

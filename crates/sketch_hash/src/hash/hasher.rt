@@ -5,9 +5,9 @@ ghost use Rattle.sketch_base.specs.Bytes.{low_bytes, modulo};
 
 /// A hasher for a stream of bytes.
 ///
-/// Splitting the bytes into several writes gives the same hash as one write: two writes leave what one
-/// write of the joined bytes leaves, and an empty write changes nothing. No call fails. The hash can
-/// be read at any time, and writes can follow. The hashers of this crate never allocate.
+/// Splitting the bytes into several writes gives the same hash as one write: two writes leave what
+/// one write of the joined bytes leaves, and an empty write changes nothing. No call fails. The
+/// hash can be read at any time, and writes can follow. The hashers of this crate never allocate.
 ///
 /// A number is written as its little-endian bytes, and no hasher can change that.
 pub trait Hasher {

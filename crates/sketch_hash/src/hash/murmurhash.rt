@@ -46,8 +46,8 @@ impl Model for MurmurHash3X64128 {
       waiting = low_bytes h.count (h.low + h.high * 2 ^ 64);
     } };
 
-    // The bytes after the last full block wait: the first eight in `low`, those after them in `high`.
-    // Absent bytes are zeros.
+    // The bytes after the last full block wait: the first eight in `low`, those after them in
+    // `high`. Absent bytes are zeros.
     ghost invariant = { λ h. (h.count ≡ h.total % 16)
         × (h.low < 256 ^ min h.count 8) × (h.high < 256 ^ (h.count - 8)) };
 }
@@ -84,8 +84,8 @@ impl MurmurHash3X64128 {
         )
     }
 
-    /// The 16 bytes of a 128-bit hash in the order that the reference code leaves in memory and other
-    /// tools print: each word's lowest byte first.
+    /// The 16 bytes of a 128-bit hash in the order that the reference code leaves in memory and
+    /// other tools print: each word's lowest byte first.
     #[tactic(auto, using(crate::proofs::MurmurWrites::block_bytes))]
     pub fn bytes_of(hash: (u64, u64)) -> [u8; 16]
         ensures { result ≡ low_bytes 16 (hash.0 + hash.1 * 2 ^ 64) }
@@ -105,7 +105,8 @@ impl MurmurHash3X64128 {
         finalize(h1, h2, bytes.len() as u64)
     }
 
-    // Appends bytes to the partial block, which stays partial. `number` is their little-endian number.
+    // Appends bytes to the partial block, which stays partial. `number` is their little-endian
+    // number.
     #[inline(always)]
     #[tactic(auto, using(crate::proofs::MurmurWrites::for_write_within))]
     fn write_within(&mut self, bytes: &[u8], number: u128)
@@ -118,8 +119,8 @@ impl MurmurHash3X64128 {
         self.count += bytes.len();
     }
 
-    // Completes the partial block, and goes on after it. `number` is the little-endian number of the
-    // bytes, which are fewer than a block.
+    // Completes the partial block, and goes on after it. `number` is the little-endian number of
+    // the bytes, which are fewer than a block.
     #[inline(always)]
     #[tactic(auto, using(crate::proofs::MurmurWrites::for_complete_block))]
     fn complete_block(&mut self, bytes: &[u8], number: u128)
@@ -244,8 +245,8 @@ fn block_word(bytes: &[u8]) -> u64
 
 // The pair after one block of the words `k1` and `k2`.
 //
-// h2 depends on h1. Using h1 before its constant is added, and adding five times that constant to h2
-// at the end, takes one addition off the critical path.
+// h2 depends on h1. Using h1 before its constant is added, and adding five times that constant to
+// h2 at the end, takes one addition off the critical path.
 #[inline(always)]
 #[tactic(auto, using(crate::proofs::MurmurAnswers::for_step))]
 fn step(h1: u64, h2: u64, k1: u64, k2: u64) -> (u64, u64)
@@ -315,9 +316,9 @@ fn finalize(h1: u64, h2: u64, total: u64) -> (u64, u64)
     cross(fmix(h1), fmix(h2))
 }
 
-// `finalize` with a branch that changes nothing, as `fmix(0)` is 0. It keeps LLVM from vectorizing a
-// caller's loop over keys of 8 bytes, which is a third slower without AVX-512. `hash` does without:
-// there the branch makes keys of 1 to 8 bytes 10 % slower.
+// `finalize` with a branch that changes nothing, as `fmix(0)` is 0. It keeps LLVM from vectorizing
+// a caller's loop over keys of 8 bytes, which is a third slower without AVX-512. `hash` does
+// without: there the branch makes keys of 1 to 8 bytes 10 % slower.
 #[inline(always)]
 #[tactic(auto, unfolding(crate::specs::Murmur::finalize), using(crate::proofs::MurmurAnswers::for_finalize_unvectorized))]
 fn finalize_unvectorized(h1: u64, h2: u64, total: u64) -> (u64, u64)

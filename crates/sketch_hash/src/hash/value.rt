@@ -39,8 +39,8 @@ pub trait Hash {
         None
     }
 
-    /// XXH64 of the value's bytes under a seed. A type whose bytes are contiguous can implement it by
-    /// [`XxHash64::hash`], which is faster than a hasher.
+    /// XXH64 of the value's bytes under a seed. A type whose bytes are contiguous can implement it
+    /// by [`XxHash64::hash`], which is faster than a hasher.
     #[inline(always)]
     #[tactic(auto, using(crate::proofs::Xxh64Answers::of_one_write))]
     fn xxh64(&self, seed: u64) -> u64
@@ -89,8 +89,8 @@ pub trait HashStrategy<T: Eq> {
     ghost respects_eq: { (x y : T) → IsTrue (T.eq x y) → fed x ≡ fed y };
 }
 
-/// A value that is fed to hashers by the strategy `S`. It compares, clones and prints like the value
-/// itself, and dereferences to it.
+/// A value that is fed to hashers by the strategy `S`. It compares, clones and prints like the
+/// value itself, and dereferences to it.
 #[derive(Drop)]
 #[derive_where(Clone, Copy, PartialEq, Eq, PartialOrd, Ord; T)]
 pub struct Value<T, S> {
@@ -186,8 +186,8 @@ impl<T: Eq, S: HashStrategy<T>> Hash for Value<T, S> {
     }
 }
 
-/// Equal values feed equal bytes under every strategy. The function does nothing: its contract is the
-/// law.
+/// Equal values feed equal bytes under every strategy. The function does nothing: its contract is
+/// the law.
 pub fn value_law<T: Eq, S: HashStrategy<T>>()
     ensures { (x y : T) → IsTrue (T.eq x y) → S.fed x ≡ S.fed y }
 {}

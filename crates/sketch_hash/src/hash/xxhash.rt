@@ -32,13 +32,13 @@ const TWO_STRIPES: usize = 2 * STRIPE;
 /// XXH64: a fast hash of 64 bits for data that no adversary chooses.
 ///
 /// The number of bytes counts modulo 2^64. The count chooses between the two forms of the hash, for
-/// inputs of fewer than 32 bytes and for longer ones, so an input of 2^64 to 2^64 + 31 bytes has the
-/// short form.
+/// inputs of fewer than 32 bytes and for longer ones, so an input of 2^64 to 2^64 + 31 bytes has
+/// the short form.
 #[derive(Drop)]
 pub struct XxHash64 {
     seed: u64,
-    // One SIMD vector. Only `vector_round` computes with it: processors before AVX-512 multiply four
-    // words faster, so all other paths convert it to `ScalarLanes` and back.
+    // One SIMD vector. Only `vector_round` computes with it: processors before AVX-512 multiply
+    // four words faster, so all other paths convert it to `ScalarLanes` and back.
     lanes: u64x4,
     total: u64,
     buffer: [u8; STRIPE],
@@ -116,8 +116,9 @@ impl XxHash64 {
         avalanche(eight_step(seed.wrapping_add(PRIME5).wrapping_add(8), input))
     }
 
-    // Appends bytes to the partial stripe, which stays partial. Sets the fields after the copy: LLVM
-    // cannot tell that the copy does not alias them, and would reload fields that were set before.
+    // Appends bytes to the partial stripe, which stays partial. Sets the fields after the copy:
+    // LLVM cannot tell that the copy does not alias them, and would reload fields that were set
+    // before.
     #[inline(always)]
     #[tactic(auto, using(crate::proofs::Xxh64Writes::for_write_within))]
     fn write_within(&mut self, bytes: &[u8])
@@ -163,8 +164,8 @@ impl XxHash64 {
         self.lanes = lanes.into_vector();
     }
 
-    // Completes the partial stripe, and goes on after it. Converts the lanes to four words once, and
-    // sets the count first, so that it needs no register in between.
+    // Completes the partial stripe, and goes on after it. Converts the lanes to four words once,
+    // and sets the count first, so that it needs no register in between.
     #[inline(never)]
     fn write_across(&mut self, bytes: &[u8])
         requires short { length self.old.waiting < 32 }
@@ -241,8 +242,8 @@ impl Hasher for XxHash64 {
     ghost empty_write = { xxh64_after-empty };
 }
 
-/// The hash of one key of a column. Long keys are inlined too, and the tail has a loop, whose branches
-/// processors predict better: columns of mixed lengths are 10 % faster.
+/// The hash of one key of a column. Long keys are inlined too, and the tail has a loop, whose
+/// branches processors predict better: columns of mixed lengths are 10 % faster.
 #[inline(always)]
 #[tactic(auto, using(crate::proofs::Xxh64Answers::of_short, crate::proofs::Xxh64Answers::of_long))]
 pub(super) fn hash_one_of_many(bytes: &[u8], seed: u64) -> u64

@@ -30,5 +30,6 @@ returns c =
       sym long ∙ ap length made,
       sym (take-append-drop count c.args.input.now)
           ∙ ap (λ l. l ++ drop count c.args.input.now)
-          (ap (λ n. take n c.args.input.now) (sym long) ∙ c.has_prefix.ensures.0 c.if-not-has_prefix.false ∙ made),
+          (ap (λ n. take n c.args.input.now) (sym long)
+          ∙ c.has_prefix.ensures.0 c.if-not-has_prefix.false ∙ made),
     )

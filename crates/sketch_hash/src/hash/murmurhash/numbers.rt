@@ -87,7 +87,8 @@ fn combine_overlapping(first: u32, last: u32, width: usize, count: usize) -> u64
     u64::from(first) | (rest << (8 * width))
 }
 
-/// The words of `count` waiting bytes with a number placed after them. What exceeds a block is dropped.
+/// The words of `count` waiting bytes with a number placed after them. What exceeds a block is
+/// dropped.
 #[inline(always)]
 #[tactic(auto, using(crate::proofs::MurmurWrites::for_place_after))]
 pub(super) fn place_after(low: u64, high: u64, count: usize, number: u128) -> (u64, u64)

@@ -9,10 +9,11 @@ use super::{BLOCK, MurmurHash3X64128};
 use crate::hash::copy::copy_small;
 use crate::hash::hasher::Hasher;
 
-/// The state of a [`MurmurHash3X64128`]: a checkpoint of a stream that can be copied, saved and resumed.
+/// The state of a [`MurmurHash3X64128`]: a checkpoint of a stream that can be copied, saved and
+/// resumed.
 ///
-/// Only the first `total % 16` bytes of `waiting` count; the others may be anything, such as earlier
-/// input. Every value can be resumed.
+/// Only the first `total % 16` bytes of `waiting` count; the others may be anything, such as
+/// earlier input. Every value can be resumed.
 #[repr(C)]
 #[derive(Clone, Copy)]
 pub struct MurmurState {
@@ -31,7 +32,8 @@ impl MurmurState {
     #[inline(always)]
     #[tactic(auto, using(crate::proofs::MurmurWrites::murmur_state_stands_after))]
     pub fn write(&mut self, bytes: &[u8])
-        ensures after { murmur_state_of self.new ≡ murmur_after (murmur_state_of self.old) bytes.now }
+        ensures after { murmur_state_of self.new
+            ≡ murmur_after (murmur_state_of self.old) bytes.now }
         ensures stands { (seed : ℕ) (before : List ℕ) → MurmurStateStands self.old seed before →
             MurmurStateStands self.new seed (before ++ bytes.now) }
     {

@@ -103,9 +103,9 @@ pub(super) fn fold_stripes(lanes: &mut ScalarLanes, stripes: &[[u8; 32]])
     }
 }
 
-/// Folds `bytes`, which come after `count` waiting bytes in `buffer`: the stripe that they complete,
-/// if there is a partial one, and then full stripes straight from the slice. The bytes after the last
-/// full stripe go to the start of `buffer`.
+/// Folds `bytes`, which come after `count` waiting bytes in `buffer`: the stripe that they
+/// complete, if there is a partial one, and then full stripes straight from the slice. The bytes
+/// after the last full stripe go to the start of `buffer`.
 ///
 /// They are stored before the run of stripes: the next write reads them, and a processor is slow to
 /// read what it has just stored.

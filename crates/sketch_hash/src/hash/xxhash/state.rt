@@ -11,8 +11,8 @@ use std::simd::prelude::*;
 
 /// The state of an [`XxHash64`]: a checkpoint of a stream that can be copied, saved and resumed.
 ///
-/// Only the first `total % 32` bytes of `waiting` count; the others may be anything, such as earlier
-/// input. Every value can be resumed.
+/// Only the first `total % 32` bytes of `waiting` count; the others may be anything, such as
+/// earlier input. Every value can be resumed.
 #[repr(C)]
 #[derive(Clone, Copy)]
 pub struct XxHash64State {
@@ -68,7 +68,8 @@ impl XxHash64State {
         copy_small(&mut self.waiting, count, bytes);
     }
 
-    // Completes the partial stripe, and goes on after it. A separate call costs short writes nothing.
+    // Completes the partial stripe, and goes on after it. A separate call costs short writes
+    // nothing.
     #[inline(never)]
     fn write_across(&mut self, bytes: &[u8])
         requires { 32 ≤ self.old.total % 32 + length bytes.now }

@@ -32,10 +32,10 @@ fn fold_words(mut hash: u64, mut tail: &[u8]) -> (u64, &[u8])
     (hash, tail)
 }
 
-/// The hash after a tail of 16 bytes and more. Without a loop single keys of 16 and 24 bytes are 10 %
-/// faster. Columns of mixed lengths are slower, so they use [`fold_tail`].
+/// The hash after a tail of 16 bytes and more. Without a loop single keys of 16 and 24 bytes are 10
+/// % faster. Columns of mixed lengths are slower, so they use [`fold_tail`].
 #[inline(always)]
-#[tactic(auto, using(crate::proofs::Xxh64Answers::fold_pair, crate::proofs::Xxh64Answers::no_steps))]
+#[tactic(auto, using(crate::proofs::Xxh64Answers::for_fold_from_16))]
 pub(super) fn fold_from_16(hash: u64, tail: &[u8]) -> u64
     requires low { 16 ≤ length tail.now }
     requires high { length tail.now < 32 }
@@ -52,7 +52,7 @@ pub(super) fn fold_from_16(hash: u64, tail: &[u8]) -> u64
 
 /// The hash after a tail of fewer than 16 bytes, without a loop.
 #[inline(always)]
-#[tactic(auto, using(crate::proofs::Xxh64Answers::fold_eight, crate::proofs::Xxh64Answers::no_steps))]
+#[tactic(auto, using(crate::proofs::Xxh64Answers::for_fold_below_16))]
 pub(super) fn fold_below_16(mut hash: u64, tail: &[u8]) -> u64
     requires { length tail.now < 16 }
     ensures { result ≡ fold tail_step hash (steps tail.now) }

@@ -1,4 +1,4 @@
-//! A type and a strategy of one's own.
+//! A custom type and a custom strategy.
 
 ghost use Rattle.std.specs.Prelude.{◌≡◌, ◌++◌, IsTrue, reverse};
 ghost use Rattle.std.proofs.Common.{rules};
@@ -41,7 +41,7 @@ impl HashStrategy<u64> for BigEndianStrategy {
     ghost respects_eq = { Prim.search rules };
 }
 
-/// Equal values feed equal bytes, under a strategy of anybody's.
+/// Equal values feed equal bytes under any strategy.
 pub fn equal_values_feed_equal_bytes<T: Eq, S: HashStrategy<T>>(x: &T, y: &T)
     ensures { IsTrue (T.eq x.now y.now) → S.fed x.now ≡ S.fed y.now }
 {

@@ -28,14 +28,13 @@ fn read_fields(bytes: &[u8]) -> io::Result<(u8, u8, u8, u16)>
     Ok((longs, version, family, reader.read_u16_le()?))
 }
 
-/// Checks the preamble of a serialized HLL sketch that was made with the seed: preamble longs,
-/// serial version, family and seed hash.
+/// Checks the preamble of a serialized HLL sketch with this seed: preamble longs, serial version,
+/// family and seed hash.
 ///
 /// # Errors
 ///
-/// Where bytes are missing, or at the first field that is wrong: `InvalidData`. Where the seed's
-/// own hash is zero: `InvalidArgument`. Where memory for the text runs out: `OutOfMemory`, with no
-/// message.
+/// Returns `InvalidData` if bytes are missing or a field is wrong, `InvalidArgument` if the seed's
+/// own hash is zero, and `OutOfMemory` with an empty message if there is no memory for the text.
 pub fn check_preamble(alloc: Global, bytes: &[u8], seed: u64) -> Result<(), Error>
     ensures { MatchResult result
         (λ _. HasPreamble seed bytes.now) (λ _. HasPreamble seed bytes.now → ⊥) }
@@ -49,11 +48,11 @@ pub fn check_preamble(alloc: Global, bytes: &[u8], seed: u64) -> Result<(), Erro
     check_seed_hash(alloc, expected, actual, "hll", ErrorKind::InvalidData)
 }
 
-/// Writes such a preamble, to which the sketch's own bytes can be added.
+/// Writes the preamble of a serialized HLL sketch. The sketch's own bytes can be appended to it.
 ///
 /// # Errors
 ///
-/// Where the seed's hash is zero: `InvalidArgument`. Where memory runs out: `OutOfMemory`.
+/// Returns `InvalidArgument` if the seed's hash is zero, and `OutOfMemory` if there is no memory.
 pub fn write_preamble(alloc: Global, seed: u64) -> Result<Vec<u8>, Error>
     ensures { IfOk result (λ bytes. HasPreamble seed bytes.items) }
 {
