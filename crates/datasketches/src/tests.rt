@@ -1,4 +1,4 @@
-//! The calls that tell of collisions, and the original's paths.
+//! Calls of the collision laws, and the original's paths.
 
 ghost use Rattle.std.specs.Prelude.{◌≡◌, ◌↔◌, IsTrue};
 ghost use Rattle.datasketches.specs.Bytes.{modulo, twos_complement};
@@ -25,21 +25,21 @@ fn assert_same<T: PartialEq + Debug + Drop>(rt: &impl Abort, left: T, right: T) 
 }
 
 #[test]
-fn murmur_tells_apart_sentences_that_differ_in_their_cut_off_block(rt: HostRuntime) {
+fn murmur_pairs_differ_for_different_last_blocks(rt: HostRuntime) {
     let (of_fox, of_eog) = murmur_both(0, FOX, 0, EOG);
     assert_same(&rt, of_fox, (0xe34b_bc7b_bc07_1b6c, 0x7a43_3ca9_c49a_9347));
     assert_same(&rt, of_eog, (0x3621_0810_2c62_d1c9, 0x3285_cd10_0292_b305));
 }
 
 #[test]
-fn murmur_tells_two_seeds_apart(rt: HostRuntime) {
+fn murmur_pairs_differ_for_different_seeds(rt: HostRuntime) {
     let (first, second) = murmur_both(0, &[], 1, &[]);
     assert_same(&rt, first, (0, 0));
     assert!(rt; second != first);
 }
 
 #[test]
-fn xxh64_of_two_seeds(rt: HostRuntime) {
+fn xxh64_hashes_differ_for_different_seeds(rt: HostRuntime) {
     let of_nothing = (0xef46_db37_51d8_e999, 0xac75_fda2_929b_17ef);
     assert_same(&rt, xx_both(0, &[], OTHER_SEED, &[]), of_nothing);
     let stripe = &TEST_BUFFER[..32];
@@ -48,7 +48,7 @@ fn xxh64_of_two_seeds(rt: HostRuntime) {
 }
 
 #[test]
-fn xxh64_tells_apart_every_last_byte_after_a_stripe(rt: HostRuntime) {
+fn xxh64_hashes_differ_for_different_last_bytes(rt: HostRuntime) {
     for change in 1..=255 {
         let mut last = TEST_BUFFER;
         last[32] ^= change;
@@ -58,8 +58,8 @@ fn xxh64_tells_apart_every_last_byte_after_a_stripe(rt: HostRuntime) {
     }
 }
 
-// Whether a signed and an unsigned key of 64 bits are one key.
-fn is_one_key(seed: u64, x: i64, y: u64) -> bool
+// Whether a signed and an unsigned key of 64 bits have equal XXH64 hashes.
+fn have_equal_hashes(seed: u64, x: i64, y: u64) -> bool
     ensures { IsTrue result ↔ (modulo 64 x ≡ modulo 64 (twos_complement 64 y)) }
 {
     integer_law();
@@ -67,13 +67,13 @@ fn is_one_key(seed: u64, x: i64, y: u64) -> bool
 }
 
 #[test]
-fn keys_of_64_bits_are_one_where_they_agree_modulo_two_to_the_64(rt: HostRuntime) {
-    assert!(rt; is_one_key(9001, -1, u64::MAX));
-    assert!(rt; !is_one_key(9001, -1, 1));
+fn keys_equal_modulo_2_to_the_64_have_equal_hashes(rt: HostRuntime) {
+    assert!(rt; have_equal_hashes(9001, -1, u64::MAX));
+    assert!(rt; !have_equal_hashes(9001, -1, 1));
 }
 
 #[test]
-fn everything_stands_under_its_original_path(rt: HostRuntime) {
+fn items_have_their_original_paths(rt: HostRuntime) {
     let mut reader = SketchSlice::new(&[7]);
     let mut places = [Item::U8(0)];
     assert!(rt; reader.read_items(&[Kind::U8], &mut places).is_ok());

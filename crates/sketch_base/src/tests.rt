@@ -1,4 +1,4 @@
-//! Tests of what no clause says: worked rows, printed texts, and memory that is refused.
+//! Tests of what no clause says: worked rows, printed texts, and refused requests for memory.
 
 mod checks;
 mod codec;
@@ -32,13 +32,13 @@ fn assert_line(rt: &impl Abort, error: Error, line: &str) {
 /// Asserts that an error displays this line, or that memory for its text ran out.
 fn assert_line_or_refusal<R: Abort + Eprint>(rt: &R, error: Error, line: &str) {
     if error.kind() == ErrorKind::OutOfMemory {
-        tell_refusal(rt);
+        print_out_of_memory(rt);
         return assert_line(rt, error, "OutOfMemory");
     }
     assert_line(rt, error, line);
 }
 
-/// Writes the line that tells of a refused request for memory.
-fn tell_refusal(rt: &impl Eprint) {
+/// Prints the line by which the tests of failures know of a refused request for memory.
+fn print_out_of_memory(rt: &impl Eprint) {
     let _ = rt.eprintln("out of memory");
 }

@@ -1,5 +1,5 @@
-//! Tests of what no clause says: worked rows, printed texts, and memory that is refused. Streams
-//! cut in every way, and answers from elsewhere, stand in `sketch_vectors`.
+//! Tests of what no clause says: worked rows, printed texts, and refused requests for memory.
+//! Streams in every split, and answers of other libraries, are in `sketch_vectors`.
 
 mod columns;
 mod hashers;
@@ -10,7 +10,7 @@ use std::fmt::Debug;
 use std::io::Eprint;
 use std::process::Abort;
 
-/// The sentence that hashes are shown on, and its hashes under seed 0.
+/// The sentence of the tests, and its hashes with seed 0.
 const FOX: &[u8] = b"The quick brown fox jumps over the lazy dog";
 
 const FOX_MURMUR: (u64, u64) = (0xe34b_bc7b_bc07_1b6c, 0x7a43_3ca9_c49a_9347);
@@ -25,7 +25,7 @@ const FOX_PIECES: [&[u8]; 4] = [
     b"he lazy dog",
 ];
 
-/// The first bytes of the buffer that xxHash's own tests make.
+/// The first bytes of the buffer of xxHash's own tests.
 fn test_buffer() -> [u8; 100] {
     let mut bytes = [0; 100];
     let mut state: u64 = 0x9E37_79B1;
@@ -41,7 +41,7 @@ fn assert_same<T: PartialEq + Debug + Drop>(rt: &impl Abort, left: T, right: T) 
     assert_eq!(rt; left, right);
 }
 
-/// Writes the line that tells of a refused request for memory.
-fn tell_refusal(rt: &impl Eprint) {
+/// Prints the line by which the tests of failures know of a refused request for memory.
+fn print_out_of_memory(rt: &impl Eprint) {
     let _ = rt.eprintln("out of memory");
 }

@@ -1,4 +1,4 @@
-//! Tables in numbers that are known from elsewhere, printed texts, and refused requests for memory.
+//! Tables with known bytes, printed texts, and refused requests for memory.
 
 mod format;
 mod table;
@@ -34,7 +34,7 @@ fn prints<D: Display + Drop>(value: D, text: &str) -> bool {
     is_whole && printed.get(..count) == Some(text.as_bytes())
 }
 
-// Asserts that an answer is a refusal of this kind and message, and hands on one of memory.
+// Asserts that a call fails with this kind and message. Returns an error for lack of memory.
 fn refuse<T: Drop>(
     rt: &impl Abort,
     answer: Result<T, Error>,
@@ -48,12 +48,12 @@ fn refuse<T: Drop>(
     if error.kind() == ErrorKind::OutOfMemory {
         return Err(error);
     }
-    let is_told = error.kind() == kind && error.message() == message;
-    assert!(rt; is_told, "{message}");
+    let is_right = error.kind() == kind && error.message() == message;
+    assert!(rt; is_right, "{message}");
     Ok(())
 }
 
-// Asserts that what was tried is done, or that memory ran out, and tells so.
+// Asserts that a trial passed, or that there was no memory, which it prints.
 fn assert_done_or_no_memory<R: Abort + Eprint>(rt: &R, tried: Result<(), Error>) {
     if let Err(error) = tried {
         let _ = rt.eprintln("out of memory");

@@ -1,4 +1,4 @@
-//! Checks of preambles: how they refuse, and that accepting takes no memory.
+//! Checks of preambles: their errors, and that accepting takes no memory.
 
 use super::{assert_line_or_refusal, assert_same};
 use crate::codec::SketchSlice;
@@ -16,7 +16,7 @@ fn assert_refused<R: Abort + Eprint>(rt: &R, answer: Result<(), Error>, line: &s
     }
 }
 
-// The two ends of a range, a number that is not in it, and how the refusal ends.
+// The two ends of a range, a number that is not in it, and the end of the error's text.
 const RANGES: [(Bound<u8>, Bound<u8>, u8, &'static str); 9] = [
     (Included(5), Included(3), 4, "[5, 3], got 4"),
     (Included(1), Excluded(3), 3, "[1, 3), got 3"),
@@ -34,15 +34,15 @@ fn assert_range_refused<R: Abort + Eprint>(rt: &R, answer: Result<(), Error>, en
     if message == Some("") {
         return assert_refused(rt, answer, "OutOfMemory");
     }
-    let told = message.and_then(|text| text.strip_prefix("invalid preamble longs: expected "));
-    assert_same(rt, told, Some(end));
+    let text = message.and_then(|text| text.strip_prefix("invalid preamble longs: expected "));
+    assert_same(rt, text, Some(end));
 }
 
 #[test]
 fn ranges_refuse_without_memory(rt: HostRuntime) {
-    for (start, end, actual, told) in &RANGES {
+    for (start, end, actual, text) in &RANGES {
         let answer = ensure_preamble_longs_in_range(rt.alloc(), *start, *end, *actual);
-        assert_range_refused(&rt, answer, told);
+        assert_range_refused(&rt, answer, text);
     }
 }
 
@@ -89,7 +89,7 @@ fn accepting_checks_take_no_memory(rt: HostRuntime) {
 }
 
 #[test]
-fn a_part_that_ends_early(rt: HostRuntime) {
+fn insufficient_data_names_the_part(rt: HostRuntime) {
     let refused = SketchSlice::new(&[]).read_u8().err();
     let error = refused.map(|refused| insufficient_data(rt.alloc(), "preamble", refused));
     let text = error.as_ref().map_or("", |error| error.message());

@@ -1,6 +1,6 @@
-//! Readers and writers: what is read, refused and left; with memory and without.
+//! Readers and writers, with memory and without.
 
-use super::{assert_same, tell_refusal};
+use super::{assert_same, print_out_of_memory};
 use crate::codec::Item::{self, U8, U32Be, U64Le};
 use crate::codec::{Kind, Short, SketchBytes, SketchSlice, Stopped};
 use std::alloc::AllocError;
@@ -15,7 +15,7 @@ fn reads_past_the_end_take_no_memory(rt: HostRuntime) {
 }
 
 #[test]
-fn a_refused_read_leaves_the_buffer(rt: HostRuntime) {
+fn a_failed_read_leaves_the_buffer_unchanged(rt: HostRuntime) {
     let mut buf = [0xaa, 0xbb, 0xcc, 0xdd];
     let mut reader = SketchSlice::new(&[1, 2, 3]);
     assert!(rt; reader.read_exact(&mut buf).is_err() && reader.remaining().is_empty());
@@ -23,7 +23,7 @@ fn a_refused_read_leaves_the_buffer(rt: HostRuntime) {
 }
 
 #[test]
-fn a_reader_advances_no_further_than_the_end(rt: HostRuntime) {
+fn advance_stops_at_the_end(rt: HostRuntime) {
     let mut reader = SketchSlice::new(&[1, 2, 3]);
     reader.advance(1);
     assert_same(&rt, reader.remaining(), &[2, 3]);
@@ -67,7 +67,7 @@ fn writes_within_room(rt: HostRuntime) -> Result<(), AllocError> {
 }
 
 #[test]
-fn a_hundred_thousand_numbers(rt: HostRuntime) -> Result<(), AllocError> {
+fn a_hundred_thousand_numbers_are_written(rt: HostRuntime) -> Result<(), AllocError> {
     let mut writer = SketchBytes::with_capacity(rt.alloc(), 0)?;
     for i in 0..100_000 {
         writer.write_u64_le(i)?;
@@ -106,8 +106,8 @@ fn lists_are_read_back_and_take_no_memory(rt: HostRuntime) {
 // What each of three writes adds.
 const PIECES: [&[u8]; 3] = [&[1, 0], &[2, 3, 4], &[0, 0, 0, 0, 0, 0, 0, 5]];
 
-// Writes the three, and checks that the writer has just those that were accepted, of which it
-// tells whether they are all.
+// Writes the three, and checks that the writer has exactly those that were accepted. Returns
+// whether all were.
 fn write_pieces(rt: &impl Abort, mut writer: SketchBytes) -> bool {
     let accepted = [
         writer.write_u16_le(1).is_ok(),
@@ -129,7 +129,7 @@ fn write_pieces(rt: &impl Abort, mut writer: SketchBytes) -> bool {
 fn writes_are_whole_or_nothing_without_memory(rt: HostRuntime) {
     let writer = SketchBytes::with_capacity(rt.alloc(), 0);
     if !writer.is_ok_and(|writer| write_pieces(&rt, writer)) {
-        tell_refusal(&rt);
+        print_out_of_memory(&rt);
     }
 }
 
@@ -137,18 +137,18 @@ fn writes_are_whole_or_nothing_without_memory(rt: HostRuntime) {
 fn writes_within_room_without_memory(rt: HostRuntime) {
     match SketchBytes::with_capacity(rt.alloc(), 13) {
         Ok(writer) => assert_same(&rt, write_pieces(&rt, writer), true),
-        Err(AllocError) => tell_refusal(&rt),
+        Err(AllocError) => print_out_of_memory(&rt),
     }
 }
 
 #[test]
-fn lists_tell_what_was_written_without_memory(rt: HostRuntime) {
+fn lists_return_what_was_written_without_memory(rt: HostRuntime) {
     let Ok(mut writer) = SketchBytes::with_capacity(rt.alloc(), 0) else {
-        return tell_refusal(&rt);
+        return print_out_of_memory(&rt);
     };
     let stopped = writer.write_items(&LIST).err();
     if stopped.is_some() {
-        tell_refusal(&rt);
+        print_out_of_memory(&rt);
     }
     let accepted = stopped.map_or(5, |stopped| stopped.accepted);
     let count = [0, 1, 5, 13, 14, 15].get(accepted).copied();
@@ -156,19 +156,19 @@ fn lists_tell_what_was_written_without_memory(rt: HostRuntime) {
     assert_same(&rt, Some(writer.into_bytes().as_slice()), written);
 }
 
-// The first two items fill the room of five bytes, which was the first request for memory. The
-// third item makes the second one.
+// The first two items fill the capacity of five bytes, which was the first request for memory. The
+// third item makes the second request.
 #[test]
 fn a_list_stops_where_the_second_request_is_refused(rt: HostRuntime) {
     let Ok(mut writer) = SketchBytes::with_capacity(rt.alloc(), 5) else {
-        return tell_refusal(&rt);
+        return print_out_of_memory(&rt);
     };
     let answer = writer.write_items(&LIST);
     let bytes = writer.into_bytes();
     if answer == Ok(()) {
         return assert_same(&rt, bytes.as_slice(), &BYTES);
     }
-    tell_refusal(&rt);
+    print_out_of_memory(&rt);
     assert_same(&rt, answer, Err(Stopped { accepted: 2 }));
     assert_same(&rt, bytes.as_slice(), &[1, 0, 0, 0, 2]);
     let mut places = [U8(0); 2];

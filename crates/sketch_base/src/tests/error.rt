@@ -1,6 +1,6 @@
-//! What errors print, and contexts for which memory runs out.
+//! What errors print, and contexts without memory.
 
-use super::{assert_line, assert_line_or_refusal, assert_same, tell_refusal};
+use super::{assert_line, assert_line_or_refusal, assert_same, print_out_of_memory};
 use crate::error::Error;
 use crate::error::ErrorKind::{self, InvalidArgument, InvalidData, OutOfMemory};
 use std::alloc::{AllocError, Global};
@@ -11,7 +11,7 @@ fn error_of(alloc: Global, kind: ErrorKind, message: &str) -> Result<Error, Allo
     Ok(Error::new(kind, String::from_str(alloc, message)?))
 }
 
-// Asserts that a text was made, and that it is this one.
+// Asserts that a text was built, and that it is this one.
 fn assert_text(rt: &impl Abort, made: Result<String, AllocError>, text: &str) {
     assert_same(rt, made.ok().as_deref(), Some(text));
 }
@@ -43,7 +43,7 @@ fn errors_show_their_contexts_line_by_line(rt: HostRuntime) -> Result<(), AllocE
 }
 
 #[test]
-fn messages_handed_in(rt: HostRuntime) -> Result<(), AllocError> {
+fn errors_print_the_given_message(rt: HostRuntime) -> Result<(), AllocError> {
     let wrong = error_of(rt.alloc(), InvalidArgument, "something went wrong")?;
     assert_line(&rt, wrong, "InvalidArgument => something went wrong");
     let bad = error_of(rt.alloc(), InvalidArgument, "bad input")?;
@@ -83,22 +83,22 @@ fn texts_that_are_built_have_their_kind(rt: HostRuntime) {
     }
 }
 
-// The error that an attempt to add a context left, and whether it was added.
+// The error after an attempt to add a context, and whether it was added.
 fn after_attempt(rt: &impl Eprint, added: Result<Error, Error>) -> (Error, bool) {
     match added {
         Ok(error) => (error, true),
         Err(error) => {
-            tell_refusal(rt);
+            print_out_of_memory(rt);
             (error, false)
         }
     }
 }
 
-// A context for which memory runs out leaves the error as it was.
+// Without memory for a context the error is unchanged.
 #[test]
 fn contexts_without_memory(rt: HostRuntime) {
     let Ok(error) = error_of(rt.alloc(), InvalidData, "parsing failed") else {
-        return tell_refusal(&rt);
+        return print_out_of_memory(&rt);
     };
     let added = error.with_context(rt.alloc(), "index", 42u8);
     let (error, has_index) = after_attempt(&rt, added);

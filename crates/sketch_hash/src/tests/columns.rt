@@ -1,4 +1,4 @@
-//! Columns of keys, and offsets that lie.
+//! Columns of keys, and wrong offsets.
 
 use super::{FOX, FOX_MURMUR, FOX_XXH64, assert_same};
 use crate::hash::{MurmurHash3X64128, XxHash64};
@@ -46,7 +46,7 @@ const WRONG: [(&[u32], usize); 4] = [
 ];
 
 #[test]
-fn the_first_wrong_offset_is_told(rt: HostRuntime) {
+fn the_first_wrong_offset_is_returned(rt: HostRuntime) {
     for (offsets, fault) in &WRONG {
         let mut hashes = [9; 2];
         let answer = XxHash64::hash_each(FOX, offsets, 7, &mut hashes);

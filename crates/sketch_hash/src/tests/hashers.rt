@@ -3,7 +3,7 @@
 use super::{FOX, FOX_MURMUR, FOX_PIECES, FOX_XXH64, assert_same, test_buffer};
 use crate::hash::{Hasher, MurmurHash3X64128, XxHash64};
 
-// What Murmur answers under seed 0 after a write of each piece.
+// Writes, and Murmur's pair with seed 0 after them.
 const MURMUR: [(&[&[u8]], (u64, u64)); 4] = [
     (&FOX_PIECES, FOX_MURMUR),
     (
@@ -35,7 +35,7 @@ fn murmur_of_pieces(rt: HostRuntime) {
     }
 }
 
-// What XXH64 answers: the seed, how many bytes of the test buffer, and the hash.
+// A seed, a number of bytes of the test buffer, and their XXH64.
 const XXH64: [(u64, usize, u64); 5] = [
     (0, 0, 0xef46_db37_51d8_e999),
     (0x9E37_79B1, 0, 0xac75_fda2_929b_17ef),
@@ -54,18 +54,18 @@ fn xxh64_of_the_test_buffer(rt: HostRuntime) {
 }
 
 #[test]
-fn xxh64_is_asked_and_goes_on(rt: HostRuntime) {
+fn xxh64_continues_after_finish(rt: HostRuntime) {
     let mut hasher = XxHash64::with_seed(0);
     let bytes = test_buffer();
-    let (stripe, behind) = bytes.split_at(32);
+    let (stripe, rest) = bytes.split_at(32);
     hasher.write(stripe);
     assert_same(&rt, hasher.finish64(), 0x18b2_1649_2bb4_4b70);
-    hasher.write(&behind[..1]);
+    hasher.write(&rest[..1]);
     assert_same(&rt, hasher.finish(), 0x55c8_dc3e_578f_5b59);
 }
 
 #[test]
-fn one_call_answers_as_a_hasher(rt: HostRuntime) {
+fn one_call_equals_a_hasher(rt: HostRuntime) {
     assert_same(&rt, MurmurHash3X64128::hash(FOX, 0), FOX_MURMUR);
     assert_same(&rt, XxHash64::hash(FOX, 0), FOX_XXH64);
     let mut hasher = XxHash64::with_seed(0);
@@ -75,19 +75,19 @@ fn one_call_answers_as_a_hasher(rt: HostRuntime) {
     assert_same(&rt, above_32_bits, 0xbe51_7b2e_515c_75b5);
 }
 
-// A state is written to, taken up by a hasher, and given back.
+// A state is written to, and resumed by a hasher.
 #[test]
-fn states_go_on(rt: HostRuntime) {
-    let (front, back) = FOX.split_at(20);
+fn states_are_resumed(rt: HostRuntime) {
+    let (prefix, rest) = FOX.split_at(20);
     let mut murmur = MurmurHash3X64128::with_seed(0).state();
-    murmur.write(front);
+    murmur.write(prefix);
     let mut resumed = MurmurHash3X64128::resume(&murmur);
-    resumed.write(back);
+    resumed.write(rest);
     assert_same(&rt, resumed.finish128(), FOX_MURMUR);
     let mut xxh64 = XxHash64::with_seed(0).state();
-    xxh64.write(front);
+    xxh64.write(prefix);
     let mut resumed = XxHash64::resume(&xxh64);
-    resumed.write(back);
+    resumed.write(rest);
     assert_same(&rt, resumed.finish64(), FOX_XXH64);
 }
 
@@ -122,14 +122,12 @@ fn numbers_are_written_lowest_byte_first(rt: HostRuntime) {
     for place in 0..8 {
         let mut murmur = MurmurHash3X64128::with_seed(7);
         write_number(&mut murmur, place);
-        assert_same(
-            &rt,
-            murmur.finish128(),
-            MurmurHash3X64128::hash(NUMBERS[place], 7),
-        );
-        let mut xxh64 = XxHash64::with_seed(7);
+        let expected = murmur_of(7, &[NUMBERS[place]]);
+        assert_same(&rt, murmur.finish128(), expected);
+        let (mut xxh64, mut expected) = (XxHash64::with_seed(7), XxHash64::with_seed(7));
         write_number(&mut xxh64, place);
-        assert_same(&rt, xxh64.finish64(), XxHash64::hash(NUMBERS[place], 7));
+        expected.write(NUMBERS[place]);
+        assert_same(&rt, xxh64.finish64(), expected.finish64());
     }
 }
 

@@ -1,6 +1,6 @@
-//! Seed hashes, and how they are refused.
+//! Seed hashes, and their errors.
 
-use super::{assert_same, tell_refusal};
+use super::{assert_same, print_out_of_memory};
 use crate::hash::{check_seed_hash, compute_seed_hash};
 use sketch_base::error::{Error, ErrorKind};
 use std::io::{Eprint, Write};
@@ -25,11 +25,20 @@ fn displays(error: &Error, line: &str) -> bool {
 
 // Asserts that an error displays this line, or that memory for it ran out.
 fn assert_refused<R: Abort + Eprint>(rt: &R, error: Option<Error>, line: &str) {
-    let is_told = error.as_ref().is_some_and(|error| displays(error, line));
-    if !is_told && error.is_some_and(|error| displays(&error, "OutOfMemory")) {
-        return tell_refusal(rt);
+    let is_right = error.as_ref().is_some_and(|error| displays(error, line));
+    if !is_right && error.is_some_and(|error| displays(&error, "OutOfMemory")) {
+        return print_out_of_memory(rt);
     }
-    assert!(rt; is_told, "not {line}");
+    assert!(rt; is_right, "not {line}");
+}
+
+#[test]
+fn refused_seeds_have_the_given_kind(rt: HostRuntime) {
+    let (alloc, kind) = (rt.alloc(), ErrorKind::InvalidData);
+    let error = compute_seed_hash(alloc, 50541, kind).err();
+    assert_same(&rt, error.map(|error| error.kind()), Some(kind));
+    let error = check_seed_hash(alloc, 37836, 1, "theta", kind).err();
+    assert_same(&rt, error.map(|error| error.kind()), Some(kind));
 }
 
 #[test]

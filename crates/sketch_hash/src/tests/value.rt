@@ -1,6 +1,6 @@
-//! A wrapped value behaves as the value.
+//! A wrapped value behaves like the value.
 
-use super::{FOX_MURMUR, FOX_PIECES, assert_same, tell_refusal};
+use super::{FOX_MURMUR, FOX_PIECES, assert_same, print_out_of_memory};
 use crate::hash::value::{calculate_hash, feed_all, natural_extend, raw_bytes, sign_extend};
 use crate::hash::{Hash, MurmurHash3X64128};
 use std::cmp::Ordering;
@@ -28,7 +28,7 @@ fn hashes_of_values_take_no_memory(rt: HostRuntime) {
 }
 
 #[test]
-fn values_of_a_list_in_order(rt: HostRuntime) {
+fn values_of_a_list_are_fed_in_order(rt: HostRuntime) {
     let pieces = FOX_PIECES.map(raw_bytes::from_slice);
     let mut hasher = MurmurHash3X64128::with_seed(0);
     feed_all(&pieces, &mut hasher);
@@ -36,7 +36,7 @@ fn values_of_a_list_in_order(rt: HostRuntime) {
 }
 
 #[test]
-fn words_are_told_where_eight_bytes_are_fed(rt: HostRuntime) {
+fn word_is_the_number_whose_bytes_are_fed(rt: HostRuntime) {
     assert_same(&rt, natural_extend::from_i8(-1).word(), Some(u64::MAX));
     assert_same(
         &rt,
@@ -50,12 +50,15 @@ fn words_are_told_where_eight_bytes_are_fed(rt: HostRuntime) {
 #[test]
 fn clones_without_memory(rt: HostRuntime) {
     let Ok(bytes) = Vec::from_slice(rt.alloc(), &[1, 2, 3]) else {
-        return tell_refusal(&rt);
+        return print_out_of_memory(&rt);
     };
     let value = raw_bytes::from_vec(bytes);
     match value.clone() {
         Ok(clone) => assert!(rt; clone == value),
-        Err(_) => tell_refusal(&rt),
+        Err(_) => print_out_of_memory(&rt),
     }
-    assert_same(&rt, value.as_slice(), &[1, 2, 3]);
+    let mut hasher = MurmurHash3X64128::with_seed(0);
+    value.hash(&mut hasher);
+    let expected = MurmurHash3X64128::hash(&[1, 2, 3], 0);
+    assert_same(&rt, hasher.finish128(), expected);
 }

@@ -1,10 +1,12 @@
+//! Bytes that are not a table, and the text of each error.
+
 use super::{ONE_VALUE_1, ONE_VALUE_2, assert_done_or_no_memory, prints, refuse};
 use crate::{Fault, MemberTable};
 use datasketches::error::{Error, ErrorKind};
 use std::alloc::Global;
 use std::process::Abort;
 
-// A place in the bytes of a table, another byte there, and how that is refused.
+// A place in the bytes of a table, another byte there, and the error's message.
 type Change = (usize, u8, &'static str);
 
 const CHANGES_1: [Change; 6] = [
@@ -47,24 +49,19 @@ fn try_changes(rt: &impl Abort, alloc: Global) -> Result<(), Error> {
     Ok(())
 }
 
-// Each beginning of the bytes of a table with eight bytes of bits.
-fn try_beginnings(
-    rt: &impl Abort,
-    alloc: Global,
-    bytes: &[u8],
-    header: usize,
-) -> Result<(), Error> {
+// Each prefix of the bytes of a table with eight bytes of bits.
+fn try_prefixes(rt: &impl Abort, alloc: Global, bytes: &[u8], header: usize) -> Result<(), Error> {
     for count in 0..bytes.len() {
-        let front = &bytes[..count];
+        let prefix = &bytes[..count];
         if count < header {
             let message = "insufficient data (member table): unexpected end of file";
-            refuse_bytes(rt, alloc, front, message)?;
+            refuse_bytes(rt, alloc, prefix, message)?;
         } else {
             let have = count - header;
-            let told = format!(in alloc;
+            let message = format!(in alloc;
                 "insufficient data (member bits): expected 8, got {have}"
             )?;
-            refuse_bytes(rt, alloc, front, &told)?;
+            refuse_bytes(rt, alloc, prefix, &message)?;
         }
     }
     Ok(())
@@ -79,35 +76,35 @@ fn try_longer(rt: &impl Abort, alloc: Global) -> Result<(), Error> {
 }
 
 #[test]
-fn the_first_fault_is_told_without_memory(rt: HostRuntime) {
+fn the_first_fault_is_returned_without_memory(rt: HostRuntime) {
     assert_done_or_no_memory(&rt, try_changes(&rt, rt.alloc()));
-    assert_done_or_no_memory(&rt, try_beginnings(&rt, rt.alloc(), &ONE_VALUE_1, 16));
-    assert_done_or_no_memory(&rt, try_beginnings(&rt, rt.alloc(), &ONE_VALUE_2, 24));
+    assert_done_or_no_memory(&rt, try_prefixes(&rt, rt.alloc(), &ONE_VALUE_1, 16));
+    assert_done_or_no_memory(&rt, try_prefixes(&rt, rt.alloc(), &ONE_VALUE_2, 24));
     assert_done_or_no_memory(&rt, try_longer(&rt, rt.alloc()));
 }
 
 // An error prints its kind and its message.
 #[test]
-fn a_refusal_prints_its_line(rt: HostRuntime) {
+fn an_error_prints_its_line(rt: HostRuntime) {
     let line = "InvalidData => insufficient data (member bits): expected 8, got 7";
     let answer = MemberTable::from_bytes(rt.alloc(), &ONE_VALUE_1[..23]);
     assert!(rt; answer.err().is_some_and(|error| prints(error, line)));
 }
 
-// Whether an error, as std knows errors, prints this text, also in a width.
-fn says<E: std::error::Error + Copy>(fault: E, text: &str) -> bool {
+// Whether a standard error prints this text, with a width too.
+fn displays<E: std::error::Error + Copy>(fault: E, text: &str) -> bool {
     prints(fault, text) && prints(format_args!("{fault:80}"), text)
 }
 
 #[test]
 fn a_fault_prints_what_is_wrong_with_no_memory(rt: HostRuntime) {
     assert!(rt;
-        says(
+        displays(
             Fault::TrailingBytes(1 << 40),
             "trailing bytes: 1099511627776"
         )
     );
-    assert!(rt; says(Fault::Reserved, "reserved bytes are not zero"));
+    assert!(rt; displays(Fault::Reserved, "reserved bytes are not zero"));
     let (expected, actual) = (2, 1);
     let fault = Fault::SerialVersion { expected, actual };
     let shown = "SerialVersion { expected: 2, actual: 1 }";

@@ -1,3 +1,5 @@
+//! Tables with known bits, in both versions.
+
 use super::{ONE_VALUE_1, ONE_VALUE_2, UNKNOWN_COUNT, assert_done_or_no_memory, refuse};
 use crate::MemberTable;
 use datasketches::error::{Error, ErrorKind};
@@ -59,7 +61,7 @@ fn try_tables(rt: &impl Abort, alloc: Global) -> Result<(), Error> {
     Ok(())
 }
 
-// Two sizes of which no table is.
+// Sizes that no table has.
 const SIZES: [(u8, u8, &'static str); 2] = [
     (5, 0, "invalid log2 bits: expected 6 to 20, got 5"),
     (20, 17, "invalid hashes: expected 1 to 16, got 17"),
@@ -113,8 +115,8 @@ fn try_read(rt: &impl Abort, alloc: Global) -> Result<(), Error> {
     let value = raw_bytes::from_str("");
     for (bytes, count, next_count, written) in READ {
         let mut table = MemberTable::from_bytes(alloc, bytes)?;
-        let told = (table.contains(&value), table.contains(&7u8), table.count());
-        assert_eq!(rt; told, (true, false, count));
+        let state = (table.contains(&value), table.contains(&7u8), table.count());
+        assert_eq!(rt; state, (true, false, count));
         try_bytes(rt, alloc, &table, written)?;
         table.insert(&value);
         assert_eq!(rt; table.count(), next_count);
@@ -138,6 +140,15 @@ fn tables_are_written_and_read(rt: HostRuntime) -> Result<(), Fail> {
 }
 
 #[test]
+fn wrong_sizes_are_invalid_arguments(rt: HostRuntime) {
+    for (log2_bits, hashes, _) in SIZES {
+        let error = MemberTable::new(rt.alloc(), 0, log2_bits, hashes).err();
+        let kind = error.map(|error| error.kind());
+        assert_eq!(rt; kind, Some(ErrorKind::InvalidArgument));
+    }
+}
+
+#[test]
 fn tables_without_memory(rt: HostRuntime) {
     assert_done_or_no_memory(&rt, try_one_value(&rt, rt.alloc()));
     assert_done_or_no_memory(&rt, try_tables(&rt, rt.alloc()));
@@ -146,7 +157,7 @@ fn tables_without_memory(rt: HostRuntime) {
     assert_done_or_no_memory(&rt, try_read(&rt, rt.alloc()));
 }
 
-// Of every size: one request for the bits, none for inserts and questions.
+// Of every size: one request for the bits, none for inserts and look-ups.
 #[test]
 fn tables_of_every_size_make_240_requests(rt: HostRuntime) -> Result<(), Fail> {
     for size in 0..240u8 {

@@ -29,7 +29,7 @@ fn answers(pieces: &[&[u8]]) -> ((u64, u64), u64) {
 }
 
 #[test]
-fn two_writes_answer_as_one(rt: HostRuntime) {
+fn two_writes_equal_one(rt: HostRuntime) {
     let all = counting_bytes();
     for len in 0..=97 {
         let bytes = &all[..len];
@@ -41,7 +41,7 @@ fn two_writes_answer_as_one(rt: HostRuntime) {
 }
 
 #[test]
-fn one_call_answers_as_a_hasher(rt: HostRuntime) {
+fn one_call_equals_a_hasher(rt: HostRuntime) {
     let all = counting_bytes();
     for len in 0..=97 {
         let bytes = &all[..len];
@@ -70,7 +70,7 @@ fn state_answers(pieces: &[&[u8]]) -> ((u64, u64), u64) {
 }
 
 #[test]
-fn three_writes_answer_as_one(rt: HostRuntime) {
+fn three_writes_equal_one(rt: HostRuntime) {
     let all = counting_bytes();
     let of_all = answers(&[&all]);
     for second in 0..=97 {
@@ -85,7 +85,7 @@ fn three_writes_answer_as_one(rt: HostRuntime) {
 }
 
 #[test]
-fn each_byte_can_be_asked_after(rt: HostRuntime) {
+fn the_hash_can_be_read_after_each_byte(rt: HostRuntime) {
     let all = counting_bytes();
     let mut both = Both::with_seeds(MURMUR_SEED, XXH64_SEED);
     for at in 0..97 {

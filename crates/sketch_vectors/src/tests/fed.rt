@@ -134,7 +134,7 @@ fn a_clone_feeds_what_its_original_feeds(rt: HostRuntime) -> Result<(), AllocErr
 }
 
 #[test]
-fn values_of_a_list_in_order(rt: HostRuntime) {
+fn values_of_a_list_are_fed_in_order(rt: HostRuntime) {
     let texts = [
         raw_bytes::from_str("ab"),
         raw_bytes::from_str(""),

@@ -10,7 +10,7 @@ use datasketches::hash::{Hasher, MurmurHash3X64128, XxHash64, compute_seed_hash}
 use std::alloc::Global;
 
 #[test]
-fn samples_are_answered_alike(rt: HostRuntime) {
+fn hashes_equal_those_of_the_original(rt: HostRuntime) {
     for line in ANSWERS.lines() {
         let (question, answer) = line.split_once(" = ").unwrap_or((line, ""));
         let expected = words_of(answer);

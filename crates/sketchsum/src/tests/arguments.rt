@@ -33,7 +33,7 @@ fn parse_texts(alloc: Global, words: &[&str]) -> Result<Option<(Algorithm, u64)>
 }
 
 #[test]
-fn two_words_ask_for_a_hash(rt: HostRuntime) -> Result<(), AllocError> {
+fn two_arguments_are_accepted(rt: HostRuntime) -> Result<(), AllocError> {
     for (words, asked) in &WORDS {
         assert_eq!(rt; parse_texts(rt.alloc(), words)?, *asked, "for {words:?}");
     }

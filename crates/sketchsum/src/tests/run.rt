@@ -129,7 +129,7 @@ fn end_of(line: Option<&str>) -> Result<(), RunFault> {
 }
 
 #[test]
-fn the_last_turn_has_to_find_the_end(rt: HostRuntime) {
+fn the_last_read_must_find_the_end(rt: HostRuntime) {
     for (algorithm, input, most, turns, line) in TURNS {
         let mut reader = SlowReader::new(input, most, None);
         let mut written = Vec::new(rt.alloc());
@@ -154,7 +154,7 @@ const WRITE_FAULTS: [(Algorithm, usize, Full, bool); 7] = [
 
 // A writer that fails once and would then take the rest has failed.
 #[test]
-fn a_write_that_fails_is_told(rt: HostRuntime) {
+fn a_failed_write_is_returned(rt: HostRuntime) {
     for (algorithm, room, when_full, can_flush) in WRITE_FAULTS {
         let mut writer = NarrowWriter::new(rt.alloc(), room, when_full, can_flush);
         let answer = run(algorithm, 0, &mut FOX, &mut writer);
