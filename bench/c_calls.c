@@ -1,5 +1,4 @@
-/* The calls for C beside xxHash, which is inlined or called, and beside Debian's libmurmurhash, a C
- * port of the reference, which is called. */
+/* The C calls compared with xxHash, inlined or called, and with Debian's libmurmurhash, a C port of the reference. */
 #define XXH_INLINE_ALL
 #include "../bindings/c/sketch_hash.h"
 #include "measure.h"
@@ -16,10 +15,10 @@ static uint64_t reference(const void *bytes, size_t length) {
 
 static unsigned char mixed[KEYS]; /* lengths of 1 to 64 */
 
-/* All that is called and can be is inlined, however often it stands here. */
+/* Inlines all calls that can be inlined, however often they appear here. */
 #define FLAT __attribute__((flatten)) static uint64_t
 
-/* Keys one after the other: of `length` bytes, or of mixed lengths where that is 0. */
+/* Keys one after the other: of `length` bytes, or of mixed lengths if that is 0. */
 #define KEYS_BY(NAME, CALL)                                        \
     FLAT NAME(size_t total, size_t length) {                       \
         uint64_t all = 0;                                          \
@@ -89,13 +88,15 @@ FLAT their_numbers(size_t total, size_t length) {
 static void column(const char *name, unsigned least, unsigned most) {
     for (size_t i = 0; i < KEYS; i++)
         offsets[i + 1] = offsets[i] + least + i * 2654435761u / 65536 % (most - least + 1);
-    compare("column", name, "XXH64 in a loop, inlined", ours_column, their_column, offsets[KEYS], 0);
+    compare("column", name, "XXH64 in a loop, inlined", ours_column, their_column, offsets[KEYS], 0,
+            KEYS);
 }
 
 static void keys(const char *name, size_t total, size_t length) {
-    compare("c", name, "XXH64, inlined", ours_xxh64, inlined_xxh64, total, length);
-    compare("c", name, "XXH64, called", ours_xxh64, their_xxh64, total, length);
-    compare("c", name, "reference Murmur, called", ours_murmur, their_murmur, total, length);
+    const size_t items = length ? total / length : KEYS;
+    compare("c", name, "XXH64, inlined", ours_xxh64, inlined_xxh64, total, length, items);
+    compare("c", name, "XXH64, called", ours_xxh64, their_xxh64, total, length, items);
+    compare("c", name, "reference Murmur, called", ours_murmur, their_murmur, total, length, items);
 }
 
 int main(void) {
@@ -108,7 +109,7 @@ int main(void) {
     keys("keys of 1 to 64 bytes", KEYS * 64, 0);
     for (size_t i = 0; i < sizeof writes / sizeof *writes; i++)
         compare("c", name_of("writes of %zu byte%s", writes[i]), "XXH64_update, inlined", ours_stream, their_stream,
-                STREAM, writes[i]);
+                STREAM, writes[i], STREAM / writes[i]);
     column("keys of 1 to 16 bytes", 1, 16);
     column("keys of 1 to 64 bytes", 1, 64);
     column("keys of 32 to 64 bytes", 32, 64);
@@ -117,7 +118,8 @@ int main(void) {
     column("keys of 31 bytes", 31, 31);
     column("keys of 64 bytes", 64, 64);
     for (size_t i = 0; i < KEYS; i++) numbers[i] = i * 0x9e3779b97f4a7c15;
-    compare("column", "numbers of 64 bits", "XXH64 in a loop, inlined", ours_numbers, their_numbers, 0, 0);
+    compare("column", "numbers of 64 bits", "XXH64 in a loop, inlined", ours_numbers, their_numbers, 0, 0,
+            KEYS);
     keys("64 KiB at once", 1 << 16, 1 << 16);
     keys("1 MiB at once", LARGEST, LARGEST);
     return 0;

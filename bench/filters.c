@@ -1,4 +1,4 @@
-/* The Bloom filter beside the same filter in plain C, and beside libbloom, in cache and in memory. */
+/* The Bloom filter compared with the same in plain C and with libbloom, in cache and in memory. */
 #define XXH_INLINE_ALL
 #include "../bindings/c/sketch_hash.h"
 #include "measure.h"
@@ -11,7 +11,7 @@ enum { KEY = 16 };
 static const uint32_t salt[8] = {0x47b6137b, 0x44974d91, 0x8824ad5b, 0xa2b7289d,
                                  0x705495c7, 0x2df1424b, 0x9efc4947, 0x5c6bfb31};
 
-static size_t bytes, keys, at; /* the filters' length, the keys in them, where the next call begins */
+static size_t bytes, keys, at; /* the filters' length, the keys in them, the first key of the next call */
 static unsigned char *ours, *theirs, *data;
 static uint64_t *given, offsets_of_keys[KEYS + 1];
 static struct bloom libbloom;
@@ -88,7 +88,7 @@ static void rows(const char *where) {
     };
     for (size_t i = 0; i < sizeof cells / sizeof *cells; i++) {
         snprintf(name, sizeof name, "%s, %s", cells[i].name, where);
-        compare("filter", name, cells[i].peer, cells[i].ours, cells[i].theirs, 104729 * KEYS, cells[i].other);
+        compare("filter", name, cells[i].peer, cells[i].ours, cells[i].theirs, 104729 * KEYS, cells[i].other, KEYS);
     }
 }
 

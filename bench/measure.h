@@ -1,4 +1,4 @@
-/* Times two functions in turn, and prints the median of their times' ratios with its spread. */
+/* Times two functions in turn, and prints the median of their times' ratios with its spread, and the time of a call. */
 #include <stdint.h>
 #include <stdio.h>
 #include <stdlib.h>
@@ -36,13 +36,13 @@ static inline int by_value(const void *a, const void *b) {
     return (x > y) - (x < y);
 }
 
-/* A line: the table, the case, the peer, and of the rounds' ratios the median and the tenth part
- * from below and from above. The two take turns, and take turns at being first. */
+/* Prints a line: the group, the case, the peer, the median of the rounds' ratios, their 10th and 90th percentile, and the
+ * median of our nanoseconds for each of `items` calls. The two take turns, and take turns at being first. */
 static inline void compare(const char *table, const char *name, const char *peer, work *ours,
-                           work *theirs, size_t total, size_t length) {
-    double ratios[ROUNDS];
+                           work *theirs, size_t total, size_t length, size_t items) {
+    double ratios[ROUNDS], times_of_ours[ROUNDS];
     if (ours(total, length) != theirs(total, length)) {
-        fprintf(stderr, "%s, %s, %s: two answers\n", table, name, peer);
+        fprintf(stderr, "%s, %s, %s: different results\n", table, name, peer);
         exit(1);
     }
     int times = (int)(4e-4 / seconds(ours, total, length, 1)) + 1;
@@ -51,9 +51,11 @@ static inline void compare(const char *table, const char *name, const char *peer
         double theirs_time = seconds(theirs, total, length, times);
         double ours_time = round % 2 ? ours_first : seconds(ours, total, length, times);
         ratios[round] = ours_time / theirs_time;
+        times_of_ours[round] = ours_time;
     }
     qsort(ratios, ROUNDS, sizeof *ratios, by_value);
-    printf("%s\t%s\t%s\t%.2f\t%.2f\t%.2f\n", table, name, peer, ratios[ROUNDS / 2],
-           ratios[ROUNDS / 10], ratios[ROUNDS - 1 - ROUNDS / 10]);
+    qsort(times_of_ours, ROUNDS, sizeof *times_of_ours, by_value);
+    printf("%s\t%s\t%s\t%.2f\t%.2f\t%.2f\t%.1f\n", table, name, peer, ratios[ROUNDS / 2], ratios[ROUNDS / 10],
+           ratios[ROUNDS - 1 - ROUNDS / 10], times_of_ours[ROUNDS / 2] / times / (double)items * 1e9);
     fflush(stdout);
 }

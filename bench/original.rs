@@ -1,5 +1,5 @@
-//! The hashers of DataSketches' Rust component behind C calls, and a Bloom filter over its XXH64. `hash/murmurhash.rs` and
-//! `hash/xxhash.rs` are its files, which `run` brings here.
+//! The hashers of DataSketches' Rust component behind C calls. `hash/murmurhash.rs` and `hash/xxhash.rs` are its files,
+//! which `run` copies here.
 #![allow(dead_code)]
 
 use std::hash::Hasher;
@@ -60,56 +60,3 @@ macro_rules! calls {
 
 calls!(XxHash64, their_xxh64_words, their_xxh64_keys, their_xxh64_stream);
 calls!(MurmurHash3X64128, their_murmur_words, their_murmur_keys, their_murmur_stream);
-
-struct Table {
-    mask: u64,
-    hashes: u64,
-    bits: Vec<u8>,
-}
-
-impl Table {
-    fn new(log2_bits: u8, hashes: u8) -> Self {
-        let bits = vec![0; (1 << log2_bits) / 8];
-        Table { mask: (1 << log2_bits) - 1, hashes: u64::from(hashes), bits }
-    }
-
-    fn index(&self, key: &impl AsRef<[u8]>, j: u64) -> usize {
-        let mut hasher = XxHash64::with_seed(7 + j);
-        hasher.write(key.as_ref());
-        (hasher.finish() & self.mask) as usize
-    }
-
-    fn insert(&mut self, key: &impl AsRef<[u8]>) {
-        for j in 0..self.hashes {
-            let i = self.index(key, j);
-            self.bits[i >> 3] |= 1 << (i & 7);
-        }
-    }
-
-    fn contains(&self, key: &impl AsRef<[u8]>) -> bool {
-        (0..self.hashes).all(|j| {
-            let i = self.index(key, j);
-            self.bits[i >> 3] >> (i & 7) & 1 == 1
-        })
-    }
-}
-
-/// Inserts the keys into a table, asks for all of them so many times, and counts those that are contained.
-fn found(mut table: Table, keys: impl Iterator<Item: AsRef<[u8]>> + Clone, times: usize) -> u64 {
-    keys.clone().for_each(|key| table.insert(&key));
-    (0..times).flat_map(|_| keys.clone()).filter(|key| table.contains(key)).count() as u64
-}
-
-#[unsafe(no_mangle)]
-pub unsafe extern "C" fn their_table(first: *const u64, count: usize, log2_bits: u8, hashes: u8, times: usize) -> u64 {
-    let words = unsafe { slice(first, count) }.iter();
-    found(Table::new(log2_bits, hashes), words.map(|word| word.to_le_bytes()), times)
-}
-
-#[unsafe(no_mangle)]
-pub unsafe extern "C" fn their_table_of_keys(
-    first: *const u8, count: usize, length: usize, log2_bits: u8, hashes: u8, times: usize,
-) -> u64 {
-    let keys = unsafe { slice(first, count) }.chunks_exact(length);
-    found(Table::new(log2_bits, hashes), keys, times)
-}

@@ -1,4 +1,4 @@
-"""Measures calls of the Python package beside python3-xxhash, by thread time, and prints lines of speed.tsv."""
+"""Compares calls of the Python package with python3-xxhash, by thread time, and prints lines of speed.tsv."""
 import statistics
 import time
 import timeit
@@ -21,19 +21,21 @@ seen.add(bytes(16))
 def timer(call, length, module=xxhash):
     data = bytes(length)
     names = {"module": module, "hash": module.xxh64_intdigest, "hasher": module.xxh64(data), "seen": seen, "data": data}
-    it = timeit.Timer(call, globals=names, timer=time.thread_time)
-    return lambda: it.timeit(1000)
+    timed = timeit.Timer(call, globals=names, timer=time.thread_time)
+    return lambda: timed.timeit(1000)
 
 
 def compare(case, peer, ours, theirs):
-    ratios = sorted(ours() / theirs() for _ in range(101))
-    print(f"python\t{case}\t{peer}\t{statistics.median(ratios):.2f}\t{ratios[10]:.2f}\t{ratios[90]:.2f}")
+    times = [(ours(), theirs()) for _ in range(101)]
+    ratios = sorted(our / their for our, their in times)
+    nanoseconds = statistics.median(our for our, _ in times) * 1e6
+    print(f"python\t{case}\t{peer}\t{ratios[50]:.2f}\t{ratios[10]:.2f}\t{ratios[90]:.2f}\t{nanoseconds:.1f}")
 
 
 for case, call, length in CASES:
     compare(case, "python3-xxhash", *(timer(call, length, module) for module in (sketch_hash, xxhash)))
 
-# A filter, which takes one hash of a key, beside that hash of python3-xxhash.
+# A filter takes one hash of a key: compare it with that hash by python3-xxhash.
 one = timer("hash(data)", 16)
 for case, call in (("add", "seen.add(data)"), ("look-up", "data in seen")):
     compare(f"{case} of a filter, 16 bytes", "`xxh64_intdigest`", timer(call, 16), one)

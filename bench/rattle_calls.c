@@ -13,23 +13,7 @@
     ON_INPUT(WHO##_xxh64_stream)                                                             \
     ON_INPUT(WHO##_murmur_words)                                                             \
     ON_INPUT(WHO##_murmur_keys)                                                              \
-    ON_INPUT(WHO##_murmur_stream)                                                            \
-    uint64_t WHO##_table(const void *words, size_t count, uint8_t log2_bits, uint8_t hashes, \
-                         size_t times);                                                      \
-    uint64_t WHO##_table_of_keys(const void *bytes, size_t count, size_t length,             \
-                                 uint8_t log2_bits, uint8_t hashes, size_t times);           \
-    static uint64_t WHO##_inserts(size_t count, size_t hashes) {                             \
-        return WHO##_table(input, count, 16, (uint8_t)hashes, 0);                            \
-    }                                                                                        \
-    static uint64_t WHO##_contains(size_t count, size_t hashes) {                            \
-        return WHO##_table(input, count, 16, (uint8_t)hashes, 20);                           \
-    }                                                                                        \
-    static uint64_t WHO##_key_inserts(size_t total, size_t length) {                         \
-        return WHO##_table_of_keys(input, total, length, 16, 7, 0);                          \
-    }                                                                                        \
-    static uint64_t WHO##_key_contains(size_t total, size_t length) {                        \
-        return WHO##_table_of_keys(input, total, length, 16, 7, 20);                         \
-    }
+    ON_INPUT(WHO##_murmur_stream)
 
 CALLS(ours)
 CALLS(their)
@@ -37,41 +21,29 @@ ON_INPUT(ours_xxh64_one_call)
 ON_INPUT(ours_murmur_one_call)
 
 static void both(const char *name, work *xxh64, work *their_xxh64, work *murmur,
-                 work *their_murmur, size_t total, size_t length) {
-    compare("rattle", name, "XXH64", xxh64, their_xxh64, total, length);
-    compare("rattle", name, "Murmur", murmur, their_murmur, total, length);
+                 work *their_murmur, size_t total, size_t length, size_t items) {
+    compare("rattle", name, "XXH64", xxh64, their_xxh64, total, length, items);
+    compare("rattle", name, "Murmur", murmur, their_murmur, total, length, items);
 }
 
 static void writes(const char *name, size_t total, size_t length) {
-    both(name, ours_xxh64_stream_, their_xxh64_stream_, ours_murmur_stream_, their_murmur_stream_, total, length);
-}
-
-static void values(const char *name, size_t hashes) {
-    compare("table", name, "inserts", ours_inserts, their_inserts, KEYS, hashes);
-    compare("table", name, "contains", ours_contains, their_contains, KEYS, hashes);
+    both(name, ours_xxh64_stream_, their_xxh64_stream_, ours_murmur_stream_, their_murmur_stream_, total, length,
+         total / length);
 }
 
 int main(void) {
-    static const size_t keys[] = {16, 24, 31, 32, 48, 64}, of_writes[] = {1, 7, 13, 100, 4096}, of_table[] = {5, 16, 40};
+    static const size_t keys[] = {16, 24, 31, 32, 48, 64}, of_writes[] = {1, 7, 13, 100, 4096};
     fill_input();
     both("keys of 8 bytes, as words", ours_xxh64_words_, their_xxh64_words_, ours_murmur_words_, their_murmur_words_,
-         KEYS, 8);
+         KEYS, 8, KEYS);
     for (size_t i = 0; i < sizeof keys / sizeof *keys; i++) {
         both(name_of("keys of %zu bytes", keys[i]), ours_xxh64_keys_, their_xxh64_keys_, ours_murmur_keys_,
-             their_murmur_keys_, KEYS * keys[i], keys[i]);
+             their_murmur_keys_, KEYS * keys[i], keys[i], KEYS);
         both(name_of("keys of %zu bytes, in one call", keys[i]), ours_xxh64_one_call_, their_xxh64_keys_,
-             ours_murmur_one_call_, their_murmur_keys_, KEYS * keys[i], keys[i]);
+             ours_murmur_one_call_, their_murmur_keys_, KEYS * keys[i], keys[i], KEYS);
     }
     for (size_t i = 0; i < sizeof of_writes / sizeof *of_writes; i++)
         writes(name_of("writes of %zu byte%s", of_writes[i]), STREAM, of_writes[i]);
     writes("1 MiB at once", LARGEST, LARGEST);
-    values("values of 8 bytes, 1 index", 1);
-    values("values of 8 bytes, 7 indexes", 7);
-    values("values of 8 bytes, 16 indexes", 16);
-    for (size_t i = 0; i < sizeof of_table / sizeof *of_table; i++) {
-        const char *name = name_of("keys of %zu bytes, 7 indexes", of_table[i]);
-        compare("table", name, "inserts", ours_key_inserts, their_key_inserts, KEYS * of_table[i], of_table[i]);
-        compare("table", name, "contains", ours_key_contains, their_key_contains, KEYS * of_table[i], of_table[i]);
-    }
     return 0;
 }
