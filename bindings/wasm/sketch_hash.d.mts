@@ -41,10 +41,11 @@ export interface MurmurStream extends Stream {
 }
 
 /**
- * The split block Bloom filter of Apache Parquet, which Spark, Arrow and DuckDB read. It contains each key that was added,
- * and reports some others too. Its bytes are in the module's memory, until the filter is collected as garbage.
+ * The split block Bloom filter of Apache Parquet, which Spark, Arrow and DuckDB read. It contains each key that was
+ * added, and reports some others too. Its bytes are in the module's memory, until the filter is collected as garbage.
  *
- * A key is the value's plain bytes in Parquet: those of a text without a length, those of a number with the lowest first.
+ * A key is the value's plain bytes in Parquet: those of a text without a length, those of a number with the lowest
+ * first.
  */
 export interface BloomFilter {
     /** How many bytes the filter has. */
@@ -99,8 +100,8 @@ export interface BloomFilterConstructor {
 }
 
 /**
- * The calls. Each throws a TypeError if an input, a column or a seed is of another type, and a RangeError if a seed is not
- * from 0 to 2^64 - 1, or if there is no memory. A seed is 0 if left out.
+ * The calls. Each throws a TypeError if an input, a column or a seed is of another type, and a RangeError if a seed is
+ * not from 0 to 2^64 - 1, or if there is no memory. A seed is 0 if left out.
  */
 export interface Library {
     /** The module's version, as '2.0.0'. */
@@ -137,9 +138,9 @@ export interface Library {
 }
 
 /**
- * Loads the module: from sketch_hash.wasm beside this file, or from another URL, which is relative to this file, or from its
- * bytes.
+ * Loads the module from sketch_hash.wasm in the folder of this file, from another URL, which may be relative to this
+ * file, or from its bytes.
  *
- * @throws {Error} if the engine lacks 64-bit memories, or the module cannot be read, or is not one
+ * @throws {Error} if the engine lacks 64-bit memories, or what is loaded cannot be read, or is not a module
  */
 export function load(source?: URL | string | Input): Promise<Library>;
