@@ -8,7 +8,7 @@ from libc.stdint cimport uint32_t, uint64_t, uintptr_t
 from ._columns cimport HASHES, NUMBERS32, NUMBERS64, OFFSETS32, OFFSETS64, Column, check_offsets
 from ._library cimport *
 from ._memory cimport (
-    LONG, Lock, PyBuffer_Release, PyObject_GetBuffer, View, acquire, get_bytes, release, wait, word_of,
+    LONG, Lock, PyBuffer_Release, PyObject_GetBuffer, View, acquire, get_bytes, is_held, release, wait, word_of,
 )
 
 import math
@@ -340,25 +340,18 @@ cdef class BloomFilter:
     def __ior__(self, other):
         if not isinstance(other, BloomFilter):
             return NotImplemented
-        # A copy, which lies elsewhere even if both are views of one buffer; and no call waits for two locks.
-        cdef bytes data = other.to_bytes()
-        cdef const char *bits = data
-        cdef size_t length = len(data), own_length
-        cdef int status
-        self.begin(length >= LONG)
-        own_length = self.bits.len
-        if self.bits.readonly:
-            status = READ_ONLY
-        elif length < LONG:
-            status = sketch_bloom_merge(self.bits.buf, self.bits.len, bits, length)
-        else:
-            with nogil:
-                status = sketch_bloom_merge(self.bits.buf, self.bits.len, bits, length)
-        if length >= LONG:
-            release(self.lock)
-        if status and own_length and status != READ_ONLY:
-            raise ValueError(f"filters of {own_length} and {length} bytes cannot be merged: create both with one size")
-        self.check(status)
+        cdef BloomFilter source = other
+        if overlap(&self.bits, &source.bits):
+            source = source.copy()
+        # It keeps the GIL, so no long call on either filter begins, and no call waits while it holds a lock.
+        while is_held(<void *>self.lock) or is_held(<void *>source.lock):
+            wait(<void *>self.lock)
+            wait(<void *>source.lock)
+        source.check(0)
+        self.check(READ_ONLY if self.bits.readonly else 0)
+        if sketch_bloom_merge(self.bits.buf, self.bits.len, source.bits.buf, source.bits.len):
+            raise ValueError(f"filters of {self.bits.len} and {source.bits.len} bytes cannot be merged: "
+                             "create both with one size")
         return self
 
     def __or__(self, other):
@@ -387,16 +380,18 @@ cdef class BloomFilter:
         """to_parquet($self)\n--\n\nReturns the filter as it is in a Parquet file: a header and the bits. Their length is the
         column's bloom_filter_length. A filter of 2**31 bytes or more raises ValueError."""
         cdef unsigned char header[SKETCH_BLOOM_HEADER_MAX]
-        cdef size_t length
-        data = self.to_bytes()
-        length = sketch_bloom_header_write(len(data), header, sizeof(header))
+        wait(<void *>self.lock)
+        self.check(0)
+        cdef size_t length = sketch_bloom_header_write(self.bits.len, header, sizeof(header))
         if length == 0:
-            raise ValueError(f"a filter in a Parquet file has less than 2**31 bytes, and not {len(data)}")
-        return (<char *>header)[:length] + data
+            raise ValueError(f"a filter in a Parquet file has less than 2**31 bytes, and not {self.bits.len}")
+        return b"".join(((<char *>header)[:length], self))
 
     def copy(self):
         """copy($self)\n--\n\nReturns a filter with the same keys and memory of its own."""
-        return type(self).from_bytes(self.to_bytes())
+        wait(<void *>self.lock)
+        self.check(0)
+        return copied(type(self), self.bits.buf, self.bits.len)
 
     def __reduce_ex__(self, protocol):
         data = self.to_bytes()

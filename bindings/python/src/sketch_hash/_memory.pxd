@@ -44,10 +44,15 @@ cdef inline void release(Lock lock) noexcept:
     PyThread_release_lock(lock.handle)
 
 
+cdef inline bint is_held(void *lock) noexcept:
+    """None is the lock of an object that had no long call. The lock is borrowed: to count references to it takes a
+    twentieth of a call."""
+    return lock is not <void *>None and (<Lock>lock).is_held
+
+
 cdef inline void wait(void *lock) noexcept:
-    """Begins a short call, which keeps the GIL, so that no long call begins before it is done. None is the lock of an
-    object that had no long call. The lock is lent: to count references to it takes a twentieth of a call."""
-    if lock is not <void *>None and (<Lock>lock).is_held:
+    """Begins a short call, which keeps the GIL, so that no long call begins before it is done."""
+    if is_held(lock):
         with nogil:
             PyThread_acquire_lock((<Lock>lock).handle, WAIT_LOCK)
         PyThread_release_lock((<Lock>lock).handle)
