@@ -11,7 +11,6 @@ from ._memory cimport (
     LONG, Lock, PyBuffer_Release, PyObject_GetBuffer, View, acquire, get_bytes, is_held, release, wait, word_of,
 )
 
-import math
 import operator
 import pickle
 
@@ -421,7 +420,5 @@ cdef object one_in_of(object error_rate):
         raise ValueError(f"error_rate is above 0 and below 1, as 0.01 for one key in a hundred, and not {error_rate}")
     if rate < 2.0**-63:
         return 2**64 - 1
-    one_in = math.ceil(1 / rate)
-    if one_in > 2 and 1 / (one_in - 1) <= rate:  # 1 / rate was rounded up
-        return one_in - 1
+    one_in = round(1 / rate)
     return one_in if 1 / one_in <= rate else one_in + 1
