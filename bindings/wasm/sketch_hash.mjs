@@ -66,7 +66,6 @@ function checkedColumn(column, types, name) {
     throw new TypeError(`${name} must be one of ${types.join(', ')}`);
 }
 
-
 /** Throws the error that a status of the library stands for. */
 function check(status, wrongOffset) {
     if (status === 0) return;

@@ -18,9 +18,7 @@ test('the bytes are those of Arrow', () => {
     assert.ok(keys.every((key) => filter.has(key)) && !filter.has('fox'));
 });
 
-test('a text is its UTF-8', () => {
-    assert.deepEqual(new BloomFilter(64).add('Grüße').toBytes(), new BloomFilter(64).add(bytes('Grüße')).toBytes());
-});
+test('a text is its UTF-8', () => assert.ok(filled().add('Grüße').has(bytes('Grüße'))));
 
 test('a key may be longer than the copied pieces', () => {
     const filter = new BloomFilter(64).add(long);
@@ -33,12 +31,9 @@ test('a hash may be added in place of its key', () => {
     assert.deepEqual([filter.hasHash(xxh64(bytes('a0'))), filter.hasHash(last)], [true, false]);
 });
 
-test('a filter for keys has a power of two bytes', () => {
+test('a filter for keys has at most 128 MiB', () => {
     assert.equal(BloomFilter.forKeys(1_000_000, 100n).length, 2 ** 21);
     assert.equal(BloomFilter.bytesFor(0, 100), 32);
-});
-
-test('too many keys are an error', () => {
     assert.throws(() => BloomFilter.forKeys(1e9, 100), /^RangeError: no Bloom filter of at most 128 MiB/);
 });
 
@@ -105,17 +100,11 @@ test('filters of different lengths are not merged', () => {
 });
 
 test('a filter in a file is a header and the bytes', () => {
-    assert.deepEqual(filled().toParquet(), new Uint8Array(Buffer.concat([headerOf1024, filled().toBytes()])));
-});
-
-test('a filter is read from the middle of a file', () => {
-    const file = Buffer.concat([bytes('PAR1'), filled().toParquet(), bytes('PAR1')]);
-    assert.deepEqual(BloomFilter.fromParquet(file.subarray(4)).toBytes(), filled().toBytes());
-    assert.throws(() => BloomFilter.fromParquet(file), /does not begin with the header/);
-});
-
-test('a truncated file is an error', () => {
     const file = filled().toParquet();
+    assert.deepEqual(file, new Uint8Array(Buffer.concat([headerOf1024, filled().toBytes()])));
+    const longer = Buffer.concat([file, bytes('PAR1')]);
+    assert.deepEqual(BloomFilter.fromParquet(longer).toBytes(), filled().toBytes());
+    assert.throws(() => BloomFilter.fromParquet(longer.subarray(1)), /does not begin with the header/);
     assert.throws(() => BloomFilter.fromParquet(file.subarray(0, 15)), /does not begin with the header/);
     assert.throws(() => BloomFilter.fromParquet(file.subarray(0, 1039)), /ends before the Bloom filter does/);
 });

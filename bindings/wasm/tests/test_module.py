@@ -1,4 +1,4 @@
-"""The module by npm test, its types by tsc, its package by npm, and in Chromium."""
+"""The module under Node, its types by tsc, and its package by npm."""
 import pathlib
 import re
 import shutil
@@ -7,7 +7,7 @@ import subprocess
 import pytest
 
 HERE = pathlib.Path(__file__).resolve().parent
-FOX = "The quick brown fox jumps over the lazy dog"
+DIST = HERE.parents[2] / "dist"
 
 
 @pytest.mark.parametrize("name", sorted(it.name for it in HERE.glob("*.test.mjs")))
@@ -28,10 +28,10 @@ def test_types_take_what_they_say(need, tmp_path):
 
 
 @pytest.fixture
-def project(need, tmp_path, dist):
+def project(need, tmp_path):
     """A project that has the package from dist/, as `npm install` copies it."""
     need("node 20", "npm")
-    subprocess.run(["npm", "pack", "--silent", "--pack-destination", tmp_path, dist / "wasm"], check=True)
+    subprocess.run(["npm", "pack", "--silent", "--pack-destination", tmp_path, DIST / "wasm"], check=True)
     folder = tmp_path / "node_modules/sketch-hash"
     folder.mkdir(parents=True)
     (archive,) = tmp_path.glob("*.tgz")
@@ -46,23 +46,3 @@ def test_program_of_the_page_prints_what_its_comments_say(project):
     flags = ["--experimental-wasm-memory64"] if version < "v24" else []
     expected = [it.split(":")[0] for it in re.findall(r"^console\.log\(.*\); // (.*)$", program, re.M)]
     assert subprocess.check_output(["node", *flags, "page.mjs"], cwd=project, text=True).splitlines() == expected
-
-
-def in_chromium(chromium, server, expression):
-    """The value of an expression in the browser, where `module` is the library and `fox` the bytes of a sentence."""
-    chromium.get(server.replace("index.html", "sketch_hash.mjs"))
-    script = f"""
-        const run = (module) => {{
-            const fox = new TextEncoder().encode(arguments[0]);
-            return {expression};
-        }};
-        import('/sketch_hash.mjs').then(({{ load }}) => load()).then(run).catch(String).then(arguments[1]);
-    """
-    return chromium.execute_async_script(script, FOX)
-
-
-def test_hashes_and_filters_in_chromium(chromium, server):
-    expression = "[module.xxh64Hex(fox), module.murmur128Hex(fox), module.xxh64Each(fox, Uint32Array.of(0, 43)).length]"
-    assert in_chromium(chromium, server, expression) == ["0b242d361fda71bc", "e34bbc7bbc071b6c7a433ca9c49a9347", 1]
-    expression = "['fox', 'cow'].map((it) => module.BloomFilter.forKeys(1000, 100).add('fox').has(it))"
-    assert in_chromium(chromium, server, expression) == [True, False]

@@ -13,11 +13,9 @@ const columns: BigUint64Array[] = [
 ];
 const texts: string[] = [library.version, library.xxh64Hex(input), library.murmur128Hex(input, 1n)];
 const sixteen: Uint8Array[] = [library.murmur128Bytes(input), new library.Murmur128().digestBytes()];
-for (const Kind of [library.Xxh64, library.Murmur128]) {
-    const stream: Stream = new Kind(1).update(input).copy().reset();
-    const digest: bigint = stream.reset(stream.seed).digest();
-    const digits: string = stream.hexDigest();
-}
+const stream: Stream = new library.Xxh64(1).update(input).copy().reset();
+const digest: bigint = stream.reset(stream.seed).digest();
+const digits: string = stream.hexDigest();
 const murmur: MurmurStream = new library.Murmur128(1n).update(input);
 // The calls of a subclass return the subclass.
 class Named extends library.Xxh64 { own = ''; }
