@@ -90,7 +90,7 @@ def test_a_column_of_murmur_has_offsets():
     memoryview(bytearray(20))[4:12].cast("Q"), (b"", memoryview(bytearray(20))[2:10].cast("I")),
 ], ids=["numbers", "offsets"])
 def test_numbers_must_be_aligned(keys):
-    with pytest.raises(ValueError, match="^a column of numbers has to lie at a multiple of their width: pass a copy$"):
+    with pytest.raises(ValueError, match="^a column of numbers must be aligned to their width: pass a copy$"):
         xxh64_each(keys)
 
 

@@ -12,7 +12,7 @@ from cpython.pythread cimport (
 from libc.stdint cimport uint64_t
 
 cdef extern from "Python.h":
-    # Under another name, so that Cython counts no references of it: obj may be NULL.
+    # Cython counts no references of a struct with this name, so obj may be NULL.
     ctypedef struct View "Py_buffer":
         void *buf
         PyObject *obj
@@ -34,7 +34,7 @@ cdef class Lock:
 cdef inline void acquire(Lock lock) noexcept:
     """Begins a long call on the object that has the lock."""
     if not PyThread_acquire_lock(lock.handle, NOWAIT_LOCK):
-        with nogil:  # the holder needs the GIL before it lets go
+        with nogil:  # the holder needs the GIL to release the lock
             PyThread_acquire_lock(lock.handle, WAIT_LOCK)
     lock.is_held = True
 
