@@ -28,7 +28,7 @@ export interface Stream {
     digest(): bigint;
     /** The digest in lower-case hexadecimal, 16 or 32 digits, the highest first. */
     hexDigest(): string;
-    /** A stream with the same bytes so far, which goes on independently. */
+    /** An independent stream with the same bytes so far. */
     copy(): this;
     /** Drops all bytes, and keeps the seed if none is given. */
     reset(seed?: Whole): this;
@@ -87,12 +87,12 @@ export interface BloomFilterConstructor {
      * @throws {RangeError} if no filter of at most 128 MiB keeps this rate
      */
     forKeys(keys: Whole, oneIn: Whole): BloomFilter;
-    /** The length of the filter that forKeys makes. @throws {RangeError} as forKeys does */
+    /** The length of the filter that forKeys returns. @throws {RangeError} as forKeys does */
     bytesFor(keys: Whole, oneIn: Whole): number;
     /** The filter with a copy of these bytes, without a header. @throws {RangeError} as the constructor does */
     fromBytes(bytes: Input): BloomFilter;
     /**
-     * The filter of a Parquet file, copied: the input begins with its header, and may go on after the filter.
+     * A copy of the filter of a Parquet file: the input begins with the header, and may be longer than the filter.
      *
      * @throws {RangeError} if it begins with no such header, or ends before the filter does
      */

@@ -1,4 +1,4 @@
-"""The library for C: its header under each compiler, its calls beside peers, its names and instructions."""
+"""The library for C: its header under each compiler, its calls compared with peers, its names and instructions."""
 import pathlib
 import re
 import subprocess

@@ -88,19 +88,14 @@ def test_for_keys_rejects_other_arguments(keys, kwargs, error, text):
         BloomFilter.for_keys(keys, **kwargs)
 
 
-@pytest.mark.parametrize("length", [0, 1, 31, 33, 1000])
-@pytest.mark.parametrize("call", [
-    BloomFilter, lambda length: BloomFilter.from_bytes(bytes(length)), lambda length: BloomFilter.view(bytes(length)),
-], ids=["new", "from_bytes", "view"])
-def test_another_length_is_an_error(call, length):
-    with pytest.raises(ValueError, match=f"multiple of 32 bytes, below 2..37, and not {length}: BloomFilter.for_keys"):
-        call(length)
-
-
-@pytest.mark.parametrize("length", [-32, 2**37, 2**64 + 32])
-def test_a_length_out_of_range_is_an_error(length):
-    with pytest.raises(ValueError, match=f"and not {length}"):
-        BloomFilter(length)
+@pytest.mark.parametrize("length", [0, 1, 31, 33, -32, 2**37, 2**64 + 32])
+def test_another_length_is_an_error(length):
+    calls = [lambda: BloomFilter(length)]
+    if 0 <= length < 2**37:
+        calls += [lambda: BloomFilter.from_bytes(bytes(length)), lambda: BloomFilter.view(bytes(length))]
+    for call in calls:
+        with pytest.raises(ValueError, match=f"multiple of 32 bytes, below 2..37, and not {length}: BloomFilter.for"):
+            call()
 
 
 # ---- Keys
@@ -139,13 +134,6 @@ def test_update_keeps_the_keys_before_a_wrong_one(key, error):
     with pytest.raises(error):
         bloom.update([b"fox", key, b"cat"])
     assert bloom == filled([b"fox"])
-
-
-@pytest.mark.parametrize("keys", [
-    (b"dog", "cow"), [b"dog", b"cow"], iter([b"dog", b"cow"]), numpy.array(["dog", "cow"]), {"dog": 1, "cow": 2},
-], ids=["tuple", "list", "iterator", "array", "dict"])
-def test_update_takes_any_iterable(keys):
-    assert filled(keys) == filled([b"dog", b"cow"])
 
 
 @pytest.mark.parametrize("keys", [b"fox", "fox", bytearray(b"fox"), memoryview(b"fox")])
@@ -263,6 +251,7 @@ def test_only_a_filter_is_merged_or_equal(other):
 
 def test_filters_are_equal_if_their_bits_are():
     assert filled() == filled(reversed(KEYS)) != filled(KEYS[1:]) and BloomFilter(32) != BloomFilter(64)
+    assert repr(BloomFilter(64)) == "<sketch_hash.BloomFilter of 64 bytes>"
     with pytest.raises(TypeError, match="unhashable"):
         hash(filled())
 
@@ -275,10 +264,6 @@ def test_a_copy_is_independent(way, data):
     second.add(b"second")
     assert type(second) is BloomFilter
     assert first.to_bytes() == bits() and second.to_bytes() == bits([*KEYS, b"second"])
-
-
-def test_repr_has_the_size():
-    assert repr(BloomFilter(64)) == "<sketch_hash.BloomFilter of 64 bytes>"
 
 
 # ---- Memory

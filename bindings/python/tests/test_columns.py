@@ -39,7 +39,7 @@ def test_each_key(each, dtype):
 @pytest.mark.parametrize("dtype", ["int64", "uint64"])
 def test_each_number(dtype):
     numbers = numpy.array([0, 1, 2**40, 2**62, *range(1000)], dtype)
-    hashes = [xxh64_each(numbers, seed) for seed in (2**64 - 1, 0)]  # each has memory of its own
+    hashes = [xxh64_each(numbers, seed) for seed in (2**64 - 1, 0)]  # each has its own memory
     for seed, found in zip((2**64 - 1, 0), hashes):
         assert found.tolist() == expected(xxh64_each, [number.tobytes() for number in numbers], seed)
     assert numpy.asarray(found).dtype == numpy.uint64

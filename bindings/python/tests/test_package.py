@@ -17,7 +17,7 @@ FOX = "import sketch_hash; print(sketch_hash.xxh64_hexdigest(b'The quick brown f
 
 @pytest.fixture
 def source(need, tmp_path):
-    """A copy of the package, which is told where the library is."""
+    """A copy of the package, which `run` builds with the library of dist/."""
     need("gcc", "Python.h", "python:Cython", "python:setuptools", "python:wheel")
     ignored = shutil.ignore_patterns("build", "*.egg-info", "tests", "__pycache__")
     return pathlib.Path(shutil.copytree(PACKAGE, tmp_path / "source", ignore=ignored))

@@ -1,4 +1,4 @@
-// What the types of the module promise, compiled by tsc beside sketch_hash.d.mts and never run.
+// Uses each type of sketch_hash.d.mts. It is compiled by tsc, and never run.
 import { load } from './sketch_hash.mjs';
 import type { BloomFilter, Input, Library, MurmurStream, Offsets, Stream } from './sketch_hash.mjs';
 
