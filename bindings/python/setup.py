@@ -1,4 +1,4 @@
-"""Builds the calls over the proved archive: that of dist/, or that of the folder whose absolute path SKETCH_HASH_LIB_DIR is."""
+"""Builds the calls over the proved archive, that of dist/ or of the folder SKETCH_HASH_LIB_DIR, an absolute path."""
 import os
 import sys
 import sysconfig
@@ -44,7 +44,13 @@ setup(
     long_description_content_type="text/markdown",
     license="Apache-2.0",
     license_files=["LICENSE", "NOTICE"],
-    classifiers=["Programming Language :: Python :: Implementation :: CPython"],
+    classifiers=[
+        "Operating System :: POSIX :: Linux",
+        "Programming Language :: Cython",
+        "Programming Language :: Python :: 3",
+        "Programming Language :: Python :: Implementation :: CPython",
+        "Typing :: Typed",
+    ],
     python_requires=">=3.9",
     packages=["sketch_hash"],
     package_dir={"": "src"},

@@ -24,29 +24,32 @@ def target(need, tmp_path_factory, monkeypatch):
 
 
 def cargo(*args, folder=HERE, **environment):
+    """Runs cargo, which must succeed."""
+    done = try_cargo(*args, folder=folder, **environment)
+    assert done.returncode == 0, done.stdout + done.stderr
+
+
+def try_cargo(*args, folder, **environment):
     command = ["cargo", args[0], "--offline", "--quiet", *args[1:]]
-    done = subprocess.run(command, cwd=folder, env={**os.environ, **environment}, capture_output=True, text=True)
-    return done.returncode, done.stdout + done.stderr
+    return subprocess.run(command, cwd=folder, env={**os.environ, **environment}, capture_output=True, text=True)
 
 
-@pytest.mark.parametrize("args", [[], ["--release", "--no-default-features"]], ids=["debug with std", "release without std"])
+@pytest.mark.parametrize("args", [[], ["--release", "--no-default-features"]], ids=["debug", "release without std"])
 def test_tests_of_the_crate(args):
-    assert cargo("test", *args)[0] == 0, cargo("test", *args)[1]
+    cargo("test", *args)
 
 
-def test_calls_read_and_write_only_what_they_are_given(need):
+def test_calls_access_only_what_they_are_given(need):
     need("valgrind")
     runner = {"CARGO_TARGET_X86_64_UNKNOWN_LINUX_GNU_RUNNER": "valgrind -q --error-exitcode=9"}
-    status, output = cargo("test", "--test", "bloom", "--test", "columns", "--", "--skip", "past_32_bits", **runner)
-    assert status == 0, output
+    cargo("test", "--test", "bloom", "--test", "columns", "--", "--skip", "past_32_bits", **runner)
 
 
-def test_oldest_rust_has_each_call_and_no_lint_is_left(need):
+def test_clippy_and_the_oldest_rust_find_nothing(need):
     need("cargo-clippy")
     oldest = re.search(r'^rust-version = "(.*)"$', (HERE / "Cargo.toml").read_text(), re.M)[1]
     assert f"Rust {oldest} or newer" in (HERE / "README.md").read_text()
-    status, output = cargo("clippy", "--all-targets", "--", "-D", "warnings")
-    assert status == 0, output
+    cargo("clippy", "--all-targets", "--", "-D", "warnings")
 
 
 def test_builds_with_core_and_alloc_alone(tmp_path):
@@ -63,14 +66,12 @@ def test_builds_with_core_and_alloc_alone(tmp_path):
 
 
 def test_package_builds_on_its_own(target, tmp_path):
-    status, output = cargo("package", "--allow-dirty", "--no-verify")
-    assert status == 0, output
+    cargo("package", "--allow-dirty", "--no-verify")
     (package,) = (target / "package").glob("*.crate")
     with tarfile.open(package) as file:
         file.extractall(tmp_path)
     (folder,) = tmp_path.iterdir()
-    status, output = cargo("test", "--test", "bloom", folder=folder)
-    assert status == 0, output
+    cargo("test", "--test", "bloom", folder=folder)
 
 
 # ---- a project that uses it
@@ -81,27 +82,27 @@ def project(tmp_path):
     (example,) = re.findall(r"\A.*?^```rust\n(.*?)^```", (HERE / "README.md").read_text(), re.M | re.S)
     folder = tmp_path / "a project"
     (folder / "src").mkdir(parents=True)
-    (folder / "Cargo.toml").write_text(f'[package]\nname = "own"\nedition = "2021"\n[dependencies]\nsketch-hash = {{ path = "{HERE}" }}\n')
+    package = '[package]\nname = "own"\nedition = "2021"\n'
+    (folder / "Cargo.toml").write_text(f'{package}[dependencies]\nsketch-hash = {{ path = "{HERE}" }}\n')
     (folder / "src/main.rs").write_text(f"fn main() {{\n{example}}}")
     return folder
 
 
 def test_project_links_the_library_of_the_package(project):
-    status, output = cargo("run", folder=project)
-    assert status == 0, output
+    cargo("run", folder=project)
 
 
 def test_project_links_a_library_elsewhere(project, tmp_path):
-    """It is linked again when it changes."""
+    """And again after it changes."""
     elsewhere = tmp_path / "another folder"
     elsewhere.mkdir()
     library = pathlib.Path(shutil.copy(ARCHIVE, elsewhere))
-    assert cargo("run", folder=project, SKETCH_HASH_LIB_DIR=str(elsewhere))[0] == 0
+    cargo("run", folder=project, SKETCH_HASH_LIB_DIR=str(elsewhere))
     library.write_text("no archive")
     os.utime(library, (2e9, 2e9))
-    assert cargo("run", folder=project, SKETCH_HASH_LIB_DIR=str(elsewhere))[0] != 0
+    assert try_cargo("run", folder=project, SKETCH_HASH_LIB_DIR=str(elsewhere)).returncode != 0
 
 
-def test_missing_library_is_named(project, tmp_path):
-    _, output = cargo("run", folder=project, SKETCH_HASH_LIB_DIR=str(tmp_path))
-    assert f"{tmp_path}/libsketch_hash.a is missing: set SKETCH_HASH_LIB_DIR" in output
+def test_a_missing_library_is_an_error_with_its_path(project, tmp_path):
+    done = try_cargo("run", folder=project, SKETCH_HASH_LIB_DIR=str(tmp_path))
+    assert f"{tmp_path}/libsketch_hash.a is missing: set SKETCH_HASH_LIB_DIR" in done.stderr

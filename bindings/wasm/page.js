@@ -1,4 +1,4 @@
-// The page: a card for the text and for each file, whose hashes come from the worker.
+// The page: a card for the text and for each file. The worker computes the hashes.
 'use strict';
 
 const at = (name) => document.getElementById(name);
@@ -94,7 +94,7 @@ function show(job, data) {
     } else if (data.fault) {
         end(job, `cannot be read: ${data.fault}`);
     } else if (data.stopped) {
-        jobs.delete(job.id); // another seed leaves it as it is
+        jobs.delete(job.id); // so another seed does not start it again
         end(job, 'stopped');
     } else {
         progress(job, data.done, `${Math.floor(100 * data.done / (job.file.size || 1))} %`);
@@ -165,11 +165,15 @@ at('expected').oninput = compare;
 at('seed').oninput = () => {
     const isBad = seed() === null;
     at('seed').setAttribute('aria-invalid', isBad);
-    at('seed-fault').textContent = isBad ? 'A seed is a whole number from 0 to 18446744073709551615, or hexadecimal digits after 0x.' : '';
+    at('seed-fault').textContent = isBad
+        ? 'A seed is a whole number from 0 to 18446744073709551615, or hexadecimal digits after 0x.'
+        : '';
     [...jobs.values()].forEach(start);
 };
-// Text goes into a field on which it is dropped. Anything else, as a link, the browser would open in place of the page.
-const isText = ({ dataTransfer, target }) => !dataTransfer.types.includes('Files') && target.matches?.('input, textarea');
+// A field takes text that is dropped on it. The browser would open anything else, as a link, in place of the page.
+function isText({ dataTransfer, target }) {
+    return !dataTransfer.types.includes('Files') && target.matches?.('input, textarea');
+}
 addEventListener('dragover', (event) => {
     if (isText(event)) return;
     event.preventDefault();

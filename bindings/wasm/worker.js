@@ -1,7 +1,7 @@
-// The page's worker: hashes files and texts, and tells how far it is. `load` is that of sketch_hash.mjs.
+// The page's worker: hashes files and texts, and reports progress. `load` is that of sketch_hash.mjs.
 //
-// It takes {wasm}, once; {id, file, seed} or {id, text, seed}; and {stop: id}. It answers {ready, version} or
-// {unable}, and of an id {done} bytes, {xxh64, murmur3, memory}, {fault} or {stopped}.
+// It receives {wasm}, once; {id, file, seed} or {id, text, seed}; and {stop: id}. It posts {ready, version} or
+// {unable}; and with an id the bytes that are {done}, {xxh64, murmur3, memory}, {fault} or {stopped}.
 
 const READ = 4 << 20; // bytes read at a time
 const AHEAD = 4; // reads of one file at the same time
@@ -31,23 +31,23 @@ async function begin(wasm) {
 }
 
 function hashText({ text, seed }) {
-    const hashers = begun(seed);
-    hashers.update(new TextEncoder().encode(text));
-    return hashers.answer();
+    const both = streams(seed);
+    both.update(new TextEncoder().encode(text));
+    return both.hashes();
 }
 
 const hex = (bytes) => Array.from(bytes, (byte) => byte.toString(16).padStart(2, '0')).join('');
 
-// Both hashers of one input.
-function begun(seed) {
-    const both = [new loaded.Xxh64(seed), new loaded.Murmur128(seed)];
+// Both hashes of one input.
+function streams(seed) {
+    const [xxh64, murmur] = [new loaded.Xxh64(seed), new loaded.Murmur128(seed)];
     return {
-        update: (bytes) => both.forEach((hasher) => hasher.update(bytes)),
-        answer: () => ({ xxh64: both[0].hexDigest(), murmur3: both[1].hexDigest(), memory: hex(both[1].digestBytes()) }),
+        update: (bytes) => [xxh64, murmur].forEach((stream) => stream.update(bytes)),
+        hashes: () => ({ xxh64: xxh64.hexDigest(), murmur3: murmur.hexDigest(), memory: hex(murmur.digestBytes()) }),
     };
 }
 
-// A stop is told at once. A file that is being read then ends unseen, at its next piece.
+// Posts at once that a file is stopped. If it is being read, that ends with its next piece, and nothing more is posted.
 function stop(id) {
     const at = waiting.findIndex((job) => job.id === id);
     if (at >= 0) waiting.splice(at, 1);
@@ -59,46 +59,46 @@ function stop(id) {
 function next() {
     while (loaded && waiting.length > 0 && running.size < AT_ONCE) {
         const job = waiting.shift();
-        const tell = (answer) => job.isStopped || postMessage({ id: job.id, ...answer });
+        const post = (result) => job.isStopped || postMessage({ id: job.id, ...result });
         running.set(job.id, job);
-        hashFile(job).then(tell, (error) => tell({ fault: fault(error) })).finally(() => {
+        hashFile(job).then(post, (error) => post({ fault: fault(error) })).finally(() => {
             running.delete(job.id);
             next();
         });
     }
 }
 
-// Browsers say of a file that has changed that it may not be read.
+// Browsers report a changed file as one that may not be read.
 function fault(error) {
     return error.name === 'NotReadableError' ? 'it has changed, or may not be read' : error.message || String(error);
 }
 
 async function hashFile(job) {
-    const hashers = begun(job.seed);
-    let [done, told] = [0, 0];
+    const both = streams(job.seed);
+    let [done, posted] = [0, 0];
     for await (const piece of pieces(job.file)) {
         if (job.isStopped) return {};
-        hashers.update(piece);
+        both.update(piece);
         done += piece.length;
-        if (performance.now() > told + 100) {
-            told = performance.now();
+        if (performance.now() > posted + 100) {
+            posted = performance.now();
             postMessage({ id: job.id, done });
         }
     }
     if (done !== job.file.size) throw new Error('it has changed');
-    return hashers.answer();
+    return both.hashes();
 }
 
-// The bytes of a file, some pieces of which are read while one is hashed. (A reader with mode 'byob' is
-// as fast in Chromium 156, but one in twenty never ends.)
+// The pieces of a file. The next ones are read while one is hashed. (A reader with mode 'byob' is as fast in
+// Chromium 156, but one in twenty never ends.)
 async function* pieces(file) {
     const ahead = [];
     const end = Math.max(file.size, 1);
     for (let at = 0, next = 0; at < end; at += READ) {
         for (; next < end && ahead.length < AHEAD; next += READ) {
-            // A file of no bytes is read as a whole, which fails where it is gone; a part of it would not.
+            // A slice of an empty file can be read even if the file is gone.
             const reading = (file.size > 0 ? file.slice(next, next + READ) : file).arrayBuffer();
-            reading.catch(() => {}); // told where it is awaited
+            reading.catch(() => {}); // the error is thrown by the await below
             ahead.push(reading);
         }
         yield new Uint8Array(await ahead.shift());

@@ -1,5 +1,5 @@
-/* Columns of keys: each result beside the call on its key, and wrong offsets. Each array is a block
- * of its own, so that valgrind sees what is read or written outside of it. */
+/* Columns of keys: each result compared with the call on its key, and wrong offsets. Each array is
+ * a block, so that valgrind sees accesses outside of it. */
 #include "sketch_hash.h"
 #include "helpers.h"
 #include <stdlib.h>
@@ -15,7 +15,7 @@ static uint64_t *wide, *hashes, (*pairs)[2];
 /* The keys of a column have `least` bytes and up to `spread` more. */
 static void lay_out(unsigned least, unsigned spread) {
     wide[0] = 5;
-    for (int i = 0; i < KEYS; i++) wide[i + 1] = wide[i] + least + noise() % (spread + 1);
+    for (int i = 0; i < KEYS; i++) wide[i + 1] = wide[i] + least + random31() % (spread + 1);
     length = wide[KEYS] + 3;
     input = realloc(input, length);
     for (uint64_t i = 0; i < length; i++) input[i] = (unsigned char)(i * 2654435761u >> 13);
@@ -28,24 +28,31 @@ static void blank(void) {
     memset(pairs, 9, KEYS * sizeof *pairs);
 }
 
-/* The call that hashes the column: by 0 XXH64, 1 Murmur, with 0 narrow, 2 wide offsets. */
+/* Even calls are XXH64, odd ones Murmur; the first two take narrow offsets. */
 static int each(int call, size_t offset_count, uint64_t seed, size_t *wrong) {
     switch (call) {
-    case 0: return sketch_xxh64_each32(input, length, narrow, offset_count, seed, hashes, KEYS, wrong);
-    case 1: return sketch_murmur3_x64_128_each32(input, length, narrow, offset_count, seed, pairs, KEYS, wrong);
-    case 2: return sketch_xxh64_each64(input, length, wide, offset_count, seed, hashes, KEYS, wrong);
-    default: return sketch_murmur3_x64_128_each64(input, length, wide, offset_count, seed, pairs, KEYS, wrong);
+    case 0:
+        return sketch_xxh64_each32(input, length, narrow, offset_count, seed, hashes, KEYS, wrong);
+    case 1:
+        return sketch_murmur3_x64_128_each32(input, length, narrow, offset_count, seed, pairs, KEYS,
+                                             wrong);
+    case 2:
+        return sketch_xxh64_each64(input, length, wide, offset_count, seed, hashes, KEYS, wrong);
+    default:
+        return sketch_murmur3_x64_128_each64(input, length, wide, offset_count, seed, pairs, KEYS,
+                                             wrong);
     }
 }
 
-/* The first wrong offset has this index, KEYS + 1 if none is wrong. */
+/* `index` is that of the first wrong offset, or KEYS + 1. */
 static void all_calls(size_t offset_count, uint64_t seed, size_t index) {
     int fails = index <= KEYS;
     for (int i = 0; i <= KEYS; i++) narrow[i] = (uint32_t)wide[i];
     for (int call = 0; call < 4; call++) {
         size_t wrong = KEYS + 1;
         blank();
-        same("the status", (uint64_t)each(call, offset_count, seed, &wrong), (uint64_t)(fails ? SKETCH_ERROR_OFFSET : SKETCH_OK));
+        status("the status", each(call, offset_count, seed, &wrong),
+               fails ? SKETCH_ERROR_OFFSET : SKETCH_OK);
         same("the wrong offset", wrong, index);
         for (int i = 0; i < KEYS; i++) {
             uint64_t hash = BLANK, pair[2] = {BLANK, BLANK};
@@ -87,12 +94,13 @@ static void wrong_offsets(void) {
 static void numbers(void) {
     for (size_t count = 0; count <= KEYS; count++) {
         blank();
-        same("numbers", (uint64_t)sketch_xxh64_each_u64(wide, KEYS + 1, 7, hashes, count), SKETCH_OK);
+        status("numbers", sketch_xxh64_each_u64(wide, KEYS + 1, 7, hashes, count), SKETCH_OK);
         for (size_t i = 0; i < KEYS; i++)
             same("XXH64 of a number", hashes[i], i < count ? sketch_xxh64_u64(wide[i], 7) : BLANK);
     }
     blank();
-    same("too few numbers", (uint64_t)sketch_xxh64_each_u64(wide, KEYS - 1, 7, hashes, KEYS), (uint64_t)SKETCH_ERROR_COUNT);
+    status("too few numbers", sketch_xxh64_each_u64(wide, KEYS - 1, 7, hashes, KEYS),
+           SKETCH_ERROR_COUNT);
     same("nothing is written", hashes[0], BLANK);
 }
 
@@ -100,13 +108,16 @@ static void no_keys(void) {
     const uint64_t offset = 0;
     uint64_t out = 7;
     size_t wrong = 77;
-    same("no keys", (uint64_t)sketch_xxh64_each64(NULL, 0, &offset, 1, 7, NULL, 0, &wrong), SKETCH_OK);
-    same("no keys and no offset", (uint64_t)sketch_xxh64_each64(NULL, 0, NULL, 0, 7, NULL, 0, &wrong), SKETCH_OK);
-    same("the same, Murmur", (uint64_t)sketch_murmur3_x64_128_each32(NULL, 0, NULL, 0, 7, NULL, 0, &wrong), SKETCH_OK);
-    same("no numbers", (uint64_t)sketch_xxh64_each_u64(NULL, 0, 7, NULL, 0), SKETCH_OK);
+    status("no keys", sketch_xxh64_each64(NULL, 0, &offset, 1, 7, NULL, 0, &wrong), SKETCH_OK);
+    status("no keys and no offset", sketch_xxh64_each64(NULL, 0, NULL, 0, 7, NULL, 0, &wrong),
+           SKETCH_OK);
+    status("no keys, Murmur", sketch_murmur3_x64_128_each32(NULL, 0, NULL, 0, 7, NULL, 0, &wrong),
+           SKETCH_OK);
+    status("no numbers", sketch_xxh64_each_u64(NULL, 0, 7, NULL, 0), SKETCH_OK);
     same("nothing is written", wrong, 77);
     /* `count` is what `offset_count - 1` wraps to. */
-    same("no offsets, wrapped", (uint64_t)sketch_xxh64_each64(NULL, 0, NULL, 0, 7, &out, SIZE_MAX, &wrong), (uint64_t)SKETCH_ERROR_OFFSET);
+    status("no offsets, wrapped", sketch_xxh64_each64(NULL, 0, NULL, 0, 7, &out, SIZE_MAX, &wrong),
+           SKETCH_ERROR_OFFSET);
     same("the first is missing", wrong, 0);
     same("nothing is written", out, 7);
 }

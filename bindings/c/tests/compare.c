@@ -1,5 +1,5 @@
-/* Compares the library with libxxhash, libmurmurhash and known answers, over lengths, seeds and
- * cuts. Each buffer is a block of its own, so that valgrind sees a byte that is read too far. */
+/* The library compared with libxxhash, libmurmurhash and published answers, over lengths, seeds and
+ * cuts. Each buffer is a block, so that valgrind sees accesses outside of it. */
 #include "sketch_hash.h"
 #include <murmurhash.h>
 #include <stdlib.h>
@@ -7,9 +7,9 @@
 #include <xxhash.h>
 #include "helpers.h"
 
-static void same_pair(const char *what, const uint64_t answer[2], uint64_t h1, uint64_t h2) {
-    same(what, answer[0], h1);
-    same(what, answer[1], h2);
+static void same_pair(const char *what, const uint64_t hash[2], uint64_t h1, uint64_t h2) {
+    same(what, hash[0], h1);
+    same(what, hash[1], h2);
 }
 
 /* The peer takes seeds of 32 bits. */
@@ -21,7 +21,7 @@ static void in_one_call(const unsigned char *bytes, size_t length, uint64_t seed
     sketch_murmur3_x64_128(bytes, length, (uint32_t)seed, pair);
     same_pair("murmur in one call", pair, peer[0], peer[1]);
     sketch_murmur3_x64_128_bytes(pair, out);
-    same("murmur as its bytes lie in memory", memcmp(out, peer, 16) == 0, 1);
+    same("murmur in memory order", memcmp(out, peer, 16) == 0, 1);
     if (length == 8) {
         uint64_t value;
         memcpy(&value, bytes, 8);
@@ -41,15 +41,15 @@ static void in_pieces(const unsigned char *bytes, size_t length, uint64_t seed, 
         sketch_xxh64_update(&x, NULL, 0);
         sketch_murmur3_x64_128_update(&m, bytes + at, n);
         sketch_murmur3_x64_128_update(&m, NULL, 0);
-        same("xxh64 on the way", sketch_xxh64_digest(&x), XXH64(bytes, at + n, seed));
+        same("xxh64 so far", sketch_xxh64_digest(&x), XXH64(bytes, at + n, seed));
         uint64_t whole[2], pair[2];
         sketch_murmur3_x64_128(bytes, at + n, seed, whole);
         sketch_murmur3_x64_128_digest(&m, pair);
-        same_pair("murmur on the way", pair, whole[0], whole[1]);
+        same_pair("murmur so far", pair, whole[0], whole[1]);
     }
 }
 
-static void known_answers(void) {
+static void published_answers(void) {
     static const char fox[] = "The quick brown fox jumps over the lazy dog";
     uint64_t pair[2];
     sketch_murmur3_x64_128(fox, strlen(fox), 0, pair);
@@ -61,7 +61,7 @@ static void known_answers(void) {
 
 int main(void) {
     static const uint64_t seeds[] = {0, 9001, UINT64_MAX};
-    known_answers();
+    published_answers();
     for (size_t length = 0; length <= 200; length++)
         for (size_t s = 0; s < 3; s++) {
             unsigned char *bytes = malloc(length ? length : 1);

@@ -1,5 +1,6 @@
-/* Lengths past 2^32: XXH64 in one call and in one update beside libxxhash, Murmur in two updates beside
- * one call, columns whose second key begins after them, and a key of a filter. The zeros are never written, so they take no memory. */
+/* Inputs longer than 2^32 bytes: XXH64 compared with libxxhash, Murmur in two updates with one
+ * call, columns whose second key begins after 2^32, and a key of a filter. The zeros take no
+ * memory, since they are never written. */
 #include "sketch_hash.h"
 #include <stdlib.h>
 #include <string.h>
@@ -25,19 +26,25 @@ int main(void) {
     const uint64_t offsets[] = {0, length - 5, length};
     uint64_t x_out[2], m_out[2][2];
     size_t wrong = 7;
-    same("xxh64, a column", (uint64_t)sketch_xxh64_each64(zeros, length, offsets, 3, UINT64_MAX, x_out, 2, &wrong), 0);
+    status("xxh64, a column",
+           sketch_xxh64_each64(zeros, length, offsets, 3, UINT64_MAX, x_out, 2, &wrong), 0);
     same("its first key", x_out[0], XXH64(zeros, length - 5, UINT64_MAX));
     same("its second key", x_out[1], XXH64(zeros, 5, UINT64_MAX));
-    same("murmur, a column", (uint64_t)sketch_murmur3_x64_128_each64(zeros, length, offsets, 3, UINT64_MAX, m_out, 2, &wrong), 0);
+    status("murmur, a column",
+           sketch_murmur3_x64_128_each64(zeros, length, offsets, 3, UINT64_MAX, m_out, 2, &wrong),
+           0);
     sketch_murmur3_x64_128(zeros, length - 5, UINT64_MAX, hash);
     same("its first key", memcmp(m_out[0], hash, sizeof hash), 0);
     sketch_murmur3_x64_128(zeros, 5, UINT64_MAX, hash);
     same("its second key", memcmp(m_out[1], hash, sizeof hash), 0);
-    same("bytes that end before 2^32", (uint64_t)sketch_xxh64_each64(zeros, 37, offsets, 3, UINT64_MAX, x_out, 2, &wrong), (uint64_t)SKETCH_ERROR_OFFSET);
+    status("bytes that end before 2^32",
+           sketch_xxh64_each64(zeros, 37, offsets, 3, UINT64_MAX, x_out, 2, &wrong),
+           SKETCH_ERROR_OFFSET);
     same("the wrong offset", wrong, 1);
     unsigned char bits[32] = {0};
     sketch_bloom_insert(bits, 32, zeros, length);
-    same("a long key of a filter", (uint64_t)sketch_bloom_contains_hash(bits, 32, XXH64(zeros, length, 0)), 1);
+    status("a long key of a filter", sketch_bloom_contains_hash(bits, 32, XXH64(zeros, length, 0)),
+           1);
     free(zeros);
     return conclude();
 }

@@ -1,4 +1,4 @@
-"""The library for C: its header under each compiler, its calls beside peers, its names and instructions."""
+"""The library for C: its header under each compiler, its calls compared with peers, its names and instructions."""
 import pathlib
 import re
 import subprocess
@@ -26,7 +26,7 @@ STANDARDS = [
 
 
 @pytest.mark.parametrize("compiler, standard", STANDARDS)
-def test_header_is_taken_by(compiler, standard, need, tmp_path):
+def test_header_compiles(compiler, standard, need, tmp_path):
     need(compiler)
     language = ["-xc++", "-Wold-style-cast"] if "++" in compiler else ["-xc"]
     command = [compiler, f"-std={standard}", "-pedantic-errors", *STRICT, "-I", INCLUDE, "-o", tmp_path / "alone"]
@@ -34,16 +34,14 @@ def test_header_is_taken_by(compiler, standard, need, tmp_path):
     output(tmp_path / "alone")
 
 
-@pytest.mark.parametrize("old, new", [(r"waiting\[32\]", "waiting[40]"), (r"waiting\[16\]", "waiting[24]"), ("uint64_t seed, v1", "unsigned char c; uint64_t seed, v1")])
-def test_header_refuses_a_state_laid_out_otherwise(old, new, need, tmp_path):
+@pytest.mark.parametrize("old, new", [
+    (r"waiting\[32\]", "waiting[40]"), (r"waiting\[16\]", "waiting[24]"), ("uint64_t seed", "char c; uint64_t seed"),
+], ids=["XXH64", "Murmur", "padding"])
+def test_header_rejects_another_layout_of_a_state(old, new, need, tmp_path):
     need("gcc")
     (tmp_path / "other.h").write_text(re.sub(old, new, HEADER, count=1))
     done = subprocess.run(["gcc", "-fsyntax-only", "-xc", tmp_path / "other.h"], stderr=subprocess.PIPE, text=True)
     assert done.returncode and "size of array" in done.stderr
-
-
-def test_lines_of_the_header_fit():
-    assert [it for it in HEADER.splitlines() if len(it) > 100] == []
 
 
 # ---- the calls: each program compares, and its exit status is the result
@@ -57,21 +55,21 @@ TARGETS = {
 
 @pytest.fixture
 def built(need, tmp_path):
-    """built("layout"): the command that runs a program with the library of a target."""
+    """built("layout"): the command that runs a test program with the library of a target."""
 
     def built(name, target="linux-x86_64"):
         peers, (compiler, runner) = PEERS.get(name, []), TARGETS[target]
         need(*compiler, *runner[:1], *(f"{it}.h" for it in peers))
-        made = tmp_path / f"{name}.{target}"
+        program = tmp_path / f"{name}.{target}"
         flags = ["-O2", *STRICT, "-I", INCLUDE, *(f"-l{it}" for it in peers)]
-        output(*compiler, "-o", made, HERE / f"{name}.c", DIST / target / "libsketch_hash.a", *flags)
-        return [*runner, made]
+        output(*compiler, "-o", program, HERE / f"{name}.c", DIST / target / "libsketch_hash.a", *flags)
+        return [*runner, program]
 
     return built
 
 
 @pytest.mark.parametrize("name", ["layout", "compare", "long", "bloom", "columns", "answers"])
-def test_calls_compare_equal(name, built):
+def test_calls_return_what_is_expected(name, built):
     assert output(*built(name))
 
 
@@ -80,19 +78,18 @@ def test_calls_on_aarch64(name, built):
     assert output(*built(name, "linux-aarch64"))
 
 
-def test_aarch64_answers_as_x86_64(built):
-    """Random streams, states, columns and filters."""
+def test_aarch64_has_the_hashes_of_x86_64(built):
     assert output(*built("answers", "linux-aarch64")) == output(*built("answers"))
 
 
 @pytest.mark.parametrize("name, args", [("compare", []), ("bloom", []), ("columns", []), ("answers", ["10000"])])
-def test_calls_read_and_write_only_what_they_are_given(name, args, built, need):
+def test_calls_access_only_what_they_are_given(name, args, built, need):
     need("valgrind")
     output("valgrind", "-q", "--error-exitcode=9", "--leak-check=full", *built(name), *args)
 
 
 @pytest.mark.parametrize("name", ["layout", "columns", "answers"])
-def test_calls_take_a_stack_of_256_kib(name, built):
+def test_calls_run_in_a_stack_of_256_kib(name, built):
     assert output("bash", "-c", 'ulimit -s 256 && exec "$0"', *built(name))
 
 
@@ -103,14 +100,13 @@ def folder(request):
     return DIST / request.param
 
 
-def test_archive_has_the_calls_and_no_other_name(folder, need):
+def test_archive_exports_the_calls_alone(folder, need):
     need("nm")
     names = re.findall(r"^\S* [A-TV-Za-z] (\S+)$", output("nm", "-g", folder / "libsketch_hash.a"), re.M)
     assert sorted(names) == CALLS
 
 
-def test_shared_library_has_the_calls_by_their_versions(folder, need):
-    """A program asks for each name by the version that it was linked with."""
+def test_shared_library_has_a_version_for_each_call(folder, need):
     need("nm")
     names = re.findall(r" [B-Zb-z] (\S+)$", output("nm", "-D", folder / "libsketch_hash.so.2"), re.M)
     assert sorted(names) == [f"{it}@@SKETCH_HASH_2.0" for it in CALLS]
@@ -129,13 +125,14 @@ def test_shared_library_is_hardened(folder, need):
 
 
 # What every x86-64 can do: integers, and moves and sums of SSE2.
-KNOWN = r"""mov([bwlq]|abs|[sz][bw][wlq]|slq)? lea xchg push pop j\w+ call ret nop[wl]? data16 cs int3 add adc sub sbb and or xor
-    not neg inc dec imul mul sh[lr]d? sar ro[lr] bt cmp[bwlq]? test[bwlq]? set\w+ cmov\w+
+KNOWN = r"""mov([bwlq]|abs|[sz][bw][wlq]|slq)? lea xchg push pop j\w+ call ret nop[wl]? data16 cs int3 add adc sub sbb
+    and or xor not neg inc dec imul mul sh[lr]d? sar ro[lr] bt cmp[bwlq]? test[bwlq]? set\w+ cmov\w+
     mov[au]p[sd] movdq[au] movd x?orps pxor por pandn? padd[dq] psubq pshufd punpck[lh]\w+ ps[rl]l[dq] pmuludq
     pcmpeq[bd] pmovmskb cvttps2dq div""".split()
 
 
-def test_runs_on_each_x86_64(need):
+def test_instructions_are_those_of_each_x86_64(need):
     need("objdump")
-    code = re.findall(r"^ *[0-9a-f]+:\t(\S+)", output("objdump", "-d", "--no-show-raw-insn", NATIVE / "libsketch_hash.so.2"), re.M)
+    listing = output("objdump", "-d", "--no-show-raw-insn", NATIVE / "libsketch_hash.so.2")
+    code = re.findall(r"^ *[0-9a-f]+:\t(\S+)", listing, re.M)
     assert len(code) > 1000 and {it for it in code if not re.fullmatch("|".join(KNOWN), it)} == set()

@@ -1,4 +1,4 @@
-"""Faults that would give a wrong hash silently: a shared copy, two threads, a cut seed; and when the GIL is released."""
+"""Objects that are copied, pickled, or shared by threads and signal handlers; the GIL; seeds."""
 import array
 import copy
 import fractions
@@ -15,14 +15,26 @@ from test_buffers import KINDS, ONE_CALL
 
 numpy = pytest.importorskip("numpy")
 
-WAYS = [copy.copy, copy.deepcopy, lambda it: it.copy(), *(lambda it, n=n: pickle.loads(pickle.dumps(it, n)) for n in range(6))]
+PICKLES = [lambda it, n=n: pickle.loads(pickle.dumps(it, n)) for n in range(6)]
+WAYS = [copy.copy, copy.deepcopy, lambda it: it.copy(), *PICKLES]
 
-# They are never written, so they take no memory. A call on them takes a tenth of a second and more.
-ZEROS = mmap.mmap(-1, 1 << 31, flags=mmap.MAP_PRIVATE | mmap.MAP_ANONYMOUS | 0x4000, prot=mmap.PROT_READ)
+MAP_NORESERVE = 0x4000  # of Linux
+# They take no memory, since they are never written. A call on them takes a tenth of a second or more.
+ZEROS = mmap.mmap(-1, 1 << 31, flags=mmap.MAP_PRIVATE | mmap.MAP_ANONYMOUS | MAP_NORESERVE, prot=mmap.PROT_READ)
+
+
+def in_threads(work, count=4):
+    """Runs work(0) to work(count - 1) at the same time."""
+    start = threading.Barrier(count)
+    workers = [threading.Thread(target=lambda n=n: (start.wait(), work(n))) for n in range(count)]
+    for worker in workers:
+        worker.start()
+    for worker in workers:
+        worker.join()
 
 
 def waits(long_call, call):
-    """It is tried again, since on a busy machine the long call may be over before the other one begins."""
+    """Whether a call waits for a long one. It is tried again, since on a busy machine the long one may end too soon."""
     for _ in range(5):
         worker = threading.Thread(target=long_call)
         worker.start()
@@ -38,8 +50,7 @@ def waits(long_call, call):
 
 @pytest.mark.parametrize("kind", KINDS)
 @pytest.mark.parametrize("way", WAYS)
-def test_a_copy_goes_its_own_way(kind, way):
-    # However many bytes are buffered, and also under the greatest seed.
+def test_a_copy_is_independent(kind, way):
     for count in range(70):
         data, seed = bytes(range(1, count + 1)), 2**64 - 1 if count % 2 else 9001
         first = kind(data, seed=seed)
@@ -54,7 +65,7 @@ def test_a_copy_goes_its_own_way(kind, way):
 
 
 @pytest.mark.parametrize("kind, size", [(xxh64, 80), (murmur3_x64_128, 40)])
-def test_a_checkpoint_of_another_length_is_refused(kind, size):
+def test_a_checkpoint_of_another_length_is_an_error(kind, size):
     hasher = kind(b"fox", 7)
     for length in (0, size - 1, size + 1):
         with pytest.raises(ValueError, match=f"^a checkpoint of {kind.__name__} does not have {length} bytes$"):
@@ -64,7 +75,7 @@ def test_a_checkpoint_of_another_length_is_refused(kind, size):
 
 @pytest.mark.parametrize("kind", KINDS)
 def test_pickles_of_versions_1_are_read(kind):
-    """Which name what takes up a checkpoint, the kind, a seed and the checkpoint."""
+    """They name the function _take_up, the class, a seed and a checkpoint."""
     hasher = kind(bytes(35), 7)
     checkpoint = hasher.__reduce__()[2][1]
     old = b"\x80\x03csketch_hash\n_take_up\n(csketch_hash\n%b\nK\x07C%c%btR."
@@ -74,33 +85,30 @@ def test_pickles_of_versions_1_are_read(kind):
 
 @pytest.mark.parametrize("kind", KINDS)
 def test_threads_that_share_an_object(kind):
-    """Each appends whole periods of 256 bytes, so every order of the updates gives one hash."""
-    piece, rounds, threads = bytes(range(256)) * 4096, 40, 4
-    hasher = kind()
-    start = threading.Barrier(threads)
+    """Each update has whole periods of 256 bytes, so every order of the updates gives the same hash."""
+    piece, hasher = bytes(range(256)) * 4096, kind()
 
-    def append():
-        start.wait()
-        for _ in range(rounds):
+    def append(_):
+        for _ in range(40):
             hasher.update(piece)
             hasher.update(piece[:256])
             hasher.digest()
 
-    workers = [threading.Thread(target=append) for _ in range(threads)]
-    for worker in workers:
-        worker.start()
-    for worker in workers:
-        worker.join()
-    assert hasher.digest() == kind((piece + piece[:256]) * (rounds * threads)).digest()
+    in_threads(append)
+    assert hasher.digest() == kind((piece + piece[:256]) * 160).digest()
+
+
+def add_each(bloom, data):
+    bloom.add_each((data, array.array("Q", [0, len(data)])))
 
 
 @pytest.mark.parametrize("make, append, ask", [
     (xxh64, xxh64.update, xxh64.digest),
     (murmur3_x64_128, murmur3_x64_128.update, murmur3_x64_128.digest),
-    (lambda: BloomFilter(1024), lambda bloom, data: bloom.add_each((data, numpy.array([0, len(data)]))), BloomFilter.to_bytes),
-])
-def test_a_handler_asks_during_a_call(make, append, ask):
-    """It runs when the call of C is over and the object's lock still held."""
+    (lambda: BloomFilter(1024), add_each, BloomFilter.to_bytes),
+], ids=["xxh64", "murmur3_x64_128", "BloomFilter"])
+def test_a_signal_handler_may_call_the_object(make, append, ask):
+    """It runs after the call of C, while the object's lock is held."""
     shared, other, data, asked = make(), make(), bytes(1 << 25), []
     before = signal.signal(signal.SIGALRM, lambda *_: asked.append(ask(shared)))
     signal.setitimer(signal.ITIMER_REAL, 0.001, 0.001)
@@ -116,7 +124,7 @@ def test_a_handler_asks_during_a_call(make, append, ask):
 
 @pytest.fixture
 def ticks():
-    """A list that another thread makes longer whenever Python's lock is given up."""
+    """A list that another thread appends to whenever the GIL is released."""
     found, is_over, interval = [], threading.Event(), sys.getswitchinterval()
 
     def tick():
@@ -135,7 +143,7 @@ def ticks():
     worker.join()
 
 
-def test_short_calls_keep_the_lock_of_python(ticks):
+def test_short_calls_keep_the_gil(ticks):
     data, hashers = bytes(65535), [kind() for kind in KINDS]
     before = len(ticks)
     for _ in range(1000):
@@ -144,28 +152,37 @@ def test_short_calls_keep_the_lock_of_python(ticks):
     assert len(ticks) == before
 
 
-def test_long_calls_give_up_the_lock_of_python(ticks):
-    """From 64 KiB on. The other thread may be late on a busy machine, so it is given ten seconds."""
-    data, hashers = bytes(1 << 24), [kind() for kind in KINDS]
-    columns = [lambda data, each=each: each(memoryview(data).cast("Q")) for each in (xxh64_each, BloomFilter(32).add_each)]
-    for each in (xxh64_each, murmur3_x64_128_each, BloomFilter(32).add_each, BloomFilter(32).contains_each):
-        columns.append(lambda data, each=each: each((data, array.array("I", range(100000)))))
-        columns.append(lambda _, each=each: each((b"", array.array("Q", bytes(1 << 20)))))
-    whole = [*ONE_CALL, *[it.update for it in hashers]]
-    for given, calls in ((data, whole + columns), (data[:65536], whole)):
-        for call in calls:
-            before, end = len(ticks), time.monotonic() + 10
-            while len(ticks) == before and time.monotonic() < end:
-                call(given)
-            assert len(ticks) > before
+def assert_releases_the_gil(call, data, ticks):
+    """The other thread may be late on a busy machine, so it has ten seconds."""
+    before, end = len(ticks), time.monotonic() + 10
+    while len(ticks) == before and time.monotonic() < end:
+        call(data)
+    assert len(ticks) > before
 
 
-@pytest.mark.parametrize("call", [*KINDS, *ONE_CALL])
+@pytest.mark.parametrize("call", [*ONE_CALL, xxh64().update, murmur3_x64_128().update])
+@pytest.mark.parametrize("length", [1 << 16, 1 << 24])
+def test_calls_of_64_kib_release_the_gil(call, length, ticks):
+    assert_releases_the_gil(call, bytes(length), ticks)
+
+
+BLOOM = BloomFilter(32)
+
+
+@pytest.mark.parametrize("call", [xxh64_each, murmur3_x64_128_each, BLOOM.add_each, BLOOM.contains_each])
+def test_columns_of_64_kib_release_the_gil(call, ticks):
+    assert_releases_the_gil(call, (bytes(1 << 24), array.array("I", range(100_000))), ticks)
+    assert_releases_the_gil(call, (b"", array.array("Q", bytes(1 << 20))), ticks)
+    if call is not murmur3_x64_128_each:
+        assert_releases_the_gil(call, array.array("Q", bytes(1 << 24)), ticks)
+
+
+@pytest.mark.parametrize("call", [*KINDS, *ONE_CALL, lambda data, seed: xxh64_each((data, array.array("Q")), seed)])
 @pytest.mark.parametrize("seed, error", [
     *((seed, OverflowError) for seed in (-1, 2**64, 2**64 + 7, 2**70, -(2**64))),
     *((seed, TypeError) for seed in (7.0, "7", None, b"7", fractions.Fraction(7))),
 ])
-def test_other_seeds_are_refused(call, seed, error):
+def test_another_seed_is_an_error(call, seed, error):
     with pytest.raises(error):
         call(b"", seed)
 

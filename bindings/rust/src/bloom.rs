@@ -13,8 +13,8 @@ use core::ops::Range;
 /// inserted. It returns `true` for some others too. A filter has no seed, and does not grow.
 ///
 /// `B` holds the bytes. By default it is a `Vec<u8>`. A filter can also be a view of bytes that are
-/// elsewhere, such as a memory-mapped file: a `&[u8]` can be asked, a `&mut [u8]` also changed. What
-/// a `B` returns as its bytes must not change but through the filter.
+/// elsewhere, such as a memory-mapped file: a `&[u8]` can be asked, a `&mut [u8]` also changed. The
+/// bytes of a `B` must not change but through the filter.
 ///
 /// ```
 /// use sketch_hash::BloomFilter;
@@ -344,7 +344,7 @@ impl<B: AsRef<[u8]>> BloomFilter<B> {
     ///
     /// # Errors
     ///
-    /// As [`parquet_header`](Self::parquet_header).
+    /// Returns [`Error::Length`] if the filter has 2^31 bytes or more.
     pub fn to_parquet(&self) -> Result<Vec<u8>, Error> {
         let mut bytes = self.parquet_header()?;
         bytes.extend_from_slice(self.as_bytes());

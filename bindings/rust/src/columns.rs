@@ -192,7 +192,7 @@ pub fn xxh64_each_u64(values: &[u64], seed: u64, out: &mut [u64]) -> Result<(), 
 ///
 /// # Errors
 ///
-/// As [`xxh64_each`].
+/// Returns [`Error::Offset`] as [`xxh64_each`] does.
 pub fn murmur3_x64_128_each<O: Offset>(
     input: &[u8], offsets: &[O], seed: u64, out: &mut [[u64; 2]],
 ) -> Result<(), Error> {

@@ -48,8 +48,8 @@ impl fmt::Display for Error {
     fn fmt(&self, f: &mut fmt::Formatter<'_>) -> fmt::Result {
         match self {
             Error::Length => f.write_str(
-                "the length of a Bloom filter must be a positive multiple of 32 bytes, \
-                 and that of both filters of a merge",
+                "a Bloom filter must have a positive multiple of 32 bytes, \
+                 and both filters of a merge the same length",
             ),
             Error::Offset { index } => write!(
                 f,

@@ -43,8 +43,8 @@ fn bytes_of(hash: &[u64; 2]) -> [u8; 16] {
 
 /// MurmurHash3 x64 128 of a stream that comes in pieces.
 ///
-/// As a [`Hasher`] it hashes the bytes that it is fed, and finishes with the first of both words.
-/// Two streams are equal if they will hash alike, whatever comes.
+/// As a [`Hasher`] it hashes the bytes of each write, and finishes with the first of both words.
+/// Two streams are equal if their hashes are equal, whatever bytes follow.
 ///
 /// ```
 /// let mut hasher = sketch_hash::Murmur3X64_128::new(7);
@@ -100,7 +100,7 @@ impl Murmur3X64_128 {
         unsafe { sketch_murmur3_x64_128_update(&mut self.state, input.as_ptr(), input.len()) }
     }
 
-    /// Returns the two words of the hash of all bytes so far. The stream may go on.
+    /// Returns the two words of the hash of all bytes so far. More bytes may follow.
     ///
     /// ```
     /// let [h1, h2] = sketch_hash::Murmur3X64_128::new(0).digest();
@@ -124,7 +124,7 @@ impl Murmur3X64_128 {
         bytes_of(&self.digest())
     }
 
-    /// Returns the stream as a checkpoint, from which [`from_bytes`](Self::from_bytes) goes on.
+    /// Returns a checkpoint, from which [`from_bytes`](Self::from_bytes) resumes the stream.
     ///
     /// ```
     /// use sketch_hash::{murmur3_x64_128, Murmur3X64_128};
@@ -139,7 +139,7 @@ impl Murmur3X64_128 {
         unsafe { transmute(self.state) }
     }
 
-    /// Returns the stream of a checkpoint. Any other bytes are safe too, and give some hash.
+    /// Resumes the stream of a checkpoint. Any other bytes are safe too, and give some hash.
     ///
     /// ```
     /// use sketch_hash::Murmur3X64_128;
@@ -202,7 +202,7 @@ impl std::io::Write for Murmur3X64_128 {
     }
 }
 
-/// Makes the hashers of a map: [`Murmur3X64_128`] with one seed.
+/// Builds the hashers of a map: [`Murmur3X64_128`] with one seed.
 ///
 /// ```
 /// use sketch_hash::BuildMurmur3X64_128;
@@ -216,7 +216,7 @@ pub struct BuildMurmur3X64_128 {
 }
 
 impl BuildMurmur3X64_128 {
-    /// Makes hashers with this seed.
+    /// The hashers have this seed.
     pub const fn new(seed: u64) -> Self {
         BuildMurmur3X64_128 { seed }
     }

@@ -30,11 +30,11 @@ pub fn xxh64_u64(value: u64, seed: u64) -> u64 {
 
 /// XXH64 of a stream that comes in pieces.
 ///
-/// As a [`Hasher`] it hashes the bytes that it is fed, numbers as their bytes with the lowest first.
-/// `std`'s `Hash` feeds more than the bytes of a text: a `str` ends with a byte 0xff, so
+/// As a [`Hasher`] it hashes the bytes of each write, numbers as their bytes with the lowest first.
+/// `std`'s `Hash` writes more than the bytes of a text: a `str` ends with a byte 0xff, so
 /// `BuildXxh64::new(0).hash_one("fox")` is not `xxh64(b"fox", 0)`.
 ///
-/// Two streams are equal if they will hash alike, whatever comes.
+/// Two streams are equal if their hashes are equal, whatever bytes follow.
 ///
 /// ```
 /// let mut hasher = sketch_hash::Xxh64::new(7);
@@ -101,7 +101,7 @@ impl Xxh64 {
     #[inline]
     pub fn update(&mut self, input: &[u8]) {
         let Xxh64State { total, waiting, .. } = &mut self.state;
-        // A map's key is short: it is copied here, and one call of `digest` hashes it.
+        // The key of a map is short. It is copied here, and `digest` hashes it in one call.
         if *total < STRIPE && (input.len() as u64) < STRIPE - *total {
             waiting[*total as usize..][..input.len()].copy_from_slice(input);
             *total += input.len() as u64;
@@ -112,7 +112,7 @@ impl Xxh64 {
         unsafe { sketch_xxh64_update(&mut self.state, input.as_ptr(), input.len()) }
     }
 
-    /// Returns the hash of all bytes so far. The stream may go on.
+    /// Returns the hash of all bytes so far. More bytes may follow.
     ///
     /// ```
     /// assert_eq!(sketch_hash::Xxh64::new(0).digest(), 0xef46_db37_51d8_e999);
@@ -127,7 +127,7 @@ impl Xxh64 {
         }
     }
 
-    /// Returns the stream as a checkpoint, from which [`from_bytes`](Self::from_bytes) goes on.
+    /// Returns a checkpoint, from which [`from_bytes`](Self::from_bytes) resumes the stream.
     ///
     /// ```
     /// use sketch_hash::{xxh64, Xxh64};
@@ -142,7 +142,7 @@ impl Xxh64 {
         unsafe { transmute(self.state) }
     }
 
-    /// Returns the stream of a checkpoint. Any other bytes are safe too, and give some hash.
+    /// Resumes the stream of a checkpoint. Any other bytes are safe too, and give some hash.
     ///
     /// ```
     /// use sketch_hash::Xxh64;
@@ -208,7 +208,7 @@ impl std::io::Write for Xxh64 {
     }
 }
 
-/// Makes the hashers of a map: [`Xxh64`] with one seed.
+/// Builds the hashers of a map: [`Xxh64`] with one seed.
 ///
 /// ```
 /// use sketch_hash::{xxh64_u64, BuildXxh64};
@@ -221,7 +221,7 @@ pub struct BuildXxh64 {
 }
 
 impl BuildXxh64 {
-    /// Makes hashers with this seed.
+    /// The hashers have this seed.
     pub const fn new(seed: u64) -> Self {
         BuildXxh64 { seed }
     }

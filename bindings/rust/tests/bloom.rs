@@ -21,52 +21,39 @@ fn filter_of_keys() -> BloomFilter {
 }
 
 #[test]
-fn bytes_are_those_of_arrow() {
+fn the_bytes_are_those_of_arrow() {
     let mut filter = BloomFilter::with_len(32).unwrap();
     filter.extend(keys());
-    assert_eq!(filter.into_inner(), OF_ARROW);
+    assert_eq!(filter.as_bytes(), OF_ARROW);
+    assert!(keys().iter().all(|key| filter.contains(key.as_bytes())) && !filter.contains(b"fox"));
 }
 
 #[test]
-fn a_filter_of_arrow_contains_its_keys() {
-    let filter = BloomFilter::from_bytes(&OF_ARROW).unwrap();
-    assert!(keys().iter().all(|key| filter.contains(key.as_bytes())));
-    assert!(!filter.contains(b"fox"));
-}
-
-#[test]
-fn a_filter_for_keys_has_a_power_of_two_bytes() {
-    for (keys, one_in, bytes) in
-        [(0, 100, 32), (1_000_000, 100, 2 << 20), (100_000_000, 100, 128 << 20)]
-    {
-        assert_eq!(BloomFilter::bytes_for(keys, one_in), Some(bytes));
-        assert_eq!(BloomFilter::for_keys(keys, one_in).unwrap().as_bytes().len(), bytes);
+fn a_filter_for_keys_has_at_most_128_mib() {
+    for (keys, one_in, bytes) in [
+        (0, 100, Some(32)),
+        (100_000_000, 100, Some(128 << 20)),
+        (1_000_000_000, 100, None),
+        (u64::MAX, u64::MAX, None),
+    ] {
+        assert_eq!(BloomFilter::bytes_for(keys, one_in), bytes);
+        let filter = BloomFilter::for_keys(keys, one_in).map(|filter| filter.as_bytes().len());
+        assert_eq!(filter, bytes.ok_or(Error::TooManyKeys));
     }
 }
 
 #[test]
-fn too_many_keys_are_an_error() {
-    assert_eq!(BloomFilter::for_keys(1_000_000_000, 100).unwrap_err(), Error::TooManyKeys);
-    assert_eq!(BloomFilter::for_keys(u64::MAX, u64::MAX).unwrap_err(), Error::TooManyKeys);
-}
-
-#[test]
-fn a_wrong_length_is_an_error_before_memory_is_taken() {
+fn a_wrong_length_is_an_error() {
     for length in [0, 1, 31, 33, 1 << 37, usize::MAX, usize::MAX - 31] {
         assert_eq!(BloomFilter::with_len(length).unwrap_err(), Error::Length, "{length}");
     }
-}
-
-#[test]
-fn bytes_of_a_wrong_length_are_no_filter() {
-    for length in [0, 31, 33, 63] {
-        assert_eq!(BloomFilter::from_bytes(&[0; 64][..length]).unwrap_err(), Error::Length);
+    for length in [0, 31, 33] {
         assert_eq!(BloomFilter::from_bytes(vec![0; length]).unwrap_err(), Error::Length);
     }
 }
 
 #[test]
-fn bytes_that_cannot_be_written_are_asked() {
+fn read_only_bytes_are_a_filter() {
     static READ_ONLY: [u8; 32] = OF_ARROW;
     let filter: BloomFilter<&'static [u8]> = BloomFilter::from_bytes(&READ_ONLY[..]).unwrap();
     let of_another_thread = std::thread::spawn(move || filter.contains(b"a0"));
@@ -74,7 +61,7 @@ fn bytes_that_cannot_be_written_are_asked() {
 }
 
 #[test]
-fn a_view_changes_the_bytes_that_it_borrows() {
+fn a_view_changes_the_borrowed_bytes() {
     let mut bytes = [0; 96];
     let mut view = BloomFilter::from_bytes(&mut bytes[32..64]).unwrap();
     view.extend(keys());
@@ -82,7 +69,7 @@ fn a_view_changes_the_bytes_that_it_borrows() {
 }
 
 #[test]
-fn what_holds_bytes_is_a_filter() {
+fn a_box_or_an_arc_of_bytes_is_a_filter() {
     let mut boxed = BloomFilter::from_bytes(Box::<[u8]>::from([0; 32])).unwrap();
     boxed.extend(keys());
     let shared: std::sync::Arc<[u8]> = boxed.into_inner().into();
@@ -93,7 +80,7 @@ fn what_holds_bytes_is_a_filter() {
 }
 
 #[test]
-fn hashes_stand_for_keys() {
+fn a_hash_may_be_inserted_in_place_of_its_key() {
     let (filter, mut other) = (filter_of_keys(), BloomFilter::with_len(1024).unwrap());
     keys().iter().for_each(|key| other.insert_hash(xxh64(key.as_bytes(), 0)));
     assert_eq!(other, filter);
@@ -101,7 +88,7 @@ fn hashes_stand_for_keys() {
 }
 
 #[test]
-fn a_column_of_keys_is_as_single_calls() {
+fn a_column_of_keys_equals_single_calls() {
     let mut filter = BloomFilter::with_len(1024).unwrap();
     let ends: Vec<i64> = (0..=10).map(|n| 2 * n).collect();
     filter.insert_each(keys().concat().as_bytes(), &ends).unwrap();
@@ -112,7 +99,7 @@ fn a_column_of_keys_is_as_single_calls() {
 }
 
 #[test]
-fn a_column_of_hashes_is_as_single_calls() {
+fn a_column_of_hashes_equals_single_calls() {
     let mut filter = BloomFilter::with_len(1024).unwrap();
     filter.insert_each_hash(&keys().map(|key| xxh64(key.as_bytes(), 0))).unwrap();
     assert_eq!(filter, filter_of_keys());
@@ -184,29 +171,19 @@ fn filters_of_different_lengths_are_not_merged() {
 }
 
 #[test]
-fn a_file_has_the_header_and_the_bytes() {
+fn a_filter_in_a_file_is_a_header_and_the_bytes() {
     let filter = filter_of_keys();
-    assert_eq!(filter.to_parquet().unwrap(), [&HEADER_OF_1024, filter.as_bytes()].concat());
+    let file = filter.to_parquet().unwrap();
+    assert_eq!(file, [&HEADER_OF_1024, filter.as_bytes()].concat());
+    let longer = [&b"PAR1"[..], &file, b"PAR1"].concat();
+    assert_eq!(BloomFilter::from_parquet(&longer[4..]).unwrap(), filter);
+    assert_eq!(BloomFilter::from_parquet(&longer).unwrap_err(), Error::Header);
+    assert_eq!(BloomFilter::from_parquet(&file[..15]).unwrap_err(), Error::Header);
+    assert_eq!(BloomFilter::from_parquet(&file[..1039]).unwrap_err(), Error::Truncated);
 }
 
 #[test]
-fn a_filter_is_read_from_the_middle_of_a_file() {
-    let file = [&b"PAR1"[..], &HEADER_OF_1024, filter_of_keys().as_bytes(), b"PAR1"].concat();
-    assert_eq!(BloomFilter::from_parquet(&file[4..]).unwrap(), filter_of_keys());
-    assert_eq!(BloomFilter::from_parquet(&file).unwrap_err(), Error::Header);
-}
-
-#[test]
-fn a_file_that_ends_early_is_truncated() {
-    let file = filter_of_keys().to_parquet().unwrap();
-    for length in 0..file.len() {
-        let error = if length < 16 { Error::Header } else { Error::Truncated };
-        assert_eq!(BloomFilter::from_parquet(&file[..length]).unwrap_err(), error);
-    }
-}
-
-#[test]
-fn an_error_says_where() {
+fn an_error_has_the_index() {
     let error: Box<dyn std::error::Error> = Box::new(Error::Offset { index: usize::MAX });
     assert!(error.to_string().contains("at 18446744073709551615 is missing"));
 }

@@ -56,7 +56,7 @@ fn a_negative_offset_is_past_the_end() {
 }
 
 #[test]
-fn further_offsets_are_not_read() {
+fn extra_offsets_are_not_read() {
     let mut out = [5; 2];
     xxh64_each(b"fox", &[0_u32, 3, 99], SEED, &mut out[..1]).unwrap();
     assert_eq!(out, [xxh64(b"fox", SEED), 5]);

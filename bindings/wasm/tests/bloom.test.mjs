@@ -6,55 +6,45 @@ import { bytes, last, library, long, lost } from './helpers.mjs';
 
 const { BloomFilter, xxh64 } = library;
 const keys = Array.from({ length: 10 }, (_, n) => `a${n}`);
+const fromHex = (digits) => Uint8Array.from(Buffer.from(digits, 'hex'));
 // One block with the texts a0 to a9, as Arrow writes it.
-const ofArrow = Uint8Array.of(200, 1, 80, 20, 64, 68, 8, 109, 6, 37, 4, 67, 144, 80, 96, 32, 8, 132, 43, 33, 0, 5, 99, 65, 2, 0,
-    224, 44, 64, 78, 96, 4);
-const headerOf1024 = Uint8Array.from(Buffer.from('1580101c1c00001c1c00001c1c000000', 'hex'));
+const ofArrow = fromHex('c80150144044086d062504439050602008842b21000563410200e02c404e6004');
+const headerOf1024 = fromHex('1580101c1c00001c1c00001c1c000000');
 const filled = (length = 1024) => keys.reduce((filter, key) => filter.add(key), new BloomFilter(length));
 
-test('bytes are those of Arrow', () => assert.deepEqual(filled(32).toBytes(), ofArrow));
-
-test('a filter of Arrow has its keys', () => {
+test('the bytes are those of Arrow', () => {
+    assert.deepEqual(filled(32).toBytes(), ofArrow);
     const filter = BloomFilter.fromBytes(ofArrow);
-    assert.ok(keys.every((key) => filter.has(key)));
-    assert.equal(filter.has('fox'), false);
+    assert.ok(keys.every((key) => filter.has(key)) && !filter.has('fox'));
 });
 
-test('a text is its UTF-8', () => {
-    assert.deepEqual(new BloomFilter(64).add('Grüße').toBytes(), new BloomFilter(64).add(bytes('Grüße')).toBytes());
-});
+test('a text is its UTF-8', () => assert.ok(filled().add('Grüße').has(bytes('Grüße'))));
 
-test('a long key is a key', () => {
+test('a key may be longer than the copied pieces', () => {
     const filter = new BloomFilter(64).add(long);
     assert.ok(filter.has(long) && filter.hasHash(xxh64(long)) && !filter.has(long.subarray(1)));
 });
 
-test('hashes stand for keys', () => {
+test('a hash may be added in place of its key', () => {
     const filter = keys.reduce((it, key) => it.addHash(xxh64(bytes(key))), new BloomFilter(1024));
     assert.deepEqual(filter.toBytes(), filled().toBytes());
     assert.deepEqual([filter.hasHash(xxh64(bytes('a0'))), filter.hasHash(last)], [true, false]);
 });
 
-test('a filter for keys has a power of two bytes', () => {
+test('a filter for keys has at most 128 MiB', () => {
     assert.equal(BloomFilter.forKeys(1_000_000, 100n).length, 2 ** 21);
     assert.equal(BloomFilter.bytesFor(0, 100), 32);
-});
-
-test('too many keys are an error', () => {
-    assert.throws(() => BloomFilter.forKeys(1e9, 100), { name: 'RangeError', message: /^no Bloom filter of at most 128 MiB/ });
+    assert.throws(() => BloomFilter.forKeys(1e9, 100), /^RangeError: no Bloom filter of at most 128 MiB/);
 });
 
 for (const length of [0, 31, 33, 2 ** 37]) {
     test(`the length ${length} is an error`, () => {
-        assert.throws(() => new BloomFilter(length), { name: 'RangeError', message: /positive multiple of 32/ });
+        assert.throws(() => new BloomFilter(length), /^RangeError: .* positive multiple of 32/);
+        if (length < 2 ** 37) assert.throws(() => BloomFilter.fromBytes(new Uint8Array(length)), RangeError);
     });
 }
 
-test('bytes of another length are no filter', () => {
-    assert.throws(() => BloomFilter.fromBytes(ofArrow.subarray(1)), RangeError);
-});
-
-test('columns of keys are as single calls', () => {
+test('a column of keys equals single calls', () => {
     for (const type of [Uint32Array, Int32Array, BigUint64Array, BigInt64Array]) {
         const ends = type.from({ length: 11 }, (_, n) => type.name.startsWith('Big') ? BigInt(2 * n) : 2 * n);
         const filter = new BloomFilter(1024).addEach(bytes(keys.join('')), ends);
@@ -74,7 +64,7 @@ for (const [type, inserted, other] of [
     });
 }
 
-test('columns of hashes are as single calls', () => {
+test('a column of hashes equals single calls', () => {
     const filter = new BloomFilter(1024).addEachHash(BigUint64Array.from(keys, (key) => xxh64(bytes(key))));
     assert.deepEqual(filter.toBytes(), filled().toBytes());
     assert.deepEqual([...filter.hasEachHash(BigUint64Array.of(last, xxh64(bytes('a9'))))], [0, 1]);
@@ -88,9 +78,9 @@ test('a wrong offset changes nothing', () => {
     assert.deepEqual(filter.toBytes(), filled().toBytes());
 });
 
-test('keys and columns of other types are type errors', () => {
+test('a key or a column of another type is a type error', () => {
     const filter = new BloomFilter(64);
-    for (const key of [5, null, undefined, ['fox'], ...lost(Uint8Array)]) assert.throws(() => filter.has(key), TypeError);
+    for (const key of [5, null, ['fox'], ...lost(Uint8Array)]) assert.throws(() => filter.has(key), TypeError);
     assert.throws(() => filter.addEachNumber(new Uint8Array(2)), TypeError);
     assert.throws(() => filter.addEachHash(new BigInt64Array(2)), TypeError);
     assert.throws(() => filter.addEach(bytes('fox'), [0, 3]), TypeError);
@@ -109,23 +99,17 @@ test('filters of different lengths are not merged', () => {
     assert.deepEqual(filter.toBytes(), filled().toBytes());
 });
 
-test('a file has the header and the bytes', () => {
-    assert.deepEqual(filled().toParquet(), new Uint8Array(Buffer.concat([headerOf1024, filled().toBytes()])));
-});
-
-test('a filter is read from the middle of a file', () => {
-    const file = Buffer.concat([bytes('PAR1'), filled().toParquet(), bytes('PAR1')]);
-    assert.deepEqual(BloomFilter.fromParquet(file.subarray(4)).toBytes(), filled().toBytes());
-    assert.throws(() => BloomFilter.fromParquet(file), /does not begin with the header/);
-});
-
-test('a file that ends early is an error', () => {
+test('a filter in a file is a header and the bytes', () => {
     const file = filled().toParquet();
+    assert.deepEqual(file, new Uint8Array(Buffer.concat([headerOf1024, filled().toBytes()])));
+    const longer = Buffer.concat([file, bytes('PAR1')]);
+    assert.deepEqual(BloomFilter.fromParquet(longer).toBytes(), filled().toBytes());
+    assert.throws(() => BloomFilter.fromParquet(longer.subarray(1)), /does not begin with the header/);
     assert.throws(() => BloomFilter.fromParquet(file.subarray(0, 15)), /does not begin with the header/);
     assert.throws(() => BloomFilter.fromParquet(file.subarray(0, 1039)), /ends before the Bloom filter does/);
 });
 
-test('filters stay as they were while the memory grows', () => {
+test('filters are unchanged when the memory grows', () => {
     const filters = Array.from({ length: 50 }, (_, n) => new BloomFilter(32 * (n + 1)).add(`${n}`));
     library.xxh64EachU64(new BigUint64Array(1e6));
     filters.forEach((filter, n) => {
@@ -133,12 +117,12 @@ test('filters stay as they were while the memory grows', () => {
     });
 });
 
-test('a filter is empty also where the memory was used', () => {
+test('a filter in reused memory is empty', () => {
     library.xxh64EachU64(BigUint64Array.of(last, last, last)); // takes a block of 64 bytes for the time of the call
     assert.deepEqual(new BloomFilter(64).toBytes(), new Uint8Array(64));
 });
 
-test('the memory of collected filters is used again', async (t) => {
+test('the memory of collected filters is reused', async (t) => {
     v8.setFlagsFromString('--expose-gc');
     const collect = runInNewContext('gc');
     const make = (count) => { for (let n = 0; n < count; n += 1) new BloomFilter(2 ** 24).add('fox'); };

@@ -1,5 +1,6 @@
-// What the types of the module promise, compiled by tsc beside sketch_hash.d.mts and never run.
-import { load, type BloomFilter, type Input, type Library, type MurmurStream, type Offsets, type Stream } from './sketch_hash.mjs';
+// Uses each type of sketch_hash.d.mts. It is compiled by tsc, and never run.
+import { load } from './sketch_hash.mjs';
+import type { BloomFilter, Input, Library, MurmurStream, Offsets, Stream } from './sketch_hash.mjs';
 
 const library: Library = await load();
 const input: Input = new Uint8Array(8);
@@ -12,24 +13,25 @@ const columns: BigUint64Array[] = [
 ];
 const texts: string[] = [library.version, library.xxh64Hex(input), library.murmur128Hex(input, 1n)];
 const sixteen: Uint8Array[] = [library.murmur128Bytes(input), new library.Murmur128().digestBytes()];
-for (const Kind of [library.Xxh64, library.Murmur128]) {
-    const stream: Stream = new Kind(1).update(input).copy().reset();
-    const digest: bigint = stream.reset(stream.seed).digest();
-    const digits: string = stream.hexDigest();
-}
+const stream: Stream = new library.Xxh64(1).update(input).copy().reset();
+const digest: bigint = stream.reset(stream.seed).digest();
+const digits: string = stream.hexDigest();
 const murmur: MurmurStream = new library.Murmur128(1n).update(input);
-// A stream of a class of its own stays one.
+// The calls of a subclass return the subclass.
 class Named extends library.Xxh64 { own = ''; }
 const own: string = new Named().update(input).copy().reset().own;
 
 const filter: BloomFilter = new library.BloomFilter(32).add('fox').add(input).addHash(hashes[0]).addEach(input, offsets)
     .addEachNumber(new Float64Array(2)).addEachHash(columns[0]).merge(library.BloomFilter.forKeys(1000, 100n));
 const found: boolean[] = [filter.has('fox'), filter.has(input), filter.hasHash(7n)];
-const each: Uint8Array[] = [filter.hasEach(input, offsets), filter.hasEachNumber(offsets), filter.hasEachHash(columns[0])];
+let each: Uint8Array = filter.hasEach(input, offsets);
+each = filter.hasEachNumber(offsets);
+each = filter.hasEachHash(columns[0]);
 const lengths: number[] = [filter.length, library.BloomFilter.bytesFor(1, 2)];
-const read: BloomFilter[] = [library.BloomFilter.fromParquet(filter.toParquet()), library.BloomFilter.fromBytes(filter.toBytes())];
+let read: BloomFilter = library.BloomFilter.fromParquet(filter.toParquet());
+read = library.BloomFilter.fromBytes(filter.toBytes());
 
-// @ts-expect-error: a string has no bytes until it is encoded
+// @ts-expect-error: a string must be encoded
 library.xxh64('fox');
 // @ts-expect-error: a seed is a number or a bigint
 library.xxh64(input, '0');

@@ -1,7 +1,7 @@
 """XXH64, MurmurHash3 x64 128 and the Bloom filter of Apache Parquet, from functions that are proved.
 
-The classes of hashes are used as those of hashlib and of python-xxhash. Input is any bytes-like object whose memory is
-C-contiguous; a str is refused. A seed is a whole number from 0 to 2**64 - 1. Digests have the highest byte first.
+The hashes are used like those of hashlib and python-xxhash. The input is any bytes-like object whose memory is
+C-contiguous, and not a str. A seed is a whole number from 0 to 2**64 - 1. Digests have the highest byte first.
 
 >>> xxh64(b"The quick brown fox jumps over the lazy dog").hexdigest()
 '0b242d361fda71bc'
@@ -34,7 +34,7 @@ algorithms_available = {"xxh64", "murmur3_x64_128"}
 
 
 def _take_up(kind, seed, checkpoint):
-    """The hash object of a pickle of versions 1."""
+    """Returns the hash object of a pickle of versions 1, which names this function."""
     hasher = kind()
     hasher.__setstate__((seed, checkpoint))
     return hasher

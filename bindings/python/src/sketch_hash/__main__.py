@@ -10,6 +10,9 @@ from . import __version__, murmur3_x64_128, xxh64
 
 HASHES = {"xxh64": xxh64, "murmur3_x64_128": murmur3_x64_128}
 ESCAPES = {"\\": "\\\\", "\n": "\\n", "\r": "\\r"}
+BAD, UNREAD = "improperly formatted line(s)", "file(s) could not be read"
+DIFFERS = "computed hash(es) did not match"
+VERDICTS = {UNREAD: "FAILED to open or read", DIFFERS: "FAILED", "OK": "OK"}
 DIGITS = r"[0-9a-fA-F]{16}|[0-9a-fA-F]{32}"
 # A hash and a name, after a '*' if the file was read as bytes; or with a tag. After a backslash the name is escaped.
 LINE = re.compile(rf"(\\?)(?:({DIGITS}) [ *](.+)|(?:XXH64|MURMUR3_X64_128) \((.+)\) = ({DIGITS}))", re.S)
@@ -24,7 +27,7 @@ def main(argv):
     parser.add_argument("-q", "--quiet", action="store_true", help="with --check, prints no OK")
     parser.add_argument("--tag", action="store_true", help="prints lines that name the hash, as xxhsum --tag does")
     parser.add_argument("--version", action="version", version=f"sketch-hash {__version__}")
-    # Names and options may take turns; what follows a '--' is a name.
+    # Options may come between names; each argument after '--' is a name.
     end = argv.index("--") if "--" in argv else len(argv)
     args = parser.parse_intermixed_args(argv[:end])
     files = args.files + argv[end + 1 :] or ["-"]
@@ -36,7 +39,7 @@ def main(argv):
         if hasher:
             mark, text = escape(name)
             digits = hasher.hexdigest()
-            say(f"{mark}{hasher.name} ({text}) = {digits}" if args.tag else f"{mark}{digits}  {text}")
+            write(f"{mark}{hasher.name} ({text}) = {digits}" if args.tag else f"{mark}{digits}  {text}")
         else:
             status = 1
     return status
@@ -52,7 +55,7 @@ def seed(text):
 
 
 def pieces(name):
-    """The pieces of a file, each in the memory of the one before."""
+    """The pieces of a file, one after the other in the same memory."""
     buffer = memoryview(bytearray(1 << 20))
     with open(0 if name == "-" else name, "rb", buffering=0, closefd=name != "-") as file:
         while count := file.readinto(buffer):
@@ -62,19 +65,18 @@ def pieces(name):
 
 
 def hash_file(name, hasher):
-    """Appends a file to the hasher. If that fails, it prints why and returns None."""
+    """Appends a file to the hasher, and returns it. If the file cannot be read, prints why and returns None."""
     try:
         for piece in pieces(name):
             hasher.update(piece)
-    except (OSError, ValueError) as error:
-        # No file has a name with a byte 0, which is a ValueError.
-        complain(f"{name}: {getattr(error, 'strerror', None) or error}")
+    except (OSError, ValueError) as error:  # a name with a byte 0 is a ValueError
+        warn(f"{name}: {getattr(error, 'strerror', None) or error}")
         return None
     return hasher
 
 
 def escape(name):
-    """What a line begins with, a backslash if its name is escaped, as in sha256sum; and the name."""
+    """The start of a line, which is a backslash if the name is escaped, as in sha256sum; and the name."""
     text = "".join(ESCAPES.get(letter, letter) for letter in name)
     return "\\" if text != name else "", text
 
@@ -87,61 +89,58 @@ def parse(text):
     name = match[3] or match[4]
     if match[1]:
         plain = {escaped: letter for letter, escaped in ESCAPES.items()}
-        name = re.sub(r"\\[\\nr]", lambda it: plain[it[0]], name)
+        name = re.sub(r"\\[\\nr]", lambda found: plain[found[0]], name)
     return (match[2] or match[5]).lower(), name
 
 
 def check(lists, seed, is_quiet):
-    """Reads lines as this program prints them, and hashes their files anew."""
-    bad, unread, differ, good = 0, 0, 0, 0
+    """Reads lines as this program prints them, and hashes their files again."""
+    counts = dict.fromkeys([BAD, UNREAD, DIFFERS, "OK"], 0)
     for name in lists:
         try:
             lines = os.fsdecode(b"".join(map(bytes, pieces(name)))).split("\n")
         except OSError as error:
-            complain(f"{name}: {error.strerror}")
-            unread += 1
-            continue
-        for line in filter(None, lines):
-            parsed = parse(line)
-            if not parsed:
-                bad += 1
-                continue
-            digits, file = parsed
-            hasher = hash_file(file, (xxh64 if len(digits) == 16 else murmur3_x64_128)(seed=seed))
-            is_same = hasher is not None and hasher.hexdigest() == digits
-            unread += hasher is None
-            differ += hasher is not None and not is_same
-            good += is_same
-            if not is_same or not is_quiet:
-                verdict = "OK" if is_same else "FAILED" if hasher else "FAILED to open or read"
-                # A name that would take two lines is escaped; others stand as they are.
-                shown = "".join(escape(file)) if {*file} & {"\n", "\r"} else file
-                say(f"{shown}: {verdict}")
-    for count, what in (
-        (bad, "improperly formatted line(s)"),
-        (unread, "file(s) could not be read"),
-        (differ, "computed hash(es) did not match"),
-    ):
+            warn(f"{name}: {error.strerror}")
+            counts[UNREAD] += 1
+        else:
+            for line in filter(None, lines):
+                counts[check_line(line, seed, is_quiet)] += 1
+    good = counts.pop("OK")
+    for what, count in counts.items():
         if count:
-            complain(f"{count} {what}")
-    if not good + differ + unread:
-        complain("no line with a hash")
-    return int(bool(bad or unread or differ or not good))
+            warn(f"{count} {what}")
+    if not good + counts[DIFFERS] + counts[UNREAD]:
+        warn("no line with a hash")
+    return int(not good or any(counts.values()))
 
 
-def say(text):
+def check_line(line, seed, is_quiet):
+    parsed = parse(line)
+    if not parsed:
+        return BAD
+    digits, name = parsed
+    hasher = hash_file(name, (xxh64 if len(digits) == 16 else murmur3_x64_128)(seed=seed))
+    result = UNREAD if not hasher else "OK" if hasher.hexdigest() == digits else DIFFERS
+    if result != "OK" or not is_quiet:
+        # Only a name that would take two lines is escaped.
+        text = "".join(escape(name)) if {*name} & {"\n", "\r"} else name
+        write(f"{text}: {VERDICTS[result]}")
+    return result
+
+
+def write(text):
     if not sys.stdout:
         raise OSError(errno.EBADF, os.strerror(errno.EBADF))
     sys.stdout.buffer.write(os.fsencode(text) + b"\n")
     sys.stdout.flush()
 
 
-def complain(text):
+def warn(text):
     try:
         sys.stderr.buffer.write(b"sketch_hash: " + os.fsencode(text) + b"\n")
         sys.stderr.flush()
     except (AttributeError, OSError):
-        pass  # nobody reads this, and what comes after is done all the same
+        pass  # nobody reads messages: the program goes on
 
 
 def command():
@@ -153,9 +152,9 @@ def command():
     try:
         status = main(sys.argv[1:])
     except OSError as error:
-        complain(f"standard output: {error.strerror}")
+        warn(f"standard output: {error.strerror}")
         status = 1
-    os._exit(status)  # what could not be written is not tried again
+    os._exit(status)  # without another try to flush standard output
 
 
 if __name__ == "__main__":

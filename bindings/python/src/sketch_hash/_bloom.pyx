@@ -8,10 +8,9 @@ from libc.stdint cimport uint32_t, uint64_t, uintptr_t
 from ._columns cimport HASHES, NUMBERS32, NUMBERS64, OFFSETS32, OFFSETS64, Column, check_offsets
 from ._library cimport *
 from ._memory cimport (
-    LONG, Lock, PyBuffer_Release, PyObject_GetBuffer, View, acquire, get_bytes, release, wait, word_of,
+    LONG, Lock, PyBuffer_Release, PyObject_GetBuffer, View, acquire, get_bytes, is_held, release, wait, word_of,
 )
 
-import math
 import operator
 import pickle
 
@@ -19,12 +18,12 @@ cdef extern from "Python.h":
     const char *PyUnicode_AsUTF8AndSize(object, Py_ssize_t *) except NULL
 
 cdef enum:
-    READ_ONLY = -100  # beside the errors of the library
+    READ_ONLY = -100  # not a status of the library
     OVERLAP = -101
 
 
 cdef inline uint64_t hash_of(object key) except? -1:
-    """XXH64 of a key. The filter takes the hash, so a key may lie in the filter's own memory."""
+    """XXH64 of a key. The filter takes the hash, so a key may be in the filter's own memory."""
     cdef View memory
     cdef uint64_t hash
     if isinstance(key, str):
@@ -53,7 +52,8 @@ cdef int get_key(object key, View *memory) except -1:
     if not is_bytes:
         PyBuffer_Release(memory)
         raise TypeError(
-            f"a key is a str or bytes, and not {type(key).__name__}: add_each and contains_each take numbers and columns")
+            f"a key is a str or bytes, and not {type(key).__name__}: "
+            "add_each and contains_each take numbers and columns")
     return 0
 
 
@@ -112,16 +112,16 @@ cdef object copied(object kind, const void *bits, size_t length):
 
 
 cdef class BloomFilter:
-    """BloomFilter(num_bytes)\n--\n\nThe split block Bloom filter of Apache Parquet, without keys: it tells whether a key was
-    added. It has no false negatives, and may have false positives.
+    """BloomFilter(num_bytes)\n--\n\nThe split block Bloom filter of Apache Parquet, without keys: it tells whether a
+    key was added. It has no false negatives, and may have false positives.
 
-    A key is a str, which counts as its UTF-8, or a bytes-like object. num_bytes is a positive multiple of 32 below 2**37,
-    else ValueError is raised. Arrow reads only powers of two up to 128 MiB, which for_keys chooses. memoryview(filter) has
-    the bits. Calls of several threads on one filter take turns, so threads and signal handlers may share it.
+    A key is a str, which counts as its UTF-8, or a bytes-like object. Raises ValueError if num_bytes is not a positive
+    multiple of 32 below 2**37. Arrow reads only powers of two up to 128 MiB, which for_keys chooses. memoryview(filter)
+    shares the bits. Calls of several threads on one filter take turns, so threads and signal handlers may share it.
     """
 
-    cdef View bits  # of a bytearray of its own, or of the buffer that it is a view of
-    cdef Lock lock  # made by the first long call
+    cdef View bits  # of an own bytearray, or of the buffer of a view
+    cdef Lock lock  # created by the first long call
     cdef Py_ssize_t exports  # how many memoryviews of the bits there are
 
     def __init__(self, num_bytes):
@@ -133,7 +133,7 @@ cdef class BloomFilter:
         PyBuffer_Release(&self.bits)
 
     cdef int hold(self, object buffer) except -1:
-        """Takes the memory of a filter, and lets go of what it had."""
+        """Takes the memory of a buffer, and releases what it had."""
         cdef View bits
         PyObject_GetBuffer(buffer, &bits, PyBUF_SIMPLE)
         try:
@@ -172,9 +172,9 @@ cdef class BloomFilter:
 
     @classmethod
     def for_keys(cls, keys, *, error_rate=None, one_in=None):
-        """for_keys($type, keys, *, error_rate=None, one_in=None)\n--\n\nReturns the smallest filter that reports at most this
-        share of other keys, once it has so many keys: error_rate=0.01, or one_in=100. Its size is a power of two. If more
-        than 128 MiB would be needed, ValueError is raised."""
+        """for_keys($type, keys, *, error_rate=None, one_in=None)\n--\n\nReturns the smallest filter that reports at
+        most this share of other keys, once it has so many keys: error_rate=0.01, or one_in=100. Its size is a power of
+        two. Raises ValueError if it would need more than 128 MiB."""
         if (error_rate is None) == (one_in is None):
             raise TypeError("for_keys takes one of error_rate, as 0.01, and one_in, as 100")
         if one_in is None:
@@ -189,7 +189,7 @@ cdef class BloomFilter:
     @classmethod
     def from_bytes(cls, data):
         """from_bytes($type, data, /)\n--\n\nReturns a filter with a copy of the bits that to_bytes or another language
-        wrote. Their number has to be one that BloomFilter takes, else ValueError is raised."""
+        wrote. Raises ValueError if BloomFilter would not take their number."""
         cdef View memory
         get_bytes(data, &memory)
         try:
@@ -199,9 +199,9 @@ cdef class BloomFilter:
 
     @classmethod
     def from_parquet(cls, data):
-        """from_parquet($type, data, /)\n--\n\nReturns the filter at the beginning of data, which is a Parquet file's from
-        its bloom_filter_offset on: a header, and the bits. What is after them is ignored. A header of anything but a split
-        block filter with XXH64, uncompressed, and missing bits raise ValueError."""
+        """from_parquet($type, data, /)\n--\n\nReturns the filter at the beginning of data, which is that of a Parquet
+        file from its bloom_filter_offset on: a header, and the bits. Bytes after them are ignored. Raises ValueError if
+        the header is not that of a split block filter with XXH64, uncompressed, or if bits are missing."""
         cdef View memory
         cdef uint64_t num_bytes = 0
         cdef size_t header
@@ -221,9 +221,9 @@ cdef class BloomFilter:
 
     @classmethod
     def view(cls, buffer):
-        """view($type, buffer, /)\n--\n\nReturns the filter in a buffer, as a file that is mapped, which is not copied.
+        """view($type, buffer, /)\n--\n\nReturns the filter in a buffer, such as a mapped file, without a copy.
 
-        A filter in a read-only buffer can be asked, and raises TypeError when a key is added. Nothing else may change the
+        A filter in a read-only buffer can be asked, and raises TypeError if a key is added. Nothing else may change the
         buffer during a call: two views of one buffer do not wait for each other. The buffer keeps its length until the
         view is released: by release, at the end of a with block, or with the view itself.
         """
@@ -232,7 +232,7 @@ cdef class BloomFilter:
         return filter
 
     def release(self):
-        """release($self)\n--\n\nLets go of the memory. Later calls raise ValueError; another release does nothing."""
+        """release($self)\n--\n\nReleases the memory. Later calls raise ValueError; another release does nothing."""
         cdef View nothing
         nothing.buf, nothing.obj, nothing.len, nothing.readonly = NULL, NULL, 0, 0
         self.exchange(&nothing)
@@ -272,7 +272,8 @@ cdef class BloomFilter:
         return found
 
     def update(self, keys):
-        """update($self, keys, /)\n--\n\nAdds each key of an iterable. If one raises TypeError, those before it stay added."""
+        """update($self, keys, /)\n--\n\nAdds each key of an iterable. If one raises TypeError, those before it are
+        added."""
         if isinstance(keys, (str, bytes, bytearray, memoryview)):
             raise TypeError("update takes an iterable of keys: add takes one key, and add_each a column")
         for key in keys:
@@ -317,52 +318,45 @@ cdef class BloomFilter:
     def add_each(self, keys):
         """add_each($self, keys, /)\n--\n\nAdds each key of a column.
 
-        The keys are a pair of bytes and offsets, as xxh64_each takes it. Or they are numbers of 32 or 64 bits: any buffer,
-        as an array of numpy. Each counts as its four or eight little-endian bytes, which is how Parquet stores numbers of
+        The keys are a pair of bytes and offsets, as for xxh64_each. Or they are numbers of 32 or 64 bits: any buffer,
+        such as an array of numpy. Each counts as its four or eight little-endian bytes, as Parquet stores numbers of
         that width; so ask with numbers of the same width. If ValueError is raised, nothing was added.
         """
         self.insert(Column(keys, "keys"))
 
     def contains_each(self, keys):
-        """contains_each($self, keys, /)\n--\n\nReturns whether the filter may have each key of a column, as add_each takes
-        it: a memoryview of bools."""
+        """contains_each($self, keys, /)\n--\n\nReturns whether the filter may have each key of a column, as for
+        add_each: a memoryview of bools."""
         return self.contains(Column(keys, "keys"))
 
     def add_hashes(self, hashes):
-        """add_hashes($self, hashes, /)\n--\n\nAdds the keys with these XXH64 of the seed 0, as xxh64_each returns them."""
+        """add_hashes($self, hashes, /)\n--\n\nAdds the keys with these XXH64 of the seed 0, as of xxh64_each."""
         self.insert(Column(hashes, "hashes"))
 
     def contains_hashes(self, hashes):
-        """contains_hashes($self, hashes, /)\n--\n\nReturns whether the filter may have each key with these XXH64 of the seed
-        0: a memoryview of bools."""
+        """contains_hashes($self, hashes, /)\n--\n\nReturns whether the filter may have each key with these XXH64 of the
+        seed 0: a memoryview of bools."""
         return self.contains(Column(hashes, "hashes"))
 
     def __ior__(self, other):
         if not isinstance(other, BloomFilter):
             return NotImplemented
-        # A copy, which lies elsewhere even if both are views of one buffer; and no call waits for two locks.
-        cdef bytes data = other.to_bytes()
-        cdef const char *bits = data
-        cdef size_t length = len(data), own_length
-        cdef int status
-        self.begin(length >= LONG)
-        own_length = self.bits.len
-        if self.bits.readonly:
-            status = READ_ONLY
-        elif length < LONG:
-            status = sketch_bloom_merge(self.bits.buf, self.bits.len, bits, length)
-        else:
-            with nogil:
-                status = sketch_bloom_merge(self.bits.buf, self.bits.len, bits, length)
-        if length >= LONG:
-            release(self.lock)
-        if status and own_length and status != READ_ONLY:
-            raise ValueError(f"filters of {own_length} and {length} bytes cannot be merged: create both with one size")
-        self.check(status)
+        cdef BloomFilter source = other
+        if overlap(&self.bits, &source.bits):
+            source = source.copy()
+        # It keeps the GIL, so no long call on either filter begins, and no call waits while it holds a lock.
+        while is_held(<void *>self.lock) or is_held(<void *>source.lock):
+            wait(<void *>self.lock)
+            wait(<void *>source.lock)
+        source.check(0)
+        self.check(READ_ONLY if self.bits.readonly else 0)
+        if sketch_bloom_merge(self.bits.buf, self.bits.len, source.bits.buf, source.bits.len):
+            raise ValueError(f"filters of {self.bits.len} and {source.bits.len} bytes cannot be merged: "
+                             "create both with one size")
         return self
 
     def __or__(self, other):
-        """A new filter with the keys of both; both stay as they were."""
+        """A new filter with the keys of both, which are unchanged."""
         if not isinstance(self, BloomFilter) or not isinstance(other, BloomFilter):
             return NotImplemented
         filter = self.copy()
@@ -384,19 +378,21 @@ cdef class BloomFilter:
         return PyBytes_FromStringAndSize(<char *>self.bits.buf, self.bits.len)
 
     def to_parquet(self):
-        """to_parquet($self)\n--\n\nReturns the filter as it is in a Parquet file: a header and the bits. Their length is the
-        column's bloom_filter_length. A filter of 2**31 bytes or more raises ValueError."""
+        """to_parquet($self)\n--\n\nReturns the filter as it is in a Parquet file: a header and the bits. Their length
+        is the column's bloom_filter_length. Raises ValueError if the filter has 2**31 bytes or more."""
         cdef unsigned char header[SKETCH_BLOOM_HEADER_MAX]
-        cdef size_t length
-        data = self.to_bytes()
-        length = sketch_bloom_header_write(len(data), header, sizeof(header))
+        wait(<void *>self.lock)
+        self.check(0)
+        cdef size_t length = sketch_bloom_header_write(self.bits.len, header, sizeof(header))
         if length == 0:
-            raise ValueError(f"a filter in a Parquet file has less than 2**31 bytes, and not {len(data)}")
-        return (<char *>header)[:length] + data
+            raise ValueError(f"a filter in a Parquet file has less than 2**31 bytes, and not {self.bits.len}")
+        return b"".join(((<char *>header)[:length], self))
 
     def copy(self):
-        """copy($self)\n--\n\nReturns a filter with the same keys and memory of its own."""
-        return type(self).from_bytes(self.to_bytes())
+        """copy($self)\n--\n\nReturns a filter with the same keys in its own memory."""
+        wait(<void *>self.lock)
+        self.check(0)
+        return copied(type(self), self.bits.buf, self.bits.len)
 
     def __reduce_ex__(self, protocol):
         data = self.to_bytes()
@@ -406,7 +402,7 @@ cdef class BloomFilter:
         self.check(0)
         if self.bits.readonly and flags & PyBUF_WRITABLE:
             raise BufferError("the filter is a view of read-only memory")
-        Py_DECREF(None)  # which Cython has put into buffer.obj, and PyBuffer_FillInfo replaces
+        Py_DECREF(None)  # Cython has put None into buffer.obj, and PyBuffer_FillInfo replaces it
         PyBuffer_FillInfo(buffer, self, self.bits.buf, self.bits.len, self.bits.readonly, flags)
         self.exports += 1
 
@@ -426,7 +422,5 @@ cdef object one_in_of(object error_rate):
         raise ValueError(f"error_rate is above 0 and below 1, as 0.01 for one key in a hundred, and not {error_rate}")
     if rate < 2.0**-63:
         return 2**64 - 1
-    one_in = math.ceil(1 / rate)
-    if one_in > 2 and 1 / (one_in - 1) <= rate:  # 1 / rate was rounded up
-        return one_in - 1
+    one_in = round(1 / rate)
     return one_in if 1 / one_in <= rate else one_in + 1

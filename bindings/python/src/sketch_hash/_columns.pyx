@@ -24,7 +24,7 @@ WHAT = {
 cdef class Column:
     """The keys of a call: texts with the offsets where they begin and end, or numbers.
 
-    `what` is the kind of numbers that may be keys, by its name in WHAT, or None if only texts may be.
+    `what` is the kind of numbers that may be keys, by its name in WHAT, or None if only texts may be keys.
     """
 
     def __cinit__(self, object keys, str what):
@@ -58,7 +58,7 @@ cdef class Column:
             is_small = is_row and format in b"bBhHiI" and not isinstance(numbers, (bytes, bytearray))
             raise TypeError(text + cure if is_small else text)
         if self.numbers.len and <uintptr_t>self.numbers.buf % self.numbers.itemsize:
-            raise ValueError("a column of numbers has to lie at a multiple of their width: pass a copy")
+            raise ValueError("a column of numbers must be aligned to their width: pass a copy")
         self.items = self.numbers.len // self.numbers.itemsize
         return self.numbers.itemsize
 
@@ -114,8 +114,8 @@ def xxh64_each(keys, seed=0):
 
     The keys are numbers of 64 bits, each hashed as its eight little-endian bytes: any buffer, as an array of numpy. Or
     they are a pair of bytes and offsets of 32 or 64 bits, one more than keys: a key is the bytes from its offset up to
-    the next. Nothing is copied. Offsets that are past the end of the bytes or below the one before raise a ValueError.
-    column(texts) makes such a pair of texts.
+    the next. Nothing is copied. Raises ValueError if an offset is past the end of the bytes or below the one before.
+    column(texts) returns such a pair.
     """
     return hashes_of(Column(keys, "wide keys"), hash_xxh64, seed, 8)
 
@@ -134,8 +134,8 @@ def column(texts):
     """column(texts, /)\n--\n\nReturns a column of texts or bytes: a pair of their bytes and offsets, for the calls that
     take columns.
 
-    texts is any iterable of str, which become UTF-8, or of bytes: a list, an array of numpy, a Series of pandas. Anything
-    else in it, as a missing value, raises TypeError with its index.
+    texts is any iterable of str, which become UTF-8, or of bytes: a list, an array of numpy, a Series of pandas. Raises
+    TypeError with the index of anything else in it, such as a missing value.
     """
     if isinstance(texts, (str, bytes)):
         raise TypeError("column takes many texts, and not one")

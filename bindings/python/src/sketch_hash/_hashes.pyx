@@ -18,7 +18,7 @@ cdef extern from "Python.h":
 
 
 cdef inline object digest_of(const uint64_t *words, int count):
-    """The bytes of words, the highest byte of each first. All machines that this runs on keep the lowest first."""
+    """The bytes of words, the highest byte of each first. This runs on little-endian machines alone."""
     cdef int i
     cdef uint64_t swapped[2]
     for i in range(count):
@@ -57,7 +57,7 @@ cdef class xxh64:
     """
 
     cdef sketch_xxh64_state_t state
-    cdef Lock lock  # made by the first long call
+    cdef Lock lock  # created by the first long call
 
     name = "XXH64"
     digest_size = digestsize = 8
@@ -94,7 +94,7 @@ cdef class xxh64:
         return 0
 
     @cython.final
-    cdef inline uint64_t answer(self) noexcept:
+    cdef inline uint64_t result(self) noexcept:
         wait(<void *>self.lock)
         return sketch_xxh64_digest(&self.state)
 
@@ -104,17 +104,17 @@ cdef class xxh64:
 
     def digest(self):
         """digest($self)\n--\n\nReturns the hash of all data so far as 8 bytes, the highest first."""
-        word = self.answer()
+        word = self.result()
         return digest_of(&word, 1)
 
     def hexdigest(self):
         """hexdigest($self)\n--\n\nReturns the digest in lower-case hexadecimal."""
-        word = self.answer()
+        word = self.result()
         return hex_of(&word, 1)
 
     def intdigest(self):
         """intdigest($self)\n--\n\nReturns the digest as a whole number."""
-        return self.answer()
+        return self.result()
 
     def reset(self):
         """reset($self)\n--\n\nDrops all data, and keeps the seed."""
@@ -154,13 +154,13 @@ cdef class xxh64:
 cdef class murmur3_x64_128:
     """murmur3_x64_128(data=b'', seed=0)\n--\n\nMurmurHash3 x64 128 of a stream that comes in pieces.
 
-    Its seed has 64 bits; one below 2**32 gives the hash of Austin Appleby's MurmurHash3_x64_128 with that seed. Calls of
-    several threads on one object take turns, so threads and signal handlers may share it.
+    Its seed has 64 bits; one below 2**32 gives the hash of Austin Appleby's MurmurHash3_x64_128 with that seed. Calls
+    of several threads on one object take turns, so threads and signal handlers may share it.
     """
 
     cdef sketch_murmur3_x64_128_state_t state
-    cdef uint64_t own_seed
-    cdef Lock lock  # made by the first long call
+    cdef uint64_t start_seed
+    cdef Lock lock  # created by the first long call
 
     name = "MURMUR3_X64_128"
     digest_size = digestsize = 16
@@ -176,7 +176,7 @@ cdef class murmur3_x64_128:
     @cython.final
     cdef inline void restart(self, uint64_t seed) noexcept:
         wait(<void *>self.lock)
-        self.own_seed = seed
+        self.start_seed = seed
         sketch_murmur3_x64_128_reset(&self.state, seed)
 
     @cython.final
@@ -198,7 +198,7 @@ cdef class murmur3_x64_128:
         return 0
 
     @cython.final
-    cdef inline void answer(self, uint64_t *hash) noexcept:
+    cdef inline void result(self, uint64_t *hash) noexcept:
         wait(<void *>self.lock)
         sketch_murmur3_x64_128_digest(&self.state, hash)
 
@@ -209,47 +209,47 @@ cdef class murmur3_x64_128:
     def digest(self):
         """digest($self)\n--\n\nReturns the hash of all data so far as 16 bytes, each word with the highest first."""
         cdef uint64_t hash[2]
-        self.answer(hash)
+        self.result(hash)
         return digest_of(hash, 2)
 
     def digest_bytes(self):
         """digest_bytes($self)\n--\n\nReturns the 16 bytes that most tools print: each word with the lowest first."""
         cdef uint64_t hash[2]
-        self.answer(hash)
+        self.result(hash)
         return lowest_first(hash)
 
     def hexdigest(self):
         """hexdigest($self)\n--\n\nReturns the digest in lower-case hexadecimal."""
         cdef uint64_t hash[2]
-        self.answer(hash)
+        self.result(hash)
         return hex_of(hash, 2)
 
     def intdigest(self):
         """intdigest($self)\n--\n\nReturns the digest as a whole number: the first word is above the second."""
         cdef uint64_t hash[2]
-        self.answer(hash)
+        self.result(hash)
         return int_of(hash)
 
     def reset(self):
         """reset($self)\n--\n\nDrops all data, and keeps the seed."""
-        self.restart(self.own_seed)
+        self.restart(self.start_seed)
 
     @property
     def seed(self):
         """The seed."""
-        return self.own_seed
+        return self.start_seed
 
     def copy(self):
         """copy($self)\n--\n\nReturns an independent object of the same class with the same seed and data."""
         cdef type kind = type(self)
         cdef murmur3_x64_128 other = kind.__new__(kind)
         wait(<void *>self.lock)
-        other.state, other.own_seed = self.state, self.own_seed
+        other.state, other.start_seed = self.state, self.start_seed
         return other
 
     def __reduce__(self):
         wait(<void *>self.lock)
-        state, seed = self.state, self.own_seed
+        state, seed = self.state, self.start_seed
         return __newobj__, (type(self),), (seed, (<char *>&state)[:sizeof(state)])
 
     def __setstate__(self, checkpoint):
@@ -257,7 +257,7 @@ cdef class murmur3_x64_128:
         cdef murmur3_x64_128 other = murmur3_x64_128(seed=seed)
         take_checkpoint(self, state, &other.state, sizeof(other.state))
         wait(<void *>self.lock)
-        self.state, self.own_seed = other.state, other.own_seed
+        self.state, self.start_seed = other.state, other.start_seed
 
     def __repr__(self):
         return f"<sketch_hash.{type(self).__name__} with seed {self.seed}, now {self.hexdigest()}>"
@@ -320,7 +320,8 @@ def xxh64_hexdigest(data, seed=0):
 
 
 def murmur3_x64_128_intdigest(data, seed=0):
-    """murmur3_x64_128_intdigest(data, seed=0)\n--\n\nReturns the hash as a whole number, the first word above the second."""
+    """murmur3_x64_128_intdigest(data, seed=0)\n--\n\nReturns the hash as a whole number: the first word is above the
+    second."""
     cdef uint64_t hash[2]
     murmur_of(data, seed, hash)
     return int_of(hash)
@@ -334,14 +335,14 @@ def murmur3_x64_128_digest(data, seed=0):
 
 
 def murmur3_x64_128_hexdigest(data, seed=0):
-    """murmur3_x64_128_hexdigest(data, seed=0)\n--\n\nReturns the hash as 32 hexadecimal digits, the first word first."""
+    """murmur3_x64_128_hexdigest(data, seed=0)\n--\n\nReturns the hash as 32 hexadecimal digits, first word first."""
     cdef uint64_t hash[2]
     murmur_of(data, seed, hash)
     return hex_of(hash, 2)
 
 
 def murmur3_x64_128_bytes(data, seed=0):
-    """murmur3_x64_128_bytes(data, seed=0)\n--\n\nReturns the 16 bytes of mmh3.hash_bytes: each word with the lowest first."""
+    """murmur3_x64_128_bytes(data, seed=0)\n--\n\nReturns the 16 bytes of mmh3.hash_bytes: each word's lowest first."""
     cdef uint64_t hash[2]
     murmur_of(data, seed, hash)
     return lowest_first(hash)

@@ -24,8 +24,10 @@ cdef extern from "sketch_hash.h" nogil:
     int sketch_xxh64_each32(const void *, size_t, const uint32_t *, size_t, uint64_t, void *, size_t, size_t *)
     int sketch_xxh64_each64(const void *, size_t, const uint64_t *, size_t, uint64_t, void *, size_t, size_t *)
     int sketch_xxh64_each_u64(const uint64_t *, size_t, uint64_t, void *, size_t)
-    int sketch_murmur3_x64_128_each32(const void *, size_t, const uint32_t *, size_t, uint64_t, void *, size_t, size_t *)
-    int sketch_murmur3_x64_128_each64(const void *, size_t, const uint64_t *, size_t, uint64_t, void *, size_t, size_t *)
+    int sketch_murmur3_x64_128_each32(
+        const void *, size_t, const uint32_t *, size_t, uint64_t, void *, size_t, size_t *)
+    int sketch_murmur3_x64_128_each64(
+        const void *, size_t, const uint64_t *, size_t, uint64_t, void *, size_t, size_t *)
 
     size_t sketch_bloom_bytes_for(uint64_t, uint64_t)
     int sketch_bloom_check(size_t)

@@ -12,7 +12,7 @@ from cpython.pythread cimport (
 from libc.stdint cimport uint64_t
 
 cdef extern from "Python.h":
-    # Under another name, so that Cython counts no references of it: obj may be NULL.
+    # Cython counts no references of a struct with this name, so obj may be NULL.
     ctypedef struct View "Py_buffer":
         void *buf
         PyObject *obj
@@ -34,7 +34,7 @@ cdef class Lock:
 cdef inline void acquire(Lock lock) noexcept:
     """Begins a long call on the object that has the lock."""
     if not PyThread_acquire_lock(lock.handle, NOWAIT_LOCK):
-        with nogil:  # the holder needs the GIL before it lets go
+        with nogil:  # the holder needs the GIL to release the lock
             PyThread_acquire_lock(lock.handle, WAIT_LOCK)
     lock.is_held = True
 
@@ -44,10 +44,15 @@ cdef inline void release(Lock lock) noexcept:
     PyThread_release_lock(lock.handle)
 
 
+cdef inline bint is_held(void *lock) noexcept:
+    """None is the lock of an object that had no long call. The lock is borrowed: to count references to it takes a
+    twentieth of a call."""
+    return lock is not <void *>None and (<Lock>lock).is_held
+
+
 cdef inline void wait(void *lock) noexcept:
-    """Begins a short call, which keeps the GIL, so that no long call begins before it is done. None is the lock of an
-    object that had no long call. The lock is lent: to count references to it takes a twentieth of a call."""
-    if lock is not <void *>None and (<Lock>lock).is_held:
+    """Begins a short call, which keeps the GIL, so that no long call begins before it is done."""
+    if is_held(lock):
         with nogil:
             PyThread_acquire_lock((<Lock>lock).handle, WAIT_LOCK)
         PyThread_release_lock((<Lock>lock).handle)

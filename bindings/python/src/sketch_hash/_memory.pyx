@@ -26,7 +26,7 @@ cdef int get_buffer(object data, View *memory) except -1:
 
 cdef bint holds_objects(object data) except -1:
     if isinstance(data, memoryview):
-        return "O" in "".join(data.format.split(":")[::2])  # names of fields stand between colons
+        return "O" in "".join(data.format.split(":")[::2])  # names of fields are between colons
     return getattr(getattr(data, "dtype", None), "hasobject", False)
 
 
