@@ -1,4 +1,4 @@
-"""What the tests share: `need`, by which each says what it runs on, and the folders."""
+"""What the tests share: `need`, by which each names the tools that it needs, and the folders."""
 import functools
 import importlib
 import importlib.util
@@ -19,16 +19,25 @@ if IS_CI:
 PYTHON_TESTS = ROOT / "bindings/python/tests"
 BUILD_PYTHON = "gcc", "Python.h", "python:Cython", "python:pip", "python:setuptools", "python:wheel"
 BUILD_LOG = ROOT / "out/python.log"  # which .ci/test leaves if the Python package cannot be built
+PLATFORM = sysconfig.get_platform()
+if PLATFORM != "linux-x86_64":  # these run its library or its program
+    collect_ignore = [*(f"tests/test_{it}.py" for it in ("crates", "faults", "systems")), "bindings/c",
+                      "bindings/python/tests/test_package.py", "bindings/wasm/tests/test_page.py"]
+
+    def pytest_report_header():
+        return f"not run, since they need linux-x86_64: {', '.join(collect_ignore)}"
 
 
 def version_of(program):
-    said = subprocess.run([program, "--version"], capture_output=True, text=True).stdout
-    return tuple(int(part) for part in re.search(r"\d+(?:\.\d+)*", said)[0].split("."))
+    output = subprocess.run([program, "--version"], capture_output=True, text=True).stdout
+    return tuple(int(part) for part in re.search(r"\d+(?:\.\d+)*", output)[0].split("."))
 
 
 @functools.cache
 def is_there(tool):
     name, _, oldest = tool.partition(" ")
+    if name == "linux-x86_64":
+        return name == PLATFORM
     if name.startswith("python:"):
         return importlib.util.find_spec(name[len("python:"):]) is not None
     if name.endswith(".h"):
@@ -41,16 +50,17 @@ def is_there(tool):
 
 @pytest.fixture(scope="session")
 def need():
-    """need("gcc", "node 20", "xxhash.h", "python:numpy"): a program, one of a version or newer, a header, a module.
+    """need("gcc", "node 20", "xxhash.h", "python:numpy", "linux-x86_64"): a program, one of a version or newer, a header, a
+    module, the platform.
 
-    Without it the test is skipped, with the reason; where CI is set it fails.
+    Without it the test is skipped, with the reason; if CI is set it fails.
     """
 
     def need(*tools):
         for tool in tools:
             if not is_there(tool):
                 test = os.environ["PYTEST_CURRENT_TEST"].partition("::")[0]
-                (pytest.fail if IS_CI else pytest.skip)(f"{test} needs {tool}: bash .ci/setup tells where it is from")
+                (pytest.fail if IS_CI else pytest.skip)(f"{test} needs {tool}: bash .ci/setup installs what there is")
 
     return need
 
@@ -64,8 +74,8 @@ def proved():
 
 
 class NotBuilt(pytest.Module):
-    """A file of tests of the Python package where that is not built. It is skipped if something to build it with is missing,
-    and else, or where CI is set, it fails with pip's output."""
+    """A file of tests of the Python package, which is not built. The tests are skipped if something to build it with is
+    missing. Else, or if CI is set, they fail with pip's output."""
 
     def collect(self):
         name, missing = self.path.relative_to(ROOT), [it for it in BUILD_PYTHON if not is_there(it)]

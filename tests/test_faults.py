@@ -15,9 +15,9 @@ OUT_OF_MEMORY, READ_FAULT, WRITE_FAULT = b"out of memory\n", b"read fault\n", b"
 USAGE = b"usage: sketchsum murmur|xx SEED\n"
 
 
-def answer(command, **how):
+def answer(command, **kwargs):
     """Its status, standard output and standard error."""
-    done = subprocess.run(command, input=FOX, capture_output=True, timeout=600, **how)
+    done = subprocess.run(command, input=FOX, capture_output=True, timeout=600, **kwargs)
     return done.returncode, done.stdout, done.stderr
 
 
@@ -34,9 +34,9 @@ def under(preloaded, tmp_path):
     """under(command, "memory", at=3): its answer if the third request is refused, and a letter for each call that it made."""
 
     def under(command, fault, at=0, and_all_after=False):
-        words = {"LD_PRELOAD": str(preloaded), "FAULT": fault, "FAULT_AT": str(at), "FAULT_LOG": str(tmp_path / "calls")}
-        said = answer(command, env={**os.environ, **words, **({"FAULT_ALL": "1"} if and_all_after else {})})
-        return said, (tmp_path / "calls").read_text()
+        variables = {"LD_PRELOAD": str(preloaded), "FAULT": fault, "FAULT_AT": str(at), "FAULT_LOG": str(tmp_path / "calls")}
+        result = answer(command, env={**os.environ, **variables, **({"FAULT_ALL": "1"} if and_all_after else {})})
+        return result, (tmp_path / "calls").read_text()
 
     return under
 
@@ -58,8 +58,8 @@ def built_tests(ending):
     return [it for it in TESTS if re.search(rf"{ending}$", it.values[1])]
 
 
-def passes_or_tells(said):
-    status, output, complaint = said
+def passes_or_reports(result):
+    status, output, complaint = result
     return (status, output) == PASSED[:2] and set(complaint.splitlines(keepends=True)) <= {OUT_OF_MEMORY}
 
 
@@ -71,24 +71,24 @@ def test_of_a_crate_meets_no_refusal_without_a_fault(program, name):
 @pytest.mark.parametrize("and_all_after", [False, True], ids=["one", "all after"])
 @pytest.mark.parametrize("program, name", built_tests("_without_memory"))
 def test_of_a_crate_holds_whichever_request_is_refused(program, name, and_all_after, under):
-    said, calls = under([program, name], "memory")
-    assert said == PASSED and calls
+    result, calls = under([program, name], "memory")
+    assert result == PASSED and calls
     for at in range(1, len(calls) + 1):
-        said, _ = under([program, name], "memory", at, and_all_after)
-        assert passes_or_tells(said) and said[2], f"request {at} of {len(calls)}"
+        result, _ = under([program, name], "memory", at, and_all_after)
+        assert passes_or_reports(result) and result[2], f"request {at} of {len(calls)}"
 
 
 @pytest.mark.parametrize("program, name", built_tests("(_no_memory|_makes?_[0-9]+_requests?)"))
 def test_of_a_crate_makes_so_many_requests(program, name, under):
     count = re.search(r"_([0-9]+)_requests?$", name)
-    said, calls = under([program, name], "memory")
-    assert said == PASSED and len(calls) == (int(count[1]) if count else 0)
+    result, calls = under([program, name], "memory")
+    assert result == PASSED and len(calls) == (int(count[1]) if count else 0)
 
 
 @pytest.mark.parametrize("program, name", built_tests("_second_request_is_refused"))
 def test_of_a_crate_meets_the_second_refusal(program, name, under):
-    said, _ = under([program, name], "memory", 2)
-    assert passes_or_tells(said) and said[2]
+    result, _ = under([program, name], "memory", 2)
+    assert passes_or_reports(result) and result[2]
 
 
 # ---- the program
@@ -100,11 +100,11 @@ CASES = {
     "xx": ('"$0" xx 0', 0, XXH64, b""),
     "a seed of 20 digits": ('"$0" xx 13571113171923293137', 0, b"f87a0d89aa481699\n", b""),
     "a name that is not UTF-8": ("exec -a $'\\xff' \"$0\" murmur 0", 0, MURMUR, b""),
-    "a word that is not UTF-8": ("\"$0\" murmur $'\\xff'", 2, b"", USAGE),
-    "no word": ('"$0"', 2, b"", USAGE),
-    "one word": ('"$0" xx', 2, b"", USAGE),
-    "three words": ('"$0" xx 0 0', 2, b"", USAGE),
-    "six words": ('"$0" murmur 0 1 2 3 4', 2, b"", USAGE),
+    "an argument that is not UTF-8": ("\"$0\" murmur $'\\xff'", 2, b"", USAGE),
+    "no argument": ('"$0"', 2, b"", USAGE),
+    "one argument": ('"$0" xx', 2, b"", USAGE),
+    "three arguments": ('"$0" xx 0 0', 2, b"", USAGE),
+    "six arguments": ('"$0" murmur 0 1 2 3 4', 2, b"", USAGE),
     "standard input closed": ('"$0" murmur 0 <&-', 1, b"", READ_FAULT),
     "a folder as input": ('"$0" murmur 0 <.', 1, b"", READ_FAULT),
     "standard output closed": ('"$0" murmur 0 >&-', 1, b"", WRITE_FAULT),
@@ -130,26 +130,26 @@ def test_program(program, case, tmp_path):
 @pytest.mark.parametrize("program", PROGRAMS, ids=lambda it: it.name)
 def test_program_gives_back_its_memory(program, need):
     need("valgrind")
-    said = answer(["valgrind", "-q", "--leak-check=full", "--show-leak-kinds=all", "--error-exitcode=9", program, "murmur", "0"])
-    assert said == (0, MURMUR, b"")
+    result = answer(["valgrind", "-q", "--leak-check=full", "--show-leak-kinds=all", "--error-exitcode=9", program, "murmur", "0"])
+    assert result == (0, MURMUR, b"")
 
 
-@pytest.mark.parametrize("words", ["murmur 0", "xx 0", "xx"])
+@pytest.mark.parametrize("args", ["murmur 0", "xx 0", "xx"])
 @pytest.mark.parametrize("fault, and_all_after", [("memory", False), ("memory", True), ("fail", False), ("short", False)])
 @pytest.mark.parametrize("program", PROGRAMS, ids=lambda it: it.name)
-def test_program_tells_each_failing_call(program, fault, and_all_after, words, under):
-    command = [program, *words.split()]
-    whole, calls = under(command, fault)
-    assert whole == (2, b"", USAGE) if words == "xx" else whole == (0, MURMUR if "murmur" in words else XXH64, b"")
+def test_program_reports_each_failing_call(program, fault, and_all_after, args, under):
+    command = [program, *args.split()]
+    expected, calls = under(command, fault)
+    assert expected == (2, b"", USAGE) if args == "xx" else expected == (0, MURMUR if "murmur" in args else XXH64, b"")
     assert calls
     for at, letter in enumerate(calls, 1):
-        said, _ = under(command, fault, at, and_all_after)
-        told = {
-            "m": [(1, b"", OUT_OF_MEMORY), whole],  # it may do without
+        result, _ = under(command, fault, at, and_all_after)
+        accepted = {
+            "m": [(1, b"", OUT_OF_MEMORY), expected],  # it may do without
             "r": [(1, b"", READ_FAULT)],
-            "o": [(1, whole[1][: len(said[1])], WRITE_FAULT)],
-            "e": [(whole[0], whole[1], b"")],
+            "o": [(1, expected[1][: len(result[1])], WRITE_FAULT)],
+            "e": [(expected[0], expected[1], b"")],
         }
-        assert said in ([whole] if fault == "short" else told[letter]), f"call {at} of {calls}"
+        assert result in ([expected] if fault == "short" else accepted[letter]), f"call {at} of {calls}"
     if fault == "memory":
-        assert any(under(command, fault, at)[0] != whole for at in range(1, len(calls) + 1))
+        assert any(under(command, fault, at)[0] != expected for at in range(1, len(calls) + 1))

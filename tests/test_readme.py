@@ -5,6 +5,7 @@ import re
 import shlex
 import shutil
 import subprocess
+import sys
 
 import pytest
 
@@ -24,20 +25,21 @@ def the_block(page, language):
     return code
 
 
-def said(command, folder, **environment):
+def output_of(command, folder, **environment):
     environment = {**os.environ, **environment}
     return subprocess.run(command, shell=True, executable="/bin/bash", cwd=folder, env=environment, check=True, stdout=subprocess.PIPE, text=True).stdout
 
 
-def test_the_program():
+def test_the_program(need):
+    need("linux-x86_64")
     command, answer = re.search(r"^    (printf .*sketchsum murmur 0)\n    (\w{32})$", PAGE, re.M).groups()
-    assert said(command, ROOT) == f"{answer}\n"
+    assert output_of(command, ROOT) == f"{answer}\n"
 
 
 @pytest.fixture
 def installed(need, tmp_path):
     """What points at an installed library."""
-    need("make", "gcc", "pkg-config")
+    need("linux-x86_64", "make", "gcc", "pkg-config")
     subprocess.run(["make", "-s", "-C", ROOT / "dist", "install", f"PREFIX={tmp_path / 'prefix'}"], check=True)
     lib = tmp_path / "prefix/lib"
     return {"PKG_CONFIG_PATH": str(lib / "pkgconfig"), "LD_LIBRARY_PATH": str(lib)}
@@ -45,48 +47,53 @@ def installed(need, tmp_path):
 
 def test_c(installed, tmp_path):
     (tmp_path / "fox.c").write_text(the_block(PAGE, "c"))
-    said(re.search(r"`(cc fox\.c [^`]+)`", PAGE)[1], tmp_path, **installed)
-    assert said("./a.out", tmp_path, **installed) == ANSWER
+    output_of(re.search(r"`(cc fox\.c [^`]+)`", PAGE)[1], tmp_path, **installed)
+    assert output_of("./a.out", tmp_path, **installed) == ANSWER
 
 
 @pytest.mark.parametrize("command", re.findall(r"^    (cc .*)$", OF_C, re.M))
 def test_c_page(command, installed, tmp_path):
     (tmp_path / "fox.c").write_text(the_block(OF_C, "c"))
-    said(command.replace("FOLDER", shlex.quote(str(ROOT / "dist"))), tmp_path, **installed)
-    assert said("./fox", tmp_path, **installed) == ANSWER
+    output_of(command.replace("FOLDER", shlex.quote(str(ROOT / "dist"))), tmp_path, **installed)
+    assert output_of("./fox", tmp_path, **installed) == ANSWER
+
+
+def test_check_runs_both_libraries_of_this_machine(need):
+    need("make", "cc")
+    assert len(re.findall(r"^\S+: OK: ", output_of("make -s -C dist check", ROOT), re.M)) == 2
 
 
 def test_rust(need, tmp_path):
     need("cargo", "rustc 1.82")
-    said("cargo new --offline --quiet --vcs none --name fox fox", tmp_path)
+    output_of("cargo new --offline --quiet --vcs none --name fox fox", tmp_path)
     add = re.search(r"`(cargo add [^`]+)`", PAGE)[1]
-    said(add.replace("REPOSITORY", shlex.quote(str(ROOT))).replace("add", "add --offline --quiet", 1), tmp_path / "fox")
+    output_of(add.replace("REPOSITORY", shlex.quote(str(ROOT))).replace("add", "add --offline --quiet", 1), tmp_path / "fox")
     (tmp_path / "fox/src/main.rs").write_text(the_block(PAGE, "rust crate"))
-    assert said("cargo run --offline --quiet", tmp_path / "fox") == ANSWER
+    assert output_of("cargo run --offline --quiet", tmp_path / "fox") == ANSWER
 
 
 def test_python(need, tmp_path):
-    """Installed by the page's commands, from a copy, beside which they make the environment."""
-    need("gcc", "Python.h", "python:Cython", "python:setuptools", "python:ensurepip", "python:wheel")
+    """By the commands of the page, in a copy, next to which they create the environment."""
+    need("linux-x86_64", "gcc", "Python.h", "python:Cython", "python:setuptools", "python:ensurepip", "python:wheel")
     copy = tmp_path / "repository"
     for folder in ("dist", "bindings/python"):
         shutil.copytree(ROOT / folder, copy / folder)
     commands = re.findall(r"`(\S+ -m venv [^`]+|\S*pip install [^`]+)`", re.sub(r"\s+", " ", PAGE))
     assert len(commands) == 2 and all(f"    {it}\n" in OF_PYTHON for it in commands)
     for command in commands:
-        said(f"unset PYTHONPATH; {command}", copy)
+        output_of(f"unset PYTHONPATH; {command}", copy)
     (copy / "fox.py").write_text(the_block(PAGE, "python"))
-    assert said(f"unset PYTHONPATH; {re.search(r'`([^` ]*python fox.py)`', PAGE)[1]}", copy) == ANSWER
+    assert output_of(f"unset PYTHONPATH; {re.search(r'`([^` ]*python fox.py)`', PAGE)[1]}", copy) == ANSWER
 
 
 def test_python_page(need, tmp_path):
-    """Its blocks are one program, which prints what stands beside each print."""
+    """Its blocks are one program, which prints what the comment after each print says."""
     need("python:sketch_hash")
     code = "".join(blocks(OF_PYTHON, "python"))
     (tmp_path / "all.py").write_text(code)
-    told = re.findall(r"^ *print\(.*\)(?:  # ([^;\n]+?)(?:;.*)?)?$", code, re.M)
-    printed = said("/usr/bin/python3 all.py", tmp_path).splitlines()
-    assert told and [line if it else "" for line, it in zip(printed, told, strict=True)] == told
+    expected = re.findall(r"^ *print\(.*\)(?:  # ([^;\n]+?)(?:;.*)?)?$", code, re.M)
+    printed = output_of(f"{shlex.quote(sys.executable)} all.py", tmp_path).splitlines()
+    assert expected and [line if it else "" for line, it in zip(printed, expected, strict=True)] == expected
 
 
 def test_node(need, tmp_path):
@@ -97,4 +104,4 @@ def test_node(need, tmp_path):
     (folder / "fox.mjs").write_text(the_block(PAGE, "js"))
     command = re.search(r"`(node (--[\w-]+) fox\.mjs)`", PAGE)
     is_taken = subprocess.run(["node", command[2], "-e", "0"], stderr=subprocess.DEVNULL).returncode == 0
-    assert said(command[1] if is_taken else "node fox.mjs", folder) == ANSWER  # Node from 24 on needs no flag
+    assert output_of(command[1] if is_taken else "node fox.mjs", folder) == ANSWER  # Node from 24 on needs no flag

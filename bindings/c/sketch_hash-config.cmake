@@ -8,9 +8,17 @@ get_filename_component(sketch_hash_prefix "${sketch_hash_prefix}/../../.." ABSOL
 if(NOT TARGET sketch_hash::sketch_hash)
     add_library(sketch_hash::sketch_hash SHARED IMPORTED)
     set_target_properties(sketch_hash::sketch_hash PROPERTIES
-        IMPORTED_LOCATION "${sketch_hash_prefix}/lib/libsketch_hash.so.2"
-        IMPORTED_SONAME libsketch_hash.so.2
         INTERFACE_INCLUDE_DIRECTORIES "${sketch_hash_prefix}/include")
+    if(EXISTS "${sketch_hash_prefix}/lib/libsketch_hash.so.2")
+        set_target_properties(sketch_hash::sketch_hash PROPERTIES IMPORTED_SONAME libsketch_hash.so.2
+            IMPORTED_LOCATION "${sketch_hash_prefix}/lib/libsketch_hash.so.2")
+    elseif(EXISTS "${sketch_hash_prefix}/lib/libsketch_hash.2.dylib")
+        set_target_properties(sketch_hash::sketch_hash PROPERTIES IMPORTED_SONAME @rpath/libsketch_hash.2.dylib
+            IMPORTED_LOCATION "${sketch_hash_prefix}/lib/libsketch_hash.2.dylib")
+    else()
+        set_target_properties(sketch_hash::sketch_hash PROPERTIES IMPORTED_IMPLIB "${sketch_hash_prefix}/lib/sketch_hash.lib"
+            IMPORTED_LOCATION "${sketch_hash_prefix}/bin/sketch_hash.dll")
+    endif()
     add_library(sketch_hash::sketch_hash_static STATIC IMPORTED)
     set_target_properties(sketch_hash::sketch_hash_static PROPERTIES
         IMPORTED_LOCATION "${sketch_hash_prefix}/lib/libsketch_hash.a"

@@ -1,5 +1,6 @@
 """Builds the calls over the proved archive, that of dist/ or of the folder SKETCH_HASH_LIB_DIR, an absolute path."""
 import os
+import re
 import sys
 import sysconfig
 
@@ -7,29 +8,42 @@ from setuptools import Extension, setup
 from Cython.Build import cythonize  # after setuptools, which brings its own distutils
 
 here = os.path.dirname(os.path.abspath(__file__))
-target = sysconfig.get_platform()
+# The folders in dist/ for a platform, whose version is left out. Of several archives a linker takes what fits.
+FOLDERS = {
+    "linux-x86_64": ["linux-x86_64"],
+    "linux-aarch64": ["linux-aarch64"],
+    "macosx-arm64": ["macos-aarch64"],
+    "macosx-x86_64": ["macos-x86_64"],
+    "macosx-universal2": ["macos-aarch64", "macos-x86_64"],
+    "win-amd64": ["windows-x86_64"],
+}
+platform = re.sub(r"-[\d.]+-", "-", sysconfig.get_platform())
 folder = os.environ.get("SKETCH_HASH_LIB_DIR")
 if sys.implementation.name != "cpython" or sysconfig.get_config_var("Py_GIL_DISABLED"):
     raise SystemExit(
         "sketch-hash needs CPython with the GIL, by which calls of several threads on one object take turns; "
         "a free-threaded Python has no GIL"
     )
-if not folder and target not in ("linux-x86_64", "linux-aarch64"):
+if folder:
+    folders = [os.path.abspath(folder)]
+elif platform in FOLDERS:
+    folders = [os.path.abspath(os.path.join(here, "..", "..", "dist", it)) for it in FOLDERS[platform]]
+else:
     raise SystemExit(
-        f"sketch-hash has no library for {target}, but for Linux on x86-64 and aarch64; "
+        f"sketch-hash has no library for {platform}, but for {', '.join(FOLDERS)}; "
         "elsewhere use its WebAssembly module, dist/wasm/sketch_hash.wasm"
     )
-folder = os.path.abspath(folder or os.path.join(here, "..", "..", "dist", target))
-archive = os.path.join(folder, "libsketch_hash.a")
-if not os.path.isfile(archive):
-    raise SystemExit(f"{archive} is missing: set SKETCH_HASH_LIB_DIR to the absolute path of its folder")
+archives = [os.path.join(it, "libsketch_hash.a") for it in folders]
+for archive in archives:
+    if not os.path.isfile(archive):
+        raise SystemExit(f"{archive} is missing: set SKETCH_HASH_LIB_DIR to the absolute path of its folder")
 modules = [
     Extension(
         f"sketch_hash.{name}",
         [f"src/sketch_hash/{name}.pyx"],
-        include_dirs=[folder, os.path.join(folder, "..", "include")],
-        extra_objects=[archive],
-        depends=[archive],
+        include_dirs=[folders[0], os.path.join(folders[0], "..", "include")],
+        extra_objects=archives,
+        depends=archives,
     )
     for name in ("_memory", "_hashes", "_columns", "_bloom")
 ]

@@ -15,7 +15,8 @@ fn main() {
     );
     println!("cargo:rerun-if-changed={}", archive.display());
     println!("cargo:rustc-link-search=native={}", folder.display());
-    println!("cargo:rustc-link-lib=static=sketch_hash");
+    // By its file name: dist/ has an import library sketch_hash.lib for Windows too.
+    println!("cargo:rustc-link-lib=static:+verbatim=libsketch_hash.a");
 }
 
 /// The folder of the archive for the target.

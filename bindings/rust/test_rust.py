@@ -92,8 +92,9 @@ def test_project_links_the_library_of_the_package(project):
     cargo("run", folder=project)
 
 
-def test_project_links_a_library_elsewhere(project, tmp_path):
+def test_project_links_a_library_elsewhere(project, need, tmp_path):
     """And again after it changes."""
+    need("linux-x86_64")
     elsewhere = tmp_path / "another folder"
     elsewhere.mkdir()
     library = pathlib.Path(shutil.copy(ARCHIVE, elsewhere))

@@ -16,8 +16,8 @@ fn main() {
     for line in answers::ANSWERS.lines() {
         let (question, answer) = line.split_once(" = ").unwrap();
         let words: Vec<_> = question.split(' ').collect();
-        let told: Vec<_> = answer_to(&words).iter().map(|word| format!("{word:x}")).collect();
-        assert_eq!(told.join(" "), answer, "{question}");
+        let results: Vec<_> = answer_to(&words).iter().map(|word| format!("{word:x}")).collect();
+        assert_eq!(results.join(" "), answer, "{question}");
     }
     println!("{} samples, each answered alike", answers::ANSWERS.lines().count());
 }

@@ -74,10 +74,17 @@ def test_an_upgrade_replaces_the_library_in_use(prefix, tmp_path):
     assert not library.samefile(tmp_path / "in_use")
 
 
-def test_install_for_another_machine(tmp_path):
-    assert make("install", f"PREFIX={tmp_path}", "TARGET=linux-aarch64").returncode == 0
-    assert files_in(tmp_path) == INSTALLED - {"bin/sketchsum", "share/man/man1/sketchsum.1"}
-    assert (tmp_path / "lib/libsketch_hash.a").read_bytes() == (DIST / "linux-aarch64/libsketch_hash.a").read_bytes()
+@pytest.mark.parametrize("target, libraries", [
+    ("linux-aarch64", {"lib/libsketch_hash.so", "lib/libsketch_hash.so.2"}),
+    ("macos-aarch64", {"lib/libsketch_hash.dylib", "lib/libsketch_hash.2.dylib"}),
+    ("windows-x86_64", {"bin/sketch_hash.dll", "lib/sketch_hash.lib"}),
+])
+def test_install_for_another_machine(target, libraries, tmp_path):
+    assert make("install", f"PREFIX={tmp_path}", f"TARGET={target}").returncode == 0
+    of_this_machine = {"bin/sketchsum", "share/man/man1/sketchsum.1", "lib/libsketch_hash.so", "lib/libsketch_hash.so.2"}
+    assert files_in(tmp_path) == INSTALLED - of_this_machine | libraries
+    assert (tmp_path / "lib/libsketch_hash.a").read_bytes() == (DIST / target / "libsketch_hash.a").read_bytes()
+    assert make("uninstall", f"PREFIX={tmp_path}").returncode == 0 and files_in(tmp_path) == set()
 
 
 def test_install_for_a_machine_without_a_library_is_an_error(tmp_path):
@@ -192,12 +199,22 @@ def test_cmake_finds_it_from_two_folders_of_a_project(prefix, need, tmp_path):
     assert cmake(tmp_path, prefix).returncode == 0
 
 
-@pytest.mark.parametrize("processor, says", [("", ""), ("x86_64", ""), ("aarch64", "(Linux, x86-64)")])
-def test_cmake_knows_what_the_library_runs_on(processor, says, prefix, need, tmp_path):
+@pytest.mark.parametrize("target, system, processor, message", [
+    ("linux-x86_64", "", "", ""),
+    ("linux-x86_64", "Linux", "x86_64", ""),
+    ("linux-x86_64", "Linux", "aarch64", "(Linux, x86-64)"),
+    ("macos-aarch64", "Darwin", "arm64", ""),
+    ("macos-x86_64", "Darwin", "arm64", "(Darwin, x86-64)"),
+    ("windows-x86_64", "Windows", "AMD64", ""),
+    ("windows-x86_64", "Linux", "x86_64", "(Windows, x86-64)"),
+])
+def test_cmake_knows_what_the_library_runs_on(target, system, processor, message, need, tmp_path):
     """Also in a project that has no language yet."""
     need("cmake")
+    prefix = tmp_path / "prefix"
+    assert make("install", f"PREFIX={prefix}", f"TARGET={target}").returncode == 0
     lines = "cmake_minimum_required(VERSION 3.7)\nproject(none NONE)\nfind_package(sketch_hash REQUIRED)\n"
     (tmp_path / "CMakeLists.txt").write_text(lines)
-    system = ["-DCMAKE_SYSTEM_NAME=Linux", f"-DCMAKE_SYSTEM_PROCESSOR={processor}"] if processor else []
-    done = cmake(tmp_path, prefix, *system)
-    assert bool(done.returncode) == bool(says) and says in done.stderr
+    cross = [f"-DCMAKE_SYSTEM_NAME={system}", f"-DCMAKE_SYSTEM_PROCESSOR={processor}"] if system else []
+    done = cmake(tmp_path, prefix, *cross)
+    assert bool(done.returncode) == bool(message) and message in done.stderr

@@ -97,6 +97,11 @@ def test_a_broken_pipe_ends_it_without_a_message():
     assert (done.returncode, done.stderr) == (-signal.SIGPIPE, b"")
 
 
+def test_a_system_without_sigpipe():
+    code = "import signal; del signal.SIGPIPE; from sketch_hash.__main__ import command; command()"
+    assert subprocess.check_output([sys.executable, "-c", code, "fox"]) == XXH64 + b"  fox\n"
+
+
 @pytest.mark.parametrize("name, reason", [
     (b"missing", b"No such file or directory"), (b".", b"Is a directory"), (b"\xff", b"No such file or directory"),
 ], ids=["missing", "folder", "no UTF-8"])

@@ -146,7 +146,8 @@ def warn(text):
 def command():
     """The program. As others do, it ends without a message if nobody reads its output, or at Ctrl-C, unless it was
     started to ignore that."""
-    signal.signal(signal.SIGPIPE, signal.SIG_DFL)
+    if hasattr(signal, "SIGPIPE"):  # not on Windows
+        signal.signal(signal.SIGPIPE, signal.SIG_DFL)
     if signal.getsignal(signal.SIGINT) is not signal.SIG_IGN:
         signal.signal(signal.SIGINT, signal.SIG_DFL)
     try:
