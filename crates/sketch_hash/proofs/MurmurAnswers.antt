@@ -11,7 +11,7 @@ use Rattle.sketch_base.proofs.BytesLemmas.{bytes_known}
 use Rattle.sketch_hash.proofs.WordLemmas.{xor-is, five_times, of_words, of_swapped_words}
 use Rattle.sketch_hash.proofs.NumberLemmas.{le-word, tail_words, padded_words, number-lt, number-words}
 use Rattle.sketch_hash.specs.Pieces.{State, absorb, pieces, rest}
-use Rattle.sketch_hash.specs.Murmur.{fmix, mix1, mix2, step, step1, step2, finalize, with_tail, murmur, murmur_start, murmur_after, murmur_answer, MurmurStands}
+use Rattle.sketch_hash.specs.Murmur.{cross, fmix, mix1, mix2, step, step1, step2, finalize, with_tail, murmur, murmur_start, murmur_after, murmur_answer, MurmurStands}
 
 -- the definition of the whole bytes
 pub murmur_answer-after : (seed : ℕ) (bytes : List ℕ) →
@@ -46,7 +46,13 @@ pub fmix_zero : (x : ℕ) → x ≡ 0 → 0 ≡ fmix x
 unfolding fmix xor xor_below
 fmix_zero x e = rw e refl
 
-pub ruleset for_finalize_unvectorized = (fmix_zero, of_words, of_swapped_words)
+pub finalize_is : (h1 h2 n : ℕ) →
+    finalize (h1, h2) n
+    ≡ cross (fmix (cross (xor h1 n, xor h2 n)).0, fmix (cross (xor h1 n, xor h2 n)).1)
+unfolding finalize
+finalize_is h1 h2 n = refl
+
+pub ruleset for_finalize_unvectorized = (finalize_is, fmix_zero, of_words, of_swapped_words)
 
 -- no tail, a tail of one word, and one of two: their words enter those of the hash
 pub no_tail : (h1 h2 : ℕ) (tail : List ℕ) → IsWord h1 → IsWord h2 → length tail ≡ 0 →

@@ -320,7 +320,7 @@ fn finalize(h1: u64, h2: u64, total: u64) -> (u64, u64)
 // a caller's loop over keys of 8 bytes, which is a third slower without AVX-512. `hash` does
 // without: there the branch makes keys of 1 to 8 bytes 10 % slower.
 #[inline(always)]
-#[tactic(auto, unfolding(crate::specs::Murmur::finalize), using(crate::proofs::MurmurAnswers::for_finalize_unvectorized))]
+#[tactic(auto, using(crate::proofs::MurmurAnswers::for_finalize_unvectorized))]
 fn finalize_unvectorized(h1: u64, h2: u64, total: u64) -> (u64, u64)
     ensures { result ≡ finalize (h1, h2) total }
 {
