@@ -30,7 +30,7 @@ pub fn write_header(bytes: usize, out: &mut [u8]) -> Option<usize>
     if out.len() < count {
         return None;
     }
-    out[..count].copy_from_slice(&header[..count]);
+    copy_header(&header, count, out);
     Some(count)
 }
 
@@ -60,6 +60,23 @@ pub fn read_header(input: &[u8]) -> Option<(usize, usize)>
     Some((bytes, count))
 }
 
+// Copies the first `count` bytes of a header. A copy of constant length needs no `memcpy`, which
+// the C library would have to import.
+fn copy_header(header: &[u8; MOST], count: usize, out: &mut [u8])
+    requires least { 15 ≤ count }
+    requires most { count ≤ 19 }
+    requires within { count ≤ length out.old }
+    ensures { out.new ≡ take count header.now ++ drop count out.old }
+{
+    match count {
+        15 => out[..15].copy_from_slice(&header[..15]),
+        16 => out[..16].copy_from_slice(&header[..16]),
+        17 => out[..17].copy_from_slice(&header[..17]),
+        18 => out[..18].copy_from_slice(&header[..18]),
+        _ => out[..19].copy_from_slice(&header[..19]),
+    }
+}
+
 // Whether `input` starts with `prefix`.
 fn has_prefix(input: &[u8], prefix: &[u8]) -> bool
     ensures { IsTrue result ↔ (take (length prefix.now) input.now ≡ prefix.now) }
@@ -78,6 +95,7 @@ fn is_header_length(bytes: usize) -> bool
 fn header_of(bytes: usize) -> ([u8; MOST], usize)
     requires { IsHeaderLength bytes }
     ensures long { length result.0 ≡ 19 }
+    ensures least { 15 ≤ result.1 }
     ensures most { result.1 ≤ 19 }
     ensures header { take result.1 result.0 ≡ header bytes }
 {

@@ -8,10 +8,11 @@ pub loop-number-preserved : goal.loop-number-preserved
 loop-number-preserved c =
     let n = c.loop-number.number in
     let next = number_goes_on (5 - c.loop-number.count) c.loop-number.count n c.loop-number.header
-    (number_field c.args.bytes) (omega arith) (omega arith) c.loop-number.invariant.3
+    (number_field c.args.bytes) (omega arith) (omega arith) c.loop-number.invariant.4
     c.loop-number-test.true c.loop-number.invariant.0 in (
       next.0,
       length-set c.loop-number.header c.loop-number.count (n % 128 + 128) ∙ c.loop-number.invariant.1,
+      omega arith,
       next.1,
       next.2,
     )

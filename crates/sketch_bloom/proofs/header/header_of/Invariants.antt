@@ -7,6 +7,7 @@ abbrev pub invariant-loop-number : goal.invariant-loop-number
 invariant-loop-number l =
     (take l.count l.header ++ varint (5 - l.count) l.number ≡ number_field l.bytes)
     × (length l.header ≡ 19)
+    × (0 < l.count)
     × (l.count ≤ 5)
     × (l.number < 128 ^ suc (5 - l.count))
 

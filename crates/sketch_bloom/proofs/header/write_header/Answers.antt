@@ -8,5 +8,5 @@ returns c =
     let made = c.header_of-count.ensures.header in (
       c.is_header_length.ensures.0 c.if-not-is_header_length.false,
       sym (length-take-le count c.header_of-count.result.0 (omega arith)) ∙ ap length made,
-      ap (λ l. l ++ drop count c.args.out.now) (c.copy_from_slice.ensures.after ∙ made),
+      c.copy_header.ensures ∙ ap (λ l. l ++ drop count c.args.out.now) made,
     )
