@@ -67,6 +67,7 @@ typedef struct sketch_xxh64_state {
 #define SKETCH_XXH64_PRIME1 ((SKETCH_HASH_U64(0x9E3779B1u) << 32) | SKETCH_HASH_U64(0x85EBCA87u))
 #define SKETCH_XXH64_PRIME2 ((SKETCH_HASH_U64(0xC2B2AE3Du) << 32) | SKETCH_HASH_U64(0x27D4EB4Fu))
 
+/* clang-format off */
 /** Initializes a state, as sketch_xxh64_reset does. It evaluates `seed` five times. */
 #define SKETCH_XXH64_INIT(seed)                                                                   \
     {                                                                                             \
@@ -74,6 +75,7 @@ typedef struct sketch_xxh64_state {
             SKETCH_HASH_U64(seed) + SKETCH_XXH64_PRIME2, SKETCH_HASH_U64(seed),                   \
             SKETCH_HASH_U64(seed) - SKETCH_XXH64_PRIME1, 0, { 0 }                                 \
     }
+/* clang-format on */
 
 /** Returns XXH64 of `length` bytes. It prints as "%016" PRIx64. */
 uint64_t sketch_xxh64(const void *input, size_t length, uint64_t seed);
@@ -100,9 +102,9 @@ typedef struct sketch_murmur3_x64_128_state {
 } sketch_murmur3_x64_128_state_t;
 
 /** Initializes a state, as sketch_murmur3_x64_128_reset does. It evaluates `seed` twice. */
-#define SKETCH_MURMUR3_X64_128_INIT(seed)                                                         \
-    {                                                                                             \
-        SKETCH_HASH_U64(seed), SKETCH_HASH_U64(seed), 0, { 0 }                                    \
+#define SKETCH_MURMUR3_X64_128_INIT(seed)                                                          \
+    {                                                                                              \
+        SKETCH_HASH_U64(seed), SKETCH_HASH_U64(seed), 0, { 0 }                                     \
     }
 
 /** Writes the two words of MurmurHash3_x64_128 of `length` bytes, as the original's `out`. A seed

@@ -28,7 +28,7 @@ export interface Stream {
     digest(): bigint;
     /** The digest in lower-case hexadecimal, 16 or 32 digits, the highest first. */
     hexDigest(): string;
-    /** A stream with the same bytes so far, which goes on independently. */
+    /** An independent stream with the same bytes so far. */
     copy(): this;
     /** Drops all bytes, and keeps the seed if none is given. */
     reset(seed?: Whole): this;
@@ -41,10 +41,11 @@ export interface MurmurStream extends Stream {
 }
 
 /**
- * The split block Bloom filter of Apache Parquet, which Spark, Arrow and DuckDB read. It contains each key that was added,
- * and reports some others too. Its bytes are in the module's memory, until the filter is collected as garbage.
+ * The split block Bloom filter of Apache Parquet, which Spark, Arrow and DuckDB read. It contains each key that was
+ * added, and reports some others too. Its bytes are in the module's memory, until the filter is collected as garbage.
  *
- * A key is the value's plain bytes in Parquet: those of a text without a length, those of a number with the lowest first.
+ * A key is the value's plain bytes in Parquet: those of a text without a length, those of a number with the lowest
+ * first.
  */
 export interface BloomFilter {
     /** How many bytes the filter has. */
@@ -86,12 +87,12 @@ export interface BloomFilterConstructor {
      * @throws {RangeError} if no filter of at most 128 MiB keeps this rate
      */
     forKeys(keys: Whole, oneIn: Whole): BloomFilter;
-    /** The length of the filter that forKeys makes. @throws {RangeError} as forKeys does */
+    /** The length of the filter that forKeys returns. @throws {RangeError} as forKeys does */
     bytesFor(keys: Whole, oneIn: Whole): number;
     /** The filter with a copy of these bytes, without a header. @throws {RangeError} as the constructor does */
     fromBytes(bytes: Input): BloomFilter;
     /**
-     * The filter of a Parquet file, copied: the input begins with its header, and may go on after the filter.
+     * A copy of the filter of a Parquet file: the input begins with the header, and may be longer than the filter.
      *
      * @throws {RangeError} if it begins with no such header, or ends before the filter does
      */
@@ -99,8 +100,8 @@ export interface BloomFilterConstructor {
 }
 
 /**
- * The calls. Each throws a TypeError if an input, a column or a seed is of another type, and a RangeError if a seed is not
- * from 0 to 2^64 - 1, or if there is no memory. A seed is 0 if left out.
+ * The calls. Each throws a TypeError if an input, a column or a seed is of another type, and a RangeError if a seed is
+ * not from 0 to 2^64 - 1, or if there is no memory. A seed is 0 if left out.
  */
 export interface Library {
     /** The module's version, as '2.0.0'. */
@@ -137,9 +138,9 @@ export interface Library {
 }
 
 /**
- * Loads the module: from sketch_hash.wasm beside this file, or from another URL, which is relative to this file, or from its
- * bytes.
+ * Loads the module from sketch_hash.wasm in the folder of this file, from another URL, which may be relative to this
+ * file, or from its bytes.
  *
- * @throws {Error} if the engine lacks 64-bit memories, or the module cannot be read, or is not one
+ * @throws {Error} if the engine lacks 64-bit memories, or what is loaded cannot be read, or is not a module
  */
 export function load(source?: URL | string | Input): Promise<Library>;

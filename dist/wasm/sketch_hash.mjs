@@ -41,16 +41,19 @@ function view(input) {
     throw new TypeError('the input must be an ArrayBuffer or a view of one; encode a string with TextEncoder');
 }
 
+const unsigned = (word) => BigInt.asUintN(64, word);
 const encoder = new TextEncoder();
 const keyView = (key) => typeof key === 'string' ? encoder.encode(key) : view(key);
 
 /** A whole number from 0 to 2^64 - 1 as a BigInt. */
 function checked(number, name) {
-    if (typeof number === 'bigint' ? number !== BigInt.asUintN(64, number) : !Number.isSafeInteger(number) || number < 0) {
-        const isNumber = typeof number === 'bigint' || typeof number === 'number';
-        throw new (isNumber ? RangeError : TypeError)(`${name} must be a BigInt or a whole number, from 0 to 2^64 - 1`);
+    const isBigInt = typeof number === 'bigint';
+    if (isBigInt || Number.isSafeInteger(number)) {
+        const word = BigInt(number);
+        if (word === unsigned(word)) return word;
     }
-    return BigInt(number);
+    const error = isBigInt || typeof number === 'number' ? RangeError : TypeError;
+    throw new error(`${name} must be a BigInt or a whole number, from 0 to 2^64 - 1`);
 }
 
 const HASHES = ['BigUint64Array'];
@@ -63,13 +66,11 @@ function checkedColumn(column, types, name) {
     throw new TypeError(`${name} must be one of ${types.join(', ')}`);
 }
 
-const byWidth = (column, narrow, wide) => column.BYTES_PER_ELEMENT === 4 ? narrow : wide;
-
 /** Throws the error that a status of the library stands for. */
 function check(status, wrongOffset) {
     if (status === 0) return;
     throw new RangeError({
-        [-1]: 'the length of a Bloom filter must be a positive multiple of 32 bytes, and that of both filters of a merge',
+        [-1]: 'a Bloom filter must have a positive multiple of 32 bytes, and both filters of a merge the same length',
         [-2]: `the offset at ${wrongOffset} is missing, past the end or below the one before`,
         [-3]: 'there are fewer values than places for results',
     }[status] ?? `the library returned the unknown status ${status}`);
@@ -81,32 +82,40 @@ function library(calls) {
     const state = result + 16;
     const input = state + 80;
     let end = input + PIECE;
-    let memory = new Uint8Array(0);
-    makeRoom(end);
+    let memory = new Uint8Array(calls.memory.buffer);
+    reserve(end);
 
-    // Makes the memory at least so long. Views of it end when it grows.
-    function makeRoom(length) {
+    // Grows the memory to at least this length, which detaches views of it.
+    function reserve(length) {
         if (memory.length >= length) return;
-        grow(calls.memory, length);
+        const pages = Math.ceil((length - memory.length) / PAGE);
+        try {
+            calls.memory.grow(BigInt(pages));
+        } catch (error) {
+            if (!(error instanceof TypeError)) throw error;
+            calls.memory.grow(pages); // Node 20 and 22 count pages as numbers
+        }
         memory = new Uint8Array(calls.memory.buffer);
     }
 
     const unused = new Map(); // the size of blocks -> their addresses
     const blocks = new FinalizationRegistry(({ at, size }) => unused.get(size).push(at));
 
-    // Uses a block of the memory, of at least so many bytes, at a multiple of 64.
+    // Takes a block of at least this length, at a multiple of 64.
     function allocate(length) {
         const size = Math.max(64, 2 ** Math.ceil(Math.log2(length)));
         if (!unused.has(size)) unused.set(size, []);
         let at = unused.get(size).pop();
         if (at === undefined) {
             at = 64 * Math.ceil(end / 64);
-            makeRoom(at + size);
+            reserve(at + size);
             end = at + size;
         }
         return { at, size };
     }
 
+    // The call for offsets or numbers of this width: its name ends with 32 or 64.
+    const callFor = (column, name) => calls[`${name}${8 * column.BYTES_PER_ELEMENT}`];
     const place = (at) => BigInt(at);
     const resultWord = () => new BigUint64Array(memory.buffer, result, 1)[0];
 
@@ -115,8 +124,8 @@ function library(calls) {
         return [place(at), BigInt(bytes.length)];
     }
 
-    // Runs a call over columns. In a block are the results, offsets or numbers, and then bytes, so that each array is
-    // at a multiple of its width. Returns the results.
+    // Runs a call over columns, and returns the results. A block holds the results, then offsets or numbers, then
+    // bytes, so that each array is aligned.
     function overColumns(columns, resultBytes, call) {
         const { at, size } = allocate(columns.reduce((sum, { byteLength }) => sum + byteLength, resultBytes + 8));
         try {
@@ -133,10 +142,10 @@ function library(calls) {
         }
     }
 
-    function hashEachKey(call32, call64, width) {
+    function hashEachKey(name, width) {
         return (bytes, offsets, seed = 0n) => {
             const seedWord = checked(seed, 'a seed');
-            const call = byWidth(checkedColumn(offsets, OFFSETS, 'offsets'), call32, call64);
+            const call = callFor(checkedColumn(offsets, OFFSETS, 'offsets'), name);
             const count = Math.max(offsets.length - 1, 0);
             return new BigUint64Array(overColumns([offsets, view(bytes)], count * width, (out, ofOffsets, ofBytes) =>
                 call(...ofBytes, ...ofOffsets, seedWord, out, BigInt(count), place(result))).buffer);
@@ -150,8 +159,6 @@ function library(calls) {
             calls.sketch_xxh64_each_u64(...ofValues, seedWord, out, BigInt(count))).buffer);
     }
 
-    const unsigned = (word) => BigInt.asUintN(64, word);
-
     function pair() {
         const [h1, h2] = new BigUint64Array(memory.buffer, result, 2);
         return h1 << 64n | h2;
@@ -164,9 +171,9 @@ function library(calls) {
         return memory.slice(state, state + 16);
     }
 
-    // A stream, whose state is kept outside of the module's memory between calls.
+    // The state of a stream is outside of the module's memory between calls.
     class Stream {
-        #kind; #seed; #kept;
+        #kind; #seed; #saved;
 
         constructor(kind, seed = 0n) {
             this.#kind = kind;
@@ -178,22 +185,22 @@ function library(calls) {
         reset(seed = this.#seed) {
             this.#seed = checked(seed, 'a seed');
             this.#kind.reset(place(state), this.#seed);
-            this.#kept = memory.slice(state, state + this.#kind.size);
+            this.#saved = memory.slice(state, state + this.#kind.size);
             return this;
         }
 
         update(bytes) {
             const all = view(bytes);
-            memory.set(this.#kept, state);
+            memory.set(this.#saved, state);
             for (let at = 0; at < all.length; at += PIECE) {
                 this.#kind.update(place(state), ...put(all.subarray(at, at + PIECE), input));
             }
-            this.#kept.set(memory.subarray(state, state + this.#kind.size));
+            this.#saved.set(memory.subarray(state, state + this.#kind.size));
             return this;
         }
 
         digest() {
-            memory.set(this.#kept, state);
+            memory.set(this.#saved, state);
             return this.#kind.digest();
         }
 
@@ -201,7 +208,7 @@ function library(calls) {
 
         copy() {
             const other = new this.constructor(this.#seed);
-            other.#kept.set(this.#kept);
+            other.#saved.set(this.#saved);
             return other;
         }
     }
@@ -316,16 +323,14 @@ function library(calls) {
         }
 
         addEach(bytes, offsets) {
-            checkedColumn(offsets, OFFSETS, 'offsets');
-            const call = byWidth(offsets, calls.sketch_bloom_insert_each32, calls.sketch_bloom_insert_each64);
+            const call = callFor(checkedColumn(offsets, OFFSETS, 'offsets'), 'sketch_bloom_insert_each');
             overColumns([offsets, view(bytes)], 0, (_, ofOffsets, ofBytes) =>
                 call(...this.#bits, ...ofBytes, ...ofOffsets, place(result)));
             return this;
         }
 
         hasEach(bytes, offsets) {
-            checkedColumn(offsets, OFFSETS, 'offsets');
-            const call = byWidth(offsets, calls.sketch_bloom_contains_each32, calls.sketch_bloom_contains_each64);
+            const call = callFor(checkedColumn(offsets, OFFSETS, 'offsets'), 'sketch_bloom_contains_each');
             const count = Math.max(offsets.length - 1, 0);
             return overColumns([offsets, view(bytes)], count, (found, ofOffsets, ofBytes) =>
                 call(...this.#bits, ...ofBytes, ...ofOffsets, found, BigInt(count), place(result)));
@@ -343,14 +348,12 @@ function library(calls) {
 
         addEachNumber(numbers) {
             checkedColumn(numbers, NUMBERS, 'numbers');
-            const call = byWidth(numbers, calls.sketch_bloom_insert_each_u32, calls.sketch_bloom_insert_each_u64);
-            return this.#addValues(call, numbers);
+            return this.#addValues(callFor(numbers, 'sketch_bloom_insert_each_u'), numbers);
         }
 
         hasEachNumber(numbers) {
             checkedColumn(numbers, NUMBERS, 'numbers');
-            const call = byWidth(numbers, calls.sketch_bloom_contains_each_u32, calls.sketch_bloom_contains_each_u64);
-            return this.#hasValues(call, numbers);
+            return this.#hasValues(callFor(numbers, 'sketch_bloom_contains_each_u'), numbers);
         }
 
         addEachHash(hashes) {
@@ -383,25 +386,14 @@ function library(calls) {
         version: [version / 10000, version / 100 % 100, version % 100].map(Math.floor).join('.'),
         xxh64,
         xxh64Hex: (bytes, seed) => hex(xxh64(bytes, seed), 16),
-        xxh64Each: hashEachKey(calls.sketch_xxh64_each32, calls.sketch_xxh64_each64, 8),
+        xxh64Each: hashEachKey('sketch_xxh64_each', 8),
         xxh64EachU64,
         Xxh64,
         murmur128,
         murmur128Hex: (bytes, seed) => hex(murmur128(bytes, seed), 32),
         murmur128Bytes: (bytes, seed) => { murmur128(bytes, seed); return inMemoryOrder(); },
-        murmur128Each: hashEachKey(calls.sketch_murmur3_x64_128_each32, calls.sketch_murmur3_x64_128_each64, 16),
+        murmur128Each: hashEachKey('sketch_murmur3_x64_128_each', 16),
         Murmur128,
         BloomFilter,
     };
-}
-
-// Makes the memory at least so long. Engines count its pages by BigInts, and early ones by numbers.
-function grow(memory, length) {
-    const pages = Math.max(Math.ceil((length - memory.buffer.byteLength) / PAGE), 0);
-    try {
-        memory.grow(BigInt(pages));
-    } catch (error) {
-        if (!(error instanceof TypeError)) throw error;
-        memory.grow(pages);
-    }
 }
