@@ -11,33 +11,12 @@
 
 ghost use Rattle.std.specs.Prelude.{◌≡◌};
 
-mod bloom;
-mod columns;
-mod murmur;
+pub mod bloom;
+pub mod columns;
+pub mod murmur;
 #[cfg(test)]
 mod tests;
-mod xxh64;
-
-pub use self::bloom::{
-    sketch_bloom_bytes_for, sketch_bloom_check, sketch_bloom_contains,
-    sketch_bloom_contains_each_hash, sketch_bloom_contains_each_u32,
-    sketch_bloom_contains_each_u64, sketch_bloom_contains_each32, sketch_bloom_contains_each64,
-    sketch_bloom_contains_hash, sketch_bloom_header_read, sketch_bloom_header_write,
-    sketch_bloom_insert, sketch_bloom_insert_each_hash, sketch_bloom_insert_each_u32,
-    sketch_bloom_insert_each_u64, sketch_bloom_insert_each32, sketch_bloom_insert_each64,
-    sketch_bloom_insert_hash, sketch_bloom_merge,
-};
-pub use self::columns::{
-    sketch_murmur3_x64_128_each32, sketch_murmur3_x64_128_each64, sketch_xxh64_each_u64,
-    sketch_xxh64_each32, sketch_xxh64_each64,
-};
-pub use self::murmur::{
-    sketch_murmur3_x64_128, sketch_murmur3_x64_128_bytes, sketch_murmur3_x64_128_digest,
-    sketch_murmur3_x64_128_reset, sketch_murmur3_x64_128_update,
-};
-pub use self::xxh64::{
-    sketch_xxh64, sketch_xxh64_digest, sketch_xxh64_reset, sketch_xxh64_u64, sketch_xxh64_update,
-};
+pub mod xxh64;
 
 /// The version of the library as one number, major * 10000 + minor * 100 + patch: 2.0.0.
 #[unsafe(no_mangle)]

@@ -1,18 +1,10 @@
 //! The calls, as a program in C makes them.
 
-use crate::{
-    sketch_bloom_bytes_for, sketch_bloom_check, sketch_bloom_contains,
-    sketch_bloom_contains_each_hash, sketch_bloom_contains_each_u32,
-    sketch_bloom_contains_each_u64, sketch_bloom_contains_each32, sketch_bloom_contains_each64,
-    sketch_bloom_contains_hash, sketch_bloom_header_read, sketch_bloom_header_write,
-    sketch_bloom_insert, sketch_bloom_insert_each_hash, sketch_bloom_insert_each_u32,
-    sketch_bloom_insert_each_u64, sketch_bloom_insert_each32, sketch_bloom_insert_each64,
-    sketch_bloom_insert_hash, sketch_bloom_merge, sketch_hash_version, sketch_murmur3_x64_128,
-    sketch_murmur3_x64_128_bytes, sketch_murmur3_x64_128_digest, sketch_murmur3_x64_128_each32,
-    sketch_murmur3_x64_128_each64, sketch_murmur3_x64_128_reset, sketch_murmur3_x64_128_update,
-    sketch_xxh64, sketch_xxh64_digest, sketch_xxh64_each_u64, sketch_xxh64_each32,
-    sketch_xxh64_each64, sketch_xxh64_reset, sketch_xxh64_u64, sketch_xxh64_update,
-};
+use crate::bloom::*;
+use crate::columns::*;
+use crate::murmur::*;
+use crate::sketch_hash_version;
+use crate::xxh64::*;
 use datasketches::hash::{Hasher, MurmurHash3X64128, XxHash64};
 
 const FOX: &[u8] = b"The quick brown fox jumps over the lazy dog";
