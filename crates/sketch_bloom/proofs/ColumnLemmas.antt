@@ -1,43 +1,35 @@
 -- Columns of inserted values, part by part.
-use Rattle.std.proofs.Common.{◌≡◌, ℕ, zero, suc, Result, Ok, Err, ◌+◌, ◌-◌, ◌<◌, ◌≤◌, List, [], ◌∷◌, ◌++◌, length, drop, get_or, take, refl, sym, ap, subst, ◌∙◌, inl, inr, arith}
+use Rattle.std.proofs.Common.{◌≡◌, ◌↔◌, ◌⊎◌, ◌/◌, ℕ, zero, suc, Result, Ok, Err, ◌+◌, ◌-◌, ◌<◌, ◌≤◌, List, [], ◌∷◌, ◌++◌, length, drop, get_or, take, refl, sym, ap, subst, ◌∙◌, inl, inr, arith}
 use Rattle.std.specs.List.{range_with_len}
 use Rattle.std.proofs.lemmas.List.{ext_get_or, get_or-drop, get_or-map, get_or-take, length-drop, length-take-le, take_all, take_more}
 use Rattle.std.proofs.Math.Seq.{take-add}
 use Rattle.std.proofs.lemmas.List.FromFn.{get_or-range_with_len, length-map-range_with_len, length-range_with_len}
 use Rattle.std.proofs.lemmas.Bool.{cases_lt}
-use Rattle.std.proofs.lemmas.List.Elements.{Contains-append_cases, Contains-append_left, Contains-append_right}
-use Rattle.sketch_bloom.proofs.LawLemmas.{bit_moves, inserts_one}
+use Rattle.sketch_bloom.proofs.LawLemmas.{any-append, inserts_one}
 use Rattle.datasketches.specs.Columns.{AreBounds, HashesEach, IsBound, key_at}
 use Rattle.datasketches.specs.Xxh64.{xxh64}
 use Rattle.sketch_bloom.specs.Columns.{IsAnswer, key_hashes}
-use Rattle.sketch_bloom.specs.Filter.{Inserts, InsertsAll, hash_of}
+use Rattle.sketch_bloom.specs.Filter.{Inserts, InsertsAll, IsBitOfAny, IsSet, hash_of}
 
 -- Two columns, one after the other, are one column.
 inserts_append : (first second before next after : List ℕ) →
     InsertsAll first before next → InsertsAll second next after → InsertsAll (first ++ second) before after
-inserts_append first second before next after one two = record {
-  size = two.size ∙ one.size;
-  bits = λ i. (
-    (λ set. elim ((two.bits i).0 set) [
-      | inl was ↦ elim ((one.bits i).0 was) [
-        | inl before ↦ inl before
-        | inr of ↦ inr (of.0, Contains-append_left first second of.0 of.1, of.2)
-      ]
-      | inr of ↦ inr (
-        of.0,
-        Contains-append_right first second of.0 of.1,
-        bit_moves next before of.0 i one.size of.2,
-      )
-    ]),
-    (λ either. (two.bits i).1 (elim either [
-      | inl was ↦ inl ((one.bits i).1 (inl was))
-      | inr of ↦ elim (Contains-append_cases first second of.0 of.1) [
-        | inl early ↦ inl ((one.bits i).1 (inr (of.0, early, of.2)))
-        | inr late ↦ inr (of.0, late, bit_moves before next of.0 i (sym one.size) of.2)
-      ]
-    ])),
-  );
-}
+inserts_append first second before next after one two =
+    let bits : (i : ℕ) → IsSet after i ↔ (IsSet next i ⊎ IsBitOfAny (length before / 32) second i) =
+    rw one.size at two.bits in record {
+      size = two.size ∙ one.size;
+      bits = λ i.
+          let any = any-append (length before / 32) first second i in (
+            (λ set. elim ((bits i).0 set) [
+              | inl was ↦ elim ((one.bits i).0 was) [ inl old ↦ inl old | inr of ↦ inr (any.1 (inl of)) ]
+              | inr of ↦ inr (any.1 (inr of))
+            ]),
+            (λ either. (bits i).1 (elim either [
+              | inl old ↦ inl ((one.bits i).1 (inl old))
+              | inr of ↦ elim (any.0 of) [ inl early ↦ inl ((one.bits i).1 (inr early)) | inr late ↦ inr late ]
+            ])),
+          );
+    }
 
 -- one hash more of a list
 pub inserts_next : (hashes : List ℕ) (k : ℕ) (before next after : List ℕ) → k < length hashes →

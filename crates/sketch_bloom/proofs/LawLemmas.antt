@@ -6,11 +6,11 @@ use Rattle.std.proofs.lemmas.List.Elements.{All-get_or, Contains-append_cases, C
 use Rattle.std.proofs.lemmas.Bool.{cases_lt}
 use Rattle.datasketches.specs.Bytes.{AreBytes}
 use Rattle.sketch_bloom.proofs.BitLemmas.{no_bit_of_zeros, same_from_bits}
-use Rattle.sketch_bloom.specs.Filter.{Inserts, InsertsAll, IsBitOf, IsMember, Merges, hash_of}
+use Rattle.sketch_bloom.specs.Filter.{Inserts, InsertsAll, IsBitOf, IsBitOfAny, IsMember, IsSet, Merges, Sets, hash_of}
 use Rattle.sketch_bloom.specs.Laws.{InsertLaw, MergeLaw, StandsFor, ValueLaw, empty_filter}
 
 -- A hash has the same bits in filters of one length.
-pub bit_moves : (filter other : List ℕ) (hash i : ℕ) → length filter ≡ length other →
+bit_moves : (filter other : List ℕ) (hash i : ℕ) → length filter ≡ length other →
     IsBitOf (length filter / 32) hash i → IsBitOf (length other / 32) hash i
 bit_moves filter other hash i count is = subst (λ n. IsBitOf (n / 32) hash i) count is
 
@@ -39,6 +39,20 @@ inserts_one hash before after inserts = record {
   );
 }
 
+-- a bit of one of two lists of hashes
+pub any-append : (blocks : ℕ) (hashes more : List ℕ) (i : ℕ) →
+    IsBitOfAny blocks (hashes ++ more) i ↔ (IsBitOfAny blocks hashes i ⊎ IsBitOfAny blocks more i)
+any-append blocks hashes more i = (
+  (λ of. elim (Contains-append_cases hashes more of.0 of.1) [
+    | inl one ↦ inl (of.0, one, of.2)
+    | inr one ↦ inr (of.0, one, of.2)
+  ]),
+  (λ either. elim either [
+    | inl of ↦ (of.0, Contains-append_left hashes more of.0 of.1, of.2)
+    | inr of ↦ (of.0, Contains-append_right hashes more of.0 of.1, of.2)
+  ]),
+)
+
 none : (bytes : ℕ) → StandsFor (empty_filter bytes) []
 unfolding StandsFor
 none bytes i = (
@@ -46,30 +60,30 @@ none bytes i = (
   (λ of. absurd (omega (arith, of.1.1))),
 )
 
+-- If a filter gets the bits of further hashes, it stands for those too.
+stands-append : (Bits : ℕ → Type 0) (before after hashes more : List ℕ) → Sets Bits before after →
+    ((i : ℕ) → Bits i ↔ IsBitOfAny (length before / 32) more i) →
+    StandsFor before hashes → StandsFor after (hashes ++ more)
+unfolding StandsFor
+stands-append Bits before after hashes more sets bits stands i =
+    let blocks = length before / 32 in
+    let either = any-append blocks hashes more i in
+    rw sets.size (
+      (λ set. either.1 (elim ((sets.bits i).0 set) [
+        | inl was ↦ inl ((stands i).0 was)
+        | inr new ↦ inr ((bits i).0 new)
+      ])),
+      (λ of. (sets.bits i).1 (elim (either.0 of) [
+        | inl was ↦ inl ((stands i).1 was)
+        | inr new ↦ inr ((bits i).1 new)
+      ])),
+    )
+
 all_more : (before after hashes more : List ℕ) →
     InsertsAll more before after → StandsFor before hashes → StandsFor after (hashes ++ more)
-unfolding StandsFor
-all_more before after hashes more inserts stands i = (
-  (λ set. elim ((inserts.bits i).0 set) [
-    | inl was ↦
-        let of = (stands i).0 was in (
-          of.0,
-          Contains-append_left hashes more of.0 of.1,
-          bit_moves before after of.0 i (sym inserts.size) of.2,
-        )
-    | inr new ↦ (
-      new.0,
-      Contains-append_right hashes more new.0 new.1,
-      bit_moves before after new.0 i (sym inserts.size) new.2,
-    )
-  ]),
-  (λ of.
-      let bit = bit_moves after before of.0 i inserts.size of.2 in
-      (inserts.bits i).1 (elim (Contains-append_cases hashes more of.0 of.1) [
-        | inl was ↦ inl ((stands i).1 (of.0, was, bit))
-        | inr new ↦ inr (of.0, new, bit)
-      ])),
-)
+all_more before after hashes more inserts =
+    stands-append (IsBitOfAny (length before / 32) more) before after hashes more inserts
+    (λ i. ((λ bit. bit), (λ bit. bit)))
 
 found : (filter : List ℕ) (hash : ℕ) (hashes : List ℕ) →
     StandsFor filter hashes → Contains hashes hash → IsMember filter hash
@@ -112,27 +126,8 @@ insert_law = record {
 both : (before other after hashes others : List ℕ) → Merges other before after →
     StandsFor before hashes → StandsFor other others → StandsFor after (hashes ++ others)
 unfolding StandsFor
-both before other after hashes others (count, sets) stands stands_other i =
-    let to_other : length after ≡ length other = sets.size ∙ sym count in (
-      (λ set. elim ((sets.bits i).0 set) [
-        | inl was ↦
-            let of = (stands i).0 was in (
-              of.0,
-              Contains-append_left hashes others of.0 of.1,
-              bit_moves before after of.0 i (sym sets.size) of.2,
-            )
-        | inr there ↦
-            let of = (stands_other i).0 there in (
-              of.0,
-              Contains-append_right hashes others of.0 of.1,
-              bit_moves other after of.0 i (sym to_other) of.2,
-            )
-      ]),
-      (λ of. (sets.bits i).1 (elim (Contains-append_cases hashes others of.0 of.1) [
-        | inl one ↦ inl ((stands i).1 (of.0, one, bit_moves after before of.0 i sets.size of.2))
-        | inr one ↦ inr ((stands_other i).1 (of.0, one, bit_moves after other of.0 i to_other of.2))
-      ])),
-    )
+both before other after hashes others (count, sets) stands stands_other =
+    stands-append (IsSet other) before after hashes others sets (λ i. rw (← count) (stands_other i)) stands
 
 streams : (before other after whole hashes others : List ℕ) →
     AreBytes after → AreBytes whole → length whole ≡ length before →

@@ -48,6 +48,10 @@ IsMaskBit hash i = (w : ℕ) × (w < 8) × (i ≡ w * 32 + mask_bit hash w)
 unfoldable pub IsBitOf : ℕ → ℕ → ℕ → Type 0
 IsBitOf blocks hash i = (b : ℕ) × IsMaskBit hash b × (i ≡ block_of blocks hash * 256 + b)
 
+-- i is a bit of one of these hashes
+abbrev pub IsBitOfAny : ℕ → List ℕ → ℕ → Type 0
+IsBitOfAny blocks hashes i = (hash : ℕ) × Contains hashes hash × IsBitOf blocks hash i
+
 -- ---- insert, check and merge
 
 -- These bits of a filter are set, and all others are unchanged.
@@ -61,8 +65,7 @@ Inserts hash before after = Sets (IsBitOf (length before / 32) hash) before afte
 
 -- The values with these hashes are inserted, in whatever order: the eight bits of each are set.
 abbrev pub InsertsAll : List ℕ → List ℕ → List ℕ → Type 0
-InsertsAll hashes before after =
-    Sets (λ i. (hash : ℕ) × Contains hashes hash × IsBitOf (length before / 32) hash i) before after
+InsertsAll hashes before after = Sets (IsBitOfAny (length before / 32) hashes) before after
 
 -- A value is contained: its eight bits are set.
 abbrev pub IsMember : List ℕ → ℕ → Type 0

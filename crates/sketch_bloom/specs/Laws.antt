@@ -1,7 +1,7 @@
 -- Facts about filters.
 use Rattle.std.specs.Prelude.{◌≡◌, ◌↔◌, ◌⊎◌, ℕ, ◌/◌, List, [], ◌∷◌, ◌++◌, length, map, replicate, Contains}
 use Rattle.datasketches.specs.Bytes.{AreBytes}
-use Rattle.sketch_bloom.specs.Filter.{Inserts, InsertsAll, IsBitOf, IsMember, IsSet, Merges, hash_of}
+use Rattle.sketch_bloom.specs.Filter.{Inserts, InsertsAll, IsBitOfAny, IsMember, IsSet, Merges, hash_of}
 
 -- the empty filter with this many bytes
 abbrev pub empty_filter : ℕ → List ℕ
@@ -9,8 +9,7 @@ empty_filter bytes = replicate bytes 0
 
 -- A filter stands for the values with these hashes: the bits that are set are theirs.
 unfoldable pub StandsFor : List ℕ → List ℕ → Type 0
-StandsFor filter hashes = (i : ℕ) →
-    IsSet filter i ↔ ((hash : ℕ) × Contains hashes hash × IsBitOf (length filter / 32) hash i)
+StandsFor filter hashes = (i : ℕ) → IsSet filter i ↔ IsBitOfAny (length filter / 32) hashes i
 
 -- The law of inserts. A value is given by its hash.
 pub record InsertLaw : Type 0 where
