@@ -17,6 +17,7 @@ pytestmark = pytest.mark.xdist_group("systems")  # wine sets up its folder once
 MINGW, QEMU = "x86_64-w64-mingw32-gcc", ["qemu-aarch64", "-L", "/usr/aarch64-linux-gnu"]
 SYSTEMS = {  # a compiler, the library, and what runs the program
     "linux": (["gcc"], "linux-x86_64/libsketch_hash.a", []),
+    "linux-aarch64": (["aarch64-linux-gnu-gcc"], "linux-aarch64/libsketch_hash.a", QEMU),
     "musl, static": (["musl-gcc", "-static"], "linux-x86_64/libsketch_hash.a", []),
     "musl, shared": (["musl-gcc", f"-Wl,-rpath,{DIST / 'linux-x86_64'}"], "linux-x86_64/libsketch_hash.so.2", []),
     "windows, static": ([MINGW], "windows-x86_64/libsketch_hash.a", ["wine"]),

@@ -1,135 +1,168 @@
-/* Columns of keys: each result compared with the call on its key, and wrong offsets. Each array is
- * a block, so that valgrind sees accesses outside of it. */
+/* Columns of keys: each result compared with the call on its key, and what is an error. Each array
+ * is a block, so that valgrind sees accesses outside of it. */
 #include "sketch_hash.h"
 #include "helpers.h"
 #include <stdlib.h>
 #include <string.h>
 
-enum { KEYS = 50 };
+enum { KEYS = 50, BITS = 96, NONE = 77, RESULTS = 16 * KEYS };
+static const uint64_t seed = UINT64_MAX - 6;
 
-static unsigned char *input;
-static uint64_t length;
+/* What a call does, and what the column is. The offsets of 32 bits serve as numbers too. */
+enum { XXH64, MURMUR, INSERT, CONTAINS };
+enum { OFFSETS32, OFFSETS64, NUMBERS32, NUMBERS64, HASHES };
+
+static unsigned char *keys, *out, *bits, *expected_out, *expected_bits;
 static uint32_t *narrow;
-static uint64_t *wide, *hashes, (*pairs)[2];
+static uint64_t *wide, *numbers;
+static size_t length, length_of_bits = BITS;
 
-/* The keys of a column have `least` bytes and up to `spread` more. */
+/* The keys have `least` bytes and up to `spread` more. */
 static void lay_out(unsigned least, unsigned spread) {
-    wide[0] = 5;
-    for (int i = 0; i < KEYS; i++) wide[i + 1] = wide[i] + least + random31() % (spread + 1);
+    wide[0] = narrow[0] = 5;
+    for (int i = 0; i < KEYS; i++) {
+        wide[i + 1] = wide[i] + least + random31() % (spread + 1);
+        narrow[i + 1] = (uint32_t)wide[i + 1];
+        numbers[i] = random31() << 33 ^ random31();
+    }
     length = wide[KEYS] + 3;
-    input = realloc(input, length);
-    for (uint64_t i = 0; i < length; i++) input[i] = (unsigned char)(i * 2654435761u >> 13);
+    keys = realloc(keys, length);
+    for (size_t i = 0; i < length; i++) keys[i] = (unsigned char)random31();
 }
 
-#define BLANK 0x0909090909090909
-
-static void blank(void) {
-    memset(hashes, 9, KEYS * sizeof *hashes);
-    memset(pairs, 9, KEYS * sizeof *pairs);
-}
-
-/* Even calls are XXH64, odd ones Murmur; the first two take narrow offsets. */
-static int each(int call, size_t offset_count, uint64_t seed, size_t *wrong) {
-    switch (call) {
-    case 0:
-        return sketch_xxh64_each32(input, length, narrow, offset_count, seed, hashes, KEYS, wrong);
-    case 1:
-        return sketch_murmur3_x64_128_each32(input, length, narrow, offset_count, seed, pairs, KEYS,
-                                             wrong);
-    case 2:
-        return sketch_xxh64_each64(input, length, wide, offset_count, seed, hashes, KEYS, wrong);
-    default:
-        return sketch_murmur3_x64_128_each64(input, length, wide, offset_count, seed, pairs, KEYS,
-                                             wrong);
+/* The call, with a column of which so many offsets or numbers are given. */
+static int each(int call, int column, size_t given, size_t *wrong) {
+    unsigned char *in = bits;
+    const size_t size = length_of_bits, n = length;
+    uint64_t *words = (uint64_t *)out, (*pairs)[2] = (uint64_t(*)[2])out;
+    switch (10 * call + column) {
+    case 0: return sketch_xxh64_each32(keys, n, narrow, given, seed, words, KEYS, wrong);
+    case 1: return sketch_xxh64_each64(keys, n, wide, given, seed, words, KEYS, wrong);
+    case 3: return sketch_xxh64_each_u64(numbers, given, seed, words, KEYS);
+    case 10: return sketch_murmur3_x64_128_each32(keys, n, narrow, given, seed, pairs, KEYS, wrong);
+    case 11: return sketch_murmur3_x64_128_each64(keys, n, wide, given, seed, pairs, KEYS, wrong);
+    case 20: return sketch_bloom_insert_each32(in, size, keys, n, narrow, given, wrong);
+    case 21: return sketch_bloom_insert_each64(in, size, keys, n, wide, given, wrong);
+    case 22: return sketch_bloom_insert_each_u32(in, size, narrow, given);
+    case 23: return sketch_bloom_insert_each_u64(in, size, numbers, given);
+    case 24: return sketch_bloom_insert_each_hash(in, size, numbers, given);
+    case 30:
+        return sketch_bloom_contains_each32(in, size, keys, n, narrow, given, out, KEYS, wrong);
+    case 31: return sketch_bloom_contains_each64(in, size, keys, n, wide, given, out, KEYS, wrong);
+    case 32: return sketch_bloom_contains_each_u32(in, size, narrow, given, out, KEYS);
+    case 33: return sketch_bloom_contains_each_u64(in, size, numbers, given, out, KEYS);
+    default: return sketch_bloom_contains_each_hash(in, size, numbers, given, out, KEYS);
     }
 }
 
-/* `index` is that of the first wrong offset, or KEYS + 1. */
-static void all_calls(size_t offset_count, uint64_t seed, size_t index) {
-    int fails = index <= KEYS;
-    for (int i = 0; i <= KEYS; i++) narrow[i] = (uint32_t)wide[i];
-    for (int call = 0; call < 4; call++) {
-        size_t wrong = KEYS + 1;
-        blank();
-        status("the status", each(call, offset_count, seed, &wrong),
-               fails ? SKETCH_ERROR_OFFSET : SKETCH_OK);
-        same("the wrong offset", wrong, index);
-        for (int i = 0; i < KEYS; i++) {
-            uint64_t hash = BLANK, pair[2] = {BLANK, BLANK};
-            if (!fails) {
-                hash = sketch_xxh64(input + wide[i], wide[i + 1] - wide[i], seed);
-                sketch_murmur3_x64_128(input + wide[i], wide[i + 1] - wide[i], seed, pair);
-            }
-            if (call % 2 == 0) same("XXH64 of a key", hashes[i], hash);
-            if (call % 2 == 1) same("Murmur of a key", memcmp(pairs[i], pair, sizeof pair), 0);
-        }
-    }
+/* The calls on the bytes of key i or on its hash. */
+static void expect(int call, int column, int i) {
+    const void *key = column <= OFFSETS64 ? keys + wide[i] : (void *)&numbers[i];
+    size_t n = column <= OFFSETS64 ? wide[i + 1] - wide[i] : 8;
+    if (column == NUMBERS32) key = &narrow[i], n = 4;
+    uint64_t hash = column == HASHES ? numbers[i] : sketch_xxh64(key, n, call == XXH64 ? seed : 0);
+    if (call == XXH64) memcpy(expected_out + 8 * i, &hash, 8);
+    if (call == MURMUR) sketch_murmur3_x64_128(key, n, seed, (uint64_t *)expected_out + 2 * i);
+    if (call == INSERT && column == HASHES) sketch_bloom_insert_hash(expected_bits, BITS, hash);
+    if (call == INSERT && column != HASHES) sketch_bloom_insert(expected_bits, BITS, key, n);
+    if (call == CONTAINS)
+        expected_out[i] = (unsigned char)sketch_bloom_contains_hash(expected_bits, BITS, hash);
 }
 
-static void each_key(void) {
-    for (unsigned n = 0; n <= 200; n++) {
-        lay_out(n <= 100 ? n : 0, n <= 100 ? 0 : n - 100);
-        all_calls(KEYS + 1, ~(uint64_t)n, KEYS + 1);
-    }
+/* A call that fails changes nothing but the index. */
+static void compare(int call, int column, size_t missing, int error, size_t index) {
+    size_t wrong = NONE;
+    memset(out, 9, RESULTS), memset(expected_out, 9, RESULTS);
+    memset(bits, 0, BITS), memset(bits, 255, 32); /* it contains the keys of the first block */
+    memcpy(expected_bits, bits, BITS);
+    for (int i = 0; !error && i < KEYS; i++) expect(call, column, i);
+    size_t given = KEYS + (column <= OFFSETS64) - missing;
+    status("the status", each(call, column, given, &wrong), error);
+    same("the wrong offset", wrong, index);
+    same("the results", memcmp(out, expected_out, RESULTS), 0);
+    same("the bits", memcmp(bits, expected_bits, BITS), 0);
+}
+
+/* Runs a test with each call and each column that it takes. */
+static void all_calls(void (*test)(int call, int column, size_t number), size_t number) {
+    for (int call = XXH64; call <= CONTAINS; call++)
+        for (int column = OFFSETS32; column <= HASHES; column++)
+            if (column <= OFFSETS64 || call >= INSERT || (call == XXH64 && column == NUMBERS64))
+                test(call, column, number);
+}
+
+static void each_key(int call, int column, size_t none) {
+    compare(call, column, none, SKETCH_OK, NONE);
+}
+
+static void missing_values(int call, int column, size_t missing) {
+    if (call == INSERT) return; /* inserts those that there are */
+    if (column <= OFFSETS64)
+        compare(call, column, missing, SKETCH_ERROR_OFFSET, KEYS + 1 - missing);
+    else
+        compare(call, column, missing, SKETCH_ERROR_COUNT, NONE);
+}
+
+static void wrong_length(int call, int column, size_t wrong) {
+    length_of_bits = wrong;
+    if (call >= INSERT) compare(call, column, 0, SKETCH_ERROR_LENGTH, NONE);
+    length_of_bits = BITS;
 }
 
 static void wrong_offset(size_t i, uint64_t offset) {
     const uint64_t fits = wide[i];
-    wide[i] = offset;
-    all_calls(KEYS + 1, 7, i);
-    wide[i] = fits;
+    wide[i] = offset, narrow[i] = (uint32_t)offset;
+    for (int call = XXH64; call <= CONTAINS; call++)
+        for (int column = OFFSETS32; column <= OFFSETS64; column++)
+            compare(call, column, 0, SKETCH_ERROR_OFFSET, i);
+    wide[i] = fits, narrow[i] = (uint32_t)fits;
 }
 
 static void wrong_offsets(void) {
-    lay_out(1, 40);
     for (size_t i = 0; i <= KEYS; i++) {
-        all_calls(i, 7, i);
         wrong_offset(i, length + 1);
         wrong_offset(i, ~(uint64_t)0);
         if (i > 0) wrong_offset(i, wide[i - 1] - 1);
     }
 }
 
-/* The numbers are the offsets. */
-static void numbers(void) {
-    for (size_t count = 0; count <= KEYS; count++) {
-        blank();
-        status("numbers", sketch_xxh64_each_u64(wide, KEYS + 1, 7, hashes, count), SKETCH_OK);
-        for (size_t i = 0; i < KEYS; i++)
-            same("XXH64 of a number", hashes[i], i < count ? sketch_xxh64_u64(wide[i], 7) : BLANK);
-    }
-    blank();
-    status("too few numbers", sketch_xxh64_each_u64(wide, KEYS - 1, 7, hashes, KEYS),
-           SKETCH_ERROR_COUNT);
-    same("nothing is written", hashes[0], BLANK);
-}
-
 static void no_keys(void) {
     const uint64_t offset = 0;
-    uint64_t out = 7;
-    size_t wrong = 77;
-    status("no keys", sketch_xxh64_each64(NULL, 0, &offset, 1, 7, NULL, 0, &wrong), SKETCH_OK);
-    status("no keys and no offset", sketch_xxh64_each64(NULL, 0, NULL, 0, 7, NULL, 0, &wrong),
-           SKETCH_OK);
-    status("no keys, Murmur", sketch_murmur3_x64_128_each32(NULL, 0, NULL, 0, 7, NULL, 0, &wrong),
-           SKETCH_OK);
-    status("no numbers", sketch_xxh64_each_u64(NULL, 0, 7, NULL, 0), SKETCH_OK);
-    same("nothing is written", wrong, 77);
+    uint64_t word = 7;
+    size_t wrong = NONE;
+    status("one offset", sketch_xxh64_each64(NULL, 0, &offset, 1, 7, NULL, 0, &wrong), 0);
+    status("none, XXH64", sketch_xxh64_each64(NULL, 0, NULL, 0, 7, NULL, 0, &wrong), 0);
+    status("none, Murmur", sketch_murmur3_x64_128_each32(NULL, 0, NULL, 0, 7, NULL, 0, &wrong), 0);
+    status("no numbers", sketch_xxh64_each_u64(NULL, 0, 7, NULL, 0), 0);
+    status("no inserts", sketch_bloom_insert_each32(bits, 32, NULL, 0, NULL, 0, &wrong), 0);
+    status("no look-ups", sketch_bloom_contains_each64(bits, 32, NULL, 0, NULL, 0, NULL, 0, &wrong),
+           0);
+    same("nothing is written", wrong, NONE);
     /* `count` is what `offset_count - 1` wraps to. */
-    status("no offsets, wrapped", sketch_xxh64_each64(NULL, 0, NULL, 0, 7, &out, SIZE_MAX, &wrong),
+    status("no offsets, wrapped", sketch_xxh64_each64(NULL, 0, NULL, 0, 7, &word, SIZE_MAX, &wrong),
            SKETCH_ERROR_OFFSET);
     same("the first is missing", wrong, 0);
-    same("nothing is written", out, 7);
+    same("nothing is written", word, 7);
 }
 
 int main(void) {
     narrow = malloc((KEYS + 1) * sizeof *narrow);
     wide = malloc((KEYS + 1) * sizeof *wide);
-    hashes = malloc(KEYS * sizeof *hashes);
-    pairs = malloc(KEYS * sizeof *pairs);
-    each_key();
+    numbers = malloc(KEYS * sizeof *numbers);
+    out = malloc(RESULTS), expected_out = malloc(RESULTS);
+    unsigned char *block = malloc(BITS + 1);
+    bits = block + 1; /* an odd address */
+    expected_bits = malloc(BITS);
+    for (unsigned n = 0; n <= 200; n++) {
+        lay_out(n <= 100 ? n : 0, n <= 100 ? 0 : n - 100);
+        all_calls(each_key, 0);
+    }
+    lay_out(1, 40);
     wrong_offsets();
-    numbers();
+    for (size_t missing = 1; missing <= KEYS; missing++) all_calls(missing_values, missing);
+    for (size_t wrong = 0; wrong < BITS; wrong++)
+        if (wrong == 0 || wrong % 32) all_calls(wrong_length, wrong);
     no_keys();
+    free(block);
     return conclude();
 }

@@ -47,55 +47,41 @@ def test_header_rejects_another_layout_of_a_state(old, new, need, tmp_path):
 # ---- the calls: each program compares, and its exit status is the result
 
 PEERS = {"compare": ["xxhash", "murmurhash"], "long": ["xxhash"]}
-TARGETS = {
-    "linux-x86_64": (["gcc"], []),
-    "linux-aarch64": (["aarch64-linux-gnu-gcc"], ["qemu-aarch64", "-L", "/usr/aarch64-linux-gnu"]),
-}
 
 
 @pytest.fixture
 def built(need, tmp_path):
-    """built("layout"): the command that runs a test program with the library of a target."""
+    """built("layout"): a test program with the library."""
 
-    def built(name, target="linux-x86_64"):
-        peers, (compiler, runner) = PEERS.get(name, []), TARGETS[target]
-        need(*compiler, *runner[:1], *(f"{it}.h" for it in peers))
-        program = tmp_path / f"{name}.{target}"
+    def built(name):
+        peers = PEERS.get(name, [])
+        need("gcc", *(f"{it}.h" for it in peers))
         flags = ["-O2", *STRICT, "-I", INCLUDE, *(f"-l{it}" for it in peers)]
-        output(*compiler, "-o", program, HERE / f"{name}.c", DIST / target / "libsketch_hash.a", *flags)
-        return [*runner, program]
+        output("gcc", "-o", tmp_path / name, HERE / f"{name}.c", NATIVE / "libsketch_hash.a", *flags)
+        return tmp_path / name
 
     return built
 
 
 @pytest.mark.parametrize("name", ["layout", "compare", "long", "bloom", "columns", "answers"])
 def test_calls_return_what_is_expected(name, built):
-    assert output(*built(name))
-
-
-@pytest.mark.parametrize("name", ["layout", "bloom", "columns"])
-def test_calls_on_aarch64(name, built):
-    assert output(*built(name, "linux-aarch64"))
-
-
-def test_aarch64_has_the_hashes_of_x86_64(built):
-    assert output(*built("answers", "linux-aarch64")) == output(*built("answers"))
+    assert output(built(name))
 
 
 @pytest.mark.parametrize("name, args", [("compare", []), ("bloom", []), ("columns", []), ("answers", ["10000"])])
 def test_calls_access_only_what_they_are_given(name, args, built, need):
     need("valgrind")
-    output("valgrind", "-q", "--error-exitcode=9", "--leak-check=full", *built(name), *args)
+    output("valgrind", "-q", "--error-exitcode=9", "--leak-check=full", built(name), *args)
 
 
 @pytest.mark.parametrize("name", ["layout", "columns", "answers"])
 def test_calls_run_in_a_stack_of_256_kib(name, built):
-    assert output("bash", "-c", 'ulimit -s 256 && exec "$0"', *built(name))
+    assert output("bash", "-c", 'ulimit -s 256 && exec "$0"', built(name))
 
 
 # ---- the files
 
-@pytest.fixture(params=TARGETS)
+@pytest.fixture(params=["linux-x86_64", "linux-aarch64"])
 def folder(request):
     return DIST / request.param
 
