@@ -126,10 +126,6 @@ def section(name):
     return re.search(rf"^\.SH {name}\n(.*?)(?=^\.SH |\Z)", MAN_PAGE, re.M | re.S)[1]
 
 
-def examples():
-    return [it.replace("\\e", "\\") for it in re.findall(r"^\.nf\n(.*?)^\.fi", section("EXAMPLES"), re.M | re.S)]
-
-
 def test_man_page_has_the_declarations_of_the_header():
     header = re.sub(r"/\*.*?\*/|\s", "", (DIST / "include/sketch_hash.h").read_text(), flags=re.S)
     shown = [re.sub(r'["\s]', "", it) for it in re.findall(r"^\.BI? (.*\).*;\"?)$", section("SYNOPSIS"), re.M)]
@@ -144,20 +140,13 @@ def test_pkg_config(prefix, need, tmp_path, monkeypatch):
     need("pkg-config")
     monkeypatch.setenv("PKG_CONFIG_LIBDIR", str(prefix / "lib/pkgconfig"))
     monkeypatch.setenv("LD_LIBRARY_PATH", str(prefix / "lib"))
-    (tmp_path / "filter.c").write_text(examples()[1])
-    flags = shlex.split(subprocess.check_output(["pkg-config", "--cflags", "--libs", "sketch_hash"], text=True))
-    subprocess.run([*CC, "-o", tmp_path / "filter", tmp_path / "filter.c", *flags], check=True)
-    assert subprocess.check_output(tmp_path / "filter") == b"1 0\n"
-    static = subprocess.check_output(["pkg-config", "--static", "--libs-only-l", "sketch_hash"])
-    assert static.split() == [b"-lsketch_hash"]
-
-
-def test_filter_of_the_page(tmp_path):
     (program,) = re.findall(r"^```c bloom\n(.*?)^```", (DIST / "README.md").read_text(), re.M | re.S)
     (tmp_path / "filter.c").write_text(program)
-    flags = ["-I", DIST / "include", DIST / "linux-x86_64/libsketch_hash.a"]
+    flags = shlex.split(subprocess.check_output(["pkg-config", "--cflags", "--libs", "sketch_hash"], text=True))
     subprocess.run([*CC, "-o", tmp_path / "filter", tmp_path / "filter.c", *flags], check=True)
     assert subprocess.check_output(tmp_path / "filter") == b"certainly not\n"
+    static = subprocess.check_output(["pkg-config", "--static", "--libs-only-l", "sketch_hash"])
+    assert static.split() == [b"-lsketch_hash"]
 
 
 def cmake(project, prefix, *args):
@@ -175,28 +164,16 @@ def test_cmake_builds_with_both_libraries(by_a_link, prefix, need, tmp_path):
     need("cmake")
     project = tmp_path / "project"
     shutil.copytree(HERE / "cmake", project)
-    (project / "sum.c").write_text(examples()[0])
+    example = re.search(r"^\.nf\n(.*?)^\.fi", section("EXAMPLES"), re.M | re.S)[1]
+    (project / "sum.c").write_text(example.replace("\\e", "\\"))
     if by_a_link:  # as /lib leads to /usr/lib: there is no include beside it
         (tmp_path / "linked").mkdir()
         (tmp_path / "linked/lib").symlink_to(prefix / "lib")
     done = cmake(project, tmp_path / "linked" if by_a_link else prefix)
     assert done.returncode == 0, done.stderr
-    for name in ("sum", "sum_static"):
+    for name in ("one/one", "one/one_static", "other/other", "other/other_static"):
         fox = subprocess.check_output(project / "build" / name, input=b"The quick brown fox jumps over the lazy dog")
         assert fox == b"0b242d361fda71bc\n"
-
-
-def test_cmake_finds_it_from_two_folders_of_a_project(prefix, need, tmp_path):
-    need("cmake")
-    lines = "cmake_minimum_required(VERSION 3.7)\nproject(two C)\nadd_subdirectory(one)\nadd_subdirectory(other)\n"
-    (tmp_path / "CMakeLists.txt").write_text(lines)
-    for name in ("one", "other"):
-        (tmp_path / name).mkdir()
-        (tmp_path / name / "sum.c").write_text(examples()[0])
-        lines = f"find_package(sketch_hash REQUIRED)\nadd_executable({name} sum.c)\n"
-        lines += f"target_link_libraries({name} sketch_hash::sketch_hash)\n"
-        (tmp_path / name / "CMakeLists.txt").write_text(lines)
-    assert cmake(tmp_path, prefix).returncode == 0
 
 
 @pytest.mark.parametrize("target, system, processor, message", [
