@@ -1,4 +1,4 @@
-"""What the tests share: `need`, by which each names the tools that it needs, and the folders."""
+"""What the tests share: `need`, by which each names the tools that it needs, the folders, the calls of the library."""
 import functools
 import importlib
 import importlib.util
@@ -12,6 +12,8 @@ import sysconfig
 import pytest
 
 ROOT = pathlib.Path(__file__).parent
+DIST = ROOT / "dist"
+CALLS = sorted(set(re.findall(r"\b(sketch_\w+)\(", (DIST / "include/sketch_hash.h").read_text())))
 PROVED = os.environ.get("PROVED")  # the folder of what `rt ci` has just proved and built, as .ci/run names it
 IS_CI = bool(os.environ.get("CI"))
 if IS_CI:
@@ -21,11 +23,15 @@ BUILD_PYTHON = "gcc", "Python.h", "python:Cython", "python:pip", "python:setupto
 BUILD_LOG = ROOT / "out/python.log"  # which .ci/test leaves if the Python package cannot be built
 PLATFORM = sysconfig.get_platform()
 if PLATFORM != "linux-x86_64":  # these run its library or its program
-    collect_ignore = [*(f"tests/test_{it}.py" for it in ("crates", "faults", "systems")), "bindings/c",
+    collect_ignore = [*(f"tests/test_{it}.py" for it in ("crates", "faults")), "bindings/c",
                       "bindings/python/tests/test_package.py", "bindings/wasm/tests/test_page.py"]
 
     def pytest_report_header():
         return f"not run, since they need linux-x86_64: {', '.join(collect_ignore)}"
+
+
+def output(*command):
+    return subprocess.run(command, check=True, stdout=subprocess.PIPE, text=True, timeout=300).stdout
 
 
 def version_of(program):

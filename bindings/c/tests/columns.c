@@ -128,7 +128,6 @@ static void wrong_offsets(void) {
 
 static void no_keys(void) {
     const uint64_t offset = 0;
-    uint64_t word = 7;
     size_t wrong = NONE;
     status("one offset", sketch_xxh64_each64(NULL, 0, &offset, 1, 7, NULL, 0, &wrong), 0);
     status("none, XXH64", sketch_xxh64_each64(NULL, 0, NULL, 0, 7, NULL, 0, &wrong), 0);
@@ -138,11 +137,6 @@ static void no_keys(void) {
     status("no look-ups", sketch_bloom_contains_each64(bits, 32, NULL, 0, NULL, 0, NULL, 0, &wrong),
            0);
     same("nothing is written", wrong, NONE);
-    /* `count` is what `offset_count - 1` wraps to. */
-    status("no offsets, wrapped", sketch_xxh64_each64(NULL, 0, NULL, 0, 7, &word, SIZE_MAX, &wrong),
-           SKETCH_ERROR_OFFSET);
-    same("the first is missing", wrong, 0);
-    same("nothing is written", word, 7);
 }
 
 int main(void) {

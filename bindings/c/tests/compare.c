@@ -7,11 +7,6 @@
 #include <xxhash.h>
 #include "helpers.h"
 
-static void same_pair(const char *what, const uint64_t hash[2], uint64_t h1, uint64_t h2) {
-    same(what, hash[0], h1);
-    same(what, hash[1], h2);
-}
-
 /* The peer takes seeds of 32 bits. */
 static void in_one_call(const unsigned char *bytes, size_t length, uint64_t seed) {
     uint64_t peer[2], pair[2];
@@ -19,9 +14,9 @@ static void in_one_call(const unsigned char *bytes, size_t length, uint64_t seed
     same("xxh64 in one call", sketch_xxh64(bytes, length, seed), XXH64(bytes, length, seed));
     lmmh_x64_128(bytes, (unsigned)length, (uint32_t)seed, peer);
     sketch_murmur3_x64_128(bytes, length, (uint32_t)seed, pair);
-    same_pair("murmur in one call", pair, peer[0], peer[1]);
+    same("murmur in one call", memcmp(pair, peer, 16), 0);
     sketch_murmur3_x64_128_bytes(pair, out);
-    same("murmur in memory order", memcmp(out, peer, 16) == 0, 1);
+    same("murmur in memory order", memcmp(out, peer, 16), 0);
     if (length == 8) {
         uint64_t value;
         memcpy(&value, bytes, 8);
@@ -45,7 +40,7 @@ static void in_pieces(const unsigned char *bytes, size_t length, uint64_t seed, 
         uint64_t whole[2], pair[2];
         sketch_murmur3_x64_128(bytes, at + n, seed, whole);
         sketch_murmur3_x64_128_digest(&m, pair);
-        same_pair("murmur so far", pair, whole[0], whole[1]);
+        same("murmur so far", memcmp(pair, whole, 16), 0);
     }
 }
 

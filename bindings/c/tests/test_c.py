@@ -1,21 +1,18 @@
-"""The library for C: its header under each compiler, its calls compared with peers, its names and instructions."""
+"""The library for C: its header under each compiler, its calls on each system, its names and instructions."""
+import hashlib
 import pathlib
 import re
+import shutil
+import struct
 import subprocess
 
 import pytest
+from conftest import CALLS, DIST, output
 
 HERE = pathlib.Path(__file__).resolve().parent
-DIST = HERE.parents[2] / "dist"
 INCLUDE, NATIVE = DIST / "include", DIST / "linux-x86_64"
 HEADER = (INCLUDE / "sketch_hash.h").read_text()
-CALLS = sorted(set(re.findall(r"\b(sketch_\w+)\(", HEADER)))
-STRICT = ["-Wall", "-Wextra", "-Wpedantic", "-Werror"]
-
-
-def output(*command):
-    return subprocess.run(command, check=True, stdout=subprocess.PIPE, text=True, timeout=300).stdout
-
+STRICT = ["-Wall", "-Wextra", "-Werror"]
 
 # ---- the header
 
@@ -44,39 +41,109 @@ def test_header_rejects_another_layout_of_a_state(old, new, need, tmp_path):
     assert done.returncode and "size of array" in done.stderr
 
 
-# ---- the calls: each program compares, and its exit status is the result
+# ---- the calls on each system: a program compares, and its exit status is the result
+
+MINGW, QEMU = "x86_64-w64-mingw32-gcc", ["qemu-aarch64", "-L", "/usr/aarch64-linux-gnu"]
+SYSTEMS = {  # a compiler, the library, and what runs the program
+    "linux": (["gcc"], "linux-x86_64/libsketch_hash.a", []),
+    "linux-aarch64": (["aarch64-linux-gnu-gcc"], "linux-aarch64/libsketch_hash.a", QEMU),
+    "musl, static": (["musl-gcc", "-static"], "linux-x86_64/libsketch_hash.a", []),
+    "musl, shared": (["musl-gcc", f"-Wl,-rpath,{DIST / 'linux-x86_64'}"], "linux-x86_64/libsketch_hash.so.2", []),
+    "windows, static": ([MINGW], "windows-x86_64/libsketch_hash.a", ["wine"]),
+    "windows, imports": ([MINGW], "windows-x86_64/sketch_hash.lib", ["wine"]),
+    "windows, by name": ([MINGW], "windows-x86_64/sketch_hash.dll", ["wine"]),
+    "macos-x86_64": (["gcc"], "macos-x86_64/libsketch_hash.2.dylib", []),
+    "macos-aarch64": (["aarch64-linux-gnu-gcc"], "macos-aarch64/libsketch_hash.2.dylib", QEMU),
+}
+SYMTAB, LOAD_DYLIB, ID_DYLIB, SEGMENT, SIGNATURE, BUILD_VERSION, DYLD_INFO = 0x2, 0xC, 0xD, 0x19, 0x1D, 0x32, 0x80000022
+
+
+def commands_of(dylib):
+    """The load commands of a Mach-O file, by their numbers, the first of each, without number and size."""
+    commands, at = {}, 32
+    for _ in range(*struct.unpack_from("<I", dylib, 16)):
+        number, size = struct.unpack_from("<II", dylib, at)
+        commands.setdefault(number, dylib[at + 8 : at + size])
+        at += size
+    return commands
+
+
+def exports_of(dylib):
+    """The offset of each external symbol."""
+    start, count, names, _ = struct.unpack("<4I", commands_of(dylib)[SYMTAB])
+    symbols = struct.iter_unpack("<IBBHQ", dylib[start : start + 16 * count])
+    return {dylib[names + it[0] + 1 :].partition(b"\0")[0].decode(): it[4] for it in symbols if it[1] & 1}
+
+
+def loader_of(library):
+    """What links a program with loader.c, and so with a DLL or a dylib at run time."""
+    offsets = dict.fromkeys(CALLS, 0) if library.suffix == ".dll" else exports_of(library.read_bytes())
+    calls = " ".join(f"X({name}, {offset})" for name, offset in offsets.items())
+    return [HERE / "loader.c", f"-DCALLS={calls}", f'-DLIBRARY="{library}"', f"-DCODE_SIZE={library.stat().st_size}"]
+
+
+@pytest.fixture(scope="module")
+def wine(tmp_path_factory):
+    """The command of wine. One server runs until all tests have ended, if it is on the path: sid has none."""
+    folder, server = tmp_path_factory.mktemp("wine"), shutil.which("wineserver")
+    environment = ["env", f"WINEPREFIX={folder}", f"WINEPATH={DIST / 'windows-x86_64'}", "WINEDEBUG=-all"]
+    environment.append("WINEDLLOVERRIDES=mscoree,mshtml=")
+    if server:
+        output(*environment, server, "--persistent")
+    yield [*environment, "wine"]
+    if server:
+        output(*environment, server, "--kill")
+    shutil.rmtree(folder, ignore_errors=not server)  # 700 MB
+
 
 PEERS = {"compare": ["xxhash", "murmurhash"], "long": ["xxhash"]}
 
 
 @pytest.fixture
-def built(need, tmp_path):
-    """built("layout"): a test program with the library."""
+def built(need, tmp_path, request):
+    """built("layout", "musl, static"): the command that runs a test program with the library of a system."""
 
-    def built(name):
+    def built(name, system="linux"):
+        (compiler, *options), library, runner = SYSTEMS[system]
         peers = PEERS.get(name, [])
-        need("gcc", *(f"{it}.h" for it in peers))
-        flags = ["-O2", *STRICT, "-I", INCLUDE, *(f"-l{it}" for it in peers)]
-        output("gcc", "-o", tmp_path / name, HERE / f"{name}.c", NATIVE / "libsketch_hash.a", *flags)
-        return tmp_path / name
+        need(compiler, *runner[:1], *(f"{it}.h" for it in peers))
+        source, program = HERE / f"{name}.c", tmp_path / f"{name}, {system}.exe"
+        linked = loader_of(DIST / library) if library.endswith((".dll", ".dylib")) else [DIST / library]
+        flags = [*options, "-O2", *STRICT, "-I", INCLUDE, *(f"-l{it}" for it in peers)]
+        output(compiler, "-o", program, source if source.exists() else HERE.parent / source.name, *linked, *flags)
+        return [*(request.getfixturevalue("wine") if runner == ["wine"] else runner), program]
 
     return built
 
 
-@pytest.mark.parametrize("name", ["layout", "compare", "long", "bloom", "columns", "answers"])
+@pytest.mark.parametrize("name", ["check", "layout", "compare", "long", "bloom", "columns", "answers"])
 def test_calls_return_what_is_expected(name, built):
-    assert output(built(name))
+    assert output(*built(name))
+
+
+@pytest.mark.xdist_group("systems")  # wine sets up its folder once
+@pytest.mark.parametrize("name", ["check", "layout", "bloom", "columns", "answers"])
+@pytest.mark.parametrize("system", list(SYSTEMS)[1:])
+def test_answers_are_those_of_linux(name, system, built):
+    """The outputs are compared, since a crash under wine can have the status 0."""
+    last = "registers kept\n" if system == "windows, by name" else ""
+    assert output(*built(name, system)) == output(*built(name)) + last
+
+
+@pytest.mark.xdist_group("systems")
+def test_a_fault_inside_a_call_reaches_the_callers_handler(built):
+    assert output(*built("fault", "windows, static")) == "the caller handles c0000005\nand goes on\n"
 
 
 @pytest.mark.parametrize("name, args", [("compare", []), ("bloom", []), ("columns", []), ("answers", ["10000"])])
 def test_calls_access_only_what_they_are_given(name, args, built, need):
     need("valgrind")
-    output("valgrind", "-q", "--error-exitcode=9", "--leak-check=full", built(name), *args)
+    output("valgrind", "-q", "--error-exitcode=9", "--leak-check=full", *built(name), *args)
 
 
 @pytest.mark.parametrize("name", ["layout", "columns", "answers"])
 def test_calls_run_in_a_stack_of_256_kib(name, built):
-    assert output("bash", "-c", 'ulimit -s 256 && exec "$0"', built(name))
+    assert output("bash", "-c", 'ulimit -s 256 && exec "$0"', *built(name))
 
 
 # ---- the files
@@ -98,16 +165,41 @@ def test_shared_library_has_a_version_for_each_call(folder, need):
     assert sorted(names) == [f"{it}@@SKETCH_HASH_2.0" for it in CALLS]
 
 
-def test_shared_library_needs_no_other(folder, need):
-    need("readelf")
-    dynamic = output("readelf", "-d", folder / "libsketch_hash.so.2")
-    assert "[libsketch_hash.so.2]" in dynamic and "(NEEDED)" not in dynamic
-
-
-def test_shared_library_is_hardened(folder, need):
+def test_shared_library_is_hardened_and_needs_no_other(folder, need):
     need("readelf")
     headers = output("readelf", "-Wld", folder / "libsketch_hash.so.2")
+    assert "[libsketch_hash.so.2]" in headers and "(NEEDED)" not in headers
     assert re.search(r"GNU_STACK .* RW +0", headers) and "GNU_RELRO" in headers and "BIND_NOW" in headers
+
+
+def test_dll_exports_the_calls_and_imports_nothing(need):
+    need("x86_64-w64-mingw32-objdump")
+    headers = output("x86_64-w64-mingw32-objdump", "-p", DIST / "windows-x86_64/sketch_hash.dll")
+    assert re.findall(r"^\s+\[.*\] .*\b(sketch_\w+)$", headers, re.M) == CALLS and "DLL Name:" not in headers
+    assert {"DYNAMIC_BASE", "NX_COMPAT", "HIGH_ENTROPY_VA"} <= set(headers.split())
+
+
+@pytest.mark.parametrize("target", ["macos-x86_64", "macos-aarch64"])
+def test_dylib_exports_the_calls_and_is_signed(target, need):
+    """Its ad hoc signature has the hash of each page, which a Mac compares. It imports nothing, and leaves x18 alone."""
+    need("aarch64-linux-gnu-objdump")
+    path = DIST / target / "libsketch_hash.2.dylib"
+    dylib, commands = path.read_bytes(), commands_of(path.read_bytes())
+    assert sorted(exports_of(dylib)) == CALLS and LOAD_DYLIB not in commands and commands[DYLD_INFO][:32] == bytes(32)
+    assert commands[ID_DYLIB][16:].rstrip(b"\0") == b"@rpath/libsketch_hash.2.dylib"
+    assert struct.unpack_from("<II", commands[BUILD_VERSION]) == (1, 11 << 16)  # macOS from 11.0 on
+    (end,) = struct.unpack_from("<I", commands[SIGNATURE])
+    directory = dylib[end + struct.unpack_from(">I", dylib, end + 16)[0] :]
+    magic, _, _, flags, hashes, _, _, count, limit, *kind = struct.unpack_from(">9I4B", directory)
+    assert (magic, flags & 2, limit) == (0xFADE0C02, 2, end)  # ad hoc
+    assert kind == [32, 2, 0, 12]  # SHA-256, of pages of 2^12 bytes
+    pages = [hashlib.sha256(dylib[at : min(at + 4096, end)]).digest() for at in range(0, end, 4096)]
+    assert directory[hashes : hashes + 32 * count] == b"".join(pages)
+    if target == "macos-aarch64":
+        start, size = struct.unpack_from("<QQ", commands[SEGMENT], 64 + 32)  # of the first section
+        place = [f"--start-address={start}", f"--stop-address={start + size}"]
+        code = output("aarch64-linux-gnu-objdump", "-D", "-b", "binary", "-m", "aarch64", *place, path)
+        assert code.count("\tret") >= len(CALLS) and not re.search(r"\b[wx]18\b", code)
 
 
 # What every x86-64 can do: integers, and moves and sums of SSE2.
