@@ -8,7 +8,7 @@ import sys
 
 import pytest
 from sketch_hash import BloomFilter, column, xxh64_each
-from test_sharing import MAP_NORESERVE, WAYS, ZEROS, in_threads, waits
+from test_sharing import WAYS, ZEROS, in_threads, waits
 
 numpy = pytest.importorskip("numpy")
 
@@ -171,47 +171,6 @@ def test_a_column_of_hashes():
     assert bloom == filled()
     assert bloom.contains_hashes(hashes).tolist() == [True] * len(KEYS)
     assert bloom.contains_hashes(xxh64_each(PAIR, 1)).tolist() != [True] * len(KEYS)
-
-
-@pytest.mark.parametrize("keys", [
-    numpy.zeros(0, "u8"), array.array("I"), (b"", array.array("I", [0])), (b"fox", array.array("Q")),
-], ids=range(4))
-def test_a_column_of_no_keys(keys):
-    bloom = BloomFilter(32)
-    bloom.add_each(keys)
-    assert bloom.contains_each(keys).tolist() == [] and bloom == BloomFilter(32)
-
-
-@pytest.mark.parametrize("call", [BloomFilter.add_each, BloomFilter.contains_each])
-@pytest.mark.parametrize("dtype", ["int32", "uint64"])
-def test_a_wrong_offset_is_reported_and_nothing_added(call, dtype):
-    bloom, offsets = filled([]), numpy.array(OFFSETS, dtype)
-    offsets[20] = len(PAIR[0]) + 1
-    with pytest.raises(ValueError, match="^the offset at 20 is missing, past the end or below the one before$"):
-        call(bloom, (PAIR[0], offsets))
-    assert bloom == filled([])
-
-
-@pytest.mark.parametrize("keys, text", [
-    (KEYS, "a column is a pair of bytes and offsets, as column.texts. makes it, or one row of numbers of 32 or 64 "),
-    (numpy.zeros(3, "i2"), r'numbers.astype\("int32"\) makes it, as Parquet stores smaller ones$'),
-    (numpy.zeros(3, "f2"), "has$"),
-    (numpy.zeros((2, 2), "u8"), "one row of numbers"),
-    (b"fox", "has$"),
-], ids=["list", "int16", "float16", "rows", "bytes"])
-def test_another_type_of_column_is_an_error(keys, text):
-    bloom = filled()
-    for call in (bloom.add_each, bloom.contains_each):
-        with pytest.raises(TypeError, match=text):
-            call(keys)
-    assert bloom == filled()
-
-
-@pytest.mark.parametrize("hashes", [PAIR, [1, 2], numpy.zeros(2, "u4"), numpy.zeros(2, "f8")], ids=range(4))
-def test_another_type_of_hashes_is_an_error(hashes):
-    for call in (filled().add_hashes, filled().contains_hashes):
-        with pytest.raises(TypeError, match="^hashes are one row of whole numbers of 64 bits"):
-            call(hashes)
 
 
 # ---- Whole filters
@@ -396,16 +355,3 @@ def test_each_call_waits_for_a_long_one(call):
             bloom.add_each(zeros)
 
     assert waits(add_zeros, lambda: call(bloom))
-
-
-def test_a_column_past_32_bits():
-    """The zeros take no memory, since they are never written."""
-    flags = mmap.MAP_PRIVATE | mmap.MAP_ANONYMOUS | MAP_NORESERVE
-    with mmap.mmap(-1, (1 << 32) + 37, flags=flags, prot=mmap.PROT_READ) as zeros:
-        bloom = BloomFilter(1024)
-        bloom.add_each((zeros, array.array("Q", [1 << 32, (1 << 32) + 5])))
-        bloom.add_each((zeros, array.array("I", [1 << 31, (1 << 31) + 3])))  # offsets of 32 bits have no sign
-        assert bloom.to_bytes() == bits([bytes(5), bytes(3)])
-        bloom.add(zeros)
-        hashes = xxh64_each((zeros, array.array("Q", [0, len(zeros)])))
-        assert bloom.contains_hashes(hashes).tolist() == [True]

@@ -5,7 +5,7 @@ import random
 
 import pytest
 import sketch_hash
-from sketch_hash import murmur3_x64_128_each, xxh64_each
+from sketch_hash import BloomFilter, murmur3_x64_128_each, xxh64_each
 
 numpy = pytest.importorskip("numpy")
 xxhash = pytest.importorskip("xxhash")
@@ -16,6 +16,8 @@ OFFSETS = [0, *itertools.accumulate(map(len, KEYS))]
 PAIR = DATA, array.array("Q", OFFSETS)
 WIDTHS = pytest.mark.parametrize("dtype", ["int32", "uint32", "int64", "uint64"])
 EACH = [xxh64_each, murmur3_x64_128_each]
+BLOOM = BloomFilter(1024)
+BLOOM.add(b"fox")
 
 
 def expected(each, keys, seed):
@@ -46,44 +48,54 @@ def test_each_number(dtype):
 
 
 def test_a_column_may_have_no_keys():
-    for each in EACH:
-        assert each((b"", array.array("I", [0]))).tolist() == each((DATA, array.array("I"))).tolist() == []
-    assert xxh64_each(numpy.zeros(0, "uint64")).tolist() == xxh64_each(array.array("Q")).tolist() == []
+    before, no_texts = BLOOM.to_bytes(), [(b"", array.array("I", [0])), (DATA, array.array("I"))]
+    no_numbers = [numpy.zeros(0, "uint64"), array.array("Q")]
+    both = no_texts + no_numbers
+    calls = {xxh64_each: both, murmur3_x64_128_each: no_texts, BLOOM.contains_each: both}
+    assert all(call(keys).tolist() == [] for call, columns in calls.items() for keys in columns)
+    for keys in both:
+        BLOOM.add_each(keys)
+    assert BLOOM.to_bytes() == before
 
 
-@pytest.mark.parametrize("each", EACH)
+@pytest.mark.parametrize("call", [*EACH, BLOOM.add_each, BLOOM.contains_each])
 @WIDTHS
 @pytest.mark.parametrize("index, wrong", [(0, len(DATA) + 1), (500, -1), (1000, len(DATA) + 1)])
-def test_a_wrong_offset_is_reported(each, dtype, index, wrong):
-    offsets = numpy.array(OFFSETS, dtype)
+def test_a_wrong_offset_is_reported_and_nothing_added(call, dtype, index, wrong):
+    offsets, before = numpy.array(OFFSETS, dtype), BLOOM.to_bytes()
     offsets[index] = numpy.array(wrong).astype(dtype)
     with pytest.raises(ValueError, match=f"^the offset at {index} is missing, past the end or below the one before$"):
-        each((DATA, offsets))
+        call((DATA, offsets))
+    assert BLOOM.to_bytes() == before
 
 
 ROW = "one row of whole numbers of {} bits in the machine's byte order, as array.array has"
-COLUMN = "^a column is a pair of bytes and offsets, as column.texts. makes it, or " + ROW.format("64")
+PAIR_OR = "^a column is a pair of bytes and offsets, as column.texts. makes it, or "
+COLUMN, OF_FILTER = PAIR_OR + ROW.format("64"), PAIR_OR + "one row of numbers of 32 or 64 bits"
+XXH64, FILTER = [xxh64_each], [BLOOM.add_each, BLOOM.contains_each]
 
 
-@pytest.mark.parametrize("keys, text", [
-    (numpy.zeros(4, "u4"), COLUMN + r': numbers.astype."uint64". makes it$'),
-    *((numpy.zeros(*shape), COLUMN + "$") for shape in ((4, ">u8"), (4, "f8"), ((2, 2), "u8"), ((), "u8"))),
-    *((keys, COLUMN + "$") for keys in ([1, 2], "fox", DATA)),
-    *(((DATA, offsets), "^offsets are " + ROW.format("32 or 64"))
+@pytest.mark.parametrize("calls, keys, text", [
+    (XXH64, numpy.zeros(4, "u4"), COLUMN + r': numbers.astype."uint64". makes it$'),
+    *((XXH64, numpy.zeros(*shape), COLUMN + "$") for shape in ((4, ">u8"), (4, "f8"), ((2, 2), "u8"), ((), "u8"))),
+    *((XXH64, keys, COLUMN + "$") for keys in ([1, 2], "fox", DATA)),
+    *((XXH64, (DATA, offsets), "^offsets are " + ROW.format("32 or 64"))
       for offsets in (numpy.zeros(4, "u2"), numpy.zeros(4, "f4"), numpy.array(5, "u8"), DATA, [0, 3])),
-    ((DATA,), "^a column of bytes is a pair of bytes and offsets, as column"),
-    ((DATA, OFFSETS, 0), "^a column of bytes is a pair"),
-    (("text", [0, 4]), "^a str has no bytes until it is encoded"),
-    ((numpy.array(["fox"], dtype=object), [0, 8]), "^an array of Python objects holds their addresses"),
+    (XXH64, (DATA,), "^a column of bytes is a pair of bytes and offsets, as column"),
+    (XXH64, (DATA, OFFSETS, 0), "^a column of bytes is a pair"),
+    (XXH64, ("text", [0, 4]), "^a str has no bytes until it is encoded"),
+    (XXH64, (numpy.array(["fox"], dtype=object), [0, 8]), "^an array of Python objects holds their addresses"),
+    ([murmur3_x64_128_each], numpy.zeros(4, "u8"), "^a column of bytes is a pair of bytes and offsets, as column"),
+    (FILTER, numpy.zeros(3, "i2"), OF_FILTER + r'.* numbers.astype."int32". makes it, as Parquet stores smaller ones$'),
+    *((FILTER, keys, OF_FILTER + ".* has$")
+      for keys in (KEYS, numpy.zeros(3, "f2"), numpy.zeros((2, 2), "u8"), b"fox")),
+    *(([BLOOM.add_hashes, BLOOM.contains_hashes], hashes, "^hashes are " + ROW.format("64"))
+      for hashes in (PAIR, [1, 2], numpy.zeros(2, "u4"), numpy.zeros(2, "f8"))),
 ])
-def test_another_column_is_an_error(keys, text):
-    with pytest.raises(TypeError, match=text):
-        xxh64_each(keys)
-
-
-def test_a_column_of_murmur_has_offsets():
-    with pytest.raises(TypeError, match="^a column of bytes is a pair of bytes and offsets, as column"):
-        murmur3_x64_128_each(numpy.zeros(4, "u8"))
+def test_another_column_is_an_error(calls, keys, text):
+    for call in calls:
+        with pytest.raises(TypeError, match=text):
+            call(keys)
 
 
 @pytest.mark.parametrize("keys", [

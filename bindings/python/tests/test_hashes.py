@@ -1,6 +1,7 @@
-"""Both hashes compared with python3-xxhash and published answers; arguments, attributes and long inputs."""
+"""Both hashes compared with python3-xxhash and published answers; arguments, attributes, long inputs, and buffers."""
 import array
 import ast
+import ctypes
 import doctest
 import importlib.metadata
 import mmap
@@ -10,12 +11,13 @@ import random
 import pytest
 import sketch_hash
 from sketch_hash import murmur3_x64_128, xxh64
-from test_buffers import FORMS, KINDS, ONE_CALL
-from test_sharing import MAP_NORESERVE, ZEROS, waits
+from test_sharing import FORMS, KINDS, MAP_NORESERVE, ONE_CALL, ZEROS, waits
 
+numpy = pytest.importorskip("numpy")
 xxhash = pytest.importorskip("xxhash")
 
 FOX = b"The quick brown fox jumps over the lazy dog"
+DATA = bytes(range(240))
 
 
 @pytest.mark.parametrize("data, seed, of_xxh64, of_murmur", [
@@ -122,15 +124,101 @@ def test_pieces_have_the_hash_of_one_call(kind):
         assert stream.intdigest() == kind(data[:length], seed).intdigest() == expected
 
 
-@pytest.mark.parametrize("kind, expected", [
-    (xxh64, 0x9AE583956774714E), (murmur3_x64_128, 0x0B42F570045FBE6CE4DB2F081F3AE5B5),
-])
-def test_an_input_may_be_longer_than_4_gib(kind, expected):
+def test_an_input_may_be_longer_than_4_gib():
     """The zeros take no memory, since they are never written."""
     flags = mmap.MAP_PRIVATE | mmap.MAP_ANONYMOUS | MAP_NORESERVE
     with mmap.mmap(-1, (1 << 32) + 37, flags=flags, prot=mmap.PROT_READ) as zeros:
-        seed = 2**64 - 1
-        assert kind(zeros, seed).intdigest() == expected
-        assert getattr(sketch_hash, f"{kind.__name__}_intdigest")(zeros, seed) == expected
-        hashes = getattr(sketch_hash, f"{kind.__name__}_each")((zeros, array.array("Q", [0, len(zeros)])), seed)
-        assert int.from_bytes(b"".join(word.to_bytes(8, "big") for word in hashes), "big") == expected
+        seed, all_zeros = 2**64 - 1, (zeros, array.array("Q", [0, len(zeros)]))
+        for kind, expected in ((xxh64, 0x9AE583956774714E), (murmur3_x64_128, 0x0B42F570045FBE6CE4DB2F081F3AE5B5)):
+            assert kind(zeros, seed).intdigest() == expected
+            assert getattr(sketch_hash, f"{kind.__name__}_intdigest")(zeros, seed) == expected
+            hashes = getattr(sketch_hash, f"{kind.__name__}_each")(all_zeros, seed)
+            assert int.from_bytes(b"".join(word.to_bytes(8, "big") for word in hashes), "big") == expected
+        bloom = sketch_hash.BloomFilter(1024)
+        bloom.add(zeros)
+        bloom.add_each((zeros, array.array("I", [1 << 31, (1 << 31) + 3])))  # offsets of 32 bits have no sign
+        assert bloom.contains_hashes(sketch_hash.xxh64_each(all_zeros)).tolist() == [True] and bytes(3) in bloom
+
+
+# ---- Buffers
+
+def anonymous(data):
+    memory = mmap.mmap(-1, len(data))
+    memory.write(data)
+    return memory
+
+
+ACCEPTED = {
+    "bytes with another length": type("Kind", (bytes,), {"__len__": lambda _: 3})(DATA),
+    "bytearray": bytearray(DATA),
+    "memoryview": memoryview(DATA),
+    "slice": memoryview(b"other" + DATA)[5:],
+    "rows": memoryview(DATA).cast("B", (12, 20)),
+    "array": array.array("d", DATA),
+    "mmap": anonymous(DATA),
+    "numpy": numpy.frombuffer(DATA, dtype=numpy.int16),
+    "numpy rows": numpy.frombuffer(DATA, dtype=numpy.float32).reshape(6, 10),
+    "ctypes": (ctypes.c_uint16 * 120).from_buffer_copy(DATA),
+}
+REJECTED = {
+    "every other byte": memoryview(DATA)[::2],
+    "every other word of numpy": numpy.frombuffer(DATA, dtype=numpy.int16)[::2],
+    "columns of numpy": numpy.frombuffer(DATA, dtype=numpy.int16).reshape(12, 10).T,
+    "a number": 5,
+    "None": None,
+    "a list": [1, 2],
+}
+
+
+@pytest.mark.parametrize("kind", KINDS)
+@pytest.mark.parametrize("data", ACCEPTED.values(), ids=ACCEPTED)
+def test_a_contiguous_buffer_is_an_input(kind, data):
+    hasher = kind()
+    hasher.update(data)
+    one_call = getattr(sketch_hash, f"{kind.__name__}_digest")
+    assert kind(data).digest() == hasher.digest() == one_call(data) == kind(DATA).digest()
+
+
+@pytest.mark.parametrize("data", REJECTED.values(), ids=REJECTED)
+def test_another_input_is_an_error(data):
+    hashers = [kind(b"a") for kind in KINDS]
+    for call in (*KINDS, *ONE_CALL, *[it.update for it in hashers], sketch_hash.BloomFilter.from_bytes):
+        with pytest.raises((TypeError, ValueError, BufferError)) as error:
+            call(data)
+        assert "encode" not in str(error.value)
+    assert [it.digest() for it in hashers] == [kind(b"a").digest() for kind in KINDS]
+
+
+@pytest.mark.parametrize("call", [*KINDS, *ONE_CALL, xxh64().update])
+def test_a_str_is_an_error_that_says_to_encode_it(call):
+    with pytest.raises(TypeError, match=r"^a str .*: pass data.encode\(\)$"):
+        call("text")
+
+
+class Broken(bytes):
+    @property
+    def dtype(self):
+        raise LookupError("this array has no type")
+
+
+def test_an_error_of_the_buffer_is_raised():
+    bloom, released = sketch_hash.BloomFilter(32), memoryview(DATA)
+    released.release()
+    of_filters = bloom.add, bloom.__contains__, bloom.from_bytes, bloom.from_parquet
+    for call in (*KINDS, *ONE_CALL, xxh64().update, *of_filters):
+        with pytest.raises(LookupError, match="this array has no type"):
+            call(Broken(DATA))
+        with pytest.raises(ValueError, match="released memoryview"):
+            call(released)
+
+
+@pytest.mark.parametrize("empty", [b"", bytearray(), array.array("Q"), numpy.zeros(0)], ids=range(4))
+def test_an_empty_buffer_is_an_input(empty):
+    assert xxh64(empty).hexdigest() == "ef46db3751d8e999" and murmur3_x64_128(empty).intdigest() == 0
+
+
+def test_a_buffer_is_released():
+    data = bytearray(DATA)
+    xxh64(data).update(data)
+    sketch_hash.murmur3_x64_128_digest(data)
+    data.append(1)

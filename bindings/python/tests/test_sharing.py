@@ -10,11 +10,14 @@ import threading
 import time
 
 import pytest
+import sketch_hash
 from sketch_hash import BloomFilter, murmur3_x64_128, murmur3_x64_128_each, xxh64, xxh64_each
-from test_buffers import KINDS, ONE_CALL
 
 numpy = pytest.importorskip("numpy")
 
+KINDS = [xxh64, murmur3_x64_128]
+FORMS = ["digest", "hexdigest", "intdigest"]
+ONE_CALL = [getattr(sketch_hash, f"{kind.__name__}_{form}") for kind in KINDS for form in FORMS]
 PICKLES = [lambda it, n=n: pickle.loads(pickle.dumps(it, n)) for n in range(6)]
 WAYS = [copy.copy, copy.deepcopy, lambda it: it.copy(), *PICKLES]
 
