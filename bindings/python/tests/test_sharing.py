@@ -163,7 +163,10 @@ def assert_releases_the_gil(call, data, ticks):
     assert len(ticks) > before
 
 
-@pytest.mark.parametrize("call", [*ONE_CALL, xxh64().update, murmur3_x64_128().update])
+@pytest.mark.parametrize("call", [
+    *ONE_CALL, xxh64().update, murmur3_x64_128().update,
+    lambda data: BloomFilter(len(data)).__ior__(BloomFilter.view(data)),
+])
 @pytest.mark.parametrize("length", [1 << 16, 1 << 24])
 def test_calls_of_64_kib_release_the_gil(call, length, ticks):
     assert_releases_the_gil(call, bytes(length), ticks)

@@ -8,7 +8,7 @@ from libc.stdint cimport uint32_t, uint64_t, uintptr_t
 from ._columns cimport HASHES, NUMBERS32, NUMBERS64, OFFSETS32, OFFSETS64, Column, check_offsets
 from ._library cimport *
 from ._memory cimport (
-    LONG, Lock, PyBuffer_Release, PyObject_GetBuffer, View, acquire, get_bytes, is_held, release, wait, word_of,
+    LONG, Lock, PyBuffer_Release, PyObject_GetBuffer, View, acquire, get_bytes, release, wait, word_of,
 )
 
 import operator
@@ -341,16 +341,30 @@ cdef class BloomFilter:
     def __ior__(self, other):
         if not isinstance(other, BloomFilter):
             return NotImplemented
-        cdef BloomFilter source = other
-        if overlap(&self.bits, &source.bits):
-            source = source.copy()
-        # It keeps the GIL, so no long call on either filter begins, and no call waits while it holds a lock.
-        while is_held(<void *>self.lock) or is_held(<void *>source.lock):
-            wait(<void *>self.lock)
-            wait(<void *>source.lock)
+        cdef BloomFilter source = other.copy() if other is self else other
+        cdef int status
+        # Two merges take the locks in one order, that of addresses, so neither waits for the other for ever.
+        cdef BloomFilter first, second
+        first, second = (self, source) if <uintptr_t><void *>self < <uintptr_t><void *>source else (source, self)
+        self.lock, source.lock = self.lock or Lock(), source.lock or Lock()
+        acquire(first.lock)
+        acquire(second.lock)
+        if self.bits.readonly:
+            status = READ_ONLY
+        elif overlap(&self.bits, &source.bits):
+            status = OVERLAP
+        elif self.bits.len < LONG:
+            status = sketch_bloom_merge(self.bits.buf, self.bits.len, source.bits.buf, source.bits.len)
+        else:
+            with nogil:
+                status = sketch_bloom_merge(self.bits.buf, self.bits.len, source.bits.buf, source.bits.len)
+        release(second.lock)
+        release(first.lock)
         source.check(0)
-        self.check(READ_ONLY if self.bits.readonly else 0)
-        if sketch_bloom_merge(self.bits.buf, self.bits.len, source.bits.buf, source.bits.len):
+        if status == OVERLAP:
+            return self.__ior__(source.copy())
+        self.check(READ_ONLY if status == READ_ONLY else 0)
+        if status:
             raise ValueError(f"filters of {self.bits.len} and {source.bits.len} bytes cannot be merged: "
                              "create both with one size")
         return self
@@ -395,8 +409,10 @@ cdef class BloomFilter:
         return copied(type(self), self.bits.buf, self.bits.len)
 
     def __reduce_ex__(self, protocol):
-        data = self.to_bytes()
-        return type(self).from_bytes, (pickle.PickleBuffer(data) if protocol >= 5 else data,)
+        if protocol < 5:
+            return type(self).from_bytes, (self.to_bytes(),)
+        wait(<void *>self.lock)
+        return type(self).from_bytes, (pickle.PickleBuffer(self),)
 
     def __getbuffer__(self, Py_buffer *buffer, int flags):
         self.check(0)
@@ -408,6 +424,10 @@ cdef class BloomFilter:
 
     def __releasebuffer__(self, Py_buffer *buffer):
         self.exports -= 1
+
+    def __sizeof__(self):
+        """The bits count too: a scheduler asks what it costs to move a filter."""
+        return object.__sizeof__(self) + self.bits.len
 
     def __repr__(self):
         if self.bits.buf is NULL:
