@@ -7,19 +7,18 @@ that it has in a Parquet file. Whether a key was seen:
 
     key in sketch_hash.BloomFilter.from_parquet(open("seen.bloom", "rb").read())
 
-Each thread of the workers adds its share of the files to one filter. A tree of merges joins the filters, in any order
-to the same bytes. No task changes its arguments, so Dask may run a task again, as it does when a worker is lost.
+Each thread of the workers adds its share of the files to one filter. The filters are cut into parts, one for a thread.
+A task merges one part of all filters and writes it, so all workers send and receive parts at the same time. No task
+changes its arguments, so Dask may run a task again, as it does when a worker is lost.
 """
 import argparse
+import functools
 import operator
 import os
-import sys
 
 import numpy
 from distributed import Client, progress
 from sketch_hash import BloomFilter
-
-LINE_FEED = ord("\n")
 
 
 def column(path):
@@ -28,7 +27,7 @@ def column(path):
         text = file.read()
     if text and not text.endswith(b"\n"):
         text += b"\n"
-    ends = numpy.flatnonzero(numpy.frombuffer(text, "uint8") == LINE_FEED)
+    ends = numpy.flatnonzero(numpy.frombuffer(text, "uint8") == ord("\n"))
     return text.translate(None, b"\n"), numpy.append(0, ends - numpy.arange(len(ends)))
 
 
@@ -39,21 +38,35 @@ def filter_of(paths, num_bytes):
     return bloom
 
 
-def write(bloom, path):
-    with open(path, "wb") as file:
-        file.write(bloom.to_parquet())
+def part_of(bloom, start, length):
+    """Some bytes of a filter. They can be merged as a filter can."""
+    return BloomFilter.view(memoryview(bloom)[start : start + length])
+
+
+def write_part(parts, place, path):
+    merged = functools.reduce(operator.or_, parts)
+    with open(path, "r+b") as file:
+        file.seek(place)
+        file.write(merged)
 
 
 def by_workers(client, paths, num_bytes, out):
-    threads = sum(client.nthreads().values())
-    groups = [paths[i::threads] for i in range(min(threads, len(paths)))]
-    filters = client.map(filter_of, groups, num_bytes=num_bytes)
-    while len(filters) > 1:
-        unpaired = filters[len(filters) // 2 * 2 :]
-        filters = client.map(operator.or_, filters[::2], filters[1::2]) + unpaired
-    written = client.submit(write, filters[0], out)
+    threads = [worker for worker, count in client.nthreads().items() for _ in range(count)][: len(paths)]
+    length = 32 * -(-num_bytes // 32 // len(threads))  # of a part: a multiple of 32
+    starts = range(0, num_bytes, length)
+    parts = []
+    for i, worker in enumerate(threads):
+        here = {"workers": worker, "allow_other_workers": True}  # else Dask may move a whole filter
+        bloom = client.submit(filter_of, paths[i :: len(threads)], num_bytes, **here)
+        parts.append(client.map(part_of, [bloom] * len(starts), starts, length=length, **here))
+    header, partial = BloomFilter(num_bytes).to_parquet()[:-num_bytes], f"{out}.partial"
+    with open(partial, "wb") as file:
+        file.write(header)
+    places = [len(header) + start for start in starts]
+    written = client.map(write_part, [list(it) for it in zip(*parts)], places, path=partial)
     progress(written, notebook=False)  # draws a bar until all is done
-    written.result()
+    client.gather(written)
+    os.replace(partial, out)
 
 
 def main():
@@ -62,17 +75,12 @@ def main():
     parser.add_argument("--keys", type=int, required=True, help="about how many different keys there are")
     parser.add_argument("--out", required=True, help="the file for the filter")
     parser.add_argument("--address", help="of a scheduler whose workers see the same files; else this machine works")
-    parser.add_argument("--check", action="store_true", help="compare with one process, byte for byte")
     args = parser.parse_args()
     out, *paths = map(os.path.abspath, [args.out, *args.files])
     num_bytes = BloomFilter.for_keys(args.keys, error_rate=0.01).num_bytes
     local = {"n_workers": len(os.sched_getaffinity(0)), "threads_per_worker": 1, "dashboard_address": None}
     with Client(args.address) if args.address else Client(**local) as client:
         by_workers(client, paths, num_bytes, out)
-    if args.check:
-        with open(out, "rb") as file:
-            if BloomFilter.from_parquet(file.read()) != filter_of(paths, num_bytes):
-                sys.exit("the workers' filter differs from that of one process")
 
 
 if __name__ == "__main__":

@@ -16,7 +16,7 @@ from distributed import LocalCluster
 
 EXAMPLE = pathlib.Path(__file__).resolve().parents[1] / "examples/seen_on_dask.py"
 sys.path.insert(0, str(EXAMPLE.parent))
-from seen_on_dask import column
+from seen_on_dask import column, filter_of
 
 pytestmark = pytest.mark.xdist_group("dask")
 
@@ -45,7 +45,7 @@ def test_a_killed_worker_changes_nothing(tmp_path):
     for n, file in enumerate(files):
         file.write_bytes(b"".join(b"%d\n" % key for key in range(1000 * n, 1000 * n + 1000)) * 250)
     with LocalCluster(n_workers=3, threads_per_worker=1, dashboard_address=None) as cluster:
-        options = ["--check", "--keys", "20000", "--out", tmp_path / "out", "--address", cluster.scheduler_address]
+        options = ["--keys", "20000", "--out", tmp_path / "out", "--address", cluster.scheduler_address]
         example = subprocess.Popen([sys.executable, EXAMPLE, *options, *files])
         victim = None
         while victim is None:
@@ -57,7 +57,7 @@ def test_a_killed_worker_changes_nothing(tmp_path):
         done = [it[0] for it in cluster.scheduler.transition_log if it[1:3] == ("processing", "memory")]
     assert len(done) > len(set(done))
     bloom = BloomFilter.from_parquet((tmp_path / "out").read_bytes())
-    assert all(str(key) in bloom for key in range(20_000))
+    assert bloom == filter_of(files, bloom.num_bytes)
     assert sum(str(key) in bloom for key in range(20_000, 120_000)) < 1_100
 
 
