@@ -1,5 +1,6 @@
 """Builds the calls over the proved archive, that of dist/ or of the folder SKETCH_HASH_LIB_DIR, an absolute path."""
 import os
+import pathlib
 import re
 import sys
 import sysconfig
@@ -48,13 +49,11 @@ modules = [
     for name in ("_memory", "_hashes", "_columns", "_bloom")
 ]
 directives = {"language_level": 3, "binding": False, "auto_pickle": False, "always_allow_keywords": False}
-with open(os.path.join(here, "README.md"), encoding="utf-8") as page:
-    readme = page.read()
 setup(
     name="sketch-hash",
     version="2.0.0",
     description="XXH64, MurmurHash3 x64 128 and the Bloom filter of Apache Parquet, from functions that are proved",
-    long_description=readme,
+    long_description=pathlib.Path(here, "README.md").read_text(encoding="utf-8"),
     long_description_content_type="text/markdown",
     license="Apache-2.0",
     license_files=["LICENSE", "NOTICE"],

@@ -6,9 +6,11 @@ import subprocess
 import sys
 
 import pytest
+import sketch_hash
 
 xxhash = pytest.importorskip("xxhash")
 
+LONG = random.Random(1).randbytes(2_500_000)  # longer than a read
 FOX = b"The quick brown fox jumps over the lazy dog"
 XXH64, MURMUR = b"0b242d361fda71bc", b"e34bbc7bbc071b6c7a433ca9c49a9347"
 EMPTY = b"ef46db3751d8e999"
@@ -20,6 +22,7 @@ def folder(tmp_path, monkeypatch):
     monkeypatch.chdir(tmp_path)
     monkeypatch.delenv("PYTHONUNBUFFERED", raising=False)
     (tmp_path / "fox").write_bytes(FOX)
+    (tmp_path / "long").write_bytes(LONG)
 
 
 def run(*args, **kwargs):
@@ -29,12 +32,13 @@ def run(*args, **kwargs):
 
 @pytest.mark.parametrize("args, input, output", [
     (["fox"], b"", XXH64 + b"  fox\n"),
+    (["long"], b"", xxhash.xxh64_hexdigest(LONG).encode() + b"  long\n"),
     (["-a", "murmur3_x64_128", "fox"], b"", MURMUR + b"  fox\n"),
     (["--tag", "fox"], b"", b"XXH64 (fox) = " + XXH64 + b"\n"),
     ([], FOX, XXH64 + b"  -\n"),
     (["fox", "-", "-"], FOX, XXH64 + b"  fox\n" + XXH64 + b"  -\n" + EMPTY + b"  -\n"),
     (["fox", "-s", "16", "fox"], b"", 2 * (xxhash.xxh64_hexdigest(FOX, 16).encode() + b"  fox\n")),
-], ids=["a file", "murmur", "tag", "standard input", "standard input twice", "options between names"])
+], ids=["a file", "a long file", "murmur", "tag", "standard input", "standard input twice", "options between names"])
 def test_output_is_a_line_for_each_file(args, input, output):
     assert run(*args, input=input) == (0, output, b"")
 
@@ -61,18 +65,9 @@ def test_each_argument_after_two_dashes_is_a_name():
 
 
 def test_the_installed_command_has_the_version():
-    import sketch_hash
-
     command = os.path.join(os.path.dirname(os.path.dirname(sketch_hash.__file__)), "bin/sketch-hash")
     output = subprocess.run([sys.executable, command, "--version"], capture_output=True).stdout
     assert output.split() == [b"sketch-hash", sketch_hash.__version__.encode()]
-
-
-def test_a_file_may_be_longer_than_a_read():
-    data = random.Random(1).randbytes(2_500_000)
-    with open("long", "wb") as file:
-        file.write(data)
-    assert run("long")[1] == xxhash.xxh64_hexdigest(data).encode() + b"  long\n"
 
 
 @pytest.mark.parametrize("args, status, output, message", [
@@ -152,20 +147,19 @@ def test_check_reports_and_counts_what_is_wrong(lines, output, message):
     assert run("-c", input=lines) == (1, output, message)
 
 
-@pytest.mark.parametrize("line", [
+FORMS = [
     GOOD, XXH64.upper() + b"  fox\n", XXH64 + b" *fox\n", b"XXH64 (fox) = " + XXH64 + b"\n",
     b"MURMUR3_X64_128 (fox) = " + MURMUR + b"\n",
-], ids=["plain", "upper case", "binary", "tag", "tag of Murmur"])
-def test_check_reads_each_form_of_a_line(line):
-    assert run("-c", input=line) == (0, b"fox: OK\n", b"")
+]
+OTHERS = [
+    *(b"0" * count + b"  fox\n" for count in (0, 15, 17, 31, 33, 64)), XXH64 + b"  \n", XXH64 + b" fox\n",
+    XXH64 + b"\n", b"\\\n", b"XXH64 () = " + XXH64 + b"\n", b"MD5 (fox) = " + MURMUR + b"\n",
+]
 
 
-@pytest.mark.parametrize("line", [
-    *(b"0" * count + b"  fox" for count in (0, 15, 17, 31, 33, 64)), XXH64 + b"  ", XXH64 + b" fox", XXH64, b"\\",
-    b"XXH64 () = " + XXH64, b"MD5 (fox) = " + MURMUR,
-])
-def test_check_counts_other_lines(line):
-    assert run("-c", input=line + b"\n") == (1, b"", FORMAT + NONE)
+@pytest.mark.parametrize("line", FORMS + OTHERS)
+def test_check_reads_each_form_of_a_line_and_counts_others(line):
+    assert run("-c", input=line) == ((0, b"fox: OK\n", b"") if line in FORMS else (1, b"", FORMAT + NONE))
 
 
 @pytest.mark.parametrize("args", [[], ["--tag"]], ids=["plain", "tag"])

@@ -1,12 +1,9 @@
 """Both hashes compared with python3-xxhash and published answers; arguments, attributes, long inputs, and buffers."""
 import array
-import ast
 import ctypes
 import doctest
 import importlib.metadata
 import mmap
-import os
-import random
 
 import pytest
 import sketch_hash
@@ -69,9 +66,6 @@ def test_metadata_of_the_package():
     metadata = importlib.metadata.metadata("sketch-hash")
     assert metadata["Version"] == sketch_hash.__version__
     assert metadata.get_all("License-File") == ["LICENSE", "NOTICE"]
-    for name in ("__init__.py", "__main__.py"):
-        with open(os.path.join(os.path.dirname(sketch_hash.__file__), name)) as file:
-            ast.parse(file.read(), feature_version=(3, 9))
 
 
 def test_calls_take_arguments_by_name():
@@ -112,18 +106,6 @@ def test_a_subclass_without_init_has_the_seed_0(kind):
     assert hasher.digest() == kind(FOX).digest() and hasher.seed == 0
 
 
-@pytest.mark.parametrize("kind", KINDS)
-def test_pieces_have_the_hash_of_one_call(kind):
-    """For each length of a buffered part, and past 64 KiB."""
-    data, seed = memoryview(random.Random(4).randbytes(66_000)), 1 << 63 | 5
-    one_call = getattr(sketch_hash, f"{kind.__name__}_intdigest")
-    stream, at = kind(seed=seed), 0
-    for length in [*range(500), *range(65_000, 66_000)]:
-        stream.update(data[at:length])
-        at, expected = length, one_call(data[:length], seed)
-        assert stream.intdigest() == kind(data[:length], seed).intdigest() == expected
-
-
 def test_an_input_may_be_longer_than_4_gib():
     """The zeros take no memory, since they are never written."""
     flags = mmap.MAP_PRIVATE | mmap.MAP_ANONYMOUS | MAP_NORESERVE
@@ -142,12 +124,6 @@ def test_an_input_may_be_longer_than_4_gib():
 
 # ---- Buffers
 
-def anonymous(data):
-    memory = mmap.mmap(-1, len(data))
-    memory.write(data)
-    return memory
-
-
 ACCEPTED = {
     "bytes with another length": type("Kind", (bytes,), {"__len__": lambda _: 3})(DATA),
     "bytearray": bytearray(DATA),
@@ -155,11 +131,12 @@ ACCEPTED = {
     "slice": memoryview(b"other" + DATA)[5:],
     "rows": memoryview(DATA).cast("B", (12, 20)),
     "array": array.array("d", DATA),
-    "mmap": anonymous(DATA),
+    "mmap": mmap.mmap(-1, len(DATA)),
     "numpy": numpy.frombuffer(DATA, dtype=numpy.int16),
     "numpy rows": numpy.frombuffer(DATA, dtype=numpy.float32).reshape(6, 10),
     "ctypes": (ctypes.c_uint16 * 120).from_buffer_copy(DATA),
 }
+ACCEPTED["mmap"].write(DATA)
 REJECTED = {
     "every other byte": memoryview(DATA)[::2],
     "every other word of numpy": numpy.frombuffer(DATA, dtype=numpy.int16)[::2],

@@ -7,10 +7,9 @@ import subprocess
 import sys
 
 import pytest
+from conftest import DIST
 
 HERE = pathlib.Path(__file__).resolve().parent
-PACKAGE = HERE.parent
-DIST = HERE.parents[2] / "dist"
 PIP = [sys.executable, "-m", "pip", "install", "--quiet", "--no-index", "--no-deps", "--root-user-action=ignore"]
 FOX = "import sketch_hash; print(sketch_hash.xxh64_hexdigest(b'The quick brown fox jumps over the lazy dog'))"
 
@@ -20,7 +19,7 @@ def source(need, tmp_path):
     """A copy of the package, which `run` builds with the library of dist/."""
     need("gcc", "Python.h", "python:Cython", "python:setuptools", "python:wheel")
     ignored = shutil.ignore_patterns("build", "*.egg-info", "tests", "__pycache__")
-    return pathlib.Path(shutil.copytree(PACKAGE, tmp_path / "source", ignore=ignored))
+    return pathlib.Path(shutil.copytree(HERE.parent, tmp_path / "source", ignore=ignored))
 
 
 def run(command, cwd=None, **environment):
