@@ -121,7 +121,7 @@ cdef class BloomFilter:
     """
 
     cdef View bits  # of an own bytearray, or of the buffer of a view
-    cdef Lock lock  # created by the first long call
+    cdef Lock lock  # created by the first long call or merge
     cdef Py_ssize_t exports  # how many memoryviews of the bits there are
 
     def __init__(self, num_bytes):
