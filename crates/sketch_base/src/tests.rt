@@ -6,14 +6,9 @@ mod error;
 mod items;
 
 use crate::error::{Error, ErrorKind};
-use std::fmt::{Debug, Display};
+use std::fmt::Display;
 use std::io::{Eprint, Write};
 use std::process::Abort;
-
-/// Asserts that two values are equal.
-fn assert_same<T: PartialEq + Debug + Drop>(rt: &impl Abort, left: T, right: T) {
-    assert_eq!(rt; left, right);
-}
 
 /// Whether a value prints exactly this text, of at most 256 bytes. Asks for no memory.
 fn prints<D: Display + Drop>(value: D, text: &str) -> bool {

@@ -1,6 +1,6 @@
 //! Checks of preambles: their errors, and that accepting takes no memory.
 
-use super::{assert_line_or_refusal, assert_same};
+use super::assert_line_or_refusal;
 use crate::codec::SketchSlice;
 use crate::codec::assert::*;
 use crate::codec::family::Family;
@@ -11,7 +11,7 @@ use std::process::Abort;
 
 fn assert_refused<R: Abort + Eprint>(rt: &R, answer: Result<(), Error>, line: &str) {
     match answer {
-        Ok(()) => assert_same(rt, "accepted", line),
+        Ok(()) => assert_eq!(rt; "accepted", line),
         Err(error) => assert_line_or_refusal(rt, error, line),
     }
 }
@@ -35,7 +35,7 @@ fn assert_range_refused<R: Abort + Eprint>(rt: &R, answer: Result<(), Error>, en
         return assert_refused(rt, answer, "OutOfMemory");
     }
     let text = message.and_then(|text| text.strip_prefix("invalid preamble longs: expected "));
-    assert_same(rt, text, Some(end));
+    assert_eq!(rt; text, Some(end));
 }
 
 #[test]
@@ -56,7 +56,7 @@ fn each_check_fails_with_invalid_data(rt: HostRuntime) {
         ensure_preamble_longs_in_range(alloc, Included(5), Included(3), 4).err(),
     ] {
         let kind = error.map(|error| error.kind());
-        assert_same(&rt, kind, Some(ErrorKind::InvalidData));
+        assert_eq!(rt; kind, Some(ErrorKind::InvalidData));
     }
 }
 

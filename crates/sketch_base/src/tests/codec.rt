@@ -1,6 +1,6 @@
 //! Readers and writers, with memory and without.
 
-use super::{assert_same, print_out_of_memory};
+use super::print_out_of_memory;
 use crate::codec::Item::{self, U8, U32Be, U64Le};
 use crate::codec::{Kind, Short, SketchBytes, SketchSlice, Stopped};
 use std::alloc::AllocError;
@@ -19,14 +19,14 @@ fn a_failed_read_leaves_the_buffer_unchanged(rt: HostRuntime) {
     let mut buf = [0xaa, 0xbb, 0xcc, 0xdd];
     let mut reader = SketchSlice::new(&[1, 2, 3]);
     assert!(rt; reader.read_exact(&mut buf).is_err() && reader.remaining().is_empty());
-    assert_same(&rt, buf, [0xaa, 0xbb, 0xcc, 0xdd]);
+    assert_eq!(rt; buf, [0xaa, 0xbb, 0xcc, 0xdd]);
 }
 
 #[test]
 fn advance_stops_at_the_end(rt: HostRuntime) {
     let mut reader = SketchSlice::new(&[1, 2, 3]);
     reader.advance(1);
-    assert_same(&rt, reader.remaining(), &[2, 3]);
+    assert_eq!(rt; reader.remaining(), [2, 3].as_slice());
     for n in [u64::MAX - 1, u64::MAX, 0] {
         reader.advance(n);
         assert!(rt; reader.remaining().is_empty(), "after {n}");
@@ -43,8 +43,8 @@ fn a_list_cut_short_takes_no_memory(rt: HostRuntime) {
     let mut places = [Item::U8(0); 3];
     let mut reader = SketchSlice::new(&[9, 1]);
     let answer = reader.read_items(&[Kind::U8, Kind::U16Le, Kind::U8], &mut places);
-    assert_same(&rt, answer, Err(Short { read: 1 }));
-    assert_same(&rt, places, [Item::U8(9), Item::U8(0), Item::U8(0)]);
+    assert_eq!(rt; answer, Err(Short { read: 1 }));
+    assert_eq!(rt; places, [Item::U8(9), Item::U8(0), Item::U8(0)]);
     assert!(rt; reader.remaining().is_empty());
 }
 
@@ -52,7 +52,7 @@ fn a_list_cut_short_takes_no_memory(rt: HostRuntime) {
 fn an_empty_list_is_read_from_anything(rt: HostRuntime) {
     let mut reader = SketchSlice::new(&[1]);
     assert!(rt; reader.read_items(&[], &mut []).is_ok());
-    assert_same(&rt, reader.remaining(), &[1]);
+    assert_eq!(rt; reader.remaining(), [1].as_slice());
 }
 
 #[test]
@@ -62,7 +62,10 @@ fn writes_within_room(rt: HostRuntime) -> Result<(), AllocError> {
     writer.write_u16_le(0x0102)?;
     writer.write_u16_be(0x0102)?;
     writer.write_i8(-1)?;
-    assert_same(&rt, writer.into_bytes().as_slice(), &[2, 1, 1, 2, 0xff]);
+    assert_eq!(rt;
+        writer.into_bytes().as_slice(),
+        [2, 1, 1, 2, 0xff].as_slice()
+    );
     Ok(())
 }
 
@@ -74,21 +77,21 @@ fn a_hundred_thousand_numbers_are_written(rt: HostRuntime) -> Result<(), AllocEr
     }
     let bytes = writer.into_bytes();
     let is_last = bytes.ends_with(&[0x9f, 0x86, 1, 0, 0, 0, 0, 0]);
-    assert_same(&rt, (bytes.len(), is_last), (800_000, true));
+    assert_eq!(rt; (bytes.len(), is_last), (800_000, true));
     Ok(())
 }
 
 // Items of one, four and eight bytes, and their bytes.
 const LIST: [Item; 5] = [U8(1), U32Be(2), U64Le(3), U8(4), U8(5)];
 
-const BYTES: [u8; 15] = [1, 0, 0, 0, 2, 3, 0, 0, 0, 0, 0, 0, 0, 4, 5];
+const BYTES: &[u8] = &[1, 0, 0, 0, 2, 3, 0, 0, 0, 0, 0, 0, 0, 4, 5];
 
 #[test]
 fn lists_are_written_into_memory_that_grows(rt: HostRuntime) -> Result<(), AllocError> {
     let mut writer = SketchBytes::with_capacity(rt.alloc(), 0)?;
     let answers = [writer.write_items(&[]), writer.write_items(&LIST)];
-    assert_same(&rt, answers, [Ok(()); 2]);
-    assert_same(&rt, writer.into_bytes().as_slice(), &BYTES);
+    assert_eq!(rt; answers, [Ok(()); 2]);
+    assert_eq!(rt; writer.into_bytes().as_slice(), BYTES);
     Ok(())
 }
 
@@ -99,8 +102,8 @@ fn lists_are_read_back_and_take_no_memory(rt: HostRuntime) {
     let mut places = [U8(0); 5];
     let kinds = [Kind::U8, Kind::U32Be, Kind::U64Le, Kind::U8, Kind::U8];
     let answer = reader.read_items(&kinds, &mut places);
-    assert_same(&rt, (answer, places), (Ok(()), LIST));
-    assert_same(&rt, reader.remaining(), &[0xaa, 0xbb]);
+    assert_eq!(rt; (answer, places), (Ok(()), LIST));
+    assert_eq!(rt; reader.remaining(), [0xaa, 0xbb].as_slice());
 }
 
 // What each of three writes adds.
@@ -121,7 +124,7 @@ fn write_pieces(rt: &impl Abort, mut writer: SketchBytes) -> bool {
             rest = rest.and_then(|rest| rest.strip_prefix(PIECES[i]));
         }
     }
-    assert_same(rt, rest, Some([].as_slice()));
+    assert_eq!(rt; rest, Some([].as_slice()));
     accepted == [true; 3]
 }
 
@@ -136,7 +139,7 @@ fn writes_are_whole_or_nothing_without_memory(rt: HostRuntime) {
 #[test]
 fn writes_within_room_without_memory(rt: HostRuntime) {
     match SketchBytes::with_capacity(rt.alloc(), 13) {
-        Ok(writer) => assert_same(&rt, write_pieces(&rt, writer), true),
+        Ok(writer) => assert!(rt; write_pieces(&rt, writer)),
         Err(AllocError) => print_out_of_memory(&rt),
     }
 }
@@ -153,7 +156,7 @@ fn lists_return_what_was_written_without_memory(rt: HostRuntime) {
     let accepted = stopped.map_or(5, |stopped| stopped.accepted);
     let count = [0, 1, 5, 13, 14, 15].get(accepted).copied();
     let written = count.and_then(|count| BYTES.get(..count));
-    assert_same(&rt, Some(writer.into_bytes().as_slice()), written);
+    assert_eq!(rt; Some(writer.into_bytes().as_slice()), written);
 }
 
 // The first two items fill the capacity of five bytes, which was the first request for memory. The
@@ -166,12 +169,12 @@ fn a_list_stops_where_the_second_request_is_refused(rt: HostRuntime) {
     let answer = writer.write_items(&LIST);
     let bytes = writer.into_bytes();
     if answer == Ok(()) {
-        return assert_same(&rt, bytes.as_slice(), &BYTES);
+        return assert_eq!(rt; bytes.as_slice(), BYTES);
     }
     print_out_of_memory(&rt);
-    assert_same(&rt, answer, Err(Stopped { accepted: 2 }));
-    assert_same(&rt, bytes.as_slice(), &[1, 0, 0, 0, 2]);
+    assert_eq!(rt; answer, Err(Stopped { accepted: 2 }));
+    assert_eq!(rt; bytes.as_slice(), [1, 0, 0, 0, 2].as_slice());
     let mut places = [U8(0); 2];
     let read = SketchSlice::new(&bytes).read_items(&[Kind::U8, Kind::U32Be], &mut places);
-    assert_same(&rt, (read, places), (Ok(()), [U8(1), U32Be(2)]));
+    assert_eq!(rt; (read, places), (Ok(()), [U8(1), U32Be(2)]));
 }

@@ -1,6 +1,6 @@
 //! What errors print, and contexts without memory.
 
-use super::{assert_line, assert_line_or_refusal, assert_same, print_out_of_memory};
+use super::{assert_line, assert_line_or_refusal, print_out_of_memory};
 use crate::error::Error;
 use crate::error::ErrorKind::{self, InvalidArgument, InvalidData, OutOfMemory};
 use std::alloc::{AllocError, Global};
@@ -13,7 +13,7 @@ fn error_of(alloc: Global, kind: ErrorKind, message: &str) -> Result<Error, Allo
 
 // Asserts that a text was built, and that it is this one.
 fn assert_text(rt: &impl Abort, made: Result<String, AllocError>, text: &str) {
-    assert_same(rt, made.ok().as_deref(), Some(text));
+    assert_eq!(rt; made.ok().as_deref(), Some(text));
 }
 
 #[test]
@@ -79,7 +79,7 @@ fn texts_that_are_built_have_their_kind(rt: HostRuntime) {
         Error::invalid_preamble_longs(alloc, &[1, 2], 3),
         Error::invalid_preamble_ints(alloc, 2, 9),
     ] {
-        assert_same(&rt, error.kind(), InvalidData);
+        assert_eq!(rt; error.kind(), InvalidData);
     }
 }
 

@@ -1,6 +1,5 @@
 //! Each form of a number: how it is written, read, and cut short.
 
-use super::assert_same;
 use crate::codec::{Item, Kind, SketchBytes, SketchSlice};
 use std::alloc::AllocError;
 use std::io;
@@ -47,8 +46,8 @@ fn read_by_name(reader: &mut SketchSlice, kind: Kind) -> io::Result<Item> {
 fn forms_are_written(rt: HostRuntime) -> Result<(), AllocError> {
     for (item, bytes) in &FORMS {
         let mut writer = SketchBytes::with_capacity(rt.alloc(), 0)?;
-        assert_same(&rt, writer.write_items(&[*item]), Ok(()));
-        assert_same(&rt, writer.into_bytes().as_slice(), *bytes);
+        assert_eq!(rt; writer.write_items(&[*item]), Ok(()));
+        assert_eq!(rt; writer.into_bytes().as_slice(), *bytes);
     }
     Ok(())
 }
@@ -58,7 +57,7 @@ fn forms_are_read_and_take_no_memory(rt: HostRuntime) {
     for (item, bytes) in &FORMS {
         let mut reader = SketchSlice::new(bytes);
         let read = read_by_name(&mut reader, item.kind()).ok();
-        assert_same(&rt, (read, reader.remaining().len()), (Some(*item), 0));
+        assert_eq!(rt; (read, reader.remaining().len()), (Some(*item), 0));
     }
 }
 
@@ -68,14 +67,13 @@ fn numbers_are_read_back_in_the_order_of_their_writes(rt: HostRuntime) -> Result
     writer.write_i64_be(-2)?;
     writer.write_i32_le(-2147483648)?;
     let bytes = writer.into_bytes();
-    assert_same(
-        &rt,
+    assert_eq!(rt;
         bytes.as_slice(),
-        b"\xff\xff\xff\xff\xff\xff\xff\xfe\0\0\0\x80",
+        b"\xff\xff\xff\xff\xff\xff\xff\xfe\0\0\0\x80".as_slice()
     );
     let mut reader = SketchSlice::new(&bytes);
-    assert_same(&rt, reader.read_i64_be().ok(), Some(-2));
-    assert_same(&rt, reader.read_i32_le().ok(), Some(-2147483648));
+    assert_eq!(rt; reader.read_i64_be().ok(), Some(-2));
+    assert_eq!(rt; reader.read_i32_le().ok(), Some(-2147483648));
     Ok(())
 }
 
@@ -88,7 +86,7 @@ fn forms_cut_short_take_no_memory(rt: HostRuntime) {
             let refused = read_by_name(&mut reader, item.kind()).err();
             let kind = refused.map(|error| error.kind());
             let end = (Some(io::ErrorKind::UnexpectedEof), 0);
-            assert_same(&rt, (kind, reader.remaining().len()), end);
+            assert_eq!(rt; (kind, reader.remaining().len()), end);
         }
     }
 }
