@@ -6,9 +6,7 @@ mod hashers;
 mod seed;
 mod value;
 
-use std::fmt::Debug;
 use std::io::Eprint;
-use std::process::Abort;
 
 /// The sentence of the tests, and its hashes with seed 0.
 const FOX: &[u8] = b"The quick brown fox jumps over the lazy dog";
@@ -34,11 +32,6 @@ fn test_buffer() -> [u8; 100] {
         state = state.wrapping_mul(0x9E37_79B1_85EB_CA8D);
     }
     bytes
-}
-
-/// Asserts that two values are equal.
-fn assert_same<T: PartialEq + Debug + Drop>(rt: &impl Abort, left: T, right: T) {
-    assert_eq!(rt; left, right);
 }
 
 /// Prints the line by which the tests of failures know of a refused request for memory.

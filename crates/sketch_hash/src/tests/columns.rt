@@ -1,6 +1,6 @@
 //! Columns of keys, and wrong offsets.
 
-use super::{FOX, FOX_MURMUR, FOX_XXH64, assert_same};
+use super::{FOX, FOX_MURMUR, FOX_XXH64};
 use crate::hash::{MurmurHash3X64128, XxHash64};
 
 // The sentence between two bytes, and an empty key.
@@ -10,30 +10,24 @@ const BYTES: &[u8] = b"<The quick brown fox jumps over the lazy dog>";
 fn keys_are_hashed_as_in_one_call(rt: HostRuntime) {
     let (mut hashes, mut pairs) = ([0; 2], [[0; 2]; 2]);
     let answer = XxHash64::hash_each(BYTES, &[1u32, 44, 44], 0, &mut hashes);
-    assert_same(
-        &rt,
+    assert_eq!(rt;
         (answer, hashes),
-        (Ok(()), [FOX_XXH64, XxHash64::hash(b"", 0)]),
+        (Ok(()), [FOX_XXH64, XxHash64::hash(b"", 0)])
     );
     let answer = MurmurHash3X64128::hash_each(BYTES, &[1u64, 44, 44], 0, &mut pairs);
-    assert_same(&rt, answer, Ok(()));
-    assert_same(&rt, pairs, [[FOX_MURMUR.0, FOX_MURMUR.1], [0, 0]]);
+    assert_eq!(rt; answer, Ok(()));
+    assert_eq!(rt; pairs, [[FOX_MURMUR.0, FOX_MURMUR.1], [0, 0]]);
 }
 
 #[test]
 fn numbers_are_hashed_as_in_one_call(rt: HostRuntime) {
     let mut hashes = [9; 2];
-    assert_same(&rt, XxHash64::hash_each_u64(&[123], 0, &mut hashes), Err(1));
-    assert_same(&rt, hashes, [9; 2]);
-    assert_same(
-        &rt,
-        XxHash64::hash_each_u64(&[123, 7], 0, &mut hashes),
-        Ok(()),
-    );
-    assert_same(
-        &rt,
+    assert_eq!(rt; XxHash64::hash_each_u64(&[123], 0, &mut hashes), Err(1));
+    assert_eq!(rt; hashes, [9; 2]);
+    assert_eq!(rt; XxHash64::hash_each_u64(&[123, 7], 0, &mut hashes), Ok(()));
+    assert_eq!(rt;
         hashes,
-        [XxHash64::hash_u64(123, 0), XxHash64::hash_u64(7, 0)],
+        [XxHash64::hash_u64(123, 0), XxHash64::hash_u64(7, 0)]
     );
 }
 
@@ -50,6 +44,6 @@ fn the_first_wrong_offset_is_returned(rt: HostRuntime) {
     for (offsets, fault) in &WRONG {
         let mut hashes = [9; 2];
         let answer = XxHash64::hash_each(FOX, offsets, 7, &mut hashes);
-        assert_same(&rt, (answer, hashes), (Err(*fault), [9; 2]));
+        assert_eq!(rt; (answer, hashes), (Err(*fault), [9; 2]));
     }
 }

@@ -1,6 +1,6 @@
 //! Both hashers by their single calls.
 
-use super::{FOX, FOX_MURMUR, FOX_PIECES, FOX_XXH64, assert_same, test_buffer};
+use super::{FOX, FOX_MURMUR, FOX_PIECES, FOX_XXH64, test_buffer};
 use crate::hash::{Hasher, MurmurHash3X64128, XxHash64};
 
 // Writes, and Murmur's pair with seed 0 after them.
@@ -31,7 +31,7 @@ fn murmur_of(seed: u64, pieces: &[&[u8]]) -> (u64, u64) {
 #[test]
 fn murmur_of_pieces(rt: HostRuntime) {
     for (pieces, expected) in &MURMUR {
-        assert_same(&rt, murmur_of(0, pieces), *expected);
+        assert_eq!(rt; murmur_of(0, pieces), *expected);
     }
 }
 
@@ -49,7 +49,7 @@ fn xxh64_of_the_test_buffer(rt: HostRuntime) {
     for (seed, count, expected) in &XXH64 {
         let mut hasher = XxHash64::with_seed(*seed);
         hasher.write(&test_buffer()[..(*count).min(100)]);
-        assert_same(&rt, hasher.finish64(), *expected);
+        assert_eq!(rt; hasher.finish64(), *expected);
     }
 }
 
@@ -59,20 +59,20 @@ fn xxh64_continues_after_finish(rt: HostRuntime) {
     let bytes = test_buffer();
     let (stripe, rest) = bytes.split_at(32);
     hasher.write(stripe);
-    assert_same(&rt, hasher.finish64(), 0x18b2_1649_2bb4_4b70);
+    assert_eq!(rt; hasher.finish64(), 0x18b2_1649_2bb4_4b70);
     hasher.write(&rest[..1]);
-    assert_same(&rt, hasher.finish(), 0x55c8_dc3e_578f_5b59);
+    assert_eq!(rt; hasher.finish(), 0x55c8_dc3e_578f_5b59);
 }
 
 #[test]
 fn one_call_equals_a_hasher(rt: HostRuntime) {
-    assert_same(&rt, MurmurHash3X64128::hash(FOX, 0), FOX_MURMUR);
-    assert_same(&rt, XxHash64::hash(FOX, 0), FOX_XXH64);
+    assert_eq!(rt; MurmurHash3X64128::hash(FOX, 0), FOX_MURMUR);
+    assert_eq!(rt; XxHash64::hash(FOX, 0), FOX_XXH64);
     let mut hasher = XxHash64::with_seed(0);
     hasher.write(&[0x7b, 0, 0, 0, 0, 0, 0, 0]);
-    assert_same(&rt, XxHash64::hash_u64(123, 0), hasher.finish64());
+    assert_eq!(rt; XxHash64::hash_u64(123, 0), hasher.finish64());
     let above_32_bits = XxHash64::hash_u64(1 << 32, 0x9E37_79B1);
-    assert_same(&rt, above_32_bits, 0xbe51_7b2e_515c_75b5);
+    assert_eq!(rt; above_32_bits, 0xbe51_7b2e_515c_75b5);
 }
 
 // A state is written to, and resumed by a hasher.
@@ -83,12 +83,12 @@ fn states_are_resumed(rt: HostRuntime) {
     murmur.write(prefix);
     let mut resumed = MurmurHash3X64128::resume(&murmur);
     resumed.write(rest);
-    assert_same(&rt, resumed.finish128(), FOX_MURMUR);
+    assert_eq!(rt; resumed.finish128(), FOX_MURMUR);
     let mut xxh64 = XxHash64::with_seed(0).state();
     xxh64.write(prefix);
     let mut resumed = XxHash64::resume(&xxh64);
     resumed.write(rest);
-    assert_same(&rt, resumed.finish64(), FOX_XXH64);
+    assert_eq!(rt; resumed.finish64(), FOX_XXH64);
 }
 
 // The bytes of the numbers that are written below.
@@ -123,11 +123,11 @@ fn numbers_are_written_lowest_byte_first(rt: HostRuntime) {
         let mut murmur = MurmurHash3X64128::with_seed(7);
         write_number(&mut murmur, place);
         let expected = murmur_of(7, &[NUMBERS[place]]);
-        assert_same(&rt, murmur.finish128(), expected);
+        assert_eq!(rt; murmur.finish128(), expected);
         let (mut xxh64, mut expected) = (XxHash64::with_seed(7), XxHash64::with_seed(7));
         write_number(&mut xxh64, place);
         expected.write(NUMBERS[place]);
-        assert_same(&rt, xxh64.finish64(), expected.finish64());
+        assert_eq!(rt; xxh64.finish64(), expected.finish64());
     }
 }
 
@@ -135,16 +135,16 @@ fn numbers_are_written_lowest_byte_first(rt: HostRuntime) {
 fn defaults_have_their_seeds(rt: HostRuntime) {
     let mut murmur = MurmurHash3X64128::default();
     murmur.write(FOX);
-    assert_same(&rt, murmur.finish128(), murmur_of(9001, &[FOX]));
+    assert_eq!(rt; murmur.finish128(), murmur_of(9001, &[FOX]));
     let mut xxh64 = XxHash64::default();
     xxh64.write(FOX);
-    assert_same(&rt, xxh64.finish64(), FOX_XXH64);
+    assert_eq!(rt; xxh64.finish64(), FOX_XXH64);
 }
 
 #[test]
 fn debug_texts_begin_with_the_name(rt: HostRuntime) {
     let murmur = format!(in rt.alloc(); "{:?}", MurmurHash3X64128::with_seed(1)).ok();
-    assert_same(&rt, murmur.as_deref(), Some("MurmurHash3X64128 { .. }"));
+    assert_eq!(rt; murmur.as_deref(), Some("MurmurHash3X64128 { .. }"));
     let xxh64 = format!(in rt.alloc(); "{:?}", XxHash64::with_seed(1)).ok();
-    assert_same(&rt, xxh64.as_deref(), Some("XxHash64 { .. }"));
+    assert_eq!(rt; xxh64.as_deref(), Some("XxHash64 { .. }"));
 }

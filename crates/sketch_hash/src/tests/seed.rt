@@ -1,6 +1,6 @@
 //! Seed hashes, and their errors.
 
-use super::{assert_same, print_out_of_memory};
+use super::print_out_of_memory;
 use crate::hash::{check_seed_hash, compute_seed_hash};
 use sketch_base::error::{Error, ErrorKind};
 use std::io::{Eprint, Write};
@@ -9,7 +9,7 @@ use std::process::Abort;
 #[test]
 fn accepted_seeds_take_no_memory(rt: HostRuntime) {
     let hash = compute_seed_hash(rt.alloc(), 9001, ErrorKind::InvalidArgument);
-    assert_same(&rt, hash.ok(), Some(37836));
+    assert_eq!(rt; hash.ok(), Some(37836));
     let answer = check_seed_hash(rt.alloc(), 37836, 37836, "theta", ErrorKind::InvalidData);
     assert!(rt; answer.is_ok());
 }
@@ -36,9 +36,9 @@ fn assert_refused<R: Abort + Eprint>(rt: &R, error: Option<Error>, line: &str) {
 fn refused_seeds_have_the_given_kind(rt: HostRuntime) {
     let (alloc, kind) = (rt.alloc(), ErrorKind::InvalidData);
     let error = compute_seed_hash(alloc, 50541, kind).err();
-    assert_same(&rt, error.map(|error| error.kind()), Some(kind));
+    assert_eq!(rt; error.map(|error| error.kind()), Some(kind));
     let error = check_seed_hash(alloc, 37836, 1, "theta", kind).err();
-    assert_same(&rt, error.map(|error| error.kind()), Some(kind));
+    assert_eq!(rt; error.map(|error| error.kind()), Some(kind));
 }
 
 #[test]

@@ -1,6 +1,6 @@
 //! A wrapped value behaves like the value.
 
-use super::{FOX_MURMUR, FOX_PIECES, assert_same, print_out_of_memory};
+use super::{FOX_MURMUR, FOX_PIECES, print_out_of_memory};
 use crate::hash::value::{calculate_hash, feed_all, natural_extend, raw_bytes, sign_extend};
 use crate::hash::{Hash, MurmurHash3X64128};
 use std::cmp::Ordering;
@@ -11,20 +11,20 @@ fn wrapped_numbers_behave_as_numbers(rt: HostRuntime) {
     assert!(rt; three < four && three != four && three.cmp(&four) == Ordering::Less);
     let mut nine = sign_extend::from_u16(9);
     *nine = 10;
-    assert_same(&rt, nine.into_inner(), 10);
+    assert_eq!(rt; nine.into_inner(), 10);
 }
 
 #[test]
 fn wrapped_numbers_print_as_numbers(rt: HostRuntime) {
     let value = sign_extend::from_i8(-1);
     let text = format!(in rt.alloc(); "{value};{value:4};{value:?}").ok();
-    assert_same(&rt, text.as_deref(), Some("-1;  -1;-1"));
+    assert_eq!(rt; text.as_deref(), Some("-1;  -1;-1"));
 }
 
 #[test]
 fn hashes_of_values_take_no_memory(rt: HostRuntime) {
     let one = calculate_hash(sign_extend::from_u8(1));
-    assert_same(&rt, one, calculate_hash(1i64));
+    assert_eq!(rt; one, calculate_hash(1i64));
 }
 
 #[test]
@@ -32,19 +32,18 @@ fn values_of_a_list_are_fed_in_order(rt: HostRuntime) {
     let pieces = FOX_PIECES.map(raw_bytes::from_slice);
     let mut hasher = MurmurHash3X64128::with_seed(0);
     feed_all(&pieces, &mut hasher);
-    assert_same(&rt, hasher.finish128(), FOX_MURMUR);
+    assert_eq!(rt; hasher.finish128(), FOX_MURMUR);
 }
 
 #[test]
 fn word_is_the_number_whose_bytes_are_fed(rt: HostRuntime) {
-    assert_same(&rt, natural_extend::from_i8(-1).word(), Some(u64::MAX));
-    assert_same(
-        &rt,
+    assert_eq!(rt; natural_extend::from_i8(-1).word(), Some(u64::MAX));
+    assert_eq!(rt;
         sign_extend::from_u16(0x8000).word(),
-        Some(0xffff_ffff_ffff_8000),
+        Some(0xffff_ffff_ffff_8000)
     );
-    assert_same(&rt, raw_bytes::from_str("8 letter").word(), None);
-    assert_same(&rt, (-7i64).xxh64(0), natural_extend::from_i64(-7).xxh64(0));
+    assert_eq!(rt; raw_bytes::from_str("8 letter").word(), None);
+    assert_eq!(rt; (-7i64).xxh64(0), natural_extend::from_i64(-7).xxh64(0));
 }
 
 #[test]
@@ -60,5 +59,5 @@ fn clones_without_memory(rt: HostRuntime) {
     let mut hasher = MurmurHash3X64128::with_seed(0);
     value.hash(&mut hasher);
     let expected = MurmurHash3X64128::hash(&[1, 2, 3], 0);
-    assert_same(&rt, hasher.finish128(), expected);
+    assert_eq!(rt; hasher.finish128(), expected);
 }
