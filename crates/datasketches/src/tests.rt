@@ -11,8 +11,6 @@ use crate::hash::value::{natural_extend, raw_bytes, sign_extend};
 use crate::hash::{Hash, compute_seed_hash};
 use crate::known_answers::TEST_BUFFER;
 use crate::laws::{integer_law, murmur_both, xx_both};
-use std::fmt::Debug;
-use std::process::Abort;
 
 const FOX: &[u8] = b"The quick brown fox jumps over the lazy dog";
 
@@ -20,31 +18,27 @@ const EOG: &[u8] = b"The quick brown fox jumps over the lazy eog";
 
 const OTHER_SEED: u64 = 0x9E37_79B1;
 
-fn assert_same<T: PartialEq + Debug + Drop>(rt: &impl Abort, left: T, right: T) {
-    assert_eq!(rt; left, right);
-}
-
 #[test]
 fn murmur_pairs_differ_for_different_last_blocks(rt: HostRuntime) {
     let (of_fox, of_eog) = murmur_both(0, FOX, 0, EOG);
-    assert_same(&rt, of_fox, (0xe34b_bc7b_bc07_1b6c, 0x7a43_3ca9_c49a_9347));
-    assert_same(&rt, of_eog, (0x3621_0810_2c62_d1c9, 0x3285_cd10_0292_b305));
+    assert_eq!(rt; of_fox, (0xe34b_bc7b_bc07_1b6c, 0x7a43_3ca9_c49a_9347));
+    assert_eq!(rt; of_eog, (0x3621_0810_2c62_d1c9, 0x3285_cd10_0292_b305));
 }
 
 #[test]
 fn murmur_pairs_differ_for_different_seeds(rt: HostRuntime) {
     let (first, second) = murmur_both(0, &[], 1, &[]);
-    assert_same(&rt, first, (0, 0));
+    assert_eq!(rt; first, (0, 0));
     assert!(rt; second != first);
 }
 
 #[test]
 fn xxh64_hashes_differ_for_different_seeds(rt: HostRuntime) {
     let of_nothing = (0xef46_db37_51d8_e999, 0xac75_fda2_929b_17ef);
-    assert_same(&rt, xx_both(0, &[], OTHER_SEED, &[]), of_nothing);
+    assert_eq!(rt; xx_both(0, &[], OTHER_SEED, &[]), of_nothing);
     let stripe = &TEST_BUFFER[..32];
     let of_stripe = (0x18b2_1649_2bb4_4b70, 0xb3f3_3bdf_93ad_e409);
-    assert_same(&rt, xx_both(0, stripe, OTHER_SEED, stripe), of_stripe);
+    assert_eq!(rt; xx_both(0, stripe, OTHER_SEED, stripe), of_stripe);
 }
 
 #[test]
@@ -53,7 +47,7 @@ fn xxh64_hashes_differ_for_different_last_bytes(rt: HostRuntime) {
         let mut last = TEST_BUFFER;
         last[32] ^= change;
         let (first, second) = xx_both(0, &TEST_BUFFER[..33], 0, &last[..33]);
-        assert_same(&rt, first, 0x55c8_dc3e_578f_5b59);
+        assert_eq!(rt; first, 0x55c8_dc3e_578f_5b59);
         assert!(rt; second != first, "with the last byte changed by {change}");
     }
 }
@@ -81,10 +75,9 @@ fn items_have_their_original_paths(rt: HostRuntime) {
     assert!(rt; Family::HLL.validate_id(rt.alloc(), 7).is_ok());
     assert!(rt; ensure_serial_version_is(rt.alloc(), 1, 1).is_ok());
     assert!(rt; compute_seed_hash(rt.alloc(), 9001, ErrorKind::InvalidData).is_ok());
-    assert_same(
-        &rt,
+    assert_eq!(rt;
         natural_extend::from_u8(1).word(),
-        sign_extend::from_u8(1).word(),
+        sign_extend::from_u8(1).word()
     );
-    assert_same(&rt, raw_bytes::from_str("").word(), None);
+    assert_eq!(rt; raw_bytes::from_str("").word(), None);
 }
