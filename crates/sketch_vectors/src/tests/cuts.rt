@@ -1,6 +1,6 @@
 //! However a stream is cut into writes, the answer is that of one write.
 
-use crate::tests::{Both, assert_same_for};
+use crate::tests::Both;
 use datasketches::hash::value::raw_bytes;
 use datasketches::hash::{Hash, MurmurHash3X64128, XxHash64};
 
@@ -35,7 +35,11 @@ fn two_writes_equal_one(rt: HostRuntime) {
         let bytes = &all[..len];
         for cut in 0..=len {
             let (front, back) = bytes.split_at(cut);
-            assert_same_for(&rt, answers(&[front, back]), answers(&[bytes]), (cut, len));
+            assert_eq!(rt;
+                answers(&[front, back]),
+                answers(&[bytes]),
+                "{cut} of {len}"
+            );
         }
     }
 }
@@ -49,9 +53,9 @@ fn one_call_equals_a_hasher(rt: HostRuntime) {
             MurmurHash3X64128::hash(bytes, MURMUR_SEED),
             XxHash64::hash(bytes, XXH64_SEED),
         );
-        assert_same_for(&rt, in_one_call, answers(&[bytes]), len);
+        assert_eq!(rt; in_one_call, answers(&[bytes]), "{len} bytes");
         let of_value = raw_bytes::from_slice(bytes).xxh64(XXH64_SEED);
-        assert_same_for(&rt, of_value, in_one_call.1, len);
+        assert_eq!(rt; of_value, in_one_call.1, "{len} bytes");
     }
 }
 
@@ -79,7 +83,7 @@ fn three_writes_equal_one(rt: HostRuntime) {
             let (start, middle) = front.split_at(first);
             let pieces = [start, middle, back];
             let of_pieces = [answers(&pieces), state_answers(&pieces)];
-            assert_same_for(&rt, of_pieces, [of_all; 2], (first, second));
+            assert_eq!(rt; of_pieces, [of_all; 2], "{first} and {second}");
         }
     }
 }
@@ -92,6 +96,6 @@ fn the_hash_can_be_read_after_each_byte(rt: HostRuntime) {
         both.write(&[]);
         both.write(&all[at..at + 1]);
         let so_far = answers(&[&all[..at + 1]]);
-        assert_same_for(&rt, [both.answers(), both.answers()], [so_far; 2], at);
+        assert_eq!(rt; [both.answers(), both.answers()], [so_far; 2], "at {at}");
     }
 }

@@ -1,14 +1,12 @@
 //! Equalities of hashes: those that the original documents, and similar ones of the other types.
 
-use crate::tests::{assert_same, assert_same_for};
 use datasketches::hash::Hash;
 use datasketches::hash::value::{calculate_hash, natural_extend, raw_bytes, sign_extend};
 use std::alloc::{AllocError, Global};
 
 #[test]
 fn numbers_extended_by_their_highest_bit(rt: HostRuntime) {
-    assert_same(
-        &rt,
+    assert_eq!(rt;
         [
             calculate_hash(sign_extend::from_i8(-1)),
             calculate_hash(sign_extend::from_u8(255)),
@@ -17,15 +15,13 @@ fn numbers_extended_by_their_highest_bit(rt: HostRuntime) {
             calculate_hash(sign_extend::from_i32(-1)),
             calculate_hash(sign_extend::from_u32(4294967295)),
         ],
-        [calculate_hash(-1i64); 6],
+        [calculate_hash(-1i64); 6]
     );
-    assert_same(
-        &rt,
+    assert_eq!(rt;
         calculate_hash(sign_extend::from_u8(1)),
-        calculate_hash(1i64),
+        calculate_hash(1i64)
     );
-    assert_same(
-        &rt,
+    assert_eq!(rt;
         [
             calculate_hash(sign_extend::from_i8(42)),
             calculate_hash(sign_extend::from_u8(42)),
@@ -34,32 +30,29 @@ fn numbers_extended_by_their_highest_bit(rt: HostRuntime) {
             calculate_hash(sign_extend::from_i32(42)),
             calculate_hash(sign_extend::from_u32(42)),
         ],
-        [calculate_hash(42i64); 6],
+        [calculate_hash(42i64); 6]
     );
 }
 
 #[test]
 fn numbers_extended_by_their_value(rt: HostRuntime) {
-    assert_same(
-        &rt,
+    assert_eq!(rt;
         [
             calculate_hash(natural_extend::from_u8(255)),
             calculate_hash(natural_extend::from_u16(65535)),
             calculate_hash(natural_extend::from_u32(4294967295)),
         ],
-        [255u64, 65535, 4294967295].map(calculate_hash),
+        [255u64, 65535, 4294967295].map(calculate_hash)
     );
-    assert_same(
-        &rt,
+    assert_eq!(rt;
         [
             calculate_hash(natural_extend::from_i8(-1)),
             calculate_hash(natural_extend::from_i16(-1)),
             calculate_hash(natural_extend::from_i32(-1)),
         ],
-        [calculate_hash(-1i64); 3],
+        [calculate_hash(-1i64); 3]
     );
-    assert_same(
-        &rt,
+    assert_eq!(rt;
         [
             calculate_hash(42i64),
             calculate_hash(natural_extend::from_i8(42)),
@@ -69,14 +62,13 @@ fn numbers_extended_by_their_value(rt: HostRuntime) {
             calculate_hash(natural_extend::from_i32(42)),
             calculate_hash(natural_extend::from_u32(42)),
         ],
-        [calculate_hash(42u64); 7],
+        [calculate_hash(42u64); 7]
     );
 }
 
 #[test]
 fn numbers_of_64_bits_meet_the_short_ones(rt: HostRuntime) {
-    assert_same(
-        &rt,
+    assert_eq!(rt;
         [
             calculate_hash(natural_extend::from_i64(-1)),
             calculate_hash(natural_extend::from_u8(255)),
@@ -86,7 +78,7 @@ fn numbers_of_64_bits_meet_the_short_ones(rt: HostRuntime) {
             calculate_hash(natural_extend::from_u64(18446744073709551615)),
             calculate_hash(natural_extend::from_u64(255)),
             calculate_hash(sign_extend::from_i64(-1)),
-        ],
+        ]
     );
 }
 
@@ -109,7 +101,7 @@ fn hashes_of_text(alloc: Global, text: &str) -> Result<[(u64, u64); 4], AllocErr
 fn bytes_and_texts_agree(rt: HostRuntime) -> Result<(), AllocError> {
     for text in ["abc", ""] {
         let [vec, slice, string, str] = hashes_of_text(rt.alloc(), text)?;
-        assert_same_for(&rt, [vec, slice, string], [str; 3], text);
+        assert_eq!(rt; [vec, slice, string], [str; 3], "{text}");
     }
     Ok(())
 }
@@ -128,7 +120,7 @@ fn empty_ones(alloc: Global, text: &str) -> Result<[bool; 4], AllocError> {
 
 #[test]
 fn emptiness_is_seen_through_the_wrapper(rt: HostRuntime) -> Result<(), AllocError> {
-    assert_same(&rt, empty_ones(rt.alloc(), "")?, [true; 4]);
-    assert_same(&rt, empty_ones(rt.alloc(), "abc")?, [false; 4]);
+    assert_eq!(rt; empty_ones(rt.alloc(), "")?, [true; 4]);
+    assert_eq!(rt; empty_ones(rt.alloc(), "abc")?, [false; 4]);
     Ok(())
 }

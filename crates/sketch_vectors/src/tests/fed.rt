@@ -1,7 +1,6 @@
 //! The bytes that values feed.
 
 use crate::first_bytes::FirstBytes;
-use crate::tests::{assert_same, assert_same_for};
 use datasketches::hash::value::{
     feed_all, natural_extend as natural, raw_bytes, sign_extend as sign,
 };
@@ -19,14 +18,18 @@ fn feed<T: Hash + Drop>(value: T) -> FirstBytes {
 // Asserts that each hasher was fed the bytes beside it.
 fn assert_fed(rt: &impl Abort, cases: &[(FirstBytes, &[u8])]) {
     for (row, (hasher, expected)) in cases.iter().enumerate() {
-        assert_same_for(rt, hasher.bytes(), *expected, row);
+        assert_eq!(rt; hasher.bytes(), *expected, "row {row}");
     }
 }
 
 // Asserts that each hasher was fed the eight bytes of the number beside it, the lowest first.
 fn assert_words(rt: &impl Abort, cases: &[(FirstBytes, i64)]) {
     for (row, (hasher, expected)) in cases.iter().enumerate() {
-        assert_same_for(rt, hasher.bytes(), &expected.to_le_bytes(), row);
+        assert_eq!(rt;
+            hasher.bytes(),
+            expected.to_le_bytes().as_slice(),
+            "row {row}"
+        );
     }
 }
 
@@ -128,8 +131,8 @@ fn a_clone_feeds_what_its_original_feeds(rt: HostRuntime) -> Result<(), AllocErr
     let original = raw_bytes::from_vec(Vec::from_slice(rt.alloc(), &[1, 2, 3])?);
     let cloned = original.clone()?;
     let expected = [1, 2, 3].as_slice();
-    assert_same(&rt, feed(cloned).bytes(), expected);
-    assert_same(&rt, feed(original).bytes(), expected);
+    assert_eq!(rt; feed(cloned).bytes(), expected);
+    assert_eq!(rt; feed(original).bytes(), expected);
     Ok(())
 }
 
@@ -142,7 +145,7 @@ fn values_of_a_list_are_fed_in_order(rt: HostRuntime) {
     ];
     let mut hasher = FirstBytes::new();
     feed_all(&texts, &mut hasher);
-    assert_same(&rt, hasher.bytes(), b"abc".as_slice());
+    assert_eq!(rt; hasher.bytes(), b"abc".as_slice());
 }
 
 #[test]
@@ -150,6 +153,6 @@ fn only_the_first_bytes_are_kept(rt: HostRuntime) {
     let mut hasher = FirstBytes::new();
     hasher.write(&[1; 60]);
     hasher.write(&[2; 60]);
-    assert_same(&rt, hasher.finish(), 64);
-    assert_same(&rt, hasher.bytes().get(59..62), Some([1, 2, 2].as_slice()));
+    assert_eq!(rt; hasher.finish(), 64);
+    assert_eq!(rt; hasher.bytes().get(59..62), Some([1, 2, 2].as_slice()));
 }

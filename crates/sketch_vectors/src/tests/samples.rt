@@ -2,7 +2,7 @@
 
 mod answers;
 
-use crate::tests::{Both, assert_same_for};
+use crate::tests::Both;
 use answers::ANSWERS;
 use datasketches::error::ErrorKind;
 use datasketches::hash::value::{calculate_hash, natural_extend, raw_bytes, sign_extend};
@@ -14,7 +14,7 @@ fn hashes_equal_those_of_the_original(rt: HostRuntime) {
     for line in ANSWERS.lines() {
         let (question, answer) = line.split_once(" = ").unwrap_or((line, ""));
         let expected = words_of(answer);
-        assert_same_for(&rt, answer_to(rt.alloc(), question), Some(expected), line);
+        assert_eq!(rt; answer_to(rt.alloc(), question), Some(expected), "{line}");
     }
 }
 

@@ -1,6 +1,6 @@
 //! Known answers of both hashes, and a Bloom filter in bytes of version 1, which hold no count.
 
-use crate::tests::{FOX, FOX_MURMUR, assert_same, assert_same_for};
+use crate::tests::{FOX, FOX_MURMUR};
 use datasketches::error::Error;
 use datasketches::hash::value::raw_bytes;
 use datasketches::hash::{Hasher, MurmurHash3X64128, XxHash64};
@@ -51,7 +51,7 @@ fn murmur_vectors(rt: HostRuntime) {
     for (input, expected) in &MURMUR {
         let mut hasher = MurmurHash3X64128::with_seed(0);
         hasher.write(input);
-        assert_same_for(&rt, hasher.finish128(), *expected, input.len());
+        assert_eq!(rt; hasher.finish128(), *expected, "{} bytes", input.len());
     }
 }
 
@@ -60,7 +60,7 @@ fn xxh64_vectors(rt: HostRuntime) {
     for (seed, count, expected) in &XXH64 {
         let mut hasher = XxHash64::with_seed(*seed);
         hasher.write(&TEST_BUFFER[..(*count).min(100)]);
-        assert_same_for(&rt, hasher.finish64(), *expected, (count, seed));
+        assert_eq!(rt; hasher.finish64(), *expected, "{count} bytes, seed {seed}");
     }
 }
 
@@ -71,7 +71,7 @@ const VERSION_1: &[u8] = b"\x02\x01\xc8\x06\x01\0\0\0\0\0\0\0\0\0\0\0\0\0\0\x02\
 fn an_insert_leaves_the_count_unknown(rt: HostRuntime) -> Result<(), Error> {
     let mut table = MemberTable::from_bytes(rt.alloc(), VERSION_1)?;
     table.insert(&raw_bytes::from_str(""));
-    assert_same(&rt, table.count(), None);
+    assert_eq!(rt; table.count(), None);
     Ok(())
 }
 
@@ -80,7 +80,7 @@ fn a_table_written_and_read_again_has_its_value_and_no_count(rt: HostRuntime) ->
     let table = MemberTable::from_bytes(rt.alloc(), VERSION_1)?;
     let written = table.to_bytes(rt.alloc())?;
     let again = MemberTable::from_bytes(rt.alloc(), &written)?;
-    assert_same(&rt, again.contains(&raw_bytes::from_str("")), true);
-    assert_same(&rt, again.count(), None);
+    assert!(rt; again.contains(&raw_bytes::from_str("")));
+    assert_eq!(rt; again.count(), None);
     Ok(())
 }
