@@ -65,13 +65,16 @@ copy_to_end buffer bytes at h =
     ap (λ t. take at buffer ++ bytes ++ t) (drop_all (at + length bytes) buffer (omega (arith, h, at_len)))
     ∙ append-nil (take at buffer ++ bytes)
 
--- bytes in front of others, as search finds them: the first part says nothing, and shows the call to
--- look for
+-- A fact P about a term t. `grind` applies a lemma where it sees the first call of the conclusion, and
+-- reads the arguments from it: so t is written before P, as an equation that says nothing.
+abbrev pub Found : {X : Type 0} → X → Type 0 → Type 0
+Found t P = (t ≡ t) × P
+
+-- the bytes in front of which others were put, with room behind them
 pub take-copy_found : (buffer bytes : List ℕ) (at : ℕ) →
     length (take at buffer) + length bytes < length buffer →
-    (take at buffer ++ bytes ++ drop (at + length bytes) buffer
-    ≡ take at buffer ++ bytes ++ drop (at + length bytes) buffer)
-    × (take (at + length bytes) (take at buffer ++ bytes ++ drop (at + length bytes) buffer)
+    Found (take at buffer ++ bytes ++ drop (at + length bytes) buffer)
+    (take (at + length bytes) (take at buffer ++ bytes ++ drop (at + length bytes) buffer)
     ≡ take at buffer ++ bytes)
 take-copy_found buffer bytes at h =
     let at_len = length-take at buffer in
@@ -79,7 +82,7 @@ take-copy_found buffer bytes at h =
 
 -- bytes at the front
 pub take-append_found : (bytes behind : List ℕ) →
-    (bytes ++ behind ≡ bytes ++ behind) × (take (length bytes) (bytes ++ behind) ≡ bytes)
+    Found (bytes ++ behind) (take (length bytes) (bytes ++ behind) ≡ bytes)
 take-append_found bytes behind = (refl, take-append_seam bytes behind)
 
 -- the second copy may also be cut by a range

@@ -11,7 +11,7 @@ use Rattle.std.proofs.lemmas.List.Elements.{All-drop}
 use Rattle.std.specs.List.{fold}
 use Rattle.sketch_hash.proofs.PiecesLemmas.{length_rest, pieces_short, rest_short, state_after-waits, state_after-through}
 use Rattle.sketch_hash.proofs.MurmurAnswers.{murmur_stands_after, written_after}
-use Rattle.sketch_hash.proofs.BufferLemmas.{take-copy_waiting, take-low_bytes}
+use Rattle.sketch_hash.proofs.BufferLemmas.{Found, take-copy_waiting, take-low_bytes}
 use Rattle.std.specs.Int.{w128, to_le_bytes}
 use Rattle.sketch_hash.specs.declared.hash.murmurhash.state.MurmurState.{MurmurState}
 use Rattle.sketch_hash.specs.States.{murmur_state_of, MurmurStateStands}
@@ -20,8 +20,7 @@ use Rattle.sketch_hash.specs.States.{murmur_state_of, MurmurStateStands}
 pub waiting_size : (count v : ℕ) (w : List ℕ) → w ≡ low_bytes count v → length w ≡ count
 waiting_size count v w is = ap length is ∙ length-low_bytes count v
 
--- ---- The words of waiting bytes with others behind them. What a lemma says first of a term, that it
--- ---- is itself, shows search where to apply it.
+-- ---- the words of waiting bytes with others behind them
 
 pub place_after-is : (number count sum v : ℕ) → count < 16 → sum ≡ v + number * 2 ^ (8 * count) % 2 ^ 128 →
     sum % 2 ^ 128 ≡ (v + number * 256 ^ count) % 2 ^ 128
@@ -42,12 +41,11 @@ number_waits count n bytes below are =
 pub waits-append : (count low high : ℕ) (bytes : List ℕ) →
     low < 256 ^ min count 8 → high < 256 ^ (count - 8) → ((i : ℕ) → Fits w8 (get_or bytes i 0)) →
     count + length bytes < 16 →
-    ((low + high * 2 ^ 64 + le bytes * 256 ^ count) % 2 ^ 128
-    ≡ (low + high * 2 ^ 64 + le bytes * 256 ^ count) % 2 ^ 128)
-    × Waits (count + length bytes)
+    Found ((low + high * 2 ^ 64 + le bytes * 256 ^ count) % 2 ^ 128)
+    (Waits (count + length bytes)
     ((low + high * 2 ^ 64 + le bytes * 256 ^ count) % 2 ^ 128 % 2 ^ 64)
     ((low + high * 2 ^ 64 + le bytes * 256 ^ count) % 2 ^ 128 / 2 ^ 64)
-    (low_bytes count (low + high * 2 ^ 64) ++ bytes)
+    (low_bytes count (low + high * 2 ^ 64) ++ bytes))
 waits-append count low high bytes p q known few =
     let v : ℕ = low + high * 2 ^ 64 in
     let are = bytes_known bytes known in
@@ -75,9 +73,9 @@ block_words-is count low high number k bytes p q known begun full number_is word
 
 pub waits-rest : (count : ℕ) (bytes : List ℕ) → ((i : ℕ) → Fits w8 (get_or bytes i 0)) →
     count < 16 → 16 ≤ count + length bytes →
-    (le bytes / 2 ^ (8 * (16 - count)) ≡ le bytes / 2 ^ (8 * (16 - count)))
-    × Waits (count + length bytes - 16) (le bytes / 2 ^ (8 * (16 - count)) % 2 ^ 64)
-    (le bytes / 2 ^ (8 * (16 - count)) / 2 ^ 64) (drop (16 - count) bytes)
+    Found (le bytes / 2 ^ (8 * (16 - count)))
+    (Waits (count + length bytes - 16) (le bytes / 2 ^ (8 * (16 - count)) % 2 ^ 64)
+    (le bytes / 2 ^ (8 * (16 - count)) / 2 ^ 64) (drop (16 - count) bytes))
 waits-rest count bytes known begun full =
     let are = bytes_known bytes known in
     let missing : ℕ = 16 - count in
@@ -97,7 +95,7 @@ waits-rest count bytes known begun full =
     )
 
 pub waits-bytes : (bytes : List ℕ) → ((i : ℕ) → Fits w8 (get_or bytes i 0)) →
-    (le bytes ≡ le bytes) × Waits (length bytes) (le bytes % 2 ^ 64) (le bytes / 2 ^ 64) bytes
+    Found (le bytes) (Waits (length bytes) (le bytes % 2 ^ 64) (le bytes / 2 ^ 64) bytes)
 waits-bytes bytes known =
     let are = bytes_known bytes known in
     (refl, number_waits (length bytes) (le bytes) bytes (le-lt bytes are) (low_bytes-le bytes are))
@@ -105,9 +103,9 @@ waits-bytes bytes known =
 -- a block's first bytes, from the remainder of its number
 pub waits-prefix : (count : ℕ) (block : List ℕ) → ((i : ℕ) → Fits w8 (get_or block i 0)) →
     count < 16 → length block ≡ 16 →
-    (le block % (1 * 2 ^ (8 * count) % 2 ^ 128) ≡ le block % (1 * 2 ^ (8 * count) % 2 ^ 128))
-    × Waits count (le block % (1 * 2 ^ (8 * count) % 2 ^ 128) % 2 ^ 64)
-    (le block % (1 * 2 ^ (8 * count) % 2 ^ 128) / 2 ^ 64) (take count block)
+    Found (le block % (1 * 2 ^ (8 * count) % 2 ^ 128))
+    (Waits count (le block % (1 * 2 ^ (8 * count) % 2 ^ 128) % 2 ^ 64)
+    (le block % (1 * 2 ^ (8 * count) % 2 ^ 128) / 2 ^ 64) (take count block))
 waits-prefix count block known low size =
     let are = bytes_known block known in
     let within : count ≤ length block = omega (arith, size, low) in (
@@ -205,9 +203,8 @@ murmur_state_stands_after state next bytes written seed before stands =
 -- a write that fills no block
 pub take-copy_waiting_16 : (total : ℕ) (buffer bytes : List ℕ) → total % 16 + length bytes < 16 →
     length buffer ≡ 16 →
-    (take (total % 16) buffer ++ bytes ++ drop (total % 16 + length bytes) buffer
-    ≡ take (total % 16) buffer ++ bytes ++ drop (total % 16 + length bytes) buffer)
-    × (take ((total + length bytes) % 2 ^ 64 % 16)
+    Found (take (total % 16) buffer ++ bytes ++ drop (total % 16 + length bytes) buffer)
+    (take ((total + length bytes) % 2 ^ 64 % 16)
     (take (total % 16) buffer ++ bytes ++ drop (total % 16 + length bytes) buffer)
     ≡ take (total % 16) buffer ++ bytes)
 take-copy_waiting_16 total buffer bytes few size =

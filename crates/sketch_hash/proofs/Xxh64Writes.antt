@@ -10,7 +10,7 @@ use Rattle.std.specs.List.{fold}
 use Rattle.sketch_hash.specs.Pieces.{pieces, rest, State}
 use Rattle.sketch_hash.proofs.PiecesLemmas.{length_rest, pieces_short, joined_piece, no_piece, state_after-waits, state_after-fills, state_after-fresh, state_after-through}
 use Rattle.sketch_hash.proofs.Xxh64Answers.{xxh64_stands_after, fold-seeded, one_stripe}
-use Rattle.sketch_hash.proofs.BufferLemmas.{copy_to_end, take-copy_found, take-append_found, take-copy_waiting}
+use Rattle.sketch_hash.proofs.BufferLemmas.{Found, copy_to_end, take-copy_found, take-append_found, take-copy_waiting}
 
 -- the lanes after the stripes of bytes, beside the seed
 folded : (start : ℕ × Lanes) (bytes : List ℕ) →
@@ -98,9 +98,8 @@ left_over bytes = rw (length_rest 32 bytes) (omega arith)
 -- the waiting bytes of a state whose total says how many they are
 pub take-copy_waiting_32 : (total : ℕ) (buffer bytes : List ℕ) → total % 32 + length bytes < 32 →
     length buffer ≡ 32 →
-    (take (total % 32) buffer ++ bytes ++ drop (total % 32 + length bytes) buffer
-    ≡ take (total % 32) buffer ++ bytes ++ drop (total % 32 + length bytes) buffer)
-    × (take ((total + length bytes) % 2 ^ 64 % 32)
+    Found (take (total % 32) buffer ++ bytes ++ drop (total % 32 + length bytes) buffer)
+    (take ((total + length bytes) % 2 ^ 64 % 32)
     (take (total % 32) buffer ++ bytes ++ drop (total % 32 + length bytes) buffer)
     ≡ take (total % 32) buffer ++ bytes)
 take-copy_waiting_32 total buffer bytes few size =
