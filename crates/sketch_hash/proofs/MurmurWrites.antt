@@ -136,32 +136,8 @@ after_waits state bytes fits few =
 
 pub ruleset for_write_within = (waiting_size, after_waits, waits-append)
 
-pub after_fills : (state : State (ℕ × ℕ)) (bytes : List ℕ) → state.total < 2 ^ 64 →
-    length state.waiting < 16 → length bytes < 16 → 16 ≤ length state.waiting + length bytes →
-    murmur_after state bytes ≡ record {
-      folded = step state.folded (block_words (state.waiting ++ take (16 - length state.waiting) bytes));
-      total = (state.total + length bytes) % 2 ^ 64;
-      waiting = drop (16 - length state.waiting) bytes;
-    }
-unfolding murmur_after
-after_fills state bytes fits low few enough =
-    let missing : ℕ = 16 - length state.waiting in
-    let within : missing ≤ length bytes = omega (arith, enough) in
-    let both = length-append state.waiting (take missing bytes) in
-    let full : length (state.waiting ++ take missing bytes) ≡ 16 =
-    omega (arith, both, length-take-le missing bytes within, low) in
-    let less : length (drop missing bytes) < 16 = omega (arith, length-drop missing bytes, few, low) in
-    let none = pieces_short 16 (drop missing bytes) less in
-    let same = rest_short 16 (drop missing bytes) less in
-    state_after-through 16 block_words step state bytes missing (omega arith) fits low within full
-    ∙ rw (none, same) refl
-
-pub ruleset for_complete_block = (waiting_size, take_all, after_fills, block_words-is, waits-rest)
-
-pub ruleset for_write = (waiting_size, written_after)
-
 pub after_blocks : (state : State (ℕ × ℕ)) (bytes : List ℕ) → state.total < 2 ^ 64 →
-    length state.waiting < 16 → 16 ≤ length bytes →
+    length state.waiting < 16 → 16 ≤ length state.waiting + length bytes →
     murmur_after state bytes ≡ record {
       folded = fold step
           (step state.folded (block_words (state.waiting ++ take (16 - length state.waiting) bytes)))
@@ -177,6 +153,24 @@ after_blocks state bytes fits low enough =
     let full : length (state.waiting ++ take missing bytes) ≡ 16 =
     omega (arith, both, length-take-le missing bytes within, low) in
     state_after-through 16 block_words step state bytes missing (omega arith) fits low within full
+
+pub after_fills : (state : State (ℕ × ℕ)) (bytes : List ℕ) → state.total < 2 ^ 64 →
+    length state.waiting < 16 → length bytes < 16 → 16 ≤ length state.waiting + length bytes →
+    murmur_after state bytes ≡ record {
+      folded = step state.folded (block_words (state.waiting ++ take (16 - length state.waiting) bytes));
+      total = (state.total + length bytes) % 2 ^ 64;
+      waiting = drop (16 - length state.waiting) bytes;
+    }
+after_fills state bytes fits low few enough =
+    let missing : ℕ = 16 - length state.waiting in
+    let less : length (drop missing bytes) < 16 = omega (arith, length-drop missing bytes, few, low) in
+    let none = pieces_short 16 (drop missing bytes) less in
+    let same = rest_short 16 (drop missing bytes) less in
+    after_blocks state bytes fits low enough ∙ rw (none, same) refl
+
+pub ruleset for_complete_block = (waiting_size, take_all, after_fills, block_words-is, waits-rest)
+
+pub ruleset for_write = (waiting_size, written_after)
 
 pub last_count : (count total : ℕ) (last behind bytes : List ℕ) → count ≡ total % 16 →
     16 ≤ length bytes →

@@ -20,16 +20,16 @@ folded start bytes =
     ap (fold seeded_step start) (map-id (pieces 32 bytes))
     ∙ fold-seeded (pieces 32 bytes) start.0 start.1
 
--- where no byte waits
-after-aligned : (s : State (ℕ × Lanes)) (bytes : List ℕ) → s.total < 2 ^ 64 → s.waiting ≡ [] →
+-- where no byte waits, the stripes are those of the bytes
+pub write_aligned : (s : State (ℕ × Lanes)) (bytes : List ℕ) → s.total < 2 ^ 64 → length s.waiting ≡ 0 →
     xxh64_after s bytes ≡ record {
       folded = (s.folded.0, each_lane s.folded.1 (pieces 32 bytes));
       total = (s.total + length bytes) % 2 ^ 64;
       waiting = rest 32 bytes;
     }
 unfolding xxh64_after
-after-aligned s bytes t e =
-    state_after-fresh 32 (λ stripe. stripe) seeded_step s bytes (omega arith) t e
+write_aligned s bytes t none =
+    state_after-fresh 32 (λ stripe. stripe) seeded_step s bytes (omega arith) t (nil_from_length s.waiting none)
     ∙ ap (λ v. record { folded = v; total = (s.total + length bytes) % 2 ^ 64; waiting = rest 32 bytes })
     (folded s.folded bytes)
 
@@ -82,15 +82,6 @@ write_to_the_end s bytes t short h =
     let full : length (s.waiting ++ bytes) ≡ 32 = length-append s.waiting bytes ∙ h in
     state_after-fills 32 (λ stripe. stripe) seeded_step s bytes (omega arith) t short full
 
--- where no byte waits, the stripes are those of the bytes
-pub write_aligned : (s : State (ℕ × Lanes)) (bytes : List ℕ) → s.total < 2 ^ 64 → length s.waiting ≡ 0 →
-    xxh64_after s bytes ≡ record {
-      folded = (s.folded.0, each_lane s.folded.1 (pieces 32 bytes));
-      total = (s.total + length bytes) % 2 ^ 64;
-      waiting = rest 32 bytes;
-    }
-write_aligned s bytes t none = after-aligned s bytes t (nil_from_length s.waiting none)
-
 -- how many bytes are behind the stripes
 pub left_over : (bytes : List ℕ) → length (rest 32 bytes) ≡ length bytes % 32
 left_over bytes = rw (length_rest 32 bytes) (omega arith)
@@ -137,7 +128,7 @@ write_across seed total count v buffer bytes below low size enough =
           let empty : s.waiting ≡ [] = ap (λ n. take n buffer) zero in
           let alone : pieces 32 [] ≡ [] = pieces_short 32 [] (omega arith) in
           let bare : State (ℕ × Lanes) = record { folded = (seed, v); total = total; waiting = [] } in
-          rw (empty, nothing, alone) (after-aligned bare bytes below refl)
+          rw (empty, nothing, alone) (write_aligned bare bytes below refl)
     ]
 
 -- how many bytes wait then
