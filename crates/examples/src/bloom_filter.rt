@@ -1,7 +1,7 @@
 //! A Bloom filter of Apache Parquet that is filled, saved with its header, read, and merged.
 
-ghost use Rattle.std.specs.Prelude.{ℕ, List, ◌≡◌, ◌+◌, ◌++◌, ◌∷◌, [], IfOk, IfSome, IsTrue, drop, length, map, take};
-ghost use Rattle.sketch_bloom.specs.Filter.{Inserts, IsLength, IsMember, hash_of};
+ghost use Rattle.std.specs.Prelude.{ℕ, List, ◌≡◌, ◌+◌, ◌++◌, ◌∷◌, [], IfOk, IfSome, length, map, take};
+ghost use Rattle.sketch_bloom.specs.Filter.{Inserts, hash_of};
 ghost use Rattle.sketch_bloom.specs.Header.{IsHeaderLength, header};
 ghost use Rattle.sketch_bloom.specs.Laws.{StandsFor};
 

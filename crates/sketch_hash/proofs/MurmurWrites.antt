@@ -1,7 +1,7 @@
 -- What a write leaves in a Murmur hasher, whose waiting bytes are two words, and in a saved state.
-use Rattle.std.proofs.Common.{◌≡◌, ℕ, ◌+◌, ◌-◌, ◌*◌, min, ◌%◌, ◌/◌, ◌^◌, ◌<◌, ◌≤◌, List, [], ◌∷◌, ◌++◌, sym, length, get_or, Fits, w8, refl, ap, ◌∙◌, arith, zero-add, take, drop, map, subst, length-append, length-drop, append_assoc, append-nil, zero, suc, inl, inr}
+use Rattle.std.proofs.Common.{◌≡◌, ℕ, ◌+◌, ◌-◌, ◌*◌, min, ◌%◌, ◌/◌, ◌^◌, ◌<◌, ◌≤◌, List, ◌++◌, sym, length, get_or, Fits, w8, refl, ap, ◌∙◌, arith, take, drop, map, subst, length-append, length-drop}
 use Rattle.std.proofs.Math.Nat.{add-mod-mod, mod-eq_of_lt}
-use Rattle.std.proofs.lemmas.List.{nil_from_length, take_all, take_rest, length-take-le, drop_all, length-take, take-append-drop, take-append-le, map-id}
+use Rattle.std.proofs.lemmas.List.{take_all, take_rest, length-take-le, length-take}
 use Rattle.sketch_base.specs.Bytes.{le, low_bytes, AreBytes}
 use Rattle.sketch_base.proofs.BytesLemmas.{bytes_known, low_bytes-take, length-low_bytes, le-lt, le-again, low_bytes-le, IsByte, to_le_bytes-is}
 use Rattle.sketch_hash.proofs.NumberLemmas.{number-lt, kept-lt, le-front, le_take-lt, pow_eight, joined-lt, low_bytes-joined, le-drop, block_words-filled, words-lt, words-number}

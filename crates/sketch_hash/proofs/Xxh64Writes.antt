@@ -1,7 +1,7 @@
 -- What a write leaves in an XXH64 hasher and in a saved state: a partial stripe that stays partial, one
 -- that becomes full, or one that becomes full with bytes after it.
-use Rattle.std.proofs.Common.{◌≡◌, ℕ, ◌+◌, ◌-◌, ◌<◌, ◌≤◌, List, ◌++◌, length, take, drop, refl, sym, ap, ◌∙◌, arith, append_assoc, append-nil, length-append, length-drop, ◌*◌, min, zero, suc, ◌%◌, ◌/◌, ◌^◌, [], ◌∷◌, map, inl, inr}
-use Rattle.std.proofs.lemmas.List.{take_all, drop_all, length-take, length-take-le, take_rest, take-append-drop, take-append-le, map-id, nil_from_length}
+use Rattle.std.proofs.Common.{◌≡◌, ℕ, ◌+◌, ◌-◌, ◌<◌, ◌≤◌, List, ◌++◌, length, take, drop, refl, ap, ◌∙◌, arith, length-append, length-drop, zero, ◌%◌, ◌^◌, [], map, inl, inr}
+use Rattle.std.proofs.lemmas.List.{length-take, length-take-le, take_rest, map-id, nil_from_length}
 use Rattle.sketch_hash.specs.declared.hash.xxhash.state.XxHash64State.{XxHash64State}
 use Rattle.sketch_hash.specs.States.{xxh64_state_of, Xxh64StateStands}
 use Rattle.sketch_hash.specs.Xxh64.{xxh64_after, Lanes, stripe_step, seeded_step, each_lane}

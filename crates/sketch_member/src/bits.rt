@@ -1,6 +1,6 @@
 //! Bits packed into bytes.
 
-ghost use Rattle.std.specs.Prelude.{◌≡◌, ℕ, ◌*◌, ◌<◌, ◌↔◌, ◌⊎◌, length, replicate, slice_index, IsTrue};
+ghost use Rattle.std.specs.Prelude.{◌≡◌, ℕ, ◌*◌, ◌<◌, ◌↔◌, ◌⊎◌, length, slice_index, IsTrue};
 ghost use Rattle.sketch_member.specs.Table.{IsSet};
 
 // Whether bit `i` is set.

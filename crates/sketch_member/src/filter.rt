@@ -1,7 +1,7 @@
 //! The filter: a seed, two sizes and a count, by which values are inserted into bits and looked up.
 //! The bits are passed beside it, since a table owns them and serialized bytes only lend them.
 
-ghost use Rattle.std.specs.Prelude.{◌≡◌, ℕ, ◌<◌, ◌^◌, ◌↔◌, List, IfSome, IsTrue, MatchOption, MatchResult, Some};
+ghost use Rattle.std.specs.Prelude.{◌≡◌, ◌<◌, ◌^◌, ◌↔◌, IfSome, IsTrue, MatchResult, Some};
 ghost use Rattle.datasketches.specs.Bytes.{eight};
 ghost use Rattle.sketch_member.specs.Faults.{IsFirstFault, new_steps};
 ghost use Rattle.sketch_member.specs.Table.{IsHashes, IsLog2Bits, Inserts, IsMember, IsTable, byte_count, index, table_of};

@@ -1,6 +1,6 @@
 //! Reading numbers from bytes.
 
-ghost use Rattle.std.specs.Prelude.{◌≡◌, ℕ, List, [], length, take, drop, is_ok, Some, if◌then◌else◌};
+ghost use Rattle.std.specs.Prelude.{◌≡◌, ℕ, List, length, take, drop, is_ok, Some, if◌then◌else◌};
 ghost use Rattle.sketch_base.specs.Bytes.{le, be, twos_complement};
 ghost use Rattle.sketch_base.specs.Items.{unspell, width};
 ghost use Rattle.sketch_base.specs.Codec.{Reads, ReadsItems, short_text};

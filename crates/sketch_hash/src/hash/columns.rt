@@ -1,6 +1,6 @@
 //! Columns of keys: a call hashes all keys of a column.
 
-ghost use Rattle.std.specs.Prelude.{◌≡◌, ◌∷◌, ◌+◌, ◌<◌, ℕ, get_or, length, map, slice_index, MatchResult};
+ghost use Rattle.std.specs.Prelude.{◌≡◌, ◌∷◌, ◌+◌, ◌<◌, ℕ, get_or, map, slice_index, MatchResult};
 ghost use Rattle.sketch_hash.specs.Columns.{HashesEach, HashesEachNumber, IsBound, AreBounds, IsFirstWrongOffset, key_at, murmur_words};
 ghost use Rattle.sketch_hash.specs.Xxh64.{xxh64};
 

@@ -1,8 +1,8 @@
 //! Blocks, tails and waiting bytes as numbers and words.
 
-ghost use Rattle.std.specs.Prelude.{◌≡◌, ◌+◌, ◌-◌, ◌*◌, ◌/◌, ◌%◌, ◌^◌, ◌<◌, ◌≤◌, ◌++◌, length, take, drop, min};
-ghost use Rattle.sketch_base.specs.Bytes.{le, low_bytes};
-ghost use Rattle.sketch_hash.specs.Murmur.{Waits, block_words};
+ghost use Rattle.std.specs.Prelude.{◌≡◌, ◌+◌, ◌-◌, ◌*◌, ◌/◌, ◌%◌, ◌^◌, ◌<◌, ◌≤◌, length, take};
+ghost use Rattle.sketch_base.specs.Bytes.{le};
+ghost use Rattle.sketch_hash.specs.Murmur.{Waits};
 
 use super::BLOCK;
 use crate::hash::words::{read_u16_le, read_u32_le, read_u64_le, read_u128_le};
