@@ -34,7 +34,8 @@ pub record ExtendLawAt (w : ℕ) (natural_signed : ℤ → List ℕ) (natural_un
   pub across : (x : ℤ) (y : ℕ) → IsSigned w x → y < 2 ^ w →
       (sign_signed x ≡ sign_unsigned y) ↔ (modulo w x ≡ modulo w (pos y))
 
--- The same for integers of 64 bits, where both strategies feed the same for every value.
+-- What two strategies feed for the integers of 64 bits: both feed the same for every value. A signed
+-- and an unsigned one feed the same exactly if they agree modulo 2 ^ 64.
 pub record ExtendLawAt64 (natural_signed : ℤ → List ℕ) (natural_unsigned : ℕ → List ℕ)
     (sign_signed : ℤ → List ℕ) (sign_unsigned : ℕ → List ℕ) : Type 0 where
   pub signed_alike : (x : ℤ) → natural_signed x ≡ sign_signed x
@@ -42,7 +43,7 @@ pub record ExtendLawAt64 (natural_signed : ℤ → List ℕ) (natural_unsigned :
   pub across : (x : ℤ) (y : ℕ) → IsSigned 64 x → y < 2 ^ 64 →
       (sign_signed x ≡ sign_unsigned y) ↔ (modulo 64 x ≡ modulo 64 (pos y))
 
--- so it is with NaturalExtendStrategy and SignExtendStrategy, at each width
+-- both laws, of NaturalExtendStrategy and SignExtendStrategy at each width
 pub record ExtendLaw : Type 0 where
   pub bits_8 : ExtendLawAt 8 (natural_i8.ghosts).fed (natural_u8.ghosts).fed
       (sign_i8.ghosts).fed (sign_u8.ghosts).fed

@@ -77,7 +77,7 @@ low_bytes-le (b ∷ bytes) h =
     let high : (b + 256 * le bytes) / 256 ≡ le bytes = omega arith in
     rw (le-cons b bytes, low, high, others) refl
 
--- the same, where its length is known
+-- a list of `count` bytes is that many lowest bytes of its number
 pub le-again : (count : ℕ) (bytes : List ℕ) → AreBytes bytes → length bytes ≡ count →
     low_bytes count (le bytes) ≡ bytes
 le-again count bytes h is = ap (λ n. low_bytes n (le bytes)) (sym is) ∙ low_bytes-le bytes h

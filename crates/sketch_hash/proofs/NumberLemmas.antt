@@ -79,7 +79,7 @@ le-take n bytes b h =
     ∙ add-mul-mod_self_right (le (take n bytes)) (le (drop n bytes)) (256 ^ n)
     ∙ mod-eq_of_lt (le_take-lt n bytes b h))
 
--- the same, as a word of 128 bits gives it
+-- the number of the first bytes, as a remainder of words of 128 bits
 pub le-front : (n : ℕ) (bytes : List ℕ) → AreBytes bytes → n < 16 → n ≤ length bytes →
     le bytes % (1 * 2 ^ (8 * n) % 2 ^ 128) ≡ le (take n bytes)
 le-front n bytes b low h =
@@ -102,7 +102,7 @@ le-ends w bytes b low high =
     let quotient = le-drop (w + w - n) back (All-drop IsByte (n - w) bytes b) within in
     ap (λ v. le (take w bytes) + v * 256 ^ w) (sym quotient ∙ ap le behind) ∙ sym (le-cut w bytes low)
 
--- the same of four bytes each, as slices
+-- the number of 4 to 7 bytes, from those of their first and of their last four, which ranges cut
 pub fours_le : (bytes : List ℕ) → ((i : ℕ) → Fits w8 (get_or bytes i 0)) → 4 ≤ length bytes →
     length bytes < 8 →
     le (take 4 bytes) + le (take (length bytes - (length bytes - 4)) (drop (length bytes - 4) bytes))
@@ -111,7 +111,7 @@ fours_le bytes known low high =
     let all = le-ends 4 bytes (bytes_known bytes known) low (omega (arith, high)) in
     rw (take_rest bytes (length bytes - 4)) all
 
--- the same by shifts
+-- the sum in `le-ends`, from shifts and an or
 pub combined : (w count first last shift : ℕ) → w ≤ 4 → first < 256 ^ w → last < 2 ^ 32 →
     shift ≡ 8 * (w + w - count) →
     bit_or first (last / 2 ^ shift * 2 ^ (8 * w) % 2 ^ 64)
@@ -203,7 +203,7 @@ joined-lt count n bytes b h =
     (subst (λ k. le (low_bytes count n ++ bytes) < 256 ^ k) (joined-length count n bytes)
     (le-lt (low_bytes count n ++ bytes) (joined-are count n bytes b)))
 
--- of bytes behind those of a number, what goes beyond 16 in all falls out
+-- bytes behind those of a number, 16 or more in all: modulo 2 ^ 128 those beyond 16 fall out
 le-block : (count n : ℕ) (bytes : List ℕ) → AreBytes bytes → n < 256 ^ count → count ≤ 16 →
     16 ≤ count + length bytes →
     (n + le (take 16 bytes) * 256 ^ count) % 2 ^ 128 ≡ le (low_bytes count n ++ take (16 - count) bytes)
@@ -274,7 +274,7 @@ padded_words count n low h =
     block_words-le (low_bytes count n ++ zeros) (joined-are count n zeros are) whole
     ∙ ap (λ v. (v % 2 ^ 64, v / 2 ^ 64)) number
 
--- the same of the bytes themselves
+-- the two words of fewer than 16 bytes, which zeros fill up
 pub tail_words : (bytes : List ℕ) → AreBytes bytes → length bytes < 16 →
     block_words (bytes ++ replicate (16 - length bytes) 0) ≡ (le bytes % 2 ^ 64, le bytes / 2 ^ 64)
 tail_words bytes b h =
@@ -331,7 +331,7 @@ number-lt count low high p q = elim (cases_lt count 8) [
       rw (beyond_eight count m) (omega arith)
 ]
 
--- and the number's size those of the words
+-- a number's size gives those of its two words
 pub words-lt : (count n : ℕ) → n < 256 ^ count →
     (n % 2 ^ 64 < 256 ^ min count 8) × (n / 2 ^ 64 < 256 ^ (count - 8))
 words-lt count n p = elim (cases_lt count 8) [

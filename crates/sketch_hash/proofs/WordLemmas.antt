@@ -82,10 +82,10 @@ five_times r x a b = omega arith
 
 pub ruleset rotation = (rotate-is)
 
+-- the library's xor of two words, with its operands in either order
 pub of_words : (x y : ℕ) → IsWord x → IsWord y → bit_xor x y ≡ xor x y
 of_words x y p q = sym (xor-is x y p q)
 
--- with its operands the other way round
 pub of_swapped_words : (x y : ℕ) → IsWord x → IsWord y → bit_xor x y ≡ xor y x
 of_swapped_words x y p q = xor_comm x y ∙ sym (xor-is y x q p)
 

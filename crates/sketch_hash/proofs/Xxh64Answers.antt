@@ -140,7 +140,7 @@ pub fold_eight : (hash : ℕ) (bytes : List ℕ) → 8 ≤ length bytes →
 unfolding tail_step
 fold_eight hash bytes h = ap (fold tail_step hash) (steps_eight bytes h)
 
--- of sixteen bytes and more, with a pair of words
+-- the first two steps of a tail of sixteen bytes or more
 pub fold_pair : (hash : ℕ) (bytes : List ℕ) → 16 ≤ length bytes →
     fold tail_step hash (steps bytes)
     ≡ fold tail_step (eight_step (eight_step hash (le (take 8 bytes))) (le (take 8 (drop 8 bytes))))
@@ -164,7 +164,7 @@ fold_word hash bytes low high =
     rw (no_eight, all, four, no_other, behind, singles)
     (fold-map tail_step (λ b. (1, b)) (four_step hash (le (take 4 bytes))) (drop 4 bytes))
 
--- of three bytes at most, it is single bytes
+-- a tail of three bytes at most has a step for each byte
 pub fold_few : (hash : ℕ) (bytes : List ℕ) → length bytes < 4 →
     fold tail_step hash (steps bytes) ≡ fold byte_step hash bytes
 unfolding steps tail_step
@@ -181,24 +181,13 @@ pub no_steps : (hash : ℕ) (tail : List ℕ) → length tail ≡ 0 → fold tai
 unfolding pieces rest steps
 no_steps hash tail none = rw (nil_from_length tail none) refl
 
--- the same where the tail is cut by ranges
-pub fold_eight_cut : (hash : ℕ) (bytes : List ℕ) → 8 ≤ length bytes →
-    fold tail_step hash (steps bytes) ≡ fold tail_step (eight_step hash (le (take 8 bytes)))
-    (steps (take (length bytes - 8) (drop 8 bytes)))
-fold_eight_cut hash bytes h = rw (take_rest bytes 8) (fold_eight hash bytes h)
-
-pub fold_word_cut : (hash : ℕ) (bytes : List ℕ) → 4 ≤ length bytes → length bytes < 8 →
-    fold tail_step hash (steps bytes)
-    ≡ fold byte_step (four_step hash (le (take 4 bytes))) (take (length bytes - 4) (drop 4 bytes))
-fold_word_cut hash bytes low high = rw (take_rest bytes 4) (fold_word hash bytes low high)
-
 pub ruleset for_fold_from_16 = (fold_pair, no_steps)
 
 pub ruleset for_fold_below_16 = (fold_eight, no_steps)
 
-pub ruleset for_fold_words = (fold_eight, fold_eight_cut)
+pub ruleset for_fold_words = (fold_eight, take_rest)
 
-pub ruleset for_fold_below_8 = (fold_word, fold_word_cut, fold_few)
+pub ruleset for_fold_below_8 = (fold_word, fold_few, take_rest)
 
 -- ---- the whole
 

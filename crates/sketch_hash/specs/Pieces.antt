@@ -37,7 +37,7 @@ absorb w read f state bytes = record {
   waiting = rest w (state.waiting ++ bytes);
 }
 
--- the same, where an empty write leaves every state as it is
+-- the state after a write: that of `absorb`, where an empty write leaves every state as it is
 abbrev pub state_after : {P R : Type 0} →
     ℕ → (List ℕ → R) → (P → R → P) → State P → List ℕ → State P
 state_after w read f state [] = state

@@ -49,10 +49,11 @@ set_bit xs i k place low within = rw low (elim (cases_eq k i) [
       )
 ])
 
--- the same facts in the form that search takes: the place in the byte is a variable
+-- the place of bit i in its byte, by a mask
 pub low_three : (i : ℕ) → bit_and i 7 ≡ i % 8
 low_three i = and_mask i 3
 
+-- the two directions of `set_bit`, as `grind` applies them
 pub set_only : (xs : List ℕ) (i k place : ℕ) → place ≡ i % 8 → i < length xs * 8 →
     IsSet (set xs (i / 8) (bit_or (get_or xs (i / 8) 0) (1 * 2 ^ place % 2 ^ 8))) k →
     IsSet xs k ⊎ (k ≡ i)
