@@ -134,36 +134,17 @@ pub number-words : (low high : ℕ) → low < 2 ^ 64 →
     ((low + high * 2 ^ 64) % 2 ^ 64 ≡ low) × ((low + high * 2 ^ 64) / 2 ^ 64 ≡ high)
 number-words low high p = (omega arith, omega arith)
 
--- of more than eight bytes, the number of those behind the first eight, from that of the last eight
-le-last : (bytes : List ℕ) → AreBytes bytes → 8 < length bytes → length bytes < 16 →
-    ◌≡◌ {A = ℕ × ℕ}
-    (le (take 8 bytes), le (drop (length bytes - 8) bytes) / 2 ^ (8 * (16 - length bytes)))
-    (le bytes % 2 ^ 64, le bytes / 2 ^ 64)
-le-last bytes b low high =
-    let n : ℕ = length bytes in
-    let first : ℕ = le (take 8 bytes) in
-    let last : ℕ = le (drop (n - 8) bytes) in
-    let below : first < 2 ^ 64 = le_take-lt 8 bytes b (omega arith) in
-    let behind : ℕ = last / 256 ^ (8 + 8 - n) in
-    let all : first + behind * 2 ^ 64 ≡ le bytes = le-ends 8 bytes b (omega arith) (omega arith) in
-    let words = number-words first behind below in
-    ap (λ p. (first, last / p)) (pow_eight (16 - n)) ∙ ap₂ (λ x y. (x, y)) (sym words.0) (sym words.1)
-    ∙ ap (λ v. (v % 2 ^ 64, v / 2 ^ 64)) all
-
 -- at most eight bytes are a word
 pub le-word : (bytes : List ℕ) → AreBytes bytes → length bytes ≤ 8 → le bytes < 2 ^ 64
 le-word bytes b h = lt_of_lt_of_le (le-lt bytes b) (pow-le-pow_right {n = 256} (omega arith) h)
 
-le-few : (bytes : List ℕ) → AreBytes bytes → length bytes ≤ 8 →
-    ◌≡◌ {A = ℕ × ℕ} (le bytes, 0) (le bytes % 2 ^ 64, le bytes / 2 ^ 64)
-le-few bytes b h =
-    let below = le-word bytes b h in
-    rw (mod-eq_of_lt below, div-eq_of_lt below) refl
-
--- the two words of fewer than 16 bytes, as they are read
+-- The two words of fewer than 16 bytes, as they are read. Of more than eight, the second is cut from
+-- the last eight.
 pub few_le : (bytes : List ℕ) → ((i : ℕ) → Fits w8 (get_or bytes i 0)) → length bytes ≤ 8 →
     ◌≡◌ {A = ℕ × ℕ} (le bytes % 2 ^ 64, le bytes / 2 ^ 64) (le bytes, 0)
-few_le bytes known h = sym (le-few bytes (bytes_known bytes known) h)
+few_le bytes known h =
+    let below = le-word bytes (bytes_known bytes known) h in
+    rw (mod-eq_of_lt below, div-eq_of_lt below) refl
 
 pub last_le : (bytes : List ℕ) → ((i : ℕ) → Fits w8 (get_or bytes i 0)) → 8 < length bytes →
     length bytes < 16 →
@@ -173,7 +154,14 @@ pub last_le : (bytes : List ℕ) → ((i : ℕ) → Fits w8 (get_or bytes i 0)) 
           / 2 ^ (8 * (16 - length bytes)),
     )
 last_le bytes known low high =
-    rw (take_rest bytes (length bytes - 8)) (sym (le-last bytes (bytes_known bytes known) low high))
+    let n : ℕ = length bytes in
+    let are = bytes_known bytes known in
+    let first : ℕ = le (take 8 bytes) in
+    let last : ℕ = le (drop (n - 8) bytes) in
+    let below : first < 2 ^ 64 = le_take-lt 8 bytes are (omega arith) in
+    let all : first + last / 256 ^ (8 + 8 - n) * 2 ^ 64 ≡ le bytes = le-ends 8 bytes are (omega arith) (omega arith) in
+    let words = number-words first (last / 256 ^ (8 + 8 - n)) below in
+    rw (take_rest bytes (n - 8), pow_eight (16 - n), sym all) (ap₂ (λ x y. (x, y)) words.0 words.1)
 
 -- a number's lowest bytes, and bytes joined behind them
 le-joined : (count n : ℕ) (bytes : List ℕ) → n < 256 ^ count →

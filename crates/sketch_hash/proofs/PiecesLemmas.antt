@@ -6,12 +6,11 @@ use Rattle.std.proofs.Common.{◌≡◌, ℕ, zero, suc, ◌+◌, ◌-◌, ◌*�
 use Rattle.std.proofs.Math.Nat.{div-eq_of_lt, div_self, zero-mul}
 use Rattle.std.specs.List.{All, fold}
 use Rattle.std.specs.Simd.{first_chunks}
-use Rattle.std.proofs.lemmas.List.{take_all, drop_all, length-take-le, length-drop, length-append, take-append-drop, append-nil}
+use Rattle.std.proofs.lemmas.List.{take_all, drop_all, length-take-le, length-drop, length-append, take-append-drop, append_assoc, append-nil}
 use Rattle.std.proofs.lemmas.List.Elements.{All-nil, All-cons, All-take, All-drop}
 use Rattle.sketch_base.specs.Bytes.{AreBytes}
 use Rattle.sketch_hash.specs.Pieces.{first_pieces, pieces, rest, State, absorb, state_after}
-use Rattle.sketch_hash.specs.PiecesWriteLemmas.{pieces-append, rest-append, state_after-append}
-use Rattle.std.proofs.lemmas.Nat.{mod_below}
+use Rattle.sketch_hash.specs.PiecesWriteLemmas.{pieces-append, rest-append}
 
 -- fewer than w bytes have no piece
 pub pieces_short : (w : ℕ) (bytes : List ℕ) → length bytes < w → pieces w bytes ≡ []
@@ -101,16 +100,16 @@ length_rest_same w a b e = length_rest w a ∙ ap (λ n. n - n / w * w) e ∙ sy
 pub rest-lt : (w : ℕ) (bytes : List ℕ) → 0 < w → length (rest w bytes) < w
 rest-lt w bytes p = rw (length_rest w bytes) (omega arith)
 
--- a slice as arrays of w bytes is its pieces
+-- the arrays of w bytes that a slice is cut into are its pieces
 pub chunks_are : (n w : ℕ) (bytes : List ℕ) → first_chunks w n bytes ≡ first_pieces n w bytes
 chunks_are zero w bytes = refl
 chunks_are (suc n) w bytes = ap (λ t. take w bytes ∷ t) (chunks_are n w (drop w bytes))
 
--- and what is left behind them is its rest
 pub chunks_cut : (w : ℕ) (bytes : List ℕ) → first_chunks w (length bytes / w) bytes ≡ pieces w bytes
 unfolding pieces
 chunks_cut w bytes = chunks_are (length bytes / w) w bytes
 
+-- what a slice has behind those arrays is its rest
 pub rest_cut : (w : ℕ) (bytes : List ℕ) → 0 < w →
     (drop (length bytes / w * w) bytes ≡ rest w bytes) × (length (drop (length bytes / w * w) bytes) < w)
 unfolding rest
@@ -129,7 +128,7 @@ no_piece w held front h =
     let short : length (held ++ front) < w = rw (length-append held front) h in
     pieces_short w (held ++ front) short
 
--- no write is a special case
+-- an empty write is no special case
 state_after-is : {P R : Type 0} (w : ℕ) (read : List ℕ → R) (f : P → R →
     P) (state : State P) (bytes : List ℕ) →
     length state.waiting < w → state.total < 2 ^ 64 →
@@ -199,21 +198,17 @@ pub state_after-through : {P R : Type 0} (w : ℕ) (read : List ℕ → R) (f : 
       total = (state.total + length bytes) % 2 ^ 64;
       waiting = rest w (drop k bytes);
     }
+unfolding absorb
 state_after-through w read f state bytes k p t short h full =
-    let front : List ℕ = take k bytes in
+    let front : List ℕ = state.waiting ++ take k bytes in
     let behind : List ℕ = drop k bytes in
-    let filled = f state.folded (read (state.waiting ++ front)) in
-    let total : ℕ = (state.total + length front) % 2 ^ 64 in
-    let below : total < 2 ^ 64 = mod_below (state.total + length front) (2 ^ 64) (omega arith) in
-    let counted : (total + length behind) % 2 ^ 64 ≡ (state.total + length bytes) % 2 ^ 64 =
-    omega (arith, length-take-le k bytes h, length-drop k bytes) in
-    ap (state_after w read f state) (sym (take-append-drop k bytes))
-    ∙ sym (state_after-append w read f p state front behind)
-    ∙ ap (λ s. state_after w read f s behind) (state_after-fills w read f state front p t short full)
-    ∙ state_after-fresh w read f (record { folded = filled; total = total; waiting = [] }) behind p below refl
-    ∙ ap
-    (λ n. record { folded = fold f filled (map read (pieces w behind)); total = n; waiting = rest w behind })
-    counted
+    let all : state.waiting ++ bytes ≡ front ++ behind =
+    ap (λ b. state.waiting ++ b) (sym (take-append-drop k bytes))
+    ∙ sym (append_assoc state.waiting (take k bytes) behind) in
+    let none = rest_one w front p full in
+    let cut = pieces-aligned w front behind p none in
+    let one = pieces_one w front p full in
+    state_after-is w read f state bytes short t ∙ rw (all, cut, one, rest-aligned w front behind p none) refl
 
 pub piece_laws : PieceLaws
 piece_laws = record {
