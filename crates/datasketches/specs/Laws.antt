@@ -53,7 +53,8 @@ IntegerLaw hash =
     (seed : ℕ) (x y : ℤ) → IsWord seed → IsShort x → IsShort y →
     (hash seed (integer_bytes x) ≡ hash seed (integer_bytes y)) ↔ (x ≡ y)
 
--- Any two integers do so exactly if they agree modulo 2 ^ 64.
+-- Under a hash, any two integers, each extended to eight bytes and written alone after one seed,
+-- collide exactly if they agree modulo 2 ^ 64.
 abbrev pub ModuloLaw : {B : Type 0} → (ℕ → List ℕ → B) → Type 0
 ModuloLaw hash =
     (seed : ℕ) (x y : ℤ) → IsWord seed →

@@ -34,8 +34,8 @@ pub record ExtendLawAt (w : ℕ) (natural_signed : ℤ → List ℕ) (natural_un
   pub across : (x : ℤ) (y : ℕ) → IsSigned w x → y < 2 ^ w →
       (sign_signed x ≡ sign_unsigned y) ↔ (modulo w x ≡ modulo w (pos y))
 
--- What two strategies feed for the integers of 64 bits: both feed the same for every value. A signed
--- and an unsigned one feed the same exactly if they agree modulo 2 ^ 64.
+-- What two strategies feed for the integers of 64 bits: both feed the same for every value. A
+-- signed and an unsigned one feed the same exactly if they agree modulo 2 ^ 64.
 pub record ExtendLawAt64 (natural_signed : ℤ → List ℕ) (natural_unsigned : ℕ → List ℕ)
     (sign_signed : ℤ → List ℕ) (sign_unsigned : ℕ → List ℕ) : Type 0 where
   pub signed_alike : (x : ℤ) → natural_signed x ≡ sign_signed x

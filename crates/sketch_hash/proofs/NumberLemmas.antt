@@ -159,7 +159,8 @@ last_le bytes known low high =
     let first : ℕ = le (take 8 bytes) in
     let last : ℕ = le (drop (n - 8) bytes) in
     let below : first < 2 ^ 64 = le_take-lt 8 bytes are (omega arith) in
-    let all : first + last / 256 ^ (8 + 8 - n) * 2 ^ 64 ≡ le bytes = le-ends 8 bytes are (omega arith) (omega arith) in
+    let all : first + last / 256 ^ (8 + 8 - n) * 2 ^ 64 ≡ le bytes =
+    le-ends 8 bytes are (omega arith) (omega arith) in
     let words = number-words first (last / 256 ^ (8 + 8 - n)) below in
     rw (take_rest bytes (n - 8), pow_eight (16 - n), sym all) (ap₂ (λ x y. (x, y)) words.0 words.1)
 

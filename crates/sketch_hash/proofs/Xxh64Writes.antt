@@ -29,7 +29,8 @@ pub write_aligned : (s : State (ℕ × Lanes)) (bytes : List ℕ) → s.total < 
     }
 unfolding xxh64_after
 write_aligned s bytes t none =
-    state_after-fresh 32 (λ stripe. stripe) seeded_step s bytes (omega arith) t (nil_from_length s.waiting none)
+    let empty = nil_from_length s.waiting none in
+    state_after-fresh 32 (λ stripe. stripe) seeded_step s bytes (omega arith) t empty
     ∙ ap (λ v. record { folded = v; total = (s.total + length bytes) % 2 ^ 64; waiting = rest 32 bytes })
     (folded s.folded bytes)
 
