@@ -26,7 +26,10 @@ inserts_append first second before next after one two =
             ]),
             (λ either. (bits i).1 (elim either [
               | inl old ↦ inl ((one.bits i).1 (inl old))
-              | inr of ↦ elim (any.0 of) [ inl early ↦ inl ((one.bits i).1 (inr early)) | inr late ↦ inr late ]
+              | inr of ↦ elim (any.0 of) [
+                | inl early ↦ inl ((one.bits i).1 (inr early))
+                | inr late ↦ inr late
+              ]
             ])),
           );
     }
@@ -101,7 +104,8 @@ bounds_from keys offsets count start i bounds more within = elim bounds [
         rw (get_or-drop start offsets j 0, get_or-drop start offsets (suc j) 0, next) (rw next at bound.2)
 
 -- the hashes of further keys of a column
-pub hashes_from : (keys offsets : List ℕ) (count start : ℕ) (before after : List ℕ) (outcome : Result Unit ℕ) →
+pub hashes_from : (keys offsets : List ℕ) (count start : ℕ) (before after : List ℕ)
+    (outcome : Result Unit ℕ) →
     AreBounds keys offsets count → start < count → start + length before ≤ count →
     HashesEach (xxh64 0) keys (drop start offsets) before after outcome →
     (k : ℕ) → k < length before → get_or after k 0 ≡ get_or (key_hashes keys offsets count) (start + k) 0
@@ -109,7 +113,8 @@ hashes_from keys offsets count start before after (Ok u) bounds more within hash
     hashed.2 k 0 (omega (arith, hashed.1, below)) ∙ ap (xxh64 0) (key_from keys offsets start k)
     ∙ sym (key_hash keys offsets count (start + k) (omega (arith, within, below)))
 hashes_from keys offsets count start before after (Err i) bounds more within hashed k below =
-    absurd (hashed.0.2 (bounds_from keys offsets count start i bounds more (omega (arith, hashed.0.1, within))))
+    absurd (hashed.0.2
+    (bounds_from keys offsets count start i bounds more (omega (arith, hashed.0.1, within))))
 
 -- all hashes of a list
 pub inserts_whole : (all : List ℕ) (n : ℕ) (before after : List ℕ) → length all ≤ n →
