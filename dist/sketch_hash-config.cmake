@@ -7,7 +7,8 @@ get_filename_component(sketch_hash_prefix "${sketch_hash_prefix}/../../.." ABSOL
 
 if(NOT TARGET sketch_hash::sketch_hash)
     add_library(sketch_hash::sketch_hash SHARED IMPORTED)
-    set_target_properties(sketch_hash::sketch_hash PROPERTIES
+    add_library(sketch_hash::sketch_hash_static STATIC IMPORTED)
+    set_target_properties(sketch_hash::sketch_hash sketch_hash::sketch_hash_static PROPERTIES
         INTERFACE_INCLUDE_DIRECTORIES "${sketch_hash_prefix}/include")
     if(EXISTS "${sketch_hash_prefix}/lib/libsketch_hash.so.2")
         set_target_properties(sketch_hash::sketch_hash PROPERTIES IMPORTED_SONAME libsketch_hash.so.2
@@ -19,9 +20,7 @@ if(NOT TARGET sketch_hash::sketch_hash)
         set_target_properties(sketch_hash::sketch_hash PROPERTIES IMPORTED_IMPLIB "${sketch_hash_prefix}/lib/sketch_hash.lib"
             IMPORTED_LOCATION "${sketch_hash_prefix}/bin/sketch_hash.dll")
     endif()
-    add_library(sketch_hash::sketch_hash_static STATIC IMPORTED)
     set_target_properties(sketch_hash::sketch_hash_static PROPERTIES
-        IMPORTED_LOCATION "${sketch_hash_prefix}/lib/libsketch_hash.a"
-        INTERFACE_INCLUDE_DIRECTORIES "${sketch_hash_prefix}/include")
+        IMPORTED_LOCATION "${sketch_hash_prefix}/lib/libsketch_hash.a")
 endif()
 unset(sketch_hash_prefix)

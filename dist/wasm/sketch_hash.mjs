@@ -15,7 +15,7 @@ export async function load(source = new URL('sketch_hash.wasm', import.meta.url)
     if (!globalThis.WebAssembly?.validate(MEMORY64)) throw new Error(UNABLE);
     if (!WebAssembly.validate(bytes)) throw new Error('what was loaded is not a WebAssembly module, or is truncated');
     const { instance } = await WebAssembly.instantiate(bytes, {});
-    return library(instance.exports);
+    return libraryOf(instance.exports);
 }
 
 async function read(place) {
@@ -42,8 +42,6 @@ function view(input) {
 }
 
 const unsigned = (word) => BigInt.asUintN(64, word);
-const encoder = new TextEncoder();
-const keyView = (key) => typeof key === 'string' ? encoder.encode(key) : view(key);
 
 /** A whole number from 0 to 2^64 - 1 as a BigInt. */
 function checked(number, name) {
@@ -56,34 +54,13 @@ function checked(number, name) {
     throw new error(`${name} must be a BigInt or a whole number, from 0 to 2^64 - 1`);
 }
 
-const HASHES = ['BigUint64Array'];
-const WIDE = [...HASHES, 'BigInt64Array'];
-const OFFSETS = ['Uint32Array', 'Int32Array', ...WIDE];
-const NUMBERS = [...OFFSETS, 'Float32Array', 'Float64Array'];
-
-function checkedColumn(column, types, name) {
-    if (ArrayBuffer.isView(column) && types.includes(typeOf(column))) return column;
-    throw new TypeError(`${name} must be one of ${types.join(', ')}`);
-}
-
-/** Throws the error that a status of the library stands for. */
-function check(status, wrongOffset) {
-    if (status === 0) return;
-    throw new RangeError({
-        [-1]: 'a Bloom filter must have a positive multiple of 32 bytes, and both filters of a merge the same length',
-        [-2]: `the offset at ${wrongOffset} is missing, past the end or below the one before`,
-        [-3]: 'there are fewer values than places for results',
-    }[status] ?? `the library returned the unknown status ${status}`);
-}
-
-function library(calls) {
+function libraryOf(calls) {
     // After the module's own data: a hash or another result, a state, an input, and then blocks.
     const result = (Number(calls.__heap_base.value) + 15) & ~15;
     const state = result + 16;
     const input = state + 80;
-    let end = input + PIECE;
     let memory = new Uint8Array(calls.memory.buffer);
-    reserve(end);
+    reserve(input + PIECE);
 
     // Grows the memory to at least this length, which detaches views of it.
     function reserve(length) {
@@ -98,65 +75,9 @@ function library(calls) {
         memory = new Uint8Array(calls.memory.buffer);
     }
 
-    const unused = new Map(); // the size of blocks -> their addresses
-    const blocks = new FinalizationRegistry(({ at, size }) => unused.get(size).push(at));
-
-    // Takes a block of at least this length, at a multiple of 64.
-    function allocate(length) {
-        const size = Math.max(64, 2 ** Math.ceil(Math.log2(length)));
-        if (!unused.has(size)) unused.set(size, []);
-        let at = unused.get(size).pop();
-        if (at === undefined) {
-            at = 64 * Math.ceil(end / 64);
-            reserve(at + size);
-            end = at + size;
-        }
-        return { at, size };
-    }
-
-    // The call for offsets or numbers of this width: its name ends with 32 or 64.
-    const callFor = (column, name) => calls[`${name}${8 * column.BYTES_PER_ELEMENT}`];
-    const place = (at) => BigInt(at);
-    const resultWord = () => new BigUint64Array(memory.buffer, result, 1)[0];
-
     function put(bytes, at) {
         memory.set(bytes, at);
-        return [place(at), BigInt(bytes.length)];
-    }
-
-    // Runs a call over columns, and returns the results. A block holds the results, then offsets or numbers, then
-    // bytes, so that each array is aligned.
-    function overColumns(columns, resultBytes, call) {
-        const { at, size } = allocate(columns.reduce((sum, { byteLength }) => sum + byteLength, resultBytes + 8));
-        try {
-            let next = at + 8 * Math.ceil(resultBytes / 8);
-            const args = columns.map((column) => {
-                const [address] = put(view(column), next);
-                next += column.byteLength;
-                return [address, BigInt(column.length)];
-            });
-            check(call(place(at), ...args), resultWord());
-            return memory.slice(at, at + resultBytes);
-        } finally {
-            unused.get(size).push(at);
-        }
-    }
-
-    function hashEachKey(name, width) {
-        return (bytes, offsets, seed = 0n) => {
-            const seedWord = checked(seed, 'a seed');
-            const call = callFor(checkedColumn(offsets, OFFSETS, 'offsets'), name);
-            const count = Math.max(offsets.length - 1, 0);
-            return new BigUint64Array(overColumns([offsets, view(bytes)], count * width, (out, ofOffsets, ofBytes) =>
-                call(...ofBytes, ...ofOffsets, seedWord, out, BigInt(count), place(result))).buffer);
-        };
-    }
-
-    function xxh64EachU64(values, seed = 0n) {
-        const seedWord = checked(seed, 'a seed');
-        const count = checkedColumn(values, WIDE, 'numbers').length;
-        return new BigUint64Array(overColumns([values], 8 * count, (out, ofValues) =>
-            calls.sketch_xxh64_each_u64(...ofValues, seedWord, out, BigInt(count))).buffer);
+        return [BigInt(at), BigInt(bytes.length)];
     }
 
     function pair() {
@@ -167,7 +88,7 @@ function library(calls) {
     const hex = (hash, digits) => hash.toString(16).padStart(digits, '0');
 
     function inMemoryOrder() {
-        calls.sketch_murmur3_x64_128_bytes(place(result), place(state));
+        calls.sketch_murmur3_x64_128_bytes(BigInt(result), BigInt(state));
         return memory.slice(state, state + 16);
     }
 
@@ -184,7 +105,7 @@ function library(calls) {
 
         reset(seed = this.#seed) {
             this.#seed = checked(seed, 'a seed');
-            this.#kind.reset(place(state), this.#seed);
+            this.#kind.reset(BigInt(state), this.#seed);
             this.#saved = memory.slice(state, state + this.#kind.size);
             return this;
         }
@@ -193,7 +114,7 @@ function library(calls) {
             const all = view(bytes);
             memory.set(this.#saved, state);
             for (let at = 0; at < all.length; at += PIECE) {
-                this.#kind.update(place(state), ...put(all.subarray(at, at + PIECE), input));
+                this.#kind.update(BigInt(state), ...put(all.subarray(at, at + PIECE), input));
             }
             this.#saved.set(memory.subarray(state, state + this.#kind.size));
             return this;
@@ -218,14 +139,14 @@ function library(calls) {
         digits: 16,
         reset: calls.sketch_xxh64_reset,
         update: calls.sketch_xxh64_update,
-        digest: () => unsigned(calls.sketch_xxh64_digest(place(state))),
+        digest: () => unsigned(calls.sketch_xxh64_digest(BigInt(state))),
     };
     const ofMurmur = {
         size: 40,
         digits: 32,
         reset: calls.sketch_murmur3_x64_128_reset,
         update: calls.sketch_murmur3_x64_128_update,
-        digest: () => { calls.sketch_murmur3_x64_128_digest(place(state), place(result)); return pair(); },
+        digest: () => { calls.sketch_murmur3_x64_128_digest(BigInt(state), BigInt(result)); return pair(); },
     };
 
     class Xxh64 extends Stream { constructor(seed) { super(ofXxh64, seed); } }
@@ -251,9 +172,102 @@ function library(calls) {
         const all = view(bytes);
         if (all.length > PIECE) return new Murmur128(seed).update(all).digest();
         const seedWord = checked(seed, 'a seed');
-        calls.sketch_murmur3_x64_128(...put(all, input), seedWord, place(result));
+        calls.sketch_murmur3_x64_128(...put(all, input), seedWord, BigInt(result));
         return pair();
     }
+
+    const version = calls.sketch_hash_version();
+    const library = {
+        version: [version / 10000, version / 100 % 100, version % 100].map(Math.floor).join('.'),
+        xxh64,
+        xxh64Hex: (bytes, seed) => hex(xxh64(bytes, seed), 16),
+        Xxh64,
+        murmur128,
+        murmur128Hex: (bytes, seed) => hex(murmur128(bytes, seed), 32),
+        murmur128Bytes: (bytes, seed) => { murmur128(bytes, seed); return inMemoryOrder(); },
+        Murmur128,
+    };
+
+    // ---- Columns and Bloom filters. The page is built without them.
+
+    const HASHES = ['BigUint64Array'];
+    const WIDE = [...HASHES, 'BigInt64Array'];
+    const OFFSETS = ['Uint32Array', 'Int32Array', ...WIDE];
+    const NUMBERS = [...OFFSETS, 'Float32Array', 'Float64Array'];
+
+    function checkedColumn(column, types, name) {
+        if (ArrayBuffer.isView(column) && types.includes(typeOf(column))) return column;
+        throw new TypeError(`${name} must be one of ${types.join(', ')}`);
+    }
+
+    /** Throws the error that a status of the library stands for. */
+    function check(status, wrongOffset) {
+        if (status === 0) return;
+        throw new RangeError(status === -2
+            ? `the offset at ${wrongOffset} is missing, past the end or below the one before`
+            : 'a Bloom filter must have a positive multiple of 32 bytes, and both filters of a merge the same length');
+    }
+
+    let end = input + PIECE;
+    const unused = new Map(); // the size of blocks -> their addresses
+    const blocks = new FinalizationRegistry(({ at, size }) => unused.get(size).push(at));
+
+    // Takes a block of at least this length, at a multiple of 64.
+    function allocate(length) {
+        const size = Math.max(64, 2 ** Math.ceil(Math.log2(length)));
+        if (!unused.has(size)) unused.set(size, []);
+        let at = unused.get(size).pop();
+        if (at === undefined) {
+            at = 64 * Math.ceil(end / 64);
+            reserve(at + size);
+            end = at + size;
+        }
+        return { at, size };
+    }
+
+    // The call for offsets or numbers of this width: its name ends with 32 or 64.
+    const callFor = (name, column) => calls[`${name}${8 * column.BYTES_PER_ELEMENT}`];
+    const callForOffsets = (name, offsets) => callFor(name, checkedColumn(offsets, OFFSETS, 'offsets'));
+    const callForNumbers = (name, numbers) => callFor(name, checkedColumn(numbers, NUMBERS, 'numbers'));
+    const resultWord = () => new BigUint64Array(memory.buffer, result, 1)[0];
+
+    // Runs a call over columns, and returns the results. A block holds the results, then offsets or numbers, then
+    // bytes, so that each array is aligned.
+    function overColumns(columns, resultBytes, call) {
+        const { at, size } = allocate(columns.reduce((sum, { byteLength }) => sum + byteLength, resultBytes + 8));
+        try {
+            let next = at + 8 * Math.ceil(resultBytes / 8);
+            const args = columns.map((column) => {
+                const [address] = put(view(column), next);
+                next += column.byteLength;
+                return [address, BigInt(column.length)];
+            });
+            check(call(BigInt(at), ...args), resultWord());
+            return memory.slice(at, at + resultBytes);
+        } finally {
+            unused.get(size).push(at);
+        }
+    }
+
+    function hashEachKey(name, width) {
+        return (bytes, offsets, seed = 0n) => {
+            const seedWord = checked(seed, 'a seed');
+            const call = callForOffsets(name, offsets);
+            const count = Math.max(offsets.length - 1, 0);
+            return new BigUint64Array(overColumns([offsets, view(bytes)], count * width, (out, ofOffsets, ofBytes) =>
+                call(...ofBytes, ...ofOffsets, seedWord, out, BigInt(count), BigInt(result))).buffer);
+        };
+    }
+
+    function xxh64EachU64(values, seed = 0n) {
+        const seedWord = checked(seed, 'a seed');
+        const count = checkedColumn(values, WIDE, 'numbers').length;
+        return new BigUint64Array(overColumns([values], 8 * count, (out, ofValues) =>
+            calls.sketch_xxh64_each_u64(...ofValues, seedWord, out, BigInt(count))).buffer);
+    }
+
+    const encoder = new TextEncoder();
+    const keyView = (key) => typeof key === 'string' ? encoder.encode(key) : view(key);
 
     // The bits are a block of the module's memory, which another filter uses when this one was collected.
     class BloomFilter {
@@ -286,14 +300,14 @@ function library(calls) {
 
         static fromParquet(bytes) {
             const all = view(bytes);
-            const header = Number(calls.sketch_bloom_header_read(...put(all.subarray(0, PIECE), input), place(result)));
+            const header = calls.sketch_bloom_header_read(...put(all.subarray(0, PIECE), input), BigInt(result));
             if (!header) throw new RangeError('the input does not begin with the header of a Bloom filter');
-            const last = header + Number(resultWord());
+            const last = Number(header + resultWord());
             if (last > all.length) throw new RangeError('the input ends before the Bloom filter does');
-            return this.fromBytes(all.subarray(header, last));
+            return this.fromBytes(all.subarray(Number(header), last));
         }
 
-        get #bits() { return [place(this.#at), BigInt(this.#length)]; }
+        get #bits() { return [BigInt(this.#at), BigInt(this.#length)]; }
 
         get length() { return this.#length; }
 
@@ -323,17 +337,17 @@ function library(calls) {
         }
 
         addEach(bytes, offsets) {
-            const call = callFor(checkedColumn(offsets, OFFSETS, 'offsets'), 'sketch_bloom_insert_each');
+            const call = callForOffsets('sketch_bloom_insert_each', offsets);
             overColumns([offsets, view(bytes)], 0, (_, ofOffsets, ofBytes) =>
-                call(...this.#bits, ...ofBytes, ...ofOffsets, place(result)));
+                call(...this.#bits, ...ofBytes, ...ofOffsets, BigInt(result)));
             return this;
         }
 
         hasEach(bytes, offsets) {
-            const call = callFor(checkedColumn(offsets, OFFSETS, 'offsets'), 'sketch_bloom_contains_each');
+            const call = callForOffsets('sketch_bloom_contains_each', offsets);
             const count = Math.max(offsets.length - 1, 0);
             return overColumns([offsets, view(bytes)], count, (found, ofOffsets, ofBytes) =>
-                call(...this.#bits, ...ofBytes, ...ofOffsets, found, BigInt(count), place(result)));
+                call(...this.#bits, ...ofBytes, ...ofOffsets, found, BigInt(count), BigInt(result)));
         }
 
         #addValues(call, values) {
@@ -347,13 +361,11 @@ function library(calls) {
         }
 
         addEachNumber(numbers) {
-            checkedColumn(numbers, NUMBERS, 'numbers');
-            return this.#addValues(callFor(numbers, 'sketch_bloom_insert_each_u'), numbers);
+            return this.#addValues(callForNumbers('sketch_bloom_insert_each_u', numbers), numbers);
         }
 
         hasEachNumber(numbers) {
-            checkedColumn(numbers, NUMBERS, 'numbers');
-            return this.#hasValues(callFor(numbers, 'sketch_bloom_contains_each_u'), numbers);
+            return this.#hasValues(callForNumbers('sketch_bloom_contains_each_u', numbers), numbers);
         }
 
         addEachHash(hashes) {
@@ -372,7 +384,7 @@ function library(calls) {
         toBytes() { return memory.slice(this.#at, this.#at + this.#length); }
 
         toParquet() {
-            const header = Number(calls.sketch_bloom_header_write(BigInt(this.#length), place(input), BigInt(PIECE)));
+            const header = Number(calls.sketch_bloom_header_write(BigInt(this.#length), BigInt(input), BigInt(PIECE)));
             if (!header) throw new RangeError('the filter is too long for a header of Parquet');
             const bytes = new Uint8Array(header + this.#length);
             bytes.set(memory.subarray(input, input + header));
@@ -381,19 +393,11 @@ function library(calls) {
         }
     }
 
-    const version = calls.sketch_hash_version();
-    return {
-        version: [version / 10000, version / 100 % 100, version % 100].map(Math.floor).join('.'),
-        xxh64,
-        xxh64Hex: (bytes, seed) => hex(xxh64(bytes, seed), 16),
+    Object.assign(library, {
         xxh64Each: hashEachKey('sketch_xxh64_each', 8),
         xxh64EachU64,
-        Xxh64,
-        murmur128,
-        murmur128Hex: (bytes, seed) => hex(murmur128(bytes, seed), 32),
-        murmur128Bytes: (bytes, seed) => { murmur128(bytes, seed); return inMemoryOrder(); },
         murmur128Each: hashEachKey('sketch_murmur3_x64_128_each', 16),
-        Murmur128,
         BloomFilter,
-    };
+    });
+    return library;
 }
