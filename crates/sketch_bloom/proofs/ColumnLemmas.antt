@@ -1,13 +1,12 @@
 -- Columns of inserted values, part by part.
-use Rattle.std.proofs.Common.{◌≡◌, ◌↔◌, ◌⊎◌, ◌/◌, ℕ, zero, suc, Result, Ok, Err, ◌+◌, ◌-◌, ◌<◌, ◌≤◌, List, [], ◌∷◌, ◌++◌, length, drop, get_or, take, refl, sym, ap, subst, ◌∙◌, inl, inr, arith}
+use Rattle.std.proofs.Common.{◌≡◌, ◌↔◌, ◌⊎◌, ◌/◌, ℕ, ◌+◌, ◌-◌, ◌<◌, ◌≤◌, List, [], ◌∷◌, ◌++◌, length, drop, get_or, take, refl, sym, ap, subst, ◌∙◌, inl, inr, arith}
 use Rattle.std.specs.List.{range_with_len}
 use Rattle.std.proofs.lemmas.List.{ext_get_or, get_or-drop, get_or-map, get_or-take, length-drop, length-take-le, take_all, take_more}
 use Rattle.std.proofs.Math.Seq.{take-add}
 use Rattle.std.proofs.lemmas.List.FromFn.{get_or-range_with_len, length-map-range_with_len, length-range_with_len}
 use Rattle.std.proofs.lemmas.Bool.{cases_lt}
 use Rattle.sketch_bloom.proofs.LawLemmas.{any-append, inserts_one}
-use Rattle.datasketches.specs.Columns.{AreBounds, HashesEach, IsBound, key_at}
-use Rattle.datasketches.specs.Xxh64.{xxh64}
+use Rattle.datasketches.specs.Columns.{AreBounds, IsBound, key_at}
 use Rattle.sketch_bloom.specs.Columns.{IsAnswer, key_hashes}
 use Rattle.sketch_bloom.specs.Filter.{Inserts, InsertsAll, IsBitOfAny, IsSet, hash_of}
 
@@ -76,45 +75,21 @@ key_hash keys offsets n k below =
 pub length-key_hashes : (keys offsets : List ℕ) (n : ℕ) → length (key_hashes keys offsets n) ≡ n
 length-key_hashes keys offsets n = length-map-range_with_len (λ k. hash_of (key_at keys offsets k)) 0 n
 
--- a key of the offsets from one on
-key_from : (keys offsets : List ℕ) (start k : ℕ) →
-    key_at keys (drop start offsets) k ≡ key_at keys offsets (start + k)
-key_from keys offsets start k =
-    let next : start + (k + 1) ≡ start + k + 1 = omega arith in
-    rw (get_or-drop start offsets k 0, get_or-drop start offsets (k + 1) 0, next) refl
-
--- the offsets from one on bound the further keys
-bounds_from : (keys offsets : List ℕ) (count start i : ℕ) → AreBounds keys offsets count → start < count →
-    start + i ≤ count → IsBound keys (drop start offsets) i
-bounds_from keys offsets count start i bounds more within = elim bounds [
-  | inl no_keys ↦ absurd (omega (arith, no_keys.0, more))
-  | inr are ↦
-      let bound = are (start + i) within in (
-        omega (arith, length-drop start offsets, bound.0),
-        rw (get_or-drop start offsets i 0) bound.1,
-        before i bound,
-      )
+-- each offset of a column that has a key is a bound
+pub is_bound : (keys offsets : List ℕ) (n k : ℕ) → AreBounds keys offsets n → k < n → IsBound keys offsets k
+is_bound keys offsets n k bounds below = elim bounds [
+  | inl no_keys ↦ absurd (omega (arith, no_keys.0, below))
+  | inr are ↦ are k (omega (arith, below))
 ]
-  where
-    before : (i : ℕ) → IsBound keys offsets (start + i) →
-        get_or (0 ∷ drop start offsets) i 0 ≤ get_or (drop start offsets) i 0
-    before zero bound = omega arith
-    before (suc j) bound =
-        let next : start + suc j ≡ suc (start + j) = omega arith in
-        rw (get_or-drop start offsets j 0, get_or-drop start offsets (suc j) 0, next) (rw next at bound.2)
 
--- the hashes of further keys of a column
-pub hashes_from : (keys offsets : List ℕ) (count start : ℕ) (before after : List ℕ)
-    (outcome : Result Unit ℕ) →
-    AreBounds keys offsets count → start < count → start + length before ≤ count →
-    HashesEach (xxh64 0) keys (drop start offsets) before after outcome →
-    (k : ℕ) → k < length before → get_or after k 0 ≡ get_or (key_hashes keys offsets count) (start + k) 0
-hashes_from keys offsets count start before after (Ok u) bounds more within hashed k below =
-    hashed.2 k 0 (omega (arith, hashed.1, below)) ∙ ap (xxh64 0) (key_from keys offsets start k)
-    ∙ sym (key_hash keys offsets count (start + k) (omega (arith, within, below)))
-hashes_from keys offsets count start before after (Err i) bounds more within hashed k below =
-    absurd (hashed.0.2
-    (bounds_from keys offsets count start i bounds more (omega (arith, hashed.0.1, within))))
+pub is_next_bound : (keys offsets : List ℕ) (n k : ℕ) → AreBounds keys offsets n → k < n →
+    IsBound keys offsets (k + 1)
+is_next_bound keys offsets n k bounds below = elim bounds [
+  | inl no_keys ↦ absurd (omega (arith, no_keys.0, below))
+  | inr are ↦ are (k + 1) (omega (arith, below))
+]
+
+pub ruleset key_columns = (key_hash, is_bound, is_next_bound)
 
 -- all hashes of a list
 pub inserts_whole : (all : List ℕ) (n : ℕ) (before after : List ℕ) → length all ≤ n →

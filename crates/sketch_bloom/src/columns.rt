@@ -2,7 +2,8 @@
 //! hashes. Each call checks the filter's length and the offsets once, before it changes anything.
 
 ghost use Rattle.std.specs.Prelude.{◌≡◌, ℕ, ◌+◌, ◌-◌, ◌*◌, ◌/◌, ◌<◌, ◌≤◌, List, length, map, slice_index, MatchResult};
-ghost use Rattle.datasketches.specs.Columns.{AreBounds};
+ghost use Rattle.datasketches.specs.Columns.{AreBounds, IsBound, key_at};
+ghost use Rattle.datasketches.specs.Xxh64.{xxh64};
 ghost use Rattle.sketch_bloom.specs.Columns.{FindsEach, IsAnswer, IsKeysFault, IsValuesFault, key_count, key_hashes};
 ghost use Rattle.sketch_bloom.specs.Filter.{InsertsAll, IsLength, IsLengthFault, hash_of};
 
@@ -164,6 +165,7 @@ pub fn contains_each_hash(filter: &[u8], hashes: &[u64], found: &mut [u8]) -> Re
 }
 
 // Hashes the keys from index `start` on, at most AHEAD of them, and returns how many.
+#[tactic(auto, using(crate::proofs::ColumnLemmas::key_columns))]
 fn hash_ahead<O: Offset>(
     keys: &[u8],
     offsets: &[O],
@@ -180,8 +182,9 @@ fn hash_ahead<O: Offset>(
         (k : ℕ) → k < result → slice_index hashes.new k ≡ slice_index all (start + k) }
 {
     let n = AHEAD.min(count - start);
-    // All offsets are right, so this succeeds.
-    let _ = XxHash64::hash_each(keys, &offsets[start..], 0, &mut hashes[..n]);
+    for i in 0..n {
+        hashes[i] = XxHash64::hash(key_at(keys, offsets, start + i), 0);
+    }
     n
 }
 
@@ -221,4 +224,14 @@ fn find_hashes(filter: &[u8], blocks: u64, hashes: &[u64], found: &mut [u8], sta
     for i in 0..hashes.len() {
         found[start + i] = u8::from(is_in(filter, blocks, hashes[i]));
     }
+}
+
+// The bytes of key `i`.
+#[inline(always)]
+fn key_at<'a, O: Offset>(keys: &'a [u8], offsets: &[O], i: usize) -> &'a [u8]
+    requires start { IsBound keys.now (map O.place offsets.now) i }
+    requires end { IsBound keys.now (map O.place offsets.now) (i + 1) }
+    ensures { result.now ≡ key_at keys.now (map O.place offsets.now) i }
+{
+    &keys[offsets[i].place()..offsets[i + 1].place()]
 }

@@ -47,6 +47,7 @@ impl XxHash64 {
     ///
     /// Returns the index of the first offset that is missing, is past the end of `bytes`, or is
     /// below the offset before it. `out` is then unchanged.
+    #[inline(always)]
     pub fn hash_each<O: Offset>(
         bytes: &[u8],
         offsets: &[O],

@@ -1,21 +1,23 @@
-use Rattle.std.proofs.Common.{◌≡◌, ◌-◌, ◌∙◌, arith, drop, length, length-drop, map, take}
-use Rattle.std.proofs.lemmas.List.{drop-map, get_or_append_left, length-take-le, take_all}
-use Rattle.sketch_bloom.proofs.ColumnLemmas.{hashes_from}
+use Rattle.std.proofs.Common.{◌≡◌, ◌+◌, ap, map, sym, ◌∙◌, inl, inr, arith}
+use Rattle.std.proofs.lemmas.Bool.{cases_lt}
+use Rattle.std.proofs.lemmas.List.{get_or-set_other, get_or-set_same, length-set}
+use Rattle.datasketches.specs.Xxh64.{xxh64}
+use Rattle.sketch_bloom.proofs.ColumnLemmas.{key_hash}
 use Rattle.sketch_bloom.proofs.columns.hash_ahead.Goals as goal
 
-pub returns-clause-hashes : goal.returns-clause-hashes
-returns-clause-hashes g c k below =
-    let n = c.min-n.result in
-    let start = c.args.start in
-    let offsets = c.args.offsets.now in
-    let before = take n c.args.hashes.now in
-    let after = c.hash_each.new.out in
-    let count : length before ≡ n =
-    length-take-le n c.args.hashes.now (omega (arith, c.min-n.ensures, c.told-hashes)) in
-    let rest = take_all (length offsets - start) (drop start offsets)
-    (omega (arith, length-drop start offsets)) in
-    let hashed = rw (rest, ← drop-map g.O.Offset.place start offsets) at c.hash_each.ensures in
-    get_or_append_left after _ 0 k (omega (arith, below, count, c.hash_each.auto.out))
-    ∙ hashes_from c.args.keys.now (map g.O.Offset.place offsets) c.args.count start before after
-    c.hash_each.result c.requires.bounds c.requires.more
-    (omega (arith, count, c.min-n.ensures, c.requires.more)) hashed k (omega (arith, below, count))
+pub loop-i-preserved : goal.loop-i-preserved
+loop-i-preserved g c = (
+  length-set c.loop-i.hashes c.loop-i.i c.hash.result ∙ c.loop-i.invariant.0,
+  (λ k below. elim (cases_lt k c.loop-i.i) [
+    | inl early ↦
+        get_or-set_other c.loop-i.hashes c.loop-i.i k c.hash.result 0 (λ same. omega (arith, same, early))
+        ∙ c.loop-i.invariant.1 k early
+    | inr late ↦
+        let same : k ≡ c.loop-i.i = omega (arith, below, late) in
+        rw same (get_or-set_same c.loop-i.hashes c.loop-i.i c.hash.result 0
+        (omega (arith, c.loop-i.invariant.0, c.loop-i-test.true, c.min-n.ensures))
+        ∙ c.hash.ensures ∙ ap (xxh64 0) c.key_at.ensures
+        ∙ sym (key_hash c.args.keys.now (map g.O.Offset.place c.args.offsets.now) c.args.count
+        (c.args.start + c.loop-i.i) (omega (arith, c.loop-i-test.true, c.min-n.ensures))))
+  ]),
+)
