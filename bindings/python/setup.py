@@ -44,12 +44,12 @@ modules = [
         [f"src/sketch_hash/{name}.pyx"],
         include_dirs=[folders[0], os.path.join(folders[0], "..", "include")],
         extra_objects=archives,
-        depends=archives,
     )
     for name in ("_memory", "_hashes", "_columns", "_bloom")
 ]
 directives = {"language_level": 3, "binding": False, "auto_pickle": False, "always_allow_keywords": False}
 setup(
+    options={"build_ext": {"force": True}},  # the archive may be another one than that of an earlier build
     name="sketch-hash",
     version="2.0.0",
     description="XXH64, MurmurHash3 x64 128 and the Bloom filter of Apache Parquet, from functions that are proved",
