@@ -48,7 +48,7 @@ impl fmt::Display for Error {
     fn fmt(&self, f: &mut fmt::Formatter<'_>) -> fmt::Result {
         match self {
             Error::Length => f.write_str(
-                "a Bloom filter must have a positive multiple of 32 bytes, \
+                "a Bloom filter must have a positive multiple of 32 bytes below 2^37, \
                  and both filters of a merge the same length",
             ),
             Error::Offset { index } => write!(
@@ -57,9 +57,9 @@ impl fmt::Display for Error {
             ),
             Error::Count => f.write_str("there are fewer values than places for results"),
             Error::TooManyKeys => {
-                f.write_str("no Bloom filter of at most 128 MiB keeps this rate for so many keys")
+                f.write_str("no Bloom filter of at most 128 MiB keeps this rate for so many keys, or `one_in` is 0")
             }
-            Error::Header => f.write_str("the input does not begin with a Bloom filter's header"),
+            Error::Header => f.write_str("the input does not begin with the whole header of a Bloom filter"),
             Error::Truncated => f.write_str("the input ends before the Bloom filter does"),
             Error::Unknown(status) => write!(f, "the library returned the unknown status {status}"),
         }

@@ -104,8 +104,8 @@ test('a filter in a file is a header and the bytes', () => {
     assert.deepEqual(file, new Uint8Array(Buffer.concat([headerOf1024, filled().toBytes()])));
     const longer = Buffer.concat([file, bytes('PAR1')]);
     assert.deepEqual(BloomFilter.fromParquet(longer).toBytes(), filled().toBytes());
-    assert.throws(() => BloomFilter.fromParquet(longer.subarray(1)), /does not begin with the header/);
-    assert.throws(() => BloomFilter.fromParquet(file.subarray(0, 15)), /does not begin with the header/);
+    assert.throws(() => BloomFilter.fromParquet(longer.subarray(1)), /does not begin with the whole header/);
+    assert.throws(() => BloomFilter.fromParquet(file.subarray(0, 15)), /does not begin with the whole header/);
     assert.throws(() => BloomFilter.fromParquet(file.subarray(0, 1039)), /ends before the Bloom filter does/);
 });
 

@@ -99,7 +99,7 @@ cdef int check_length(object length) except -1:
     if not 0 < length < 2**37 or sketch_bloom_check(length):
         raise ValueError(
             f"a Bloom filter has a positive multiple of 32 bytes, below 2**37, and not {length}: "
-            "BloomFilter.for_keys finds the number for keys and an error rate")
+            "BloomFilter.for_keys finds the number for keys and an error rate; from_parquet reads a filter with its header")
     return 0
 
 
@@ -210,7 +210,7 @@ cdef class BloomFilter:
             header = sketch_bloom_header_read(memory.buf, memory.len, &num_bytes)
             if header == 0:
                 raise ValueError(
-                    "data does not begin with the header of an uncompressed split block Bloom filter with XXH64: "
+                    "data does not begin with the whole header of an uncompressed split block Bloom filter with XXH64: "
                     "it is at the column's bloom_filter_offset; from_bytes takes bits alone")
             if num_bytes > memory.len - header:
                 raise ValueError(f"the filter is truncated: it has {num_bytes} bytes after its header, and here are "
