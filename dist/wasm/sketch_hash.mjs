@@ -51,7 +51,7 @@ function checked(number, name) {
         if (word === unsigned(word)) return word;
     }
     const error = isBigInt || typeof number === 'number' ? RangeError : TypeError;
-    throw new error(`${name} must be a BigInt or a whole number, from 0 to 2^64 - 1`);
+    throw new error(`${name} must be a whole number from 0 to 2^64 - 1, from 2^53 on a BigInt`);
 }
 
 function libraryOf(calls) {
@@ -284,9 +284,9 @@ function libraryOf(calls) {
         }
 
         static bytesFor(keys, oneIn) {
-            const length = calls.sketch_bloom_bytes_for(checked(keys, 'keys'), checked(oneIn, 'oneIn'));
+            const length = calls.sketch_bloom_bytes_for(checked(keys, 'keys'), checked(oneIn, 'oneIn, as 100 for 1 %,'));
             if (length) return Number(length);
-            throw new RangeError('no Bloom filter of at most 128 MiB keeps this rate for so many keys');
+            throw new RangeError('no Bloom filter of at most 128 MiB keeps this rate for so many keys, or oneIn is 0');
         }
 
         static forKeys(keys, oneIn) { return new this(this.bytesFor(keys, oneIn)); }
@@ -301,7 +301,7 @@ function libraryOf(calls) {
         static fromParquet(bytes) {
             const all = view(bytes);
             const header = calls.sketch_bloom_header_read(...put(all.subarray(0, PIECE), input), BigInt(result));
-            if (!header) throw new RangeError('the input does not begin with the header of a Bloom filter');
+            if (!header) throw new RangeError('the input does not begin with the whole header of a Bloom filter');
             const last = Number(header + resultWord());
             if (last > all.length) throw new RangeError('the input ends before the Bloom filter does');
             return this.fromBytes(all.subarray(Number(header), last));
