@@ -59,9 +59,7 @@ setup(
     license_files=["LICENSE", "NOTICE"],
     classifiers=[
         "Operating System :: POSIX :: Linux",
-        "Programming Language :: Cython",
         "Programming Language :: Python :: 3",
-        "Programming Language :: Python :: Implementation :: CPython",
         "Typing :: Typed",
     ],
     python_requires=">=3.9",

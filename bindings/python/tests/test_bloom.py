@@ -44,8 +44,7 @@ def test_a_filter_for_parquet_is_that_of_duckdb_and_is_read_back():
     (b"PAR1" + bytes(100), "does not begin with the whole header"),
     (filled().to_bytes(), "does not begin with the whole header"),
     (filled().to_parquet()[:-1], "is truncated: it has 1024 bytes after its header, and here are 1023$"),
-    (filled().to_parquet()[:16], "is truncated: it has 1024 bytes after its header, and here are 0$"),
-], ids=["empty", "start of the file", "bits alone", "truncated", "header alone"])
+], ids=["empty", "start of the file", "bits alone", "truncated"])
 def test_from_parquet_rejects_other_bytes(data, text):
     with pytest.raises(ValueError, match=text):
         BloomFilter.from_parquet(data)

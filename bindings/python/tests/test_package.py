@@ -66,19 +66,17 @@ def test_stubs_fit_the_module(need, tmp_path):
     """Each name, argument and default of the stubs is that of the module, by mypy's own comparison."""
     need("python:mypy", "python:sketch_hash")
     import sketch_hash
-
     # __main__ is a program, without stubs.
     (tmp_path / "mypy.ini").write_text("[mypy]\n[mypy-sketch_hash.__main__]\nignore_errors = True\n")
     folder = str(pathlib.Path(sketch_hash.__file__).parents[1])
     # From Python 3.14 on, __new__ takes any arguments, but seems to have those of __init__.
     (tmp_path / "allowed").write_text(r"sketch_hash\.\w+\.__new__")
-    stubtest = [sys.executable, "-m", "mypy.stubtest"]
-    options = ["--mypy-config-file", tmp_path / "mypy.ini"]
-    options += ["--allowlist", tmp_path / "allowed", "--ignore-unused-allowlist"]
+    stubtest = [sys.executable, "-m", "mypy.stubtest", "sketch_hash", "--mypy-config-file", tmp_path / "mypy.ini"]
+    stubtest += ["--allowlist", tmp_path / "allowed", "--ignore-unused-allowlist"]
     # @disjoint_base in a stub is an error for type checkers that are older than it.
     if "--ignore-disjoint-bases" in run([*stubtest, "--help"]).stdout:
-        options.append("--ignore-disjoint-bases")
-    done = run([*stubtest, "sketch_hash", *options], MYPYPATH=folder, PYTHONPATH=folder)
+        stubtest.append("--ignore-disjoint-bases")
+    done = run(stubtest, MYPYPATH=folder, PYTHONPATH=folder)
     assert done.returncode == 0 and "Success: no issues found" in done.stdout, done.stdout
 
 

@@ -12,6 +12,11 @@ _Pair = tuple[ReadableBuffer, ReadableBuffer]
 _Column = Union[ReadableBuffer, _Pair]
 
 __version__: str
+__all__ = [
+    "BloomFilter", "algorithms_available", "column", "murmur3_x64_128", "murmur3_x64_128_bytes",
+    "murmur3_x64_128_digest", "murmur3_x64_128_each", "murmur3_x64_128_hexdigest", "murmur3_x64_128_intdigest",
+    "xxh64", "xxh64_digest", "xxh64_each", "xxh64_hexdigest", "xxh64_intdigest",
+]
 algorithms_available: set[str]
 
 class _Hasher:
