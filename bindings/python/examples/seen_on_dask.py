@@ -15,6 +15,7 @@ import argparse
 import functools
 import operator
 import os
+import time
 
 import numpy
 from distributed import Client, progress
@@ -59,6 +60,7 @@ def by_workers(client, paths, num_bytes, out):
         here = {"workers": worker, "allow_other_workers": True}  # else Dask may move a whole filter
         bloom = client.submit(filter_of, paths[i :: len(threads)], num_bytes, **here)
         parts.append(client.map(part_of, [bloom] * len(starts), starts, length=length, **here))
+    time.sleep(0.05)  # Dask sends the tasks before the next line, which keeps the GIL
     header, partial = BloomFilter(num_bytes).to_parquet()[:-num_bytes], f"{out}.partial"
     with open(partial, "wb") as file:
         file.write(header)
