@@ -257,9 +257,9 @@ int sketch_bloom_merge(void *into, size_t length, const void *from, size_t from_
  */
 size_t sketch_bloom_header_write(uint64_t bytes, unsigned char *header, size_t length);
 
-/** Reads the header of a split block filter with XXH64, uncompressed. Returns its length, or 0 if
- * `input` does not begin with one. Writes the length of the filter, which follows, to *bytes: in a
- * truncated file it is more than what is left of `input`, so compare before you use the filter. */
+/** Reads the header of a split block filter with XXH64, uncompressed. Returns its length, or 0, and
+ * writes nothing, if `input` does not begin with one. Writes the length of the filter behind it to
+ * *bytes. If that is more than is left of `input`, the file is truncated: do not use the filter. */
 size_t sketch_bloom_header_read(const void *input, size_t length, uint64_t *bytes);
 
 /* ---- The layouts that the library was built for. With another one an array below has the size -1,

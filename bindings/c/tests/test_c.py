@@ -7,12 +7,17 @@ import struct
 import subprocess
 
 import pytest
-from conftest import CALLS, DIST, output
+from conftest import CALLS, DIST
 
 HERE = pathlib.Path(__file__).resolve().parent
 INCLUDE, NATIVE = DIST / "include", DIST / "linux-x86_64"
 HEADER = (INCLUDE / "sketch_hash.h").read_text()
 STRICT = ["-Wall", "-Wextra", "-Werror"]
+
+
+def output(*command):
+    return subprocess.run(command, check=True, stdout=subprocess.PIPE, text=True, timeout=300).stdout
+
 
 # ---- the header
 
