@@ -1,12 +1,11 @@
--- Columns of inserted values, part by part.
-use Rattle.std.proofs.Common.{◌≡◌, ◌↔◌, ◌⊎◌, ◌/◌, ℕ, ◌+◌, ◌-◌, ◌<◌, ◌≤◌, List, [], ◌∷◌, ◌++◌, length, drop, get_or, take, refl, sym, ap, subst, ◌∙◌, inl, inr, arith}
-use Rattle.std.specs.List.{range_with_len}
-use Rattle.std.proofs.lemmas.List.{ext_get_or, get_or-drop, get_or-map, get_or-take, length-drop, length-take-le, take_all, take_more}
-use Rattle.std.proofs.Math.Seq.{take-add}
-use Rattle.std.proofs.lemmas.List.FromFn.{get_or-range_with_len, length-map-range_with_len, length-range_with_len}
+-- Columns of values, part by part.
+use Rattle.std.proofs.Common.{◌≡◌, ◌↔◌, ◌⊎◌, ◌/◌, ℕ, ◌+◌, ◌-◌, ◌<◌, List, [], ◌∷◌, ◌++◌, length, get_or, take, sym, ap, subst, ◌∙◌, inl, inr, arith}
+use Rattle.std.proofs.lemmas.List.{ext_get_or, get_or-append_right, get_or_append_left, length-append, take_more}
+use Rattle.std.proofs.lemmas.List.FromFn.{get_or-map-range_with_len, length-map-range_with_len}
 use Rattle.std.proofs.lemmas.Bool.{cases_lt}
 use Rattle.sketch_bloom.proofs.LawLemmas.{any-append, inserts_one}
-use Rattle.datasketches.specs.Columns.{AreBounds, IsBound, key_at}
+use Rattle.datasketches.specs.Columns.{AreHashes, key_at}
+use Rattle.datasketches.specs.Xxh64.{xxh64}
 use Rattle.sketch_bloom.specs.Columns.{IsAnswer, key_hashes}
 use Rattle.sketch_bloom.specs.Filter.{Inserts, InsertsAll, IsBitOfAny, IsSet, hash_of}
 
@@ -42,77 +41,54 @@ inserts_next hashes k before next after within all one =
     (inserts_append (take k hashes) (get_or hashes k 0 ∷ []) before next after all
     (inserts_one (get_or hashes k 0) next after one))
 
--- n hashes more of a list, which are the first of another
-pub inserts_part : (all hashes : List ℕ) (start n : ℕ) (before next after : List ℕ) →
-    start + n ≤ length all → n ≤ length hashes →
-    ((k : ℕ) → k < n → get_or hashes k 0 ≡ get_or all (start + k) 0) →
-    InsertsAll (take start all) before next → InsertsAll (take n hashes) next after →
-    InsertsAll (take (start + n) all) before after
-inserts_part all hashes start n before next after within few same first second =
-    rw (take-add start n all, ← part)
-    (inserts_append (take start all) (take n hashes) before next after first second)
-  where
-    part : take n hashes ≡ take n (drop start all)
-    part =
-        let count = length-take-le n hashes few in
-        let other = length-take-le n (drop start all) (omega (arith, length-drop start all, within)) in
-        ext_get_or 0 (take n hashes) (take n (drop start all)) (count ∙ sym other) (λ k below.
-        let low : k < n = omega (arith, below, count) in
-        get_or-take n hashes k 0 low ∙ same k low ∙ sym (get_or-drop start all k 0)
-        ∙ sym (get_or-take n (drop start all) k 0 low))
-
--- the hash of a key
+-- the hash of a key, and how many there are
 pub key_hash : (keys offsets : List ℕ) (n k : ℕ) → k < n →
     get_or (key_hashes keys offsets n) k 0 ≡ hash_of (key_at keys offsets k)
 key_hash keys offsets n k below =
-    get_or-map (λ i. hash_of (key_at keys offsets i)) (range_with_len 0 n) k 0 0
-    (omega (arith, below, length-range_with_len 0 n))
-    ∙ ap (λ i. hash_of (key_at keys offsets i)) (place)
-  where
-    place : get_or (range_with_len 0 n) k 0 ≡ k
-    place = omega (arith, get_or-range_with_len 0 n k 0 below)
+    get_or-map-range_with_len (λ i. hash_of (key_at keys offsets i)) 0 n k k 0 below (omega arith)
 
-pub length-key_hashes : (keys offsets : List ℕ) (n : ℕ) → length (key_hashes keys offsets n) ≡ n
+length-key_hashes : (keys offsets : List ℕ) (n : ℕ) → length (key_hashes keys offsets n) ≡ n
 length-key_hashes keys offsets n = length-map-range_with_len (λ k. hash_of (key_at keys offsets k)) 0 n
 
--- each offset of a column that has a key is a bound
-pub is_bound : (keys offsets : List ℕ) (n k : ℕ) → AreBounds keys offsets n → k < n → IsBound keys offsets k
-is_bound keys offsets n k bounds below = elim bounds [
-  | inl no_keys ↦ absurd (omega (arith, no_keys.0, below))
-  | inr are ↦ are k (omega (arith, below))
-]
+-- a run of keys more
+pub inserts_run : (keys offsets hashes before next after : List ℕ) (start : ℕ) →
+    AreHashes (xxh64 0) (λ i. key_at keys offsets (start + i)) hashes →
+    InsertsAll (key_hashes keys offsets start) before next → InsertsAll hashes next after →
+    InsertsAll (key_hashes keys offsets (start + length hashes)) before after
+inserts_run keys offsets hashes before next after start are first second =
+    rw all (inserts_append (key_hashes keys offsets start) hashes before next after first second)
+  where
+    all : key_hashes keys offsets (start + length hashes) ≡ key_hashes keys offsets start ++ hashes
+    all =
+        let whole = length-key_hashes keys offsets (start + length hashes) in
+        let part = length-key_hashes keys offsets start in
+        ext_get_or 0 (key_hashes keys offsets (start + length hashes)) (key_hashes keys offsets start ++ hashes)
+        (omega (arith, whole, part, length-append (key_hashes keys offsets start) hashes)) (λ k within.
+        let below : k < start + length hashes = omega (arith, within, whole) in
+        key_hash keys offsets (start + length hashes) k below ∙ sym (elim (cases_lt k start) [
+          | inl early ↦
+              get_or_append_left (key_hashes keys offsets start) hashes 0 k (omega (arith, early, part))
+              ∙ key_hash keys offsets start k early
+          | inr late ↦
+              let place : start + (k - start) ≡ k = omega (arith, late) in
+              get_or-append_right (key_hashes keys offsets start) hashes start k 0 part late
+              ∙ are (k - start) 0 (omega (arith, below, late))
+              ∙ ap (λ i. hash_of (key_at keys offsets i)) place
+        ]))
 
-pub is_next_bound : (keys offsets : List ℕ) (n k : ℕ) → AreBounds keys offsets n → k < n →
-    IsBound keys offsets (k + 1)
-is_next_bound keys offsets n k bounds below = elim bounds [
-  | inl no_keys ↦ absurd (omega (arith, no_keys.0, below))
-  | inr are ↦ are (k + 1) (omega (arith, below))
-]
-
-pub ruleset key_columns = (key_hash, is_bound, is_next_bound)
-
--- all hashes of a list
-pub inserts_whole : (all : List ℕ) (n : ℕ) (before after : List ℕ) → length all ≤ n →
-    InsertsAll (take n all) before after → InsertsAll all before after
-inserts_whole all n before after long inserts = rw (← take_all n all long) inserts
-
--- n answers more, for the first hashes of another list
-pub answers_part : (filter all hashes before after : List ℕ) (start n : ℕ) → n ≤ length hashes →
-    ((k : ℕ) → k < n → get_or hashes k 0 ≡ get_or all (start + k) 0) →
-    ((k : ℕ) → k < start → IsAnswer filter (get_or all k 0) (get_or before k 0)) →
-    ((k : ℕ) → k < length (take n hashes) →
-    IsAnswer filter (get_or (take n hashes) k 0) (get_or after (start + k) 0)) →
+-- the answers for a run of keys more
+pub answers_run : (filter keys offsets hashes before after : List ℕ) (start : ℕ) →
+    AreHashes (xxh64 0) (λ i. key_at keys offsets (start + i)) hashes →
+    ((k : ℕ) → k < start → IsAnswer filter (hash_of (key_at keys offsets k)) (get_or before k 0)) →
+    ((k : ℕ) → k < length hashes → IsAnswer filter (get_or hashes k 0) (get_or after (start + k) 0)) →
     ((k : ℕ) → k < start → get_or after k 0 ≡ get_or before k 0) →
-    (k : ℕ) → k < start + n → IsAnswer filter (get_or all k 0) (get_or after k 0)
-answers_part filter all hashes before after start n few same first second others k below =
+    (k : ℕ) → k < start + length hashes → IsAnswer filter (hash_of (key_at keys offsets k)) (get_or after k 0)
+answers_run filter keys offsets hashes before after start are first second same k below =
     elim (cases_lt k start) [
-      | inl early ↦ rw (others k early) (first k early)
+      | inl early ↦ rw (same k early) (first k early)
       | inr late ↦
           let place : start + (k - start) ≡ k = omega (arith, late) in
-          let low : k - start < n = omega (arith, late, below) in
-          let P : ℕ → Type 0 = λ i. IsAnswer filter (get_or all i 0) (get_or after i 0) in
-          let here : IsAnswer filter (get_or (take n hashes) (k - start) 0)
-          (get_or after (start + (k - start)) 0) =
-          second (k - start) (omega (arith, low, length-take-le n hashes few)) in
-          subst P place (rw (get_or-take n hashes (k - start) 0 low, same (k - start) low) at here)
+          let low : k - start < length hashes = omega (arith, late, below) in
+          let P : ℕ → Type 0 = λ i. IsAnswer filter (hash_of (key_at keys offsets i)) (get_or after i 0) in
+          subst P place (rw (are (k - start) 0 low) at (second (k - start) low))
     ]

@@ -37,9 +37,10 @@ pub fn insert_each<O: Offset>(filter: &mut [u8], keys: &[u8], offsets: &[O]) -> 
     let mut hashes = [0; AHEAD];
     let mut start = 0;
     while start < count {
-        let n = hash_ahead(keys, offsets, start, count, &mut hashes);
-        insert_hashes(filter, blocks, &hashes[..n]);
-        start += n;
+        let run = &mut hashes[..AHEAD.min(count - start)];
+        XxHash64::hash_run(keys, offsets, start, 0, run);
+        insert_hashes(filter, blocks, run);
+        start += run.len();
     }
     Ok(())
 }
@@ -52,6 +53,7 @@ pub fn insert_each<O: Offset>(filter: &mut [u8], keys: &[u8], offsets: &[O]) -> 
 /// Returns [`Fault::Length`] if the length of `filter` is not a positive multiple of 32 below 2^37.
 /// Otherwise returns [`Fault::Offset`] with the index of the first offset that is missing, is past
 /// the end of `keys`, or is below the offset before it. `found` is then unchanged.
+#[tactic(auto, using(crate::proofs::ColumnLemmas::key_hash))]
 pub fn contains_each<O: Offset>(
     filter: &[u8],
     keys: &[u8],
@@ -71,9 +73,10 @@ pub fn contains_each<O: Offset>(
     let mut hashes = [0; AHEAD];
     let mut start = 0;
     while start < count {
-        let n = hash_ahead(keys, offsets, start, count, &mut hashes);
-        find_hashes(filter, blocks, &hashes[..n], found, start);
-        start += n;
+        let run = &mut hashes[..AHEAD.min(count - start)];
+        XxHash64::hash_run(keys, offsets, start, 0, run);
+        find_hashes(filter, blocks, run, found, start);
+        start += run.len();
     }
     Ok(())
 }
@@ -164,31 +167,8 @@ pub fn contains_each_hash(filter: &[u8], hashes: &[u64], found: &mut [u8]) -> Re
     Ok(())
 }
 
-// Hashes the keys from index `start` on, at most AHEAD of them, and returns how many.
-#[tactic(auto, using(crate::proofs::ColumnLemmas::key_columns))]
-fn hash_ahead<O: Offset>(
-    keys: &[u8],
-    offsets: &[O],
-    start: usize,
-    count: usize,
-    hashes: &mut [u64; AHEAD],
-) -> usize
-    requires bounds { AreBounds keys.now (map O.place offsets.now) count }
-    requires more { start < count }
-    ensures few { result ≤ 32 }
-    ensures some { 0 < result }
-    ensures within { start + result ≤ count }
-    ensures hashes { let all = key_hashes keys.now (map O.place offsets.now) count in
-        (k : ℕ) → k < result → slice_index hashes.new k ≡ slice_index all (start + k) }
-{
-    let n = AHEAD.min(count - start);
-    for i in 0..n {
-        hashes[i] = XxHash64::hash(key_at(keys, offsets, start + i), 0);
-    }
-    n
-}
-
 // Inserts hashes into a filter with this many blocks.
+#[inline(never)]
 fn insert_hashes(filter: &mut [u8], blocks: u64, hashes: &[u64])
     requires size { IsLength (length filter.old) }
     requires blocks { blocks ≡ length filter.old / 32 }
@@ -212,6 +192,7 @@ pub(crate) fn insert_values<T: Hash>(filter: &mut [u8], blocks: u64, values: &[T
 }
 
 // Writes to `found[start..]` whether a filter with this many blocks contains the hashes.
+#[inline(never)]
 fn find_hashes(filter: &[u8], blocks: u64, hashes: &[u64], found: &mut [u8], start: usize)
     requires size { IsLength (length filter.now) }
     requires blocks { blocks ≡ length filter.now / 32 }
@@ -224,14 +205,4 @@ fn find_hashes(filter: &[u8], blocks: u64, hashes: &[u64], found: &mut [u8], sta
     for i in 0..hashes.len() {
         found[start + i] = u8::from(is_in(filter, blocks, hashes[i]));
     }
-}
-
-// The bytes of key `i`.
-#[inline(always)]
-fn key_at<'a, O: Offset>(keys: &'a [u8], offsets: &[O], i: usize) -> &'a [u8]
-    requires start { IsBound keys.now (map O.place offsets.now) i }
-    requires end { IsBound keys.now (map O.place offsets.now) (i + 1) }
-    ensures { result.now ≡ key_at keys.now (map O.place offsets.now) i }
-{
-    &keys[offsets[i].place()..offsets[i + 1].place()]
 }

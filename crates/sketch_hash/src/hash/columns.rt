@@ -1,7 +1,7 @@
 //! Columns of keys: a call hashes all keys of a column.
 
-ghost use Rattle.std.specs.Prelude.{◌≡◌, ◌∷◌, ◌+◌, ◌<◌, ℕ, get_or, map, slice_index, MatchResult};
-ghost use Rattle.sketch_hash.specs.Columns.{HashesEach, HashesEachNumber, IsBound, AreBounds, IsFirstWrongOffset, key_at, murmur_words};
+ghost use Rattle.std.specs.Prelude.{◌≡◌, ◌∷◌, ◌+◌, ◌<◌, ℕ, get_or, length, map, slice_index, MatchResult};
+ghost use Rattle.sketch_hash.specs.Columns.{AreHashes, HashesEach, HashesEachNumber, IsBound, AreBounds, IsFirstWrongOffset, key_at, murmur_words};
 ghost use Rattle.sketch_hash.specs.Xxh64.{xxh64};
 
 use super::murmurhash::MurmurHash3X64128;
@@ -64,6 +64,26 @@ impl XxHash64 {
         Ok(())
     }
 
+    /// The 64-bit hash of each key of a run under a seed: of key `start`, and of as many keys as
+    /// `out` has places. For a caller that has checked the offsets, as [`check_offsets`] does.
+    #[inline(never)]
+    pub fn hash_run<O: Offset>(
+        bytes: &[u8],
+        offsets: &[O],
+        start: usize,
+        seed: u64,
+        out: &mut [u64],
+    )
+        requires { AreBounds bytes.now (map O.place offsets.now) (start + length out.old) }
+        ensures size { length out.new ≡ length out.old }
+        ensures each { let places = map O.place offsets.now in
+            AreHashes (xxh64 seed) (λ i. key_at bytes.now places (start + i)) out.new }
+    {
+        for i in 0..out.len() {
+            out[i] = XxHash64::hash(key_at(bytes, offsets, start + i), seed);
+        }
+    }
+
     /// The 64-bit hash of each number's eight little-endian bytes under a seed, each at its place
     /// of `out`, for as many numbers as `out` has places.
     ///
@@ -121,7 +141,7 @@ impl MurmurHash3X64128 {
 ///
 /// Returns the index of the first of the `keys + 1` offsets that is missing, is past the end of
 /// `bytes`, or is below the offset before it.
-#[inline(always)]
+#[inline(never)]
 pub fn check_offsets<O: Offset>(bytes: &[u8], offsets: &[O], keys: usize) -> Result<(), usize>
     ensures { let places = map O.place offsets.now in MatchResult result
         (λ _. AreBounds bytes.now places keys) (λ i. IsFirstWrongOffset bytes.now places keys i) }
