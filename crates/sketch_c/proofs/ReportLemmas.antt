@@ -1,28 +1,30 @@
--- How an outcome becomes a number.
-use Rattle.std.proofs.Common.{◌≡◌, ◌⊎◌, ℕ, ℤ, pos, inl, inr}
+-- How the outcome of a column becomes a number. An offset's place is the offset itself.
+use Rattle.std.proofs.Common.{◌≡◌, ℕ, ℤ, List, map, pos, inl, inr}
 use Rattle.std.specs.Prelude.{MatchResult, Result, Ok, Err}
+use Rattle.std.proofs.lemmas.List.{map-id}
 use Rattle.sketch_bloom.specs.declared.fault.Fault.{Fault}
-use Rattle.sketch_c.specs.{ReportsOffset, error_offset, index_of, status}
+use Rattle.sketch_c.specs.{ReportsIndex, ReportsOffset, error, index_of, status}
 
--- a column of keys that was hashed
-pub reports_offset : (Outcome : Result Unit ℕ → Type 0) (hashed : Result Unit ℕ) (before after : ℕ)
-    (result : ℤ) →
-    Outcome hashed →
-    MatchResult hashed (λ _. (result ≡ pos 0) × (after ≡ before))
-    (λ i. (result ≡ error_offset) × (after ≡ i)) →
-    ReportsOffset Outcome before after result
-reports_offset Outcome (Ok tt) before after result outcome is = inl (is.0, is.1, outcome)
-reports_offset Outcome (Err i) before after result outcome is = inr (is.0, rw is.1 outcome)
+-- keys that were hashed
+pub hashed : (Outcome : List ℕ → Result Unit ℕ → Type 0) (offsets : List ℕ) (outcome : Result Unit ℕ)
+    (before after : ℕ) (number result : ℤ) → Outcome (map (λ n. n) offsets) outcome → result ≡ number →
+    MatchResult outcome (λ _. (number ≡ pos 0) × (after ≡ before))
+    (λ i. (number ≡ error 2) × (after ≡ i)) →
+    ReportsOffset (Outcome offsets) before after result
+hashed Outcome offsets (Ok tt) before after number result done same is =
+    rw same (inl (is.0, is.1, rw (map-id offsets) at done))
+hashed Outcome offsets (Err i) before after number result fails same is =
+    rw same (inr (is.0, rw (is.1, ← map-id offsets) fails))
 
--- a column of keys that was looked up in a filter
-pub reports_found : (IsFilter Finds Same : Type 0) (Fails : Fault → Type 0) (outcome : Result Unit Fault)
-    (before after : ℕ) (result : ℤ) →
-    MatchResult outcome (λ _. IsFilter × Finds) (λ fault. Same × Fails fault) →
-    MatchResult outcome (λ _. (result ≡ pos 0) × (after ≡ before))
-    (λ fault. (result ≡ status fault) × (after ≡ index_of fault before)) →
-    ((result ≡ pos 0) × (after ≡ before) × IsFilter × Finds)
-    ⊎ (Same × (fault : Fault) × Fails fault × (result ≡ status fault) × (after ≡ index_of fault before))
-reports_found IsFilter Finds Same Fails (Ok u) before after result outcome is =
-    inl (is.0, is.1, outcome.0, outcome.1)
-reports_found IsFilter Finds Same Fails (Err fault) before after result outcome is =
-    inr (outcome.0, fault, outcome.1, is.0, is.1)
+-- keys that were looked up in a filter
+pub looked_up : (Done : List ℕ → Type 0) (Same : Type 0) (Fails : List ℕ → Fault → Type 0) (offsets : List ℕ)
+    (outcome : Result Unit Fault) (before after : ℕ) (number result : ℤ) →
+    MatchResult outcome (λ _. Done (map (λ n. n) offsets)) (λ fault. Same × Fails (map (λ n. n) offsets) fault) →
+    result ≡ number →
+    MatchResult outcome (λ _. (number ≡ pos 0) × (after ≡ before))
+    (λ fault. (number ≡ status fault) × (after ≡ index_of fault before)) →
+    ReportsIndex (Done offsets) Same (Fails offsets) before after result
+looked_up Done Same Fails offsets (Ok tt) before after number result done same is =
+    rw same (inl (is.0, is.1, rw (map-id offsets) at done))
+looked_up Done Same Fails offsets (Err fault) before after number result fails same is =
+    rw same (inr (fails.0, fault, rw (map-id offsets) at fails.1, is.0, is.1))

@@ -1,24 +1,20 @@
 -- How calls for C report errors: 0 if all is done, or a negative number for each error.
-use Rattle.std.specs.Prelude.{◌≡◌, ◌⊎◌, ℕ, ℤ, pos, ◌-ℤ◌, Result, Ok, Err}
+use Rattle.std.specs.Prelude.{◌≡◌, ◌⊎◌, ◌≤◌, ℕ, ℤ, pos, ◌-ℤ◌, List, length, Result, Ok, Err}
 use Rattle.sketch_bloom.specs.declared.fault.Fault.{Fault}
+use Rattle.sketch_bloom.specs.Columns.{FindsEach, IsValuesFault}
+use Rattle.sketch_bloom.specs.Filter.{IsLength, IsMember}
 use Rattle.sketch_bloom.specs.declared.fault.Fault.TheVariants.{Length, OtherLength, Offset, Count, OutOfMemory}
 
-abbrev pub error_length : ℤ
-error_length = pos 0 -ℤ pos 1
+abbrev pub error : ℕ → ℤ
+error n = pos 0 -ℤ pos n
 
-abbrev pub error_offset : ℤ
-error_offset = pos 0 -ℤ pos 2
-
-abbrev pub error_count : ℤ
-error_count = pos 0 -ℤ pos 3
-
--- The number of a fault of a Bloom filter. No call for C takes memory.
+-- The number of a fault. No call for C takes memory.
 abbrev pub status : Fault → ℤ
-status (Length bytes) = error_length
-status (OtherLength bytes) = error_length
-status (Offset i) = error_offset
-status (Count values) = error_count
-status OutOfMemory = pos 0 -ℤ pos 4
+status (Length bytes) = error 1
+status (OtherLength bytes) = error 1
+status (Offset i) = error 2
+status (Count values) = error 3
+status OutOfMemory = error 4
 
 -- The index of a wrong offset is written. Any other fault leaves the place as it was.
 abbrev pub index_of : Fault → ℕ → ℕ
@@ -28,14 +24,40 @@ index_of (Offset i) before = i
 index_of (Count values) before = before
 index_of OutOfMemory before = before
 
+-- A call that changes a filter did so, or no filter has this length.
+abbrev pub Changes : Type 0 → List ℕ → List ℕ → ℤ → Type 0
+Changes Done before after result =
+    ((result ≡ pos 0) × IsLength (length before) × Done)
+    ⊎ ((result ≡ error 1) × (after ≡ before) × (IsLength (length before) → ⊥))
+
+-- A look-up returns 1 also for bytes that no filter has, since they rule nothing out.
+abbrev pub MayContain : List ℕ → ℕ → ℤ → Type 0
+MayContain bits hash result =
+    ((result ≡ pos 1) × (IsLength (length bits) → IsMember bits hash))
+    ⊎ ((result ≡ pos 0) × IsLength (length bits) × (IsMember bits hash → ⊥))
+
+-- A call that looks up a column of numbers or hashes has this outcome.
+abbrev pub ReportsFound : List ℕ → List ℕ → List ℕ → List ℕ → ℤ → Type 0
+ReportsFound bits hashes before after result =
+    let n = length before in
+    ((result ≡ pos 0) × IsLength (length bits) × (n ≤ length hashes) × FindsEach bits hashes n after)
+    ⊎ ((after ≡ before) × (fault : Fault) × IsValuesFault (length bits) (length hashes) n fault
+    × (result ≡ status fault))
+
+-- A call on a column of keys is done, or leaves all the same and writes the index of a wrong offset.
+abbrev pub ReportsIndex : Type 0 → Type 0 → (Fault → Type 0) → ℕ → ℕ → ℤ → Type 0
+ReportsIndex Done Same Fails before after result =
+    ((result ≡ pos 0) × (after ≡ before) × Done)
+    ⊎ (Same × (fault : Fault) × Fails fault × (result ≡ status fault) × (after ≡ index_of fault before))
+
 -- A call that hashes a column of keys has this outcome, and writes the index of a wrong offset.
 abbrev pub ReportsOffset : (Result Unit ℕ → Type 0) → ℕ → ℕ → ℤ → Type 0
 ReportsOffset Outcome before after result =
     ((result ≡ pos 0) × (after ≡ before) × Outcome (Ok tt))
-    ⊎ ((result ≡ error_offset) × Outcome (Err after))
+    ⊎ ((result ≡ error 2) × Outcome (Err after))
 
 -- A call that hashes a column of numbers has this outcome: there may be fewer numbers than places.
 abbrev pub ReportsCount : (Result Unit ℕ → Type 0) → ℤ → Type 0
 ReportsCount Outcome result =
     ((result ≡ pos 0) × Outcome (Ok tt))
-    ⊎ ((result ≡ error_count) × (numbers : ℕ) × Outcome (Err numbers))
+    ⊎ ((result ≡ error 3) × (numbers : ℕ) × Outcome (Err numbers))

@@ -6,14 +6,10 @@ ghost use Rattle.sketch_bloom.specs.declared.fault.Fault.{Fault};
 ghost use Rattle.sketch_bloom.specs.Columns.{FindsEach, IsKeysFault, IsValuesFault, key_count, key_hashes};
 ghost use Rattle.sketch_bloom.specs.Filter.{Inserts, InsertsAll, IsLength, IsMember, IsMergeFault, Merges, hash_of};
 ghost use Rattle.sketch_bloom.specs.Header.{IsHeaderLength, header};
-ghost use Rattle.sketch_c.specs.{error_length, index_of, status};
+ghost use Rattle.sketch_c.specs.{Changes, MayContain, ReportsFound, ReportsIndex, error};
 
+use crate::{done, reported};
 use datasketches::hash::value::raw_bytes;
-use sketch_bloom::{
-    Fault, bytes_for, contains, contains_each, contains_each_hash, contains_each_value,
-    contains_hash, insert, insert_each, insert_each_hash, insert_each_value, insert_hash,
-    is_length, merge, read_header, write_header,
-};
 
 /// The smallest number of bytes, a power of two from 32 bytes to 128 MiB, for a filter of `keys`
 /// different keys with a false positive rate of at most one in `one_in`. Returns 0 if there is
@@ -26,57 +22,54 @@ pub extern "C" fn sketch_bloom_bytes_for(keys: u64, one_in: u64) -> usize
     ensures load { 1 < one_in → (result ≡ 0) ⊎ (keys ≤ 4 * result) }
     ensures none { one_in ≡ 0 → result ≡ 0 }
 {
-    bytes_for(keys, one_in).unwrap_or(0)
+    sketch_bloom::bytes_for(keys, one_in).unwrap_or(0)
 }
 
 /// Returns 0 if a filter can have this many bytes, and -1 if not.
 #[unsafe(no_mangle)]
 pub extern "C" fn sketch_bloom_check(length: usize) -> i32
     ensures { ((result ≡ pos 0) × IsLength length)
-        ⊎ ((result ≡ error_length) × (IsLength length → ⊥)) }
+        ⊎ ((result ≡ error 1) × (IsLength length → ⊥)) }
 {
-    if is_length(length) { 0 } else { -1 }
+    if sketch_bloom::is_length(length) {
+        0
+    } else {
+        -1
+    }
 }
 
 /// Inserts a key.
 #[unsafe(no_mangle)]
 pub extern "C" fn sketch_bloom_insert(bits: &mut [u8], key: &[u8]) -> i32
-    ensures { ((result ≡ pos 0) × IsLength (length bits.old)
-        × Inserts (hash_of key.now) bits.old bits.new)
-        ⊎ ((result ≡ error_length) × (bits.new ≡ bits.old) × (IsLength (length bits.old) → ⊥)) }
+    ensures { Changes (Inserts (hash_of key.now) bits.old bits.new) bits.old bits.new result }
 {
-    done(insert(bits, &raw_bytes::from_slice(key)))
+    done(sketch_bloom::insert(bits, &raw_bytes::from_slice(key)))
 }
 
 /// Returns 0 if the filter certainly does not contain a key, and 1 if it may. Returns 1 too if the
 /// length is not that of a filter, since such bytes rule nothing out.
 #[unsafe(no_mangle)]
 pub extern "C" fn sketch_bloom_contains(bits: &[u8], key: &[u8]) -> i32
-    ensures { ((result ≡ pos 1)
-        × (IsLength (length bits.now) → IsMember bits.now (hash_of key.now)))
-        ⊎ ((result ≡ pos 0) × IsLength (length bits.now)
-        × (IsMember bits.now (hash_of key.now) → ⊥)) }
+    ensures { MayContain bits.now (hash_of key.now) result }
 {
-    i32::from(contains(bits, &raw_bytes::from_slice(key)).unwrap_or(true))
+    i32::from(sketch_bloom::contains(bits, &raw_bytes::from_slice(key)).unwrap_or(true))
 }
 
 /// Inserts a key by its hash: XXH64 with seed 0.
 #[unsafe(no_mangle)]
 pub extern "C" fn sketch_bloom_insert_hash(bits: &mut [u8], hash: u64) -> i32
-    ensures { ((result ≡ pos 0) × IsLength (length bits.old) × Inserts hash bits.old bits.new)
-        ⊎ ((result ≡ error_length) × (bits.new ≡ bits.old) × (IsLength (length bits.old) → ⊥)) }
+    ensures { Changes (Inserts hash bits.old bits.new) bits.old bits.new result }
 {
-    done(insert_hash(bits, hash))
+    done(sketch_bloom::insert_hash(bits, hash))
 }
 
 /// Returns 0 if the filter certainly does not contain the key with this hash, XXH64 with seed 0,
 /// and 1 if it may or the length is not that of a filter.
 #[unsafe(no_mangle)]
 pub extern "C" fn sketch_bloom_contains_hash(bits: &[u8], hash: u64) -> i32
-    ensures { ((result ≡ pos 1) × (IsLength (length bits.now) → IsMember bits.now hash))
-        ⊎ ((result ≡ pos 0) × IsLength (length bits.now) × (IsMember bits.now hash → ⊥)) }
+    ensures { MayContain bits.now hash result }
 {
-    i32::from(contains_hash(bits, hash).unwrap_or(true))
+    i32::from(sketch_bloom::contains_hash(bits, hash).unwrap_or(true))
 }
 
 /// Inserts the keys of a column with 32-bit offsets. There is one key less than offsets.
@@ -87,14 +80,13 @@ pub extern "C" fn sketch_bloom_insert_each32(
     offsets: &[u32],
     wrong_offset: &mut usize,
 ) -> i32
-    ensures { let n = key_count offsets.now in
-        ((result ≡ pos 0) × (wrong_offset.new ≡ wrong_offset.old) × IsLength (length bits.old)
+    ensures { let n = key_count offsets.now in ReportsIndex
+        (IsLength (length bits.old)
         × InsertsAll (key_hashes keys.now offsets.now n) bits.old bits.new)
-        ⊎ ((bits.new ≡ bits.old) × (fault : Fault)
-        × IsKeysFault (length bits.old) keys.now offsets.now n fault
-        × (result ≡ status fault) × (wrong_offset.new ≡ index_of fault wrong_offset.old)) }
+        (bits.new ≡ bits.old) (IsKeysFault (length bits.old) keys.now offsets.now n)
+        wrong_offset.old wrong_offset.new result }
 {
-    reported(insert_each(bits, keys, offsets), wrong_offset)
+    reported(sketch_bloom::insert_each(bits, keys, offsets), wrong_offset)
 }
 
 /// Inserts the keys of a column with 64-bit offsets. There is one key less than offsets.
@@ -105,48 +97,42 @@ pub extern "C" fn sketch_bloom_insert_each64(
     offsets: &[u64],
     wrong_offset: &mut usize,
 ) -> i32
-    ensures { let n = key_count offsets.now in
-        ((result ≡ pos 0) × (wrong_offset.new ≡ wrong_offset.old) × IsLength (length bits.old)
+    ensures { let n = key_count offsets.now in ReportsIndex
+        (IsLength (length bits.old)
         × InsertsAll (key_hashes keys.now offsets.now n) bits.old bits.new)
-        ⊎ ((bits.new ≡ bits.old) × (fault : Fault)
-        × IsKeysFault (length bits.old) keys.now offsets.now n fault
-        × (result ≡ status fault) × (wrong_offset.new ≡ index_of fault wrong_offset.old)) }
+        (bits.new ≡ bits.old) (IsKeysFault (length bits.old) keys.now offsets.now n)
+        wrong_offset.old wrong_offset.new result }
 {
-    reported(insert_each(bits, keys, offsets), wrong_offset)
+    reported(sketch_bloom::insert_each(bits, keys, offsets), wrong_offset)
 }
 
 /// Inserts the four little-endian bytes of each number.
 #[unsafe(no_mangle)]
 pub extern "C" fn sketch_bloom_insert_each_u32(bits: &mut [u8], values: &[u32]) -> i32
-    ensures { ((result ≡ pos 0) × IsLength (length bits.old)
-        × InsertsAll (map (λ n. hash_of (low_bytes 4 n)) values.now) bits.old bits.new)
-        ⊎ ((result ≡ error_length) × (bits.new ≡ bits.old) × (IsLength (length bits.old) → ⊥)) }
+    ensures { let hashes = map (λ n. hash_of (low_bytes 4 n)) values.now in
+        Changes (InsertsAll hashes bits.old bits.new) bits.old bits.new result }
 {
-    done(insert_each_value(bits, values))
+    done(sketch_bloom::insert_each_value(bits, values))
 }
 
 /// Inserts the eight little-endian bytes of each number.
 #[unsafe(no_mangle)]
 pub extern "C" fn sketch_bloom_insert_each_u64(bits: &mut [u8], values: &[u64]) -> i32
-    ensures { ((result ≡ pos 0) × IsLength (length bits.old)
-        × InsertsAll (map (λ n. hash_of (low_bytes 8 n)) values.now) bits.old bits.new)
-        ⊎ ((result ≡ error_length) × (bits.new ≡ bits.old) × (IsLength (length bits.old) → ⊥)) }
+    ensures { let hashes = map (λ n. hash_of (low_bytes 8 n)) values.now in
+        Changes (InsertsAll hashes bits.old bits.new) bits.old bits.new result }
 {
-    done(insert_each_value(bits, values))
+    done(sketch_bloom::insert_each_value(bits, values))
 }
 
 /// Inserts each key of a column by its hash: XXH64 with seed 0.
 #[unsafe(no_mangle)]
 pub extern "C" fn sketch_bloom_insert_each_hash(bits: &mut [u8], hashes: &[u64]) -> i32
-    ensures { ((result ≡ pos 0) × IsLength (length bits.old)
-        × InsertsAll hashes.now bits.old bits.new)
-        ⊎ ((result ≡ error_length) × (bits.new ≡ bits.old) × (IsLength (length bits.old) → ⊥)) }
+    ensures { Changes (InsertsAll hashes.now bits.old bits.new) bits.old bits.new result }
 {
-    done(insert_each_hash(bits, hashes))
+    done(sketch_bloom::insert_each_hash(bits, hashes))
 }
 
-/// Writes to `found[i]` whether the filter may contain key i of a column with 32-bit offsets, 1 or
-/// 0.
+/// Writes to `found[i]` 1 if the filter may contain key i of a column with 32-bit offsets, else 0.
 #[unsafe(no_mangle)]
 pub extern "C" fn sketch_bloom_contains_each32(
     bits: &[u8],
@@ -155,18 +141,19 @@ pub extern "C" fn sketch_bloom_contains_each32(
     found: &mut [u8],
     wrong_offset: &mut usize,
 ) -> i32
-    ensures { let n = length found.old in
-        ((result ≡ pos 0) × (wrong_offset.new ≡ wrong_offset.old) × IsLength (length bits.now)
+    ensures { let n = length found.old in ReportsIndex
+        (IsLength (length bits.now)
         × FindsEach bits.now (key_hashes keys.now offsets.now n) n found.new)
-        ⊎ ((found.new ≡ found.old) × (fault : Fault)
-        × IsKeysFault (length bits.now) keys.now offsets.now n fault
-        × (result ≡ status fault) × (wrong_offset.new ≡ index_of fault wrong_offset.old)) }
+        (found.new ≡ found.old) (IsKeysFault (length bits.now) keys.now offsets.now n)
+        wrong_offset.old wrong_offset.new result }
 {
-    reported(contains_each(bits, keys, offsets, found), wrong_offset)
+    reported(
+        sketch_bloom::contains_each(bits, keys, offsets, found),
+        wrong_offset,
+    )
 }
 
-/// Writes to `found[i]` whether the filter may contain key i of a column with 64-bit offsets, 1 or
-/// 0.
+/// Writes to `found[i]` 1 if the filter may contain key i of a column with 64-bit offsets, else 0.
 #[unsafe(no_mangle)]
 pub extern "C" fn sketch_bloom_contains_each64(
     bits: &[u8],
@@ -175,75 +162,64 @@ pub extern "C" fn sketch_bloom_contains_each64(
     found: &mut [u8],
     wrong_offset: &mut usize,
 ) -> i32
-    ensures { let n = length found.old in
-        ((result ≡ pos 0) × (wrong_offset.new ≡ wrong_offset.old) × IsLength (length bits.now)
+    ensures { let n = length found.old in ReportsIndex
+        (IsLength (length bits.now)
         × FindsEach bits.now (key_hashes keys.now offsets.now n) n found.new)
-        ⊎ ((found.new ≡ found.old) × (fault : Fault)
-        × IsKeysFault (length bits.now) keys.now offsets.now n fault
-        × (result ≡ status fault) × (wrong_offset.new ≡ index_of fault wrong_offset.old)) }
+        (found.new ≡ found.old) (IsKeysFault (length bits.now) keys.now offsets.now n)
+        wrong_offset.old wrong_offset.new result }
 {
-    reported(contains_each(bits, keys, offsets, found), wrong_offset)
+    reported(
+        sketch_bloom::contains_each(bits, keys, offsets, found),
+        wrong_offset,
+    )
 }
 
-/// Writes to `found[i]` whether the filter may contain the four little-endian bytes of number i, 1
-/// or 0.
+/// Writes to `found[i]` 1 if the filter may contain number i, as four little-endian bytes, else 0.
 #[unsafe(no_mangle)]
 pub extern "C" fn sketch_bloom_contains_each_u32(
     bits: &[u8],
     values: &[u32],
     found: &mut [u8],
 ) -> i32
-    ensures { let n = length found.old in
-        ((result ≡ pos 0) × IsLength (length bits.now) × (n ≤ length values.now)
-        × FindsEach bits.now (map (λ v. hash_of (low_bytes 4 v)) values.now) n found.new)
-        ⊎ ((found.new ≡ found.old) × (fault : Fault)
-        × IsValuesFault (length bits.now) (length values.now) n fault × (result ≡ status fault)) }
+    ensures { let hashes = map (λ v. hash_of (low_bytes 4 v)) values.now in
+        ReportsFound bits.now hashes found.old found.new result }
 {
-    done(contains_each_value(bits, values, found))
+    done(sketch_bloom::contains_each_value(bits, values, found))
 }
 
-/// Writes to `found[i]` whether the filter may contain the eight little-endian bytes of number i, 1
-/// or 0.
+/// Writes to `found[i]` 1 if the filter may contain number i, as eight little-endian bytes, else 0.
 #[unsafe(no_mangle)]
 pub extern "C" fn sketch_bloom_contains_each_u64(
     bits: &[u8],
     values: &[u64],
     found: &mut [u8],
 ) -> i32
-    ensures { let n = length found.old in
-        ((result ≡ pos 0) × IsLength (length bits.now) × (n ≤ length values.now)
-        × FindsEach bits.now (map (λ v. hash_of (low_bytes 8 v)) values.now) n found.new)
-        ⊎ ((found.new ≡ found.old) × (fault : Fault)
-        × IsValuesFault (length bits.now) (length values.now) n fault × (result ≡ status fault)) }
+    ensures { let hashes = map (λ v. hash_of (low_bytes 8 v)) values.now in
+        ReportsFound bits.now hashes found.old found.new result }
 {
-    done(contains_each_value(bits, values, found))
+    done(sketch_bloom::contains_each_value(bits, values, found))
 }
 
-/// Writes to `found[i]` whether the filter may contain the key with hash i, XXH64 with seed 0: 1 or
-/// 0.
+/// Writes to `found[i]` 1 if the filter may contain the key with hash i (XXH64, seed 0), else 0.
 #[unsafe(no_mangle)]
 pub extern "C" fn sketch_bloom_contains_each_hash(
     bits: &[u8],
     hashes: &[u64],
     found: &mut [u8],
 ) -> i32
-    ensures { let n = length found.old in
-        ((result ≡ pos 0) × IsLength (length bits.now) × (n ≤ length hashes.now)
-        × FindsEach bits.now hashes.now n found.new)
-        ⊎ ((found.new ≡ found.old) × (fault : Fault)
-        × IsValuesFault (length bits.now) (length hashes.now) n fault × (result ≡ status fault)) }
+    ensures { ReportsFound bits.now hashes.now found.old found.new result }
 {
-    done(contains_each_hash(bits, hashes, found))
+    done(sketch_bloom::contains_each_hash(bits, hashes, found))
 }
 
 /// Merges the filter `from` into the filter `into` of the same length.
 #[unsafe(no_mangle)]
 pub extern "C" fn sketch_bloom_merge(into: &mut [u8], from: &[u8]) -> i32
     ensures { ((result ≡ pos 0) × IsLength (length into.old) × Merges from.now into.old into.new)
-        ⊎ ((result ≡ error_length) × (into.new ≡ into.old)
+        ⊎ ((result ≡ error 1) × (into.new ≡ into.old)
         × ((fault : Fault) × IsMergeFault (length into.old) (length from.now) fault)) }
 {
-    done(merge(into, from))
+    done(sketch_bloom::merge(into, from))
 }
 
 /// Writes the header of a filter with this many bytes to the start of `out`, and returns the
@@ -255,7 +231,7 @@ pub extern "C" fn sketch_bloom_header_write(bytes: u64, out: &mut [u8]) -> usize
         ⊎ ((result ≡ 0) × (out.new ≡ out.old)
         × (IsHeaderLength bytes → length out.old < length (header bytes))) }
 {
-    write_header(bytes as usize, out).unwrap_or(0)
+    sketch_bloom::write_header(bytes as usize, out).unwrap_or(0)
 }
 
 /// Reads the header at the start of `input`: returns the header's length, and writes the filter's
@@ -268,48 +244,11 @@ pub extern "C" fn sketch_bloom_header_read(input: &[u8], bytes: &mut u64) -> usi
         × ((filter : ℕ) (after : List ℕ) → IsHeaderLength filter →
         input.now ≡ header filter ++ after → ⊥)) }
 {
-    match read_header(input) {
+    match sketch_bloom::read_header(input) {
         Some((filter, count)) => {
             *bytes = filter as u64;
             count
         }
         None => 0,
-    }
-}
-
-// The status of an outcome.
-#[inline(always)]
-fn done(outcome: Result<(), Fault>) -> i32
-    ensures { MatchResult outcome (λ _. result ≡ pos 0) (λ fault. result ≡ status fault) }
-{
-    match outcome {
-        Ok(()) => 0,
-        Err(fault) => status(fault),
-    }
-}
-
-// The status of an outcome. The index of a wrong offset is written.
-#[inline(always)]
-fn reported(outcome: Result<(), Fault>, wrong_offset: &mut usize) -> i32
-    ensures { MatchResult outcome
-        (λ _. (result ≡ pos 0) × (wrong_offset.new ≡ wrong_offset.old))
-        (λ fault. (result ≡ status fault)
-        × (wrong_offset.new ≡ index_of fault wrong_offset.old)) }
-{
-    if let Err(Fault::Offset(i)) = outcome {
-        *wrong_offset = i;
-    }
-    done(outcome)
-}
-
-// The status of a fault.
-fn status(fault: Fault) -> i32
-    ensures { result ≡ status fault }
-{
-    match fault {
-        Fault::Length(_) | Fault::OtherLength(_) => -1,
-        Fault::Offset(_) => -2,
-        Fault::Count(_) => -3,
-        Fault::OutOfMemory => -4,
     }
 }

@@ -1,11 +1,13 @@
 //! Columns of keys: a call hashes all keys of a column.
 
 ghost use Rattle.std.specs.Prelude.{◌≡◌, ◌⊎◌, MatchResult, pos};
-ghost use Rattle.sketch_c.specs.{ReportsCount, ReportsOffset, error_offset};
+ghost use Rattle.sketch_c.specs.{ReportsCount, ReportsOffset};
 ghost use Rattle.datasketches.specs.Columns.{HashesEach, HashesEachNumber, murmur_words};
 ghost use Rattle.datasketches.specs.Xxh64.{xxh64};
 
+use crate::{done, reported};
 use datasketches::hash::{MurmurHash3X64128, XxHash64};
+use sketch_bloom::Fault;
 
 /// XXH64 of the keys of a column with 32-bit offsets, one for each place of `out`.
 #[unsafe(no_mangle)]
@@ -19,7 +21,8 @@ pub extern "C" fn sketch_xxh64_each32(
     ensures { ReportsOffset (HashesEach (xxh64 seed) input.now offsets.now out.old out.new)
         wrong_offset.old wrong_offset.new result }
 {
-    reported(XxHash64::hash_each(input, offsets, seed, out), wrong_offset)
+    let hashed = XxHash64::hash_each(input, offsets, seed, out);
+    reported(hashed.map_err(Fault::Offset), wrong_offset)
 }
 
 /// XXH64 of the keys of a column with 64-bit offsets, one for each place of `out`.
@@ -34,7 +37,8 @@ pub extern "C" fn sketch_xxh64_each64(
     ensures { ReportsOffset (HashesEach (xxh64 seed) input.now offsets.now out.old out.new)
         wrong_offset.old wrong_offset.new result }
 {
-    reported(XxHash64::hash_each(input, offsets, seed, out), wrong_offset)
+    let hashed = XxHash64::hash_each(input, offsets, seed, out);
+    reported(hashed.map_err(Fault::Offset), wrong_offset)
 }
 
 /// XXH64 of the eight little-endian bytes of each number, one for each place of `out`.
@@ -42,14 +46,10 @@ pub extern "C" fn sketch_xxh64_each64(
 pub extern "C" fn sketch_xxh64_each_u64(values: &[u64], seed: u64, out: &mut [u64]) -> i32
     ensures { ReportsCount (HashesEachNumber (xxh64 seed) values.now out.old out.new) result }
 {
-    match XxHash64::hash_each_u64(values, seed, out) {
-        Ok(()) => 0,
-        Err(_) => -3,
-    }
+    done(XxHash64::hash_each_u64(values, seed, out).map_err(Fault::Count))
 }
 
-/// MurmurHash3 x64 128 of the keys of a column with 32-bit offsets, for as many keys as `out`
-/// has places.
+/// MurmurHash3 x64 128 of the keys of a column with 32-bit offsets, one for each place of `out`.
 #[unsafe(no_mangle)]
 pub extern "C" fn sketch_murmur3_x64_128_each32(
     input: &[u8],
@@ -61,14 +61,11 @@ pub extern "C" fn sketch_murmur3_x64_128_each32(
     ensures { ReportsOffset (HashesEach (murmur_words seed) input.now offsets.now out.old out.new)
         wrong_offset.old wrong_offset.new result }
 {
-    reported(
-        MurmurHash3X64128::hash_each(input, offsets, seed, out),
-        wrong_offset,
-    )
+    let hashed = MurmurHash3X64128::hash_each(input, offsets, seed, out);
+    reported(hashed.map_err(Fault::Offset), wrong_offset)
 }
 
-/// MurmurHash3 x64 128 of the keys of a column with 64-bit offsets, for as many keys as `out`
-/// has places.
+/// MurmurHash3 x64 128 of the keys of a column with 64-bit offsets, one for each place of `out`.
 #[unsafe(no_mangle)]
 pub extern "C" fn sketch_murmur3_x64_128_each64(
     input: &[u8],
@@ -80,24 +77,6 @@ pub extern "C" fn sketch_murmur3_x64_128_each64(
     ensures { ReportsOffset (HashesEach (murmur_words seed) input.now offsets.now out.old out.new)
         wrong_offset.old wrong_offset.new result }
 {
-    reported(
-        MurmurHash3X64128::hash_each(input, offsets, seed, out),
-        wrong_offset,
-    )
-}
-
-// The outcome of a call as a number. The index of a wrong offset is written.
-#[inline(always)]
-fn reported(hashed: Result<(), usize>, wrong_offset: &mut usize) -> i32
-    ensures { MatchResult hashed
-        (λ _. (result ≡ pos 0) × (wrong_offset.new ≡ wrong_offset.old))
-        (λ i. (result ≡ error_offset) × (wrong_offset.new ≡ i)) }
-{
-    match hashed {
-        Ok(()) => 0,
-        Err(i) => {
-            *wrong_offset = i;
-            -2
-        }
-    }
+    let hashed = MurmurHash3X64128::hash_each(input, offsets, seed, out);
+    reported(hashed.map_err(Fault::Offset), wrong_offset)
 }

@@ -9,7 +9,8 @@
 //! wrote the index of a wrong offset.
 #![tactic(auto)]
 
-ghost use Rattle.std.specs.Prelude.{◌≡◌};
+ghost use Rattle.std.specs.Prelude.{◌≡◌, MatchResult, pos};
+ghost use Rattle.sketch_c.specs.{index_of, status};
 
 pub mod bloom;
 pub mod columns;
@@ -18,10 +19,40 @@ pub mod murmur;
 mod tests;
 pub mod xxh64;
 
+use sketch_bloom::Fault;
+
 /// The version of the library as one number, major * 10000 + minor * 100 + patch: 2.0.0.
 #[unsafe(no_mangle)]
 pub extern "C" fn sketch_hash_version() -> u32
     ensures { result ≡ 20000 }
 {
     20_000
+}
+
+// 0, or the number of the error.
+#[inline(always)]
+fn done(outcome: Result<(), Fault>) -> i32
+    ensures { MatchResult outcome (λ _. result ≡ pos 0) (λ fault. result ≡ status fault) }
+{
+    match outcome {
+        Ok(()) => 0,
+        Err(Fault::Length(_) | Fault::OtherLength(_)) => -1,
+        Err(Fault::Offset(_)) => -2,
+        Err(Fault::Count(_)) => -3,
+        Err(Fault::OutOfMemory) => -4,
+    }
+}
+
+// 0, or the number of the error. The index of a wrong offset is written.
+#[inline(always)]
+fn reported(outcome: Result<(), Fault>, wrong_offset: &mut usize) -> i32
+    ensures { MatchResult outcome
+        (λ _. (result ≡ pos 0) × (wrong_offset.new ≡ wrong_offset.old))
+        (λ fault. (result ≡ status fault)
+        × (wrong_offset.new ≡ index_of fault wrong_offset.old)) }
+{
+    if let Err(Fault::Offset(i)) = outcome {
+        *wrong_offset = i;
+    }
+    done(outcome)
 }

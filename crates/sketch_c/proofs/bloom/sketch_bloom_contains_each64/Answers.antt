@@ -1,17 +1,15 @@
 use Rattle.std.proofs.Common.{◌≡◌, length, of_z, rules, to_z, w32}
-use Rattle.std.proofs.lemmas.List.{map-id}
 use Rattle.sketch_bloom.specs.Columns.{FindsEach, IsKeysFault, key_hashes}
 use Rattle.sketch_bloom.specs.Filter.{IsLength}
-use Rattle.sketch_c.proofs.ReportLemmas.{reports_found}
+use Rattle.sketch_c.proofs.ReportLemmas.{looked_up}
 use Rattle.sketch_c.proofs.bloom.sketch_bloom_contains_each64.Goals as goal
 
 pub returns : goal.returns
 returns c =
     let n = length c.args.found.now in
-    let same : to_z w32 (of_z w32 c.reported.result) ≡ c.reported.result = search rules in
-    rw same (reports_found (IsLength (length c.args.bits.now))
-    (FindsEach c.args.bits.now (key_hashes c.args.keys.now c.args.offsets.now n) n c.contains_each.new.found)
+    looked_up (λ offsets. IsLength (length c.args.bits.now)
+    × FindsEach c.args.bits.now (key_hashes c.args.keys.now offsets n) n c.contains_each.new.found)
     (c.contains_each.new.found ≡ c.args.found.now)
-    (IsKeysFault (length c.args.bits.now) c.args.keys.now c.args.offsets.now n)
+    (λ offsets. IsKeysFault (length c.args.bits.now) c.args.keys.now offsets n) c.args.offsets.now
     c.contains_each.result c.args.wrong_offset.now c.reported.new.wrong_offset c.reported.result
-    (rw (map-id c.args.offsets.now) at c.contains_each.ensures) c.reported.ensures)
+    (to_z w32 (of_z w32 c.reported.result)) c.contains_each.ensures (search rules) c.reported.ensures
