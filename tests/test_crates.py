@@ -40,12 +40,6 @@ def test_dist_is_what_the_proved_text_gives(built):
     assert not any((DIST / it).is_symlink() for it in names)
 
 
-def test_rust_package_has_the_archives_of_dist():
-    names = sorted(str(it.relative_to(DIST)) for it in DIST.glob("*/*.a"))
-    assert len(names) == 5 and files_of(ROOT / "bindings/rust/lib") == names
-    assert filecmp.cmpfiles(ROOT / "bindings/rust/lib", DIST, names, shallow=False) == (names, [], [])
-
-
 @pytest.mark.parametrize("copies, sources", [(".", "c"), ("include", "c"), ("wasm", "wasm")])
 def test_dist_has_the_texts_of_bindings(copies, sources):
     """The other tests use dist/: a text that is changed without the prover has to be copied there."""
