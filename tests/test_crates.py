@@ -64,7 +64,7 @@ def test_a_call_takes_at_most_a_kilobyte_of_stack(built):
     assert 0 < int((built / "stack").read_text().strip("+\n")) + 5 * 32 <= 1024
 
 
-@pytest.mark.parametrize("program", ["states", "bloom", "columns"])
+@pytest.mark.parametrize("program", ["states", "columns"])
 def test_the_second_compiler_gives_the_same_answers(program, built, need, tmp_path):
     need("gcc", "ar")
     archives = [DIST / "linux-x86_64/libsketch_hash.a", built / "second.a"]

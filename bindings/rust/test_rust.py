@@ -42,7 +42,7 @@ def test_tests_of_the_crate(args):
 def test_calls_access_only_what_they_are_given(need):
     need("valgrind")
     runner = {"CARGO_TARGET_X86_64_UNKNOWN_LINUX_GNU_RUNNER": "valgrind -q --error-exitcode=9"}
-    cargo("test", "--test", "bloom", "--test", "columns", "--", "--skip", "past_32_bits", **runner)
+    cargo("test", "--test", "columns", "--", "--skip", "past_32_bits", **runner)
 
 
 def test_clippy_and_the_oldest_rust_find_nothing(need):
@@ -74,7 +74,7 @@ def test_package_builds_on_its_own(target, tmp_path):
     archives = {str(it.relative_to(DIST)): it.read_bytes() for it in DIST.glob("*/*.a")}
     assert len(archives) == 5
     assert {str(it.relative_to(folder / "lib")): it.read_bytes() for it in folder.glob("lib/**/*.*")} == archives
-    cargo("test", "--test", "bloom", folder=folder)
+    cargo("test", "--test", "columns", folder=folder)
 
 
 def test_a_link_may_be_a_text(tmp_path):

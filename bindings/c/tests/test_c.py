@@ -118,7 +118,7 @@ def built(need, tmp_path, request):
     return built
 
 
-PROGRAMS = ["check", "states", "bloom", "columns"]
+PROGRAMS = ["check", "states", "columns"]
 
 
 @pytest.mark.parametrize("name, args", [*((it, []) for it in [*PROGRAMS, "compare"]), ("compare", ["past 32 bits"])])
@@ -140,7 +140,7 @@ def test_a_fault_inside_a_call_reaches_the_callers_handler(built):
     assert output(*built("fault", "windows, static")) == "the caller handles c0000005\nand goes on\n"
 
 
-@pytest.mark.parametrize("name, args", [("compare", []), ("bloom", []), ("columns", []), ("states", ["10000"])])
+@pytest.mark.parametrize("name, args", [("compare", []), ("columns", []), ("states", ["10000"])])
 def test_calls_access_only_what_they_are_given(name, args, built, need):
     need("valgrind")
     output("valgrind", "-q", "--error-exitcode=9", "--leak-check=full", *built(name), *args)
