@@ -1,17 +1,14 @@
 """The crates' own tests, and dist/, which is, byte for byte, what the proved text gives."""
 import filecmp
-import os
-import pathlib
 import re
 import subprocess
 
 import pytest
+from conftest import DIST, PROVED, ROOT
 
-ROOT = pathlib.Path(__file__).resolve().parent.parent
-DIST = ROOT / "dist"
 pytestmark = pytest.mark.xdist_group("rt")  # so that dist/ is built once for all
 
-if not os.environ.get("PROVED"):  # else rt ci has run them, as it has proved them
+if not PROVED:  # else rt ci has run them, as it has proved them
     TESTED = sorted({it.relative_to(ROOT / "crates").parts[0] for it in ROOT.glob("crates/*/src/**/*.rt") if "#[cfg(test)]" in it.read_text()})
 
     @pytest.mark.parametrize("crate", TESTED)
