@@ -31,6 +31,10 @@ fn of_target() -> PathBuf {
         .find(|folder| folder.is_dir() && endian == "little" && bits == "64")
         .unwrap_or_else(|| {
             let target = env::var("TARGET").unwrap_or_default();
-            panic!("sketch-hash has no library for {target} ({endian} endian, {bits} bits)")
+            let lib = package.join("lib");
+            panic!(
+                "sketch-hash has no library for {target} ({endian} endian, {bits} bits) in {}",
+                lib.display()
+            )
         })
 }

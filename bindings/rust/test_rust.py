@@ -78,9 +78,11 @@ def test_package_builds_on_its_own(target, tmp_path):
 
 
 def test_a_link_may_be_a_text(tmp_path):
-    """As git on Windows writes the link `lib`."""
+    """As git on Windows writes the link `lib`. If it leads nowhere, the error names it."""
     copy = shutil.copytree(HERE, tmp_path / "bindings/rust", ignore=shutil.ignore_patterns("lib", "target"))
     (copy / "lib").write_text(os.readlink(HERE / "lib"))
+    done = try_cargo("build", folder=copy)
+    assert "sketch-hash has no library for" in done.stderr and f"in {copy / 'lib'}" in done.stderr
     (tmp_path / "dist").symlink_to(DIST)
     cargo("build", folder=copy)
 
