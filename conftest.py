@@ -14,7 +14,8 @@ import pytest
 ROOT = pathlib.Path(__file__).parent
 DIST = ROOT / "dist"
 CALLS = sorted(set(re.findall(r"\b(sketch_\w+)\(", (DIST / "include/sketch_hash.h").read_text())))
-PROVED = os.environ.get("PROVED")  # the folder of what `rt ci` has just proved and built, as .ci/run names it
+# The folder of what `rt ci` has just proved and built, as .ci/run names it, or None.
+PROVED = pathlib.Path(os.environ["PROVED"]) if os.environ.get("PROVED") else None
 IS_CI = bool(os.environ.get("CI"))
 if IS_CI:
     pytest.importorskip = importlib.import_module  # a module that is missing fails
@@ -72,7 +73,7 @@ def proved():
     """The folder of crates whose programs and tests `rt ci` has just built."""
     if not PROVED:
         pytest.skip("needs what rt ci proves and builds: bash .ci/run")
-    return pathlib.Path(PROVED)
+    return PROVED
 
 
 class NotBuilt(pytest.Module):

@@ -7,10 +7,16 @@
 
 XXH64_hash_t called_xxh64(const void *bytes, size_t length, XXH64_hash_t seed); /* made by `run` */
 
-static uint64_t reference(const void *bytes, size_t length) {
-    uint64_t pair[2];
-    lmmh_x64_128(bytes, (uint32_t)length, 7, pair);
-    return pair[0];
+static uint64_t murmur(const void *bytes, size_t length, uint64_t seed) {
+    uint64_t hash[2];
+    sketch_murmur3_x64_128(bytes, length, seed, hash);
+    return hash[0];
+}
+
+static uint64_t reference(const void *bytes, size_t length, uint64_t seed) {
+    uint64_t hash[2];
+    lmmh_x64_128(bytes, (uint32_t)length, (uint32_t)seed, hash);
+    return hash[0];
 }
 
 static unsigned char mixed[KEYS]; /* lengths of 1 to 64 */
@@ -24,26 +30,17 @@ static unsigned char mixed[KEYS]; /* lengths of 1 to 64 */
         uint64_t all = 0;                                          \
         if (length == 0)                                           \
             for (size_t at = 0, i = 0; i < KEYS; at += mixed[i++]) \
-                all ^= CALL(input + at, mixed[i]);                 \
+                all ^= CALL(input + at, mixed[i], 7);              \
         else                                                       \
             for (size_t at = 0; at + length <= total; at += length) \
-                all ^= CALL(input + at, length);                   \
+                all ^= CALL(input + at, length, 7);                \
         return all;                                                \
     }
 
-#define OURS_XXH64(bytes, length) sketch_xxh64(bytes, length, 7)
-#define INLINED_XXH64(bytes, length) XXH64(bytes, length, 7)
-#define CALLED_XXH64(bytes, length) called_xxh64(bytes, length, 7)
-#define OURS_MURMUR(bytes, length) ours_murmur_of(bytes, length)
-static inline uint64_t ours_murmur_of(const void *bytes, size_t length) {
-    uint64_t hash[2];
-    sketch_murmur3_x64_128(bytes, length, 7, hash);
-    return hash[0];
-}
-KEYS_BY(ours_xxh64, OURS_XXH64)
-KEYS_BY(inlined_xxh64, INLINED_XXH64)
-KEYS_BY(their_xxh64, CALLED_XXH64)
-KEYS_BY(ours_murmur, OURS_MURMUR)
+KEYS_BY(ours_xxh64, sketch_xxh64)
+KEYS_BY(inlined_xxh64, XXH64)
+KEYS_BY(their_xxh64, called_xxh64)
+KEYS_BY(ours_murmur, murmur)
 KEYS_BY(their_murmur, reference)
 
 static uint64_t ours_stream(size_t total, size_t length) {

@@ -1,13 +1,10 @@
 """The program and the crates' tests where calls fail: each request for memory, each read, each write in turn."""
 import os
-import pathlib
 import re
 import subprocess
 
 import pytest
-
-ROOT = pathlib.Path(__file__).resolve().parent.parent
-PROVED = os.environ.get("PROVED")
+from conftest import DIST, PROVED, ROOT
 
 FOX = b"The quick brown fox jumps over the lazy dog"
 MURMUR, XXH64 = b"e34bbc7bbc071b6c7a433ca9c49a9347\n", b"0b242d361fda71bc\n"
@@ -45,7 +42,7 @@ def under(preloaded, tmp_path):
 
 TESTS = [
     pytest.param(program, name, id=f"{program.parts[-3]}-{name}")
-    for program in sorted(pathlib.Path(PROVED).glob("*/out/*_tests") if PROVED else ())
+    for program in sorted(PROVED.glob("*/out/*_tests") if PROVED else ())
     for name in re.findall(r"^(\S+): test$", subprocess.check_output([program, "--list"], text=True), re.M)
 ]
 PASSED = 0, b"\ntest result: ok\n", b""
@@ -94,7 +91,7 @@ def test_of_a_crate_meets_the_second_refusal(program, name, under):
 # ---- the program
 
 # That of dist/; in the gate also as the kit's second compiler builds it.
-PROGRAMS = [ROOT / "dist/linux-x86_64/sketchsum", *([pathlib.Path(PROVED) / "sketchsum/out/sketchsum.by-rattle"] if PROVED else [])]
+PROGRAMS = [DIST / "linux-x86_64/sketchsum", *([PROVED / "sketchsum/out/sketchsum.by-rattle"] if PROVED else [])]
 CASES = {
     "murmur": ('"$0" murmur 0', 0, MURMUR, b""),
     "xx": ('"$0" xx 0', 0, XXH64, b""),

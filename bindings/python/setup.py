@@ -45,7 +45,7 @@ modules = [
         include_dirs=[folders[0], os.path.join(folders[0], "..", "include")],
         extra_objects=archives,
     )
-    for name in ("_memory", "_hashes", "_columns", "_bloom")
+    for name in ("_columns", "_hashes", "_bloom")
 ]
 directives = {"language_level": 3, "binding": False, "auto_pickle": False, "always_allow_keywords": False}
 setup(

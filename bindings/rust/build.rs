@@ -19,17 +19,22 @@ fn main() {
     println!("cargo:rustc-link-lib=static:+verbatim=libsketch_hash.a");
 }
 
-/// The folder of the archive for the target.
+/// The folder of the archive for the target: in `lib`, which in the repository is a link to its
+/// `dist`. Git on Windows may write a link as a text.
 fn of_target() -> PathBuf {
     let [os, processor, endian, bits] = ["OS", "ARCH", "ENDIAN", "POINTER_WIDTH"]
         .map(|name| env::var(format!("CARGO_CFG_TARGET_{name}")).unwrap_or_default());
-    let folder = PathBuf::from(env::var_os("CARGO_MANIFEST_DIR").unwrap())
-        .join("lib")
-        .join(format!("{os}-{processor}"));
-    assert!(
-        folder.is_dir() && endian == "little" && bits == "64",
-        "sketch-hash has no library for {} ({endian} endian, {bits} bits)",
-        env::var("TARGET").unwrap_or_default(),
-    );
-    folder
+    let package = PathBuf::from(env::var_os("CARGO_MANIFEST_DIR").unwrap());
+    ["lib", "../../dist"]
+        .map(|folder| package.join(folder).join(format!("{os}-{processor}")))
+        .into_iter()
+        .find(|folder| folder.is_dir() && endian == "little" && bits == "64")
+        .unwrap_or_else(|| {
+            let target = env::var("TARGET").unwrap_or_default();
+            let lib = package.join("lib");
+            panic!(
+                "sketch-hash has no library for {target} ({endian} endian, {bits} bits) in {}",
+                lib.display()
+            )
+        })
 }

@@ -7,9 +7,9 @@ import subprocess
 import tarfile
 
 import pytest
+from conftest import DIST
 
 HERE = pathlib.Path(__file__).resolve().parent
-ARCHIVE = HERE / "lib/linux-x86_64/libsketch_hash.a"
 pytestmark = pytest.mark.xdist_group("cargo")  # cargo locks the folder that it builds into
 
 
@@ -42,7 +42,7 @@ def test_tests_of_the_crate(args):
 def test_calls_access_only_what_they_are_given(need):
     need("valgrind")
     runner = {"CARGO_TARGET_X86_64_UNKNOWN_LINUX_GNU_RUNNER": "valgrind -q --error-exitcode=9"}
-    cargo("test", "--test", "bloom", "--test", "columns", "--", "--skip", "past_32_bits", **runner)
+    cargo("test", "--test", "columns", "--", "--skip", "past_32_bits", **runner)
 
 
 def test_clippy_and_the_oldest_rust_find_nothing(need):
@@ -71,7 +71,20 @@ def test_package_builds_on_its_own(target, tmp_path):
     with tarfile.open(package) as file:
         file.extractall(tmp_path)
     (folder,) = tmp_path.iterdir()
-    cargo("test", "--test", "bloom", folder=folder)
+    archives = {str(it.relative_to(DIST)): it.read_bytes() for it in DIST.glob("*/*.a")}
+    assert len(archives) == 5
+    assert {str(it.relative_to(folder / "lib")): it.read_bytes() for it in folder.glob("lib/**/*.*")} == archives
+    cargo("test", "--test", "columns", folder=folder)
+
+
+def test_a_link_may_be_a_text(tmp_path):
+    """As git on Windows writes the link `lib`. If it leads nowhere, the error names it."""
+    copy = shutil.copytree(HERE, tmp_path / "bindings/rust", ignore=shutil.ignore_patterns("lib", "target"))
+    (copy / "lib").write_text(os.readlink(HERE / "lib"))
+    done = try_cargo("build", folder=copy)
+    assert "sketch-hash has no library for" in done.stderr and f"in {copy / 'lib'}" in done.stderr
+    (tmp_path / "dist").symlink_to(DIST)
+    cargo("build", folder=copy)
 
 
 # ---- a project that uses it
@@ -97,7 +110,7 @@ def test_project_links_a_library_elsewhere(project, need, tmp_path):
     need("linux-x86_64")
     elsewhere = tmp_path / "another folder"
     elsewhere.mkdir()
-    library = pathlib.Path(shutil.copy(ARCHIVE, elsewhere))
+    library = pathlib.Path(shutil.copy(DIST / "linux-x86_64/libsketch_hash.a", elsewhere))
     cargo("run", folder=project, SKETCH_HASH_LIB_DIR=str(elsewhere))
     library.write_text("no archive")
     os.utime(library, (2e9, 2e9))

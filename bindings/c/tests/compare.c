@@ -1,5 +1,6 @@
 /* The library compared with libxxhash and libmurmurhash, over lengths, seeds and cuts. Each buffer
- * is a block, so that valgrind sees accesses outside of it. */
+ * is a block, so that valgrind sees accesses outside of it. With an argument: on inputs longer than
+ * 2^32 bytes. */
 #include "sketch_hash.h"
 #include <murmurhash.h>
 #include <stdlib.h>
@@ -44,7 +45,7 @@ static void in_pieces(const unsigned char *bytes, size_t length, uint64_t seed, 
     }
 }
 
-int main(void) {
+static void short_inputs(void) {
     static const uint64_t seeds[] = {0, 9001, UINT64_MAX};
     for (size_t length = 0; length <= 200; length++)
         for (size_t s = 0; s < 3; s++) {
@@ -54,5 +55,47 @@ int main(void) {
             for (size_t step = 1; step <= 70; step += 6) in_pieces(bytes, length, seeds[s], step);
             free(bytes);
         }
+}
+
+/* XXH64 compared with libxxhash, Murmur in two updates with one call, a column whose second key
+ * begins after 2^32, and a key of a filter. The zeros take no memory, since they are never
+ * written. */
+static void inputs_past_32_bits(void) {
+    size_t length = ((size_t)1 << 32) + 37;
+    unsigned char *zeros = calloc(length, 1);
+    sketch_xxh64_state_t x = SKETCH_XXH64_INIT(UINT64_MAX);
+    sketch_murmur3_x64_128_state_t m = SKETCH_MURMUR3_X64_128_INIT(UINT64_MAX);
+    uint64_t expected = XXH64(zeros, length, UINT64_MAX);
+    same("xxh64 in one call", sketch_xxh64(zeros, length, UINT64_MAX), expected);
+    sketch_xxh64_update(&x, zeros, length);
+    same("xxh64 in one update", sketch_xxh64_digest(&x), expected);
+    uint64_t whole[2], hash[2];
+    sketch_murmur3_x64_128(zeros, length, UINT64_MAX, whole);
+    sketch_murmur3_x64_128_update(&m, zeros, length - 37);
+    sketch_murmur3_x64_128_update(&m, zeros, 37);
+    sketch_murmur3_x64_128_digest(&m, hash);
+    same("murmur", memcmp(hash, whole, sizeof hash), 0);
+    same("murmur, total", m.total, length);
+    const uint64_t offsets[] = {0, length - 5, length};
+    uint64_t out[2];
+    size_t wrong = 7;
+    status("a column", sketch_xxh64_each64(zeros, length, offsets, 3, UINT64_MAX, out, 2, &wrong),
+           0);
+    same("its first key", out[0], XXH64(zeros, length - 5, UINT64_MAX));
+    same("its second key", out[1], XXH64(zeros, 5, UINT64_MAX));
+    status("bytes that end before 2^32",
+           sketch_xxh64_each64(zeros, 37, offsets, 3, UINT64_MAX, out, 2, &wrong),
+           SKETCH_ERROR_OFFSET);
+    same("the wrong offset", wrong, 1);
+    unsigned char bits[32] = {0};
+    sketch_bloom_insert(bits, 32, zeros, length);
+    status("a long key of a filter", sketch_bloom_contains_hash(bits, 32, XXH64(zeros, length, 0)),
+           1);
+    free(zeros);
+}
+
+int main(int count, char **args) {
+    (void)args;
+    count > 1 ? inputs_past_32_bits() : short_inputs();
     return conclude();
 }

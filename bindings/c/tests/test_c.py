@@ -101,16 +101,13 @@ def wine(tmp_path_factory):
     shutil.rmtree(folder, ignore_errors=not server)  # 700 MB
 
 
-PEERS = {"compare": ["xxhash", "murmurhash"], "long": ["xxhash"]}
-
-
 @pytest.fixture
 def built(need, tmp_path, request):
-    """built("layout", "musl, static"): the command that runs a test program with the library of a system."""
+    """built("states", "musl, static"): the command that runs a test program with the library of a system."""
 
     def built(name, system="linux"):
         (compiler, *options), library, runner = SYSTEMS[system]
-        peers = PEERS.get(name, [])
+        peers = ["xxhash", "murmurhash"] if name == "compare" else []
         need(compiler, *runner[:1], *(f"{it}.h" for it in peers))
         source, program = HERE / f"{name}.c", tmp_path / f"{name}, {system}.exe"
         linked = loader_of(DIST / library) if library.endswith((".dll", ".dylib")) else [DIST / library]
@@ -121,13 +118,16 @@ def built(need, tmp_path, request):
     return built
 
 
-@pytest.mark.parametrize("name", ["check", "layout", "compare", "long", "bloom", "columns", "answers"])
-def test_calls_return_what_is_expected(name, built):
-    assert output(*built(name))
+PROGRAMS = ["check", "states", "columns"]
+
+
+@pytest.mark.parametrize("name, args", [*((it, []) for it in [*PROGRAMS, "compare"]), ("compare", ["past 32 bits"])])
+def test_calls_return_what_is_expected(name, args, built):
+    assert output(*built(name), *args)
 
 
 @pytest.mark.xdist_group("systems")  # wine sets up its folder once
-@pytest.mark.parametrize("name", ["check", "layout", "bloom", "columns", "answers"])
+@pytest.mark.parametrize("name", PROGRAMS)
 @pytest.mark.parametrize("system", list(SYSTEMS)[1:])
 def test_answers_are_those_of_linux(name, system, built):
     """The outputs are compared, since a crash under wine can have the status 0."""
@@ -140,13 +140,13 @@ def test_a_fault_inside_a_call_reaches_the_callers_handler(built):
     assert output(*built("fault", "windows, static")) == "the caller handles c0000005\nand goes on\n"
 
 
-@pytest.mark.parametrize("name, args", [("compare", []), ("bloom", []), ("columns", []), ("answers", ["10000"])])
+@pytest.mark.parametrize("name, args", [("compare", []), ("columns", []), ("states", ["10000"])])
 def test_calls_access_only_what_they_are_given(name, args, built, need):
     need("valgrind")
     output("valgrind", "-q", "--error-exitcode=9", "--leak-check=full", *built(name), *args)
 
 
-@pytest.mark.parametrize("name", ["layout", "columns", "answers"])
+@pytest.mark.parametrize("name", ["states", "columns"])
 def test_calls_run_in_a_stack_of_256_kib(name, built):
     assert output("bash", "-c", 'ulimit -s 256 && exec "$0"', *built(name))
 

@@ -56,30 +56,15 @@ pub(crate) mod sealed {
         type Bits: Calls;
     }
 
-    // SAFETY: each has the size and the alignment that it names.
-    unsafe impl Width for u32 {
-        type Bits = u32;
+    macro_rules! widths {
+        ($($Bits:ty: $($Type:ty)*,)*) => { $($(
+            // SAFETY: both have one size and one alignment, and all their bits are initialized.
+            unsafe impl Width for $Type {
+                type Bits = $Bits;
+            }
+        )*)* };
     }
-    // SAFETY: as above.
-    unsafe impl Width for i32 {
-        type Bits = u32;
-    }
-    // SAFETY: as above.
-    unsafe impl Width for f32 {
-        type Bits = u32;
-    }
-    // SAFETY: as above.
-    unsafe impl Width for u64 {
-        type Bits = u64;
-    }
-    // SAFETY: as above.
-    unsafe impl Width for i64 {
-        type Bits = u64;
-    }
-    // SAFETY: as above.
-    unsafe impl Width for f64 {
-        type Bits = u64;
-    }
+    widths! { u32: u32 i32 f32, u64: u64 i64 f64, }
 
     /// The calls that read offsets or numbers of a width.
     pub trait Calls: Sized {

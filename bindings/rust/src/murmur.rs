@@ -5,7 +5,7 @@ use crate::calls::{
     sketch_murmur3_x64_128_update, Murmur3X64_128State,
 };
 use core::fmt;
-use core::hash::{BuildHasher, Hasher};
+use core::hash::Hasher;
 use core::mem::transmute;
 
 /// Returns the two words of MurmurHash3 x64 128 of `input`.
@@ -152,25 +152,6 @@ impl Murmur3X64_128 {
     }
 }
 
-impl PartialEq for Murmur3X64_128 {
-    fn eq(&self, other: &Self) -> bool {
-        let [one, two] = [self.state, other.state].map(|mut state| {
-            state.waiting[(state.total % 16) as usize..].fill(0);
-            state
-        });
-        one == two
-    }
-}
-
-impl Eq for Murmur3X64_128 {}
-
-impl Default for Murmur3X64_128 {
-    /// A stream with the seed 0.
-    fn default() -> Self {
-        Murmur3X64_128::new(0)
-    }
-}
-
 impl fmt::Debug for Murmur3X64_128 {
     fn fmt(&self, f: &mut fmt::Formatter<'_>) -> fmt::Result {
         f.debug_struct("Murmur3X64_128").field("length", &self.state.total).finish_non_exhaustive()
@@ -189,19 +170,6 @@ impl Hasher for Murmur3X64_128 {
     }
 }
 
-/// Appends all bytes, and never fails.
-#[cfg(feature = "std")]
-impl std::io::Write for Murmur3X64_128 {
-    fn write(&mut self, bytes: &[u8]) -> std::io::Result<usize> {
-        self.update(bytes);
-        Ok(bytes.len())
-    }
-
-    fn flush(&mut self) -> std::io::Result<()> {
-        Ok(())
-    }
-}
-
 /// Builds the hashers of a map: [`Murmur3X64_128`] with one seed.
 ///
 /// ```
@@ -215,18 +183,4 @@ pub struct BuildMurmur3X64_128 {
     seed: u64,
 }
 
-impl BuildMurmur3X64_128 {
-    /// The hashers have this seed.
-    pub const fn new(seed: u64) -> Self {
-        BuildMurmur3X64_128 { seed }
-    }
-}
-
-impl BuildHasher for BuildMurmur3X64_128 {
-    type Hasher = Murmur3X64_128;
-
-    #[inline]
-    fn build_hasher(&self) -> Murmur3X64_128 {
-        Murmur3X64_128::new(self.seed)
-    }
-}
+stream_traits!(Murmur3X64_128, BuildMurmur3X64_128);

@@ -4,7 +4,7 @@ use crate::calls::{
     sketch_xxh64, sketch_xxh64_digest, sketch_xxh64_u64, sketch_xxh64_update, Xxh64State,
 };
 use core::fmt;
-use core::hash::{BuildHasher, Hasher};
+use core::hash::Hasher;
 use core::mem::transmute;
 
 /// Returns XXH64 of `input`.
@@ -155,25 +155,6 @@ impl Xxh64 {
     }
 }
 
-impl PartialEq for Xxh64 {
-    fn eq(&self, other: &Self) -> bool {
-        let [one, two] = [self.state, other.state].map(|mut state| {
-            state.waiting[(state.total % STRIPE) as usize..].fill(0);
-            state
-        });
-        one == two
-    }
-}
-
-impl Eq for Xxh64 {}
-
-impl Default for Xxh64 {
-    /// A stream with the seed 0.
-    fn default() -> Self {
-        Xxh64::new(0)
-    }
-}
-
 impl fmt::Debug for Xxh64 {
     fn fmt(&self, f: &mut fmt::Formatter<'_>) -> fmt::Result {
         f.debug_struct("Xxh64")
@@ -195,19 +176,6 @@ impl Hasher for Xxh64 {
     }
 }
 
-/// Appends all bytes, and never fails.
-#[cfg(feature = "std")]
-impl std::io::Write for Xxh64 {
-    fn write(&mut self, bytes: &[u8]) -> std::io::Result<usize> {
-        self.update(bytes);
-        Ok(bytes.len())
-    }
-
-    fn flush(&mut self) -> std::io::Result<()> {
-        Ok(())
-    }
-}
-
 /// Builds the hashers of a map: [`Xxh64`] with one seed.
 ///
 /// ```
@@ -220,18 +188,4 @@ pub struct BuildXxh64 {
     seed: u64,
 }
 
-impl BuildXxh64 {
-    /// The hashers have this seed.
-    pub const fn new(seed: u64) -> Self {
-        BuildXxh64 { seed }
-    }
-}
-
-impl BuildHasher for BuildXxh64 {
-    type Hasher = Xxh64;
-
-    #[inline]
-    fn build_hasher(&self) -> Xxh64 {
-        Xxh64::new(self.seed)
-    }
-}
+stream_traits!(Xxh64, BuildXxh64);

@@ -1,8 +1,8 @@
-//! Columns of keys.
+//! Columns of keys, and Bloom filters.
 
 use sketch_hash::{
-    murmur3_x64_128, murmur3_x64_128_each, xxh64, xxh64_each, xxh64_each_u64, xxh64_u64, Error,
-    Offset,
+    murmur3_x64_128, murmur3_x64_128_each, xxh64, xxh64_each, xxh64_each_u64, xxh64_u64,
+    BloomFilter, Error, Number, Offset,
 };
 use std::fmt::Debug;
 
@@ -88,4 +88,197 @@ fn an_offset_past_32_bits_is_used_whole() {
     let mut out = [0];
     xxh64_each(&zeros, &[(1_u64 << 32) + 32, (1 << 32) + 37], SEED, &mut out).unwrap();
     assert_eq!(out, [xxh64(&[0; 5], SEED)]);
+}
+
+// ---- Bloom filters
+
+/// A filter of one block with the texts a0 to a9, as Arrow writes it.
+const OF_ARROW: [u8; 32] = [
+    200, 1, 80, 20, 64, 68, 8, 109, 6, 37, 4, 67, 144, 80, 96, 32, 8, 132, 43, 33, 0, 5, 99, 65, 2,
+    0, 224, 44, 64, 78, 96, 4,
+];
+const HEADER_OF_1024: [u8; 16] =
+    [0x15, 0x80, 0x10, 0x1c, 0x1c, 0, 0, 0x1c, 0x1c, 0, 0, 0x1c, 0x1c, 0, 0, 0];
+
+fn keys() -> [String; 10] {
+    std::array::from_fn(|n| format!("a{n}"))
+}
+
+fn filter_of_keys() -> BloomFilter {
+    let mut filter = BloomFilter::with_len(1024).unwrap();
+    filter.extend(keys());
+    filter
+}
+
+#[test]
+fn the_bytes_are_those_of_arrow() {
+    let mut filter = BloomFilter::with_len(32).unwrap();
+    filter.extend(keys());
+    assert_eq!(filter.as_bytes(), OF_ARROW);
+    assert!(keys().iter().all(|key| filter.contains(key.as_bytes())) && !filter.contains(b"fox"));
+}
+
+#[test]
+fn a_filter_for_keys_has_at_most_128_mib() {
+    for (keys, one_in, bytes) in [
+        (0, 100, Some(32)),
+        (100_000_000, 100, Some(128 << 20)),
+        (1_000_000_000, 100, None),
+        (u64::MAX, u64::MAX, None),
+    ] {
+        assert_eq!(BloomFilter::bytes_for(keys, one_in), bytes);
+        let filter = BloomFilter::for_keys(keys, one_in).map(|filter| filter.as_bytes().len());
+        assert_eq!(filter, bytes.ok_or(Error::TooManyKeys));
+    }
+}
+
+#[test]
+fn a_wrong_length_is_an_error() {
+    for length in [0, 1, 31, 33, 1 << 37, usize::MAX, usize::MAX - 31] {
+        assert_eq!(BloomFilter::with_len(length).unwrap_err(), Error::Length, "{length}");
+    }
+    for length in [0, 31, 33] {
+        assert_eq!(BloomFilter::from_bytes(vec![0; length]).unwrap_err(), Error::Length);
+    }
+}
+
+#[test]
+fn read_only_bytes_are_a_filter() {
+    static READ_ONLY: [u8; 32] = OF_ARROW;
+    let filter: BloomFilter<&'static [u8]> = BloomFilter::from_bytes(&READ_ONLY[..]).unwrap();
+    let of_another_thread = std::thread::spawn(move || filter.contains(b"a0"));
+    assert!(filter.contains(b"a9") && of_another_thread.join().unwrap());
+}
+
+#[test]
+fn a_view_changes_the_borrowed_bytes() {
+    let mut bytes = [0; 96];
+    let mut view = BloomFilter::from_bytes(&mut bytes[32..64]).unwrap();
+    view.extend(keys());
+    assert_eq!(bytes, [[0; 32], OF_ARROW, [0; 32]].as_flattened());
+}
+
+#[test]
+fn a_box_or_an_arc_of_bytes_is_a_filter() {
+    let mut boxed = BloomFilter::from_bytes(Box::<[u8]>::from([0; 32])).unwrap();
+    boxed.extend(keys());
+    let shared: std::sync::Arc<[u8]> = boxed.into_inner().into();
+    assert_eq!(
+        BloomFilter::from_bytes(shared).unwrap(),
+        BloomFilter::from_bytes(OF_ARROW).unwrap()
+    );
+}
+
+#[test]
+fn a_hash_may_be_inserted_in_place_of_its_key() {
+    let (filter, mut other) = (filter_of_keys(), BloomFilter::with_len(1024).unwrap());
+    keys().iter().for_each(|key| other.insert_hash(xxh64(key.as_bytes(), 0)));
+    assert_eq!(other, filter);
+    assert!(filter.contains_hash(xxh64(b"a0", 0)) && !filter.contains_hash(xxh64(b"fox", 0)));
+}
+
+#[test]
+fn a_column_of_keys_equals_single_calls() {
+    let mut filter = BloomFilter::with_len(1024).unwrap();
+    let ends: Vec<i64> = (0..=10).map(|n| 2 * n).collect();
+    filter.insert_each(keys().concat().as_bytes(), &ends).unwrap();
+    assert_eq!(filter, filter_of_keys());
+    let mut found = [true; 3];
+    filter.contains_each(b"a0foxa9", &[0_u32, 2, 5, 7], &mut found).unwrap();
+    assert_eq!(found, [true, false, true]);
+}
+
+#[test]
+fn a_column_of_hashes_equals_single_calls() {
+    let mut filter = BloomFilter::with_len(1024).unwrap();
+    filter.insert_each_hash(&keys().map(|key| xxh64(key.as_bytes(), 0))).unwrap();
+    assert_eq!(filter, filter_of_keys());
+    let mut found = [true; 2];
+    filter.contains_each_hash(&[xxh64(b"fox", 0), xxh64(b"a9", 0)], &mut found).unwrap();
+    assert_eq!(found, [false, true]);
+}
+
+fn is_its_plain_bytes<N: Number>(number: N, bytes: &[u8], other: N) {
+    let (mut column, mut single) =
+        (BloomFilter::with_len(1024).unwrap(), BloomFilter::with_len(1024).unwrap());
+    column.insert_each_number(&[number, number]).unwrap();
+    single.insert(bytes);
+    assert_eq!(column, single);
+    let mut found = [false, true];
+    column.contains_each_number(&[number, other], &mut found).unwrap();
+    assert_eq!(found, [true, false]);
+}
+
+#[test]
+fn a_number_of_each_type_is_its_plain_bytes() {
+    is_its_plain_bytes(u32::MAX, &[255; 4], 5);
+    is_its_plain_bytes(-5_i32, &(-5_i32).to_le_bytes(), 5);
+    is_its_plain_bytes(-0.0_f32, &[0, 0, 0, 128], 0.0);
+    is_its_plain_bytes(u64::MAX, &[255; 8], 5);
+    is_its_plain_bytes(-5_i64, &(-5_i64).to_le_bytes(), 5);
+    is_its_plain_bytes(-0.0_f64, &[0, 0, 0, 0, 0, 0, 0, 128], 0.0);
+}
+
+#[test]
+fn a_wrong_offset_changes_nothing() {
+    let mut filter = filter_of_keys();
+    for (offsets, index) in [(&[0_u32, 7][..], 1), (&[3, 2], 1), (&[9, 9], 0)] {
+        let mut found = [true, false];
+        let error = Err(Error::Offset { index });
+        assert_eq!(filter.insert_each(b"foxdog", offsets), error);
+        assert_eq!(filter.contains_each(b"foxdog", offsets, &mut found[..1]), error);
+        assert_eq!((&filter, found), (&filter_of_keys(), [true, false]));
+    }
+}
+
+#[test]
+fn missing_values_are_an_error() {
+    let (filter, mut found) = (filter_of_keys(), [true, false, true]);
+    assert_eq!(filter.contains_each_number(&[1, 2], &mut found), Err(Error::Count));
+    assert_eq!(filter.contains_each_hash(&[1, 2], &mut found), Err(Error::Count));
+    let missing = filter.contains_each(b"", &[0_u32, 0], &mut found);
+    assert_eq!(missing, Err(Error::Offset { index: 2 }));
+    assert_eq!(found, [true, false, true]);
+}
+
+#[test]
+fn merged_filters_contain_the_keys_of_both() {
+    let (mut one, mut two) =
+        (BloomFilter::with_len(1024).unwrap(), BloomFilter::with_len(1024).unwrap());
+    one.extend(&keys()[..5]);
+    two.extend(&keys()[5..]);
+    one.merge(&BloomFilter::from_bytes(two.as_bytes()).unwrap()).unwrap();
+    assert_eq!(one, filter_of_keys());
+}
+
+#[test]
+fn filters_of_different_lengths_are_not_merged() {
+    let mut filter = filter_of_keys();
+    let longer = BloomFilter::from_bytes([255; 2048]).unwrap();
+    assert_eq!(filter.merge(&longer), Err(Error::Length));
+    assert_eq!(filter, filter_of_keys());
+    assert_ne!(filter, longer);
+}
+
+#[test]
+fn a_filter_in_a_file_is_a_header_and_the_bytes() {
+    let filter = filter_of_keys();
+    let file = filter.to_parquet().unwrap();
+    assert_eq!(file, [&HEADER_OF_1024, filter.as_bytes()].concat());
+    let longer = [&b"PAR1"[..], &file, b"PAR1"].concat();
+    assert_eq!(BloomFilter::from_parquet(&longer[4..]).unwrap(), filter);
+    assert_eq!(BloomFilter::from_parquet(&longer).unwrap_err(), Error::Header);
+    assert_eq!(BloomFilter::from_parquet(&file[..15]).unwrap_err(), Error::Header);
+    assert_eq!(BloomFilter::from_parquet(&file[..1039]).unwrap_err(), Error::Truncated);
+}
+
+#[test]
+fn an_error_has_the_index() {
+    let error: Box<dyn std::error::Error> = Box::new(Error::Offset { index: usize::MAX });
+    assert!(error.to_string().contains("at 18446744073709551615 is missing"));
+}
+
+#[test]
+fn debug_shows_the_length() {
+    assert_eq!(format!("{:?}", filter_of_keys()), "BloomFilter { len: 1024, .. }");
 }

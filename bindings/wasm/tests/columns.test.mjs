@@ -1,9 +1,10 @@
 import assert from 'node:assert/strict';
 import test from 'node:test';
+import v8 from 'node:v8';
 import { runInNewContext } from 'node:vm';
 import { bytes, last, library, long, lost } from './helpers.mjs';
 
-const { xxh64, murmur128, xxh64Each, xxh64EachU64, murmur128Each } = library;
+const { xxh64, murmur128, xxh64Each, xxh64EachU64, murmur128Each, BloomFilter } = library;
 const offsetTypes = [Uint32Array, Int32Array, BigUint64Array, BigInt64Array];
 const offsetsOf = (type, ...offsets) => type.from(offsets, type.name.startsWith('Big') ? BigInt : Number);
 const words = (hash) => [hash >> 64n, hash & last];
@@ -83,4 +84,137 @@ test('the library works after memory ran out', (t) => {
     assert.deepEqual([...xxh64Each(bytes('fox'), Uint32Array.of(0, 3))], [xxh64(bytes('fox'))]);
     grow.mock.restore();
     assert.equal(xxh64EachU64(new BigInt64Array(1e7)).length, 1e7);
+});
+
+// ---- Bloom filters
+
+const keys = Array.from({ length: 10 }, (_, n) => `a${n}`);
+const fromHex = (digits) => Uint8Array.from(Buffer.from(digits, 'hex'));
+// One block with the texts a0 to a9, as Arrow writes it.
+const ofArrow = fromHex('c80150144044086d062504439050602008842b21000563410200e02c404e6004');
+const headerOf1024 = fromHex('1580101c1c00001c1c00001c1c000000');
+const filled = (length = 1024) => keys.reduce((filter, key) => filter.add(key), new BloomFilter(length));
+
+test('the bytes are those of Arrow', () => {
+    assert.deepEqual(filled(32).toBytes(), ofArrow);
+    const filter = BloomFilter.fromBytes(ofArrow);
+    assert.ok(keys.every((key) => filter.has(key)) && !filter.has('fox'));
+});
+
+test('a text is its UTF-8', () => assert.ok(filled().add('Grüße').has(bytes('Grüße'))));
+
+test('a key may be longer than the copied pieces', () => {
+    const filter = new BloomFilter(64).add(long);
+    assert.ok(filter.has(long) && filter.hasHash(xxh64(long)) && !filter.has(long.subarray(1)));
+});
+
+test('a hash may be added in place of its key', () => {
+    const filter = keys.reduce((it, key) => it.addHash(xxh64(bytes(key))), new BloomFilter(1024));
+    assert.deepEqual(filter.toBytes(), filled().toBytes());
+    assert.deepEqual([filter.hasHash(xxh64(bytes('a0'))), filter.hasHash(last)], [true, false]);
+});
+
+test('a filter for keys has at most 128 MiB', () => {
+    assert.equal(BloomFilter.forKeys(1_000_000, 100n).length, 2 ** 21);
+    assert.equal(BloomFilter.bytesFor(0, 100), 32);
+    assert.throws(() => BloomFilter.forKeys(1e9, 100), /^RangeError: no Bloom filter of at most 128 MiB/);
+});
+
+for (const length of [0, 31, 33, 2 ** 37]) {
+    test(`the length ${length} is an error`, () => {
+        assert.throws(() => new BloomFilter(length), /^RangeError: .* positive multiple of 32/);
+        if (length < 2 ** 37) assert.throws(() => BloomFilter.fromBytes(new Uint8Array(length)), RangeError);
+    });
+}
+
+test('a column of keys equals single calls', () => {
+    for (const type of [Uint32Array, Int32Array, BigUint64Array, BigInt64Array]) {
+        const ends = type.from({ length: 11 }, (_, n) => type.name.startsWith('Big') ? BigInt(2 * n) : 2 * n);
+        const filter = new BloomFilter(1024).addEach(bytes(keys.join('')), ends);
+        assert.deepEqual(filter.toBytes(), filled().toBytes());
+        assert.deepEqual([...filter.hasEach(bytes('a0fxa9'), ends.subarray(0, 4))], [1, 0, 1]);
+    }
+});
+
+for (const [type, inserted, other] of [
+    [Uint32Array, 2 ** 32 - 1, 5], [Int32Array, -5, 5], [Float32Array, -0, 0],
+    [BigUint64Array, last, 5n], [BigInt64Array, -5n, 5n], [Float64Array, -0, 0],
+]) {
+    test(`a number of ${type.name} is its plain bytes`, () => {
+        const filter = new BloomFilter(1024).addEachNumber(type.of(inserted, inserted));
+        assert.deepEqual(filter.toBytes(), new BloomFilter(1024).add(type.of(inserted)).toBytes());
+        assert.deepEqual([...filter.hasEachNumber(type.of(other, inserted))], [0, 1]);
+    });
+}
+
+test('a column of hashes equals single calls', () => {
+    const filter = new BloomFilter(1024).addEachHash(BigUint64Array.from(keys, (key) => xxh64(bytes(key))));
+    assert.deepEqual(filter.toBytes(), filled().toBytes());
+    assert.deepEqual([...filter.hasEachHash(BigUint64Array.of(last, xxh64(bytes('a9'))))], [0, 1]);
+});
+
+test('a wrong offset changes nothing', () => {
+    const filter = filled();
+    for (const call of ['addEach', 'hasEach']) {
+        assert.throws(() => filter[call](bytes('foxdog'), Uint32Array.of(0, 3, 7)), /the offset at 2 is/);
+    }
+    assert.deepEqual(filter.toBytes(), filled().toBytes());
+});
+
+test('a key or a column of another type is a type error', () => {
+    const filter = new BloomFilter(64);
+    for (const key of [5, null, ['fox'], ...lost(Uint8Array)]) assert.throws(() => filter.has(key), TypeError);
+    assert.throws(() => filter.addEachNumber(new Uint8Array(2)), TypeError);
+    assert.throws(() => filter.addEachHash(new BigInt64Array(2)), TypeError);
+    assert.throws(() => filter.addEach(bytes('fox'), [0, 3]), TypeError);
+});
+
+test('a merged filter has the keys of both', () => {
+    const [one, other] = [new BloomFilter(1024).add('fox'), filled()];
+    one.merge(other);
+    assert.ok(one.has('fox') && keys.every((key) => one.has(key)) && !other.has('fox'));
+});
+
+test('filters of different lengths are not merged', () => {
+    const filter = filled();
+    assert.throws(() => filter.merge(new BloomFilter(2048)), RangeError);
+    assert.throws(() => filter.merge({}), TypeError);
+    assert.deepEqual(filter.toBytes(), filled().toBytes());
+});
+
+test('a filter in a file is a header and the bytes', () => {
+    const file = filled().toParquet();
+    assert.deepEqual(file, new Uint8Array(Buffer.concat([headerOf1024, filled().toBytes()])));
+    const longer = Buffer.concat([file, bytes('PAR1')]);
+    assert.deepEqual(BloomFilter.fromParquet(longer).toBytes(), filled().toBytes());
+    assert.throws(() => BloomFilter.fromParquet(longer.subarray(1)), /does not begin with the whole header/);
+    assert.throws(() => BloomFilter.fromParquet(file.subarray(0, 15)), /does not begin with the whole header/);
+    assert.throws(() => BloomFilter.fromParquet(file.subarray(0, 1039)), /ends before the Bloom filter does/);
+});
+
+test('filters are unchanged when the memory grows', () => {
+    const filters = Array.from({ length: 50 }, (_, n) => new BloomFilter(32 * (n + 1)).add(`${n}`));
+    library.xxh64EachU64(new BigUint64Array(1e6));
+    filters.forEach((filter, n) => {
+        assert.deepEqual(filter.toBytes(), new BloomFilter(filter.length).add(`${n}`).toBytes());
+    });
+});
+
+test('a filter in reused memory is empty', () => {
+    library.xxh64EachU64(BigUint64Array.of(last, last, last)); // takes a block of 64 bytes for the time of the call
+    assert.deepEqual(new BloomFilter(64).toBytes(), new Uint8Array(64));
+});
+
+test('the memory of collected filters is reused', async (t) => {
+    v8.setFlagsFromString('--expose-gc');
+    const collect = runInNewContext('gc');
+    const make = (count) => { for (let n = 0; n < count; n += 1) new BloomFilter(2 ** 24).add('fox'); };
+    make(10);
+    for (let n = 0; n < 10; n += 1) {
+        collect();
+        await new Promise((resolve) => setTimeout(resolve, 10));
+    }
+    const grow = t.mock.method(WebAssembly.Memory.prototype, 'grow');
+    make(5);
+    assert.equal(grow.mock.callCount(), 0);
 });

@@ -5,9 +5,9 @@ import shutil
 import subprocess
 
 import pytest
+from conftest import DIST
 
 HERE = pathlib.Path(__file__).resolve().parent
-DIST = HERE.parents[2] / "dist"
 
 
 @pytest.mark.parametrize("name", sorted(it.name for it in HERE.glob("*.test.mjs")))

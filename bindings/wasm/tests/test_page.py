@@ -3,12 +3,12 @@ with python3-xxhash and the shared library of dist/."""
 import ctypes
 import functools
 import http.server
-import pathlib
 import random
 import shutil
 import threading
 
 import pytest
+from conftest import DIST
 
 xxhash = pytest.importorskip("xxhash")
 pytest.importorskip("selenium")
@@ -18,7 +18,6 @@ from selenium.webdriver.common.by import By
 from selenium.webdriver.common.keys import Keys
 from selenium.webdriver.support.ui import WebDriverWait
 
-DIST = pathlib.Path(__file__).resolve().parents[3] / "dist"
 TIMEOUT = 300  # seconds, on a busy machine
 FOX = b"The quick brown fox jumps over the lazy dog"
 FOX_HASHES = ("0b242d361fda71bc", "e34bbc7bbc071b6c7a433ca9c49a9347", "6c1b07bc7bbc4be347939ac4a93c437a")

@@ -5,11 +5,11 @@ from cpython.bytes cimport PyBytes_FromStringAndSize
 from cpython.ref cimport Py_DECREF
 from libc.stdint cimport uint32_t, uint64_t, uintptr_t
 
-from ._columns cimport HASHES, NUMBERS32, NUMBERS64, OFFSETS32, OFFSETS64, Column, check_offsets
-from ._library cimport *
-from ._memory cimport (
-    LONG, Lock, PyBuffer_Release, PyObject_GetBuffer, View, acquire, get_bytes, release, wait, word_of,
+from ._columns cimport (
+    HASHES, LONG, NUMBERS32, NUMBERS64, OFFSETS32, OFFSETS64, Column, Lock, PyBuffer_Release, PyObject_GetBuffer, View,
+    acquire, check_offsets, get_bytes, release, wait, word_of,
 )
+from ._library cimport *
 
 import operator
 import pickle

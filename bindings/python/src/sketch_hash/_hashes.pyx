@@ -4,10 +4,8 @@ from cpython.bytes cimport PyBytes_AS_STRING, PyBytes_FromStringAndSize
 from libc.stdint cimport uint32_t, uint64_t
 from libc.string cimport memcpy
 
+from ._columns cimport LONG, Lock, PyBuffer_Release, View, acquire, get_bytes, release, wait, word_of
 from ._library cimport *
-from ._memory cimport (
-    LONG, Lock, PyBuffer_Release, View, acquire, get_bytes, release, wait, word_of,
-)
 
 from copyreg import __newobj__
 

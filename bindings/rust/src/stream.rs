@@ -1,0 +1,56 @@
+//! The traits that the streams of both hashes have alike.
+
+/// Implements them for a stream, whose `state` has the buffer `waiting`, and for the builder of its
+/// hashers.
+macro_rules! stream_traits {
+    ($Stream:ident, $Build:ident) => {
+        impl PartialEq for $Stream {
+            fn eq(&self, other: &Self) -> bool {
+                let [one, two] = [self.state, other.state].map(|mut state| {
+                    let used = state.total % state.waiting.len() as u64;
+                    state.waiting[used as usize..].fill(0);
+                    state
+                });
+                one == two
+            }
+        }
+
+        impl Eq for $Stream {}
+
+        impl Default for $Stream {
+            /// A stream with the seed 0.
+            fn default() -> Self {
+                Self::new(0)
+            }
+        }
+
+        /// Appends all bytes, and never fails.
+        #[cfg(feature = "std")]
+        impl std::io::Write for $Stream {
+            fn write(&mut self, bytes: &[u8]) -> std::io::Result<usize> {
+                self.update(bytes);
+                Ok(bytes.len())
+            }
+
+            fn flush(&mut self) -> std::io::Result<()> {
+                Ok(())
+            }
+        }
+
+        impl $Build {
+            /// The hashers have this seed.
+            pub const fn new(seed: u64) -> Self {
+                Self { seed }
+            }
+        }
+
+        impl core::hash::BuildHasher for $Build {
+            type Hasher = $Stream;
+
+            #[inline]
+            fn build_hasher(&self) -> $Stream {
+                $Stream::new(self.seed)
+            }
+        }
+    };
+}
