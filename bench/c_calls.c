@@ -1,6 +1,6 @@
 /* The C calls compared with xxHash, inlined or called, and with Debian's libmurmurhash, a C port of the reference. */
 #define XXH_INLINE_ALL
-#include "../bindings/c/sketch_hash.h"
+#include "../dist/include/sketch_hash.h"
 #include "measure.h"
 #include <murmurhash.h>
 #include <xxhash.h>

@@ -1,6 +1,6 @@
 /* The Bloom filter compared with the same in plain C and with libbloom, in cache and in memory. */
 #define XXH_INLINE_ALL
-#include "../bindings/c/sketch_hash.h"
+#include "../dist/include/sketch_hash.h"
 #include "measure.h"
 #include <bloom.h>
 #include <string.h>

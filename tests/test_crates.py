@@ -37,14 +37,6 @@ def test_dist_is_what_the_proved_text_gives(built):
     assert not any((DIST / it).is_symlink() for it in names)
 
 
-@pytest.mark.parametrize("copies, sources", [(".", "c"), ("include", "c"), ("wasm", "wasm")])
-def test_dist_has_the_texts_of_bindings(copies, sources):
-    """The other tests use dist/: a text that is changed without the prover has to be copied there."""
-    for file in (DIST / copies).iterdir():
-        source = ROOT / "bindings" / sources / file.name
-        assert not source.is_file() or file.read_bytes() == source.read_bytes(), f"copy {source} to {file}"
-
-
 def test_proved_names_the_sum_of_this_text():
     page = (DIST / "PROVED").read_text()
     command = "".join(re.findall(r"^    (.*\n)", page, re.M))

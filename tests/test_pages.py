@@ -91,7 +91,7 @@ def test_packages_have_the_licence(package, name):
 
 # ---- The programs and commands of each README, run as they stand there
 
-PAGE, OF_C, OF_PYTHON = (text_of(f"{it}README.md") for it in ("", "bindings/c/", "bindings/python/"))
+PAGE, OF_C, OF_PYTHON = (text_of(f"{it}README.md") for it in ("", "dist/", "bindings/python/"))
 ANSWER = "0b242d361fda71bc\n"  # XXH64 of the fox under seed 0
 
 

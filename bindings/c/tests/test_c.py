@@ -109,10 +109,10 @@ def built(need, tmp_path, request):
         (compiler, *options), library, runner = SYSTEMS[system]
         peers = ["xxhash", "murmurhash"] if name == "compare" else []
         need(compiler, *runner[:1], *(f"{it}.h" for it in peers))
-        source, program = HERE / f"{name}.c", tmp_path / f"{name}, {system}.exe"
+        source, program = (DIST if name == "check" else HERE) / f"{name}.c", tmp_path / f"{name}, {system}.exe"
         linked = loader_of(DIST / library) if library.endswith((".dll", ".dylib")) else [DIST / library]
         flags = [*options, "-O2", *STRICT, "-I", INCLUDE, *(f"-l{it}" for it in peers)]
-        output(compiler, "-o", program, source if source.exists() else HERE.parent / source.name, *linked, *flags)
+        output(compiler, "-o", program, source, *linked, *flags)
         return [*(request.getfixturevalue("wine") if runner == ["wine"] else runner), program]
 
     return built

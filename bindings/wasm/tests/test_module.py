@@ -20,7 +20,7 @@ def test_module_under_node(name, need):
 def test_types_take_what_they_say(need, tmp_path):
     """types.mts uses each type, and marks what must not compile."""
     need("tsc")
-    for file in (HERE.parent / "sketch_hash.d.mts", HERE / "types.mts"):
+    for file in (DIST / "wasm/sketch_hash.d.mts", HERE / "types.mts"):
         shutil.copy(file, tmp_path)
     args = "--noEmit --strict --target es2022 --lib es2022,dom --module nodenext --moduleResolution nodenext types.mts"
     done = subprocess.run(["tsc", *args.split()], cwd=tmp_path, capture_output=True, text=True)
@@ -40,7 +40,7 @@ def project(need, tmp_path):
 
 
 def test_program_of_the_page_prints_what_its_comments_say(project):
-    (program,) = re.findall(r"^```js\n(.*?)^```", (HERE.parent / "README.md").read_text(), re.M | re.S)
+    (program,) = re.findall(r"^```js\n(.*?)^```", (DIST / "wasm/README.md").read_text(), re.M | re.S)
     (project / "page.mjs").write_text(program)
     version = subprocess.check_output(["node", "--version"], text=True)
     flags = ["--experimental-wasm-memory64"] if version < "v24" else []
