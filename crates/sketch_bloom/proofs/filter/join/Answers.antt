@@ -1,5 +1,5 @@
 use Rattle.std.proofs.Common.{arith}
-use Rattle.sketch_bloom.proofs.BitLemmas.{sets_by_or}
+use Rattle.sketch_bloom.proofs.BlockLemmas.{sets_by_or}
 use Rattle.sketch_bloom.proofs.filter.join.Goals as goal
 
 pub returns : goal.returns
