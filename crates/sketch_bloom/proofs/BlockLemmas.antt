@@ -4,11 +4,11 @@ use Rattle.std.specs.Int.{bit_at}
 use Rattle.std.proofs.Math.Nat.{pow-suc}
 use Rattle.std.specs.Int.Bits.{or_zero_r, xor_assoc, xor_self, xor_zero_l, xor_zero_r}
 use Rattle.std.specs.Simd.Lanes.{zip2, chunk, put_chunk, fold_l, digits_l, number_l, Each1}
-use Rattle.std.proofs.lemmas.Bool.{cases_eq, cases_lt}
+use Rattle.std.proofs.lemmas.Bool.{cases_lt}
 use Rattle.std.proofs.lemmas.List.{ext_get_or, get_or-map, get_or-replicate, get_or_past, length-replicate}
 use Rattle.std.proofs.lemmas.Nat.{and_mask, le_or_l, le_or_r, one_shl, or_of_8, pow-add, pow_below, shr-shr}
 use Rattle.std.proofs.lemmas.Nat.Bits.{bit_at-lt, bit_at-pow_same, bit_at-pow_other, bit_at-zero, bit_at_cat_low, bit_at_or, same_from_bits_below}
-use Rattle.std.proofs.lemmas.Simd.{Each1-from_get_or, Each1-get_or, get_or-chunk, get_or-put_chunk_above, get_or-put_chunk_at, get_or-put_chunk_below, get_or-zip2, get_or_narrower, length-chunk, length-put_chunk, length-zip2}
+use Rattle.std.proofs.lemmas.Simd.{Each1-from_get_or, get_or-chunk, get_or-put_chunk_above, get_or-put_chunk_at, get_or-put_chunk_below, get_or-zip2, get_or_narrower, length-chunk, length-put_chunk, length-zip2}
 use Rattle.sketch_bloom.specs.Filter.{Inserts, IsBitOf, IsMaskBit, IsMember, IsSet, Sets, block_of, mask_bit, salt}
 
 -- ---- bits of bytes

@@ -1,9 +1,8 @@
 -- The laws of inserts, merges and values.
-use Rattle.std.proofs.Common.{◌≡◌, ◌↔◌, ◌⊎◌, ℕ, ◌/◌, ◌<◌, List, [], ◌∷◌, ◌++◌, length, map, get_or, refl, sym, ap, subst, ◌∙◌, inl, inr, arith}
+use Rattle.std.proofs.Common.{◌≡◌, ◌↔◌, ◌⊎◌, ℕ, ◌/◌, ◌<◌, List, [], ◌∷◌, ◌++◌, length, map, refl, sym, ap, subst, ◌∙◌, inl, inr, arith}
 use Rattle.std.specs.Prelude.{Contains}
-use Rattle.std.proofs.lemmas.List.{get_or-map, get_or_past, length-map}
+use Rattle.std.proofs.lemmas.List.{get_or-map, length-map}
 use Rattle.std.proofs.lemmas.List.Elements.{All-get_or, Contains-append_cases, Contains-append_left, Contains-append_right}
-use Rattle.std.proofs.lemmas.Bool.{cases_lt}
 use Rattle.datasketches.specs.Bytes.{AreBytes}
 use Rattle.sketch_bloom.proofs.BlockLemmas.{no_bit_of_zeros, same_from_bits}
 use Rattle.sketch_bloom.specs.Filter.{Inserts, InsertsAll, IsBitOf, IsBitOfAny, IsMember, IsSet, Merges, Sets, hash_of}
