@@ -23,7 +23,7 @@ pub fn write_header(bytes: usize, out: &mut [u8]) -> Option<usize>
         (λ count. IsHeaderLength bytes × (count ≡ length (header bytes))
         × (out.new ≡ header bytes ++ drop count out.old)) }
 {
-    if !is_header_length(bytes) {
+    if !is_length(bytes) || bytes >= 1 << 31 {
         return None;
     }
     let (number, start) = number_field(bytes);
@@ -53,13 +53,12 @@ pub fn read_header(input: &[u8]) -> Option<(usize, usize)>
 {
     let bytes = length_in(input);
     let mut header = [0; MOST];
-    let Some(count) = write_header(bytes, &mut header) else {
-        return None;
-    };
-    if !has_prefix(input, &header[..count]) {
-        return None;
+    let count = write_header(bytes, &mut header)?;
+    if has_prefix(input, &header[..count]) {
+        Some((bytes, count))
+    } else {
+        None
     }
-    Some((bytes, count))
 }
 
 // Whether `input` starts with `prefix`.
@@ -67,13 +66,6 @@ fn has_prefix(input: &[u8], prefix: &[u8]) -> bool
     ensures { IsTrue result ↔ (take (length prefix.now) input.now ≡ prefix.now) }
 {
     prefix.len() <= input.len() && &input[..prefix.len()] == prefix
-}
-
-// Whether a header can say that a filter has this many bytes.
-fn is_header_length(bytes: usize) -> bool
-    ensures { IsTrue result ↔ IsHeaderLength bytes }
-{
-    is_length(bytes) && bytes < 1 << 31
 }
 
 // The first field of a header, and its number of bytes.
@@ -92,28 +84,18 @@ fn number_field(bytes: usize) -> ([u8; 6], usize)
     if a < 128 {
         ([0x15, a as u8, 0, 0, 0, 0], 2)
     } else if b < 128 {
-        ([0x15, not_last(a), b as u8, 0, 0, 0], 3)
+        ([0x15, high(a), b as u8, 0, 0, 0], 3)
     } else if c < 128 {
-        ([0x15, not_last(a), not_last(b), c as u8, 0, 0], 4)
+        ([0x15, high(a), high(b), c as u8, 0, 0], 4)
     } else if d < 128 {
-        ([0x15, not_last(a), not_last(b), not_last(c), d as u8, 0], 5)
+        ([0x15, high(a), high(b), high(c), d as u8, 0], 5)
     } else {
-        (
-            [
-                0x15,
-                not_last(a),
-                not_last(b),
-                not_last(c),
-                not_last(d),
-                e as u8,
-            ],
-            6,
-        )
+        ([0x15, high(a), high(b), high(c), high(d), e as u8], 6)
     }
 }
 
 // The first byte of a variable-length number of more than one byte.
-fn not_last(number: u64) -> u8
+fn high(number: u64) -> u8
     ensures { result ≡ number % 128 + 128 }
 {
     (number % 128 + 128) as u8
@@ -128,15 +110,12 @@ fn length_in(input: &[u8]) -> usize
     let [_, a, b, c, d, e, ..] = input else {
         return 0;
     };
-    let number = number_at(
-        *a,
-        number_at(*b, number_at(*c, number_at(*d, number_at(*e, 0)))),
-    );
-    (number / 2) as usize
+    let twice = number(*a, number(*b, number(*c, number(*d, number(*e, 0)))));
+    (twice / 2) as usize
 }
 
-// A variable-length number, by its first byte and the number in the bytes after it.
-fn number_at(byte: u8, after: u64) -> u64
+// The variable-length number of a first byte and the bytes after it, which have another number.
+fn number(byte: u8, after: u64) -> u64
     requires { after < 2 ^ 56 }
     ensures value { result ≡ number_at byte after }
     ensures most { result ≤ 127 + 128 * after }

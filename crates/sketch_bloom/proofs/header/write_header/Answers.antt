@@ -1,4 +1,4 @@
-use Rattle.std.proofs.Common.{arith}
+use Rattle.std.proofs.Common.{arith, rules}
 use Rattle.sketch_bloom.proofs.HeaderLemmas.{header_written}
 use Rattle.sketch_bloom.proofs.header.write_header.Goals as goal
 
@@ -8,4 +8,4 @@ returns c =
     c.copy_from_slice-2.new.self c.args.out.now c.number_field-start.ensures.long (omega arith)
     c.number_field-start.ensures.field c.copy_from_slice-2.ensures.after in
     rw c.copy_from_slice.ensures.after
-    (c.is_header_length.ensures.0 c.if-not-is_header_length.false, made.0, made.1)
+    (search rules, made.0, made.1)
