@@ -13,16 +13,22 @@ use Rattle.sketch_bloom.specs.Filter.{Inserts, IsBitOf, IsMaskBit, IsMember, IsS
 
 -- ---- bits of bytes
 
--- a byte that is zero, or past the end, has no bit
+-- a byte that is zero has no bit
 no_bit : (xs : List ℕ) (i : ℕ) → get_or xs (i / 8) 0 ≡ 0 → IsSet xs i → ⊥
 no_bit xs i none set =
     suc-ne-zero 0 (sym set ∙ ap (λ b. bit_at b (i % 8)) none ∙ bit_at-zero (i % 8))
 
+-- a bit that is set is a bit of a byte
+bit_within : (xs : List ℕ) (i : ℕ) → IsSet xs i → i / 8 < length xs
+bit_within xs i set = elim (cases_lt (i / 8) (length xs)) [
+  | inl within ↦ within
+  | inr past ↦ absurd (no_bit xs i (get_or_past xs (i / 8) 0 past) set)
+]
+
 pub no_bit_of_zeros : (n i : ℕ) → IsSet (replicate n 0) i → ⊥
-no_bit_of_zeros n i = no_bit (replicate n 0) i (elim (cases_lt (i / 8) n) [
-  | inl within ↦ get_or-replicate n (i / 8) 0 0 within
-  | inr past ↦ get_or_past (replicate {A = ℕ} n 0) (i / 8) 0 (omega (arith, past, length-replicate {A = ℕ} n 0))
-])
+no_bit_of_zeros n i set =
+    let within : i / 8 < n = omega (arith, bit_within (replicate n 0) i set, length-replicate {A = ℕ} n 0) in
+    no_bit (replicate n 0) i (get_or-replicate n (i / 8) 0 0 within) set
 
 -- two digits are the same if either is 1 exactly if the other is
 same_digit : (a b j : ℕ) → (bit_at a j ≡ 1) ↔ (bit_at b j ≡ 1) → bit_at a j ≡ bit_at b j
@@ -54,10 +60,10 @@ sets_by_or before other after count size each = record {
     | inl within ↦
         rw (each (i / 8) within) (digit_of_or (get_or before (i / 8) 0) (get_or other (i / 8) 0) (i % 8))
     | inr past ↦ (
-      (λ set. absurd (no_bit after i (get_or_past after (i / 8) 0 (omega (arith, size, past))) set)),
+      (λ set. absurd (omega (arith, bit_within after i set, size, past))),
       (λ either. absurd (elim either [
-        | inl was ↦ no_bit before i (get_or_past before (i / 8) 0 past) was
-        | inr new ↦ no_bit other i (get_or_past other (i / 8) 0 (omega (arith, count, past))) new
+        | inl was ↦ omega (arith, bit_within before i was, past)
+        | inr new ↦ omega (arith, bit_within other i new, count, past)
       ])),
     )
   ];
@@ -123,21 +129,14 @@ digit_of_mask hash w b few low =
     (digit_of_power (mask_bit hash w) b)
 
 pub mask_bits : (hash i : ℕ) → IsSet (bytes_of hash) i ↔ IsMaskBit hash i
-mask_bits hash i = elim (cases_lt i 256) [
-  | inl within ↦
-      let place : i / 32 * 32 + i % 32 ≡ i = omega arith in
-      let bit = subst (λ n. IsSet (bytes_of hash) n ↔ (i % 32 ≡ mask_bit hash (i / 32))) place
-      (digit_of_mask hash (i / 32) (i % 32) (omega (arith, within)) (omega arith)) in (
-        (λ set. (i / 32, omega (arith, within), omega (arith, bit.0 set))),
-        (λ of.
-            let word : i / 32 ≡ of.0 = omega (arith, of.2) in
-            bit.1 (rw word (omega (arith, of.2)))),
-      )
-  | inr past ↦ (
-    (λ set. absurd (no_bit (bytes_of hash) i (get_or_past (bytes_of hash) (i / 8) 0 (omega (arith, past))) set)),
-    (λ of. absurd (omega (arith, of.1, of.2, past))),
-  )
-]
+mask_bits hash i = (
+  (λ set.
+      let word : i / 32 < 8 = omega (arith, bit_within (bytes_of hash) i set) in
+      let place : i ≡ i / 32 * 32 + i % 32 = omega arith in
+      let bit = (digit_of_mask hash (i / 32) (i % 32) word (omega arith)).0 (subst (IsSet (bytes_of hash)) place set) in
+      (i / 32, word, omega (arith, bit))),
+  (λ of. rw of.2 ((digit_of_mask hash of.0 (mask_bit hash of.0) of.1 (omega arith)).1 refl)),
+)
 
 -- ---- masks in a block
 
@@ -180,7 +179,7 @@ inserted hash start mask before at inside long is_mask = record {
   bits = λ i. elim (cases_lt i (start * 8)) [
     | inl early ↦
         outside i (omega (arith, early))
-        (get_or-put_chunk_below start before (zip2 bit_or (chunk start 32 before) mask) (i / 8) 0 (omega (arith, early)))
+        (get_or-put_chunk_below start before joined (i / 8) 0 (omega (arith, early)))
     | inr late ↦ elim (cases_lt i (start * 8 + 256)) [
       | inl within ↦
           let place : start * 8 + (i - start * 8) ≡ i = omega (arith, late) in
@@ -188,7 +187,7 @@ inserted hash start mask before at inside long is_mask = record {
           (within_block (i - start * 8) (omega (arith, within)))
       | inr past ↦
           outside i (omega (arith, past))
-          (get_or-put_chunk_above start before (zip2 bit_or (chunk start 32 before) mask) (i / 8) 0 (omega (arith, past, joined_long)))
+          (get_or-put_chunk_above start before joined (i / 8) 0 (omega (arith, past, sets.size, part)))
     ]
   ];
 }
@@ -202,8 +201,8 @@ inserted hash start mask before at inside long is_mask = record {
     part : length (chunk start 32 before) ≡ 32
     part = length-chunk start 32 before inside
 
-    joined_long : length joined ≡ 32
-    joined_long = length-zip2 bit_or (chunk start 32 before) mask (part ∙ sym long) ∙ part
+    sets : Sets (IsSet mask) (chunk start 32 before) joined
+    sets = sets_in_block (chunk start 32 before) mask (long ∙ sym part)
 
     outside : (i : ℕ) → ((b : ℕ) → b < 256 → i ≢ start * 8 + b) →
         get_or after (i / 8) 0 ≡ get_or before (i / 8) 0 →
@@ -221,12 +220,11 @@ inserted hash start mask before at inside long is_mask = record {
     within_block b low =
         let byte : (start * 8 + b) / 8 ≡ start + b / 8 = omega arith in
         let digit : (start * 8 + b) % 8 ≡ b % 8 = omega arith in
-        let same = get_or-put_chunk_at start before (zip2 bit_or (chunk start 32 before) mask) (b / 8) 0
-        (omega (arith, joined_long, low)) (omega (arith, joined_long, inside)) in
-        let bits = (sets_in_block (chunk start 32 before) mask (long ∙ sym part)).bits b in
+        let same = get_or-put_chunk_at start before joined (b / 8) 0 (omega (arith, sets.size, part, low))
+        (omega (arith, sets.size, part, inside)) in
         let was = block_bit before start b low in
         let new = bit_of_mask (length before / 32) hash start b at in
-        grind (arith, bits, was, new, is_mask b, byte, digit, same)
+        grind (arith, sets.bits b, was, new, is_mask b, byte, digit, same)
 
 -- ---- whether a mask is in a block
 
@@ -243,18 +241,11 @@ same_if_set block mask count bytes mask_bytes =
           rw (get_or-zip2 bit_or block mask k 0 0 0 low (omega (arith, low, count)))
           (or_of_8 (get_or block k 0) (get_or mask k 0) (bytes k low) (mask_bytes k low)))
           bytes
-          (λ b. (
-            (λ set. elim ((sets.bits b).0 set) [ inl was ↦ was | inr new ↦ has b new ]),
-            (λ was. (sets.bits b).1 (inl was)),
-          ))),
+          (λ b. grind (arith, sets.bits b, has b))),
     )
 
 xor_is_zero : (x y : ℕ) → (bit_xor x y ≡ 0) ↔ (x ≡ y)
-xor_is_zero x y = (
-  (λ none. sym (xor_zero_r x) ∙ ap (bit_xor x) (sym (xor_self y)) ∙ sym (xor_assoc x y y)
-      ∙ ap (λ n. bit_xor n y) none ∙ xor_zero_l y),
-  (λ same. ap (λ n. bit_xor n y) same ∙ xor_self y),
-)
+xor_is_zero x y = grind (arith, xor_assoc x y y, xor_self y, xor_zero_l y, xor_zero_r x)
 
 or_is_zero : (x y : ℕ) → (bit_or x y ≡ 0) ↔ ((x ≡ 0) × (y ≡ 0))
 or_is_zero x y = grind (arith, le_or_l x y, le_or_r x y, or_zero_r 0)
@@ -275,17 +266,17 @@ pub is_member : (hash start : ℕ) (mask filter : List ℕ) → start ≡ block_
     ↔ IsMember filter hash
 is_member hash start mask filter at inside long is_mask bytes mask_bytes =
     let part = length-chunk start 32 filter inside in
-    let block : List ℕ = chunk start 32 filter in
-    let joined = sets_in_block (chunk start 32 filter) mask (long ∙ sym part) in
+    let count = long ∙ sym part in
+    let joined = sets_in_block (chunk start 32 filter) mask count in
     let none = fold_is_zero (zip2 bit_or (chunk start 32 filter) mask) (chunk start 32 filter) 0 joined.size in
-    let same = same_if_set (chunk start 32 filter) mask (long ∙ sym part)
+    let same = same_if_set (chunk start 32 filter) mask count
     (λ k below. rw (get_or-chunk start 32 filter k 0 (omega (arith, below, part))) (bytes (start + k)).fits)
     (λ k _. mask_bytes k) in (
       (λ zeros i bit.
           let it = bit_in_block (length filter / 32) hash start i at bit in
           let here = rw it.2 at bit in
-          rw it.2 ((block_bit filter start it.0 it.1).0 (same.0 (none.0 zeros).1 it.0
-          ((is_mask it.0).1 ((bit_of_mask (length filter / 32) hash start it.0 at).0 here))))),
+          let of = (is_mask it.0).1 ((bit_of_mask (length filter / 32) hash start it.0 at).0 here) in
+          rw it.2 ((block_bit filter start it.0 it.1).0 (same.0 (none.0 zeros).1 it.0 of))),
       (λ member. none.1 (
         refl,
         same.1 (λ b set.

@@ -40,13 +40,6 @@ any-append blocks hashes more i = (
   ]),
 )
 
-none : (bytes : ℕ) → StandsFor (empty_filter bytes) []
-unfolding StandsFor
-none bytes i = (
-  (λ set. absurd (no_bit_of_zeros bytes i set)),
-  (λ of. absurd (omega (arith, of.1.1))),
-)
-
 -- If a filter gets the bits of further hashes, it stands for those too.
 stands-append : (Bits : ℕ → Type 0) (before after hashes more : List ℕ) → Sets Bits before after →
     ((i : ℕ) → Bits i ↔ IsBitOfAny (length before / 32) more i) →
@@ -56,17 +49,7 @@ stands-append Bits before after hashes more sets bits stands i =
     rw sets.size
     (grind (arith, any-append (length before / 32) hashes more i, sets.bits i, bits i, stands i))
 
-all_more : (before after hashes more : List ℕ) →
-    InsertsAll more before after → StandsFor before hashes → StandsFor after (hashes ++ more)
-all_more before after hashes more inserts =
-    stands-append (IsBitOfAny (length before / 32) more) before after hashes more inserts
-    (λ i. ((λ bit. bit), (λ bit. bit)))
-
-found : (filter : List ℕ) (hash : ℕ) (hashes : List ℕ) →
-    StandsFor filter hashes → Contains hashes hash → IsMember filter hash
-unfolding StandsFor
-found filter hash hashes stands has i bit = (stands i).1 (hash, has, bit)
-
+-- Filters of one length that stand for the same values are the same bytes.
 same : (filter other hashes others : List ℕ) → AreBytes filter → AreBytes other →
     length filter ≡ length other → StandsFor filter hashes → StandsFor other others →
     ((hash : ℕ) → Contains hashes hash ↔ Contains others hash) → filter ≡ other
@@ -79,42 +62,47 @@ same filter other hashes others bytes other_bytes count stands stands_other equa
       (λ set. let of = here.0 set in (stands i).1 (of.0, (equal of.0).1 of.1, of.2)),
     ))
 
-pub insert_law : InsertLaw
-insert_law = record {
-  none = none;
-  one_more = λ before after hash hashes inserts.
-      all_more before after hashes (hash ∷ []) (inserts_one hash before after inserts);
-  all_more = all_more;
-  made = λ bytes filter hashes inserts.
-      all_more (empty_filter bytes) filter [] hashes inserts (none bytes);
-  found = found;
-  same = same;
-}
-
+-- A merged filter stands for the values of both.
 both : (before other after hashes others : List ℕ) → Merges other before after →
     StandsFor before hashes → StandsFor other others → StandsFor after (hashes ++ others)
 unfolding StandsFor
 both before other after hashes others (count, sets) stands stands_other =
     stands-append (IsSet other) before after hashes others sets (λ i. rw (← count) (stands_other i)) stands
 
-streams : (before other after whole hashes others : List ℕ) →
-    AreBytes after → AreBytes whole → length whole ≡ length before →
-    Merges other before after → StandsFor before hashes → StandsFor other others →
-    StandsFor whole (hashes ++ others) → after ≡ whole
-streams before other after whole hashes others bytes whole_bytes count merges stands stands_other
-    stands_whole =
-    same after whole (hashes ++ others) (hashes ++ others) bytes whole_bytes (merges.1.size ∙ sym count)
-    (both before other after hashes others merges stands stands_other) stands_whole
-    (λ hash. ((λ is. is), (λ is. is)))
-
-merged_found : (before other after : List ℕ) (hash : ℕ) → Merges other before after →
-    IsMember before hash ⊎ IsMember other hash → IsMember after hash
-merged_found before other after hash (count, sets) member i bit =
-    let here = rw sets.size at bit in
-    (sets.bits i).1 (elim member [ inl one ↦ inl (one i here) | inr one ↦ inr (one i (rw count here)) ])
+pub insert_law : InsertLaw
+unfolding StandsFor
+insert_law = record {
+  none = λ bytes i. (
+    (λ set. absurd (no_bit_of_zeros bytes i set)),
+    (λ of. absurd (omega (arith, of.1.1))),
+  );
+  one_more = λ before after hash hashes inserts.
+      stands-append (IsBitOf (length before / 32) hash) before after hashes (hash ∷ []) inserts
+      (λ i. let one = any-one (length before / 32) hash i in (one.1, one.0));
+  all_more = λ before after hashes more inserts.
+      stands-append (IsBitOfAny (length before / 32) more) before after hashes more inserts
+      (λ i. ((λ bit. bit), (λ bit. bit)));
+  made = λ bytes filter hashes inserts i. rw inserts.size (
+    (λ set. elim ((inserts.bits i).0 set) [ inl was ↦ absurd (no_bit_of_zeros bytes i was) | inr of ↦ of ]),
+    (λ of. (inserts.bits i).1 (inr of)),
+  );
+  found = λ filter hash hashes stands has i bit. (stands i).1 (hash, has, bit);
+  same = same;
+}
 
 pub merge_law : MergeLaw
-merge_law = record { both = both; streams = streams; found = merged_found }
+unfolding StandsFor
+merge_law = record {
+  both = both;
+  streams = λ before other after whole hashes others bytes whole_bytes count merges stands stands_other
+      stands_whole.
+      same after whole (hashes ++ others) (hashes ++ others) bytes whole_bytes (merges.1.size ∙ sym count)
+      (both before other after hashes others merges stands stands_other) stands_whole
+      (λ hash. ((λ is. is), (λ is. is)));
+  found = λ before other after hash (count, sets) member i bit.
+      let here = rw sets.size at bit in
+      (sets.bits i).1 (elim member [ inl one ↦ inl (one i here) | inr one ↦ inr (one i (rw count here)) ]);
+}
 
 -- the hash of one of many values is one of their hashes
 hash_among : (values : List (List ℕ)) (fed : List ℕ) →
@@ -128,5 +116,5 @@ hash_among values fed (k, within, is) = (
 pub value_law : ValueLaw
 value_law = record {
   found = λ filter fed values stands is.
-      found filter (hash_of fed) (map hash_of values) stands (hash_among values fed is);
+      insert_law.found filter (hash_of fed) (map hash_of values) stands (hash_among values fed is);
 }
