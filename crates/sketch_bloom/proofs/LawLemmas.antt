@@ -5,8 +5,8 @@ use Rattle.std.proofs.lemmas.List.{get_or-map, length-map}
 use Rattle.std.proofs.lemmas.List.Elements.{All-get_or, Contains-append_cases, Contains-append_left, Contains-append_right}
 use Rattle.datasketches.specs.Bytes.{AreBytes}
 use Rattle.sketch_bloom.proofs.BlockLemmas.{no_bit_of_zeros, same_from_bits}
-use Rattle.sketch_bloom.specs.Filter.{Inserts, InsertsAll, IsBitOf, IsBitOfAny, IsMember, IsSet, Merges, Sets, hash_of}
-use Rattle.sketch_bloom.specs.Laws.{InsertLaw, MergeLaw, StandsFor, ValueLaw, empty_filter}
+use Rattle.sketch_bloom.specs.Filter.{Inserts, InsertsAll, IsBitOf, IsBitOfAny, IsSet, Merges, Sets, hash_of}
+use Rattle.sketch_bloom.specs.Laws.{InsertLaw, MergeLaw, StandsFor, ValueLaw}
 
 -- the bits of a list of one hash
 any-one : (blocks hash i : ℕ) → IsBitOfAny blocks (hash ∷ []) i ↔ IsBitOf blocks hash i

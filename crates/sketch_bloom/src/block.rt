@@ -1,20 +1,13 @@
-//! The eight bits of a hash in its block, set or tested at once.
+//! The block of a hash, and the eight bits of the hash in it.
 
-ghost use Rattle.std.specs.Prelude.{◌≡◌, ℕ, ◌+◌, ◌*◌, ◌-◌, ◌<◌, ◌≤◌, ◌^◌, ◌↔◌, ◌⊎◌, IsTrue, length, slice_index};
-ghost use Rattle.sketch_bloom.specs.Filter.{IsMaskBit, IsSet, Sets, block_of, mask_bit};
+ghost use Rattle.std.specs.Prelude.{◌≡◌, ℕ, ◌+◌, ◌*◌, ◌<◌, ◌≤◌, ◌^◌, ◌↔◌, slice_index};
+ghost use Rattle.sketch_bloom.specs.Filter.{IsMaskBit, IsSet, block_of};
 
 use std::simd::prelude::*;
 
 // A constant for each word of a block.
 const SALT: [u32; 8] = [
-    0x47b6_137b,
-    0x4497_4d91,
-    0x8824_ad5b,
-    0xa2b7_289d,
-    0x7054_95c7,
-    0x2df1_424b,
-    0x9efc_4947,
-    0x5c6b_fb31,
+    0x47b6137b, 0x44974d91, 0x8824ad5b, 0xa2b7289d, 0x705495c7, 0x2df1424b, 0x9efc4947, 0x5c6bfb31,
 ];
 
 // The offset of a hash's block in a filter with this many blocks.

@@ -134,16 +134,8 @@ pub fn merge(into: &mut [u8], from: &[u8]) -> Result<(), Fault>
     if from.len() != into.len() {
         return Err(Fault::OtherLength(from.len()));
     }
-    join(into, from);
-    Ok(())
-}
-
-// Sets the bits that are set in another filter of the same length.
-fn join(into: &mut [u8], from: &[u8])
-    requires { length from.now ≡ length into.old }
-    ensures { Merges from.now into.old into.new }
-{
     for i in 0..into.len() {
         into[i] |= from[i];
     }
+    Ok(())
 }

@@ -1,6 +1,6 @@
 //! The header before a filter in a Parquet file.
 
-ghost use Rattle.std.specs.Prelude.{◌≡◌, ℕ, ◌+◌, ◌-◌, ◌*◌, ◌%◌, ◌^◌, ◌<◌, ◌≤◌, ◌++◌, ◌↔◌, List, IsTrue, MatchOption, drop, length, take};
+ghost use Rattle.std.specs.Prelude.{◌≡◌, ℕ, ◌+◌, ◌*◌, ◌%◌, ◌^◌, ◌<◌, ◌≤◌, ◌++◌, ◌↔◌, List, IsTrue, MatchOption, drop, length, take};
 ghost use Rattle.sketch_bloom.specs.Header.{IsHeaderLength, header, number_at, number_field};
 
 use crate::filter::is_length;
@@ -81,24 +81,21 @@ fn number_field(bytes: usize) -> ([u8; 6], usize)
     let c = b / 128;
     let d = c / 128;
     let e = d / 128;
-    if a < 128 {
-        ([0x15, a as u8, 0, 0, 0, 0], 2)
-    } else if b < 128 {
-        ([0x15, high(a), b as u8, 0, 0, 0], 3)
-    } else if c < 128 {
-        ([0x15, high(a), high(b), c as u8, 0, 0], 4)
-    } else if d < 128 {
-        ([0x15, high(a), high(b), high(c), d as u8, 0], 5)
-    } else {
-        ([0x15, high(a), high(b), high(c), high(d), e as u8], 6)
-    }
+    let more = usize::from(b > 0) + usize::from(c > 0) + usize::from(d > 0) + usize::from(e > 0);
+    let field = [0x15, digit(a), digit(b), digit(c), digit(d), digit(e)];
+    (field, 2 + more)
 }
 
-// The first byte of a variable-length number of more than one byte.
-fn high(number: u64) -> u8
-    ensures { result ≡ number % 128 + 128 }
+// The first byte of a variable-length number.
+fn digit(number: u64) -> u8
+    ensures last { number < 128 → result ≡ number }
+    ensures more { 128 ≤ number → result ≡ number % 128 + 128 }
 {
-    (number % 128 + 128) as u8
+    if number < 128 {
+        number as u8
+    } else {
+        (number % 128 + 128) as u8
+    }
 }
 
 // The length of a filter as its header has it, or 0 if the input is shorter than a header.

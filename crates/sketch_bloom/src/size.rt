@@ -9,7 +9,6 @@
 //! The sum is computed in integers, since the library has no floats.
 
 ghost use Rattle.std.specs.Prelude.{◌≡◌, ℕ, ◌+◌, ◌*◌, ◌^◌, ◌<◌, ◌≤◌, IfSome, IsTrue, None, Some};
-ghost use Rattle.sketch_bloom.specs.Filter.{IsLength};
 
 // The most values a block on average. With more, the rate is above one in two.
 const FULL: u64 = 128;

@@ -25,12 +25,13 @@ const RATES: [(u64, u32, &[u64]); 11] = [
 #[test]
 fn the_rate_has_six_digits_of_the_exact_sum(rt: HostRuntime) {
     for (keys, log2_blocks, rates) in RATES {
-        let mut blocks = log2_blocks.min(22);
+        let mut next = log2_blocks;
         for one_in in rates {
+            let blocks = next.min(22);
             let digits = one_in / 1_000_000 + 1;
             assert!(rt; keeps_rate(keys, blocks, one_in.saturating_sub(digits).max(1)));
             assert!(rt; !keeps_rate(keys, blocks, one_in.saturating_add(digits)));
-            blocks = (blocks + 1).min(22);
+            next = blocks + 1;
         }
     }
 }
