@@ -59,13 +59,7 @@ sets_by_or before other after count size each = record {
   bits = λ i. elim (cases_lt (i / 8) (length before)) [
     | inl within ↦
         rw (each (i / 8) within) (digit_of_or (get_or before (i / 8) 0) (get_or other (i / 8) 0) (i % 8))
-    | inr past ↦ (
-      (λ set. absurd (omega (arith, bit_within after i set, size, past))),
-      (λ either. absurd (elim either [
-        | inl was ↦ omega (arith, bit_within before i was, past)
-        | inr new ↦ omega (arith, bit_within other i new, count, past)
-      ])),
-    )
+    | inr past ↦ grind (arith, size, count, bit_within after i, bit_within before i, bit_within other i)
   ];
 }
 
@@ -207,13 +201,10 @@ inserted hash start mask before at inside long is_mask = record {
     outside : (i : ℕ) → ((b : ℕ) → b < 256 → i ≢ start * 8 + b) →
         get_or after (i / 8) 0 ≡ get_or before (i / 8) 0 →
         IsSet after i ↔ (IsSet before i ⊎ IsBitOf (length before / 32) hash i)
-    outside i other same = rw same (
-      (λ set. inl set),
-      (λ either. elim either [
-        | inl was ↦ was
-        | inr of ↦ let it = bit_in_block (length before / 32) hash start i at of in absurd (other it.0 it.1 it.2)
-      ]),
-    )
+    outside i other same =
+        let none : IsBitOf (length before / 32) hash i → ⊥ =
+        λ of. let it = bit_in_block (length before / 32) hash start i at of in other it.0 it.1 it.2 in
+        rw same ((λ set. inl set), (λ either. elim either [ inl was ↦ was | inr of ↦ absurd (none of) ]))
 
     within_block : (b : ℕ) → b < 256 →
         IsSet after (start * 8 + b) ↔ (IsSet before (start * 8 + b) ⊎ IsBitOf (length before / 32) hash (start * 8 + b))

@@ -1,8 +1,9 @@
 -- Variable-length numbers, and headers.
-use Rattle.std.proofs.Common.{◌≡◌, ℕ, zero, suc, ◌+◌, ◌*◌, ◌/◌, ◌%◌, ◌^◌, ◌<◌, ◌≤◌, ◌-◌, List, [], ◌∷◌, ◌++◌, length, drop, take, get_or, refl, sym, ap, ◌∙◌, inl, inr, arith, append_assoc, drop-cons, length-append}
+use Rattle.std.proofs.Common.{◌≡◌, ℕ, zero, suc, ◌+◌, ◌*◌, ◌/◌, ◌%◌, ◌^◌, ◌<◌, ◌≤◌, ◌-◌, List, [], ◌∷◌, ◌++◌, length, drop, take, get_or, refl, sym, ap, ◌∙◌, arith, append_assoc, drop-cons, length-append}
 use Rattle.std.proofs.Math.Nat.{pow-suc}
 use borrow.Rule.Slice.PartMut.{put_mid}
-use Rattle.std.proofs.lemmas.Bool.{cases_lt, lt-ltb, le-ltb}
+use Rattle.std.proofs.lemmas.Bool.{lt-ltb, le-ltb}
+use Rattle.std.proofs.lemmas.Grind.{common_steps}
 use Rattle.std.proofs.lemmas.List.{append_cancel_left, take-append-drop, take-append-le, length-take-le}
 use Rattle.std.proofs.lemmas.Slice.{drop-append-drop, drop-put_mid, take-put_mid}
 use Rattle.sketch_bloom.specs.Header.{HeaderLaw, IsHeaderLength, header, number_at, number_field, union_fields, varint}
@@ -22,10 +23,8 @@ pub ruleset varints = (varint_short, varint_long)
 length-varint : (more n : ℕ) → length (varint more n) ≤ suc more
 unfolding varint
 length-varint zero n = omega arith
-length-varint (suc more) n = elim (cases_lt n 128) [
-  | inl short ↦ rw (lt-ltb n 128 short) (omega arith)
-  | inr long ↦ rw (le-ltb n 128 long) (omega (arith, length-varint more (n / 128)))
-]
+length-varint (suc more) n =
+    grind (arith, varint_short (suc more) n, varint_long more n, length-varint more (n / 128))
 
 -- a header is at most 19 bytes
 pub header_fits : (bytes : ℕ) → length (header bytes) ≤ 19
@@ -41,15 +40,10 @@ number_of (suc most) (byte ∷ bytes) = number_at byte (number_of most bytes)
 -- a number that was written is read back, whatever comes after it
 number_of_varint : (more n : ℕ) (after : List ℕ) → n < 128 ^ suc more → number_of (suc more) (varint more n ++ after) ≡ n
 number_of_varint zero n after small =
-    let one : n < 128 = omega (arith, small, pow-suc 128 zero) in
-    rw (varint_short zero n one, lt-ltb n 128 one) refl
-number_of_varint (suc more) n after small = elim (cases_lt n 128) [
-  | inl short ↦ rw (varint_short (suc more) n short, lt-ltb n 128 short) refl
-  | inr long ↦
-      let rest : n / 128 < 128 ^ suc more = omega (arith, small, pow-suc 128 (suc more)) in
-      rw (varint_long more n long, le-ltb (n % 128 + 128) 128 (omega arith), number_of_varint more (n / 128) after rest)
-      (omega arith)
-]
+    grind (arith, varint_short zero n, pow-suc 128 zero)
+number_of_varint (suc more) n after small =
+    let rest = number_of_varint more (n / 128) after in
+    grind (arith, varint_short (suc more) n, varint_long more n, rest, pow-suc 128 (suc more))
 
 -- the number after the first byte of a header is twice the length
 number_of_header : (bytes : ℕ) (input after : List ℕ) → IsHeaderLength bytes → input ≡ header bytes ++ after →
@@ -76,25 +70,16 @@ pub header_written : (bytes count : ℕ) (number fields out : List ℕ) → leng
     (count + 13 ≡ length (header bytes))
     × (put_mid count (count + 13 - count) (number ++ drop 6 out) fields ≡ header bytes ++ drop (count + 13) out)
 header_written bytes count number fields out long few field others =
-    let size = ap length others in
     let room = length-append number (drop 6 out) in (
-      omega (
+      grind (arith, common_steps, length-take-le count number, length-append (varint 4 (bytes * 2)) union_fields),
+      grind (
         arith,
-        length-take-le count number (omega (arith, few, long)),
-        ap length field,
-        length-append (varint 4 (bytes * 2)) union_fields,
+        take-append-drop (count + 13) (put_mid count (count + 13 - count) (number ++ drop 6 out) fields),
+        take-put_mid count (count + 13 - count) (number ++ drop 6 out) fields (count + 13),
+        drop-put_mid count (count + 13 - count) (number ++ drop 6 out) fields (count + 13),
+        take-append-le count number (drop 6 out),
+        drop-append-drop 6 out number (count + 13),
       ),
-      sym (take-append-drop (count + 13) (put_mid count (count + 13 - count) (number ++ drop 6 out) fields))
-          ∙ rw (
-            take-put_mid count (count + 13 - count) (number ++ drop 6 out) fields (count + 13) (omega (arith, size))
-                (omega (arith, room, long, few)),
-            drop-put_mid count (count + 13 - count) (number ++ drop 6 out) fields (count + 13) (omega arith)
-                (omega (arith, room, long, few)) (omega (arith, size)),
-            take-append-le count number (drop 6 out) (omega (arith, long, few)),
-            drop-append-drop 6 out number (count + 13) (omega arith) long,
-            field,
-            others,
-          ) refl,
     )
 
 -- the number of a header, byte by byte
