@@ -88,21 +88,9 @@ pub header_number : (bytes : ℕ) (input after : List ℕ) → IsHeaderLength by
     × (number_at (get_or input 1 0) (number_at (get_or input 2 0) (number_at (get_or input 3 0)
     (number_at (get_or input 4 0) (number_at (get_or input 5 0) 0)))) ≡ bytes * 2)
 header_number bytes input after is e =
-    let long : 6 ≤ length input = omega (
-      arith,
-      ap length e,
-      length-append (varint 4 (bytes * 2) ++ union_fields) after,
-      length-append (varint 4 (bytes * 2)) union_fields,
-    ) in (
-      long,
-      rw (
-        ← step 0 5 (omega (arith, long)),
-        ← step 1 4 (omega (arith, long)),
-        ← step 2 3 (omega (arith, long)),
-        ← step 3 2 (omega (arith, long)),
-        ← step 4 1 (omega (arith, long)),
-      ) (number_of_header bytes input after is e),
-    )
+    let long : 6 ≤ length input = grind (arith, common_steps, e, length-append) in
+    let number = number_of_header bytes input after is e in
+    (long, grind (arith, step 0 5, step 1 4, step 2 3, step 3 2, step 4 1, number))
   where
     step : (most i : ℕ) → i < length input →
         number_of (suc most) (drop i input) ≡ number_at (get_or input i 0) (number_of most (drop (suc i) input))
