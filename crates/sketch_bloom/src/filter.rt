@@ -115,6 +115,7 @@ pub(crate) fn is_in(filter: &[u8], blocks: u64, hash: u64) -> bool
 {
     let start = block_start(blocks, hash);
     let block = u8x32::from_slice(&filter[start..]);
+    // Setting bits that are set changes nothing.
     ((block | mask(hash)) ^ block).reduce_or() == 0
 }
 
