@@ -1,42 +1,29 @@
 -- The laws of inserts, merges and values.
-use Rattle.std.proofs.Common.{◌≡◌, ◌↔◌, ◌⊎◌, ℕ, ◌/◌, ◌<◌, List, [], ◌∷◌, ◌++◌, length, map, get_or, refl, sym, ap, subst, ◌∙◌, inl, inr, arith}
+use Rattle.std.proofs.Common.{◌≡◌, ◌↔◌, ◌⊎◌, ℕ, ◌/◌, ◌<◌, List, [], ◌∷◌, ◌++◌, length, map, refl, sym, ap, subst, ◌∙◌, inl, inr, arith}
 use Rattle.std.specs.Prelude.{Contains}
-use Rattle.std.proofs.lemmas.List.{get_or-map, get_or_past, length-map}
+use Rattle.std.proofs.lemmas.List.{get_or-map, length-map}
 use Rattle.std.proofs.lemmas.List.Elements.{All-get_or, Contains-append_cases, Contains-append_left, Contains-append_right}
-use Rattle.std.proofs.lemmas.Bool.{cases_lt}
 use Rattle.datasketches.specs.Bytes.{AreBytes}
-use Rattle.sketch_bloom.proofs.BitLemmas.{no_bit_of_zeros, same_from_bits}
-use Rattle.sketch_bloom.specs.Filter.{Inserts, InsertsAll, IsBitOf, IsBitOfAny, IsMember, IsSet, Merges, Sets, hash_of}
-use Rattle.sketch_bloom.specs.Laws.{InsertLaw, MergeLaw, StandsFor, ValueLaw, empty_filter}
+use Rattle.sketch_bloom.proofs.BlockLemmas.{no_bit_of_zeros, same_from_bits}
+use Rattle.sketch_bloom.specs.Filter.{Inserts, InsertsAll, IsBitOf, IsBitOfAny, IsSet, Merges, Sets, hash_of}
+use Rattle.sketch_bloom.specs.Laws.{InsertLaw, MergeLaw, StandsFor, ValueLaw}
 
--- A hash has the same bits in filters of one length.
-bit_moves : (filter other : List ℕ) (hash i : ℕ) → length filter ≡ length other →
-    IsBitOf (length filter / 32) hash i → IsBitOf (length other / 32) hash i
-bit_moves filter other hash i count is = subst (λ n. IsBitOf (n / 32) hash i) count is
-
--- one hash is a list of one hash
-only_one : (hash x : ℕ) → Contains (hash ∷ []) x → hash ≡ x
-only_one hash x (k, within, is) =
-    let first : k ≡ 0 = omega (arith, within) in
-    rw first at is
+-- the bits of a list of one hash
+any-one : (blocks hash i : ℕ) → IsBitOfAny blocks (hash ∷ []) i ↔ IsBitOf blocks hash i
+any-one blocks hash i = (
+  (λ of.
+      let first : of.1.0 ≡ 0 = omega (arith, of.1.1) in
+      let same : hash ≡ of.0 = rw first at of.1.2 in
+      subst (λ h. IsBitOf blocks h i) (sym same) of.2),
+  (λ bit. (hash, (0, omega arith, refl), bit)),
+)
 
 -- One inserted value is a column of one value.
 pub inserts_one : (hash : ℕ) (before after : List ℕ) →
     Inserts hash before after → InsertsAll (hash ∷ []) before after
 inserts_one hash before after inserts = record {
   size = inserts.size;
-  bits = λ i. (
-    (λ set. elim ((inserts.bits i).0 set) [
-      | inl was ↦ inl was
-      | inr new ↦ inr (hash, (0, omega arith, refl), new)
-    ]),
-    (λ either. (inserts.bits i).1 (elim either [
-      | inl was ↦ inl was
-      | inr of ↦
-          let P : ℕ → Type 0 = λ h. IsBitOf (length before / 32) h i in
-          inr (subst P (sym (only_one hash of.0 of.1)) of.2)
-    ])),
-  );
+  bits = λ i. grind (arith, inserts.bits i, any-one (length before / 32) hash i);
 }
 
 -- a bit of one of two lists of hashes
@@ -53,103 +40,69 @@ any-append blocks hashes more i = (
   ]),
 )
 
-none : (bytes : ℕ) → StandsFor (empty_filter bytes) []
-unfolding StandsFor
-none bytes i = (
-  (λ set. absurd (no_bit_of_zeros bytes i set)),
-  (λ of. absurd (omega (arith, of.1.1))),
-)
-
 -- If a filter gets the bits of further hashes, it stands for those too.
 stands-append : (Bits : ℕ → Type 0) (before after hashes more : List ℕ) → Sets Bits before after →
     ((i : ℕ) → Bits i ↔ IsBitOfAny (length before / 32) more i) →
     StandsFor before hashes → StandsFor after (hashes ++ more)
 unfolding StandsFor
 stands-append Bits before after hashes more sets bits stands i =
-    let blocks = length before / 32 in
-    let either = any-append blocks hashes more i in
-    rw sets.size (
-      (λ set. either.1 (elim ((sets.bits i).0 set) [
-        | inl was ↦ inl ((stands i).0 was)
-        | inr new ↦ inr ((bits i).0 new)
-      ])),
-      (λ of. (sets.bits i).1 (elim (either.0 of) [
-        | inl was ↦ inl ((stands i).1 was)
-        | inr new ↦ inr ((bits i).1 new)
-      ])),
-    )
+    rw sets.size
+    (grind (arith, any-append (length before / 32) hashes more i, sets.bits i, bits i, stands i))
 
-all_more : (before after hashes more : List ℕ) →
-    InsertsAll more before after → StandsFor before hashes → StandsFor after (hashes ++ more)
-all_more before after hashes more inserts =
-    stands-append (IsBitOfAny (length before / 32) more) before after hashes more inserts
-    (λ i. ((λ bit. bit), (λ bit. bit)))
-
-found : (filter : List ℕ) (hash : ℕ) (hashes : List ℕ) →
-    StandsFor filter hashes → Contains hashes hash → IsMember filter hash
-unfolding StandsFor
-found filter hash hashes stands has i bit = (stands i).1 (hash, has, bit)
-
--- each number of a list of bytes is a byte, also past its end
-byte_at : (bytes : List ℕ) (k : ℕ) → AreBytes bytes → get_or bytes k 0 < 256
-byte_at bytes k are = elim (cases_lt k (length bytes)) [
-  | inl within ↦ All-get_or (λ b. b < 256) bytes k 0 within are
-  | inr past ↦ rw (get_or_past bytes k 0 past) (omega arith)
-]
-
+-- Filters of one length that stand for the same values are the same bytes.
 same : (filter other hashes others : List ℕ) → AreBytes filter → AreBytes other →
     length filter ≡ length other → StandsFor filter hashes → StandsFor other others →
     ((hash : ℕ) → Contains hashes hash ↔ Contains others hash) → filter ≡ other
 unfolding StandsFor
 same filter other hashes others bytes other_bytes count stands stands_other equal =
-    same_from_bits filter other count (λ k. byte_at filter k bytes) (λ k. byte_at other k other_bytes) (λ i. (
-      (λ set.
-          let of = (stands i).0 set in
-          (stands_other i).1 (of.0, (equal of.0).0 of.1, bit_moves filter other of.0 i count of.2)),
-      (λ set.
-          let of = (stands_other i).0 set in
-          (stands i).1 (of.0, (equal of.0).1 of.1, bit_moves other filter of.0 i (sym count) of.2)),
+    same_from_bits filter other count (λ k below. All-get_or (λ b. b < 256) filter k 0 below bytes)
+    (λ k below. All-get_or (λ b. b < 256) other k 0 below other_bytes) (λ i.
+    let here = rw (← count) at (stands_other i) in (
+      (λ set. let of = (stands i).0 set in here.1 (of.0, (equal of.0).0 of.1, of.2)),
+      (λ set. let of = here.0 set in (stands i).1 (of.0, (equal of.0).1 of.1, of.2)),
     ))
 
-pub insert_law : InsertLaw
-insert_law = record {
-  none = none;
-  one_more = λ before after hash hashes inserts.
-      all_more before after hashes (hash ∷ []) (inserts_one hash before after inserts);
-  all_more = all_more;
-  made = λ bytes filter hashes inserts.
-      all_more (empty_filter bytes) filter [] hashes inserts (none bytes);
-  found = found;
-  same = same;
-}
-
+-- A merged filter stands for the values of both.
 both : (before other after hashes others : List ℕ) → Merges other before after →
     StandsFor before hashes → StandsFor other others → StandsFor after (hashes ++ others)
 unfolding StandsFor
 both before other after hashes others (count, sets) stands stands_other =
     stands-append (IsSet other) before after hashes others sets (λ i. rw (← count) (stands_other i)) stands
 
-streams : (before other after whole hashes others : List ℕ) →
-    AreBytes after → AreBytes whole → length whole ≡ length before →
-    Merges other before after → StandsFor before hashes → StandsFor other others →
-    StandsFor whole (hashes ++ others) → after ≡ whole
-streams before other after whole hashes others bytes whole_bytes count merges stands stands_other
-    stands_whole =
-    same after whole (hashes ++ others) (hashes ++ others) bytes whole_bytes (merges.1.size ∙ sym count)
-    (both before other after hashes others merges stands stands_other) stands_whole
-    (λ hash. ((λ is. is), (λ is. is)))
-
-merged_found : (before other after : List ℕ) (hash : ℕ) → Merges other before after →
-    IsMember before hash ⊎ IsMember other hash → IsMember after hash
-merged_found before other after hash (count, sets) member i bit =
-    let here = bit_moves after before hash i sets.size bit in
-    (sets.bits i).1 (elim member [
-      | inl one ↦ inl (one i here)
-      | inr one ↦ inr (one i (bit_moves before other hash i (sym count) here))
-    ])
+pub insert_law : InsertLaw
+unfolding StandsFor
+insert_law = record {
+  none = λ bytes i. (
+    (λ set. absurd (no_bit_of_zeros bytes i set)),
+    (λ of. absurd (omega (arith, of.1.1))),
+  );
+  one_more = λ before after hash hashes inserts.
+      stands-append (IsBitOf (length before / 32) hash) before after hashes (hash ∷ []) inserts
+      (λ i. let one = any-one (length before / 32) hash i in (one.1, one.0));
+  all_more = λ before after hashes more inserts.
+      stands-append (IsBitOfAny (length before / 32) more) before after hashes more inserts
+      (λ i. ((λ bit. bit), (λ bit. bit)));
+  made = λ bytes filter hashes inserts i. rw inserts.size (
+    (λ set. elim ((inserts.bits i).0 set) [ inl was ↦ absurd (no_bit_of_zeros bytes i was) | inr of ↦ of ]),
+    (λ of. (inserts.bits i).1 (inr of)),
+  );
+  found = λ filter hash hashes stands has i bit. (stands i).1 (hash, has, bit);
+  same = same;
+}
 
 pub merge_law : MergeLaw
-merge_law = record { both = both; streams = streams; found = merged_found }
+unfolding StandsFor
+merge_law = record {
+  both = both;
+  streams = λ before other after whole hashes others bytes whole_bytes count merges stands stands_other
+      stands_whole.
+      same after whole (hashes ++ others) (hashes ++ others) bytes whole_bytes (merges.1.size ∙ sym count)
+      (both before other after hashes others merges stands stands_other) stands_whole
+      (λ hash. ((λ is. is), (λ is. is)));
+  found = λ before other after hash (count, sets) member i bit.
+      let here = rw sets.size at bit in
+      (sets.bits i).1 (elim member [ inl one ↦ inl (one i here) | inr one ↦ inr (one i (rw count here)) ]);
+}
 
 -- the hash of one of many values is one of their hashes
 hash_among : (values : List (List ℕ)) (fed : List ℕ) →
@@ -163,5 +116,5 @@ hash_among values fed (k, within, is) = (
 pub value_law : ValueLaw
 value_law = record {
   found = λ filter fed values stands is.
-      found filter (hash_of fed) (map hash_of values) stands (hash_among values fed is);
+      insert_law.found filter (hash_of fed) (map hash_of values) stands (hash_among values fed is);
 }

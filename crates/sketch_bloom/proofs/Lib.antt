@@ -1,4 +1,3 @@
-mod BitLemmas
 mod BlockLemmas
 mod ColumnLemmas
 mod HeaderLemmas

@@ -27,12 +27,9 @@ header bytes = number_field bytes ++ union_fields
 abbrev pub IsHeaderLength : ℕ → Type 0
 IsHeaderLength bytes = IsLength bytes × (bytes < 2 ^ 31)
 
--- The number at the start of bytes, of which at most `most` are read.
-unfoldable pub varint_number : ℕ → List ℕ → ℕ
-varint_number zero bytes = 0
-varint_number (suc most) [] = 0
-varint_number (suc most) (byte ∷ bytes) =
-    if nat_lt byte 128 then byte else byte - 128 + 128 * varint_number most bytes
+-- A number is read from its first byte and the number in the bytes after it.
+abbrev pub number_at : ℕ → ℕ → ℕ
+number_at byte after = if nat_lt byte 128 then byte else byte - 128 + 128 * after
 
 -- Bytes start with the header of at most one length, and it ends at one place.
 pub record HeaderLaw : Type 0 where

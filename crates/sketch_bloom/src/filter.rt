@@ -3,9 +3,10 @@
 ghost use Rattle.std.specs.Prelude.{◌≡◌, ◌/◌, ◌↔◌, IsTrue, MatchResult, length};
 ghost use Rattle.sketch_bloom.specs.Filter.{Inserts, IsLength, IsLengthFault, IsMember, IsMergeFault, Merges, hash_of};
 
-use crate::block::{block_start, contains_mask, insert_mask, mask};
+use crate::block::{block_start, mask};
 use crate::fault::Fault;
 use datasketches::hash::Hash;
+use std::simd::prelude::*;
 
 /// Whether a filter can have this many bytes: a positive multiple of 32 below 2^37.
 #[inline(always)]
@@ -93,22 +94,29 @@ pub fn contains_hash(filter: &[u8], hash: u64) -> Result<bool, Fault>
 
 // Inserts a hash into a filter with this many blocks.
 #[inline(always)]
+#[tactic(auto, using(crate::proofs::BlockLemmas::inserted))]
 pub(crate) fn insert_into(filter: &mut [u8], blocks: u64, hash: u64)
     requires size { IsLength (length filter.old) }
     requires blocks { blocks ≡ length filter.old / 32 }
     ensures { Inserts hash filter.old filter.new }
 {
-    insert_mask(filter, block_start(blocks, hash), mask(hash));
+    let start = block_start(blocks, hash);
+    let block = u8x32::from_slice(&filter[start..]);
+    (block | mask(hash)).copy_to_slice(&mut filter[start..]);
 }
 
 // Whether a filter with this many blocks contains a hash.
 #[inline(always)]
+#[tactic(auto, using(crate::proofs::BlockLemmas::is_member))]
 pub(crate) fn is_in(filter: &[u8], blocks: u64, hash: u64) -> bool
     requires size { IsLength (length filter.now) }
     requires blocks { blocks ≡ length filter.now / 32 }
     ensures { IsTrue result ↔ IsMember filter.now hash }
 {
-    contains_mask(filter, block_start(blocks, hash), mask(hash))
+    let start = block_start(blocks, hash);
+    let block = u8x32::from_slice(&filter[start..]);
+    // Setting bits that are set changes nothing.
+    ((block | mask(hash)) ^ block).reduce_or() == 0
 }
 
 /// Merges the filter `from` into the filter `into`, which then contains what either did.
@@ -127,16 +135,8 @@ pub fn merge(into: &mut [u8], from: &[u8]) -> Result<(), Fault>
     if from.len() != into.len() {
         return Err(Fault::OtherLength(from.len()));
     }
-    join(into, from);
-    Ok(())
-}
-
-// Sets the bits that are set in another filter of the same length.
-fn join(into: &mut [u8], from: &[u8])
-    requires { length from.now ≡ length into.old }
-    ensures { Merges from.now into.old into.new }
-{
     for i in 0..into.len() {
         into[i] |= from[i];
     }
+    Ok(())
 }

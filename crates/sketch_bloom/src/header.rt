@@ -1,7 +1,7 @@
 //! The header before a filter in a Parquet file.
 
-ghost use Rattle.std.specs.Prelude.{◌≡◌, ℕ, ◌+◌, ◌%◌, ◌^◌, ◌<◌, ◌≤◌, ◌++◌, ◌↔◌, List, IsTrue, MatchOption, drop, length, take};
-ghost use Rattle.sketch_bloom.specs.Header.{IsHeaderLength, header, varint_number};
+ghost use Rattle.std.specs.Prelude.{◌≡◌, ℕ, ◌+◌, ◌*◌, ◌%◌, ◌^◌, ◌<◌, ◌≤◌, ◌++◌, ◌↔◌, List, IsTrue, MatchOption, drop, length, take};
+ghost use Rattle.sketch_bloom.specs.Header.{IsHeaderLength, header, number_at, number_field};
 
 use crate::filter::is_length;
 
@@ -23,15 +23,19 @@ pub fn write_header(bytes: usize, out: &mut [u8]) -> Option<usize>
         (λ count. IsHeaderLength bytes × (count ≡ length (header bytes))
         × (out.new ≡ header bytes ++ drop count out.old)) }
 {
-    if !is_header_length(bytes) {
+    if !is_length(bytes) || bytes >= 1 << 31 {
         return None;
     }
-    let (header, count) = header_of(bytes);
-    if out.len() < count {
+    let (number, start) = number_field(bytes);
+    let end = start + 13;
+    if out.len() < end {
         return None;
     }
-    copy_header(&header, count, out);
-    Some(count)
+    // A copy of constant length needs no `memcpy`, which the C library would have to import. The
+    // other fields replace what is copied past the end of the number.
+    out[..6].copy_from_slice(&number);
+    out[start..end].copy_from_slice(&UNION_FIELDS);
+    Some(end)
 }
 
 /// Reads the header at the start of `input`, and returns the number of bytes of the filter and of
@@ -39,6 +43,7 @@ pub fn write_header(bytes: usize, out: &mut [u8]) -> Option<usize>
 ///
 /// Returns `None` if `input` does not start with a header that [`write_header`] writes. Parquet's
 /// writers write the same.
+#[tactic(auto, using(crate::proofs::HeaderLemmas::header_fits))]
 pub fn read_header(input: &[u8]) -> Option<(usize, usize)>
     ensures { MatchOption result
         ((bytes : ℕ) (after : List ℕ) → IsHeaderLength bytes → input.now ≡ header bytes ++ after →
@@ -46,34 +51,13 @@ pub fn read_header(input: &[u8]) -> Option<(usize, usize)>
         (λ read. IsHeaderLength read.0 × (read.1 ≡ length (header read.0))
         × (input.now ≡ header read.0 ++ drop read.1 input.now)) }
 {
-    let Some((_, rest)) = input.split_first() else {
-        return None;
-    };
-    let bytes = (varint_number(rest, 5) / 2) as usize;
-    if !is_header_length(bytes) {
-        return None;
-    }
-    let (header, count) = header_of(bytes);
-    if !has_prefix(input, &header[..count]) {
-        return None;
-    }
-    Some((bytes, count))
-}
-
-// Copies the first `count` bytes of a header. A copy of constant length needs no `memcpy`, which
-// the C library would have to import.
-fn copy_header(header: &[u8; MOST], count: usize, out: &mut [u8])
-    requires least { 15 ≤ count }
-    requires most { count ≤ 19 }
-    requires within { count ≤ length out.old }
-    ensures { out.new ≡ take count header.now ++ drop count out.old }
-{
-    match count {
-        15 => out[..15].copy_from_slice(&header[..15]),
-        16 => out[..16].copy_from_slice(&header[..16]),
-        17 => out[..17].copy_from_slice(&header[..17]),
-        18 => out[..18].copy_from_slice(&header[..18]),
-        _ => out[..19].copy_from_slice(&header[..19]),
+    let bytes = length_in(input);
+    let mut header = [0; MOST];
+    let count = write_header(bytes, &mut header)?;
+    if has_prefix(input, &header[..count]) {
+        Some((bytes, count))
+    } else {
+        None
     }
 }
 
@@ -84,53 +68,58 @@ fn has_prefix(input: &[u8], prefix: &[u8]) -> bool
     prefix.len() <= input.len() && &input[..prefix.len()] == prefix
 }
 
-// Whether a header can say that a filter has this many bytes.
-fn is_header_length(bytes: usize) -> bool
-    ensures { IsTrue result ↔ IsHeaderLength bytes }
-{
-    is_length(bytes) && bytes < 1 << 31
-}
-
-// The header of a filter with this many bytes, and the number of bytes of the header.
-fn header_of(bytes: usize) -> ([u8; MOST], usize)
+// The first field of a header, and its number of bytes.
+#[tactic(auto, using(crate::proofs::HeaderLemmas::varints))]
+fn number_field(bytes: usize) -> ([u8; 6], usize)
     requires { IsHeaderLength bytes }
-    ensures long { length result.0 ≡ 19 }
-    ensures least { 15 ≤ result.1 }
-    ensures most { result.1 ≤ 19 }
-    ensures header { take result.1 result.0 ≡ header bytes }
+    ensures long { length result.0 ≡ 6 }
+    ensures count { (2 ≤ result.1) × (result.1 ≤ 6) }
+    ensures field { take result.1 result.0 ≡ number_field bytes }
 {
-    let mut header = [0; MOST];
-    header[0] = 0x15;
-    let mut count = 1;
-    let mut number = bytes as u64 * 2;
-    while number >= 128 {
-        header[count] = (number % 128 + 128) as u8;
-        number /= 128;
-        count += 1;
-    }
-    header[count] = number as u8;
-    let end = count + 14;
-    header[count + 1..end].copy_from_slice(&UNION_FIELDS);
-    (header, end)
+    let a = bytes as u64 * 2;
+    let b = a / 128;
+    let c = b / 128;
+    let d = c / 128;
+    let e = d / 128;
+    let more = usize::from(b > 0) + usize::from(c > 0) + usize::from(d > 0) + usize::from(e > 0);
+    let field = [0x15, digit(a), digit(b), digit(c), digit(d), digit(e)];
+    (field, 2 + more)
 }
 
-// Reads the variable-length number at the start of `input`, at most `most` bytes of it, modulo
-// 2^64.
-#[tactic(auto, using(crate::proofs::HeaderLemmas::number_read))]
-fn varint_number(input: &[u8], most: usize) -> u64
-    ensures { result ≡ varint_number most input.now % 2 ^ 64 }
+// The first byte of a variable-length number.
+fn digit(number: u64) -> u8
+    ensures last { number < 128 → result ≡ number }
+    ensures more { 128 ≤ number → result ≡ number % 128 + 128 }
 {
-    if most == 0 {
-        return 0;
+    if number < 128 {
+        number as u8
+    } else {
+        (number % 128 + 128) as u8
     }
-    let Some((first, rest)) = input.split_first() else {
+}
+
+// The length of a filter as its header has it, or 0 if the input is shorter than a header.
+#[tactic(auto, using(crate::proofs::HeaderLemmas::header_number))]
+fn length_in(input: &[u8]) -> usize
+    ensures { (bytes : ℕ) (after : List ℕ) → IsHeaderLength bytes → input.now ≡ header bytes ++ after →
+        result ≡ bytes }
+{
+    let [_, a, b, c, d, e, ..] = input else {
         return 0;
     };
-    let low = u64::from(*first);
-    if low < 128 {
-        return low;
+    let twice = number(*a, number(*b, number(*c, number(*d, number(*e, 0)))));
+    (twice / 2) as usize
+}
+
+// The variable-length number of a first byte and the bytes after it, which have another number.
+fn number(byte: u8, after: u64) -> u64
+    requires { after < 2 ^ 56 }
+    ensures value { result ≡ number_at byte after }
+    ensures most { result ≤ 127 + 128 * after }
+{
+    if byte < 128 {
+        u64::from(byte)
+    } else {
+        u64::from(byte - 128) + 128 * after
     }
-    varint_number(rest, most - 1)
-        .wrapping_mul(128)
-        .wrapping_add(low - 128)
 }

@@ -43,10 +43,8 @@ impl BloomFilter {
             (λ filter. IsLength bytes × (filter ≡ empty_filter bytes)) (IsNewFault bytes) }
     {
         block_count(bytes)?;
-        match vec![in alloc; 0; bytes] {
-            Ok(bytes) => Ok(BloomFilter { bytes }),
-            Err(_) => Err(Fault::OutOfMemory),
-        }
+        let bytes = vec![in alloc; 0; bytes].map_err(|_| Fault::OutOfMemory)?;
+        Ok(BloomFilter { bytes })
     }
 
     /// The filter with these bytes. They are not copied.

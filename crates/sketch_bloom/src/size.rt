@@ -9,16 +9,12 @@
 //! The sum is computed in integers, since the library has no floats.
 
 ghost use Rattle.std.specs.Prelude.{◌≡◌, ℕ, ◌+◌, ◌*◌, ◌^◌, ◌<◌, ◌≤◌, IfSome, IsTrue, None, Some};
-ghost use Rattle.sketch_bloom.specs.Filter.{IsLength};
 
 // The most values a block on average. With more, the rate is above one in two.
 const FULL: u64 = 128;
 
 // The number of terms. Later ones are too small to count, with at most `FULL` values a block.
 const TERMS: u64 = 384;
-
-// The terms' weights are scaled to stay below 2^48.
-const SCALE: u32 = 48;
 
 /// The smallest number of bytes, a power of two from 32 bytes to 128 MiB, for a filter of `keys`
 /// different values with a false positive rate of at most one in `one_in`.
@@ -36,6 +32,11 @@ pub fn bytes_for(keys: u64, one_in: u64) -> Option<usize>
     ensures load { 1 < one_in → IfSome result (λ bytes. keys ≤ 4 * bytes) }
     ensures none { one_in ≡ 0 → result ≡ None }
 {
+    match one_in {
+        0 => return None,
+        1 => return Some(32),
+        _ => {}
+    }
     for log2_blocks in 0..23 {
         if keeps_rate(keys, log2_blocks, one_in) {
             return Some(32 << log2_blocks);
@@ -46,44 +47,30 @@ pub fn bytes_for(keys: u64, one_in: u64) -> Option<usize>
 
 // Whether a filter of 2^log2_blocks blocks keeps the rate.
 pub(crate) fn keeps_rate(keys: u64, log2_blocks: u32, one_in: u64) -> bool
-    requires { log2_blocks ≤ 22 }
-    ensures all { one_in ≡ 1 → IsTrue result }
-    ensures load { 1 < one_in → IsTrue result → keys ≤ 128 * 2 ^ log2_blocks }
-    ensures none { one_in ≡ 0 → IsTrue result → ⊥ }
+    requires blocks { log2_blocks ≤ 22 }
+    requires one_in { 0 < one_in }
+    ensures { IsTrue result → keys ≤ 128 * 2 ^ log2_blocks }
 {
-    if one_in <= 1 {
-        return one_in == 1;
-    }
     if keys > FULL << log2_blocks {
         return false;
     }
-    let (found, all) = found_by_chance(keys, log2_blocks);
-    found <= u128::from(all) * u128::from((1 << 60) / one_in)
-}
-
-// The sum of the terms, and the sum of their weights. The rate is the first divided by 2^60 times
-// the second.
-fn found_by_chance(keys: u64, log2_blocks: u32) -> (u128, u64)
-    requires blocks { log2_blocks ≤ 22 }
-    requires keys { keys ≤ 128 * 2 ^ log2_blocks }
-{
+    // The sum of the terms' weights, and of the terms in parts of 2^60.
     let mut weight: u64 = 1 << 40;
-    let mut all = weight;
-    let mut found: u128 = 0;
+    let (mut all, mut found) = (weight, 0);
     let mut clear: u64 = 1 << 50;
     for k in 1..TERMS {
         weight = next_weight(weight, keys, log2_blocks, k);
         clear = clear / 32 * 31;
         all += weight;
         found += u128::from(weight) * u128::from(covered(clear));
-        // Only the ratio of the sums matters.
-        if weight >> SCALE > 0 {
+        // The weights stay below 2^48. Only the ratio of the sums matters.
+        if weight >> 48 > 0 {
             weight >>= 8;
             all >>= 8;
             found >>= 8;
         }
     }
-    (found, all)
+    found <= u128::from(all) * u128::from((1 << 60) / one_in)
 }
 
 // The weight of term `k`, from the one before it: times n / z / k.
@@ -98,21 +85,13 @@ fn next_weight(weight: u64, keys: u64, log2_blocks: u32, k: u64) -> u64
 }
 
 // 32^8 times the eighth power of 1 - clear / 2^50, in parts of 2^20.
+#[tactic(auto, using(crate::proofs::SizeLemmas::square_small))]
 fn covered(clear: u64) -> u64
     requires { clear ≤ 2 ^ 50 }
     ensures { result ≤ 2 ^ 60 }
 {
-    let share = (1 << 50) - clear;
-    square(square(square(share, 50), 50), 40)
-}
-
-// The square of a number, shifted right.
-#[tactic(auto, using(crate::proofs::SizeLemmas::squares))]
-fn square(n: u64, shift: u32) -> u64
-    requires small { n ≤ 2 ^ 50 }
-    requires low { 40 ≤ shift }
-    requires high { shift ≤ 50 }
-    ensures { result * 2 ^ shift ≤ 2 ^ 100 }
-{
-    ((u128::from(n) * u128::from(n)) >> shift) as u64
+    let share = u128::from((1 << 50) - clear);
+    let square = (share * share) >> 50;
+    let fourth = (square * square) >> 50;
+    ((fourth * fourth) >> 40) as u64
 }

@@ -5,38 +5,34 @@ use crate::{BloomFilter, bytes_for};
 use std::process::Abort;
 use std::test::Fail;
 
-// A number of values, the logarithm of the number of blocks, and the most other values of which one
-// is found by chance, rounded down, as the sum is with 50 digits.
-const RATES: [(u64, u32, u64); 20] = [
-    (1, 0, 437_143_731),
-    (1, 1, 5_355_687_577),
-    (10, 0, 8612),
-    (100, 2, 88),
-    (100, 3, 2692),
-    (1000, 5, 33),
-    (1000, 6, 856),
-    (1000, 7, 31_310),
-    (10_000, 9, 282),
-    (10_000, 12, 9_986_734),
-    (100_000, 11, 6),
-    (100_000, 12, 98),
-    (100_000, 13, 3044),
-    (1_000_000, 15, 36),
-    (1_000_000, 16, 966),
-    (1_000_000, 17, 35_432),
-    (10_000_000, 19, 317),
-    (10_000_000, 20, 11_038),
-    (100_000_000, 22, 109),
-    (50_000_000, 22, 3_443),
+// A number of values, the logarithm of a number of blocks, and the most other values of which one
+// is found by chance with that many blocks, with twice as many and so on, rounded down, as the sum
+// is with 50 digits.
+const RATES: [(u64, u32, &[u64]); 11] = [
+    (1, 0, &[437_143_731, 5_355_687_577]),
+    (10, 0, &[8612]),
+    (100, 2, &[88, 2692]),
+    (1000, 5, &[33, 856, 31_310]),
+    (10_000, 9, &[282]),
+    (10_000, 12, &[9_986_734]),
+    (100_000, 11, &[6, 98, 3044]),
+    (1_000_000, 15, &[36, 966, 35_432]),
+    (10_000_000, 19, &[317, 11_038]),
+    (50_000_000, 22, &[3443]),
+    (100_000_000, 22, &[109]),
 ];
 
 #[test]
 fn the_rate_has_six_digits_of_the_exact_sum(rt: HostRuntime) {
-    for (keys, log2_blocks, one_in) in RATES {
-        let log2_blocks = log2_blocks.min(22);
-        let digits = one_in / 1_000_000 + 1;
-        assert!(rt; keeps_rate(keys, log2_blocks, one_in.saturating_sub(digits)));
-        assert!(rt; !keeps_rate(keys, log2_blocks, one_in.saturating_add(digits)));
+    for (keys, log2_blocks, rates) in RATES {
+        let mut next = log2_blocks;
+        for one_in in rates {
+            let blocks = next.min(22);
+            let digits = one_in / 1_000_000 + 1;
+            assert!(rt; keeps_rate(keys, blocks, one_in.saturating_sub(digits).max(1)));
+            assert!(rt; !keeps_rate(keys, blocks, one_in.saturating_add(digits)));
+            next = blocks + 1;
+        }
     }
 }
 
@@ -62,15 +58,10 @@ fn sizes_are_arrows_or_twice_them(rt: HostRuntime) {
         assert_eq!(rt; bytes_for(keys, one_in), Some(bytes));
         assert!(rt; bytes == arrow || bytes / 2 == arrow);
     }
-}
-
-#[test]
-fn no_size_keeps_some_rates(rt: HostRuntime) {
     for (keys, one_in) in [(0, 0), (100_000_000, 1_000), (1 << 30, 2), (u64::MAX, 2)] {
         assert_eq!(rt; bytes_for(keys, one_in), None);
     }
-    assert_eq!(rt; bytes_for(u64::MAX, 1), Some(32));
-    assert_eq!(rt; bytes_for(0, u64::MAX), Some(32));
+    assert!(rt; bytes_for(u64::MAX, 1) == Some(32) && bytes_for(0, u64::MAX) == Some(32));
 }
 
 // 10^6 values in 2 MiB: the exact sum gives 1035 of 10^6 others, and the deviation is 32.
@@ -80,12 +71,11 @@ fn a_million_values_keep_the_rate(rt: HostRuntime) -> Result<(), Fail> {
     for value in 0..1_000_000u64 {
         filter.insert(&value);
     }
-    let (mut misses, mut found) = (false, 0u64);
+    let mut found = 0u64;
     for value in 0..1_000_000u64 {
-        misses |= !filter.contains(&value);
+        assert!(rt; filter.contains(&value));
         found = found.saturating_add(u64::from(filter.contains(&(value + (1 << 40)))));
     }
-    assert!(rt; !misses);
     assert!(rt; 900 < found && found < 1_170, "{found}");
     Ok(())
 }

@@ -1,5 +1,5 @@
-use Rattle.sketch_bloom.proofs.BlockLemmas.{mask_bits}
+use Rattle.sketch_bloom.proofs.BlockLemmas.{byte_fits, mask_bits}
 use Rattle.sketch_bloom.proofs.block.mask.Goals as goal
 
 pub returns : goal.returns
-returns c i = mask_bits c.args.hash c.mask_words.result c.mask_words.ensures.count c.mask_words.ensures.each i
+returns c = record { bytes = byte_fits c.args.hash; bits = mask_bits c.args.hash }

@@ -1,12 +1,11 @@
-use Rattle.std.proofs.Common.{◌++◌, ◌∙◌, ap, arith, drop, length, sym}
-use Rattle.std.proofs.lemmas.List.{length-take-le}
+use Rattle.std.proofs.Common.{arith, rules}
+use Rattle.sketch_bloom.proofs.HeaderLemmas.{header_written}
 use Rattle.sketch_bloom.proofs.header.write_header.Goals as goal
 
 pub returns : goal.returns
 returns c =
-    let count = c.header_of-count.result.1 in
-    let made = c.header_of-count.ensures.header in (
-      c.is_header_length.ensures.0 c.if-not-is_header_length.false,
-      sym (length-take-le count c.header_of-count.result.0 (omega arith)) ∙ ap length made,
-      c.copy_header.ensures ∙ ap (λ l. l ++ drop count c.args.out.now) made,
-    )
+    let made = header_written c.args.bytes c.number_field-start.result.1 c.number_field-start.result.0
+    c.copy_from_slice-2.new.self c.args.out.now c.number_field-start.ensures.long (omega arith)
+    c.number_field-start.ensures.field c.copy_from_slice-2.ensures.after in
+    rw c.copy_from_slice.ensures.after
+    (search rules, made.0, made.1)

@@ -1,5 +1,5 @@
 use Rattle.std.proofs.Common.{◌*◌, ◌^◌, ◌<◌, ◌≤◌}
-use Rattle.sketch_bloom.proofs.size.found_by_chance.Given as goal
+use Rattle.sketch_bloom.proofs.size.keeps_rate.Given as goal
 
 -- no sum exceeds its type
 abbrev pub invariant-loop-k : goal.invariant-loop-k

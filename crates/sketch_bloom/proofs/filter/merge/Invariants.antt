@@ -1,5 +1,5 @@
 use Rattle.std.proofs.Common.{◌≡◌, ◌<◌, ◌≤◌, ℕ, get_or, bit_or}
-use Rattle.sketch_bloom.proofs.filter.join.Given as goal
+use Rattle.sketch_bloom.proofs.filter.merge.Given as goal
 
 -- the first i bytes are joined, and the others are as they were
 abbrev pub invariant-loop-i : goal.invariant-loop-i
