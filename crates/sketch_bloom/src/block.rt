@@ -1,7 +1,7 @@
 //! The block of a hash, and the eight bits of the hash in it.
 
-ghost use Rattle.std.specs.Prelude.{◌≡◌, ℕ, ◌+◌, ◌*◌, ◌<◌, ◌≤◌, ◌^◌, ◌↔◌, slice_index};
-ghost use Rattle.sketch_bloom.specs.Filter.{IsMaskBit, IsSet, block_of};
+ghost use Rattle.std.specs.Prelude.{◌≡◌, ℕ, ◌+◌, ◌*◌, ◌/◌, ◌<◌, ◌≤◌, ◌↔◌, slice_index};
+ghost use Rattle.sketch_bloom.specs.Filter.{IsLength, IsMaskBit, IsSet, block_of};
 
 use std::simd::prelude::*;
 
@@ -10,14 +10,14 @@ const SALT: [u32; 8] = [
     0x47b6137b, 0x44974d91, 0x8824ad5b, 0xa2b7289d, 0x705495c7, 0x2df1424b, 0x9efc4947, 0x5c6bfb31,
 ];
 
-// The offset of a hash's block in a filter with this many blocks.
+// The offset of a hash's block in a filter with this many bytes.
 #[inline(always)]
-pub(crate) fn block_start(blocks: u64, hash: u64) -> usize
-    requires some { 0 < blocks }
-    requires few { blocks < 2 ^ 32 }
-    ensures start { result ≡ block_of blocks hash * 32 }
-    ensures inside { result + 32 ≤ blocks * 32 }
+pub(crate) fn block_start(bytes: usize, hash: u64) -> usize
+    requires { IsLength bytes }
+    ensures start { result ≡ block_of (bytes / 32) hash * 32 }
+    ensures inside { result + 32 ≤ bytes }
 {
+    let blocks = (bytes / 32) as u64;
     ((((hash >> 32) * blocks) >> 32) * 32) as usize
 }
 

@@ -8,7 +8,7 @@ ghost use Rattle.sketch_bloom.specs.Columns.{FindsEach, IsAnswer, IsKeysFault, I
 ghost use Rattle.sketch_bloom.specs.Filter.{InsertsAll, IsLength, IsLengthFault, hash_of};
 
 use crate::fault::Fault;
-use crate::filter::{block_count, insert_into, is_in};
+use crate::filter::{check_length, insert_into, is_in};
 use datasketches::hash::{Hash, Offset, XxHash64, check_offsets};
 
 // How many keys are hashed before the filter is read for any of them. A processor then waits for
@@ -31,7 +31,7 @@ pub fn insert_each<O: Offset>(filter: &mut [u8], keys: &[u8], offsets: &[O]) -> 
         (λ fault. (filter.new ≡ filter.old)
         × IsKeysFault (length filter.old) keys.now places n fault) }
 {
-    let blocks = block_count(filter.len())?;
+    check_length(filter.len())?;
     let count = offsets.len().saturating_sub(1);
     check_offsets(keys, offsets, count).map_err(Fault::Offset)?;
     let mut hashes = [0; AHEAD];
@@ -39,7 +39,7 @@ pub fn insert_each<O: Offset>(filter: &mut [u8], keys: &[u8], offsets: &[O]) -> 
     while start < count {
         let run = &mut hashes[..AHEAD.min(count - start)];
         XxHash64::hash_run(keys, offsets, start, 0, run);
-        insert_hashes(filter, blocks, run);
+        insert_hashes(filter, run);
         start += run.len();
     }
     Ok(())
@@ -67,7 +67,7 @@ pub fn contains_each<O: Offset>(
         (λ fault. (found.new ≡ found.old)
         × IsKeysFault (length filter.now) keys.now places n fault) }
 {
-    let blocks = block_count(filter.len())?;
+    check_length(filter.len())?;
     let count = found.len();
     check_offsets(keys, offsets, count).map_err(Fault::Offset)?;
     let mut hashes = [0; AHEAD];
@@ -75,7 +75,7 @@ pub fn contains_each<O: Offset>(
     while start < count {
         let run = &mut hashes[..AHEAD.min(count - start)];
         XxHash64::hash_run(keys, offsets, start, 0, run);
-        find_hashes(filter, blocks, run, found, start);
+        find_hashes(filter, run, found, start);
         start += run.len();
     }
     Ok(())
@@ -92,8 +92,10 @@ pub fn insert_each_value<T: Hash>(filter: &mut [u8], values: &[T]) -> Result<(),
         (λ _. IsLength (length filter.old) × InsertsAll hashes filter.old filter.new)
         (λ fault. (filter.new ≡ filter.old) × IsLengthFault (length filter.old) fault) }
 {
-    let blocks = block_count(filter.len())?;
-    insert_values(filter, blocks, values);
+    check_length(filter.len())?;
+    for value in values {
+        insert_into(filter, value.xxh64(0));
+    }
     Ok(())
 }
 
@@ -109,8 +111,8 @@ pub fn insert_each_hash(filter: &mut [u8], hashes: &[u64]) -> Result<(), Fault>
         × InsertsAll hashes.now filter.old filter.new)
         (λ fault. (filter.new ≡ filter.old) × IsLengthFault (length filter.old) fault) }
 {
-    let blocks = block_count(filter.len())?;
-    insert_hashes(filter, blocks, hashes);
+    check_length(filter.len())?;
+    insert_hashes(filter, hashes);
     Ok(())
 }
 
@@ -134,12 +136,12 @@ pub fn contains_each_value<T: Hash>(
         (λ fault. (found.new ≡ found.old)
         × IsValuesFault (length filter.now) (length values.now) n fault) }
 {
-    let blocks = block_count(filter.len())?;
+    check_length(filter.len())?;
     if values.len() < found.len() {
         return Err(Fault::Count(values.len()));
     }
     for i in 0..found.len() {
-        found[i] = u8::from(is_in(filter, blocks, values[i].xxh64(0)));
+        found[i] = u8::from(is_in(filter, values[i].xxh64(0)));
     }
     Ok(())
 }
@@ -159,43 +161,29 @@ pub fn contains_each_hash(filter: &[u8], hashes: &[u64], found: &mut [u8]) -> Re
         (λ fault. (found.new ≡ found.old)
         × IsValuesFault (length filter.now) (length hashes.now) n fault) }
 {
-    let blocks = block_count(filter.len())?;
+    check_length(filter.len())?;
     if hashes.len() < found.len() {
         return Err(Fault::Count(hashes.len()));
     }
-    find_hashes(filter, blocks, &hashes[..found.len()], found, 0);
+    find_hashes(filter, &hashes[..found.len()], found, 0);
     Ok(())
 }
 
-// Inserts hashes into a filter with this many blocks.
+// Inserts hashes.
 #[inline(never)]
-fn insert_hashes(filter: &mut [u8], blocks: u64, hashes: &[u64])
-    requires size { IsLength (length filter.old) }
-    requires blocks { blocks ≡ length filter.old / 32 }
+fn insert_hashes(filter: &mut [u8], hashes: &[u64])
+    requires { IsLength (length filter.old) }
     ensures { InsertsAll hashes.now filter.old filter.new }
 {
     for hash in hashes {
-        insert_into(filter, blocks, *hash);
+        insert_into(filter, *hash);
     }
 }
 
-// Inserts values into a filter with this many blocks.
-pub(crate) fn insert_values<T: Hash>(filter: &mut [u8], blocks: u64, values: &[T])
-    requires size { IsLength (length filter.old) }
-    requires blocks { blocks ≡ length filter.old / 32 }
-    ensures { let hashes = map (λ value. hash_of (T.fed value)) values.now in
-        InsertsAll hashes filter.old filter.new }
-{
-    for value in values {
-        insert_into(filter, blocks, value.xxh64(0));
-    }
-}
-
-// Writes to `found[start..]` whether a filter with this many blocks contains the hashes.
+// Writes to `found[start..]` whether the filter contains the hashes.
 #[inline(never)]
-fn find_hashes(filter: &[u8], blocks: u64, hashes: &[u64], found: &mut [u8], start: usize)
+fn find_hashes(filter: &[u8], hashes: &[u64], found: &mut [u8], start: usize)
     requires size { IsLength (length filter.now) }
-    requires blocks { blocks ≡ length filter.now / 32 }
     requires enough { start + length hashes.now ≤ length found.old }
     ensures size { length found.new ≡ length found.old }
     ensures each { (k : ℕ) → k < length hashes.now →
@@ -203,6 +191,6 @@ fn find_hashes(filter: &[u8], blocks: u64, hashes: &[u64], found: &mut [u8], sta
     ensures before { (k : ℕ) → k < start → slice_index found.new k ≡ slice_index found.old k }
 {
     for i in 0..hashes.len() {
-        found[start + i] = u8::from(is_in(filter, blocks, hashes[i]));
+        found[start + i] = u8::from(is_in(filter, hashes[i]));
     }
 }

@@ -1,6 +1,6 @@
 //! Insert, look up and merge, on the bytes of a filter.
 
-ghost use Rattle.std.specs.Prelude.{◌≡◌, ◌/◌, ◌↔◌, IsTrue, MatchResult, length};
+ghost use Rattle.std.specs.Prelude.{◌≡◌, ◌↔◌, IsTrue, MatchResult, length};
 ghost use Rattle.sketch_bloom.specs.Filter.{Inserts, IsLength, IsLengthFault, IsMember, IsMergeFault, Merges, hash_of};
 
 use crate::block::{block_start, mask};
@@ -16,14 +16,13 @@ pub fn is_length(bytes: usize) -> bool
     0 < bytes && bytes % 32 == 0 && bytes < 1 << 37
 }
 
-// The number of blocks of a filter with this many bytes.
+// Returns an error if no filter has this many bytes.
 #[inline(always)]
-pub(crate) fn block_count(bytes: usize) -> Result<u64, Fault>
-    ensures { MatchResult result (λ blocks. IsLength bytes × (blocks ≡ bytes / 32))
-        (IsLengthFault bytes) }
+pub(crate) fn check_length(bytes: usize) -> Result<(), Fault>
+    ensures { MatchResult result (λ _. IsLength bytes) (IsLengthFault bytes) }
 {
     if is_length(bytes) {
-        Ok((bytes / 32) as u64)
+        Ok(())
     } else {
         Err(Fault::Length(bytes))
     }
@@ -72,8 +71,8 @@ pub fn insert_hash(filter: &mut [u8], hash: u64) -> Result<(), Fault>
         (λ _. IsLength (length filter.old) × Inserts hash filter.old filter.new)
         (λ fault. (filter.new ≡ filter.old) × IsLengthFault (length filter.old) fault) }
 {
-    let blocks = block_count(filter.len())?;
-    insert_into(filter, blocks, hash);
+    check_length(filter.len())?;
+    insert_into(filter, hash);
     Ok(())
 }
 
@@ -88,32 +87,30 @@ pub fn contains_hash(filter: &[u8], hash: u64) -> Result<bool, Fault>
         (λ found. IsLength (length filter.now) × (IsTrue found ↔ IsMember filter.now hash))
         (IsLengthFault (length filter.now)) }
 {
-    let blocks = block_count(filter.len())?;
-    Ok(is_in(filter, blocks, hash))
+    check_length(filter.len())?;
+    Ok(is_in(filter, hash))
 }
 
-// Inserts a hash into a filter with this many blocks.
+// Inserts a hash.
 #[inline(always)]
 #[tactic(auto, using(crate::proofs::BlockLemmas::inserted))]
-pub(crate) fn insert_into(filter: &mut [u8], blocks: u64, hash: u64)
-    requires size { IsLength (length filter.old) }
-    requires blocks { blocks ≡ length filter.old / 32 }
+pub(crate) fn insert_into(filter: &mut [u8], hash: u64)
+    requires { IsLength (length filter.old) }
     ensures { Inserts hash filter.old filter.new }
 {
-    let start = block_start(blocks, hash);
+    let start = block_start(filter.len(), hash);
     let block = u8x32::from_slice(&filter[start..]);
     (block | mask(hash)).copy_to_slice(&mut filter[start..]);
 }
 
-// Whether a filter with this many blocks contains a hash.
+// Whether the filter contains a hash.
 #[inline(always)]
 #[tactic(auto, using(crate::proofs::BlockLemmas::is_member))]
-pub(crate) fn is_in(filter: &[u8], blocks: u64, hash: u64) -> bool
-    requires size { IsLength (length filter.now) }
-    requires blocks { blocks ≡ length filter.now / 32 }
+pub(crate) fn is_in(filter: &[u8], hash: u64) -> bool
+    requires { IsLength (length filter.now) }
     ensures { IsTrue result ↔ IsMember filter.now hash }
 {
-    let start = block_start(blocks, hash);
+    let start = block_start(filter.len(), hash);
     let block = u8x32::from_slice(&filter[start..]);
     // Setting bits that are set changes nothing.
     ((block | mask(hash)) ^ block).reduce_or() == 0
@@ -131,7 +128,7 @@ pub fn merge(into: &mut [u8], from: &[u8]) -> Result<(), Fault>
         (λ fault. (into.new ≡ into.old)
         × IsMergeFault (length into.old) (length from.now) fault) }
 {
-    block_count(into.len())?;
+    check_length(into.len())?;
     if from.len() != into.len() {
         return Err(Fault::OtherLength(from.len()));
     }

@@ -1,12 +1,12 @@
 //! A filter that owns its bytes.
 
-ghost use Rattle.std.specs.Prelude.{◌≡◌, ℕ, ◌/◌, ◌↔◌, List, IsTrue, MatchResult, length, map};
+ghost use Rattle.std.specs.Prelude.{◌≡◌, ℕ, ◌↔◌, List, IsTrue, MatchResult, length, map};
 ghost use Rattle.sketch_bloom.specs.Filter.{Inserts, InsertsAll, IsLength, IsLengthFault, IsMember, IsMergeFault, IsNewFault, Merges, hash_of};
 ghost use Rattle.sketch_bloom.specs.Laws.{empty_filter};
 
-use crate::columns::insert_values;
+use crate::columns::insert_each_value;
 use crate::fault::Fault;
-use crate::filter::{block_count, insert_into, is_in, is_length, merge};
+use crate::filter::{check_length, insert_into, is_in, is_length, merge};
 use datasketches::hash::Hash;
 use std::alloc::Global;
 use std::marker::Model;
@@ -42,7 +42,7 @@ impl BloomFilter {
         ensures { MatchResult result
             (λ filter. IsLength bytes × (filter ≡ empty_filter bytes)) (IsNewFault bytes) }
     {
-        block_count(bytes)?;
+        check_length(bytes)?;
         let bytes = vec![in alloc; 0; bytes].map_err(|_| Fault::OutOfMemory)?;
         Ok(BloomFilter { bytes })
     }
@@ -57,7 +57,7 @@ impl BloomFilter {
             (λ filter. IsLength (length bytes.items) × (filter ≡ bytes.items))
             (IsLengthFault (length bytes.items)) }
     {
-        block_count(bytes.len())?;
+        check_length(bytes.len())?;
         Ok(BloomFilter { bytes })
     }
 
@@ -73,8 +73,7 @@ impl BloomFilter {
     pub fn insert<T: Hash>(&mut self, value: &T)
         ensures { Inserts (hash_of (T.fed value.now)) self.old self.new }
     {
-        let blocks = (self.bytes.len() / 32) as u64;
-        insert_into(&mut self.bytes, blocks, value.xxh64(0));
+        insert_into(&mut self.bytes, value.xxh64(0));
     }
 
     /// Inserts each value of a slice.
@@ -82,16 +81,15 @@ impl BloomFilter {
         ensures { let hashes = map (λ value. hash_of (T.fed value)) values.now in
             InsertsAll hashes self.old self.new }
     {
-        let blocks = (self.bytes.len() / 32) as u64;
-        insert_values(&mut self.bytes, blocks, values);
+        // A filter has a valid length, so this is never an error.
+        let _ = insert_each_value(&mut self.bytes, values);
     }
 
     /// Whether the filter may contain a value. If not, it was never inserted.
     pub fn contains<T: Hash>(&self, value: &T) -> bool
         ensures { IsTrue result ↔ IsMember self.now (hash_of (T.fed value.now)) }
     {
-        let blocks = (self.bytes.len() / 32) as u64;
-        is_in(&self.bytes, blocks, value.xxh64(0))
+        is_in(&self.bytes, value.xxh64(0))
     }
 
     /// Merges another filter into this one, which then contains what either did.

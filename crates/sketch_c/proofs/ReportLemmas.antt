@@ -1,9 +1,11 @@
 -- How the outcome of a column becomes a number. An offset's place is the offset itself.
-use Rattle.std.proofs.Common.{◌≡◌, ℕ, ℤ, List, map, pos, inl, inr}
+use Rattle.std.proofs.Common.{◌≡◌, ℕ, ℤ, List, length, map, pos, inl, inr}
 use Rattle.std.specs.Prelude.{MatchResult, Result, Ok, Err}
 use Rattle.std.proofs.lemmas.List.{map-id}
 use Rattle.sketch_bloom.specs.declared.fault.Fault.{Fault}
-use Rattle.sketch_c.specs.{ReportsIndex, ReportsOffset, error, index_of, status}
+use Rattle.sketch_bloom.specs.Columns.{IsKeysFault}
+use Rattle.sketch_bloom.specs.Filter.{IsLength}
+use Rattle.sketch_c.specs.{ReportsKeys, ReportsOffset, error, index_of, status}
 
 -- keys that were hashed
 pub hashed : (Outcome : List ℕ → Result Unit ℕ → Type 0) (offsets : List ℕ) (outcome : Result Unit ℕ)
@@ -17,14 +19,15 @@ hashed Outcome offsets (Err i) before after number result fails same is =
     rw same (inr (is.0, rw (is.1, ← map-id offsets) fails))
 
 -- keys that were looked up in a filter
-pub looked_up : (Done : List ℕ → Type 0) (Same : Type 0) (Fails : List ℕ → Fault → Type 0) (offsets : List ℕ)
+pub looked_up : (bits keys : List ℕ) (n : ℕ) (Finds : List ℕ → Type 0) (Same : Type 0) (offsets : List ℕ)
     (outcome : Result Unit Fault) (before after : ℕ) (number result : ℤ) →
-    MatchResult outcome (λ _. Done (map (λ n. n) offsets)) (λ fault. Same × Fails (map (λ n. n) offsets) fault) →
+    MatchResult outcome (λ _. IsLength (length bits) × Finds (map (λ n. n) offsets))
+    (λ fault. Same × IsKeysFault (length bits) keys (map (λ n. n) offsets) n fault) →
     result ≡ number →
     MatchResult outcome (λ _. (number ≡ pos 0) × (after ≡ before))
     (λ fault. (number ≡ status fault) × (after ≡ index_of fault before)) →
-    ReportsIndex (Done offsets) Same (Fails offsets) before after result
-looked_up Done Same Fails offsets (Ok tt) before after number result done same is =
-    rw same (inl (is.0, is.1, rw (map-id offsets) at done))
-looked_up Done Same Fails offsets (Err fault) before after number result fails same is =
+    ReportsKeys bits keys offsets n (Finds offsets) Same before after result
+looked_up bits keys n Finds Same offsets (Ok tt) before after number result done same is =
+    rw same (inl (is.0, is.1, done.0, rw (map-id offsets) at done.1))
+looked_up bits keys n Finds Same offsets (Err fault) before after number result fails same is =
     rw same (inr (fails.0, fault, rw (map-id offsets) at fails.1, is.0, is.1))

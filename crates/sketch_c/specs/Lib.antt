@@ -1,8 +1,8 @@
 -- How calls for C report errors: 0 if all is done, or a negative number for each error.
 use Rattle.std.specs.Prelude.{◌≡◌, ◌⊎◌, ◌≤◌, ℕ, ℤ, pos, ◌-ℤ◌, List, length, Result, Ok, Err}
 use Rattle.sketch_bloom.specs.declared.fault.Fault.{Fault}
-use Rattle.sketch_bloom.specs.Columns.{FindsEach, IsValuesFault}
-use Rattle.sketch_bloom.specs.Filter.{IsLength, IsMember}
+use Rattle.sketch_bloom.specs.Columns.{FindsEach, IsKeysFault, IsValuesFault}
+use Rattle.sketch_bloom.specs.Filter.{IsLength}
 use Rattle.sketch_bloom.specs.declared.fault.Fault.TheVariants.{Length, OtherLength, Offset, Count, OutOfMemory}
 
 abbrev pub error : ℕ → ℤ
@@ -30,12 +30,6 @@ Changes Done before after result =
     ((result ≡ pos 0) × IsLength (length before) × Done)
     ⊎ ((result ≡ error 1) × (after ≡ before) × (IsLength (length before) → ⊥))
 
--- A look-up returns 1 also for bytes that no filter has, since they rule nothing out.
-abbrev pub MayContain : List ℕ → ℕ → ℤ → Type 0
-MayContain bits hash result =
-    ((result ≡ pos 1) × (IsLength (length bits) → IsMember bits hash))
-    ⊎ ((result ≡ pos 0) × IsLength (length bits) × (IsMember bits hash → ⊥))
-
 -- A call that looks up a column of numbers or hashes has this outcome.
 abbrev pub ReportsFound : List ℕ → List ℕ → List ℕ → List ℕ → ℤ → Type 0
 ReportsFound bits hashes before after result =
@@ -44,20 +38,16 @@ ReportsFound bits hashes before after result =
     ⊎ ((after ≡ before) × (fault : Fault) × IsValuesFault (length bits) (length hashes) n fault
     × (result ≡ status fault))
 
--- A call on a column of keys is done, or leaves all the same and writes the index of a wrong offset.
-abbrev pub ReportsIndex : Type 0 → Type 0 → (Fault → Type 0) → ℕ → ℕ → ℤ → Type 0
-ReportsIndex Done Same Fails before after result =
-    ((result ≡ pos 0) × (after ≡ before) × Done)
-    ⊎ (Same × (fault : Fault) × Fails fault × (result ≡ status fault) × (after ≡ index_of fault before))
+-- A call on the first n keys of a column is done, or leaves all the same and writes the index of a
+-- wrong offset.
+abbrev pub ReportsKeys : List ℕ → List ℕ → List ℕ → ℕ → Type 0 → Type 0 → ℕ → ℕ → ℤ → Type 0
+ReportsKeys bits keys offsets n Done Same before after result =
+    ((result ≡ pos 0) × (after ≡ before) × IsLength (length bits) × Done)
+    ⊎ (Same × (fault : Fault) × IsKeysFault (length bits) keys offsets n fault
+    × (result ≡ status fault) × (after ≡ index_of fault before))
 
 -- A call that hashes a column of keys has this outcome, and writes the index of a wrong offset.
 abbrev pub ReportsOffset : (Result Unit ℕ → Type 0) → ℕ → ℕ → ℤ → Type 0
 ReportsOffset Outcome before after result =
     ((result ≡ pos 0) × (after ≡ before) × Outcome (Ok tt))
     ⊎ ((result ≡ error 2) × Outcome (Err after))
-
--- A call that hashes a column of numbers has this outcome: there may be fewer numbers than places.
-abbrev pub ReportsCount : (Result Unit ℕ → Type 0) → ℤ → Type 0
-ReportsCount Outcome result =
-    ((result ≡ pos 0) × Outcome (Ok tt))
-    ⊎ ((result ≡ error 3) × (numbers : ℕ) × Outcome (Err numbers))

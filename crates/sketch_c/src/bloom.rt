@@ -6,7 +6,7 @@ ghost use Rattle.sketch_bloom.specs.declared.fault.Fault.{Fault};
 ghost use Rattle.sketch_bloom.specs.Columns.{FindsEach, IsKeysFault, IsValuesFault, key_count, key_hashes};
 ghost use Rattle.sketch_bloom.specs.Filter.{Inserts, InsertsAll, IsLength, IsMember, IsMergeFault, Merges, hash_of};
 ghost use Rattle.sketch_bloom.specs.Header.{IsHeaderLength, header};
-ghost use Rattle.sketch_c.specs.{Changes, MayContain, ReportsFound, ReportsIndex, error};
+ghost use Rattle.sketch_c.specs.{Changes, ReportsFound, ReportsKeys, error};
 
 use crate::{done, reported};
 use datasketches::hash::value::raw_bytes;
@@ -50,7 +50,10 @@ pub extern "C" fn sketch_bloom_insert(bits: &mut [u8], key: &[u8]) -> i32
 /// length is not that of a filter, since such bytes rule nothing out.
 #[unsafe(no_mangle)]
 pub extern "C" fn sketch_bloom_contains(bits: &[u8], key: &[u8]) -> i32
-    ensures { MayContain bits.now (hash_of key.now) result }
+    ensures { ((result ≡ pos 1)
+        × (IsLength (length bits.now) → IsMember bits.now (hash_of key.now)))
+        ⊎ ((result ≡ pos 0) × IsLength (length bits.now)
+        × (IsMember bits.now (hash_of key.now) → ⊥)) }
 {
     i32::from(sketch_bloom::contains(bits, &raw_bytes::from_slice(key)).unwrap_or(true))
 }
@@ -67,7 +70,8 @@ pub extern "C" fn sketch_bloom_insert_hash(bits: &mut [u8], hash: u64) -> i32
 /// and 1 if it may or the length is not that of a filter.
 #[unsafe(no_mangle)]
 pub extern "C" fn sketch_bloom_contains_hash(bits: &[u8], hash: u64) -> i32
-    ensures { MayContain bits.now hash result }
+    ensures { ((result ≡ pos 1) × (IsLength (length bits.now) → IsMember bits.now hash))
+        ⊎ ((result ≡ pos 0) × IsLength (length bits.now) × (IsMember bits.now hash → ⊥)) }
 {
     i32::from(sketch_bloom::contains_hash(bits, hash).unwrap_or(true))
 }
@@ -80,11 +84,9 @@ pub extern "C" fn sketch_bloom_insert_each32(
     offsets: &[u32],
     wrong_offset: &mut usize,
 ) -> i32
-    ensures { let n = key_count offsets.now in ReportsIndex
-        (IsLength (length bits.old)
-        × InsertsAll (key_hashes keys.now offsets.now n) bits.old bits.new)
-        (bits.new ≡ bits.old) (IsKeysFault (length bits.old) keys.now offsets.now n)
-        wrong_offset.old wrong_offset.new result }
+    ensures { let n = key_count offsets.now in ReportsKeys bits.old keys.now offsets.now n
+        (InsertsAll (key_hashes keys.now offsets.now n) bits.old bits.new)
+        (bits.new ≡ bits.old) wrong_offset.old wrong_offset.new result }
 {
     reported(sketch_bloom::insert_each(bits, keys, offsets), wrong_offset)
 }
@@ -97,11 +99,9 @@ pub extern "C" fn sketch_bloom_insert_each64(
     offsets: &[u64],
     wrong_offset: &mut usize,
 ) -> i32
-    ensures { let n = key_count offsets.now in ReportsIndex
-        (IsLength (length bits.old)
-        × InsertsAll (key_hashes keys.now offsets.now n) bits.old bits.new)
-        (bits.new ≡ bits.old) (IsKeysFault (length bits.old) keys.now offsets.now n)
-        wrong_offset.old wrong_offset.new result }
+    ensures { let n = key_count offsets.now in ReportsKeys bits.old keys.now offsets.now n
+        (InsertsAll (key_hashes keys.now offsets.now n) bits.old bits.new)
+        (bits.new ≡ bits.old) wrong_offset.old wrong_offset.new result }
 {
     reported(sketch_bloom::insert_each(bits, keys, offsets), wrong_offset)
 }
@@ -141,11 +141,9 @@ pub extern "C" fn sketch_bloom_contains_each32(
     found: &mut [u8],
     wrong_offset: &mut usize,
 ) -> i32
-    ensures { let n = length found.old in ReportsIndex
-        (IsLength (length bits.now)
-        × FindsEach bits.now (key_hashes keys.now offsets.now n) n found.new)
-        (found.new ≡ found.old) (IsKeysFault (length bits.now) keys.now offsets.now n)
-        wrong_offset.old wrong_offset.new result }
+    ensures { let n = length found.old in ReportsKeys bits.now keys.now offsets.now n
+        (FindsEach bits.now (key_hashes keys.now offsets.now n) n found.new)
+        (found.new ≡ found.old) wrong_offset.old wrong_offset.new result }
 {
     reported(
         sketch_bloom::contains_each(bits, keys, offsets, found),
@@ -162,11 +160,9 @@ pub extern "C" fn sketch_bloom_contains_each64(
     found: &mut [u8],
     wrong_offset: &mut usize,
 ) -> i32
-    ensures { let n = length found.old in ReportsIndex
-        (IsLength (length bits.now)
-        × FindsEach bits.now (key_hashes keys.now offsets.now n) n found.new)
-        (found.new ≡ found.old) (IsKeysFault (length bits.now) keys.now offsets.now n)
-        wrong_offset.old wrong_offset.new result }
+    ensures { let n = length found.old in ReportsKeys bits.now keys.now offsets.now n
+        (FindsEach bits.now (key_hashes keys.now offsets.now n) n found.new)
+        (found.new ≡ found.old) wrong_offset.old wrong_offset.new result }
 {
     reported(
         sketch_bloom::contains_each(bits, keys, offsets, found),

@@ -1,7 +1,7 @@
 //! Columns of keys: a call hashes all keys of a column.
 
-ghost use Rattle.std.specs.Prelude.{◌≡◌, ◌⊎◌, MatchResult, pos};
-ghost use Rattle.sketch_c.specs.{ReportsCount, ReportsOffset};
+ghost use Rattle.std.specs.Prelude.{◌≡◌, ◌⊎◌, ℕ, Ok, Err, pos};
+ghost use Rattle.sketch_c.specs.{ReportsOffset, error};
 ghost use Rattle.datasketches.specs.Columns.{HashesEach, HashesEachNumber, murmur_words};
 ghost use Rattle.datasketches.specs.Xxh64.{xxh64};
 
@@ -44,7 +44,9 @@ pub extern "C" fn sketch_xxh64_each64(
 /// XXH64 of the eight little-endian bytes of each number, one for each place of `out`.
 #[unsafe(no_mangle)]
 pub extern "C" fn sketch_xxh64_each_u64(values: &[u64], seed: u64, out: &mut [u64]) -> i32
-    ensures { ReportsCount (HashesEachNumber (xxh64 seed) values.now out.old out.new) result }
+    ensures { let Outcome = HashesEachNumber (xxh64 seed) values.now out.old out.new in
+        ((result ≡ pos 0) × Outcome (Ok tt))
+        ⊎ ((result ≡ error 3) × (numbers : ℕ) × Outcome (Err numbers)) }
 {
     done(XxHash64::hash_each_u64(values, seed, out).map_err(Fault::Count))
 }

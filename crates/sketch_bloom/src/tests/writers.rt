@@ -7,6 +7,12 @@ use std::num::{f32_to_bits_with_nan, f64_to_bits_with_nan};
 use std::process::Abort;
 use std::test::Fail;
 
+// The texts a0 to a9, by parquet-mr.
+const ONE_BLOCK: [u8; 32] = [
+    200, 1, 80, 20, 64, 68, 8, 109, 6, 37, 4, 67, 144, 80, 96, 32, 8, 132, 43, 33, 0, 5, 99, 65, 2,
+    0, 224, 44, 64, 78, 96, 4,
+];
+
 // The bits that are set in 1024 bytes, after hello, parquet, bloom and filter, by parquet-mr.
 const OF_PARQUET_MR: [usize; 32] = [
     1044, 1065, 1098, 1127, 1161, 1215, 1244, 1275, 1303, 1340, 1344, 1404, 1413, 1461, 1502, 1523,
@@ -31,7 +37,12 @@ const OF_DUCKDB: [u8; 32] = [
 ];
 
 #[test]
-fn writes_texts_as_parquet_mr_does(rt: HostRuntime) {
+fn writes_texts_as_parquet_mr_does(rt: HostRuntime) -> Result<(), Fail> {
+    let mut block = [0; 32];
+    for n in 0..10 {
+        let text = raw_bytes::from_string(format!(in rt.alloc(); "a{n}")?);
+        assert!(rt; insert(&mut block, &text).is_ok());
+    }
     let (mut filter, mut expected) = ([0; 1024], [0; 1024]);
     for text in ["hello", "parquet", "bloom", "filter"] {
         assert!(rt; insert(&mut filter, &raw_bytes::from_str(text)).is_ok());
@@ -39,7 +50,8 @@ fn writes_texts_as_parquet_mr_does(rt: HostRuntime) {
     for i in OF_PARQUET_MR {
         expected[i / 8 % 1024] |= 1 << (i % 8);
     }
-    assert!(rt; filter == expected);
+    assert!(rt; block == ONE_BLOCK && filter == expected);
+    Ok(())
 }
 
 #[test]

@@ -141,7 +141,7 @@ impl MurmurHash3X64128 {
 ///
 /// Returns the index of the first of the `keys + 1` offsets that is missing, is past the end of
 /// `bytes`, or is below the offset before it.
-#[inline(never)]
+#[inline(always)]
 pub fn check_offsets<O: Offset>(bytes: &[u8], offsets: &[O], keys: usize) -> Result<(), usize>
     ensures { let places = map O.place offsets.now in MatchResult result
         (λ _. AreBounds bytes.now places keys) (λ i. IsFirstWrongOffset bytes.now places keys i) }

@@ -22,4 +22,4 @@ returns g c =
       c.loop-start-test.false,
       c.loop-start.invariant.0,
     ) in
-    (c.in_ok-blocks.ensures.0, rw (← all) c.loop-start.invariant.1)
+    (c.in_ok-check_length.ensures, rw (← all) c.loop-start.invariant.1)

@@ -2,7 +2,7 @@ use Rattle.std.proofs.Common.{ℕ, map, sym, ap, ◌∙◌, arith}
 use Rattle.std.proofs.lemmas.List.{get_or-map, length-map}
 use Rattle.sketch_bloom.proofs.ColumnLemmas.{inserts_next}
 use Rattle.sketch_bloom.specs.Filter.{hash_of}
-use Rattle.sketch_bloom.proofs.columns.insert_values.Goals as goal
+use Rattle.sketch_bloom.proofs.columns.insert_each_value.Goals as goal
 
 pub loop-value-preserved : goal.loop-value-preserved
 loop-value-preserved g c =
