@@ -82,7 +82,8 @@ byte_fits hash k = below 32 (number_l (2 ^ 32) (words_of hash)) k
 
 word : (hash w : ℕ) → w < 8 → get_or (words_of hash) w 0 ≡ 2 ^ mask_bit hash w
 word hash w below =
-    get_or-map (λ s. 1 * 2 ^ (bit_and hash 4294967295 * s % 4294967296 / 134217728) % 4294967296) salt w 0 0 below
+    get_or-map (λ s. 1 * 2 ^ (bit_and hash 4294967295 * s % 4294967296 / 134217728) % 4294967296) salt w 0 0
+    below
     ∙ one_shl (bit_and hash 4294967295 * get_or salt w 0 % 4294967296 / 134217728) 32 (omega arith)
     ∙ ap (λ low. 2 ^ (low * get_or salt w 0 % 4294967296 / 134217728)) (and_mask hash 32)
 
@@ -99,7 +100,9 @@ digit_of_byte n k j low =
   where
     power : (k : ℕ) → 256 ^ k ≡ 2 ^ (8 * k)
     power zero = refl
-    power (suc k) = pow-suc 256 k ∙ ap (λ p. p * 256) (power k) ∙ sym (pow-add 2 (8 * k) 8) ∙ ap (λ e. 2 ^ e) (omega arith)
+    power (suc k) =
+        pow-suc 256 k ∙ ap (λ p. p * 256) (power k) ∙ sym (pow-add 2 (8 * k) 8)
+        ∙ ap (λ e. 2 ^ e) (omega arith)
 
 digit_of_power : (m b : ℕ) → (bit_at (2 ^ m) b ≡ 1) ↔ (b ≡ m)
 digit_of_power m b = grind (arith, bit_at-pow_same m, bit_at-pow_other m b)
@@ -127,7 +130,8 @@ mask_bits hash i = (
   (λ set.
       let word : i / 32 < 8 = omega (arith, bit_within (bytes_of hash) i set) in
       let place : i ≡ i / 32 * 32 + i % 32 = omega arith in
-      let bit = (digit_of_mask hash (i / 32) (i % 32) word (omega arith)).0 (subst (IsSet (bytes_of hash)) place set) in
+      let here = subst (IsSet (bytes_of hash)) place set in
+      let bit = (digit_of_mask hash (i / 32) (i % 32) word (omega arith)).0 here in
       (i / 32, word, omega (arith, bit))),
   (λ of. rw of.2 ((digit_of_mask hash of.0 (mask_bit hash of.0) of.1 (omega arith)).1 refl)),
 )
@@ -157,10 +161,12 @@ bit_of_mask blocks hash start b at = (
 bit_in_block : (blocks hash start i : ℕ) → start ≡ block_of blocks hash * 32 → IsBitOf blocks hash i →
     (b : ℕ) × (b < 256) × (i ≡ start * 8 + b)
 unfolding IsBitOf
-bit_in_block blocks hash start i at (b, (w, few, is), place) = (b, omega (arith, few, is), omega (arith, at, place))
+bit_in_block blocks hash start i at (b, (w, few, is), place) =
+    (b, omega (arith, few, is), omega (arith, at, place))
 
 -- a block joined with a mask
-sets_in_block : (block mask : List ℕ) → length mask ≡ length block → Sets (IsSet mask) block (zip2 bit_or block mask)
+sets_in_block : (block mask : List ℕ) → length mask ≡ length block →
+    Sets (IsSet mask) block (zip2 bit_or block mask)
 sets_in_block block mask count = sets_by_or block mask (zip2 bit_or block mask) count
     (length-zip2 bit_or block mask (sym count))
     (λ k within. get_or-zip2 bit_or block mask k 0 0 0 within (omega (arith, count, within)))
@@ -207,7 +213,8 @@ inserted hash start mask before at inside long is_mask = record {
         rw same ((λ set. inl set), (λ either. elim either [ inl was ↦ was | inr of ↦ absurd (none of) ]))
 
     within_block : (b : ℕ) → b < 256 →
-        IsSet after (start * 8 + b) ↔ (IsSet before (start * 8 + b) ⊎ IsBitOf (length before / 32) hash (start * 8 + b))
+        IsSet after (start * 8 + b)
+        ↔ (IsSet before (start * 8 + b) ⊎ IsBitOf (length before / 32) hash (start * 8 + b))
     within_block b low =
         let byte : (start * 8 + b) / 8 ≡ start + b / 8 = omega arith in
         let digit : (start * 8 + b) % 8 ≡ b % 8 = omega arith in
@@ -221,7 +228,8 @@ inserted hash start mask before at inside long is_mask = record {
 
 -- joining a block with a mask changes nothing exactly if the bits of the mask are set
 same_if_set : (block mask : List ℕ) → length mask ≡ length block →
-    ((k : ℕ) → k < length block → get_or block k 0 < 256) → ((k : ℕ) → k < length block → get_or mask k 0 < 256) →
+    ((k : ℕ) → k < length block → get_or block k 0 < 256) →
+    ((k : ℕ) → k < length block → get_or mask k 0 < 256) →
     (zip2 bit_or block mask ≡ block) ↔ ((b : ℕ) → IsSet mask b → IsSet block b)
 same_if_set block mask count bytes mask_bytes =
     let sets = sets_in_block block mask count in (
@@ -248,7 +256,8 @@ fold_is_zero [] [] n count = ((λ none. (none, refl)), (λ both. both.0))
 fold_is_zero [] (y ∷ ys) n count = absurd (omega (arith, count))
 fold_is_zero (x ∷ xs) [] n count = absurd (omega (arith, count))
 fold_is_zero (x ∷ xs) (y ∷ ys) n count =
-    grind (arith, fold_is_zero xs ys (bit_or n (bit_xor x y)) (omega (arith, count)), or_is_zero n (bit_xor x y), xor_is_zero x y)
+    let rest = fold_is_zero xs ys (bit_or n (bit_xor x y)) (omega (arith, count)) in
+    grind (arith, rest, or_is_zero n (bit_xor x y), xor_is_zero x y)
 
 pub is_member : (hash start : ℕ) (mask filter : List ℕ) → start ≡ block_of (length filter / 32) hash * 32 →
     start + 32 ≤ length filter → length mask ≡ 32 → ((i : ℕ) → IsSet mask i ↔ IsMaskBit hash i) →
@@ -259,7 +268,8 @@ is_member hash start mask filter at inside long is_mask bytes mask_bytes =
     let part = length-chunk start 32 filter inside in
     let count = long ∙ sym part in
     let joined = sets_in_block (chunk start 32 filter) mask count in
-    let none = fold_is_zero (zip2 bit_or (chunk start 32 filter) mask) (chunk start 32 filter) 0 joined.size in
+    let none = fold_is_zero (zip2 bit_or (chunk start 32 filter) mask) (chunk start 32 filter) 0
+    joined.size in
     let same = same_if_set (chunk start 32 filter) mask count
     (λ k below. rw (get_or-chunk start 32 filter k 0 (omega (arith, below, part))) (bytes (start + k)).fits)
     (λ k _. mask_bytes k) in (

@@ -62,7 +62,8 @@ inserts_run keys offsets hashes before next after start are first second =
     all =
         let whole = length-key_hashes keys offsets (start + length hashes) in
         let part = length-key_hashes keys offsets start in
-        ext_get_or 0 (key_hashes keys offsets (start + length hashes)) (key_hashes keys offsets start ++ hashes)
+        ext_get_or 0 (key_hashes keys offsets (start + length hashes))
+        (key_hashes keys offsets start ++ hashes)
         (omega (arith, whole, part, length-append (key_hashes keys offsets start) hashes)) (λ k within.
         let below : k < start + length hashes = omega (arith, within, whole) in
         key_hash keys offsets (start + length hashes) k below ∙ sym (elim (cases_lt k start) [

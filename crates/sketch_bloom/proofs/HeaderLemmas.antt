@@ -38,7 +38,8 @@ number_of (suc most) [] = 0
 number_of (suc most) (byte ∷ bytes) = number_at byte (number_of most bytes)
 
 -- a number that was written is read back, whatever comes after it
-number_of_varint : (more n : ℕ) (after : List ℕ) → n < 128 ^ suc more → number_of (suc more) (varint more n ++ after) ≡ n
+number_of_varint : (more n : ℕ) (after : List ℕ) → n < 128 ^ suc more →
+    number_of (suc more) (varint more n ++ after) ≡ n
 number_of_varint zero n after small =
     grind (arith, varint_short zero n, pow-suc 128 zero)
 number_of_varint (suc more) n after small =
@@ -68,10 +69,16 @@ header_law = record {
 pub header_written : (bytes count : ℕ) (number fields out : List ℕ) → length number ≡ 6 →
     count ≤ 6 → take count number ≡ number_field bytes → fields ≡ union_fields →
     (count + 13 ≡ length (header bytes))
-    × (put_mid count (count + 13 - count) (number ++ drop 6 out) fields ≡ header bytes ++ drop (count + 13) out)
+    × (put_mid count (count + 13 - count) (number ++ drop 6 out) fields
+    ≡ header bytes ++ drop (count + 13) out)
 header_written bytes count number fields out long few field others =
     let room = length-append number (drop 6 out) in (
-      grind (arith, common_steps, length-take-le count number, length-append (varint 4 (bytes * 2)) union_fields),
+      grind (
+        arith,
+        common_steps,
+        length-take-le count number,
+        length-append (varint 4 (bytes * 2)) union_fields,
+      ),
       grind (
         arith,
         take-append-drop (count + 13) (put_mid count (count + 13 - count) (number ++ drop 6 out) fields),
@@ -83,7 +90,8 @@ header_written bytes count number fields out long few field others =
     )
 
 -- the number of a header, byte by byte
-pub header_number : (bytes : ℕ) (input after : List ℕ) → IsHeaderLength bytes → input ≡ header bytes ++ after →
+pub header_number : (bytes : ℕ) (input after : List ℕ) → IsHeaderLength bytes →
+    input ≡ header bytes ++ after →
     (6 ≤ length input)
     × (number_at (get_or input 1 0) (number_at (get_or input 2 0) (number_at (get_or input 3 0)
     (number_at (get_or input 4 0) (number_at (get_or input 5 0) 0)))) ≡ bytes * 2)
@@ -93,5 +101,6 @@ header_number bytes input after is e =
     (long, grind (arith, step 0 5, step 1 4, step 2 3, step 3 2, step 4 1, number))
   where
     step : (most i : ℕ) → i < length input →
-        number_of (suc most) (drop i input) ≡ number_at (get_or input i 0) (number_of most (drop (suc i) input))
+        number_of (suc most) (drop i input)
+        ≡ number_at (get_or input i 0) (number_of most (drop (suc i) input))
     step most i within = ap (number_of (suc most)) (drop-cons input i 0 within)

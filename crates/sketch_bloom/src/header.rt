@@ -101,8 +101,8 @@ fn digit(number: u64) -> u8
 // The length of a filter as its header has it, or 0 if the input is shorter than a header.
 #[tactic(auto, using(crate::proofs::HeaderLemmas::header_number))]
 fn length_in(input: &[u8]) -> usize
-    ensures { (bytes : ℕ) (after : List ℕ) → IsHeaderLength bytes → input.now ≡ header bytes ++ after →
-        result ≡ bytes }
+    ensures { (bytes : ℕ) (after : List ℕ) → IsHeaderLength bytes →
+        input.now ≡ header bytes ++ after → result ≡ bytes }
 {
     let [_, a, b, c, d, e, ..] = input else {
         return 0;

@@ -34,7 +34,8 @@ Changes Done before after result =
 abbrev pub ReportsFound : List ℕ → List ℕ → List ℕ → List ℕ → ℤ → Type 0
 ReportsFound bits hashes before after result =
     let n = length before in
-    ((result ≡ pos 0) × IsLength (length bits) × (n ≤ length hashes) × FindsEach bits hashes n after)
+    ((result ≡ pos 0) × IsLength (length bits) × (n ≤ length hashes)
+    × FindsEach bits hashes n after)
     ⊎ ((after ≡ before) × (fault : Fault) × IsValuesFault (length bits) (length hashes) n fault
     × (result ≡ status fault))
 

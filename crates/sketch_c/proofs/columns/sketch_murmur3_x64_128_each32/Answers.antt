@@ -1,10 +1,10 @@
-use Rattle.std.proofs.Common.{of_z, rules, to_z, w32}
+use Rattle.std.proofs.Common.{rules}
 use Rattle.datasketches.specs.Columns.{HashesEach, murmur_words}
 use Rattle.sketch_c.proofs.ReportLemmas.{hashed}
 use Rattle.sketch_c.proofs.columns.sketch_murmur3_x64_128_each32.Goals as goal
 
 pub returns : goal.returns
-returns c = hashed
-    (λ offsets. HashesEach (murmur_words c.args.seed) c.args.input.now offsets c.args.out.now c.hash_each-hashed.new.out)
-    c.args.offsets.now c.hash_each-hashed.result c.args.wrong_offset.now c.reported.new.wrong_offset
-    c.reported.result (to_z w32 (of_z w32 c.reported.result)) c.hash_each-hashed.ensures (search rules) (search rules)
+returns c =
+    hashed (λ offsets. HashesEach (murmur_words c.args.seed) c.args.input.now offsets c.args.out.now
+    c.hash_each-hashed.new.out) c.args.offsets.now c.hash_each-hashed.result c.args.wrong_offset.now
+    c.reported.new.wrong_offset c.reported.result c.hash_each-hashed.ensures (search rules) (search rules)
