@@ -1,4 +1,5 @@
-//! Links the proved archive: that of `lib/`, or that of the folder that `SKETCH_HASH_LIB_DIR` names.
+//! Links the proved archive: that of the package, or that of the folder that `SKETCH_HASH_LIB_DIR`
+//! names.
 
 use std::env;
 use std::path::{self, PathBuf};
@@ -19,8 +20,8 @@ fn main() {
     println!("cargo:rustc-link-lib=static:+verbatim=libsketch_hash.a");
 }
 
-/// The folder of the archive for the target: in `lib`, which in the repository is a link to its
-/// `dist`. Git on Windows may write a link as a text.
+/// The folder of the archive for the target: in `lib` of the packed crate, or in the repository's
+/// `dist`.
 fn of_target() -> PathBuf {
     let [os, processor, endian, bits] = ["OS", "ARCH", "ENDIAN", "POINTER_WIDTH"]
         .map(|name| env::var(format!("CARGO_CFG_TARGET_{name}")).unwrap_or_default());

@@ -65,26 +65,31 @@ def test_builds_with_core_and_alloc_alone(tmp_path):
     subprocess.run(["rustc", "--sysroot", tmp_path, *args, HERE / "src/lib.rs"], check=True)
 
 
-def test_package_builds_on_its_own(target, tmp_path):
-    cargo("package", "--allow-dirty", "--no-verify")
-    (package,) = (target / "package").glob("*.crate")
-    with tarfile.open(package) as file:
-        file.extractall(tmp_path)
-    (folder,) = tmp_path.iterdir()
+@pytest.fixture
+def copy(tmp_path):
+    """A copy of the package's folder, outside of the repository."""
+    return shutil.copytree(HERE, tmp_path / "bindings/rust", ignore=shutil.ignore_patterns("lib", "target"))
+
+
+def test_package_builds_on_its_own(copy, target, tmp_path):
+    """After docs/contributing.md's command has put the archives into the package's folder."""
     archives = {str(it.relative_to(DIST)): it.read_bytes() for it in DIST.glob("*/*.a")}
     assert len(archives) == 5
+    (command,) = re.findall(r"^    (mkdir .*rust/lib\))$", (DIST.parent / "docs/contributing.md").read_text(), re.M)
+    shutil.copytree(DIST, tmp_path / "dist")
+    subprocess.run(command, shell=True, cwd=tmp_path, check=True)
+    cargo("package", "--no-verify", folder=copy)
+    (package,) = (target / "package").glob("*.crate")
+    with tarfile.open(package) as file:
+        file.extractall(tmp_path / "packed")
+    (folder,) = (tmp_path / "packed").iterdir()
     assert {str(it.relative_to(folder / "lib")): it.read_bytes() for it in folder.glob("lib/**/*.*")} == archives
     cargo("test", "--test", "columns", folder=folder)
 
 
-def test_a_link_may_be_a_text(tmp_path):
-    """As git on Windows writes the link `lib`. If it leads nowhere, the error names it."""
-    copy = shutil.copytree(HERE, tmp_path / "bindings/rust", ignore=shutil.ignore_patterns("lib", "target"))
-    (copy / "lib").write_text(os.readlink(HERE / "lib"))
+def test_without_a_library_the_error_names_the_folder(copy):
     done = try_cargo("build", folder=copy)
     assert "sketch-hash has no library for" in done.stderr and f"in {copy / 'lib'}" in done.stderr
-    (tmp_path / "dist").symlink_to(DIST)
-    cargo("build", folder=copy)
 
 
 # ---- a project that uses it
