@@ -1,14 +1,10 @@
 -- Columns of values that are inserted or looked up in one call.
-use Rattle.std.specs.Prelude.{◌≡◌, ◌⊎◌, ℕ, ◌-◌, ◌<◌, List, length, map, slice_index}
+use Rattle.std.specs.Prelude.{◌≡◌, ◌⊎◌, ℕ, ◌-◌, ◌<◌, ◌≤◌, List, length, map, slice_index, Result, MatchResult}
 use Rattle.std.specs.List.{range_with_len}
 use Rattle.datasketches.specs.Columns.{IsFirstWrongOffset, key_at}
 use Rattle.sketch_bloom.specs.declared.fault.Fault.{Fault}
 use Rattle.sketch_bloom.specs.declared.fault.Fault.TheVariants.{Offset, Count}
-use Rattle.sketch_bloom.specs.Filter.{IsLength, IsLengthFault, IsMember, hash_of}
-
--- the number of keys: there is a key between each two neighbouring offsets
-abbrev pub key_count : List ℕ → ℕ
-key_count offsets = length offsets - 1
+use Rattle.sketch_bloom.specs.Filter.{InsertsAll, IsLength, IsLengthFault, IsMember, hash_of}
 
 -- the hashes of the first n keys of a column
 abbrev pub key_hashes : List ℕ → List ℕ → ℕ → List ℕ
@@ -20,7 +16,7 @@ IsAnswer filter hash answer =
     ((answer ≡ 1) × IsMember filter hash) ⊎ ((answer ≡ 0) × (IsMember filter hash → ⊥))
 
 -- Each of n places has the answer for the hash there.
-pub record FindsEach (filter hashes : List ℕ) (n : ℕ) (found : List ℕ) : Type 0 where
+pub record AreAnswers (filter hashes : List ℕ) (n : ℕ) (found : List ℕ) : Type 0 where
   pub size : length found ≡ n
   pub each : (k : ℕ) → k < n → IsAnswer filter (slice_index hashes k) (slice_index found k)
 
@@ -29,7 +25,32 @@ abbrev pub IsKeysFault : ℕ → List ℕ → List ℕ → ℕ → Fault → Typ
 IsKeysFault bytes keys offsets n fault = IsLengthFault bytes fault
     ⊎ (IsLength bytes × (i : ℕ) × IsFirstWrongOffset keys offsets n i × (fault ≡ Offset i))
 
--- Why a column of values is not looked up: the filter's length, or fewer values than places.
-abbrev pub IsValuesFault : ℕ → ℕ → ℕ → Fault → Type 0
-IsValuesFault bytes values places fault = IsLengthFault bytes fault
-    ⊎ (IsLength bytes × (values < places) × (fault ≡ Count values))
+-- The outcome of inserting the keys of a column, one less than offsets: all are inserted, or the
+-- filter is unchanged.
+abbrev pub InsertsKeys : List ℕ → List ℕ → List ℕ → List ℕ → Result Unit Fault → Type 0
+InsertsKeys keys offsets before after result =
+    let n = length offsets - 1 in MatchResult result
+    (λ _. IsLength (length before) × InsertsAll (key_hashes keys offsets n) before after)
+    (λ fault. (after ≡ before) × IsKeysFault (length before) keys offsets n fault)
+
+-- The outcome of inserting the values with these hashes.
+abbrev pub InsertsEach : List ℕ → List ℕ → List ℕ → Result Unit Fault → Type 0
+InsertsEach hashes before after result = MatchResult result
+    (λ _. IsLength (length before) × InsertsAll hashes before after)
+    (λ fault. (after ≡ before) × IsLengthFault (length before) fault)
+
+-- The outcome of looking up keys of a column: each place has an answer, or none is changed.
+abbrev pub FindsKeys : List ℕ → List ℕ → List ℕ → List ℕ → List ℕ → Result Unit Fault → Type 0
+FindsKeys filter keys offsets before after result =
+    let n = length before in MatchResult result
+    (λ _. IsLength (length filter) × AreAnswers filter (key_hashes keys offsets n) n after)
+    (λ fault. (after ≡ before) × IsKeysFault (length filter) keys offsets n fault)
+
+-- The outcome of looking up values with these hashes. There may be fewer than places.
+abbrev pub FindsEach : List ℕ → List ℕ → List ℕ → List ℕ → Result Unit Fault → Type 0
+FindsEach filter hashes before after result =
+    let n = length before in MatchResult result
+    (λ _. IsLength (length filter) × (n ≤ length hashes) × AreAnswers filter hashes n after)
+    (λ fault. (after ≡ before)
+    × (IsLengthFault (length filter) fault
+    ⊎ (IsLength (length filter) × (length hashes < n) × (fault ≡ Count (length hashes)))))

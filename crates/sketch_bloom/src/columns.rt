@@ -1,11 +1,9 @@
 //! Columns of values that are inserted or looked up in one call: keys in a buffer, values, or
 //! hashes. Each call checks the filter's length and the offsets once, before it changes anything.
 
-ghost use Rattle.std.specs.Prelude.{◌≡◌, ℕ, ◌+◌, ◌-◌, ◌*◌, ◌/◌, ◌<◌, ◌≤◌, List, length, map, slice_index, MatchResult};
-ghost use Rattle.datasketches.specs.Columns.{AreBounds, IsBound, key_at};
-ghost use Rattle.datasketches.specs.Xxh64.{xxh64};
-ghost use Rattle.sketch_bloom.specs.Columns.{FindsEach, IsAnswer, IsKeysFault, IsValuesFault, key_count, key_hashes};
-ghost use Rattle.sketch_bloom.specs.Filter.{InsertsAll, IsLength, IsLengthFault, hash_of};
+ghost use Rattle.std.specs.Prelude.{◌≡◌, ℕ, ◌+◌, ◌<◌, ◌≤◌, length, map, slice_index};
+ghost use Rattle.sketch_bloom.specs.Columns.{FindsEach, FindsKeys, InsertsEach, InsertsKeys, IsAnswer};
+ghost use Rattle.sketch_bloom.specs.Filter.{InsertsAll, IsLength, hash_of};
 
 use crate::fault::Fault;
 use crate::filter::{check_length, insert_into, is_in};
@@ -24,12 +22,7 @@ const AHEAD: usize = 32;
 /// Otherwise returns [`Fault::Offset`] with the index of the first offset that is past the end of
 /// `keys`, or below the offset before it. The filter is then unchanged.
 pub fn insert_each<O: Offset>(filter: &mut [u8], keys: &[u8], offsets: &[O]) -> Result<(), Fault>
-    ensures { let places = map O.place offsets.now in let n = key_count places in
-        MatchResult result
-        (λ _. IsLength (length filter.old)
-        × InsertsAll (key_hashes keys.now places n) filter.old filter.new)
-        (λ fault. (filter.new ≡ filter.old)
-        × IsKeysFault (length filter.old) keys.now places n fault) }
+    ensures { InsertsKeys keys.now (map O.place offsets.now) filter.old filter.new result }
 {
     check_length(filter.len())?;
     let count = offsets.len().saturating_sub(1);
@@ -60,12 +53,8 @@ pub fn contains_each<O: Offset>(
     offsets: &[O],
     found: &mut [u8],
 ) -> Result<(), Fault>
-    ensures { let places = map O.place offsets.now in let n = length found.old in
-        MatchResult result
-        (λ _. IsLength (length filter.now)
-        × FindsEach filter.now (key_hashes keys.now places n) n found.new)
-        (λ fault. (found.new ≡ found.old)
-        × IsKeysFault (length filter.now) keys.now places n fault) }
+    ensures { let places = map O.place offsets.now in
+        FindsKeys filter.now keys.now places found.old found.new result }
 {
     check_length(filter.len())?;
     let count = found.len();
@@ -88,9 +77,8 @@ pub fn contains_each<O: Offset>(
 /// Returns [`Fault::Length`] if the length of `filter` is not a positive multiple of 32 below 2^37.
 /// The filter is then unchanged.
 pub fn insert_each_value<T: Hash>(filter: &mut [u8], values: &[T]) -> Result<(), Fault>
-    ensures { let hashes = map (λ value. hash_of (T.fed value)) values.now in MatchResult result
-        (λ _. IsLength (length filter.old) × InsertsAll hashes filter.old filter.new)
-        (λ fault. (filter.new ≡ filter.old) × IsLengthFault (length filter.old) fault) }
+    ensures { let hashes = map (λ value. hash_of (T.fed value)) values.now in
+        InsertsEach hashes filter.old filter.new result }
 {
     check_length(filter.len())?;
     for value in values {
@@ -106,10 +94,7 @@ pub fn insert_each_value<T: Hash>(filter: &mut [u8], values: &[T]) -> Result<(),
 /// Returns [`Fault::Length`] if the length of `filter` is not a positive multiple of 32 below 2^37.
 /// The filter is then unchanged.
 pub fn insert_each_hash(filter: &mut [u8], hashes: &[u64]) -> Result<(), Fault>
-    ensures { MatchResult result
-        (λ _. IsLength (length filter.old)
-        × InsertsAll hashes.now filter.old filter.new)
-        (λ fault. (filter.new ≡ filter.old) × IsLengthFault (length filter.old) fault) }
+    ensures { InsertsEach hashes.now filter.old filter.new result }
 {
     check_length(filter.len())?;
     insert_hashes(filter, hashes);
@@ -130,11 +115,7 @@ pub fn contains_each_value<T: Hash>(
     found: &mut [u8],
 ) -> Result<(), Fault>
     ensures { let hashes = map (λ value. hash_of (T.fed value)) values.now in
-        let n = length found.old in MatchResult result
-        (λ _. IsLength (length filter.now) × (n ≤ length values.now)
-        × FindsEach filter.now hashes n found.new)
-        (λ fault. (found.new ≡ found.old)
-        × IsValuesFault (length filter.now) (length values.now) n fault) }
+        FindsEach filter.now hashes found.old found.new result }
 {
     check_length(filter.len())?;
     if values.len() < found.len() {
@@ -155,11 +136,7 @@ pub fn contains_each_value<T: Hash>(
 /// Otherwise returns [`Fault::Count`] if there are fewer hashes than places. `found` is then
 /// unchanged.
 pub fn contains_each_hash(filter: &[u8], hashes: &[u64], found: &mut [u8]) -> Result<(), Fault>
-    ensures { let n = length found.old in MatchResult result
-        (λ _. IsLength (length filter.now) × (n ≤ length hashes.now)
-        × FindsEach filter.now hashes.now n found.new)
-        (λ fault. (found.new ≡ found.old)
-        × IsValuesFault (length filter.now) (length hashes.now) n fault) }
+    ensures { FindsEach filter.now hashes.now found.old found.new result }
 {
     check_length(filter.len())?;
     if hashes.len() < found.len() {
@@ -169,7 +146,7 @@ pub fn contains_each_hash(filter: &[u8], hashes: &[u64], found: &mut [u8]) -> Re
     Ok(())
 }
 
-// Inserts hashes.
+// Inserts the values with these hashes. It is not inlined, so all columns share one copy.
 #[inline(never)]
 fn insert_hashes(filter: &mut [u8], hashes: &[u64])
     requires { IsLength (length filter.old) }
@@ -180,7 +157,8 @@ fn insert_hashes(filter: &mut [u8], hashes: &[u64])
     }
 }
 
-// Writes to `found[start..]` whether the filter contains the hashes.
+// Writes to `found[start..]` whether the filter contains the values with these hashes. It is not
+// inlined, so all columns share one copy.
 #[inline(never)]
 fn find_hashes(filter: &[u8], hashes: &[u64], found: &mut [u8], start: usize)
     requires size { IsLength (length filter.now) }

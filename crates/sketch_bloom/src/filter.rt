@@ -91,7 +91,7 @@ pub fn contains_hash(filter: &[u8], hash: u64) -> Result<bool, Fault>
     Ok(is_in(filter, hash))
 }
 
-// Inserts a hash.
+// Sets the eight bits of a hash.
 #[inline(always)]
 #[tactic(auto, using(crate::proofs::BlockLemmas::inserted))]
 pub(crate) fn insert_into(filter: &mut [u8], hash: u64)
@@ -103,7 +103,7 @@ pub(crate) fn insert_into(filter: &mut [u8], hash: u64)
     (block | mask(hash)).copy_to_slice(&mut filter[start..]);
 }
 
-// Whether the filter contains a hash.
+// Whether the eight bits of a hash are set.
 #[inline(always)]
 #[tactic(auto, using(crate::proofs::BlockLemmas::is_member))]
 pub(crate) fn is_in(filter: &[u8], hash: u64) -> bool
@@ -112,7 +112,7 @@ pub(crate) fn is_in(filter: &[u8], hash: u64) -> bool
 {
     let start = block_start(filter.len(), hash);
     let block = u8x32::from_slice(&filter[start..]);
-    // Setting bits that are set changes nothing.
+    // They are if setting them changes nothing.
     ((block | mask(hash)) ^ block).reduce_or() == 0
 }
 

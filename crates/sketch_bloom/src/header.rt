@@ -86,7 +86,7 @@ fn number_field(bytes: usize) -> ([u8; 6], usize)
     (field, 2 + more)
 }
 
-// The first byte of a variable-length number.
+// The first byte of a variable-length number. `number` reads it.
 fn digit(number: u64) -> u8
     ensures last { number < 128 → result ≡ number }
     ensures more { 128 ≤ number → result ≡ number % 128 + 128 }
@@ -111,7 +111,8 @@ fn length_in(input: &[u8]) -> usize
     (twice / 2) as usize
 }
 
-// The variable-length number of a first byte and the bytes after it, which have another number.
+// The variable-length number of the first byte, that `digit` writes, and the number in the bytes
+// after it.
 fn number(byte: u8, after: u64) -> u64
     requires { after < 2 ^ 56 }
     ensures value { result ≡ number_at byte after }

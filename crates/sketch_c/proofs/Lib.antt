@@ -1,2 +1,1 @@
-pub mod InitLemmas
-mod ReportLemmas
+mod Rules

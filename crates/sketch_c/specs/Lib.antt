@@ -1,8 +1,7 @@
 -- How calls for C report errors: 0 if all is done, or a negative number for each error.
-use Rattle.std.specs.Prelude.{◌≡◌, ◌⊎◌, ◌≤◌, ℕ, ℤ, pos, ◌-ℤ◌, List, length, Result, Ok, Err}
+use Rattle.std.specs.Prelude.{◌≡◌, ◌⊎◌, ◌≤◌, ℕ, ℤ, pos, ◌-ℤ◌, List, length, Result, MatchResult}
 use Rattle.sketch_bloom.specs.declared.fault.Fault.{Fault}
-use Rattle.sketch_bloom.specs.Columns.{FindsEach, IsKeysFault, IsValuesFault}
-use Rattle.sketch_bloom.specs.Filter.{IsLength}
+use Rattle.sketch_bloom.specs.Filter.{IsLength, IsMember}
 use Rattle.sketch_bloom.specs.declared.fault.Fault.TheVariants.{Length, OtherLength, Offset, Count, OutOfMemory}
 
 abbrev pub error : ℕ → ℤ
@@ -30,25 +29,24 @@ Changes Done before after result =
     ((result ≡ pos 0) × IsLength (length before) × Done)
     ⊎ ((result ≡ error 1) × (after ≡ before) × (IsLength (length before) → ⊥))
 
--- A call that looks up a column of numbers or hashes has this outcome.
-abbrev pub ReportsFound : List ℕ → List ℕ → List ℕ → List ℕ → ℤ → Type 0
-ReportsFound bits hashes before after result =
-    let n = length before in
-    ((result ≡ pos 0) × IsLength (length bits) × (n ≤ length hashes)
-    × FindsEach bits hashes n after)
-    ⊎ ((after ≡ before) × (fault : Fault) × IsValuesFault (length bits) (length hashes) n fault
-    × (result ≡ status fault))
+-- The answer is 0 if the filter does not contain a value, given by its hash, and 1 if it may. Bytes
+-- of a length that no filter has rule nothing out.
+abbrev pub MayContain : List ℕ → ℕ → ℤ → Type 0
+MayContain bits hash result =
+    ((result ≡ pos 1) × (IsLength (length bits) → IsMember bits hash))
+    ⊎ ((result ≡ pos 0) × IsLength (length bits) × (IsMember bits hash → ⊥))
 
--- A call on the first n keys of a column is done, or leaves all the same and writes the index of a
--- wrong offset.
-abbrev pub ReportsKeys : List ℕ → List ℕ → List ℕ → ℕ → Type 0 → Type 0 → ℕ → ℕ → ℤ → Type 0
-ReportsKeys bits keys offsets n Done Same before after result =
-    ((result ≡ pos 0) × (after ≡ before) × IsLength (length bits) × Done)
-    ⊎ (Same × (fault : Fault) × IsKeysFault (length bits) keys offsets n fault
-    × (result ≡ status fault) × (after ≡ index_of fault before))
+-- A call returns the number of its outcome.
+abbrev pub IsNumber : Result Unit Fault → ℤ → Type 0
+IsNumber outcome result = MatchResult outcome (λ _. result ≡ pos 0) (λ fault. result ≡ status fault)
 
--- A call that hashes a column of keys has this outcome, and writes the index of a wrong offset.
-abbrev pub ReportsOffset : (Result Unit ℕ → Type 0) → ℕ → ℕ → ℤ → Type 0
-ReportsOffset Outcome before after result =
-    ((result ≡ pos 0) × (after ≡ before) × Outcome (Ok tt))
-    ⊎ ((result ≡ error 2) × Outcome (Err after))
+-- It also writes the index of a wrong offset.
+abbrev pub Reports : Result Unit Fault → ℕ → ℕ → ℤ → Type 0
+Reports outcome before after result = MatchResult outcome
+    (λ _. (result ≡ pos 0) × (after ≡ before))
+    (λ fault. (result ≡ status fault) × (after ≡ index_of fault before))
+
+-- The outcome of hashing a column of keys: all is done, or the index of a wrong offset is written.
+abbrev pub ReportsOffset : Result Unit ℕ → ℕ → ℕ → ℤ → Type 0
+ReportsOffset outcome before after result = MatchResult outcome
+    (λ _. (result ≡ pos 0) × (after ≡ before)) (λ i. (result ≡ error 2) × (after ≡ i))

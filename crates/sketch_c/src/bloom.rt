@@ -1,12 +1,12 @@
 //! The Bloom filter of Apache Parquet, in bytes that the caller owns.
 
-ghost use Rattle.std.specs.Prelude.{◌≡◌, ◌⊎◌, ◌++◌, ◌<◌, ◌≤◌, ◌*◌, ◌^◌, ℕ, List, MatchResult, pos, drop, length, map};
+ghost use Rattle.std.specs.Prelude.{◌≡◌, ◌⊎◌, ◌++◌, ◌<◌, ◌≤◌, ◌*◌, ◌^◌, ℕ, List, Result, pos, drop, length, map};
 ghost use Rattle.datasketches.specs.Bytes.{low_bytes};
 ghost use Rattle.sketch_bloom.specs.declared.fault.Fault.{Fault};
-ghost use Rattle.sketch_bloom.specs.Columns.{FindsEach, IsKeysFault, IsValuesFault, key_count, key_hashes};
+ghost use Rattle.sketch_bloom.specs.Columns.{FindsEach, FindsKeys, InsertsKeys};
 ghost use Rattle.sketch_bloom.specs.Filter.{Inserts, InsertsAll, IsLength, IsMember, IsMergeFault, Merges, hash_of};
 ghost use Rattle.sketch_bloom.specs.Header.{IsHeaderLength, header};
-ghost use Rattle.sketch_c.specs.{Changes, ReportsFound, ReportsKeys, error};
+ghost use Rattle.sketch_c.specs.{Changes, IsNumber, MayContain, Reports, error};
 
 use crate::{done, reported};
 use datasketches::hash::value::raw_bytes;
@@ -50,10 +50,7 @@ pub extern "C" fn sketch_bloom_insert(bits: &mut [u8], key: &[u8]) -> i32
 /// length is not that of a filter, since such bytes rule nothing out.
 #[unsafe(no_mangle)]
 pub extern "C" fn sketch_bloom_contains(bits: &[u8], key: &[u8]) -> i32
-    ensures { ((result ≡ pos 1)
-        × (IsLength (length bits.now) → IsMember bits.now (hash_of key.now)))
-        ⊎ ((result ≡ pos 0) × IsLength (length bits.now)
-        × (IsMember bits.now (hash_of key.now) → ⊥)) }
+    ensures { MayContain bits.now (hash_of key.now) result }
 {
     i32::from(sketch_bloom::contains(bits, &raw_bytes::from_slice(key)).unwrap_or(true))
 }
@@ -70,8 +67,7 @@ pub extern "C" fn sketch_bloom_insert_hash(bits: &mut [u8], hash: u64) -> i32
 /// and 1 if it may or the length is not that of a filter.
 #[unsafe(no_mangle)]
 pub extern "C" fn sketch_bloom_contains_hash(bits: &[u8], hash: u64) -> i32
-    ensures { ((result ≡ pos 1) × (IsLength (length bits.now) → IsMember bits.now hash))
-        ⊎ ((result ≡ pos 0) × IsLength (length bits.now) × (IsMember bits.now hash → ⊥)) }
+    ensures { MayContain bits.now hash result }
 {
     i32::from(sketch_bloom::contains_hash(bits, hash).unwrap_or(true))
 }
@@ -84,9 +80,9 @@ pub extern "C" fn sketch_bloom_insert_each32(
     offsets: &[u32],
     wrong_offset: &mut usize,
 ) -> i32
-    ensures { let n = key_count offsets.now in ReportsKeys bits.old keys.now offsets.now n
-        (InsertsAll (key_hashes keys.now offsets.now n) bits.old bits.new)
-        (bits.new ≡ bits.old) wrong_offset.old wrong_offset.new result }
+    ensures { (outcome : Result Unit Fault)
+        × InsertsKeys keys.now offsets.now bits.old bits.new outcome
+        × Reports outcome wrong_offset.old wrong_offset.new result }
 {
     reported(sketch_bloom::insert_each(bits, keys, offsets), wrong_offset)
 }
@@ -99,9 +95,9 @@ pub extern "C" fn sketch_bloom_insert_each64(
     offsets: &[u64],
     wrong_offset: &mut usize,
 ) -> i32
-    ensures { let n = key_count offsets.now in ReportsKeys bits.old keys.now offsets.now n
-        (InsertsAll (key_hashes keys.now offsets.now n) bits.old bits.new)
-        (bits.new ≡ bits.old) wrong_offset.old wrong_offset.new result }
+    ensures { (outcome : Result Unit Fault)
+        × InsertsKeys keys.now offsets.now bits.old bits.new outcome
+        × Reports outcome wrong_offset.old wrong_offset.new result }
 {
     reported(sketch_bloom::insert_each(bits, keys, offsets), wrong_offset)
 }
@@ -134,6 +130,7 @@ pub extern "C" fn sketch_bloom_insert_each_hash(bits: &mut [u8], hashes: &[u64])
 
 /// Writes to `found[i]` 1 if the filter may contain key i of a column with 32-bit offsets, else 0.
 #[unsafe(no_mangle)]
+#[tactic(auto, using(crate::proofs::Rules::own_places))]
 pub extern "C" fn sketch_bloom_contains_each32(
     bits: &[u8],
     keys: &[u8],
@@ -141,9 +138,9 @@ pub extern "C" fn sketch_bloom_contains_each32(
     found: &mut [u8],
     wrong_offset: &mut usize,
 ) -> i32
-    ensures { let n = length found.old in ReportsKeys bits.now keys.now offsets.now n
-        (FindsEach bits.now (key_hashes keys.now offsets.now n) n found.new)
-        (found.new ≡ found.old) wrong_offset.old wrong_offset.new result }
+    ensures { (outcome : Result Unit Fault)
+        × FindsKeys bits.now keys.now offsets.now found.old found.new outcome
+        × Reports outcome wrong_offset.old wrong_offset.new result }
 {
     reported(
         sketch_bloom::contains_each(bits, keys, offsets, found),
@@ -153,6 +150,7 @@ pub extern "C" fn sketch_bloom_contains_each32(
 
 /// Writes to `found[i]` 1 if the filter may contain key i of a column with 64-bit offsets, else 0.
 #[unsafe(no_mangle)]
+#[tactic(auto, using(crate::proofs::Rules::own_places))]
 pub extern "C" fn sketch_bloom_contains_each64(
     bits: &[u8],
     keys: &[u8],
@@ -160,9 +158,9 @@ pub extern "C" fn sketch_bloom_contains_each64(
     found: &mut [u8],
     wrong_offset: &mut usize,
 ) -> i32
-    ensures { let n = length found.old in ReportsKeys bits.now keys.now offsets.now n
-        (FindsEach bits.now (key_hashes keys.now offsets.now n) n found.new)
-        (found.new ≡ found.old) wrong_offset.old wrong_offset.new result }
+    ensures { (outcome : Result Unit Fault)
+        × FindsKeys bits.now keys.now offsets.now found.old found.new outcome
+        × Reports outcome wrong_offset.old wrong_offset.new result }
 {
     reported(
         sketch_bloom::contains_each(bits, keys, offsets, found),
@@ -178,7 +176,8 @@ pub extern "C" fn sketch_bloom_contains_each_u32(
     found: &mut [u8],
 ) -> i32
     ensures { let hashes = map (λ v. hash_of (low_bytes 4 v)) values.now in
-        ReportsFound bits.now hashes found.old found.new result }
+        (outcome : Result Unit Fault)
+        × FindsEach bits.now hashes found.old found.new outcome × IsNumber outcome result }
 {
     done(sketch_bloom::contains_each_value(bits, values, found))
 }
@@ -191,7 +190,8 @@ pub extern "C" fn sketch_bloom_contains_each_u64(
     found: &mut [u8],
 ) -> i32
     ensures { let hashes = map (λ v. hash_of (low_bytes 8 v)) values.now in
-        ReportsFound bits.now hashes found.old found.new result }
+        (outcome : Result Unit Fault)
+        × FindsEach bits.now hashes found.old found.new outcome × IsNumber outcome result }
 {
     done(sketch_bloom::contains_each_value(bits, values, found))
 }
@@ -203,7 +203,8 @@ pub extern "C" fn sketch_bloom_contains_each_hash(
     hashes: &[u64],
     found: &mut [u8],
 ) -> i32
-    ensures { ReportsFound bits.now hashes.now found.old found.new result }
+    ensures { (outcome : Result Unit Fault)
+        × FindsEach bits.now hashes.now found.old found.new outcome × IsNumber outcome result }
 {
     done(sketch_bloom::contains_each_hash(bits, hashes, found))
 }

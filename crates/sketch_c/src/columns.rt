@@ -1,6 +1,6 @@
 //! Columns of keys: a call hashes all keys of a column.
 
-ghost use Rattle.std.specs.Prelude.{◌≡◌, ◌⊎◌, ℕ, Ok, Err, pos};
+ghost use Rattle.std.specs.Prelude.{◌≡◌, ◌⊎◌, ℕ, Result, Ok, Err, pos};
 ghost use Rattle.sketch_c.specs.{ReportsOffset, error};
 ghost use Rattle.datasketches.specs.Columns.{HashesEach, HashesEachNumber, murmur_words};
 ghost use Rattle.datasketches.specs.Xxh64.{xxh64};
@@ -11,6 +11,7 @@ use sketch_bloom::Fault;
 
 /// XXH64 of the keys of a column with 32-bit offsets, one for each place of `out`.
 #[unsafe(no_mangle)]
+#[tactic(auto, using(crate::proofs::Rules::own_places))]
 pub extern "C" fn sketch_xxh64_each32(
     input: &[u8],
     offsets: &[u32],
@@ -18,8 +19,9 @@ pub extern "C" fn sketch_xxh64_each32(
     out: &mut [u64],
     wrong_offset: &mut usize,
 ) -> i32
-    ensures { ReportsOffset (HashesEach (xxh64 seed) input.now offsets.now out.old out.new)
-        wrong_offset.old wrong_offset.new result }
+    ensures { (outcome : Result Unit ℕ)
+        × HashesEach (xxh64 seed) input.now offsets.now out.old out.new outcome
+        × ReportsOffset outcome wrong_offset.old wrong_offset.new result }
 {
     let hashed = XxHash64::hash_each(input, offsets, seed, out);
     reported(hashed.map_err(Fault::Offset), wrong_offset)
@@ -27,6 +29,7 @@ pub extern "C" fn sketch_xxh64_each32(
 
 /// XXH64 of the keys of a column with 64-bit offsets, one for each place of `out`.
 #[unsafe(no_mangle)]
+#[tactic(auto, using(crate::proofs::Rules::own_places))]
 pub extern "C" fn sketch_xxh64_each64(
     input: &[u8],
     offsets: &[u64],
@@ -34,8 +37,9 @@ pub extern "C" fn sketch_xxh64_each64(
     out: &mut [u64],
     wrong_offset: &mut usize,
 ) -> i32
-    ensures { ReportsOffset (HashesEach (xxh64 seed) input.now offsets.now out.old out.new)
-        wrong_offset.old wrong_offset.new result }
+    ensures { (outcome : Result Unit ℕ)
+        × HashesEach (xxh64 seed) input.now offsets.now out.old out.new outcome
+        × ReportsOffset outcome wrong_offset.old wrong_offset.new result }
 {
     let hashed = XxHash64::hash_each(input, offsets, seed, out);
     reported(hashed.map_err(Fault::Offset), wrong_offset)
@@ -53,6 +57,7 @@ pub extern "C" fn sketch_xxh64_each_u64(values: &[u64], seed: u64, out: &mut [u6
 
 /// MurmurHash3 x64 128 of the keys of a column with 32-bit offsets, one for each place of `out`.
 #[unsafe(no_mangle)]
+#[tactic(auto, using(crate::proofs::Rules::own_places))]
 pub extern "C" fn sketch_murmur3_x64_128_each32(
     input: &[u8],
     offsets: &[u32],
@@ -60,8 +65,9 @@ pub extern "C" fn sketch_murmur3_x64_128_each32(
     out: &mut [[u64; 2]],
     wrong_offset: &mut usize,
 ) -> i32
-    ensures { ReportsOffset (HashesEach (murmur_words seed) input.now offsets.now out.old out.new)
-        wrong_offset.old wrong_offset.new result }
+    ensures { (outcome : Result Unit ℕ)
+        × HashesEach (murmur_words seed) input.now offsets.now out.old out.new outcome
+        × ReportsOffset outcome wrong_offset.old wrong_offset.new result }
 {
     let hashed = MurmurHash3X64128::hash_each(input, offsets, seed, out);
     reported(hashed.map_err(Fault::Offset), wrong_offset)
@@ -69,6 +75,7 @@ pub extern "C" fn sketch_murmur3_x64_128_each32(
 
 /// MurmurHash3 x64 128 of the keys of a column with 64-bit offsets, one for each place of `out`.
 #[unsafe(no_mangle)]
+#[tactic(auto, using(crate::proofs::Rules::own_places))]
 pub extern "C" fn sketch_murmur3_x64_128_each64(
     input: &[u8],
     offsets: &[u64],
@@ -76,8 +83,9 @@ pub extern "C" fn sketch_murmur3_x64_128_each64(
     out: &mut [[u64; 2]],
     wrong_offset: &mut usize,
 ) -> i32
-    ensures { ReportsOffset (HashesEach (murmur_words seed) input.now offsets.now out.old out.new)
-        wrong_offset.old wrong_offset.new result }
+    ensures { (outcome : Result Unit ℕ)
+        × HashesEach (murmur_words seed) input.now offsets.now out.old out.new outcome
+        × ReportsOffset outcome wrong_offset.old wrong_offset.new result }
 {
     let hashed = MurmurHash3X64128::hash_each(input, offsets, seed, out);
     reported(hashed.map_err(Fault::Offset), wrong_offset)

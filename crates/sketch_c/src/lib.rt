@@ -9,8 +9,8 @@
 //! wrote the index of a wrong offset.
 #![tactic(auto)]
 
-ghost use Rattle.std.specs.Prelude.{◌≡◌, MatchResult, pos};
-ghost use Rattle.sketch_c.specs.{index_of, status};
+ghost use Rattle.std.specs.Prelude.{◌≡◌};
+ghost use Rattle.sketch_c.specs.{IsNumber, Reports};
 
 pub mod bloom;
 pub mod columns;
@@ -32,7 +32,7 @@ pub extern "C" fn sketch_hash_version() -> u32
 // 0, or the number of the error.
 #[inline(always)]
 fn done(outcome: Result<(), Fault>) -> i32
-    ensures { MatchResult outcome (λ _. result ≡ pos 0) (λ fault. result ≡ status fault) }
+    ensures { IsNumber outcome result }
 {
     match outcome {
         Ok(()) => 0,
@@ -46,10 +46,7 @@ fn done(outcome: Result<(), Fault>) -> i32
 // 0, or the number of the error. The index of a wrong offset is written.
 #[inline(always)]
 fn reported(outcome: Result<(), Fault>, wrong_offset: &mut usize) -> i32
-    ensures { MatchResult outcome
-        (λ _. (result ≡ pos 0) × (wrong_offset.new ≡ wrong_offset.old))
-        (λ fault. (result ≡ status fault)
-        × (wrong_offset.new ≡ index_of fault wrong_offset.old)) }
+    ensures { Reports outcome wrong_offset.old wrong_offset.new result }
 {
     if let Err(Fault::Offset(i)) = outcome {
         *wrong_offset = i;

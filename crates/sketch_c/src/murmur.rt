@@ -19,7 +19,7 @@ pub extern "C" fn sketch_murmur3_x64_128(input: &[u8], seed: u64, hash: &mut [u6
 
 /// Starts a stream with a seed. All bytes of the buffer become 0, as after an initializer.
 #[unsafe(no_mangle)]
-#[tactic(auto, using(crate::proofs::InitLemmas::for_reset))]
+#[tactic(auto, using(crate::proofs::Rules::for_reset))]
 pub extern "C" fn sketch_murmur3_x64_128_reset(state: &mut MurmurState, seed: u64)
     ensures stands { MurmurStateStands state.new seed [] }
     ensures zeros { state.new.waiting ≡ replicate 16 0 }

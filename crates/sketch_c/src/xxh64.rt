@@ -25,7 +25,7 @@ pub extern "C" fn sketch_xxh64_u64(value: u64, seed: u64) -> u64
 
 /// Starts a stream with a seed. All bytes of the buffer become 0, as after an initializer.
 #[unsafe(no_mangle)]
-#[tactic(auto, using(crate::proofs::InitLemmas::for_reset))]
+#[tactic(auto, using(crate::proofs::Rules::for_reset))]
 pub extern "C" fn sketch_xxh64_reset(state: &mut XxHash64State, seed: u64)
     ensures stands { Xxh64StateStands state.new seed [] }
     ensures zeros { state.new.waiting ≡ replicate 32 0 }

@@ -1,6 +1,6 @@
 //! The filters of other writers, byte for byte, and their hash of each kind of value.
 
-use crate::{BloomFilter, Fault, contains, insert};
+use crate::{contains, insert};
 use datasketches::hash::Hash;
 use datasketches::hash::value::raw_bytes;
 use std::num::{f32_to_bits_with_nan, f64_to_bits_with_nan};
@@ -37,13 +37,12 @@ const OF_DUCKDB: [u8; 32] = [
 ];
 
 #[test]
-fn writes_texts_as_parquet_mr_does(rt: HostRuntime) -> Result<(), Fail> {
-    let mut block = [0; 32];
+fn writes_texts_as_other_writers_do(rt: HostRuntime) -> Result<(), Fail> {
+    let (mut block, mut filter, mut expected) = ([0; 32], [0; 1024], [0; 1024]);
     for n in 0..10 {
         let text = raw_bytes::from_string(format!(in rt.alloc(); "a{n}")?);
         assert!(rt; insert(&mut block, &text).is_ok());
     }
-    let (mut filter, mut expected) = ([0; 1024], [0; 1024]);
     for text in ["hello", "parquet", "bloom", "filter"] {
         assert!(rt; insert(&mut filter, &raw_bytes::from_str(text)).is_ok());
     }
@@ -51,11 +50,6 @@ fn writes_texts_as_parquet_mr_does(rt: HostRuntime) -> Result<(), Fail> {
         expected[i / 8 % 1024] |= 1 << (i % 8);
     }
     assert!(rt; block == ONE_BLOCK && filter == expected);
-    Ok(())
-}
-
-#[test]
-fn writes_texts_as_arrow_and_duckdb_do(rt: HostRuntime) -> Result<(), Fail> {
     let (mut arrow, mut duckdb) = ([0; 128], [0; 32]);
     assert!(rt; insert(&mut arrow, &raw_bytes::from_str("")).is_ok());
     for n in 0..90 {
@@ -86,15 +80,4 @@ fn hashes_each_kind_of_value_as_arrow_does(rt: HostRuntime) {
     ] {
         assert_eq!(rt; hash, expected);
     }
-}
-
-#[test]
-fn a_filter_makes_1_request(rt: HostRuntime) {
-    let made = BloomFilter::new(rt.alloc(), 32);
-    let Ok(mut filter) = made else {
-        assert!(rt; matches!(made.err(), Some(Fault::OutOfMemory)));
-        return;
-    };
-    filter.insert_each(&[raw_bytes::from_str("a0")]);
-    assert!(rt; filter.contains(&raw_bytes::from_str("a0")));
 }

@@ -1,7 +1,6 @@
-use Rattle.std.proofs.Common.{◌≡◌, map, arith, rules}
+use Rattle.std.proofs.Common.{◌≡◌, ◌-◌, length, map, arith, rules}
 use Rattle.std.proofs.lemmas.List.{length-map}
 use Rattle.sketch_bloom.proofs.ColumnLemmas.{inserts_run}
-use Rattle.sketch_bloom.specs.Columns.{key_count}
 use Rattle.sketch_bloom.proofs.columns.insert_each.Goals as goal
 
 pub loop-start-preserved : goal.loop-start-preserved
@@ -14,7 +13,7 @@ loop-start-preserved g c = (
 
 pub returns : goal.returns
 returns g c =
-    let all : c.loop-start.start ≡ key_count (map g.O.Offset.place c.args.offsets.now) =
+    let all : c.loop-start.start ≡ length (map g.O.Offset.place c.args.offsets.now) - 1 =
     omega (
       arith,
       c.saturating_sub-count.ensures,
