@@ -3,7 +3,7 @@
 /** What is hashed: its bytes, as they are in memory. */
 export type Input = ArrayBuffer | ArrayBufferView;
 
-/** A key of a Bloom filter: bytes, or a text, of which the filter takes the UTF-8. */
+/** A key of a Bloom filter: bytes, or a text, of which the filter takes the UTF-8, as TextEncoder writes it. */
 export type Key = Input | string;
 
 /** A whole number from 0 to 2^64 - 1: a BigInt, or a number that is a safe integer. */

@@ -32,13 +32,13 @@ async function read(place) {
 const typeOf = (value) => Object.prototype.toString.call(value).slice(8, -1);
 
 /** The bytes of an input, without a copy. */
-function view(input) {
+function view(input, advice = '; encode a string with TextEncoder') {
     if (ArrayBuffer.isView(input)) {
         input.keys?.(); // throws if the buffer was shrunk below the array, which then has no bytes
         return new Uint8Array(input.buffer, input.byteOffset, input.byteLength);
     }
     if (typeOf(input) === 'ArrayBuffer') return view(new DataView(input));
-    throw new TypeError('the input must be an ArrayBuffer or a view of one; encode a string with TextEncoder');
+    throw new TypeError(`the input must be an ArrayBuffer or a view of one${advice}`);
 }
 
 const unsigned = (word) => BigInt.asUintN(64, word);
@@ -197,7 +197,7 @@ function libraryOf(calls) {
 
     function checkedColumn(column, types, name) {
         if (ArrayBuffer.isView(column) && types.includes(typeOf(column))) return column;
-        throw new TypeError(`${name} must be one of ${types.join(', ')}`);
+        throw new TypeError(`${name} must be of type ${types.join(' or ')}`);
     }
 
     /** Throws the error that a status of the library stands for. */
@@ -267,7 +267,7 @@ function libraryOf(calls) {
     }
 
     const encoder = new TextEncoder();
-    const keyView = (key) => typeof key === 'string' ? encoder.encode(key) : view(key);
+    const keyView = (key) => typeof key === 'string' ? encoder.encode(key) : view(key, ', or a string');
 
     // The bits are a block of the module's memory, which another filter uses when this one was collected.
     class BloomFilter {
@@ -377,6 +377,7 @@ function libraryOf(calls) {
         }
 
         merge(other) {
+            if (!(#at in Object(other))) throw new TypeError('only a Bloom filter of this module can be merged');
             check(calls.sketch_bloom_merge(...this.#bits, ...other.#bits));
             return this;
         }

@@ -74,7 +74,7 @@ test('a column of another type is a type error', () => {
         assert.throws(() => xxh64Each(long, column), TypeError);
         assert.throws(() => xxh64EachU64(column), TypeError);
     }
-    assert.throws(() => xxh64EachU64(new Uint32Array(2)), /must be one of BigUint64Array, BigInt64Array$/);
+    assert.throws(() => xxh64EachU64(new Uint32Array(2)), /must be of type BigUint64Array or BigInt64Array$/);
     for (const view of lost(Uint32Array)) assert.throws(() => xxh64Each(long, view), TypeError);
 });
 

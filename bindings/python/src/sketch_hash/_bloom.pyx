@@ -183,7 +183,7 @@ cdef class BloomFilter:
         if num_bytes == 0:
             raise ValueError(
                 f"no filter of up to 128 MiB has {keys} keys and reports one in {one_in} others: "
-                "allow more, or split the keys over several filters")
+                "allow more, or split the keys over several filters; one_in is at least 1")
         return cls(num_bytes)
 
     @classmethod
