@@ -17,11 +17,8 @@ status OutOfMemory = error 4
 
 -- The index of a wrong offset is written. Any other fault leaves the place as it was.
 abbrev pub index_of : Fault → ℕ → ℕ
-index_of (Length bytes) before = before
-index_of (OtherLength bytes) before = before
 index_of (Offset i) before = i
-index_of (Count values) before = before
-index_of OutOfMemory before = before
+index_of fault before = before
 
 -- A call that changes a filter did so, or no filter has this length.
 abbrev pub Changes : Type 0 → List ℕ → List ℕ → ℤ → Type 0
