@@ -2,4 +2,3 @@ mod BlockLemmas
 mod ColumnLemmas
 mod HeaderLemmas
 mod LawLemmas
-mod SizeLemmas

@@ -10,10 +10,13 @@ use std::simd::prelude::*;
 
 /// Whether a filter can have this many bytes: a positive multiple of 32 below 2^37.
 #[inline(always)]
+#[tactic(auto, using(crate::proofs::BlockLemmas::rotated))]
 pub fn is_length(bytes: usize) -> bool
     ensures { IsTrue result ↔ IsLength bytes }
 {
-    0 < bytes && bytes % 32 == 0 && bytes < 1 << 37
+    // One comparison, since the rotation puts a remainder above all lengths. With three, a call with
+    // a hash took up to 1.2 times as long.
+    bytes.rotate_right(5).wrapping_sub(1) < (1 << 32) - 1
 }
 
 // Returns an error if no filter has this many bytes.

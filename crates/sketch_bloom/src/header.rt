@@ -69,7 +69,7 @@ fn has_prefix(input: &[u8], prefix: &[u8]) -> bool
 }
 
 // The first field of a header, and its number of bytes.
-#[tactic(auto, using(crate::proofs::HeaderLemmas::varints))]
+#[tactic(auto, unfolding(crate::specs::Header::varint))]
 fn number_field(bytes: usize) -> ([u8; 6], usize)
     requires { IsHeaderLength bytes }
     ensures long { length result.0 ≡ 6 }

@@ -85,7 +85,6 @@ fn next_weight(weight: u64, keys: u64, log2_blocks: u32, k: u64) -> u64
 }
 
 // 32^8 times the eighth power of 1 - clear / 2^50, in parts of 2^20.
-#[tactic(auto, using(crate::proofs::SizeLemmas::square_small))]
 fn covered(clear: u64) -> u64
     requires { clear ≤ 2 ^ 50 }
     ensures { result ≤ 2 ^ 60 }

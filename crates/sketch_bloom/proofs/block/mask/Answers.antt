@@ -2,4 +2,4 @@ use Rattle.sketch_bloom.proofs.BlockLemmas.{byte_fits, mask_bits}
 use Rattle.sketch_bloom.proofs.block.mask.Goals as goal
 
 pub returns : goal.returns
-returns c = record { bytes = byte_fits c.args.hash; bits = mask_bits c.args.hash }
+returns c = record { bytes = byte_fits 32 _; bits = mask_bits c.args.hash }
