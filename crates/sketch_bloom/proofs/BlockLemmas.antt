@@ -26,7 +26,8 @@ rotated n fits = rw (shifted n) (or_shifted_r (n % 32) 59 (n / 2 ^ 5) (omega (ar
 
 -- a bit that is set is a bit of a byte
 bit_within : (xs : List ℕ) (i : ℕ) → IsSet xs i → i / 8 < length xs
-bit_within xs i set = grind (arith, cases_lt (i / 8) (length xs), get_or_past xs (i / 8) 0, bit_at-zero (i % 8))
+bit_within xs i set =
+    grind (arith, cases_lt (i / 8) (length xs), get_or_past xs (i / 8) 0, bit_at-zero (i % 8))
 
 pub no_bit_of_zeros : (n i : ℕ) → IsSet (replicate n 0) i → ⊥
 no_bit_of_zeros n i set =
@@ -70,7 +71,8 @@ byte_fits (suc count) n (suc k) = byte_fits count (n / 256) k
 
 word : (hash w : ℕ) → w < 8 → get_or (map (word_of hash) salt) w 0 ≡ 2 ^ mask_bit hash w
 word hash w few =
-    rw (get_or-map (word_of hash) salt w 0 0 few, and_mask hash 32) (one_shl (mask_bit hash w) 32 (omega arith))
+    rw (get_or-map (word_of hash) salt w 0 0 few, and_mask hash 32)
+    (one_shl (mask_bit hash w) 32 (omega arith))
 
 -- the digits of a byte of a number are digits of the number
 digit_of_byte : (n k j : ℕ) → j < 8 → bit_at (n / 256 ^ k % 256) j ≡ bit_at n (8 * k + j)

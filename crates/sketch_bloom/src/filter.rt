@@ -14,8 +14,8 @@ use std::simd::prelude::*;
 pub fn is_length(bytes: usize) -> bool
     ensures { IsTrue result ↔ IsLength bytes }
 {
-    // One comparison, since the rotation puts a remainder above all lengths. With three, a call with
-    // a hash took up to 1.2 times as long.
+    // One comparison, since the rotation puts a remainder above all lengths. With three, a call
+    // with a hash took up to 1.2 times as long.
     bytes.rotate_right(5).wrapping_sub(1) < (1 << 32) - 1
 }
 

@@ -1,5 +1,5 @@
-//! What no clause says: the bytes of other writers, the false positive rate, and memory. And cuts of
-//! a filter's length.
+//! What no clause says: the bytes of other writers, the false positive rate, and memory. And wrong
+//! lengths.
 
 mod header;
 mod size;
