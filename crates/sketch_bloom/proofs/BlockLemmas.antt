@@ -69,11 +69,6 @@ byte_fits zero n k = omega arith
 byte_fits (suc count) n zero = omega arith
 byte_fits (suc count) n (suc k) = byte_fits count (n / 256) k
 
-word : (hash w : ℕ) → w < 8 → get_or (map (word_of hash) salt) w 0 ≡ 2 ^ mask_bit hash w
-word hash w few =
-    rw (get_or-map (word_of hash) salt w 0 0 few, and_mask hash 32)
-    (one_shl (mask_bit hash w) 32 (omega arith))
-
 -- the digits of a byte of a number are digits of the number
 digit_of_byte : (n k j : ℕ) → j < 8 → bit_at (n / 256 ^ k % 256) j ≡ bit_at n (8 * k + j)
 digit_of_byte n k j low =
@@ -94,7 +89,9 @@ mask_digit hash i low =
       byte,
       get_or_narrower (2 ^ 32) 4 256 32 (map (word_of hash) salt) (i / 32) (i / 8 % 4) refl (omega arith)
           (omega arith) (omega arith),
-      word hash (i / 32) (omega arith),
+      get_or-map (word_of hash) salt (i / 32) 0 0 (omega arith),
+      and_mask hash 32,
+      one_shl bit 32 (omega arith),
       digit_of_byte (2 ^ bit) (i / 8 % 4) (i % 8) (omega arith),
       place,
     )
@@ -112,12 +109,6 @@ mask_bits hash i = (
 
 -- ---- what the code of a lookup tests
 
-xor_is_zero : (x y : ℕ) → (bit_xor x y ≡ 0) ↔ (x ≡ y)
-xor_is_zero x y = grind (arith, xor_assoc x y y, xor_self y, xor_zero_l y, xor_zero_r x)
-
-or_is_zero : (x y : ℕ) → (bit_or x y ≡ 0) ↔ ((x ≡ 0) × (y ≡ 0))
-or_is_zero x y = grind (arith, le_or_l x y, le_or_r x y, or_zero_r 0)
-
 -- lists of one length are the same exactly if no byte of their xor has a digit
 fold_is_zero : (xs ys : List ℕ) (n : ℕ) → length xs ≡ length ys →
     (fold_l bit_or n (zip2 bit_xor xs ys) ≡ 0) ↔ ((n ≡ 0) × (xs ≡ ys))
@@ -126,7 +117,7 @@ fold_is_zero [] (y ∷ ys) n count = absurd (omega arith)
 fold_is_zero (x ∷ xs) [] n count = absurd (omega arith)
 fold_is_zero (x ∷ xs) (y ∷ ys) n count =
     let rest = fold_is_zero xs ys (bit_or n (bit_xor x y)) (omega arith) in
-    grind (arith, rest, or_is_zero n (bit_xor x y), xor_is_zero x y)
+    grind (arith, rest, le_or_l, le_or_r, or_zero_r 0, xor_assoc x y y, xor_self, xor_zero_l, xor_zero_r)
 
 -- Writing a block changes nothing exactly if the same block was there.
 put_same : (start n : ℕ) (xs ys : List ℕ) → length ys ≡ n → start + n ≤ length xs →
