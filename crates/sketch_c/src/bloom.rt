@@ -142,10 +142,8 @@ pub extern "C" fn sketch_bloom_contains_each32(
         × FindsKeys bits.now keys.now offsets.now found.old found.new outcome
         × Reports outcome wrong_offset.old wrong_offset.new result }
 {
-    reported(
-        sketch_bloom::contains_each(bits, keys, offsets, found),
-        wrong_offset,
-    )
+    let outcome = sketch_bloom::contains_each(bits, keys, offsets, found);
+    reported(outcome, wrong_offset)
 }
 
 /// Writes to `found[i]` 1 if the filter may contain key i of a column with 64-bit offsets, else 0.
@@ -162,10 +160,8 @@ pub extern "C" fn sketch_bloom_contains_each64(
         × FindsKeys bits.now keys.now offsets.now found.old found.new outcome
         × Reports outcome wrong_offset.old wrong_offset.new result }
 {
-    reported(
-        sketch_bloom::contains_each(bits, keys, offsets, found),
-        wrong_offset,
-    )
+    let outcome = sketch_bloom::contains_each(bits, keys, offsets, found);
+    reported(outcome, wrong_offset)
 }
 
 /// Writes to `found[i]` 1 if the filter may contain number i, as four little-endian bytes, else 0.
@@ -241,11 +237,9 @@ pub extern "C" fn sketch_bloom_header_read(input: &[u8], bytes: &mut u64) -> usi
         × ((filter : ℕ) (after : List ℕ) → IsHeaderLength filter →
         input.now ≡ header filter ++ after → ⊥)) }
 {
-    match sketch_bloom::read_header(input) {
-        Some((filter, count)) => {
-            *bytes = filter as u64;
-            count
-        }
-        None => 0,
-    }
+    let Some((filter, count)) = sketch_bloom::read_header(input) else {
+        return 0;
+    };
+    *bytes = filter as u64;
+    count
 }
