@@ -3,7 +3,7 @@ use Rattle.std.proofs.lemmas.List.{map-id}
 use Rattle.datasketches.specs.PiecesWriteLemmas.{murmur_after-empty, xxh64_after-empty}
 
 -- the place of an offset is the offset itself
-pub ruleset own_places = (map-id)
+pub ruleset for_columns = (map-id)
 
 -- a stream without bytes is the new stream
 pub ruleset for_reset = (murmur_after-empty, xxh64_after-empty)

@@ -130,7 +130,7 @@ pub extern "C" fn sketch_bloom_insert_each_hash(bits: &mut [u8], hashes: &[u64])
 
 /// Writes to `found[i]` 1 if the filter may contain key i of a column with 32-bit offsets, else 0.
 #[unsafe(no_mangle)]
-#[tactic(auto, using(crate::proofs::Rules::own_places))]
+#[tactic(auto, using(crate::proofs::Rules::for_columns))]
 pub extern "C" fn sketch_bloom_contains_each32(
     bits: &[u8],
     keys: &[u8],
@@ -148,7 +148,7 @@ pub extern "C" fn sketch_bloom_contains_each32(
 
 /// Writes to `found[i]` 1 if the filter may contain key i of a column with 64-bit offsets, else 0.
 #[unsafe(no_mangle)]
-#[tactic(auto, using(crate::proofs::Rules::own_places))]
+#[tactic(auto, using(crate::proofs::Rules::for_columns))]
 pub extern "C" fn sketch_bloom_contains_each64(
     bits: &[u8],
     keys: &[u8],

@@ -11,7 +11,7 @@ use sketch_bloom::Fault;
 
 /// XXH64 of the keys of a column with 32-bit offsets, one for each place of `out`.
 #[unsafe(no_mangle)]
-#[tactic(auto, using(crate::proofs::Rules::own_places))]
+#[tactic(auto, using(crate::proofs::Rules::for_columns))]
 pub extern "C" fn sketch_xxh64_each32(
     input: &[u8],
     offsets: &[u32],
@@ -29,7 +29,7 @@ pub extern "C" fn sketch_xxh64_each32(
 
 /// XXH64 of the keys of a column with 64-bit offsets, one for each place of `out`.
 #[unsafe(no_mangle)]
-#[tactic(auto, using(crate::proofs::Rules::own_places))]
+#[tactic(auto, using(crate::proofs::Rules::for_columns))]
 pub extern "C" fn sketch_xxh64_each64(
     input: &[u8],
     offsets: &[u64],
@@ -57,7 +57,7 @@ pub extern "C" fn sketch_xxh64_each_u64(values: &[u64], seed: u64, out: &mut [u6
 
 /// MurmurHash3 x64 128 of the keys of a column with 32-bit offsets, one for each place of `out`.
 #[unsafe(no_mangle)]
-#[tactic(auto, using(crate::proofs::Rules::own_places))]
+#[tactic(auto, using(crate::proofs::Rules::for_columns))]
 pub extern "C" fn sketch_murmur3_x64_128_each32(
     input: &[u8],
     offsets: &[u32],
@@ -75,7 +75,7 @@ pub extern "C" fn sketch_murmur3_x64_128_each32(
 
 /// MurmurHash3 x64 128 of the keys of a column with 64-bit offsets, one for each place of `out`.
 #[unsafe(no_mangle)]
-#[tactic(auto, using(crate::proofs::Rules::own_places))]
+#[tactic(auto, using(crate::proofs::Rules::for_columns))]
 pub extern "C" fn sketch_murmur3_x64_128_each64(
     input: &[u8],
     offsets: &[u64],
