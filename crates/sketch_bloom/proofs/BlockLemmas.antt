@@ -46,7 +46,7 @@ same_from_bits xs ys count x_bytes y_bytes same = ext_get_or 0 xs ys count (λ k
     grind (arith, rw (byte, digit) at (same (k * 8 + j)))))
 
 -- Joining each byte by or with another sets the bits of the others.
-pub sets_by_or : (Bits : ℕ → Type 0) (other : ℕ → ℕ) (before after : List ℕ) →
+sets_by_or : (Bits : ℕ → Type 0) (other : ℕ → ℕ) (before after : List ℕ) →
     ((i : ℕ) → (bit_at (other (i / 8)) (i % 8) ≡ 1) ↔ Bits i) → length after ≡ length before →
     ((k : ℕ) → get_or after k 0 ≡ bit_or (get_or before k 0) (other k)) → Sets Bits before after
 sets_by_or Bits other before after is size each = record {
@@ -54,6 +54,9 @@ sets_by_or Bits other before after is size each = record {
   bits = λ i.
       rw (each (i / 8)) (grind (arith, bit_at_or (get_or before (i / 8) 0) (other (i / 8)) (i % 8), is i));
 }
+
+-- a bit of a byte that is joined with another, or is past the end
+pub ruleset merged_bits = (bit_at_or, bit_at-zero, get_or_past)
 
 -- ---- the mask of a hash
 
