@@ -46,6 +46,7 @@ pub fn merge_worker(filter: &mut BloomFilter, worker: &BloomFilter) -> Result<()
 
 /// Writes the header and the filter, as in a Parquet file, and returns their number of bytes.
 /// Returns `None` if `out` is too short, or the filter has 2^31 bytes or more.
+#[tactic(auto, using(std::proofs::lemmas::Slice::overwrites))]
 pub fn save(filter: &BloomFilter, out: &mut [u8]) -> Option<usize>
     ensures { IfSome result (λ count.
         take count out.new ≡ header (length filter.now) ++ filter.now) }
