@@ -1,15 +1,6 @@
-use Rattle.std.proofs.Common.{◌≡◌, ◌++◌, ◌+◌, length, take, ap, ◌∙◌, rules, arith, length-append}
+use Rattle.std.proofs.Common.{◌≡◌, ◌++◌, ◌+◌, length, take, ap, ◌∙◌, arith, length-append}
 use Rattle.std.proofs.KnownBytes.{Consumes-trans}
 use Rattle.sketchsum.proofs.run.read_into.Goals as goal
-
-pub returns-then-count-eq0-clause-pieces : goal.returns-then-count-eq0-clause-pieces
-returns-then-count-eq0-clause-pieces g c = search rules
-
-pub returns-then-count-eq0-clause-whole : goal.returns-then-count-eq0-clause-whole
-returns-then-count-eq0-clause-whole g c = search rules
-
-pub returns-in_default-clause-no_write : goal.returns-in_default-clause-no_write
-returns-in_default-clause-no_write g c = search rules
 
 pub loop-turn-preserved : goal.loop-turn-preserved
 loop-turn-preserved g c =
@@ -26,6 +17,3 @@ loop-turn-preserved g c =
         rw longer (omega (arith, before.2.2, given.bound)),
       ),
     )
-
-pub returns-clause-no_write : goal.returns-clause-no_write
-returns-clause-no_write g c = search rules
