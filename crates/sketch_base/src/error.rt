@@ -263,6 +263,7 @@ impl fmt::Display for Error {
 }
 
 // Writes the contexts as in the displayed line.
+#[tactic(auto, using(crate::proofs::ErrorLemmas::for_contexts))]
 fn write_contexts<W: fmt::Write>(
     contexts: &[(&'static str, String)],
     f: &mut fmt::Formatter<W>,
@@ -308,6 +309,7 @@ impl fmt::Debug for Error {
 }
 
 // Writes the contexts as in the debug text.
+#[tactic(auto, using(crate::proofs::ErrorLemmas::for_contexts))]
 fn write_context_lines<W: fmt::Write>(
     contexts: &[(&'static str, String)],
     f: &mut fmt::Formatter<W>,
