@@ -1,6 +1,6 @@
 -- What an XXH64 hasher returns: its lanes stripe by stripe, its tail step by step, and the definition of the
 -- bytes that were written to it.
-use Rattle.std.proofs.Common.{◌≡◌, ℕ, zero, suc, ◌+◌, ◌*◌, ◌^◌, ◌%◌, ◌<◌, List, [], ◌∷◌, ◌++◌, length, take, get_or, replicate, w64, refl, sym, ap, ◌∙◌, arith, lit<, ◌-◌, ◌≤◌, drop, nat_lt, if◌then◌else◌, map, length-drop, zero-add}
+use Rattle.std.proofs.Common.{◌≡◌, ℕ, zero, suc, ◌+◌, ◌*◌, ◌^◌, ◌%◌, ◌<◌, List, [], ◌∷◌, ◌++◌, length, take, get_or, replicate, w64, refl, sym, ap, ◌∙◌, arith, lit<, ◌≤◌, drop, nat_lt, if◌then◌else◌, map, length-drop, zero-add}
 use Rattle.std.proofs.lemmas.Nat.{mod_below}
 use Rattle.sketch_hash.proofs.WordLemmas.{rotate-is}
 use borrow.Rule.Simd.Lanes.{act2}
