@@ -56,7 +56,7 @@ sets_by_or Bits other before after is size each = record {
 }
 
 -- a bit of a byte that is joined with another, or is past the end
-pub ruleset merged_bits = (bit_at_or, bit_at-zero, get_or_past)
+pub ruleset for_merge = (bit_at_or, bit_at-zero, get_or_past)
 
 -- ---- the mask of a hash
 

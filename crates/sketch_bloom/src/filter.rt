@@ -125,7 +125,7 @@ pub(crate) fn is_in(filter: &[u8], hash: u64) -> bool
 ///
 /// Returns [`Fault::Length`] if the length of `into` is not a positive multiple of 32 below 2^37.
 /// Otherwise returns [`Fault::OtherLength`] if `from` has another length. `into` is then unchanged.
-#[tactic(auto, using(crate::proofs::BlockLemmas::merged_bits))]
+#[tactic(auto, using(crate::proofs::BlockLemmas::for_merge))]
 pub fn merge(into: &mut [u8], from: &[u8]) -> Result<(), Fault>
     ensures { MatchResult result
         (λ _. IsLength (length into.old) × Merges from.now into.old into.new)
