@@ -60,7 +60,7 @@ pub ruleset for_merge = (bit_at_or, bit_at-zero, get_or_past)
 
 -- ---- the mask of a hash
 
--- the words of the mask, as the code computes them, and their bytes
+-- a word of the mask, as the code computes it, and the bytes of all
 abbrev word_of : ℕ → ℕ → ℕ
 word_of hash s = 1 * 2 ^ (bit_and hash 4294967295 * s % 4294967296 / 134217728) % 4294967296
 

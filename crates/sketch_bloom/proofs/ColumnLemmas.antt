@@ -48,11 +48,11 @@ key_hash keys offsets n k below =
     get_or-map-range_with_len (λ i. hash_of (key_at keys offsets i)) 0 n k k 0 below (omega arith)
 
 -- The first answers are written, and then those for a run of hashes after them.
-pub answers_run : (IsAnswer : ℕ → ℕ → Type 0) (hash : ℕ → ℕ) (hashes before after : List ℕ) (start : ℕ) →
+pub answers_run : (Answers : ℕ → ℕ → Type 0) (hash : ℕ → ℕ) (hashes before after : List ℕ) (start : ℕ) →
     ((i d : ℕ) → i < length hashes → get_or hashes i d ≡ hash (start + i)) →
-    ((k : ℕ) → k < start → IsAnswer (hash k) (get_or before k 0)) →
-    ((k : ℕ) → k < length hashes → IsAnswer (get_or hashes k 0) (get_or after (start + k) 0)) →
+    ((k : ℕ) → k < start → Answers (hash k) (get_or before k 0)) →
+    ((k : ℕ) → k < length hashes → Answers (get_or hashes k 0) (get_or after (start + k) 0)) →
     ((k : ℕ) → k < start → get_or after k 0 ≡ get_or before k 0) →
-    (k : ℕ) → k < start + length hashes → IsAnswer (hash k) (get_or after k 0)
-answers_run IsAnswer hash hashes before after start are first second same k below =
+    (k : ℕ) → k < start + length hashes → Answers (hash k) (get_or after k 0)
+answers_run Answers hash hashes before after start are first second same k below =
     grind (arith, cases_lt k start, first k, same k, second (k - start), are (k - start) 0)

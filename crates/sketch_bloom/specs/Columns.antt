@@ -1,7 +1,7 @@
 -- Columns of values that are inserted or looked up in one call.
 use Rattle.std.specs.Prelude.{◌≡◌, ◌⊎◌, ℕ, ◌-◌, ◌<◌, ◌≤◌, List, length, map, slice_index, Result, MatchResult}
 use Rattle.std.specs.List.{range_with_len}
-use Rattle.datasketches.specs.Columns.{IsFirstWrongOffset, key_at}
+use Rattle.datasketches.specs.Columns.{AreBounds, IsFirstWrongOffset, key_at}
 use Rattle.sketch_bloom.specs.declared.fault.Fault.{Fault}
 use Rattle.sketch_bloom.specs.declared.fault.Fault.TheVariants.{Offset, Count}
 use Rattle.sketch_bloom.specs.Filter.{InsertsAll, IsLength, IsLengthFault, IsMember, hash_of}
@@ -25,12 +25,13 @@ abbrev pub IsKeysFault : ℕ → List ℕ → List ℕ → ℕ → Fault → Typ
 IsKeysFault bytes keys offsets n fault = IsLengthFault bytes fault
     ⊎ (IsLength bytes × (i : ℕ) × IsFirstWrongOffset keys offsets n i × (fault ≡ Offset i))
 
--- The outcome of inserting the keys of a column, one less than offsets: all are inserted, or the
--- filter is unchanged.
+-- The outcome of inserting the keys of a column, of which there is one less than offsets: all are
+-- inserted, or the filter is unchanged.
 abbrev pub InsertsKeys : List ℕ → List ℕ → List ℕ → List ℕ → Result Unit Fault → Type 0
 InsertsKeys keys offsets before after result =
     let n = length offsets - 1 in MatchResult result
-    (λ _. IsLength (length before) × InsertsAll (key_hashes keys offsets n) before after)
+    (λ _. IsLength (length before) × AreBounds keys offsets n
+    × InsertsAll (key_hashes keys offsets n) before after)
     (λ fault. (after ≡ before) × IsKeysFault (length before) keys offsets n fault)
 
 -- The outcome of inserting the values with these hashes.
@@ -39,14 +40,15 @@ InsertsEach hashes before after result = MatchResult result
     (λ _. IsLength (length before) × InsertsAll hashes before after)
     (λ fault. (after ≡ before) × IsLengthFault (length before) fault)
 
--- The outcome of looking up keys of a column: each place has an answer, or none is changed.
+-- The outcome of looking up keys of a column: each place has its answer, or none is changed.
 abbrev pub FindsKeys : List ℕ → List ℕ → List ℕ → List ℕ → List ℕ → Result Unit Fault → Type 0
 FindsKeys filter keys offsets before after result =
     let n = length before in MatchResult result
-    (λ _. IsLength (length filter) × AreAnswers filter (key_hashes keys offsets n) n after)
+    (λ _. IsLength (length filter) × AreBounds keys offsets n
+    × AreAnswers filter (key_hashes keys offsets n) n after)
     (λ fault. (after ≡ before) × IsKeysFault (length filter) keys offsets n fault)
 
--- The outcome of looking up values with these hashes. There may be fewer than places.
+-- The outcome of looking up values with these hashes. It is a fault if there are fewer than places.
 abbrev pub FindsEach : List ℕ → List ℕ → List ℕ → List ℕ → Result Unit Fault → Type 0
 FindsEach filter hashes before after result =
     let n = length before in MatchResult result

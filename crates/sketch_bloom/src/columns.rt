@@ -146,7 +146,8 @@ pub fn contains_each_hash(filter: &[u8], hashes: &[u64], found: &mut [u8]) -> Re
     Ok(())
 }
 
-// Inserts the values with these hashes. It is not inlined, so all columns share one copy.
+// Inserts the values with these hashes. It is not inlined, so columns of keys and of hashes share
+// one copy.
 #[inline(never)]
 fn insert_hashes(filter: &mut [u8], hashes: &[u64])
     requires { IsLength (length filter.old) }
@@ -158,7 +159,7 @@ fn insert_hashes(filter: &mut [u8], hashes: &[u64])
 }
 
 // Writes to `found[start..]` whether the filter contains the values with these hashes. It is not
-// inlined, so all columns share one copy.
+// inlined, so columns of keys and of hashes share one copy.
 #[inline(never)]
 fn find_hashes(filter: &[u8], hashes: &[u64], found: &mut [u8], start: usize)
     requires size { IsLength (length filter.now) }

@@ -111,7 +111,7 @@ fn length_in(input: &[u8]) -> usize
     (twice / 2) as usize
 }
 
-// The variable-length number of the first byte, that `digit` writes, and the number in the bytes
+// A variable-length number, from its first byte, as `digit` gives it, and the number in the bytes
 // after it.
 fn number(byte: u8, after: u64) -> u64
     requires { after < 2 ^ 56 }

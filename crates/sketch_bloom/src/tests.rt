@@ -1,14 +1,12 @@
-//! What no clause says: the bytes of other writers, the false positive rate, and memory. And wrong
-//! lengths.
+//! The bytes of other writers, headers, the false positive rate, memory, errors.
 
 mod header;
 mod size;
 mod writers;
 
-use crate::{
-    BloomFilter, Fault, contains_each_hash, contains_hash, insert_each_hash, insert_hash, merge,
-};
+use crate::{BloomFilter, Fault, contains_hash, insert_hash, merge};
 use std::process::Abort;
+use std::test::Fail;
 
 #[test]
 fn bytes_of_another_length_are_no_filter(rt: HostRuntime) {
@@ -16,9 +14,7 @@ fn bytes_of_another_length_are_no_filter(rt: HostRuntime) {
     for length in [0, 1, 31, 33, 63, 65] {
         let (filter, fault) = (&mut bytes[..length], Err(Fault::Length(length)));
         assert_eq!(rt; insert_hash(filter, 1), fault);
-        assert_eq!(rt; insert_each_hash(filter, &[1]), fault);
         assert_eq!(rt; merge(filter, &[255; 32]), fault);
-        assert_eq!(rt; contains_each_hash(filter, &[1], &mut []), fault);
         assert_eq!(rt; contains_hash(filter, 1), Err(Fault::Length(length)));
     }
     assert_eq!(rt; bytes, [7; 65]);
@@ -30,4 +26,22 @@ fn a_filter_makes_1_request(rt: HostRuntime) {
         Ok(filter) => assert_eq!(rt; filter.as_bytes(), [0; 32].as_slice()),
         Err(fault) => assert_eq!(rt; fault, Fault::OutOfMemory),
     }
+}
+
+#[test]
+fn prints_what_is_wrong(rt: HostRuntime) -> Result<(), Fail> {
+    let length = "invalid filter length: expected a positive multiple of 32 below 2^37, got 33";
+    for (fault, text) in [
+        (Fault::Length(33), length),
+        (
+            Fault::OtherLength(64),
+            "filters of two lengths: the other has 64 bytes",
+        ),
+        (Fault::Offset(2), "invalid offset at index 2"),
+        (Fault::Count(1), "more places than values: 1 values"),
+        (Fault::OutOfMemory, "out of memory"),
+    ] {
+        assert_eq!(rt; fault.to_string(rt.alloc())?.as_str(), text);
+    }
+    Ok(())
 }

@@ -1,5 +1,5 @@
 -- How calls for C report errors: 0 if all is done, or a negative number for each error.
-use Rattle.std.specs.Prelude.{◌≡◌, ◌⊎◌, ◌≤◌, ℕ, ℤ, pos, ◌-ℤ◌, List, length, Result, MatchResult}
+use Rattle.std.specs.Prelude.{◌≡◌, ◌⊎◌, ℕ, ℤ, pos, ◌-ℤ◌, List, length, Result, MatchResult}
 use Rattle.sketch_bloom.specs.declared.fault.Fault.{Fault}
 use Rattle.sketch_bloom.specs.Filter.{IsLength, IsMember}
 use Rattle.sketch_bloom.specs.declared.fault.Fault.TheVariants.{Length, OtherLength, Offset, Count, OutOfMemory}
@@ -37,13 +37,14 @@ MayContain bits hash result =
 abbrev pub IsNumber : Result Unit Fault → ℤ → Type 0
 IsNumber outcome result = MatchResult outcome (λ _. result ≡ pos 0) (λ fault. result ≡ status fault)
 
--- It also writes the index of a wrong offset.
+-- A call on keys in a buffer returns the number of its outcome, and writes the index of a wrong
+-- offset.
 abbrev pub Reports : Result Unit Fault → ℕ → ℕ → ℤ → Type 0
 Reports outcome before after result = MatchResult outcome
     (λ _. (result ≡ pos 0) × (after ≡ before))
     (λ fault. (result ≡ status fault) × (after ≡ index_of fault before))
 
--- The outcome of hashing a column of keys: all is done, or the index of a wrong offset is written.
+-- A call that hashes keys in a buffer reports its outcome: 0, or the index of a wrong offset.
 abbrev pub ReportsOffset : Result Unit ℕ → ℕ → ℕ → ℤ → Type 0
 ReportsOffset outcome before after result = MatchResult outcome
     (λ _. (result ≡ pos 0) × (after ≡ before)) (λ i. (result ≡ error 2) × (after ≡ i))

@@ -4,7 +4,7 @@ ghost use Rattle.std.specs.Prelude.{◌≡◌, ◌⊎◌, ◌++◌, ◌<◌, ◌
 ghost use Rattle.datasketches.specs.Bytes.{low_bytes};
 ghost use Rattle.sketch_bloom.specs.declared.fault.Fault.{Fault};
 ghost use Rattle.sketch_bloom.specs.Columns.{FindsEach, FindsKeys, InsertsKeys};
-ghost use Rattle.sketch_bloom.specs.Filter.{Inserts, InsertsAll, IsLength, IsMember, IsMergeFault, Merges, hash_of};
+ghost use Rattle.sketch_bloom.specs.Filter.{Inserts, InsertsAll, IsLength, IsMergeFault, Merges, hash_of};
 ghost use Rattle.sketch_bloom.specs.Header.{IsHeaderLength, header};
 ghost use Rattle.sketch_c.specs.{Changes, IsNumber, MayContain, Reports, error};
 

@@ -22,6 +22,7 @@ fn writes_and_reads_the_header_of_each_length(rt: HostRuntime) {
             .and_then(|rest| rest.strip_prefix(fields));
         assert!(rt; rest == [9; 24].get(count..));
     }
+    assert_eq!(rt; write_header(1 << 31, &mut [9; 24]), None);
 }
 
 #[test]
