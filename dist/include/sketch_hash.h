@@ -15,7 +15,7 @@
  * What a caller must ensure, which no compiler checks:
  *   - A pointer with a length or a count points to that much memory, which is aligned for its type
  *     and may be NULL only if the count is 0. A length is below 2^63, a count below 2^60.
- *   - Any other pointer is valid and not NULL, also wrong_offset.
+ *   - Any other pointer, wrong_offset too, is valid and not NULL.
  *   - What a call writes does not overlap anything else that it is given, and nobody else reads or
  *     writes it during the call. Nobody else writes what a call reads.
  *   - A state starts with its _INIT or its _reset.
@@ -251,8 +251,8 @@ int sketch_bloom_merge(void *into, size_t length, const void *from, size_t from_
 /** How many bytes sketch_bloom_header_write writes at most. */
 #define SKETCH_BLOOM_HEADER_MAX 19
 
-/** Writes the header that is before a filter of so many bytes in a Parquet file to the `room` bytes
- * at `header`, and returns its length: 15 to 19. Returns 0, and writes nothing, if `room` is too
+/** Writes to `header`, which has `room` bytes, the header that is before a filter of `bytes` bytes in
+ * a Parquet file, and returns its length: 15 to 19. Returns 0, and writes nothing, if `room` is too
  * small, or `bytes` is 2^31 or more or no filter's length. The file's bloom_filter_length is that
  * of the header and the filter. */
 size_t sketch_bloom_header_write(uint64_t bytes, unsigned char *header, size_t room);

@@ -70,7 +70,7 @@ export interface BloomFilter {
     addEachHash(hashes: BigUint64Array): this;
     /** 1 or 0 for each hash: what `hasHash` returns. */
     hasEachHash(hashes: BigUint64Array): Uint8Array;
-    /** Adds the keys of another filter. @throws {RangeError} if the lengths are different */
+    /** Adds the keys of another filter of this module. @throws {RangeError} if the lengths are different */
     merge(other: BloomFilter): this;
     /** A copy of the bytes, without a header. */
     toBytes(): Uint8Array;

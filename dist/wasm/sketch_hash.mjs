@@ -197,7 +197,7 @@ function libraryOf(calls) {
 
     function checkedColumn(column, types, name) {
         if (ArrayBuffer.isView(column) && types.includes(typeOf(column))) return column;
-        throw new TypeError(`${name} must be of type ${types.join(' or ')}`);
+        throw new TypeError(`${name} must be of type ${types.join(', ')}`);
     }
 
     /** Throws the error that a status of the library stands for. */

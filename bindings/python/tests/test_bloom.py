@@ -69,7 +69,7 @@ def test_an_error_rate_is_one_in_its_reciprocal(one_in):
     (1000, {}, TypeError, "takes one of error_rate, as 0.01, and one_in, as 100"),
     (1000, {"error_rate": 0.01, "one_in": 100}, TypeError, "takes one of error_rate"),
     (1000, {"error_rate": 1e-300}, ValueError, "no filter of up to 128 MiB"),
-    (1000, {"one_in": 0}, ValueError, "no filter of up to 128 MiB"),
+    (1000, {"one_in": 0}, ValueError, "one_in is at least 1"),
     (-1, {"one_in": 100}, OverflowError, "keys is from 0 to"),
     (1000, {"one_in": 2**64}, OverflowError, "one_in is from 0 to"),
     (1000.0, {"one_in": 100}, TypeError, "integer"),

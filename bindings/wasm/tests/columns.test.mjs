@@ -74,7 +74,7 @@ test('a column of another type is a type error', () => {
         assert.throws(() => xxh64Each(long, column), TypeError);
         assert.throws(() => xxh64EachU64(column), TypeError);
     }
-    assert.throws(() => xxh64EachU64(new Uint32Array(2)), /must be of type BigUint64Array or BigInt64Array$/);
+    assert.throws(() => xxh64EachU64(new Uint32Array(2)), /must be of type BigUint64Array, BigInt64Array$/);
     for (const view of lost(Uint32Array)) assert.throws(() => xxh64Each(long, view), TypeError);
 });
 
@@ -178,7 +178,7 @@ test('a merged filter has the keys of both', () => {
 test('filters of different lengths are not merged', () => {
     const filter = filled();
     assert.throws(() => filter.merge(new BloomFilter(2048)), RangeError);
-    assert.throws(() => filter.merge({}), TypeError);
+    for (const other of [{}, undefined]) assert.throws(() => filter.merge(other), /only a Bloom filter/);
     assert.deepEqual(filter.toBytes(), filled().toBytes());
 });
 

@@ -25,8 +25,7 @@ abbrev pub IsKeysFault : ℕ → List ℕ → List ℕ → ℕ → Fault → Typ
 IsKeysFault bytes keys offsets n fault = IsLengthFault bytes fault
     ⊎ (IsLength bytes × (i : ℕ) × IsFirstWrongOffset keys offsets n i × (fault ≡ Offset i))
 
--- The outcome of inserting the keys of a column, of which there is one less than offsets: all are
--- inserted, or the filter is unchanged.
+-- The outcome of inserting the keys of a column: all are inserted, or the filter is unchanged.
 abbrev pub InsertsKeys : List ℕ → List ℕ → List ℕ → List ℕ → Result Unit Fault → Type 0
 InsertsKeys keys offsets before after result =
     let n = length offsets - 1 in MatchResult result
@@ -53,6 +52,5 @@ abbrev pub FindsEach : List ℕ → List ℕ → List ℕ → List ℕ → Resul
 FindsEach filter hashes before after result =
     let n = length before in MatchResult result
     (λ _. IsLength (length filter) × (n ≤ length hashes) × AreAnswers filter hashes n after)
-    (λ fault. (after ≡ before)
-    × (IsLengthFault (length filter) fault
+    (λ fault. (after ≡ before) × (IsLengthFault (length filter) fault
     ⊎ (IsLength (length filter) × (length hashes < n) × (fault ≡ Count (length hashes)))))
