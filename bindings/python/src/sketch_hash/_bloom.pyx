@@ -183,9 +183,8 @@ cdef class BloomFilter:
             raise ValueError("one_in is at least 1")
         cdef size_t num_bytes = sketch_bloom_bytes_for(word_of(keys, "keys"), word_of(one_in, "one_in"))
         if num_bytes == 0:
-            raise ValueError(
-                f"no filter of up to 128 MiB has {keys} keys and reports one in {one_in} others: "
-                "allow more, or split the keys over several filters")
+            raise ValueError(f"no filter of up to 128 MiB has {keys} keys and reports one in {one_in} others: "
+                             "allow more, or split the keys over several filters")
         return cls(num_bytes)
 
     @classmethod
