@@ -11,7 +11,6 @@ fn writes_and_reads_the_header_of_each_length(rt: HostRuntime) {
         (1024, b"\x15\x80\x10"),
         (1 << 19, b"\x15\x80\x80\x40"),
         (1 << 20, b"\x15\x80\x80\x80\x01"),
-        (1 << 27, b"\x15\x80\x80\x80\x80\x01"),
         ((1 << 31) - 32, b"\x15\xc0\xff\xff\xff\x0f"),
     ] {
         let mut out = [9; 24];

@@ -7,10 +7,10 @@ use std::num::{f32_to_bits_with_nan, f64_to_bits_with_nan};
 use std::process::Abort;
 use std::test::Fail;
 
-// The texts a0 to a9, by parquet-mr.
-const ONE_BLOCK: [u8; 32] = [
-    200, 1, 80, 20, 64, 68, 8, 109, 6, 37, 4, 67, 144, 80, 96, 32, 8, 132, 43, 33, 0, 5, 99, 65, 2,
-    0, 224, 44, 64, 78, 96, 4,
+// The bits that are set in 1024 bytes, after hello, parquet, bloom and filter, by parquet-mr.
+const OF_PARQUET_MR: [usize; 32] = [
+    1044, 1065, 1098, 1127, 1161, 1215, 1244, 1275, 1303, 1340, 1344, 1404, 1413, 1461, 1502, 1523,
+    1794, 1846, 1878, 1907, 1946, 1965, 1988, 2017, 2581, 2603, 2632, 2685, 2711, 2747, 2760, 2796,
 ];
 
 // The empty text and t0 to t89, by Arrow.
@@ -32,11 +32,14 @@ const OF_DUCKDB: [u8; 32] = [
 
 #[test]
 fn writes_texts_as_other_writers_do(rt: HostRuntime) -> Result<(), Fail> {
-    let (mut block, mut arrow, mut duckdb) = ([0; 32], [0; 128], [0; 32]);
-    for n in 0..10 {
-        let text = raw_bytes::from_string(format!(in rt.alloc(); "a{n}")?);
-        assert!(rt; insert(&mut block, &text).is_ok());
+    let (mut filter, mut expected) = ([0; 1024], [0; 1024]);
+    for text in ["hello", "parquet", "bloom", "filter"] {
+        assert!(rt; insert(&mut filter, &raw_bytes::from_str(text)).is_ok());
     }
+    for i in OF_PARQUET_MR {
+        expected[i / 8 % 1024] |= 1 << (i % 8);
+    }
+    let (mut arrow, mut duckdb) = ([0; 128], [0; 32]);
     assert!(rt; insert(&mut arrow, &raw_bytes::from_str("")).is_ok());
     for n in 0..90 {
         let text = raw_bytes::from_string(format!(in rt.alloc(); "t{n}")?);
@@ -46,23 +49,21 @@ fn writes_texts_as_other_writers_do(rt: HostRuntime) -> Result<(), Fail> {
         let text = raw_bytes::from_string(format!(in rt.alloc(); "k{n}")?);
         assert!(rt; insert(&mut duckdb, &text).is_ok());
     }
-    assert!(rt; block == ONE_BLOCK && arrow == OF_ARROW && duckdb == OF_DUCKDB);
+    assert!(rt; filter == expected && arrow == OF_ARROW && duckdb == OF_DUCKDB);
     Ok(())
 }
 
 #[test]
 fn hashes_each_kind_of_value_as_arrow_does(rt: HostRuntime) {
-    let fixed = [0, 1, 2, 3, 4, 5, 6, 7, 8, 9, 10, 11, 12, 13, 14, 15];
+    let bytes = [0, 1, 2, 3, 4, 5, 6, 7, 8, 9, 10, 11, 12, 13, 14, 15];
+    let fixed = raw_bytes::from_slice(&bytes);
     for (hash, expected) in [
         ((-1i32).xxh64(0), 0x7f78_e4bd_a3ad_df93),
         (42i64.xxh64(0), 0xb556_806f_b6d1_4353),
         (f32_to_bits_with_nan(1.5).xxh64(0), 0x4f2d_8259_5c48_3a0d),
         (f64_to_bits_with_nan(-1.5).xxh64(0), 0xff8a_177d_a21d_c0ae),
         (raw_bytes::from_str("hello").xxh64(0), 0x26c7_827d_889f_6da3),
-        (
-            raw_bytes::from_slice(&fixed).xxh64(0),
-            0x44b6_ef2f_b841_69f7,
-        ),
+        (fixed.xxh64(0), 0x44b6_ef2f_b841_69f7),
     ] {
         assert_eq!(rt; hash, expected);
     }
