@@ -47,7 +47,8 @@ enum sketch_status {
     /** All is done. */
     SKETCH_OK = 0,
     /** No Bloom filter has this length, which must be a positive multiple of 32 below 2^37. Or two
-     * filters to be merged have different lengths. */
+     * filters to be merged have different lengths. Or a filter to be folded has an odd number of
+     * blocks of 32 bytes. */
     SKETCH_ERROR_LENGTH = -1,
     /** An offset is missing, past the end, or below the one before it. */
     SKETCH_ERROR_OFFSET = -2,
@@ -247,6 +248,12 @@ int sketch_bloom_contains_each_hash(const void *bits, size_t length, const uint6
 /** Merges the filter at `from` into the one at `into`, which then contains the keys of both.
  * Returns 0, or SKETCH_ERROR_LENGTH, also if the lengths are different. */
 int sketch_bloom_merge(void *into, size_t length, const void *from, size_t from_length);
+
+/** Folds a filter into its first half, which is then the filter of `length` / 2 bytes of the same
+ * keys. So a filter can be created for all keys, and made smaller once it is known how many are
+ * different. The second half is unchanged. Returns 0, or SKETCH_ERROR_LENGTH, also if `length` is
+ * not a multiple of 64. */
+int sketch_bloom_fold(void *bits, size_t length);
 
 /** How many bytes sketch_bloom_header_write writes at most. */
 #define SKETCH_BLOOM_HEADER_MAX 19

@@ -7,7 +7,7 @@ ghost use Rattle.sketch_bloom.specs.Laws.{StandsFor};
 
 use datasketches::hash::Hash;
 use datasketches::hash::value::raw_bytes;
-use sketch_bloom::laws::{insert_law, merge_law};
+use sketch_bloom::laws::{fold_law, insert_law, merge_law};
 use sketch_bloom::{
     BloomFilter, Fault, bytes_for, contains, insert, insert_each_value, read_header, write_header,
 };
@@ -42,6 +42,20 @@ pub fn merge_worker(filter: &mut BloomFilter, worker: &BloomFilter) -> Result<()
 {
     merge_law();
     filter.merge(worker)
+}
+
+/// Folds a filter into one of half its length, which contains the same values.
+///
+/// # Errors
+///
+/// Returns [`Fault::OddBlocks`] if the length is not a multiple of 64 bytes. The filter is then
+/// unchanged.
+pub fn shrink(filter: &mut BloomFilter) -> Result<(), Fault>
+    ensures { (hashes : List ℕ) → StandsFor filter.old hashes →
+        IfOk result (λ _. StandsFor filter.new hashes) }
+{
+    fold_law();
+    filter.fold()
 }
 
 /// Writes the header and the filter, as in a Parquet file, and returns their number of bytes.

@@ -55,7 +55,7 @@ stands-none bytes i = (
 )
 
 -- Filters of one length that stand for the same values are the same bytes.
-same : (filter other hashes others : List ℕ) → AreBytes filter → AreBytes other →
+pub same : (filter other hashes others : List ℕ) → AreBytes filter → AreBytes other →
     length filter ≡ length other → StandsFor filter hashes → StandsFor other others →
     ((hash : ℕ) → Contains hashes hash ↔ Contains others hash) → filter ≡ other
 unfolding StandsFor

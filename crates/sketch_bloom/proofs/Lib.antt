@@ -2,3 +2,4 @@ mod BlockLemmas
 mod ColumnLemmas
 mod HeaderLemmas
 mod LawLemmas
+mod FoldLemmas

@@ -5,7 +5,7 @@ use Rattle.std.specs.Fmt.{decimal}
 use Rattle.datasketches.specs.Words.{digit}
 use Rattle.datasketches.specs.Xxh64.{xxh64}
 use Rattle.sketch_bloom.specs.declared.fault.Fault.{Fault}
-use Rattle.sketch_bloom.specs.declared.fault.Fault.TheVariants.{Length, OtherLength, Offset, Count, OutOfMemory}
+use Rattle.sketch_bloom.specs.declared.fault.Fault.TheVariants.{Length, OtherLength, OddBlocks, Offset, Count, OutOfMemory}
 
 -- ---- blocks
 
@@ -75,6 +75,19 @@ IsMember filter hash = (i : ℕ) → IsBitOf (length filter / 32) hash i → IsS
 abbrev pub Merges : List ℕ → List ℕ → List ℕ → Type 0
 Merges other before after = (length other ≡ length before) × Sets (IsSet other) before after
 
+-- ---- fold
+
+-- A filter of an even number of blocks can be folded.
+abbrev pub IsFoldable : ℕ → Type 0
+IsFoldable bytes = IsLength bytes × (bytes % 64 ≡ 0)
+
+-- A filter is folded into half as many blocks: block k is the union of blocks 2 * k and 2 * k + 1.
+-- A block has 256 bits.
+pub record Folds (before after : List ℕ) : Type 0 where
+  pub size : length before ≡ 2 * length after
+  pub bits : (k b : ℕ) → b < 256 →
+      IsSet after (256 * k + b) ↔ (IsSet before (512 * k + b) ⊎ IsSet before (512 * k + 256 + b))
+
 -- ---- errors
 
 -- No filter has this many bytes.
@@ -85,6 +98,11 @@ IsLengthFault bytes fault = (IsLength bytes → ⊥) × (fault ≡ Length bytes)
 abbrev pub IsMergeFault : ℕ → ℕ → Fault → Type 0
 IsMergeFault into from fault =
     IsLengthFault into fault ⊎ (IsLength into × (from ≢ into) × (fault ≡ OtherLength from))
+
+-- A filter of this many bytes is not folded.
+abbrev pub IsFoldFault : ℕ → Fault → Type 0
+IsFoldFault bytes fault =
+    IsLengthFault bytes fault ⊎ (IsLength bytes × (bytes % 64 ≡ 32) × (fault ≡ OddBlocks bytes))
 
 -- A filter of this many bytes is not created.
 abbrev pub IsNewFault : ℕ → Fault → Type 0
@@ -97,6 +115,8 @@ fault_text (Length bytes) =
     ++ decimal bytes
 fault_text (OtherLength bytes) =
     codes "filters of two lengths: the other has " ++ decimal bytes ++ codes " bytes"
+fault_text (OddBlocks bytes) =
+    codes "odd number of blocks: expected a multiple of 64 bytes, got " ++ decimal bytes
 fault_text (Offset i) = codes "invalid offset at index " ++ decimal i
 fault_text (Count values) = codes "more places than values: " ++ decimal values ++ codes " values"
 fault_text OutOfMemory = codes "out of memory"

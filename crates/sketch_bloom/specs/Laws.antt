@@ -1,7 +1,7 @@
 -- Facts about filters.
 use Rattle.std.specs.Prelude.{◌≡◌, ◌↔◌, ◌⊎◌, ℕ, ◌/◌, List, [], ◌∷◌, ◌++◌, length, map, replicate, Contains}
 use Rattle.datasketches.specs.Bytes.{AreBytes}
-use Rattle.sketch_bloom.specs.Filter.{Inserts, InsertsAll, IsBitOfAny, IsMember, IsSet, Merges, hash_of}
+use Rattle.sketch_bloom.specs.Filter.{Folds, Inserts, InsertsAll, IsBitOfAny, IsFoldable, IsMember, IsSet, Merges, hash_of}
 
 -- the empty filter with this many bytes
 abbrev pub empty_filter : ℕ → List ℕ
@@ -45,6 +45,16 @@ pub record MergeLaw : Type 0 where
   -- a merged filter contains what either did
   pub found : (before other after : List ℕ) (hash : ℕ) → Merges other before after →
       IsMember before hash ⊎ IsMember other hash → IsMember after hash
+
+-- The law of folds.
+pub record FoldLaw : Type 0 where
+  -- a folded filter stands for the same values
+  pub stands : (before after hashes : List ℕ) → IsFoldable (length before) → Folds before after →
+      StandsFor before hashes → StandsFor after hashes
+  -- and that byte for byte: it is the filter of its length into which the values were inserted
+  pub streams : (before after whole hashes : List ℕ) → AreBytes after → AreBytes whole →
+      length whole ≡ length after → IsFoldable (length before) → Folds before after →
+      StandsFor before hashes → StandsFor whole hashes → after ≡ whole
 
 -- The law of values: those among many that were inserted are contained.
 pub record ValueLaw : Type 0 where

@@ -12,6 +12,8 @@ pub enum Fault {
     Length(usize),
     /// The other filter has this length, in bytes, and the lengths differ.
     OtherLength(usize),
+    /// The filter has this many bytes, which are an odd number of blocks.
+    OddBlocks(usize),
     /// The offset at this index is missing, is past the end of the keys, or is below the offset
     /// before it.
     Offset(usize),
@@ -33,6 +35,10 @@ impl fmt::Display for Fault {
             Fault::OtherLength(bytes) => {
                 write!(f, "filters of two lengths: the other has {bytes} bytes")
             }
+            Fault::OddBlocks(bytes) => write!(
+                f,
+                "odd number of blocks: expected a multiple of 64 bytes, got {bytes}"
+            ),
             Fault::Offset(i) => write!(f, "invalid offset at index {i}"),
             Fault::Count(values) => write!(f, "more places than values: {values} values"),
             Fault::OutOfMemory => f.write_str("out of memory"),

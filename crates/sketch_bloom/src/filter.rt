@@ -1,7 +1,7 @@
-//! Insert, look up and merge, on the bytes of a filter.
+//! Insert, look up, merge and fold, on the bytes of a filter.
 
-ghost use Rattle.std.specs.Prelude.{◌≡◌, ◌↔◌, IsTrue, MatchResult, length};
-ghost use Rattle.sketch_bloom.specs.Filter.{Inserts, IsLength, IsLengthFault, IsMember, IsMergeFault, Merges, hash_of};
+ghost use Rattle.std.specs.Prelude.{◌≡◌, ◌↔◌, ◌/◌, IsTrue, MatchResult, drop, length, take};
+ghost use Rattle.sketch_bloom.specs.Filter.{Folds, Inserts, IsFoldFault, IsFoldable, IsLength, IsLengthFault, IsMember, IsMergeFault, Merges, hash_of};
 
 use crate::block::{block_start, mask};
 use crate::fault::Fault;
@@ -138,6 +138,34 @@ pub fn merge(into: &mut [u8], from: &[u8]) -> Result<(), Fault>
     }
     for i in 0..into.len() {
         into[i] |= from[i];
+    }
+    Ok(())
+}
+
+/// Folds a filter into its first half. Block k is then the union of blocks 2 k and 2 k + 1, and the
+/// first half is the filter of that length, of the same values. The second half is unchanged.
+///
+/// A filter can be created for all values, and folded when it is known how many are different.
+///
+/// # Errors
+///
+/// Returns [`Fault::Length`] if the length of `filter` is not a positive multiple of 32 below 2^37.
+/// Otherwise returns [`Fault::OddBlocks`] if it is not a multiple of 64. The filter is then
+/// unchanged.
+pub fn fold(filter: &mut [u8]) -> Result<(), Fault>
+    ensures { let half = length filter.old / 2 in MatchResult result
+        (λ _. IsFoldable (length filter.old) × Folds filter.old (take half filter.new)
+        × (drop half filter.new ≡ drop half filter.old))
+        (λ fault. (filter.new ≡ filter.old) × IsFoldFault (length filter.old) fault) }
+{
+    check_length(filter.len())?;
+    if filter.len() % 64 != 0 {
+        return Err(Fault::OddBlocks(filter.len()));
+    }
+    for i in 0..filter.len() / 64 {
+        let left = u8x32::from_slice(&filter[64 * i..]);
+        let right = u8x32::from_slice(&filter[64 * i + 32..]);
+        (left | right).copy_to_slice(&mut filter[32 * i..]);
     }
     Ok(())
 }

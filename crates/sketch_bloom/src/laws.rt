@@ -1,7 +1,7 @@
 //! Facts about filters, for a caller's proof. Each function does nothing: its contract is the law.
 
 ghost use Rattle.sketch_bloom.specs.Header.{HeaderLaw};
-ghost use Rattle.sketch_bloom.specs.Laws.{InsertLaw, MergeLaw, ValueLaw};
+ghost use Rattle.sketch_bloom.specs.Laws.{FoldLaw, InsertLaw, MergeLaw, ValueLaw};
 
 /// A filter contains each value that was inserted. Filters of one length are the same, byte for
 /// byte, if the same values were inserted, in any order and however often.
@@ -14,6 +14,12 @@ pub fn insert_law()
 #[tactic(auto, using(crate::proofs::LawLemmas::merge_law))]
 pub fn merge_law()
     ensures { MergeLaw }
+{}
+
+/// Folding a filter makes the filter of half its length of the same values, byte for byte.
+#[tactic(auto, using(crate::proofs::FoldLemmas::fold_law))]
+pub fn fold_law()
+    ensures { FoldLaw }
 {}
 
 /// The filter of a list of values contains each of them.

@@ -35,7 +35,7 @@ pub use self::columns::{
     insert_each_value,
 };
 pub use self::fault::Fault;
-pub use self::filter::{contains, contains_hash, insert, insert_hash, is_length, merge};
+pub use self::filter::{contains, contains_hash, fold, insert, insert_hash, is_length, merge};
 pub use self::header::{read_header, write_header};
 pub use self::owned::BloomFilter;
 pub use self::size::bytes_for;

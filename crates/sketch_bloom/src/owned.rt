@@ -1,12 +1,12 @@
 //! A filter that owns its bytes.
 
 ghost use Rattle.std.specs.Prelude.{◌≡◌, ℕ, ◌↔◌, List, IsTrue, MatchResult, length, map};
-ghost use Rattle.sketch_bloom.specs.Filter.{Inserts, InsertsAll, IsLength, IsLengthFault, IsMember, IsMergeFault, IsNewFault, Merges, hash_of};
+ghost use Rattle.sketch_bloom.specs.Filter.{Folds, Inserts, InsertsAll, IsFoldFault, IsFoldable, IsLength, IsLengthFault, IsMember, IsMergeFault, IsNewFault, Merges, hash_of};
 ghost use Rattle.sketch_bloom.specs.Laws.{empty_filter};
 
 use crate::columns::insert_each_value;
 use crate::fault::Fault;
-use crate::filter::{check_length, insert_into, is_in, is_length, merge};
+use crate::filter::{check_length, fold, insert_into, is_in, is_length, merge};
 use datasketches::hash::Hash;
 use std::alloc::Global;
 use std::marker::Model;
@@ -103,5 +103,21 @@ impl BloomFilter {
             × IsMergeFault (length self.old) (length other.now) fault) }
     {
         merge(&mut self.bytes, &other.bytes)
+    }
+
+    /// Folds the filter into one of half its length, which contains the same values.
+    ///
+    /// # Errors
+    ///
+    /// Returns [`Fault::OddBlocks`] if the length is not a multiple of 64 bytes. The filter is then
+    /// unchanged.
+    pub fn fold(&mut self) -> Result<(), Fault>
+        ensures { MatchResult result
+            (λ _. IsFoldable (length self.old) × Folds self.old self.new)
+            (λ fault. (self.new ≡ self.old) × IsFoldFault (length self.old) fault) }
+    {
+        fold(&mut self.bytes)?;
+        self.bytes.truncate(self.bytes.len() / 2);
+        Ok(())
     }
 }

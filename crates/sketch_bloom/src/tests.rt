@@ -4,7 +4,7 @@ mod header;
 mod size;
 mod writers;
 
-use crate::{BloomFilter, Fault, contains_hash, insert_hash, merge};
+use crate::{BloomFilter, Fault, contains_hash, fold, insert_hash, merge};
 use std::process::Abort;
 use std::test::Fail;
 
@@ -15,9 +15,27 @@ fn bytes_of_another_length_are_no_filter(rt: HostRuntime) {
         let (filter, fault) = (&mut bytes[..length], Err(Fault::Length(length)));
         assert_eq!(rt; insert_hash(filter, 1), fault);
         assert_eq!(rt; merge(filter, &[255; 32]), fault);
+        assert_eq!(rt; fold(filter), fault);
         assert_eq!(rt; contains_hash(filter, 1), Err(Fault::Length(length)));
     }
     assert_eq!(rt; bytes, [7; 65]);
+}
+
+#[test]
+fn folds_into_the_filter_of_half_the_length(rt: HostRuntime) -> Result<(), Fail> {
+    let (mut large, mut small) = (
+        BloomFilter::new(rt.alloc(), 6 * 32)?,
+        BloomFilter::new(rt.alloc(), 3 * 32)?,
+    );
+    for value in 0..20u64 {
+        large.insert(&value);
+        small.insert(&value);
+    }
+    large.fold()?;
+    assert_eq!(rt; large.as_bytes(), small.as_bytes());
+    assert_eq!(rt; large.fold(), Err(Fault::OddBlocks(96)));
+    assert_eq!(rt; large.as_bytes(), small.as_bytes());
+    Ok(())
 }
 
 #[test]
@@ -36,6 +54,10 @@ fn prints_what_is_wrong(rt: HostRuntime) -> Result<(), Fail> {
         (
             Fault::OtherLength(64),
             "filters of two lengths: the other has 64 bytes",
+        ),
+        (
+            Fault::OddBlocks(32),
+            "odd number of blocks: expected a multiple of 64 bytes, got 32",
         ),
         (Fault::Offset(2), "invalid offset at index 2"),
         (Fault::Count(1), "more places than values: 1 values"),

@@ -2,7 +2,7 @@
 use Rattle.std.specs.Prelude.{◌≡◌, ◌⊎◌, ℕ, ℤ, pos, ◌-ℤ◌, List, length, Result, MatchResult}
 use Rattle.sketch_bloom.specs.declared.fault.Fault.{Fault}
 use Rattle.sketch_bloom.specs.Filter.{IsLength, IsMember}
-use Rattle.sketch_bloom.specs.declared.fault.Fault.TheVariants.{Length, OtherLength, Offset, Count, OutOfMemory}
+use Rattle.sketch_bloom.specs.declared.fault.Fault.TheVariants.{Length, OtherLength, OddBlocks, Offset, Count, OutOfMemory}
 
 abbrev pub error : ℕ → ℤ
 error n = pos 0 -ℤ pos n
@@ -11,6 +11,7 @@ error n = pos 0 -ℤ pos n
 abbrev pub status : Fault → ℤ
 status (Length bytes) = error 1
 status (OtherLength bytes) = error 1
+status (OddBlocks bytes) = error 1
 status (Offset i) = error 2
 status (Count values) = error 3
 status OutOfMemory = error 4

@@ -1,10 +1,10 @@
 //! The Bloom filter of Apache Parquet, in bytes that the caller owns.
 
-ghost use Rattle.std.specs.Prelude.{◌≡◌, ◌⊎◌, ◌++◌, ◌<◌, ◌≤◌, ◌*◌, ◌^◌, ℕ, List, Result, pos, drop, length, map};
+ghost use Rattle.std.specs.Prelude.{◌≡◌, ◌⊎◌, ◌++◌, ◌<◌, ◌≤◌, ◌*◌, ◌/◌, ◌^◌, ℕ, List, Result, pos, drop, length, map, take};
 ghost use Rattle.datasketches.specs.Bytes.{low_bytes};
 ghost use Rattle.sketch_bloom.specs.declared.fault.Fault.{Fault};
 ghost use Rattle.sketch_bloom.specs.Columns.{FindsEach, FindsKeys, InsertsKeys};
-ghost use Rattle.sketch_bloom.specs.Filter.{Inserts, InsertsAll, IsLength, IsMergeFault, Merges, hash_of};
+ghost use Rattle.sketch_bloom.specs.Filter.{Folds, Inserts, InsertsAll, IsFoldable, IsLength, IsMergeFault, Merges, hash_of};
 ghost use Rattle.sketch_bloom.specs.Header.{IsHeaderLength, header};
 ghost use Rattle.sketch_c.specs.{Changes, IsNumber, MayContain, Reports, error};
 
@@ -213,6 +213,18 @@ pub extern "C" fn sketch_bloom_merge(into: &mut [u8], from: &[u8]) -> i32
         × ((fault : Fault) × IsMergeFault (length into.old) (length from.now) fault)) }
 {
     done(sketch_bloom::merge(into, from))
+}
+
+/// Folds a filter of an even number of blocks into its first half, which is then the filter of that
+/// length of the same keys. The second half is unchanged.
+#[unsafe(no_mangle)]
+pub extern "C" fn sketch_bloom_fold(bits: &mut [u8]) -> i32
+    ensures { let half = length bits.old / 2 in
+        ((result ≡ pos 0) × IsFoldable (length bits.old) × Folds bits.old (take half bits.new)
+        × (drop half bits.new ≡ drop half bits.old))
+        ⊎ ((result ≡ error 1) × (bits.new ≡ bits.old) × (IsFoldable (length bits.old) → ⊥)) }
+{
+    done(sketch_bloom::fold(bits))
 }
 
 /// Writes the header of a filter with this many bytes to the start of `out`, and returns the

@@ -36,7 +36,7 @@ fn done(outcome: Result<(), Fault>) -> i32
 {
     match outcome {
         Ok(()) => 0,
-        Err(Fault::Length(_) | Fault::OtherLength(_)) => -1,
+        Err(Fault::Length(_) | Fault::OtherLength(_) | Fault::OddBlocks(_)) => -1,
         Err(Fault::Offset(_)) => -2,
         Err(Fault::Count(_)) => -3,
         Err(Fault::OutOfMemory) => -4,

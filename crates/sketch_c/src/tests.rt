@@ -197,6 +197,16 @@ fn merges_filters_of_one_length(rt: HostRuntime) {
 }
 
 #[test]
+fn folds_a_filter_of_an_even_number_of_blocks(rt: HostRuntime) {
+    let mut bits = [0; 64];
+    sketch_bloom_insert(&mut bits, b"fox");
+    sketch_bloom_insert(&mut bits, b"es");
+    assert_eq!(rt; sketch_bloom_fold(&mut bits[..32]), -1);
+    assert_eq!(rt; sketch_bloom_fold(&mut bits), 0);
+    assert_eq!(rt; &bits[..32], foxes().as_slice());
+}
+
+#[test]
 fn returns_an_error_for_a_length_that_no_filter_has(rt: HostRuntime) {
     let (mut bits, mut found, mut wrong) = ([0; 33], [9; 1], 77);
     assert_eq!(rt; (sketch_bloom_check(32), sketch_bloom_check(33)), (0, -1));
