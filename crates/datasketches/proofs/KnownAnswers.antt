@@ -6,28 +6,21 @@ use Rattle.sketch_hash.specs.Murmur as the_murmur
 use Rattle.sketch_hash.specs.Murmur.{mix1, mix2, fmix, step1, step2, step, with_tail, murmur}
 use Rattle.sketch_hash.specs.Xxh64 as the_xxh64
 use Rattle.sketch_hash.specs.Xxh64.{round, lanes_start, lanes, merge_round, merge, steps, eight_step, four_step, byte_step, tail_step, avalanche, xxh64}
-use Rattle.datasketches.specs.KnownAnswers.{MurmurAnswers, Xxh64Answers, test_bytes_from}
+use Rattle.datasketches.specs.KnownAnswers.{MurmurAnswers, Xxh64Answers, hashes_below, test_bytes_from}
 
 pub murmur_answers : MurmurAnswers
 unfolding xor_below xor rotate pieces rest mix1 mix2 fmix step1 step2 step with_tail the_murmur.finalize
-    murmur
-murmur_answers = record {
-  dog = refl;
-  eog = refl;
-  blocks_and_one_byte = refl;
-  tail_of_eight = refl;
-  no_tail = refl;
-  high_bytes = refl;
-}
+    murmur hashes_below
+murmur_answers = record { fox = refl; verification = refl }
 
 pub xxh64_answers : Xxh64Answers
 unfolding xor_below xor rotate pieces rest round lanes_start lanes merge_round merge steps eight_step
-    four_step byte_step tail_step avalanche the_xxh64.finalize xxh64 test_bytes_from
+    four_step byte_step tail_step avalanche the_xxh64.finalize xxh64 test_bytes_from hashes_below
 xxh64_answers = record {
   no_bytes = refl;
-  one_byte_seeded = refl;
-  one_stripe = refl;
-  stripe_and_byte = refl;
-  three_stripes_and_word = refl;
-  three_stripes_and_word_seeded = refl;
+  no_stripe = refl;
+  no_stripe_seeded = refl;
+  six_stripes = refl;
+  six_stripes_seeded = refl;
+  verification = refl;
 }

@@ -1,15 +1,36 @@
--- What the two definitions answer for inputs whose hashes are published: those of MurmurHash3 in
--- the tests of Apache DataSketches, those of XXH64 in the tests of xxHash.
-use Rattle.std.specs.Prelude.{◌≡◌, ℕ, zero, suc, ◌/◌, ◌^◌, List, [], ◌∷◌, ◌++◌, codes}
+-- What the two definitions answer for inputs whose hashes are published.
+use Rattle.std.specs.Prelude.{◌≡◌, ℕ, zero, suc, ◌-◌, ◌/◌, ◌^◌, List, [], ◌∷◌, ◌++◌, codes, take}
+use Rattle.std.specs.List.{range_with_len}
+use Rattle.sketch_base.specs.Bytes.{le, low_bytes}
 use Rattle.sketch_hash.specs.Words.{times}
 use Rattle.sketch_hash.specs.Murmur.{murmur}
 use Rattle.sketch_hash.specs.Xxh64.{xxh64}
 
--- the sentence that hash functions are shown on
-abbrev pub fox : List ℕ
-fox = codes "The quick brown fox jumps over the lazy dog"
+-- SMHasher's `VerificationTest` (https://github.com/aappleby/smhasher): the bytes 0 to n - 1, for
+-- each n below 256, are hashed with the seed 256 - n. The hashes, one after the other, are hashed
+-- with the seed 0. The first four bytes of that are the verification value of a hash function.
+unfoldable pub hashes_below : (ℕ → List ℕ → List ℕ) → ℕ → List ℕ
+hashes_below hash zero = []
+hashes_below hash (suc n) = hashes_below hash n ++ hash (256 - n) (range_with_len 0 n)
 
--- the first n bytes of xxHash's test buffer, from its generator's state
+abbrev pub verification_value : (ℕ → List ℕ → List ℕ) → ℕ
+verification_value hash = le (take 4 (hash 0 (hashes_below hash 256)))
+
+-- both hashes as bytes, each word with the lowest byte first
+abbrev pub murmur_bytes : ℕ → List ℕ → List ℕ
+murmur_bytes seed bytes = let h = murmur seed bytes in low_bytes 8 h.0 ++ low_bytes 8 h.1
+
+abbrev pub xxh64_bytes : ℕ → List ℕ → List ℕ
+xxh64_bytes seed bytes = low_bytes 8 (xxh64 seed bytes)
+
+-- MurmurHash3: the sentence that hash functions are shown on, as in the tests of Apache
+-- DataSketches, and SMHasher's value for `MurmurHash3_x64_128`
+pub record MurmurAnswers : Type 0 where
+  pub fox : murmur 0 (codes "The quick brown fox jumps over the lazy dog") ≡
+      (0xe34bbc7bbc071b6c, 0x7a433ca9c49a9347)
+  pub verification : verification_value murmur_bytes ≡ 0x6384ba69
+
+-- the first n bytes of the buffer of xxHash's sanity tests, from its generator's state
 unfoldable pub test_bytes_from : ℕ → ℕ → List ℕ
 test_bytes_from g zero = []
 test_bytes_from g (suc n) = g / 2 ^ 56 ∷ test_bytes_from (times g 0x9E3779B185EBCA8D) n
@@ -17,25 +38,12 @@ test_bytes_from g (suc n) = g / 2 ^ 56 ∷ test_bytes_from (times g 0x9E3779B185
 abbrev pub test_bytes : ℕ → List ℕ
 test_bytes n = test_bytes_from 0x9E3779B1 n
 
--- MurmurHash3 under seed 0
-pub record MurmurAnswers : Type 0 where
-  pub dog : murmur 0 fox ≡ (0xe34bbc7bbc071b6c, 0x7a433ca9c49a9347)
-  pub eog : murmur 0 (codes "The quick brown fox jumps over the lazy eog") ≡
-      (0x362108102c62d1c9, 0x3285cd100292b305)
-  pub blocks_and_one_byte : murmur 0 (fox ++ codes "dogdog") ≡
-      (0x9c8205300e612fc4, 0xcbc0af6136aa3df9)
-  pub tail_of_eight : murmur 0 (codes "The quick brown fox jumps over the lazy1") ≡
-      (0xe3301a827e5cdfe3, 0xbdbf05f8da0f0392)
-  pub no_tail : murmur 0 (codes "The quick brown fox jumps over t") ≡
-      (0xdf6af91bb29bdacf, 0x91a341c58df1f3a6)
-  pub high_bytes : murmur 0 (fox ++ 0xff ∷ 0x64 ∷ 0x6f ∷ 0x67 ∷ 0x00 ∷ []) ≡
-      (0xe88abda785929c9e, 0x96b98587cacc83d6)
-
--- XXH64 under the seed 0 and one other
+-- XXH64: xxHash's sanity tests, and SMHasher's value. The tail of 14 bytes has a step of each
+-- width and two single bytes; that of 222 bytes has three words of eight bytes.
 pub record Xxh64Answers : Type 0 where
   pub no_bytes : xxh64 0 [] ≡ 0xef46db3751d8e999
-  pub one_byte_seeded : xxh64 0x9E3779B1 (test_bytes 1) ≡ 0x5014607643a9b4c3
-  pub one_stripe : xxh64 0 (test_bytes 32) ≡ 0x18b216492bb44b70
-  pub stripe_and_byte : xxh64 0 (test_bytes 33) ≡ 0x55c8dc3e578f5b59
-  pub three_stripes_and_word : xxh64 0 (test_bytes 100) ≡ 0x4bfe019cd91d9ea4
-  pub three_stripes_and_word_seeded : xxh64 0x9E3779B1 (test_bytes 100) ≡ 0x4853706dc9625cae
+  pub no_stripe : xxh64 0 (test_bytes 14) ≡ 0x8282dcc4994e35c8
+  pub no_stripe_seeded : xxh64 0x9E3779B1 (test_bytes 14) ≡ 0xc3bd6bf63deb6df0
+  pub six_stripes : xxh64 0 (test_bytes 222) ≡ 0xb641ae8cb691c174
+  pub six_stripes_seeded : xxh64 0x9E3779B1 (test_bytes 222) ≡ 0x20cb8ab7ae10c14a
+  pub verification : verification_value xxh64_bytes ≡ 0x024b7cf4

@@ -16,13 +16,13 @@ pub const TEST_BUFFER: [u8; 100] = [
     0x9d, 0x32, 0x73, 0x09,
 ];
 
-/// The definition of MurmurHash3 gives the answers in the tests of Apache DataSketches.
+/// The definition of MurmurHash3 gives a published answer and SMHasher's verification value.
 #[tactic(auto, using(crate::proofs::KnownAnswers::murmur_answers))]
 pub fn murmur_answers()
     ensures { MurmurAnswers }
 {}
 
-/// The definition of XXH64 gives the answers in xxHash's tests.
+/// The definition of XXH64 gives the answers in xxHash's tests and SMHasher's verification value.
 #[tactic(auto, using(crate::proofs::KnownAnswers::xxh64_answers))]
 pub fn xxh64_answers()
     ensures { Xxh64Answers }
