@@ -51,7 +51,7 @@ directives = {"language_level": 3, "binding": False, "auto_pickle": False, "alwa
 setup(
     options={"build_ext": {"force": True}},  # the archive may be another one than that of an earlier build
     name="sketch-hash",
-    version="2.0.0",
+    version="2.1.0",
     description="XXH64, MurmurHash3 x64 128 and the Bloom filter of Apache Parquet, from functions that are proved",
     long_description=pathlib.Path(here, "README.md").read_text(encoding="utf-8"),
     long_description_content_type="text/markdown",

@@ -1,4 +1,4 @@
-/* sketch_hash 2.0.0: XXH64, MurmurHash3_x64_128 and the Bloom filter of Apache Parquet, from
+/* sketch_hash 2.1.0: XXH64, MurmurHash3_x64_128 and the Bloom filter of Apache Parquet, from
  * functions that are proved. Licence: Apache-2.0.
  *
  * Proved: for every seed, a digest is the hash of all bytes since the reset, however they were
@@ -37,7 +37,7 @@ extern "C" {
 #endif
 
 /** The version of this header: major * 10000 + minor * 100 + patch. */
-#define SKETCH_HASH_VERSION 20000
+#define SKETCH_HASH_VERSION 20100
 
 /** Returns the version of the library. */
 uint32_t sketch_hash_version(void);

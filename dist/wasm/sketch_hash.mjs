@@ -1,4 +1,4 @@
-// sketch_hash 2.0.0: XXH64, MurmurHash3 x64 128 and the Bloom filter of Apache Parquet, from functions
+// sketch_hash 2.1.0: XXH64, MurmurHash3 x64 128 and the Bloom filter of Apache Parquet, from functions
 // that are proved, for browsers and Node. Licence: Apache-2.0. sketch_hash.d.mts describes each call.
 
 const PAGE = 65536;

@@ -29,7 +29,7 @@ impl Rng {
 
 #[test]
 fn the_library_is_of_this_version() {
-    assert_eq!(sketch_hash::version(), 20_000);
+    assert_eq!(sketch_hash::version(), 20_100);
 }
 
 #[test]

@@ -110,7 +110,7 @@ fn hashes_a_column_by_murmur(rt: HostRuntime) {
 
 #[test]
 fn returns_its_version(rt: HostRuntime) {
-    assert_eq!(rt; sketch_hash_version(), 20_000);
+    assert_eq!(rt; sketch_hash_version(), 20_100);
 }
 
 // A filter of one block with the keys fox and es.
