@@ -3,3 +3,4 @@ mod ColumnLemmas
 mod HeaderLemmas
 mod LawLemmas
 mod FoldLemmas
+mod SizeLemmas

@@ -2,3 +2,4 @@ pub mod Filter
 pub mod Columns
 pub mod Header
 pub mod Laws
+pub mod Size

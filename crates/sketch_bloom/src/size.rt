@@ -8,7 +8,8 @@
 //!
 //! The sum is computed in integers, since the library has no floats.
 
-ghost use Rattle.std.specs.Prelude.{◌≡◌, ℕ, ◌+◌, ◌*◌, ◌^◌, ◌<◌, ◌≤◌, IfSome, IsTrue, None, Some};
+ghost use Rattle.std.specs.Prelude.{◌≡◌, ◌↔◌, ℕ, ◌-◌, ◌*◌, ◌/◌, ◌^◌, ◌<◌, ◌≤◌, IfSome, IsTrue, MatchOption, None, Some};
+ghost use Rattle.sketch_bloom.specs.Size.{IsLeastSize, IsRateAtMost, NoneKeepsRate, eighth_power};
 
 // The most values a block on average. With more, the rate is above one in two.
 const FULL: u64 = 128;
@@ -26,6 +27,8 @@ const TERMS: u64 = 384;
 /// p^(1/8)) bits, which ignores that blocks fill unevenly. At exactly that size the rate is up to
 /// 50 % above the target for targets of 1 %: 0.0147 for 0.01.
 pub fn bytes_for(keys: u64, one_in: u64) -> Option<usize>
+    ensures least { MatchOption result (NoneKeepsRate keys one_in) (λ bytes. (log2_blocks : ℕ)
+        × (bytes ≡ 32 * 2 ^ log2_blocks) × IsLeastSize keys one_in log2_blocks) }
     ensures size { IfSome result (λ bytes. (log2_blocks : ℕ) × (log2_blocks ≤ 22)
         × (bytes ≡ 32 * 2 ^ log2_blocks)) }
     ensures some { one_in ≡ 1 → result ≡ Some 32 }
@@ -49,7 +52,7 @@ pub fn bytes_for(keys: u64, one_in: u64) -> Option<usize>
 pub(crate) fn keeps_rate(keys: u64, log2_blocks: u32, one_in: u64) -> bool
     requires blocks { log2_blocks ≤ 22 }
     requires one_in { 0 < one_in }
-    ensures { IsTrue result → keys ≤ 128 * 2 ^ log2_blocks }
+    ensures { IsTrue result ↔ IsRateAtMost keys log2_blocks one_in }
 {
     if keys > FULL << log2_blocks {
         return false;
@@ -79,15 +82,18 @@ fn next_weight(weight: u64, keys: u64, log2_blocks: u32, k: u64) -> u64
     requires blocks { log2_blocks ≤ 22 }
     requires keys { keys ≤ 128 * 2 ^ log2_blocks }
     requires k { 0 < k }
-    ensures { result ≤ 2 ^ 55 }
+    ensures value { result ≡ weight * keys / 2 ^ log2_blocks / k }
+    ensures small { result ≤ 2 ^ 55 }
 {
     ((u128::from(weight) * u128::from(keys)) >> log2_blocks) as u64 / k
 }
 
 // 32^8 times the eighth power of 1 - clear / 2^50, in parts of 2^20.
+#[tactic(auto, unfolding(crate::specs::Size::eighth_power))]
 fn covered(clear: u64) -> u64
     requires { clear ≤ 2 ^ 50 }
-    ensures { result ≤ 2 ^ 60 }
+    ensures value { result ≡ eighth_power (2 ^ 50 - clear) }
+    ensures small { result ≤ 2 ^ 60 }
 {
     let share = u128::from((1 << 50) - clear);
     let square = (share * share) >> 50;

@@ -1,0 +1,48 @@
+use Rattle.std.proofs.Common.{◌≡◌, suc, ◌+◌, ◌∙◌, ◌^◌, refl, arith}
+use Rattle.std.proofs.lemmas.Nat.{mul-le}
+use Rattle.sketch_bloom.proofs.SizeLemmas.{first_term, with_larger_unit, with_same_unit}
+use Rattle.sketch_bloom.proofs.size.keeps_rate.Goals as goal
+use Rattle.sketch_bloom.proofs.size.keeps_rate.Goals.{then-weight-gt0, else-weight-gt0}
+
+pub loop-k-init : goal.loop-k-init
+loop-k-init c = (
+  omega arith,
+  omega arith,
+  omega arith,
+  omega arith,
+  (0, refl, first_term c.args.keys c.args.log2_blocks),
+)
+
+pub loop-k-preserved : goal.loop-k-preserved
+loop-k-preserved c =
+    let (last, k_is, before) = c.loop-k.invariant.4 in
+    let next = rw k_is at c.next_weight-weight.ensures.value in
+    let share = c.from-in-loop-k.ensures ∙ c.covered.ensures.value in
+    let product = mul-le c.from.result c.from-in-loop-k.result (2 ^ 55) (2 ^ 60) (omega arith) (omega arith) in
+    let suc_is : c.loop-k.k + 1 ≡ suc (suc last) = omega arith in
+    elim c.if-weight-gt0.branch [
+      | then-weight-gt0 w ↦ (
+        omega arith,
+        omega arith,
+        grind arith,
+        grind (arith, product),
+        (
+          suc last,
+          suc_is,
+          rw (w.weight-is, w.all-is, w.found-is, c.from.ensures, share, next)
+              (with_larger_unit before (rw (← next) (omega arith))),
+        ),
+      )
+      | else-weight-gt0 w ↦ (
+        omega arith,
+        omega arith,
+        grind arith,
+        grind (arith, product),
+        (
+          suc last,
+          suc_is,
+          rw (w.weight-is, w.all-is, w.found-is, c.from.ensures, share, next)
+              (with_same_unit before (rw (← next) (omega arith))),
+        ),
+      )
+    ]
