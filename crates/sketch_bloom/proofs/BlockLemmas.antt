@@ -61,10 +61,10 @@ pub ruleset for_merge = (bit_at_or, bit_at-zero, get_or_past)
 -- ---- the mask of a hash
 
 -- a word of the mask, as the code computes it, and the bytes of all
-abbrev word_of : ℕ → ℕ → ℕ
+abbrev pub word_of : ℕ → ℕ → ℕ
 word_of hash s = 1 * 2 ^ (bit_and hash 4294967295 * s % 4294967296 / 134217728) % 4294967296
 
-abbrev bytes_of : ℕ → List ℕ
+abbrev pub bytes_of : ℕ → List ℕ
 bytes_of hash = digits_l 256 32 (number_l (2 ^ 32) (map (word_of hash) salt))
 
 pub byte_fits : (count n k : ℕ) → get_or (digits_l 256 count n) k 0 < 256
@@ -143,10 +143,10 @@ abbrev placed : ℕ → List ℕ → ℕ → ℕ
 placed start mask k = cond (ltb k start) 0 (get_or mask (k - start) 0)
 
 -- a block that is joined with a mask, and the filter with that block
-abbrev joined : ℕ → List ℕ → List ℕ → List ℕ
+abbrev pub joined : ℕ → List ℕ → List ℕ → List ℕ
 joined start mask filter = zip2 bit_or (chunk start 32 filter) mask
 
-abbrev joined_in : ℕ → List ℕ → List ℕ → List ℕ
+abbrev pub joined_in : ℕ → List ℕ → List ℕ → List ℕ
 joined_in start mask filter = put_chunk start filter (joined start mask filter)
 
 module _ (hash start : ℕ) (mask filter : List ℕ) (at : start ≡ block_of (length filter / 32) hash * 32)

@@ -4,3 +4,4 @@ mod HeaderLemmas
 mod LawLemmas
 mod FoldLemmas
 mod SizeLemmas
+mod KnownAnswers

@@ -3,3 +3,4 @@ pub mod Columns
 pub mod Header
 pub mod Laws
 pub mod Size
+pub mod KnownAnswers

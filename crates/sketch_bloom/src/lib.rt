@@ -24,6 +24,7 @@ mod columns;
 mod fault;
 mod filter;
 mod header;
+pub mod known_answers;
 pub mod laws;
 mod owned;
 mod size;

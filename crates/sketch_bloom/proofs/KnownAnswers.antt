@@ -1,0 +1,50 @@
+-- Published answers, computed over the definitions.
+use Rattle.std.proofs.Common.{◌≡◌, ℕ, ◌*◌, ◌/◌, ◌<◌, List, [], ◌∷◌, ◌++◌, codes, length, refl, arith}
+use Rattle.datasketches.specs.Pieces.{pieces, rest}
+use Rattle.datasketches.specs.Words.{xor_below, xor, rotate}
+use Rattle.datasketches.specs.Xxh64 as the_xxh64
+use Rattle.datasketches.specs.Xxh64.{round, steps, eight_step, four_step, byte_step, tail_step, avalanche, xxh64}
+use Rattle.sketch_bloom.proofs.BlockLemmas.{bytes_of, inserted, joined_in, mask_bits}
+use Rattle.sketch_bloom.proofs.LawLemmas.{insert_law}
+use Rattle.sketch_bloom.specs.Filter.{block_of, hash_of}
+use Rattle.sketch_bloom.specs.Header.{varint}
+use Rattle.sketch_bloom.specs.KnownAnswers.{FilterAnswer, HeaderAnswers}
+use Rattle.sketch_bloom.specs.Laws.{StandsFor, empty_filter}
+
+-- a filter of 32 blocks into which a value is inserted
+abbrev with_value : ℕ → List ℕ → List ℕ
+with_value hash filter = joined_in (block_of 32 hash * 32) (bytes_of hash) filter
+
+one_more : (hash : ℕ) (filter hashes : List ℕ) → length filter ≡ 1024 → block_of 32 hash < 32 →
+    StandsFor filter hashes → StandsFor (with_value hash filter) (hashes ++ hash ∷ [])
+one_more hash filter hashes size inside =
+    let blocks : length filter / 32 ≡ 32 = omega arith in
+    insert_law.one_more filter (with_value hash filter) hash hashes
+    (inserted hash (block_of 32 hash * 32) (bytes_of hash) filter (rw blocks refl) (omega arith) refl (mask_bits hash))
+
+pub filter_answer : FilterAnswer
+unfolding xor_below xor rotate pieces rest round steps eight_step four_step byte_step tail_step avalanche
+    the_xxh64.finalize xxh64
+filter_answer =
+    let hello = hash_of (codes "hello") in
+    let filter = hash_of (codes "filter") in
+    let parquet = hash_of (codes "parquet") in
+    let bloom = hash_of (codes "bloom") in
+    let none = empty_filter 1024 in
+    let one = with_value hello none in
+    let two = with_value filter one in
+    let three = with_value parquet two in
+    one_more bloom three (hello ∷ filter ∷ parquet ∷ []) refl (omega arith)
+    (one_more parquet two (hello ∷ filter ∷ []) refl (omega arith)
+    (one_more filter one (hello ∷ []) refl (omega arith)
+    (one_more hello none [] refl (omega arith) (insert_law.none 1024))))
+
+pub header_answers : HeaderAnswers
+unfolding varint
+header_answers = record {
+  of_15_bytes = refl;
+  of_16_bytes = refl;
+  of_17_bytes = refl;
+  of_18_bytes = refl;
+  of_19_bytes = refl;
+}

@@ -1,0 +1,42 @@
+-- What the definitions give for a filter and headers that are published.
+use Rattle.std.specs.Prelude.{◌≡◌, ℕ, ◌-◌, ◌*◌, ◌^◌, List, [], ◌∷◌, ◌++◌, codes, map, replicate}
+use Rattle.sketch_bloom.specs.Filter.{hash_of}
+use Rattle.sketch_bloom.specs.Header.{header}
+use Rattle.sketch_bloom.specs.Laws.{StandsFor}
+
+-- blocks without values
+abbrev pub empty_blocks : ℕ → List ℕ
+empty_blocks blocks = replicate (blocks * 32) 0
+
+-- the 32 blocks that parquet-mr wrote for the texts hello (in block 4), filter (5), parquet (7) and
+-- bloom (10)
+abbrev pub of_parquet_mr : List ℕ
+of_parquet_mr =
+    empty_blocks 4
+    ++ 0 ∷ 0 ∷ 16 ∷ 0 ∷ 0 ∷ 2 ∷ 0 ∷ 0 ∷ 0 ∷ 4 ∷ 0 ∷ 0 ∷ 128 ∷ 0 ∷ 0 ∷ 0
+    ∷ 0 ∷ 2 ∷ 0 ∷ 0 ∷ 0 ∷ 0 ∷ 0 ∷ 128 ∷ 0 ∷ 0 ∷ 0 ∷ 16 ∷ 0 ∷ 0 ∷ 0 ∷ 8 ∷ []
+    ++ 0 ∷ 0 ∷ 128 ∷ 0 ∷ 0 ∷ 0 ∷ 0 ∷ 16 ∷ 1 ∷ 0 ∷ 0 ∷ 0 ∷ 0 ∷ 0 ∷ 0 ∷ 16
+    ∷ 32 ∷ 0 ∷ 0 ∷ 0 ∷ 0 ∷ 0 ∷ 32 ∷ 0 ∷ 0 ∷ 0 ∷ 0 ∷ 64 ∷ 0 ∷ 0 ∷ 8 ∷ 0 ∷ []
+    ++ empty_blocks 1
+    ++ 4 ∷ 0 ∷ 0 ∷ 0 ∷ 0 ∷ 0 ∷ 64 ∷ 0 ∷ 0 ∷ 0 ∷ 64 ∷ 0 ∷ 0 ∷ 0 ∷ 8 ∷ 0
+    ∷ 0 ∷ 0 ∷ 0 ∷ 4 ∷ 0 ∷ 32 ∷ 0 ∷ 0 ∷ 16 ∷ 0 ∷ 0 ∷ 0 ∷ 2 ∷ 0 ∷ 0 ∷ 0 ∷ []
+    ++ empty_blocks 2
+    ++ 0 ∷ 0 ∷ 32 ∷ 0 ∷ 0 ∷ 8 ∷ 0 ∷ 0 ∷ 0 ∷ 1 ∷ 0 ∷ 0 ∷ 0 ∷ 0 ∷ 0 ∷ 32
+    ∷ 0 ∷ 0 ∷ 128 ∷ 0 ∷ 0 ∷ 0 ∷ 0 ∷ 8 ∷ 0 ∷ 1 ∷ 0 ∷ 0 ∷ 0 ∷ 16 ∷ 0 ∷ 0 ∷ []
+    ++ empty_blocks 21
+
+abbrev pub FilterAnswer : Type 0
+FilterAnswer = StandsFor of_parquet_mr
+    (map hash_of (codes "hello" ∷ codes "filter" ∷ codes "parquet" ∷ codes "bloom" ∷ []))
+
+-- the fields after the number, as parquet-mr, Arrow and DuckDB write them
+abbrev pub last_fields : List ℕ
+last_fields = 0x1c ∷ 0x1c ∷ 0 ∷ 0 ∷ 0x1c ∷ 0x1c ∷ 0 ∷ 0 ∷ 0x1c ∷ 0x1c ∷ 0 ∷ 0 ∷ 0 ∷ []
+
+-- a header of each length
+pub record HeaderAnswers : Type 0 where
+  pub of_15_bytes : header 32 ≡ 0x15 ∷ 0x40 ∷ last_fields
+  pub of_16_bytes : header 1024 ≡ 0x15 ∷ 0x80 ∷ 0x10 ∷ last_fields
+  pub of_17_bytes : header (2 ^ 19) ≡ 0x15 ∷ 0x80 ∷ 0x80 ∷ 0x40 ∷ last_fields
+  pub of_18_bytes : header (2 ^ 20) ≡ 0x15 ∷ 0x80 ∷ 0x80 ∷ 0x80 ∷ 0x01 ∷ last_fields
+  pub of_19_bytes : header (2 ^ 31 - 32) ≡ 0x15 ∷ 0xc0 ∷ 0xff ∷ 0xff ∷ 0xff ∷ 0x0f ∷ last_fields
