@@ -24,13 +24,21 @@ fn assert_line(rt: &impl Abort, error: Error, line: &str) {
     assert!(rt; prints(&error, line), "not {line}");
 }
 
-/// Asserts that an error displays this line, or that memory for its text ran out.
-fn assert_line_or_refusal<R: Abort + Eprint>(rt: &R, error: Error, line: &str) {
+/// Asserts that an error displays this line. Returns it if there was no memory for its text.
+fn expect_line(rt: &impl Abort, error: Error, line: &str) -> Result<(), Error> {
     if error.kind() == ErrorKind::OutOfMemory {
-        print_out_of_memory(rt);
-        return assert_line(rt, error, "OutOfMemory");
+        return Err(error);
     }
     assert_line(rt, error, line);
+    Ok(())
+}
+
+/// Asserts that a trial passed, or that there was no memory, which it prints.
+fn assert_done_or_no_memory<R: Abort + Eprint>(rt: &R, tried: Result<(), Error>) {
+    if let Err(error) = tried {
+        print_out_of_memory(rt);
+        assert_line(rt, error, "OutOfMemory");
+    }
 }
 
 /// Prints the line by which the tests of failures know of a refused request for memory.

@@ -1,22 +1,27 @@
 //! Checks of preambles: their errors, and that accepting takes no memory.
 
-use super::assert_line_or_refusal;
+use super::{assert_done_or_no_memory, assert_line, expect_line};
 use crate::codec::SketchSlice;
 use crate::codec::assert::*;
 use crate::codec::family::Family;
-use crate::error::{Error, ErrorKind};
-use std::io::Eprint;
+use crate::error::Error;
+use std::alloc::Global;
 use std::ops::Bound::{self, Excluded, Included, Unbounded};
 use std::process::Abort;
+use std::test::Fail;
 
-fn assert_refused<R: Abort + Eprint>(rt: &R, answer: Result<(), Error>, line: &str) {
+// Asserts that a check fails with this line. Returns an error for lack of memory.
+fn refuse(rt: &impl Abort, answer: Result<(), Error>, line: &str) -> Result<(), Error> {
     match answer {
-        Ok(()) => assert_eq!(rt; "accepted", line),
-        Err(error) => assert_line_or_refusal(rt, error, line),
+        Ok(()) => {
+            assert_eq!(rt; "accepted", line);
+            Ok(())
+        }
+        Err(error) => expect_line(rt, error, line),
     }
 }
 
-// The two ends of a range, a number that is not in it, and the end of the error's text.
+// The two ends of a range, a number that is not in it, and how the error describes both.
 const RANGES: [(Bound<u8>, Bound<u8>, u8, &'static str); 9] = [
     (Included(5), Included(3), 4, "[5, 3], got 4"),
     (Included(1), Excluded(3), 3, "[1, 3), got 3"),
@@ -29,35 +34,34 @@ const RANGES: [(Bound<u8>, Bound<u8>, u8, &'static str); 9] = [
     (Excluded(5), Unbounded, 5, "greater than 5, got 5"),
 ];
 
-fn assert_range_refused<R: Abort + Eprint>(rt: &R, answer: Result<(), Error>, end: &str) {
-    let message = answer.as_ref().err().map(|error| error.message());
-    if message == Some("") {
-        return assert_refused(rt, answer, "OutOfMemory");
+fn try_ranges(rt: &impl Abort, alloc: Global) -> Result<(), Error> {
+    for (start, end, actual, range) in &RANGES {
+        let answer = ensure_preamble_longs_in_range(alloc, *start, *end, *actual);
+        let line = format!(in alloc; "InvalidData => invalid preamble longs: expected {range}")?;
+        refuse(rt, answer, &line)?;
     }
-    let text = message.and_then(|text| text.strip_prefix("invalid preamble longs: expected "));
-    assert_eq!(rt; text, Some(end));
+    Ok(())
+}
+
+fn try_numbers_and_lists(rt: &impl Abort, alloc: Global) -> Result<(), Error> {
+    let line = "InvalidData => invalid family: expected 7 (HLL), got 8";
+    refuse(rt, Family::HLL.validate_id(alloc, 8), line)?;
+    let line = "InvalidData => unsupported serial version: expected 3, got 2";
+    refuse(rt, ensure_serial_version_is(alloc, 3, 2), line)?;
+    let line = "InvalidData => invalid preamble longs: expected one of [], got 1";
+    refuse(rt, ensure_preamble_longs_in(alloc, &[], 1), line)
 }
 
 #[test]
-fn ranges_refuse_without_memory(rt: HostRuntime) {
-    for (start, end, actual, text) in &RANGES {
-        let answer = ensure_preamble_longs_in_range(rt.alloc(), *start, *end, *actual);
-        assert_range_refused(&rt, answer, text);
-    }
+fn checks_fail_with_their_lines(rt: HostRuntime) -> Result<(), Fail> {
+    try_ranges(&rt, rt.alloc())?;
+    Ok(try_numbers_and_lists(&rt, rt.alloc())?)
 }
 
 #[test]
-fn each_check_fails_with_invalid_data(rt: HostRuntime) {
-    let alloc = rt.alloc();
-    for error in [
-        Family::HLL.validate_id(alloc, 8).err(),
-        ensure_serial_version_is(alloc, 3, 2).err(),
-        ensure_preamble_longs_in(alloc, &[], 1).err(),
-        ensure_preamble_longs_in_range(alloc, Included(5), Included(3), 4).err(),
-    ] {
-        let kind = error.map(|error| error.kind());
-        assert_eq!(rt; kind, Some(ErrorKind::InvalidData));
-    }
+fn checks_fail_without_memory(rt: HostRuntime) {
+    assert_done_or_no_memory(&rt, try_ranges(&rt, rt.alloc()));
+    assert_done_or_no_memory(&rt, try_numbers_and_lists(&rt, rt.alloc()));
 }
 
 #[test]
@@ -66,17 +70,6 @@ fn an_empty_range_refuses_every_number(rt: HostRuntime) {
         let answer = ensure_preamble_longs_in_range(rt.alloc(), Excluded(5), Excluded(5), x);
         assert!(rt; answer.is_err(), "{x}");
     }
-}
-
-#[test]
-fn single_numbers_and_lists_refuse_without_memory(rt: HostRuntime) {
-    let alloc = rt.alloc();
-    let line = "InvalidData => invalid family: expected 7 (HLL), got 8";
-    assert_refused(&rt, Family::HLL.validate_id(alloc, 8), line);
-    let line = "InvalidData => unsupported serial version: expected 3, got 2";
-    assert_refused(&rt, ensure_serial_version_is(alloc, 3, 2), line);
-    let line = "InvalidData => invalid preamble longs: expected one of [], got 1";
-    assert_refused(&rt, ensure_preamble_longs_in(alloc, &[], 1), line);
 }
 
 #[test]
@@ -89,10 +82,11 @@ fn accepting_checks_take_no_memory(rt: HostRuntime) {
 }
 
 #[test]
-fn insufficient_data_names_the_part(rt: HostRuntime) {
-    let refused = SketchSlice::new(&[]).read_u8().err();
-    let error = refused.map(|refused| insufficient_data(rt.alloc(), "preamble", refused));
-    let text = error.as_ref().map_or("", |error| error.message());
-    assert!(rt; text.starts_with("insufficient data (preamble): "));
-    assert!(rt; error.is_some_and(|error| error.kind() == ErrorKind::InvalidData));
+fn insufficient_data_names_the_part_and_the_error(rt: HostRuntime) {
+    let Some(refused) = SketchSlice::new(&[]).read_u8().err() else {
+        return assert!(rt; false, "a read of nothing succeeds");
+    };
+    let error = insufficient_data(rt.alloc(), "preamble", refused);
+    let line = "InvalidData => insufficient data (preamble): unexpected end of file";
+    assert_line(&rt, error, line);
 }

@@ -1,11 +1,12 @@
 //! What errors print, and contexts without memory.
 
-use super::{assert_line, assert_line_or_refusal, print_out_of_memory};
+use super::{assert_done_or_no_memory, assert_line, expect_line, print_out_of_memory};
 use crate::error::Error;
 use crate::error::ErrorKind::{self, InvalidArgument, InvalidData, OutOfMemory};
 use std::alloc::{AllocError, Global};
 use std::io::Eprint;
 use std::process::Abort;
+use std::test::Fail;
 
 fn error_of(alloc: Global, kind: ErrorKind, message: &str) -> Result<Error, AllocError> {
     Ok(Error::new(kind, String::from_str(alloc, message)?))
@@ -27,18 +28,41 @@ fn kinds_print_their_names_at_any_width(rt: HostRuntime) {
     assert_line(&rt, bare, "OutOfMemory");
 }
 
+// The alternate form of an error with two contexts.
+const FIELDS: &str = "Error {
+    kind: InvalidData,
+    message: \"m\",
+    context: [
+        (
+            \"index\",
+            \"42\",
+        ),
+        (
+            \"file\",
+            \"foo\",
+        ),
+    ],
+}";
+
 #[test]
-fn errors_show_their_contexts_line_by_line(rt: HostRuntime) -> Result<(), AllocError> {
+fn errors_print_their_contexts(rt: HostRuntime) -> Result<(), Fail> {
     let alloc = rt.alloc();
     let error = error_of(alloc, InvalidData, "m")?;
     assert_text(&rt, format!(in alloc; "{error:?}"), "InvalidData => m\n");
     let fields = "Error {\n    kind: InvalidData,\n    message: \"m\",\n    context: [],\n}";
     assert_text(&rt, format!(in alloc; "{error:#?}"), fields);
-    let Ok(error) = error.with_context(alloc, "a", 1u8) else {
-        return Err(AllocError);
-    };
-    let lines = "InvalidData => m\n\nContext:\n   a: 1\n";
+    let error = error.with_context(alloc, "index", 42u8)?;
+    let lines = "InvalidData => m\n\nContext:\n   index: 42\n";
     assert_text(&rt, format!(in alloc; "{error:?}"), lines);
+    let error = error.with_context(alloc, "file", "foo")?;
+    assert_text(&rt, format!(in alloc; "{error:#?}"), FIELDS);
+    assert_line(
+        &rt,
+        error,
+        "InvalidData, context: { index: 42, file: foo } => m",
+    );
+    let bare = Error::new(InvalidData, String::new(alloc)).with_context(alloc, "a", 1u8)?;
+    assert_line(&rt, bare, "InvalidData, context: { a: 1 }");
     Ok(())
 }
 
@@ -55,32 +79,27 @@ fn errors_print_the_given_message(rt: HostRuntime) -> Result<(), AllocError> {
     Ok(())
 }
 
-#[test]
-fn texts_that_are_built_without_memory(rt: HostRuntime) {
-    let alloc = rt.alloc();
+fn try_texts(rt: &impl Abort, alloc: Global) -> Result<(), Error> {
     let error = Error::insufficient_data(alloc, "x");
-    assert_line_or_refusal(&rt, error, "InvalidData => insufficient data: x");
+    expect_line(rt, error, "InvalidData => insufficient data: x")?;
     let error = Error::insufficient_data_of(alloc, "header", 5u8);
-    assert_line_or_refusal(&rt, error, "InvalidData => insufficient data (header): 5");
+    expect_line(rt, error, "InvalidData => insufficient data (header): 5")?;
     let error = Error::invalid_preamble_longs(alloc, &[1, 2], 3);
     let line = "InvalidData => invalid preamble longs: expected one of [1, 2], got 3";
-    assert_line_or_refusal(&rt, error, line);
+    expect_line(rt, error, line)?;
     let error = Error::invalid_preamble_ints(alloc, 2, 9);
     let line = "InvalidData => invalid preamble ints: expected 2, got 9";
-    assert_line_or_refusal(&rt, error, line);
+    expect_line(rt, error, line)
 }
 
 #[test]
-fn texts_that_are_built_have_their_kind(rt: HostRuntime) {
-    let alloc = rt.alloc();
-    for error in [
-        Error::insufficient_data(alloc, "x"),
-        Error::insufficient_data_of(alloc, "header", 5u8),
-        Error::invalid_preamble_longs(alloc, &[1, 2], 3),
-        Error::invalid_preamble_ints(alloc, 2, 9),
-    ] {
-        assert_eq!(rt; error.kind(), InvalidData);
-    }
+fn errors_have_the_texts_of_their_constructors(rt: HostRuntime) -> Result<(), Fail> {
+    Ok(try_texts(&rt, rt.alloc())?)
+}
+
+#[test]
+fn texts_that_are_built_without_memory(rt: HostRuntime) {
+    assert_done_or_no_memory(&rt, try_texts(&rt, rt.alloc()));
 }
 
 // The error after an attempt to add a context, and whether it was added.

@@ -42,11 +42,31 @@ fn read_by_name(reader: &mut SketchSlice, kind: Kind) -> io::Result<Item> {
     })
 }
 
+// Writes an item by the call that is named for its kind.
+fn write_by_name(writer: &mut SketchBytes, item: Item) -> Result<(), AllocError> {
+    match item {
+        Item::U8(n) => writer.write_u8(n),
+        Item::I8(n) => writer.write_i8(n),
+        Item::U16Le(n) => writer.write_u16_le(n),
+        Item::U16Be(n) => writer.write_u16_be(n),
+        Item::I16Le(n) => writer.write_i16_le(n),
+        Item::I16Be(n) => writer.write_i16_be(n),
+        Item::U32Le(n) => writer.write_u32_le(n),
+        Item::U32Be(n) => writer.write_u32_be(n),
+        Item::I32Le(n) => writer.write_i32_le(n),
+        Item::I32Be(n) => writer.write_i32_be(n),
+        Item::U64Le(n) => writer.write_u64_le(n),
+        Item::U64Be(n) => writer.write_u64_be(n),
+        Item::I64Le(n) => writer.write_i64_le(n),
+        Item::I64Be(n) => writer.write_i64_be(n),
+    }
+}
+
 #[test]
 fn forms_are_written(rt: HostRuntime) -> Result<(), AllocError> {
     for (item, bytes) in &FORMS {
         let mut writer = SketchBytes::with_capacity(rt.alloc(), 0)?;
-        assert_eq!(rt; writer.write_items(&[*item]), Ok(()));
+        write_by_name(&mut writer, *item)?;
         assert_eq!(rt; writer.into_bytes().as_slice(), *bytes);
     }
     Ok(())

@@ -3,8 +3,10 @@
 use super::print_out_of_memory;
 use crate::hash::{check_seed_hash, compute_seed_hash};
 use sketch_base::error::{Error, ErrorKind};
-use std::io::{Eprint, Write};
+use std::alloc::Global;
+use std::io::Write;
 use std::process::Abort;
+use std::test::Fail;
 
 #[test]
 fn accepted_seeds_take_no_memory(rt: HostRuntime) {
@@ -23,32 +25,37 @@ fn displays(error: &Error, line: &str) -> bool {
     is_whole && printed.get(..count) == Some(line.as_bytes())
 }
 
-// Asserts that an error displays this line, or that memory for it ran out.
-fn assert_refused<R: Abort + Eprint>(rt: &R, error: Option<Error>, line: &str) {
-    let is_right = error.as_ref().is_some_and(|error| displays(error, line));
-    if !is_right && error.is_some_and(|error| displays(&error, "OutOfMemory")) {
-        return print_out_of_memory(rt);
+// Asserts that a call fails with this line. Returns the error if there was no memory for its text.
+fn refuse<T: Drop>(rt: &impl Abort, answer: Result<T, Error>, line: &str) -> Result<(), Error> {
+    let Some(error) = answer.err() else {
+        return Ok(assert!(rt; false, "accepted, not {line}"));
+    };
+    if error.kind() == ErrorKind::OutOfMemory {
+        return Err(error);
     }
-    assert!(rt; is_right, "not {line}");
+    assert!(rt; displays(&error, line), "not {line}");
+    Ok(())
+}
+
+fn try_refusals(rt: &impl Abort, alloc: Global) -> Result<(), Error> {
+    let answer = compute_seed_hash(alloc, 50541, ErrorKind::InvalidArgument);
+    let line =
+        "InvalidArgument => seed 50541 produces a seed hash of zero; choose a different seed";
+    refuse(rt, answer, line)?;
+    let answer = check_seed_hash(alloc, 37836, 1, "theta", ErrorKind::InvalidData);
+    let line = "InvalidData => incompatible seed hash of theta: expected 37836, got 1";
+    refuse(rt, answer, line)
 }
 
 #[test]
-fn refused_seeds_have_the_given_kind(rt: HostRuntime) {
-    let (alloc, kind) = (rt.alloc(), ErrorKind::InvalidData);
-    let error = compute_seed_hash(alloc, 50541, kind).err();
-    assert_eq!(rt; error.map(|error| error.kind()), Some(kind));
-    let error = check_seed_hash(alloc, 37836, 1, "theta", kind).err();
-    assert_eq!(rt; error.map(|error| error.kind()), Some(kind));
+fn seeds_are_refused_with_their_lines(rt: HostRuntime) -> Result<(), Fail> {
+    Ok(try_refusals(&rt, rt.alloc())?)
 }
 
 #[test]
 fn seeds_are_refused_without_memory(rt: HostRuntime) {
-    let error = compute_seed_hash(rt.alloc(), 50541, ErrorKind::InvalidArgument).err();
-    let line =
-        "InvalidArgument => seed 50541 produces a seed hash of zero; choose a different seed";
-    assert_refused(&rt, error, line);
-    let kind = ErrorKind::InvalidData;
-    let error = check_seed_hash(rt.alloc(), 37836, 1, "theta", kind).err();
-    let line = "InvalidData => incompatible seed hash of theta: expected 37836, got 1";
-    assert_refused(&rt, error, line);
+    if let Err(error) = try_refusals(&rt, rt.alloc()) {
+        print_out_of_memory(&rt);
+        assert!(rt; displays(&error, "OutOfMemory"));
+    }
 }

@@ -1,6 +1,6 @@
 //! A wrapped value behaves like the value.
 
-use super::{FOX_MURMUR, FOX_PIECES, print_out_of_memory};
+use super::{FOX_MURMUR, FOX_PIECES};
 use crate::hash::value::{calculate_hash, feed_all, natural_extend, raw_bytes, sign_extend};
 use crate::hash::{Hash, MurmurHash3X64128};
 use std::cmp::Ordering;
@@ -44,20 +44,4 @@ fn word_is_the_number_whose_bytes_are_fed(rt: HostRuntime) {
     );
     assert_eq!(rt; raw_bytes::from_str("8 letter").word(), None);
     assert_eq!(rt; (-7i64).xxh64(0), natural_extend::from_i64(-7).xxh64(0));
-}
-
-#[test]
-fn clones_without_memory(rt: HostRuntime) {
-    let Ok(bytes) = Vec::from_slice(rt.alloc(), &[1, 2, 3]) else {
-        return print_out_of_memory(&rt);
-    };
-    let value = raw_bytes::from_vec(bytes);
-    match value.clone() {
-        Ok(clone) => assert!(rt; clone == value),
-        Err(_) => print_out_of_memory(&rt),
-    }
-    let mut hasher = MurmurHash3X64128::with_seed(0);
-    value.hash(&mut hasher);
-    let expected = MurmurHash3X64128::hash(&[1, 2, 3], 0);
-    assert_eq!(rt; hasher.finish128(), expected);
 }

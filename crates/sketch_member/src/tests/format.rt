@@ -5,6 +5,7 @@ use crate::{Fault, MemberTable};
 use datasketches::error::{Error, ErrorKind};
 use std::alloc::Global;
 use std::process::Abort;
+use std::test::Fail;
 
 // A place in the bytes of a table, another byte there, and the error's message.
 type Change = (usize, u8, &'static str);
@@ -73,6 +74,14 @@ fn try_longer(rt: &impl Abort, alloc: Global) -> Result<(), Error> {
     refuse_bytes(rt, alloc, &longer[..25], "trailing bytes: 1")?;
     longer[..32].copy_from_slice(&ONE_VALUE_2);
     refuse_bytes(rt, alloc, &longer, "trailing bytes: 2")
+}
+
+#[test]
+fn the_first_fault_is_returned(rt: HostRuntime) -> Result<(), Fail> {
+    try_changes(&rt, rt.alloc())?;
+    try_prefixes(&rt, rt.alloc(), &ONE_VALUE_1, 16)?;
+    try_prefixes(&rt, rt.alloc(), &ONE_VALUE_2, 24)?;
+    Ok(try_longer(&rt, rt.alloc())?)
 }
 
 #[test]

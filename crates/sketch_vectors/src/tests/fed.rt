@@ -5,7 +5,8 @@ use datasketches::hash::value::{
     feed_all, natural_extend as natural, raw_bytes, sign_extend as sign,
 };
 use datasketches::hash::{Hash, Hasher};
-use std::alloc::AllocError;
+use std::alloc::{AllocError, Global};
+use std::io::Eprint;
 use std::process::Abort;
 
 // Feeds one value to a hasher, and hands this over.
@@ -126,14 +127,26 @@ fn bytes_and_texts(rt: HostRuntime) -> Result<(), AllocError> {
     Ok(())
 }
 
+// What a clone and then its original feed, if there is memory for a clone.
+fn try_clone(rt: &impl Abort, alloc: Global) -> Result<(), AllocError> {
+    let original = raw_bytes::from_vec(Vec::from_slice(alloc, &[1, 2, 3])?);
+    let cloned = original.clone();
+    let expected = [1, 2, 3].as_slice();
+    assert_eq!(rt; feed(original).bytes(), expected);
+    assert_eq!(rt; feed(cloned?).bytes(), expected);
+    Ok(())
+}
+
 #[test]
 fn a_clone_feeds_what_its_original_feeds(rt: HostRuntime) -> Result<(), AllocError> {
-    let original = raw_bytes::from_vec(Vec::from_slice(rt.alloc(), &[1, 2, 3])?);
-    let cloned = original.clone()?;
-    let expected = [1, 2, 3].as_slice();
-    assert_eq!(rt; feed(cloned).bytes(), expected);
-    assert_eq!(rt; feed(original).bytes(), expected);
-    Ok(())
+    try_clone(&rt, rt.alloc())
+}
+
+#[test]
+fn a_clone_without_memory(rt: HostRuntime) {
+    if try_clone(&rt, rt.alloc()).is_err() {
+        let _ = rt.eprintln("out of memory");
+    }
 }
 
 #[test]
