@@ -1,6 +1,6 @@
 //! A Bloom filter of Apache Parquet that is filled, saved with its header, read, and merged.
 
-ghost use Rattle.std.specs.Prelude.{ℕ, List, ◌≡◌, ◌+◌, ◌++◌, ◌∷◌, [], IfOk, IfSome, length, map, take};
+ghost use Rattle.std.specs.Prelude.{ℕ, List, ◌≡◌, ◌↔◌, ◌+◌, ◌++◌, ◌∷◌, [], Contains, IfOk, IfSome, IsTrue, length, map, take};
 ghost use Rattle.sketch_bloom.specs.Filter.{Inserts, hash_of};
 ghost use Rattle.sketch_bloom.specs.Header.{IsHeaderLength, header};
 ghost use Rattle.sketch_bloom.specs.Laws.{StandsFor};
@@ -9,7 +9,8 @@ use datasketches::hash::Hash;
 use datasketches::hash::value::raw_bytes;
 use sketch_bloom::laws::{fold_law, insert_law, merge_law};
 use sketch_bloom::{
-    BloomFilter, Fault, bytes_for, contains, insert, insert_each_value, read_header, write_header,
+    BloomFilter, Fault, bytes_for, contains, insert, insert_each_value, merge, read_header,
+    write_header,
 };
 use std::alloc::Global;
 
@@ -42,6 +43,34 @@ pub fn merge_worker(filter: &mut BloomFilter, worker: &BloomFilter) -> Result<()
 {
     merge_law();
     filter.merge(worker)
+}
+
+/// Whether two workers have the same filter. They do if they inserted the same values, in any order
+/// and however often.
+pub fn is_same_filter(one: &[u8], other: &[u8]) -> bool
+    ensures { (hashes others : List ℕ) → length one.now ≡ length other.now →
+        StandsFor one.now hashes → StandsFor other.now others →
+        ((hash : ℕ) → Contains hashes hash ↔ Contains others hash) → IsTrue result }
+{
+    insert_law();
+    let (left, right) = (one, other);
+    left == right
+}
+
+/// Merges the filter of another worker, in place, and returns whether the result is the filter
+/// `whole` into which the values of both were inserted. It always is.
+///
+/// # Errors
+///
+/// Returns [`Fault::Length`] or [`Fault::OtherLength`] as [`merge`] does.
+pub fn merge_in_place(into: &mut [u8], worker: &[u8], whole: &[u8]) -> Result<bool, Fault>
+    ensures { (hashes others : List ℕ) → length whole.now ≡ length into.old →
+        StandsFor into.old hashes → StandsFor worker.now others →
+        StandsFor whole.now (hashes ++ others) → IfOk result (λ same. IsTrue same) }
+{
+    merge_law();
+    merge(into, worker)?;
+    Ok(is_same_filter(into, whole))
 }
 
 /// Folds a filter into one of half its length, which contains the same values.

@@ -35,6 +35,22 @@ pub fn is_same_key(seed: u64, x: i32, y: i32) -> bool
     pair_of(seed, x) == pair_of(seed, y)
 }
 
+/// Whether two numbers are equal, by their XXH64 alone: no two numbers share one.
+pub fn is_same_number(seed: u64, x: u64, y: u64) -> bool
+    ensures { IsTrue result ↔ (x ≡ y) }
+{
+    laws::hash_u64_law();
+    XxHash64::hash_u64(x, seed) == XxHash64::hash_u64(y, seed)
+}
+
+/// Whether two numbers are equal, by their Murmur pairs alone.
+pub fn is_same_number_by_murmur(seed: u64, x: u64, y: u64) -> bool
+    ensures { IsTrue result ↔ (x ≡ y) }
+{
+    laws::integer_law();
+    pair_of_value(seed, &x) == pair_of_value(seed, &y)
+}
+
 /// The XXH64 of each text of a column: text `i` is the bytes from offset `i` up to the next one.
 ///
 /// # Errors

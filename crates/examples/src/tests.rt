@@ -1,12 +1,18 @@
 //! Each example once.
 
-use crate::bloom_filter::{fill, load, merge_worker, save, see_in_place};
+use crate::bloom_filter::{
+    fill, is_same_filter, load, merge_in_place, merge_worker, save, see_in_place, shrink,
+};
 use crate::custom_types::{BigEndian, Point};
 use crate::items::{round_trip, write_nothing};
-use crate::keys::{hash_texts, is_same_key, pair_of, pair_of_value};
+use crate::keys::{
+    hash_texts, is_same_key, is_same_number, is_same_number_by_murmur, pair_of, pair_of_value,
+};
 use crate::membership_table::{load_keys, read_back, read_upgraded, see_key};
 use crate::preamble::{check_preamble, write_preamble};
-use crate::streams::{checkpoint, murmur_of_pieces, xxh64_from};
+use crate::streams::{
+    checkpoint, has_same_pair, has_same_xxh64, is_same_seed, murmur_of_pieces, xxh64_from,
+};
 use datasketches::codec::{Item, Kind, SketchBytes};
 use datasketches::hash::XxHash64;
 use datasketches::hash::value::raw_bytes;
@@ -18,6 +24,16 @@ fn keys_have_different_pairs(rt: HostRuntime) {
     assert!(rt; is_same_key(9001, -1, -1));
     assert!(rt; !is_same_key(9001, -1, 1));
     assert!(rt; pair_of(0, 1) != pair_of(1, 1));
+}
+
+#[test]
+fn numbers_streams_and_seeds_are_told_apart_by_their_hashes(rt: HostRuntime) {
+    let (one, other) = (1596396737209757324, 5366728093409127731);
+    assert!(rt; is_same_number(9001, one, one) && !is_same_number(9001, one, other));
+    assert!(rt; !is_same_number_by_murmur(9001, one, other));
+    assert!(rt; has_same_pair(7, b"fox", b"fox") && !has_same_pair(7, b"fox", b"dog"));
+    assert!(rt; has_same_xxh64(7, b"fox", b"fox") && !has_same_xxh64(7, b"fox", b"fix"));
+    assert!(rt; is_same_seed(7, 7, b"fox") && !is_same_seed(7, 8, b"fox"));
 }
 
 #[test]
@@ -95,6 +111,20 @@ fn a_bloom_filter_is_filled_saved_and_merged(rt: HostRuntime) -> Result<(), Fail
     for key in ["a", "b", "c"] {
         assert_eq!(rt; contains(read, &raw_bytes::from_str(key)), Ok(true));
     }
+    Ok(())
+}
+
+#[test]
+fn filters_of_the_same_values_are_the_same(rt: HostRuntime) -> Result<(), Fail> {
+    let (mut one, mut other, mut both) = ([0; 64], [0; 64], [0; 64]);
+    let _ = (see_in_place(&mut one, b"a"), see_in_place(&mut other, b"b"));
+    let _ = (see_in_place(&mut both, b"b"), see_in_place(&mut both, b"a"));
+    assert!(rt; !is_same_filter(&one, &other));
+    assert_eq!(rt; merge_in_place(&mut one, &other, &both), Ok(true));
+    let mut filter = BloomFilter::new(rt.alloc(), 64)?;
+    filter.insert(&raw_bytes::from_str("a"));
+    assert_eq!(rt; shrink(&mut filter), Ok(()));
+    assert!(rt; shrink(&mut filter).is_err() && filter.contains(&raw_bytes::from_str("a")));
     Ok(())
 }
 

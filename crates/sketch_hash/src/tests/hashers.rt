@@ -1,6 +1,7 @@
 //! Both hashers by their single calls.
 
 use super::{FOX, FOX_MURMUR, FOX_PIECES, FOX_XXH64, test_buffer};
+use crate::hash::value::calculate_hash;
 use crate::hash::{Hasher, MurmurHash3X64128, XxHash64};
 
 // Writes, and Murmur's pair with seed 0 after them.
@@ -73,6 +74,20 @@ fn one_call_equals_a_hasher(rt: HostRuntime) {
     assert_eq!(rt; XxHash64::hash_u64(123, 0), hasher.finish64());
     let above_32_bits = XxHash64::hash_u64(1 << 32, 0x9E37_79B1);
     assert_eq!(rt; above_32_bits, 0xbe51_7b2e_515c_75b5);
+}
+
+// Different numbers have different pairs, and can have the same first word.
+#[test]
+fn first_words_of_murmur_pairs_collide(rt: HostRuntime) {
+    let (one, other): (u64, u64) = (1596396737209757324, 5366728093409127731);
+    let hash = |number: u64| MurmurHash3X64128::hash(&number.to_le_bytes(), 9001);
+    let first = 0x7476_eab6_7a0a_2733;
+    assert_eq!(rt; hash(one), (first, 0x50cd_aa57_8ed6_9ca6));
+    assert_eq!(rt; hash(other), (first, 0xaec2_af0c_ed9d_9ffc));
+    assert_eq!(rt;
+        (calculate_hash(one), calculate_hash(other)),
+        (first, first)
+    );
 }
 
 // A state is written to, and resumed by a hasher.

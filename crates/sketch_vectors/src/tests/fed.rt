@@ -130,7 +130,7 @@ fn bytes_and_texts(rt: HostRuntime) -> Result<(), AllocError> {
 // What a clone and then its original feed, if there is memory for a clone.
 fn try_clone(rt: &impl Abort, alloc: Global) -> Result<(), AllocError> {
     let original = raw_bytes::from_vec(Vec::from_slice(alloc, &[1, 2, 3])?);
-    let cloned = original.clone();
+    let cloned: Result<_, AllocError> = original.clone();
     let expected = [1, 2, 3].as_slice();
     assert_eq!(rt; feed(original).bytes(), expected);
     assert_eq!(rt; feed(cloned?).bytes(), expected);
