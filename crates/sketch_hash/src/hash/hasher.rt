@@ -19,7 +19,8 @@ pub trait Hasher {
     fn write(&mut self, bytes: &[u8])
         ensures { self.new ≡ after self.old bytes.now };
 
-    /// The hash of all bytes so far.
+    /// The hash of all bytes so far. Of a longer hash, 64 bits: MurmurHash3 returns its first word,
+    /// which different inputs can share though their hashes differ.
     fn finish(&self) -> u64
         ensures { result ≡ answer self.now };
 

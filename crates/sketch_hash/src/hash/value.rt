@@ -203,7 +203,8 @@ pub fn feed_all<T: Hash, H: Hasher>(values: &[T], state: &mut H)
     }
 }
 
-/// The first word of MurmurHash3's hash of the value, under the seed of sketch updates.
+/// The first word of MurmurHash3's hash of the value, under the seed of sketch updates. Different
+/// values can share it: the laws of collisions are about both words.
 #[tactic(auto, using(crate::proofs::MurmurAnswers::of_one_write))]
 pub fn calculate_hash<T: Hash + Drop>(t: T) -> u64
     ensures { result ≡ (murmur 9001 (T.fed t)).0 }
