@@ -28,10 +28,15 @@ export interface Stream {
     digest(): bigint;
     /** The digest in lower-case hexadecimal, 16 or 32 digits, the highest first. */
     hexDigest(): string;
-    /** An independent stream with the same bytes so far. */
+    /**
+     * An independent stream with the same seed, bytes so far and properties. The constructor of a subclass is not
+     * called, so a subclass with private fields must override this.
+     */
     copy(): this;
     /** Drops all bytes, and keeps the seed if none is given. */
     reset(seed?: Whole): this;
+    /** Drops the state. Other calls throw a TypeError until a reset. `using` calls this, in engines that have it. */
+    free(): void;
 }
 
 /** A stream of MurmurHash3 x64 128. */
@@ -41,8 +46,9 @@ export interface MurmurStream extends Stream {
 }
 
 /**
- * The split block Bloom filter of Apache Parquet, which Spark, Arrow and DuckDB read. It contains each key that was
- * added, and reports some others too. Its bytes are in the module's memory, until the filter is collected as garbage.
+ * The split block Bloom filter of Apache Parquet. It has no false negatives, and may have false positives. Its bytes
+ * are in the module's memory until free is called, or until the filter is collected as garbage. An engine collects
+ * nothing during a loop without `await`, and does not know how large a filter is: so call free.
  *
  * A key is the value's plain bytes in Parquet: those of a text without a length, those of a number with the lowest
  * first.
@@ -72,6 +78,15 @@ export interface BloomFilter {
     hasEachHash(hashes: BigUint64Array): Uint8Array;
     /** Adds the keys of another filter of this module. @throws {RangeError} if the lengths are different */
     merge(other: BloomFilter): this;
+    /**
+     * Folds the filter into one of half its length, byte for byte the filter of that length of the same keys. So it can
+     * be created for all keys, and made smaller once it is known how many are different.
+     *
+     * @throws {RangeError} if its length is not a multiple of 64. The filter is then unchanged
+     */
+    fold(): this;
+    /** Frees the memory. Later calls throw a TypeError. `using` calls this, in engines that have it. */
+    free(): void;
     /** A copy of the bytes, without a header. */
     toBytes(): Uint8Array;
     /** The filter as it is in a Parquet file: a header, and then the bytes. */
@@ -82,7 +97,7 @@ export interface BloomFilterConstructor {
     /** A filter of so many bytes without keys. @throws {RangeError} if `length` is not a positive multiple of 32 */
     new (length: Whole): BloomFilter;
     /**
-     * The smallest filter of which at most one in `oneIn` other keys is found, once it has `keys` keys.
+     * The smallest filter with a false positive rate of at most one in `oneIn`, once it has `keys` different keys.
      *
      * @throws {RangeError} if no filter of at most 128 MiB keeps this rate
      */

@@ -1,6 +1,8 @@
 // sketch_hash 2.1.0: XXH64, MurmurHash3 x64 128 and the Bloom filter of Apache Parquet, from functions
 // that are proved, for browsers and Node. Licence: Apache-2.0. sketch_hash.d.mts describes each call.
 
+const VERSION = 20100;
+const VERSION_TEXT = [VERSION / 10000, VERSION / 100 % 100, VERSION % 100].map(Math.floor).join('.');
 const PAGE = 65536;
 const PIECE = 4 * PAGE; // bytes of a long input that are copied into the module's memory at a time
 
@@ -14,8 +16,9 @@ export async function load(source = new URL('sketch_hash.wasm', import.meta.url)
     const bytes = source instanceof URL || typeof source === 'string' ? await read(source) : source;
     if (!globalThis.WebAssembly?.validate(MEMORY64)) throw new Error(UNABLE);
     if (!WebAssembly.validate(bytes)) throw new Error('what was loaded is not a WebAssembly module, or is truncated');
-    const { instance } = await WebAssembly.instantiate(bytes, {});
-    return libraryOf(instance.exports);
+    const { exports } = (await WebAssembly.instantiate(bytes, {})).instance;
+    if (exports.sketch_hash_version?.() !== VERSION) throw new Error(`what was loaded is not sketch_hash ${VERSION_TEXT}`);
+    return libraryOf(exports);
 }
 
 async function read(place) {
@@ -65,14 +68,21 @@ function libraryOf(calls) {
     // Grows the memory to at least this length, which detaches views of it.
     function reserve(length) {
         if (memory.length >= length) return;
-        const pages = Math.ceil((length - memory.length) / PAGE);
+        try {
+            growBy(Math.ceil((length - memory.length) / PAGE));
+        } catch (error) {
+            throw new RangeError('no memory is left: call free() on each filter that is no longer used', { cause: error });
+        }
+        memory = new Uint8Array(calls.memory.buffer);
+    }
+
+    function growBy(pages) {
         try {
             calls.memory.grow(BigInt(pages));
         } catch (error) {
             if (!(error instanceof TypeError)) throw error;
             calls.memory.grow(pages); // Node 20 and 22 count pages as numbers
         }
-        memory = new Uint8Array(calls.memory.buffer);
     }
 
     function put(bytes, at) {
@@ -83,6 +93,12 @@ function libraryOf(calls) {
     function pair() {
         const [h1, h2] = new BigUint64Array(memory.buffer, result, 2);
         return h1 << 64n | h2;
+    }
+
+    // Lets `using` free an object at the end of its block, in engines that have it.
+    function disposable(kind) {
+        if (!Symbol.dispose) return;
+        Object.defineProperty(kind.prototype, Symbol.dispose, { value() { this.free(); } });
     }
 
     const hex = (hash, digits) => hash.toString(16).padStart(digits, '0');
@@ -110,9 +126,14 @@ function libraryOf(calls) {
             return this;
         }
 
+        #restore() {
+            if (!this.#saved) throw new TypeError('the stream was freed');
+            memory.set(this.#saved, state);
+        }
+
         update(bytes) {
             const all = view(bytes);
-            memory.set(this.#saved, state);
+            this.#restore();
             for (let at = 0; at < all.length; at += PIECE) {
                 this.#kind.update(BigInt(state), ...put(all.subarray(at, at + PIECE), input));
             }
@@ -121,18 +142,23 @@ function libraryOf(calls) {
         }
 
         digest() {
-            memory.set(this.#saved, state);
+            this.#restore();
             return this.#kind.digest();
         }
 
         hexDigest() { return hex(this.digest(), this.#kind.digits); }
 
+        // A subclass's constructor may take other arguments, so it is not called.
         copy() {
-            const other = new this.constructor(this.#seed);
-            other.#saved.set(this.#saved);
-            return other;
+            this.#restore();
+            const other = Reflect.construct(Stream, [this.#kind, this.#seed], this.constructor);
+            other.#saved = this.#saved.slice();
+            return Object.assign(other, this);
         }
+
+        free() { this.#saved = undefined; }
     }
+    disposable(Stream);
 
     const ofXxh64 = {
         size: 80,
@@ -176,9 +202,8 @@ function libraryOf(calls) {
         return pair();
     }
 
-    const version = calls.sketch_hash_version();
     const library = {
-        version: [version / 10000, version / 100 % 100, version % 100].map(Math.floor).join('.'),
+        version: VERSION_TEXT,
         xxh64,
         xxh64Hex: (bytes, seed) => hex(xxh64(bytes, seed), 16),
         Xxh64,
@@ -208,33 +233,65 @@ function libraryOf(calls) {
             : 'a Bloom filter must have a positive multiple of 32 bytes, and both filters of a merge the same length');
     }
 
-    let end = input + PIECE;
-    const unused = new Map(); // the size of blocks -> their addresses
-    const blocks = new FinalizationRegistry(({ at, size }) => unused.get(size).push(at));
+    // The free ranges after the input, by their addresses. No two of them touch.
+    const ranges = [];
+    let end = 64 * Math.ceil((input + PIECE) / 64);
+    const blocks = new FinalizationRegistry(release);
 
-    // Takes a block of at least this length, at a multiple of 64.
+    // Takes the first range that is long enough. Blocks begin and end at multiples of 64.
     function allocate(length) {
-        const size = Math.max(64, 2 ** Math.ceil(Math.log2(length)));
-        if (!unused.has(size)) unused.set(size, []);
-        let at = unused.get(size).pop();
-        if (at === undefined) {
-            at = 64 * Math.ceil(end / 64);
-            reserve(at + size);
-            end = at + size;
+        const size = 64 * Math.max(1, Math.ceil(length / 64));
+        let range = ranges.find((it) => it.stop - it.start >= size);
+        if (!range) {
+            const last = ranges.at(-1);
+            const start = last?.stop === end ? last.start : end;
+            reserve(start + size);
+            release({ start: end, stop: start + size });
+            end = start + size;
+            range = ranges.at(-1);
         }
-        return { at, size };
+        const { start } = range;
+        range.start += size;
+        if (range.start === range.stop) ranges.splice(ranges.indexOf(range), 1);
+        return { start, stop: start + size };
+    }
+
+    // Frees a block, and joins it with the ranges that it touches.
+    function release({ start, stop }) {
+        const after = ranges.findIndex((it) => it.start >= stop);
+        const at = after < 0 ? ranges.length : after;
+        const next = ranges[at];
+        const isBefore = next?.start === stop;
+        const previous = ranges[at - 1];
+        if (previous?.stop === start) {
+            previous.stop = isBefore ? next.stop : stop;
+            if (isBefore) ranges.splice(at, 1);
+        } else if (isBefore) {
+            next.start = start;
+        } else {
+            ranges.splice(at, 0, { start, stop });
+        }
     }
 
     // The call for offsets or numbers of this width: its name ends with 32 or 64.
     const callFor = (name, column) => calls[`${name}${8 * column.BYTES_PER_ELEMENT}`];
-    const callForOffsets = (name, offsets) => callFor(name, checkedColumn(offsets, OFFSETS, 'offsets'));
+    const callForOffsets = (name, offsets, { length }) => {
+        const call = callFor(name, checkedColumn(offsets, OFFSETS, 'offsets'));
+        // The library takes offsets for unsigned, so that a negative one may be inside of a long column.
+        if (length > 2 ** 31 - 1 && typeOf(offsets) === 'Int32Array') {
+            const wrong = offsets.findIndex((it, at) => it < (at ? offsets[at - 1] : 0));
+            if (wrong >= 0) check(-2, wrong);
+        }
+        return call;
+    };
     const callForNumbers = (name, numbers) => callFor(name, checkedColumn(numbers, NUMBERS, 'numbers'));
     const resultWord = () => new BigUint64Array(memory.buffer, result, 1)[0];
 
     // Runs a call over columns, and returns the results. A block holds the results, then offsets or numbers, then
     // bytes, so that each array is aligned.
     function overColumns(columns, resultBytes, call) {
-        const { at, size } = allocate(columns.reduce((sum, { byteLength }) => sum + byteLength, resultBytes + 8));
+        const block = allocate(columns.reduce((sum, { byteLength }) => sum + byteLength, resultBytes + 8));
+        const at = block.start;
         try {
             let next = at + 8 * Math.ceil(resultBytes / 8);
             const args = columns.map((column) => {
@@ -245,16 +302,17 @@ function libraryOf(calls) {
             check(call(BigInt(at), ...args), resultWord());
             return memory.slice(at, at + resultBytes);
         } finally {
-            unused.get(size).push(at);
+            release(block);
         }
     }
 
     function hashEachKey(name, width) {
         return (bytes, offsets, seed = 0n) => {
             const seedWord = checked(seed, 'a seed');
-            const call = callForOffsets(name, offsets);
+            const all = view(bytes);
+            const call = callForOffsets(name, offsets, all);
             const count = Math.max(offsets.length - 1, 0);
-            return new BigUint64Array(overColumns([offsets, view(bytes)], count * width, (out, ofOffsets, ofBytes) =>
+            return new BigUint64Array(overColumns([offsets, all], count * width, (out, ofOffsets, ofBytes) =>
                 call(...ofBytes, ...ofOffsets, seedWord, out, BigInt(count), BigInt(result))).buffer);
         };
     }
@@ -269,18 +327,31 @@ function libraryOf(calls) {
     const encoder = new TextEncoder();
     const keyView = (key) => typeof key === 'string' ? encoder.encode(key) : view(key, ', or a string');
 
-    // The bits are a block of the module's memory, which another filter uses when this one was collected.
+    // The bits are at the start of a block of the module's memory. It is free again when the filter was freed, or
+    // collected as garbage.
     class BloomFilter {
-        #at; #length;
+        #block; #length;
 
         constructor(length) {
             const bytes = checked(length, 'a length');
             check(calls.sketch_bloom_check(bytes));
             this.#length = Number(bytes);
-            const block = allocate(this.#length);
-            blocks.register(this, block);
-            this.#at = block.at;
-            memory.fill(0, this.#at, this.#at + this.#length);
+            this.#block = allocate(this.#length);
+            blocks.register(this, this.#block, this);
+            this.#bytes().fill(0);
+        }
+
+        free() {
+            if (!this.#block) return;
+            blocks.unregister(this);
+            release(this.#block);
+            this.#block = undefined;
+        }
+
+        // A view that a later call may detach.
+        #bytes() {
+            if (!this.#block) throw new TypeError('the filter was freed');
+            return memory.subarray(this.#block.start, this.#block.start + this.#length);
         }
 
         static bytesFor(keys, oneIn) {
@@ -294,7 +365,7 @@ function libraryOf(calls) {
         static fromBytes(bytes) {
             const all = view(bytes);
             const filter = new this(all.length);
-            memory.set(all, filter.#at);
+            filter.#bytes().set(all);
             return filter;
         }
 
@@ -307,7 +378,10 @@ function libraryOf(calls) {
             return this.fromBytes(all.subarray(Number(header), last));
         }
 
-        get #bits() { return [BigInt(this.#at), BigInt(this.#length)]; }
+        get #bits() {
+            if (!this.#block) throw new TypeError('the filter was freed');
+            return [BigInt(this.#block.start), BigInt(this.#length)];
+        }
 
         get length() { return this.#length; }
 
@@ -337,16 +411,18 @@ function libraryOf(calls) {
         }
 
         addEach(bytes, offsets) {
-            const call = callForOffsets('sketch_bloom_insert_each', offsets);
-            overColumns([offsets, view(bytes)], 0, (_, ofOffsets, ofBytes) =>
+            const all = view(bytes);
+            const call = callForOffsets('sketch_bloom_insert_each', offsets, all);
+            overColumns([offsets, all], 0, (_, ofOffsets, ofBytes) =>
                 call(...this.#bits, ...ofBytes, ...ofOffsets, BigInt(result)));
             return this;
         }
 
         hasEach(bytes, offsets) {
-            const call = callForOffsets('sketch_bloom_contains_each', offsets);
+            const all = view(bytes);
+            const call = callForOffsets('sketch_bloom_contains_each', offsets, all);
             const count = Math.max(offsets.length - 1, 0);
-            return overColumns([offsets, view(bytes)], count, (found, ofOffsets, ofBytes) =>
+            return overColumns([offsets, all], count, (found, ofOffsets, ofBytes) =>
                 call(...this.#bits, ...ofBytes, ...ofOffsets, found, BigInt(count), BigInt(result)));
         }
 
@@ -377,22 +453,36 @@ function libraryOf(calls) {
         }
 
         merge(other) {
-            if (!(#at in Object(other))) throw new TypeError('only a Bloom filter of this module can be merged');
-            check(calls.sketch_bloom_merge(...this.#bits, ...other.#bits));
+            if (!(#block in Object(other))) throw new TypeError('only a Bloom filter of this module can be merged');
+            const args = [...this.#bits, ...other.#bits];
+            if (other !== this) check(calls.sketch_bloom_merge(...args));
             return this;
         }
 
-        toBytes() { return memory.slice(this.#at, this.#at + this.#length); }
+        // The second half of the bits is free then.
+        fold() {
+            if (calls.sketch_bloom_fold(...this.#bits)) {
+                throw new RangeError(`a Bloom filter to fold must have a multiple of 64 bytes, not ${this.#length}`);
+            }
+            this.#length /= 2;
+            const start = this.#block.start + 64 * Math.ceil(this.#length / 64);
+            if (start < this.#block.stop) release({ start, stop: this.#block.stop });
+            this.#block.stop = start;
+            return this;
+        }
+
+        toBytes() { return this.#bytes().slice(); }
 
         toParquet() {
             const header = Number(calls.sketch_bloom_header_write(BigInt(this.#length), BigInt(input), BigInt(PIECE)));
             if (!header) throw new RangeError('the filter is too long for a header of Parquet');
             const bytes = new Uint8Array(header + this.#length);
             bytes.set(memory.subarray(input, input + header));
-            bytes.set(memory.subarray(this.#at, this.#at + this.#length), header);
+            bytes.set(this.#bytes(), header);
             return bytes;
         }
     }
+    disposable(BloomFilter);
 
     Object.assign(library, {
         xxh64Each: hashEachKey('sketch_xxh64_each', 8),

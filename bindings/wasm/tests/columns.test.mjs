@@ -2,6 +2,7 @@ import assert from 'node:assert/strict';
 import test from 'node:test';
 import v8 from 'node:v8';
 import { runInNewContext } from 'node:vm';
+import { load } from '../../../dist/wasm/sketch_hash.mjs';
 import { bytes, last, library, long, lost } from './helpers.mjs';
 
 const { xxh64, murmur128, xxh64Each, xxh64EachU64, murmur128Each, BloomFilter } = library;
@@ -33,8 +34,15 @@ for (const type of offsetTypes) {
     });
 }
 
-test('a negative offset is past the end', () => {
+test('a negative offset is an error, also in bytes that are longer than 2 GiB', () => {
     assert.throws(() => xxh64Each(bytes('fox'), Int32Array.of(0, -1)), /the offset at 1 is/);
+    const zeros = new Uint8Array(2 ** 31 + 8); // takes no memory, since it is never written
+    const filter = new BloomFilter(32);
+    for (const [offsets, wrong] of [[[-(2 ** 31), 3 - 2 ** 31], 0], [[0, 3, 2, -(2 ** 31)], 2], [[0, -(2 ** 31)], 1]]) {
+        for (const call of [xxh64Each, murmur128Each, (...args) => filter.addEach(...args), (...args) => filter.hasEach(...args)]) {
+            assert.throws(() => call(zeros, Int32Array.from(offsets)), new RegExp(`the offset at ${wrong} is`));
+        }
+    }
 });
 
 test('the memory grows for a long column', () => {
@@ -80,7 +88,7 @@ test('a column of another type is a type error', () => {
 
 test('the library works after memory ran out', (t) => {
     const grow = t.mock.method(WebAssembly.Memory.prototype, 'grow', () => { throw new RangeError('no memory'); });
-    assert.throws(() => xxh64EachU64(new BigInt64Array(1e7)), { message: 'no memory' });
+    assert.throws(() => xxh64EachU64(new BigInt64Array(1e7)), { name: 'RangeError', message: /call free\(\)/ });
     assert.deepEqual([...xxh64Each(bytes('fox'), Uint32Array.of(0, 3))], [xxh64(bytes('fox'))]);
     grow.mock.restore();
     assert.equal(xxh64EachU64(new BigInt64Array(1e7)).length, 1e7);
@@ -175,6 +183,19 @@ test('a merged filter has the keys of both', () => {
     assert.ok(one.has('fox') && keys.every((key) => one.has(key)) && !other.has('fox'));
 });
 
+test('a filter is merged into itself', () => {
+    const filter = filled();
+    assert.deepEqual(filter.merge(filter).toBytes(), filled().toBytes());
+});
+
+test('a folded filter is that of half the length', () => {
+    const filter = filled(6 * 32).fold();
+    assert.equal(filter.length, 96);
+    assert.deepEqual(filter.toBytes(), filled(96).toBytes());
+    assert.throws(() => filter.fold(), { name: 'RangeError', message: /must have a multiple of 64 bytes, not 96/ });
+    assert.deepEqual(filter.toBytes(), filled(96).toBytes());
+});
+
 test('filters of different lengths are not merged', () => {
     const filter = filled();
     assert.throws(() => filter.merge(new BloomFilter(2048)), RangeError);
@@ -203,6 +224,69 @@ test('filters are unchanged when the memory grows', () => {
 test('a filter in reused memory is empty', () => {
     library.xxh64EachU64(BigUint64Array.of(last, last, last)); // takes a block of 64 bytes for the time of the call
     assert.deepEqual(new BloomFilter(64).toBytes(), new Uint8Array(64));
+});
+
+test('every call of a filter that was freed is a type error', () => {
+    const filter = filled();
+    filter.free();
+    filter.free();
+    const freed = { name: 'TypeError', message: 'the filter was freed' };
+    for (const call of [
+        () => filter.add('fox'), () => filter.has('fox'), () => filter.addHash(1), () => filter.hasHash(1),
+        () => filter.addEach(bytes('fox'), Uint32Array.of(0, 3)), () => filter.hasEach(bytes('fox'), Uint32Array.of(0, 3)),
+        () => filter.addEachNumber(new Float64Array(2)), () => filter.hasEachHash(new BigUint64Array(2)),
+        () => filter.merge(filled()), () => filled().merge(filter), () => filter.merge(filter), () => filter.fold(),
+        () => filter.toBytes(), () => filter.toParquet(),
+    ]) assert.throws(call, freed);
+});
+
+test('using frees an object, where the engine has it', { skip: !Symbol.dispose && 'this engine has no Symbol.dispose' }, () => {
+    const [filter, stream] = [filled(), new library.Xxh64()];
+    for (const it of [filter, stream]) it[Symbol.dispose]();
+    assert.throws(() => filter.has('fox'), TypeError);
+    assert.throws(() => stream.digest(), TypeError);
+});
+
+// Each filter is compared with a new one before it is freed.
+test('10,000 filters of random sizes need little more memory than what was alive at once', async (t) => {
+    const { BloomFilter: Filter } = await load(); // a module with a memory of its own
+    const { grow } = WebAssembly.Memory.prototype;
+    let pages = 0;
+    t.mock.method(WebAssembly.Memory.prototype, 'grow', function (count) {
+        const before = grow.call(this, count);
+        pages += Number(count);
+        return before;
+    });
+    let state = 1;
+    const random = (below) => (state = Math.imul(state, 1103515245) + 12345 >>> 0) % below;
+    const alive = new Map();
+    let [now, most] = [0, 0];
+    for (let n = 0; n < 10_000; n += 1) {
+        const length = 32 * (1 + random(2 ** random(15)));
+        alive.set(`${n}`, new Filter(length).add(`${n}`));
+        most = Math.max(most, now += length);
+        for (const [key, filter] of alive) {
+            if (random(20)) continue;
+            const expected = new Filter(filter.length).add(key);
+            assert.deepEqual(filter.toBytes(), expected.toBytes());
+            now -= filter.length;
+            for (const it of [filter, expected]) it.free();
+            alive.delete(key);
+        }
+    }
+    assert.ok(pages * 65536 < 2 * most, `${pages * 65536} bytes for ${most}`);
+});
+
+test('what filters of one size have freed another can use', async (t) => {
+    const { BloomFilter: Filter } = await load();
+    const filters = Array.from({ length: 64 }, () => new Filter(2 ** 16));
+    const grow = t.mock.method(WebAssembly.Memory.prototype, 'grow');
+    for (const filter of filters) filter.free();
+    for (const length of [2 ** 22, 2 ** 5, 3 * 2 ** 20]) {
+        const filter = new Filter(length);
+        filter.free();
+    }
+    assert.equal(grow.mock.callCount(), 0);
 });
 
 test('the memory of collected filters is reused', async (t) => {

@@ -63,9 +63,27 @@ test('a reset drops the bytes, and keeps the seed if none is given', () => {
     assert.deepEqual([stream.reset(0).seed, stream.update(fox).digest()], [0n, xxh64(fox)]);
 });
 
-test('a copy of a subclass is of the subclass', () => {
-    class Named extends Xxh64 {}
-    assert.ok(new Named(7n).copy() instanceof Named);
+test('a copy of a subclass has its properties, and keeps the seed', () => {
+    class Named extends Xxh64 {
+        constructor(name, seed) {
+            super(seed);
+            this.name = name;
+        }
+    }
+    const copy = new Named('fox', 7n).update(fox).copy();
+    assert.ok(copy instanceof Named);
+    assert.deepEqual([copy.name, copy.seed, copy.digest()], ['fox', 7n, xxh64(fox, 7)]);
+    assert.equal(copy.reset().update(fox).digest(), xxh64(fox, 7));
+});
+
+test('a stream that was freed is a type error until it is reset', () => {
+    for (const [Kind, hash] of kinds) {
+        const stream = new Kind(7).update(fox);
+        stream.free();
+        const freed = { name: 'TypeError', message: 'the stream was freed' };
+        for (const call of [() => stream.update(fox), () => stream.digest(), () => stream.copy()]) assert.throws(call, freed);
+        assert.equal(stream.reset().update(fox).digest(), hash(fox, 7));
+    }
 });
 
 test('a seed is a number or a BigInt', () => {
@@ -129,6 +147,16 @@ for (const part of [module.subarray(1), module.subarray(0, 1000), new ArrayBuffe
         await assert.rejects(load(part), /not a WebAssembly module, or is truncated/);
     });
 }
+
+test('another module, or another version, is an error', async (t) => {
+    await assert.rejects(load(Uint8Array.of(0, 0x61, 0x73, 0x6d, 1, 0, 0, 0)), /is not sketch_hash 2\.\d+\.\d+$/);
+    const { instantiate } = WebAssembly;
+    t.mock.method(WebAssembly, 'instantiate', async (...args) => {
+        const { exports } = (await instantiate(...args)).instance;
+        return { instance: { exports: { ...exports, sketch_hash_version: () => 10200 } } };
+    });
+    await assert.rejects(load(module), /is not sketch_hash 2/);
+});
 
 test('a missing file is an error', async () => {
     await assert.rejects(load(new URL('missing.wasm', url)), { code: 'ENOENT' });

@@ -29,7 +29,8 @@ each = filter.hasEachNumber(offsets);
 each = filter.hasEachHash(columns[0]);
 const lengths: number[] = [filter.length, library.BloomFilter.bytesFor(1, 2)];
 let read: BloomFilter = library.BloomFilter.fromParquet(filter.toParquet());
-read = library.BloomFilter.fromBytes(filter.toBytes());
+read = library.BloomFilter.fromBytes(filter.fold().toBytes());
+const freed: void[] = [read.free(), stream.free()];
 
 // @ts-expect-error: a string must be encoded
 library.xxh64('fox');
