@@ -1,6 +1,13 @@
 # find_package(sketch_hash) gives two targets, the shared and the static library:
 # sketch_hash::sketch_hash and sketch_hash::sketch_hash_static.
 
+foreach(sketch_hash_component IN LISTS sketch_hash_FIND_COMPONENTS)
+    if(sketch_hash_FIND_REQUIRED_${sketch_hash_component})
+        set(sketch_hash_FOUND FALSE)
+        set(sketch_hash_NOT_FOUND_MESSAGE "sketch_hash has no components, and so no ${sketch_hash_component}")
+    endif()
+endforeach()
+
 # The folder itself, and not a link that leads to it, as /lib does to /usr/lib: beside that there is no include.
 get_filename_component(sketch_hash_prefix "${CMAKE_CURRENT_LIST_DIR}" REALPATH)
 get_filename_component(sketch_hash_prefix "${sketch_hash_prefix}/../../.." ABSOLUTE)
