@@ -122,6 +122,28 @@ def test_project_links_a_library_elsewhere(project, need, tmp_path):
     assert try_cargo("run", folder=project, SKETCH_HASH_LIB_DIR=str(elsewhere)).returncode != 0
 
 
+def test_a_library_of_another_version_does_not_link(project, need, tmp_path):
+    """Even if the program makes no call that is new."""
+    need("objcopy")
+    library = shutil.copy(DIST / "linux-x86_64/libsketch_hash.a", tmp_path)
+    subprocess.run(["objcopy", "--redefine-sym", "sketch_bloom_insert_hash=other", library], check=True)
+    (project / "src/main.rs").write_text("fn main() { sketch_hash::version(); }")
+    for profile in ("dev", "release"):
+        done = try_cargo("build", "--profile", profile, folder=project, SKETCH_HASH_LIB_DIR=str(tmp_path))
+        assert re.search("undefined .*sketch_bloom_insert_hash", done.stderr)
+
+
+def test_a_cdylib_exports_none_of_the_calls(project, target, need):
+    need("nm", "linux-x86_64")
+    with open(project / "Cargo.toml", "a") as manifest:
+        manifest.write('[lib]\ncrate-type = ["cdylib"]\n')
+    lines = '#[no_mangle] extern "C" fn plugin() -> u64 { sketch_hash::xxh64(b"fox", 0) }'
+    (project / "src/lib.rs").write_text(lines)
+    cargo("build", "--lib", folder=project)
+    exported = subprocess.check_output(["nm", "-D", target / "debug/libown.so"], text=True)
+    assert " T plugin" in exported and "sketch_" not in exported
+
+
 def test_a_missing_library_is_an_error_with_its_path(project, tmp_path):
     done = try_cargo("run", folder=project, SKETCH_HASH_LIB_DIR=str(tmp_path))
     assert f"{tmp_path}/libsketch_hash.a is missing: set SKETCH_HASH_LIB_DIR" in done.stderr

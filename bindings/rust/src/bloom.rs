@@ -1,6 +1,7 @@
 //! The Bloom filter of Apache Parquet.
 
 use crate::calls::*;
+use crate::columns::reachable;
 use crate::columns::sealed::{Calls, Width};
 use crate::{Error, Number, Offset};
 use alloc::{vec, vec::Vec};
@@ -205,7 +206,7 @@ impl<B: AsRef<[u8]>> BloomFilter<B> {
     pub fn contains_each<O: Offset>(
         &self, keys: &[u8], offsets: &[O], found: &mut [bool],
     ) -> Result<(), Error> {
-        let (bits, mut wrong_offset) = (self.bits.as_ref(), 0);
+        let (bits, keys, mut wrong_offset) = (self.bits.as_ref(), reachable::<O>(keys), 0);
         // SAFETY: `found` is borrowed alone.
         let status = unsafe {
             O::Bits::CONTAINS(
@@ -398,7 +399,7 @@ impl<B: AsRef<[u8]> + AsMut<[u8]>> BloomFilter<B> {
     /// Returns [`Error::Offset`] with the index of the first offset that is past the end of `keys`,
     /// or below the one before. Nothing is inserted.
     pub fn insert_each<O: Offset>(&mut self, keys: &[u8], offsets: &[O]) -> Result<(), Error> {
-        let (bits, mut wrong_offset) = (self.bits.as_mut(), 0);
+        let (bits, keys, mut wrong_offset) = (self.bits.as_mut(), reachable::<O>(keys), 0);
         // SAFETY: the bits are borrowed alone, so nothing else overlaps them.
         let status = unsafe {
             O::Bits::INSERT(

@@ -5,7 +5,7 @@ use crate::Error;
 
 /// An offset of a column: `u32`, `u64`, and `i32` and `i64`, as Apache Arrow has them.
 ///
-/// A negative offset is past the end.
+/// A negative offset is past the end, however many bytes there are.
 ///
 /// ```
 /// let mut hashes = [0; 2];
@@ -16,12 +16,23 @@ use crate::Error;
 /// ```compile_fail
 /// sketch_hash::xxh64_each(b"foxdog", &[0_u16, 3, 6], 7, &mut [0; 2]);
 /// ```
-pub trait Offset: sealed::Width {}
+pub trait Offset: sealed::Width + sealed::Greatest {}
 
-impl Offset for u32 {}
-impl Offset for i32 {}
-impl Offset for u64 {}
-impl Offset for i64 {}
+macro_rules! offsets {
+    ($($Type:ty)*) => { $(
+        impl Offset for $Type {}
+        impl sealed::Greatest for $Type {
+            const GREATEST: usize = <$Type>::MAX as usize;
+        }
+    )* };
+}
+offsets! { u32 i32 u64 i64 }
+
+/// The bytes that an offset can reach. The library reads a negative offset as a number without a
+/// sign, which is past their end.
+pub(crate) fn reachable<O: Offset>(bytes: &[u8]) -> &[u8] {
+    &bytes[..bytes.len().min(O::GREATEST)]
+}
 
 /// A number whose plain bytes Apache Parquet hashes: of 4 bytes or of 8, the lowest first.
 ///
@@ -46,6 +57,11 @@ impl Number for f64 {}
 
 pub(crate) mod sealed {
     use super::*;
+
+    /// A type of offsets, with the greatest of them.
+    pub trait Greatest {
+        const GREATEST: usize;
+    }
 
     /// A type of 4 or 8 bytes, which the library reads as a `u32` or a `u64`.
     ///
@@ -95,12 +111,12 @@ pub(crate) mod sealed {
     }
 }
 
-use sealed::{Calls, Width};
+use sealed::Calls;
 
-fn each<O: Calls, H>(
-    call: HashEach<O, H>, input: &[u8], offsets: &[impl Width<Bits = O>], seed: u64, out: &mut [H],
+fn each<O: Offset, H>(
+    call: HashEach<O::Bits, H>, input: &[u8], offsets: &[O], seed: u64, out: &mut [H],
 ) -> Result<(), Error> {
-    let mut wrong_offset = 0;
+    let (input, mut wrong_offset) = (reachable::<O>(input), 0);
     // SAFETY: a slice is readable for its length, which is below 2^63, and does not change while it
     // is borrowed. `out` is borrowed alone, and any words are an H.
     let status = unsafe {

@@ -56,6 +56,21 @@ fn a_negative_offset_is_past_the_end() {
 }
 
 #[test]
+fn a_negative_offset_is_an_error_in_keys_past_32_bits() {
+    let zeros = vec![0; (1 << 32) + 37]; // never written, so they take no memory
+    let (mut filter, mut found) = (BloomFilter::with_len(32).unwrap(), [true]);
+    for (offsets, index) in [([i32::MIN, i32::MIN + 3], 0), ([0, -1], 1)] {
+        let error = Err(Error::Offset { index });
+        assert_eq!(xxh64_each(&zeros, &offsets, SEED, &mut [0]), error);
+        assert_eq!(murmur3_x64_128_each(&zeros, &offsets, SEED, &mut [[0; 2]]), error);
+        assert_eq!(filter.insert_each(&zeros, &offsets), error);
+        assert_eq!(filter.contains_each(&zeros, &offsets, &mut found), error);
+    }
+    let last = [i32::MAX - 1, i32::MAX];
+    assert_eq!(xxh64_each(&zeros, &last, SEED, &mut [0]), Ok(()));
+}
+
+#[test]
 fn extra_offsets_are_not_read() {
     let mut out = [5; 2];
     xxh64_each(b"fox", &[0_u32, 3, 99], SEED, &mut out[..1]).unwrap();
