@@ -14,7 +14,8 @@
  *
  * What a caller must ensure, which no compiler checks:
  *   - A pointer with a length or a count points to that much memory, which is aligned for its type
- *     and may be NULL only if the count is 0. A length is below 2^63, a count below 2^60.
+ *     and may be NULL only if the count is 0. A length is below 2^63, a count below 2^60, and of
+ *     pairs, as `out` of sketch_murmur3_x64_128_each32 has them, below 2^59.
  *   - Any other pointer, wrong_offset too, is valid and not NULL.
  *   - What a call writes does not overlap anything else that it is given, and nobody else reads or
  *     writes it during the call. Nobody else writes what a call reads.
@@ -29,11 +30,24 @@
 #include <stddef.h>
 #include <stdint.h>
 
-#ifdef __cplusplus
-extern "C" {
+#if !defined __cplusplus
+#define SKETCH_HASH_U64(number) ((uint64_t)(number))
+#elif __cplusplus < 201103L
 #define SKETCH_HASH_U64(number) static_cast<uint64_t>(number)
 #else
-#define SKETCH_HASH_U64(number) ((uint64_t)(number))
+/* In a template no compiler warns of a cast that changes nothing. */
+extern "C++" {
+namespace sketch_hash {
+template <typename Number> constexpr uint64_t u64(Number number) {
+    return static_cast<uint64_t>(number);
+}
+} // namespace sketch_hash
+}
+#define SKETCH_HASH_U64(number) sketch_hash::u64(number)
+#endif
+
+#ifdef __cplusplus
+extern "C" {
 #endif
 
 /** The version of this header: major * 10000 + minor * 100 + patch. */
@@ -258,10 +272,10 @@ int sketch_bloom_fold(void *bits, size_t length);
 /** How many bytes sketch_bloom_header_write writes at most. */
 #define SKETCH_BLOOM_HEADER_MAX 19
 
-/** Writes to `header`, which has `room` bytes, the header that is before a filter of `bytes` bytes in
- * a Parquet file, and returns its length: 15 to 19. Returns 0, and writes nothing, if `room` is too
- * small, or `bytes` is 2^31 or more or no filter's length. The file's bloom_filter_length is that
- * of the header and the filter. */
+/** Writes to `header`, which has `room` bytes, the header that is before a filter of `bytes` bytes
+ * in a Parquet file, and returns its length: 15 to 19. Returns 0, and writes nothing, if `room` is
+ * too small, or `bytes` is 2^31 or more or no filter's length. The file's bloom_filter_length is
+ * that of the header and the filter. */
 size_t sketch_bloom_header_write(uint64_t bytes, unsigned char *header, size_t room);
 
 /** Reads the header of a split block filter with XXH64, uncompressed. Returns its length, or 0, and

@@ -1,5 +1,10 @@
-/* The header alone, under each standard of C and C++: it may be included twice, and its
- * initializers are constants that equal a reset. */
+/* The header alone, under each standard of C and C++: it may be included twice, and
+ * inside extern "C", and its initializers are constants that equal a reset. */
+#ifdef __cplusplus
+extern "C" {
+#include "sketch_hash.h"
+}
+#endif
 #include "sketch_hash.h"
 #include "sketch_hash.h"
 #include <string.h>
@@ -16,9 +21,12 @@ int main(void) {
     sketch_murmur3_x64_128_reset(&m, 7);
 #ifdef __cplusplus
     int seed = 7;
-    sketch_xxh64_state_t other_x = SKETCH_XXH64_INIT(seed);
-    sketch_murmur3_x64_128_state_t other_m = SKETCH_MURMUR3_X64_128_INIT(seed);
-    if (memcmp(&x, &other_x, sizeof x) || memcmp(&m, &other_m, sizeof m)) return 1;
+    uint64_t word = 7; /* needs no cast */
+    sketch_xxh64_state_t other_x[] = {SKETCH_XXH64_INIT(seed), SKETCH_XXH64_INIT(word)};
+    sketch_murmur3_x64_128_state_t other_m[] = {SKETCH_MURMUR3_X64_128_INIT(seed),
+                                                SKETCH_MURMUR3_X64_128_INIT(word)};
+    for (int i = 0; i < 2; i++)
+        if (memcmp(&x, &other_x[i], sizeof x) || memcmp(&m, &other_m[i], sizeof m)) return 1;
 #endif
     return memcmp(&x, &constant_x, sizeof x) || memcmp(&m, &constant_m, sizeof m);
 }

@@ -31,6 +31,8 @@ STANDARDS = [
 def test_header_compiles(compiler, standard, need, tmp_path):
     need(compiler)
     language = ["-xc++", "-Wold-style-cast"] if "++" in compiler else ["-xc"]
+    if compiler == "g++" and standard != "c++98":
+        language.append("-Wuseless-cast")
     command = [compiler, f"-std={standard}", "-pedantic-errors", *STRICT, "-I", INCLUDE, "-o", tmp_path / "alone"]
     output(*command, *language, HERE / "alone.c", "-xnone", NATIVE / "libsketch_hash.a")
     output(tmp_path / "alone")
@@ -164,6 +166,28 @@ def test_archive_exports_the_calls_alone(folder, need):
     assert sorted(names) == CALLS
 
 
+def test_a_plugin_calls_the_archive_that_it_embeds(need, tmp_path):
+    """Also in a program that links another version of the library, whose calls have the same names."""
+    need("gcc", "nm")
+    option = re.search(r"`(-Wl,--exclude-libs,\w+)`", (DIST / "README.md").read_text())[1]
+    sources = {
+        "plugin": '#include <sketch_hash.h>\nuint64_t plugin(void) { return sketch_xxh64("fox", 3, 0); }',
+        "other": "void sketch_xxh64(unsigned long *hash) { *hash = 0; }",
+        "main": """#include <stdio.h>
+            void sketch_xxh64(unsigned long *); unsigned long plugin(void);
+            int main(void) { unsigned long hash = 1; sketch_xxh64(&hash); printf("%lu %016lx", hash, plugin()); }""",
+    }
+    for name, source in sources.items():
+        (tmp_path / f"{name}.c").write_text(source)
+    shared = ["gcc", "-shared", "-fPIC", "-I", INCLUDE, "-o"]
+    output(*shared, tmp_path / "libother.so", tmp_path / "other.c")
+    output(*shared, tmp_path / "plugin.so", tmp_path / "plugin.c", NATIVE / "libsketch_hash.a", option)
+    libraries = [tmp_path / "libother.so", tmp_path / "plugin.so"]
+    output("gcc", "-o", tmp_path / "main", tmp_path / "main.c", *libraries)
+    assert output(tmp_path / "main") == "0 bce6c02d5136f238"
+    assert "sketch_" not in output("nm", "-D", tmp_path / "plugin.so")
+
+
 def test_shared_library_has_a_version_for_each_call(folder, need):
     need("nm")
     names = re.findall(r" [B-Zb-z] (\S+)$", output("nm", "-D", folder / "libsketch_hash.so.2"), re.M)
@@ -191,6 +215,7 @@ def test_dylib_exports_the_calls_and_is_signed(target, need):
     path = DIST / target / "libsketch_hash.2.dylib"
     dylib, commands = path.read_bytes(), commands_of(path.read_bytes())
     assert sorted(exports_of(dylib)) == CALLS and LOAD_DYLIB not in commands and commands[DYLD_INFO][:32] == bytes(32)
+    assert struct.unpack_from("<2I", commands[ID_DYLIB], 8) == (2 << 16, 2 << 16)  # 2.0.0, compatible with 2.0.0
     assert commands[ID_DYLIB][16:].rstrip(b"\0") == b"@rpath/libsketch_hash.2.dylib"
     assert struct.unpack_from("<II", commands[BUILD_VERSION]) == (1, 11 << 16)  # macOS from 11.0 on
     (end,) = struct.unpack_from("<I", commands[SIGNATURE])

@@ -53,6 +53,15 @@ def test_install_writes_below_destdir(args, place, tmp_path):
     assert files_in(stage) == {f"{place}/{it}" for it in INSTALLED}
 
 
+def test_install_takes_its_variables_from_the_environment(tmp_path, monkeypatch):
+    for name, value in {"DESTDIR": tmp_path, "PREFIX": "/usr/it", "TARGET": "linux-aarch64"}.items():
+        monkeypatch.setenv(name, str(value))
+    assert make("install").returncode == 0
+    archive = tmp_path / "usr/it/lib/libsketch_hash.a"
+    assert archive.read_bytes() == (DIST / "linux-aarch64/libsketch_hash.a").read_bytes()
+    assert make("uninstall").returncode == 0 and files_in(tmp_path) == set()
+
+
 def test_installed_files_are_those_of_dist_and_readable(tmp_path):
     prefix = tmp_path / "prefix"
     assert make("install", f"PREFIX={prefix}", umask=0o077).returncode == 0
