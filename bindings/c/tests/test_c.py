@@ -215,7 +215,8 @@ def test_dylib_exports_the_calls_and_is_signed(target, need):
     path = DIST / target / "libsketch_hash.2.dylib"
     dylib, commands = path.read_bytes(), commands_of(path.read_bytes())
     assert sorted(exports_of(dylib)) == CALLS and LOAD_DYLIB not in commands and commands[DYLD_INFO][:32] == bytes(32)
-    assert struct.unpack_from("<2I", commands[ID_DYLIB], 8) == (2 << 16, 2 << 16)  # 2.0.0, compatible with 2.0.0
+    major, minor, patch = map(int, re.search(r"^Version: (.*)", (DIST / "sketch_hash.pc").read_text(), re.M)[1].split("."))
+    assert struct.unpack_from("<2I", commands[ID_DYLIB], 8) == (major << 16 | minor << 8 | patch, major << 16)
     assert commands[ID_DYLIB][16:].rstrip(b"\0") == b"@rpath/libsketch_hash.2.dylib"
     assert struct.unpack_from("<II", commands[BUILD_VERSION]) == (1, 11 << 16)  # macOS from 11.0 on
     (end,) = struct.unpack_from("<I", commands[SIGNATURE])
