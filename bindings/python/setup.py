@@ -38,12 +38,16 @@ archives = [os.path.join(it, "libsketch_hash.a") for it in folders]
 for archive in archives:
     if not os.path.isfile(archive):
         raise SystemExit(f"{archive} is missing: set SKETCH_HASH_LIB_DIR to the absolute path of its folder")
+# Other extensions, or a program that embeds Python, may have another version's calls under the same names. So the names
+# of the archive stay inside of each module.
+exports = [f"-Wl,--version-script={os.path.join(here, 'exports.map')}"] if sys.platform == "linux" else []
 modules = [
     Extension(
         f"sketch_hash.{name}",
         [f"src/sketch_hash/{name}.pyx"],
         include_dirs=[folders[0], os.path.join(folders[0], "..", "include")],
         extra_objects=archives,
+        extra_link_args=exports,
     )
     for name in ("_columns", "_hashes", "_bloom")
 ]

@@ -1,11 +1,13 @@
 """The Bloom filter: its format, keys and columns, whole filters, memory, threads, and errors."""
 import array
+import gc
 import io
 import itertools
 import math
 import mmap
 import pickle
 import sys
+import weakref
 
 import pytest
 from sketch_hash import BloomFilter, xxh64_each
@@ -73,6 +75,7 @@ def test_an_error_rate_is_one_in_its_reciprocal(one_in):
     (-1, {"one_in": 100}, OverflowError, "keys is from 0 to"),
     (1000, {"one_in": 2**64}, OverflowError, "one_in is from 0 to"),
     (1000.0, {"one_in": 100}, TypeError, "integer"),
+    (1000, {"error_rate": "0.01"}, TypeError, "must be real number, not str"),
     *((1000, {"error_rate": rate}, ValueError, "^error_rate is above 0 and below 1, as 0.01 for one key in a hundred")
       for rate in (0, 1, -0.01, math.nan, math.inf)),
 ], ids=str)
@@ -106,6 +109,8 @@ def test_a_key_is_a_text_or_bytes(key, data):
 
 @pytest.mark.parametrize("key", [
     5, None, ["fox"], array.array("d", [1]), numpy.int64(5), numpy.zeros(2, object), memoryview(bytes(8)).cast("I"),
+    numpy.int8(5), numpy.uint8(5), numpy.bool_(True), numpy.datetime64("2026-11-29"), numpy.timedelta64(3, "s"),
+    numpy.void(b"fox"), numpy.array(5, "u1"), numpy.zeros(2, "M8[D]"),
 ], ids=lambda key: type(key).__name__)
 def test_another_type_of_key_is_an_error(key):
     bloom = filled()
@@ -113,6 +118,18 @@ def test_another_type_of_key_is_an_error(key):
         with pytest.raises(TypeError, match="^a key is a str or bytes, and not .*: add_each and contains_each take"):
             call(key)
     assert bloom == filled()
+
+
+def test_the_memory_of_a_key_that_is_an_error_is_released():
+    class Broken(array.array):
+        @property
+        def ndim(self):
+            raise LookupError("this array has no dimensions")
+
+    key = Broken("B", b"fox")
+    with pytest.raises(LookupError):
+        filled().add(key)
+    key.append(1)
 
 
 @pytest.mark.parametrize("key, error", [
@@ -222,6 +239,55 @@ def test_a_pickle_out_of_band_has_the_bits_without_a_copy():
 
 
 # ---- Memory
+
+@pytest.mark.parametrize("call", [BloomFilter.copy, lambda it: it | BloomFilter(32)], ids=["copy", "|"])
+def test_a_copy_of_a_filter_that_is_released_meanwhile_raises(call):
+    class Releases(BloomFilter):
+        def __new__(cls, *args):
+            for it in seen:
+                it.release()
+            return super().__new__(cls)
+
+    seen = []
+    seen.append(Releases(32))
+    with pytest.raises(ValueError, match="^the filter was released$"):
+        call(seen[0])
+
+
+@pytest.mark.parametrize("made", [None, 5, b""], ids=repr)
+def test_a_new_filter_of_another_type_is_an_error(made):
+    strange = type("Strange", (BloomFilter,), {})(32)
+    type(strange).__new__ = lambda _: made
+    for call in (strange.copy, lambda: strange | strange, lambda: strange.from_bytes(strange),
+                 lambda: strange.view(bytes(32)), lambda: strange.from_parquet(BloomFilter(32).to_parquet())):
+        with pytest.raises(TypeError, match=r"^Strange.__new__ must return a BloomFilter, not "):
+            call()
+
+
+@pytest.mark.parametrize("copy", [lambda it: it, lambda it: None], ids=["itself", "None"])
+def test_a_merge_does_not_call_the_copy_of_a_subclass(copy):
+    buffer = bytearray(bits())
+    strange = type("Strange", (BloomFilter,), {"copy": copy}).view(buffer)
+    strange |= strange
+    strange |= type(strange).view(buffer)
+    assert buffer == bits()
+    assert (strange | filled([b"fox"])).to_bytes() == bits([*KEYS, b"fox"]) and buffer == bits()
+
+
+def test_a_cycle_through_a_view_is_collected():
+    class Buffer(bytearray):
+        pass
+
+    def cycle(view):
+        buffer = Buffer(bits())
+        buffer.view = view(buffer)
+        return weakref.ref(buffer)
+
+    references = [cycle(BloomFilter.view), cycle(lambda it: BloomFilter.view(memoryview(it))),
+                  cycle(lambda it: memoryview(BloomFilter.view(it))), cycle(type("Kind", (BloomFilter,), {}).view)]
+    gc.collect()
+    assert [it() for it in references] == [None] * 4
+
 
 def test_a_view_changes_the_buffer():
     for buffer in (bytearray(1024), mmap.mmap(-1, 1024), numpy.zeros(128, "u8")):

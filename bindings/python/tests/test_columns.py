@@ -1,11 +1,14 @@
 """Columns of keys compared with single calls, and columns that are errors."""
 import array
+import ctypes
 import itertools
+import mmap
 import random
 
 import pytest
 import sketch_hash
 from sketch_hash import BloomFilter, murmur3_x64_128_each, xxh64_each
+from test_sharing import MAP_NORESERVE
 
 numpy = pytest.importorskip("numpy")
 xxhash = pytest.importorskip("xxhash")
@@ -18,6 +21,8 @@ WIDTHS = pytest.mark.parametrize("dtype", ["int32", "uint32", "int64", "uint64"]
 EACH = [xxh64_each, murmur3_x64_128_each]
 BLOOM = BloomFilter(1024)
 BLOOM.add(b"fox")
+# They take no memory, since they are never written.
+LONG_ZEROS = mmap.mmap(-1, (1 << 31) + 4096, flags=mmap.MAP_PRIVATE | mmap.MAP_ANONYMOUS | MAP_NORESERVE)
 
 
 def expected(each, keys, seed):
@@ -84,7 +89,7 @@ XXH64, FILTER = [xxh64_each], [BLOOM.add_each, BLOOM.contains_each]
     (XXH64, (DATA,), "^a column of bytes is a pair of bytes and offsets, as column"),
     (XXH64, (DATA, OFFSETS, 0), "^a column of bytes is a pair"),
     (XXH64, ("text", [0, 4]), "^a str has no bytes until it is encoded"),
-    (XXH64, (numpy.array(["fox"], dtype=object), [0, 8]), "^an array of Python objects holds their addresses"),
+    (XXH64, (numpy.array(["fox"], dtype=object), [0, 8]), "^data must be bytes, not addresses of objects"),
     ([murmur3_x64_128_each], numpy.zeros(4, "u8"), "^a column of bytes is a pair of bytes and offsets, as column"),
     (FILTER, numpy.zeros(3, "i2"), OF_FILTER + r'.* numbers.astype."int32". makes it, as Parquet stores smaller ones$'),
     *((FILTER, keys, OF_FILTER + ".* has$")
@@ -106,17 +111,47 @@ def test_numbers_must_be_aligned(keys):
         xxh64_each(keys)
 
 
-@pytest.mark.parametrize("dtype", [object, [("text", object), ("number", "u8")]], ids=["objects", "a field of objects"])
-@pytest.mark.parametrize("view", [lambda it: it, memoryview], ids=["array", "memoryview"])
-def test_an_array_of_objects_is_an_error(dtype, view):
-    for call in (sketch_hash.xxh64, sketch_hash.murmur3_x64_128_digest):
-        with pytest.raises(TypeError, match="^an array of Python objects holds their addresses: encode each"):
-            call(view(numpy.zeros(2, dtype)))
+class Liar(numpy.ndarray):
+    dtype = numpy.dtype("u8")
 
 
-def test_a_field_may_be_named_like_the_type_of_objects():
-    others = numpy.zeros(2, [("O", "S3"), ("number", "u8")])
-    assert sketch_hash.xxh64_digest(memoryview(others)) == sketch_hash.xxh64_digest(others.tobytes())
+@pytest.mark.parametrize("data", [
+    numpy.zeros(4, object), memoryview(numpy.zeros(4, object)), numpy.zeros(4, object).view(Liar),
+    numpy.zeros(2, [("text", object), ("number", "u8")]), numpy.zeros(2, [("date", "M8[D]"), ("text", object)]),
+    (ctypes.py_object * 4)(*"foxy"), (ctypes.c_char_p * 4)(b"fox"), (ctypes.POINTER(ctypes.c_int) * 4)(),
+], ids=["objects", "memoryview", "another dtype", "a field", "a field after a date", "ctypes", "char *", "pointers"])
+def test_an_array_of_objects_is_an_error(data):
+    for call in (sketch_hash.xxh64, sketch_hash.murmur3_x64_128_digest, BloomFilter.from_bytes, BloomFilter.view):
+        if call == BloomFilter.view and "date" in str(getattr(data, "dtype", "")):
+            continue  # no memoryview of dates exists, by an error of numpy
+        with pytest.raises(TypeError, match="^data must be bytes, not addresses of objects: encode each object"):
+            call(data)
+
+
+@pytest.mark.parametrize("data", [
+    numpy.zeros(2, [("O", "S3"), ("number", "u8")]), numpy.zeros(2, "M8[D]"), numpy.zeros(2, "c16"),
+], ids=["a field named O", "dates", "complex numbers"])
+def test_an_array_without_objects_is_data(data):
+    assert sketch_hash.xxh64_digest(data) == sketch_hash.xxh64_digest(data.tobytes())
+
+
+@pytest.mark.parametrize("call", [*EACH, BLOOM.add_each, BLOOM.contains_each])
+def test_a_pair_is_the_items_of_a_tuple(call):
+    """A subclass may return items that nothing else refers to."""
+    class Pair(tuple):
+        __len__ = lambda _: 3
+        __getitem__ = lambda _, i: pytest.fail("called")
+
+    assert call(Pair(PAIR)) == call(PAIR)
+
+
+@pytest.mark.parametrize("call", [*EACH, BLOOM.add_each, BLOOM.contains_each])
+def test_a_negative_offset_is_an_error_beyond_2_gib(call):
+    first = -2**31  # 2**31 without a sign
+    for offsets, index in (([first, first + 3], 0), ([5, first], 1), ([0, 5, -1], 2)):
+        with pytest.raises(ValueError, match=f"^the offset at {index} is missing, past the end or below"):
+            call((LONG_ZEROS, array.array("i", offsets)))
+    call((LONG_ZEROS, array.array("I", [2**31, 2**31 + 3])))
 
 
 def test_a_column_of_texts_is_their_bytes_and_offsets():

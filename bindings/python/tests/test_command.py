@@ -1,9 +1,11 @@
 """The program: python3 -m sketch_hash."""
 import os
 import random
+import shutil
 import signal
 import subprocess
 import sys
+import sysconfig
 
 import pytest
 import sketch_hash
@@ -65,7 +67,9 @@ def test_each_argument_after_two_dashes_is_a_name():
 
 
 def test_the_installed_command_has_the_version():
-    command = os.path.join(os.path.dirname(os.path.dirname(sketch_hash.__file__)), "bin/sketch-hash")
+    # pip --target has its own bin, other installations that of the system or the virtual environment.
+    folders = os.path.dirname(os.path.dirname(sketch_hash.__file__)) + "/bin", sysconfig.get_path("scripts")
+    command = shutil.which("sketch-hash", path=os.pathsep.join(folders))
     output = subprocess.run([sys.executable, command, "--version"], capture_output=True).stdout
     assert output.split() == [b"sketch-hash", sketch_hash.__version__.encode()]
 
@@ -76,6 +80,7 @@ def test_the_installed_command_has_the_version():
     ("fox 2>&-", 0, XXH64 + b"  fox\n", b""),
     ("missing fox 2>&-", 1, XXH64 + b"  fox\n", b""),
     ("--check missing list 2>/dev/full", 1, b"fox: OK\n", b""),
+    ("--nope 2>&-", 2, b"", b""),
 ])
 def test_an_output_may_be_full_or_closed(args, status, output, message):
     with open("list", "wb") as file:
@@ -153,6 +158,29 @@ def test_check_reports_and_counts_what_is_wrong(lines, output, message):
 ], ids=["plain", "upper case", "binary", "tag", "tag of Murmur"])
 def test_check_reads_each_form_of_a_line(line):
     assert run("-c", input=line) == (0, b"fox: OK\n", b"")
+
+
+def test_check_reads_a_list_line_by_line():
+    """With less memory than the lists have bytes; a line may be longer than any name."""
+    code = "import resource; resource.setrlimit(resource.RLIMIT_AS, (1 << 28, 1 << 28));" \
+           "from sketch_hash.__main__ import command; command()"
+    for text, count in ((GOOD, 1), (OTHER[:-1], 100_000)):
+        with open("list", "wb") as file:
+            file.write(GOOD + text * count)
+            file.truncate(1 << 29)
+        done = subprocess.run([sys.executable, "-c", code, "--check", "list"], capture_output=True)
+        assert done.returncode == 1 and done.stderr == FORMAT
+        assert done.stdout == b"fox: OK\n" * (1 + (text == GOOD))
+
+
+@pytest.mark.parametrize("args, text", [(["--check", "list"], b""), (["fox"], b"")], ids=["check", "hash"])
+def test_no_memory_is_an_error_with_a_message(args, text):
+    code = "import sketch_hash.__main__ as it\nclass Full:\n def __init__(*_, **__): raise MemoryError\n" \
+           "it.HASHES['xxh64'] = it.xxh64 = Full; it.command()"
+    with open("list", "wb") as file:
+        file.write(GOOD)
+    done = subprocess.run([sys.executable, "-c", code, *args], capture_output=True)
+    assert (done.returncode, done.stdout, done.stderr) == (1, text, b"sketch_hash: out of memory\n")
 
 
 @pytest.mark.parametrize("line", [

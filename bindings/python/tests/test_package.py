@@ -50,6 +50,14 @@ def test_an_upgraded_library_is_linked_again(source, need, tmp_path):
     assert "libsketch_hash.a" in install(source, tmp_path / "installed", SKETCH_HASH_LIB_DIR=library).stdout
 
 
+def test_only_its_own_name_leaves_an_extension(source, tmp_path):
+    """Also if the linker has none of Debian's options: other versions of the calls may be in the same process."""
+    assert install(source, tmp_path / "installed", LDSHARED="gcc -shared", CFLAGS="-O0").returncode == 0
+    for extension in (tmp_path / "installed/sketch_hash").glob("*.so"):
+        names = subprocess.check_output(["nm", "-D", "--defined-only", "--format=just-symbols", extension], text=True)
+        assert names.split() == [f"PyInit_{extension.name.partition('.')[0]}"]
+
+
 def test_a_missing_library_is_an_error_with_its_path(source, tmp_path):
     done = install(source, tmp_path / "installed", SKETCH_HASH_LIB_DIR=str(tmp_path))
     assert done.returncode and f"{tmp_path}/libsketch_hash.a is missing: set SKETCH_HASH_LIB_DIR" in done.stdout

@@ -67,6 +67,32 @@ def test_a_copy_is_independent(kind, way):
         assert second.digest() == kind(seed=seed).digest()
 
 
+class Named(xxh64):
+    pass
+
+
+class Slots(murmur3_x64_128):
+    __slots__ = "note", "unset"
+
+
+class Seen(BloomFilter):
+    __slots__ = "note", "__dict__"
+
+
+@pytest.mark.parametrize("it", [Named(b"fox"), Slots(b"fox"), Seen(32)], ids=lambda it: type(it).__name__)
+@pytest.mark.parametrize("way", [*WAYS, lambda it: it | BloomFilter(32)])
+def test_a_copy_keeps_what_a_subclass_has_added(it, way):
+    if type(it) is not Seen and way not in WAYS:
+        return
+    it.note = ["a note"]
+    if type(it) is Seen:
+        it.path = "seen.bloom"
+    copied = way(it)
+    assert type(copied) is type(it) and copied.note == it.note and not hasattr(copied, "unset")
+    assert getattr(copied, "path", None) == getattr(it, "path", None)
+    assert (copied.note is it.note) == (way in (copy.copy, WAYS[2]) or way not in WAYS)
+
+
 @pytest.mark.parametrize("kind, size", [(xxh64, 80), (murmur3_x64_128, 40)])
 def test_a_checkpoint_of_another_length_is_an_error(kind, size):
     hasher = kind(b"fox", 7)

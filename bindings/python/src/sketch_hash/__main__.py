@@ -54,6 +54,16 @@ def seed(text):
         raise argparse.ArgumentTypeError(f"a seed is a whole number, and not {text!r}") from None
 
 
+def lines(name):
+    """The lines of a file without their ends. A line is cut after 64 KiB, which no file's name reaches."""
+    rest = b""
+    for piece in pieces(name):
+        *whole, rest = (rest + piece).split(b"\n")
+        yield from whole
+        rest = rest[:65536]
+    yield rest
+
+
 def pieces(name):
     """The pieces of a file, one after the other in the same memory."""
     buffer = memoryview(bytearray(1 << 20))
@@ -98,13 +108,11 @@ def check(lists, seed, is_quiet):
     counts = dict.fromkeys([BAD, UNREAD, DIFFERS, "OK"], 0)
     for name in lists:
         try:
-            lines = os.fsdecode(b"".join(map(bytes, pieces(name)))).split("\n")
+            for line in filter(None, lines(name)):
+                counts[check_line(os.fsdecode(line), seed, is_quiet)] += 1
         except OSError as error:
             warn(f"{name}: {error.strerror}")
             counts[UNREAD] += 1
-        else:
-            for line in filter(None, lines):
-                counts[check_line(line, seed, is_quiet)] += 1
     good = counts.pop("OK")
     for what, count in counts.items():
         if count:
@@ -150,10 +158,15 @@ def command():
         signal.signal(signal.SIGPIPE, signal.SIG_DFL)
     if signal.getsignal(signal.SIGINT) is not signal.SIG_IGN:
         signal.signal(signal.SIGINT, signal.SIG_DFL)
+    if not sys.stderr:  # argparse would print its errors to standard output
+        sys.stderr = open(os.devnull, "w")
     try:
         status = main(sys.argv[1:])
     except OSError as error:
         warn(f"standard output: {error.strerror}")
+        status = 1
+    except MemoryError:
+        warn("out of memory")
         status = 1
     os._exit(status)  # without another try to flush standard output
 

@@ -1,13 +1,15 @@
 """The Bloom filter of Apache Parquet."""
 from cpython.buffer cimport PyBUF_C_CONTIGUOUS, PyBUF_SIMPLE, PyBUF_WRITABLE, PyBuffer_FillInfo
 from cpython.bytearray cimport PyByteArray_AS_STRING, PyByteArray_FromStringAndSize
-from cpython.bytes cimport PyBytes_FromStringAndSize
+from cpython.bytes cimport PyBytes_AS_STRING, PyBytes_FromStringAndSize
+from cpython.object cimport PyObject
 from cpython.ref cimport Py_DECREF
 from libc.stdint cimport uint32_t, uint64_t, uintptr_t
+from libc.string cimport memcpy, memset
 
 from ._columns cimport (
     HASHES, LONG, NUMBERS32, NUMBERS64, OFFSETS32, OFFSETS64, Column, Lock, PyBuffer_Release, PyObject_GetBuffer, View,
-    acquire, check_offsets, get_bytes, release, wait, word_of,
+    acquire, attributes_of, check_offsets, get_bytes, refuse_addresses, release, set_attributes, wait, word_of,
 )
 from ._library cimport *
 
@@ -16,6 +18,12 @@ import pickle
 
 cdef extern from "Python.h":
     const char *PyUnicode_AsUTF8AndSize(object, Py_ssize_t *) except NULL
+    ctypedef int (*visitproc)(PyObject *, void *) noexcept
+    ctypedef int (*traverseproc)(PyObject *, visitproc, void *) noexcept
+    ctypedef int (*inquiry)(PyObject *) noexcept
+    ctypedef struct Type "PyTypeObject":
+        traverseproc tp_traverse
+        inquiry tp_clear
 
 cdef enum:
     READ_ONLY = -100  # not a status of the library
@@ -42,15 +50,31 @@ cdef inline uint64_t hash_of(object key) except? -1:
     return hash
 
 
+cdef type bytes_like = bytearray  # the type of the last key that was a row: to look again takes a fifth of a call
+
+
+cdef bint is_row(object key) except -1:
+    """Whether it is not a scalar of numpy: a number or date, whose bytes in a Parquet file may be others. The buffer of a
+    date has one dimension, but not the date."""
+    global bytes_like
+    if getattr(key, "ndim", 1) == 0:
+        return False
+    bytes_like = type(key)
+    return True
+
+
 cdef int get_key(object key, View *memory) except -1:
     memory.obj = NULL
+    is_bytes = False
     try:
         PyObject_GetBuffer(key, memory, PyBUF_C_CONTIGUOUS)
-        is_bytes = memory.itemsize == 1
+        is_bytes = memory.itemsize == 1 and memory.ndim != 0 and (type(key) is bytes_like or is_row(key))
     except TypeError:
-        is_bytes = False
+        pass
+    finally:
+        if not is_bytes:
+            PyBuffer_Release(memory)
     if not is_bytes:
-        PyBuffer_Release(memory)
         raise TypeError(
             f"a key is a str or bytes, and not {type(key).__name__}: "
             "add_each and contains_each take numbers and columns")
@@ -106,8 +130,18 @@ cdef int check_length(object length) except -1:
 cdef object copied(object kind, const void *bits, size_t length):
     """A filter of a kind, with a copy of the bits."""
     check_length(length)
-    cdef BloomFilter filter = kind.__new__(kind)
+    cdef BloomFilter filter = empty(kind)
     filter.hold(PyByteArray_FromStringAndSize(<char *>bits, length))
+    return filter
+
+
+cdef BloomFilter empty(object kind):
+    """A filter without memory. A subclass may run any code here."""
+    if kind is BloomFilter:
+        return BloomFilter.__new__(BloomFilter)
+    filter = kind.__new__(kind)
+    if not isinstance(filter, BloomFilter):
+        raise TypeError(f"{kind.__name__}.__new__ must return a BloomFilter, not {type(filter).__name__}")
     return filter
 
 
@@ -228,7 +262,11 @@ cdef class BloomFilter:
         buffer during a call: two views of one buffer do not wait for each other. The buffer keeps its length until the
         view is released: by release, at the end of a with block, or with the view itself.
         """
-        cdef BloomFilter filter = cls.__new__(cls)
+        cdef BloomFilter filter = empty(cls)
+        if type(buffer) is not bytes and type(buffer) is not bytearray:
+            buffer = memoryview(buffer)
+            if buffer.format != "B":
+                refuse_addresses(buffer.format)
         filter.hold(buffer)
         return filter
 
@@ -342,8 +380,14 @@ cdef class BloomFilter:
     def __ior__(self, other):
         if not isinstance(other, BloomFilter):
             return NotImplemented
-        cdef BloomFilter source = other.copy() if other is self else other
+        self.merge(other)
+        return self
+
+    cdef int merge(self, BloomFilter source) except -1:
         cdef int status
+        if source is self:
+            wait(<void *>self.lock)
+            return self.check(READ_ONLY if self.bits.readonly else 0)
         # Two merges take the locks in one order, that of addresses, so neither waits for the other for ever.
         cdef BloomFilter first, second
         first, second = (self, source) if <uintptr_t><void *>self < <uintptr_t><void *>source else (source, self)
@@ -363,19 +407,19 @@ cdef class BloomFilter:
         release(first.lock)
         source.check(0)
         if status == OVERLAP:
-            return self.__ior__(source.copy())
+            return self.merge(duplicate(BloomFilter, source))
         self.check(READ_ONLY if status == READ_ONLY else 0)
         if status:
             raise ValueError(f"filters of {self.bits.len} and {source.bits.len} bytes cannot be merged: "
                              "create both with one size")
-        return self
+        return 0
 
     def __or__(self, other):
         """A new filter with the keys of both, which are unchanged."""
         if not isinstance(self, BloomFilter) or not isinstance(other, BloomFilter):
             return NotImplemented
-        filter = self.copy()
-        filter |= other
+        cdef BloomFilter filter = duplicate(type(self), self)
+        filter.merge(other)
         return filter
 
     def __eq__(self, other):
@@ -401,19 +445,20 @@ cdef class BloomFilter:
         cdef size_t length = sketch_bloom_header_write(self.bits.len, header, sizeof(header))
         if length == 0:
             raise ValueError(f"a filter in a Parquet file has less than 2**31 bytes, and not {self.bits.len}")
-        return b"".join(((<char *>header)[:length], self))
+        stored = PyBytes_FromStringAndSize(NULL, length + self.bits.len)
+        memcpy(PyBytes_AS_STRING(stored), header, length)
+        memcpy(PyBytes_AS_STRING(stored) + length, self.bits.buf, self.bits.len)
+        return stored
 
     def copy(self):
         """copy($self)\n--\n\nReturns a filter with the same keys in its own memory."""
-        wait(<void *>self.lock)
-        self.check(0)
-        return copied(type(self), self.bits.buf, self.bits.len)
+        return duplicate(type(self), self)
 
     def __reduce_ex__(self, protocol):
-        if protocol < 5:
-            return type(self).from_bytes, (self.to_bytes(),)
+        attributes = None if type(self) is BloomFilter else attributes_of(self)
         wait(<void *>self.lock)
-        return type(self).from_bytes, (pickle.PickleBuffer(self),)
+        bits = self.to_bytes() if protocol < 5 else pickle.PickleBuffer(self)
+        return type(self).from_bytes, (bits,), attributes
 
     def __getbuffer__(self, Py_buffer *buffer, int flags):
         self.check(0)
@@ -436,11 +481,45 @@ cdef class BloomFilter:
         return f"<sketch_hash.{type(self).__name__} of {self.bits.len} bytes>"
 
 
-cdef object one_in_of(object error_rate):
+cdef BloomFilter duplicate(object kind, BloomFilter source):
+    cdef BloomFilter filter = empty(kind)  # runs code that may change the source
+    wait(<void *>source.lock)
+    source.check(0)
+    filter.hold(PyByteArray_FromStringAndSize(<char *>source.bits.buf, source.bits.len))
+    if kind is not BloomFilter:
+        set_attributes(filter, attributes_of(source))
+    return filter
+
+
+# Cython does not know of the object in a buffer, which may refer to the filter: the garbage collector must.
+cdef traverseproc traverse_rest = (<Type *>BloomFilter).tp_traverse
+cdef inquiry clear_rest = (<Type *>BloomFilter).tp_clear
+
+
+cdef int traverse(PyObject *filter, visitproc visit, void *arg) noexcept:
+    cdef int status = traverse_rest(filter, visit, arg)
+    if status == 0 and (<BloomFilter>filter).bits.obj is not NULL:
+        status = visit((<BloomFilter>filter).bits.obj, arg)
+    return status
+
+
+cdef int clear(PyObject *filter) noexcept:
+    cdef View bits
+    if (<BloomFilter>filter).exports == 0:
+        bits = (<BloomFilter>filter).bits
+        memset(&(<BloomFilter>filter).bits, 0, sizeof(View))
+        PyBuffer_Release(&bits)
+    return clear_rest(filter)
+
+
+(<Type *>BloomFilter).tp_traverse = traverse
+(<Type *>BloomFilter).tp_clear = clear
+
+
+cdef object one_in_of(double rate):
     """The smallest number whose reciprocal, as a float, is at most the error rate."""
-    rate = float(error_rate)
     if not 0 < rate < 1:
-        raise ValueError(f"error_rate is above 0 and below 1, as 0.01 for one key in a hundred, and not {error_rate}")
+        raise ValueError(f"error_rate is above 0 and below 1, as 0.01 for one key in a hundred, and not {rate}")
     if rate < 2.0**-63:
         return 2**64 - 1
     one_in = round(1 / rate)

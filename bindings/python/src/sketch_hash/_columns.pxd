@@ -59,6 +59,9 @@ cdef inline void wait(void *lock) noexcept:
 
 
 cdef int get_buffer(object data, View *memory) except -1
+cdef int refuse_addresses(str format) except -1
+cdef object attributes_of(object it)
+cdef int set_attributes(object it, object attributes) except -1
 cdef uint64_t word_of(object number, str name) except? -1
 
 
@@ -77,11 +80,13 @@ cdef enum Kind:
 
 
 cdef class Column:
+    cdef object texts  # what data is of: exact bytes are no buffer that could keep them
     cdef View data, numbers  # the bytes of texts; their offsets, or else the numbers
     cdef Kind kind
     cdef size_t items, count  # how many numbers or offsets there are, and how many keys
 
     cdef size_t get_numbers(self, object numbers, str what) except 0
+    cdef int check_signs(self) except -1
     cdef Py_ssize_t size(self) noexcept
 
 

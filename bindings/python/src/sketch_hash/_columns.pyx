@@ -1,12 +1,16 @@
 """Many keys in a call; and the locks, buffers and numbers of all calls."""
-from cpython.buffer cimport PyBUF_C_CONTIGUOUS, PyBUF_FORMAT, PyBUF_SIMPLE
+cimport cython
+from cpython.buffer cimport PyBUF_C_CONTIGUOUS, PyBUF_FORMAT, PyBUF_ND
 from cpython.bytearray cimport PyByteArray_AS_STRING
-from libc.stdint cimport uint32_t, uint64_t, uintptr_t
+from libc.stdint cimport INT32_MAX, int32_t, uint32_t, uint64_t, uintptr_t
+from libc.string cimport strpbrk
 
 from ._library cimport *
 
 import array
+import copyreg
 import itertools
+import re
 
 cdef extern from "Python.h":
     object PyNumber_Index(object)
@@ -27,15 +31,44 @@ cdef class Lock:
 cdef int get_buffer(object data, View *memory) except -1:
     if isinstance(data, str):
         raise TypeError("a str has no bytes until it is encoded: pass data.encode()")
-    if holds_objects(data):
-        raise TypeError("an array of Python objects holds their addresses: encode each, and pass its bytes")
-    return PyObject_GetBuffer(data, memory, PyBUF_SIMPLE)
+    try:
+        PyObject_GetBuffer(data, memory, PyBUF_ND | PyBUF_FORMAT)
+    except ValueError:  # numpy has no format for dates
+        refuse_addresses("O" if getattr(getattr(data, "dtype", None), "hasobject", False) else "")
+        PyObject_GetBuffer(data, memory, PyBUF_ND)
+    if memory.format is not NULL and strpbrk(memory.format, "OPXZz&") is not NULL:
+        try:
+            refuse_addresses(memory.format.decode("latin-1"))
+        except:
+            PyBuffer_Release(memory)
+            raise
+    return 0
 
 
-cdef bint holds_objects(object data) except -1:
-    if isinstance(data, memoryview):
-        return "O" in "".join(data.format.split(":")[::2])  # names of fields are between colons
-    return getattr(getattr(data, "dtype", None), "hasobject", False)
+cdef int refuse_addresses(str format) except -1:
+    """Z with d, f or g is a complex number. Names of fields are between colons."""
+    if re.search("[OPXz&]|Z(?![dfg])", "".join(format.split(":")[::2])):
+        raise TypeError("data must be bytes, not addresses of objects: encode each object, and pass its bytes")
+    return 0
+
+
+cdef object attributes_of(object it):
+    """What a subclass has added to an object, as pickle takes it; or None."""
+    if hasattr(it, "__getstate__"):
+        return it.__getstate__()
+    # Python 3.9 and 3.10 have no __getstate__.
+    slots = {name: getattr(it, name) for name in copyreg._slotnames(type(it)) if hasattr(it, name)}
+    own = getattr(it, "__dict__", None) or None
+    return (own, slots) if slots else own
+
+
+cdef int set_attributes(object it, object attributes) except -1:
+    own, slots = attributes if isinstance(attributes, tuple) and len(attributes) == 2 else (attributes, None)
+    if own:
+        it.__dict__.update(own)
+    for name, value in (slots or {}).items():
+        setattr(it, name, value)
+    return 0
 
 
 cdef uint64_t word_of(object number, str name) except? -1:
@@ -58,6 +91,7 @@ WHAT = {
 }
 
 
+@cython.no_gc
 cdef class Column:
     """The keys of a call: texts with the offsets where they begin and end, or numbers.
 
@@ -65,11 +99,13 @@ cdef class Column:
     """
 
     def __cinit__(self, object keys, str what):
-        is_pair = isinstance(keys, tuple) and len(keys) == 2
-        if is_pair and what != "hashes":
-            get_bytes(keys[0], &self.data)
-            self.kind = OFFSETS32 if self.get_numbers(keys[1], "offsets") == 4 else OFFSETS64
+        if isinstance(keys, tuple) and len(<tuple>keys) == 2 and what != "hashes":
+            self.texts = (<tuple>keys)[0]  # the item itself, whatever a subclass of tuple returns for it
+            get_bytes(self.texts, &self.data)
+            self.kind = OFFSETS32 if self.get_numbers((<tuple>keys)[1], "offsets") == 4 else OFFSETS64
             self.count = self.items - 1 if self.items else 0
+            if self.kind == OFFSETS32 and self.data.len > INT32_MAX:
+                self.check_signs()
         elif what and not isinstance(keys, tuple):
             self.kind = NUMBERS32 if self.get_numbers(keys, what) == 4 else HASHES if what == "hashes" else NUMBERS64
             self.count = self.items
@@ -98,6 +134,17 @@ cdef class Column:
             raise ValueError("a column of numbers must be aligned to their width: pass a copy")
         self.items = self.numbers.len // self.numbers.itemsize
         return self.numbers.itemsize
+
+    cdef int check_signs(self) except -1:
+        """For the library offsets have no sign, so a negative one of 32 bits is not past the end of 2 GiB and more."""
+        cdef const int32_t *offsets = <int32_t *>self.numbers.buf
+        cdef size_t i = 0, items = self.items
+        if not (<bytes>self.numbers.format).islower():  # I or L, and not i or l
+            return 0
+        with nogil:
+            while i < items and offsets[i] >= 0:
+                i += 1
+        return check_offsets(SKETCH_ERROR_OFFSET if i < items else 0, i)
 
     cdef Py_ssize_t size(self) noexcept:
         return self.data.len + self.numbers.len

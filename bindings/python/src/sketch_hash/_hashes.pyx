@@ -4,7 +4,9 @@ from cpython.bytes cimport PyBytes_AS_STRING, PyBytes_FromStringAndSize
 from libc.stdint cimport uint32_t, uint64_t
 from libc.string cimport memcpy
 
-from ._columns cimport LONG, Lock, PyBuffer_Release, View, acquire, get_bytes, release, wait, word_of
+from ._columns cimport (
+    LONG, Lock, PyBuffer_Release, View, acquire, attributes_of, get_bytes, release, set_attributes, wait, word_of,
+)
 from ._library cimport *
 
 from copyreg import __newobj__
@@ -65,27 +67,29 @@ cdef class xxh64:
         sketch_xxh64_reset(&self.state, 0)
 
     def __init__(self, data=b"", seed=0):
-        self.restart(word_of(seed, "a seed"))
-        self.append(data)
+        cdef uint64_t number = word_of(seed, "a seed")
+        self.append(data, &number)
 
     @cython.final
-    cdef inline void restart(self, uint64_t seed) noexcept:
-        wait(<void *>self.lock)
-        sketch_xxh64_reset(&self.state, seed)
+    cdef inline void consume(self, const View *data, const uint64_t *seed) noexcept nogil:
+        if seed is not NULL:
+            sketch_xxh64_reset(&self.state, seed[0])
+        sketch_xxh64_update(&self.state, data.buf, data.len)
 
     @cython.final
-    cdef inline int append(self, object data) except -1:
+    cdef inline int append(self, object data, const uint64_t *seed) except -1:
+        """Appends data, with a seed to a new stream."""
         cdef View memory
         get_bytes(data, &memory)
         try:
             if memory.len < LONG:
                 wait(<void *>self.lock)
-                sketch_xxh64_update(&self.state, memory.buf, memory.len)
+                self.consume(&memory, seed)
             else:
                 self.lock = self.lock or Lock()
                 acquire(self.lock)
                 with nogil:
-                    sketch_xxh64_update(&self.state, memory.buf, memory.len)
+                    self.consume(&memory, seed)
                 release(self.lock)
         finally:
             PyBuffer_Release(&memory)
@@ -98,7 +102,7 @@ cdef class xxh64:
 
     def update(self, data):
         """update($self, data, /)\n--\n\nAppends data. Splitting the input into several calls gives the same hash."""
-        self.append(data)
+        self.append(data, NULL)
 
     def digest(self):
         """digest($self)\n--\n\nReturns the hash of all data so far as 8 bytes, the highest first."""
@@ -116,7 +120,8 @@ cdef class xxh64:
 
     def reset(self):
         """reset($self)\n--\n\nDrops all data, and keeps the seed."""
-        self.restart(self.state.seed)
+        wait(<void *>self.lock)
+        sketch_xxh64_reset(&self.state, self.state.seed)
 
     @property
     def seed(self):
@@ -125,23 +130,27 @@ cdef class xxh64:
 
     def copy(self):
         """copy($self)\n--\n\nReturns an independent object of the same class with the same seed and data."""
-        cdef type kind = type(self)
-        cdef xxh64 other = kind.__new__(kind)
+        if type(self) is not xxh64:
+            return rebuilt(self)
+        cdef xxh64 other = xxh64.__new__(xxh64)
         wait(<void *>self.lock)
         other.state = self.state
         return other
 
     def __reduce__(self):
+        attributes = None if type(self) is xxh64 else attributes_of(self)
         wait(<void *>self.lock)
         state = self.state
-        return __newobj__, (type(self),), (state.seed, (<char *>&state)[:sizeof(state)])
+        checkpoint = state.seed, (<char *>&state)[:sizeof(state)]
+        return __newobj__, (type(self),), checkpoint if attributes is None else (*checkpoint, attributes)
 
     def __setstate__(self, checkpoint):
-        seed, state = checkpoint
+        seed, state, *attributes = checkpoint
         cdef xxh64 other = xxh64(seed=seed)
         take_checkpoint(self, state, &other.state, sizeof(other.state))
         wait(<void *>self.lock)
         self.state = other.state
+        set_attributes(self, attributes[0] if attributes else None)
 
     def __repr__(self):
         return f"<sketch_hash.{type(self).__name__} with seed {self.seed}, now {self.hexdigest()}>"
@@ -168,28 +177,30 @@ cdef class murmur3_x64_128:
         sketch_murmur3_x64_128_reset(&self.state, 0)
 
     def __init__(self, data=b"", seed=0):
-        self.restart(word_of(seed, "a seed"))
-        self.append(data)
+        cdef uint64_t number = word_of(seed, "a seed")
+        self.append(data, &number)
 
     @cython.final
-    cdef inline void restart(self, uint64_t seed) noexcept:
-        wait(<void *>self.lock)
-        self.start_seed = seed
-        sketch_murmur3_x64_128_reset(&self.state, seed)
+    cdef inline void consume(self, const View *data, const uint64_t *seed) noexcept nogil:
+        if seed is not NULL:
+            self.start_seed = seed[0]
+            sketch_murmur3_x64_128_reset(&self.state, seed[0])
+        sketch_murmur3_x64_128_update(&self.state, data.buf, data.len)
 
     @cython.final
-    cdef inline int append(self, object data) except -1:
+    cdef inline int append(self, object data, const uint64_t *seed) except -1:
+        """Appends data, with a seed to a new stream."""
         cdef View memory
         get_bytes(data, &memory)
         try:
             if memory.len < LONG:
                 wait(<void *>self.lock)
-                sketch_murmur3_x64_128_update(&self.state, memory.buf, memory.len)
+                self.consume(&memory, seed)
             else:
                 self.lock = self.lock or Lock()
                 acquire(self.lock)
                 with nogil:
-                    sketch_murmur3_x64_128_update(&self.state, memory.buf, memory.len)
+                    self.consume(&memory, seed)
                 release(self.lock)
         finally:
             PyBuffer_Release(&memory)
@@ -202,7 +213,7 @@ cdef class murmur3_x64_128:
 
     def update(self, data):
         """update($self, data, /)\n--\n\nAppends data. Splitting the input into several calls gives the same hash."""
-        self.append(data)
+        self.append(data, NULL)
 
     def digest(self):
         """digest($self)\n--\n\nReturns the hash of all data so far as 16 bytes, each word with the highest first."""
@@ -230,7 +241,8 @@ cdef class murmur3_x64_128:
 
     def reset(self):
         """reset($self)\n--\n\nDrops all data, and keeps the seed."""
-        self.restart(self.start_seed)
+        wait(<void *>self.lock)
+        sketch_murmur3_x64_128_reset(&self.state, self.start_seed)
 
     @property
     def seed(self):
@@ -239,26 +251,38 @@ cdef class murmur3_x64_128:
 
     def copy(self):
         """copy($self)\n--\n\nReturns an independent object of the same class with the same seed and data."""
-        cdef type kind = type(self)
-        cdef murmur3_x64_128 other = kind.__new__(kind)
+        if type(self) is not murmur3_x64_128:
+            return rebuilt(self)
+        cdef murmur3_x64_128 other = murmur3_x64_128.__new__(murmur3_x64_128)
         wait(<void *>self.lock)
         other.state, other.start_seed = self.state, self.start_seed
         return other
 
     def __reduce__(self):
+        attributes = None if type(self) is murmur3_x64_128 else attributes_of(self)
         wait(<void *>self.lock)
         state, seed = self.state, self.start_seed
-        return __newobj__, (type(self),), (seed, (<char *>&state)[:sizeof(state)])
+        checkpoint = seed, (<char *>&state)[:sizeof(state)]
+        return __newobj__, (type(self),), checkpoint if attributes is None else (*checkpoint, attributes)
 
     def __setstate__(self, checkpoint):
-        seed, state = checkpoint
+        seed, state, *attributes = checkpoint
         cdef murmur3_x64_128 other = murmur3_x64_128(seed=seed)
         take_checkpoint(self, state, &other.state, sizeof(other.state))
         wait(<void *>self.lock)
         self.state, self.start_seed = other.state, other.start_seed
+        set_attributes(self, attributes[0] if attributes else None)
 
     def __repr__(self):
         return f"<sketch_hash.{type(self).__name__} with seed {self.seed}, now {self.hexdigest()}>"
+
+
+cdef object rebuilt(object hasher):
+    """A copy of an object of a subclass, whose __new__ may run any code, by its pickle's parts."""
+    make, args, checkpoint = hasher.__reduce__()
+    other = make(*args)
+    other.__setstate__(checkpoint)
+    return other
 
 
 cdef int take_checkpoint(object hasher, bytes checkpoint, void *state, size_t size) except -1:
