@@ -275,16 +275,11 @@ function libraryOf(calls) {
 
     // The call for offsets or numbers of this width: its name ends with 32 or 64.
     const callFor = (name, column) => calls[`${name}${8 * column.BYTES_PER_ELEMENT}`];
-    const callForOffsets = (name, offsets, { length }) => {
-        const call = callFor(name, checkedColumn(offsets, OFFSETS, 'offsets'));
-        // The library takes offsets for unsigned, so that a negative one may be inside of a long column.
-        if (length > 2 ** 31 - 1 && typeOf(offsets) === 'Int32Array') {
-            const wrong = offsets.findIndex((it, at) => it < (at ? offsets[at - 1] : 0));
-            if (wrong >= 0) check(-2, wrong);
-        }
-        return call;
-    };
+    const callForOffsets = (name, offsets) => callFor(name, checkedColumn(offsets, OFFSETS, 'offsets'));
     const callForNumbers = (name, numbers) => callFor(name, checkedColumn(numbers, NUMBERS, 'numbers'));
+    // The bytes that an offset can reach. The library reads a negative one as a number that is past their end.
+    const reachable = (bytes, offsets) =>
+        view(bytes).subarray(0, typeOf(offsets) === 'Int32Array' ? 2 ** 31 - 1 : undefined);
     const resultWord = () => new BigUint64Array(memory.buffer, result, 1)[0];
 
     // Runs a call over columns, and returns the results. A block holds the results, then offsets or numbers, then
@@ -309,10 +304,9 @@ function libraryOf(calls) {
     function hashEachKey(name, width) {
         return (bytes, offsets, seed = 0n) => {
             const seedWord = checked(seed, 'a seed');
-            const all = view(bytes);
-            const call = callForOffsets(name, offsets, all);
+            const call = callForOffsets(name, offsets);
             const count = Math.max(offsets.length - 1, 0);
-            return new BigUint64Array(overColumns([offsets, all], count * width, (out, ofOffsets, ofBytes) =>
+            return new BigUint64Array(overColumns([offsets, reachable(bytes, offsets)], count * width, (out, ofOffsets, ofBytes) =>
                 call(...ofBytes, ...ofOffsets, seedWord, out, BigInt(count), BigInt(result))).buffer);
         };
     }
@@ -411,18 +405,16 @@ function libraryOf(calls) {
         }
 
         addEach(bytes, offsets) {
-            const all = view(bytes);
-            const call = callForOffsets('sketch_bloom_insert_each', offsets, all);
-            overColumns([offsets, all], 0, (_, ofOffsets, ofBytes) =>
+            const call = callForOffsets('sketch_bloom_insert_each', offsets);
+            overColumns([offsets, reachable(bytes, offsets)], 0, (_, ofOffsets, ofBytes) =>
                 call(...this.#bits, ...ofBytes, ...ofOffsets, BigInt(result)));
             return this;
         }
 
         hasEach(bytes, offsets) {
-            const all = view(bytes);
-            const call = callForOffsets('sketch_bloom_contains_each', offsets, all);
+            const call = callForOffsets('sketch_bloom_contains_each', offsets);
             const count = Math.max(offsets.length - 1, 0);
-            return overColumns([offsets, all], count, (found, ofOffsets, ofBytes) =>
+            return overColumns([offsets, reachable(bytes, offsets)], count, (found, ofOffsets, ofBytes) =>
                 call(...this.#bits, ...ofBytes, ...ofOffsets, found, BigInt(count), BigInt(result)));
         }
 

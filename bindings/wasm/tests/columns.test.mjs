@@ -34,15 +34,12 @@ for (const type of offsetTypes) {
     });
 }
 
-test('a negative offset is an error, also in bytes that are longer than 2 GiB', () => {
+test('a negative offset is past the end, also in bytes that are longer than 2 GiB', async () => {
     assert.throws(() => xxh64Each(bytes('fox'), Int32Array.of(0, -1)), /the offset at 1 is/);
-    const zeros = new Uint8Array(2 ** 31 + 8); // takes no memory, since it is never written
-    const filter = new BloomFilter(32);
-    for (const [offsets, wrong] of [[[-(2 ** 31), 3 - 2 ** 31], 0], [[0, 3, 2, -(2 ** 31)], 2], [[0, -(2 ** 31)], 1]]) {
-        for (const call of [xxh64Each, murmur128Each, (...args) => filter.addEach(...args), (...args) => filter.hasEach(...args)]) {
-            assert.throws(() => call(zeros, Int32Array.from(offsets)), new RegExp(`the offset at ${wrong} is`));
-        }
-    }
+    const { xxh64Each: each, BloomFilter: Filter } = await load();
+    const zeros = new Uint8Array(2 ** 31 + 8);
+    assert.throws(() => each(zeros, Int32Array.of(-(2 ** 31), 3 - 2 ** 31)), /the offset at 0 is/);
+    assert.throws(() => new Filter(32).addEach(zeros, Int32Array.of(0, -(2 ** 31))), /the offset at 1 is/);
 });
 
 test('the memory grows for a long column', () => {
