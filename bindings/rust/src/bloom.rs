@@ -32,8 +32,8 @@ pub struct BloomFilter<B = Vec<u8>> {
 }
 
 impl BloomFilter {
-    /// Creates the smallest filter of which at most one in `one_in` other keys is found, once it has
-    /// this many keys.
+    /// Creates the smallest filter with a false positive rate of at most one in `one_in`, once it has
+    /// this many different keys.
     ///
     /// Its length is a power of two, as Arrow requires. If memory runs out, the program aborts, as
     /// with any `Vec`.
@@ -78,6 +78,32 @@ impl BloomFilter {
     /// ```
     pub fn bytes_for(keys: u64, one_in: u64) -> Option<usize> {
         Some(sketch_bloom_bytes_for(keys, one_in)).filter(|bytes| *bytes > 0)
+    }
+
+    /// Folds the filter into one of half its length: byte for byte the filter of that length of the
+    /// same keys. So it can be created for all keys, and made smaller once it is known how many are
+    /// different. The capacity of the vector stays.
+    ///
+    /// ```
+    /// use sketch_hash::BloomFilter;
+    /// let (mut large, mut small) = (BloomFilter::with_len(64)?, BloomFilter::with_len(32)?);
+    /// large.insert(b"fox");
+    /// small.insert(b"fox");
+    /// large.fold()?;
+    /// assert_eq!(large, small);
+    /// assert!(large.fold().is_err());
+    /// # Ok::<(), sketch_hash::Error>(())
+    /// ```
+    ///
+    /// # Errors
+    ///
+    /// Returns [`Error::Length`] if the length is not a multiple of 64. The filter is unchanged.
+    pub fn fold(&mut self) -> Result<(), Error> {
+        // SAFETY: a slice is readable and writable for its length, and is borrowed alone.
+        let status = unsafe { sketch_bloom_fold(self.bits.as_mut_ptr(), self.bits.len()) };
+        Error::check(status, 0)?;
+        self.bits.truncate(self.bits.len() / 2);
+        Ok(())
     }
 
     /// Reads the header of a filter in a Parquet file, and returns where the filter's bytes are: the

@@ -158,6 +158,7 @@ unsafe extern "C" {
     pub fn sketch_bloom_merge(
         into: *mut u8, length: usize, from: *const u8, from_length: usize,
     ) -> c_int;
+    pub fn sketch_bloom_fold(bits: *mut u8, length: usize) -> c_int;
     pub fn sketch_bloom_header_write(bytes: u64, header: *mut u8, length: usize) -> usize;
     pub fn sketch_bloom_header_read(input: *const u8, length: usize, bytes: &mut u64) -> usize;
 }

@@ -12,7 +12,8 @@ use core::fmt;
 #[derive(Clone, Copy, Debug, PartialEq, Eq, Hash)]
 #[non_exhaustive]
 pub enum Error {
-    /// No Bloom filter has this length, or two filters to be merged have different lengths.
+    /// No Bloom filter has this length, two filters to be merged have different lengths, or a filter
+    /// to be folded has an odd number of blocks of 32 bytes.
     Length,
     /// An offset of a column is missing, past the end of the keys, or below the offset before it.
     Offset {
@@ -49,7 +50,7 @@ impl fmt::Display for Error {
         match self {
             Error::Length => f.write_str(
                 "a Bloom filter must have a positive multiple of 32 bytes below 2^37, \
-                 and both filters of a merge the same length",
+                 both filters of a merge the same length, and a filter to fold a multiple of 64 bytes",
             ),
             Error::Offset { index } => write!(
                 f,
