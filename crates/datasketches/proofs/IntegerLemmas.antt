@@ -1,6 +1,6 @@
 -- Integers that are written as eight bytes. Short ones collide exactly if they are equal: modulo 2 ^ 64 they
--- are different words, and different words have different lists of eight bytes. And when the two ways to
--- extend an integer feed the same.
+-- are different words, and different words have different lists of eight bytes. The two
+-- ways to extend an integer feed the same bytes for some integers.
 use Rattle.std.proofs.Common.{◌≡◌, ◌↔◌, ℕ, ◌+◌, ◌-◌, ◌%◌, ◌^◌, ◌<◌, ◌≤◌, inl, inr, List, [], refl, sym, ap, ◌∙◌, arith, lt-ltb, le-ltb, mod-eq_of_lt, pow-suc}
 use Rattle.std.specs.Prelude.{ℤ, pos, negsuc, ◌-ℤ◌}
 use Rattle.std.proofs.lemmas.Int.{ints}
@@ -65,7 +65,7 @@ pub xxh64_modulo : PieceLaws → Xxh64StepLaws → (seed : ℕ) (x y : ℤ) → 
 xxh64_modulo ps ss seed x y p =
     (hash_u64_law ps ss seed p).once (modulo 64 x) (modulo 64 y) (modulo-lt x) (modulo-lt y)
 
-pub ruleset both_hashes = (murmur_integers, xxh64_integers, murmur_modulo, xxh64_modulo)
+pub ruleset for_integer_law = (murmur_integers, xxh64_integers, murmur_modulo, xxh64_modulo)
 
 -- ---- the two ways to extend
 

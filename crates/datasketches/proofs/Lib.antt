@@ -1,3 +1,4 @@
+pub mod ListLemmas
 pub mod MurmurLawLemmas
 pub mod Xxh64LawLemmas
 pub mod IntegerLemmas

@@ -1,5 +1,4 @@
--- Murmur's pairs do not collide where one block alone differs, or the seed alone. Before that: lists of
--- one length that agree outside a range.
+-- Murmur's pairs do not collide if one block alone differs, or the seed alone.
 use Rattle.std.proofs.Common.{◌≡◌, ℕ, ◌+◌, ◌-◌, ◌<◌, ◌≤◌, inl, inr, List, ◌∷◌, ◌++◌, length, take, drop, get_or, min, sym, ap, ◌∙◌, arith, length-take, length-drop, append_assoc, ◌≢◌, ◌*◌, ◌/◌, ◌%◌, ◌^◌, [], map, refl, length-append}
 use Rattle.std.proofs.lemmas.List.{same_lists, get_or-take, get_or-drop, drop-drop, drop_more, take-append-drop, take_all, map-append, length-take-le}
 use Rattle.datasketches.specs.Laws.{AgreeOutside, DifferInOneBlock, MurmurSeedLaw}
@@ -8,55 +7,21 @@ use Rattle.std.proofs.lemmas.Nat.{mod_below}
 use Rattle.std.proofs.lemmas.Bool.{cases_lt}
 use Rattle.std.proofs.lemmas.List.Sums.{fold-append}
 use Rattle.std.proofs.lemmas.List.Elements.{All-take, All-drop}
+use Rattle.datasketches.proofs.ListLemmas.{agree-back, agree-beyond, agree-front, parts_at, three_parts}
 use Rattle.sketch_base.specs.Bytes.{AreBytes}
 use Rattle.sketch_base.proofs.BytesLemmas.{IsByte, bytes_known}
 use Rattle.sketch_hash.specs.Words.{IsWord, OneToOne}
 use Rattle.sketch_hash.specs.Pieces.{pieces}
 use Rattle.sketch_hash.specs.Murmur.{step, block_words, blocks, tail, with_tail, finalize, murmur}
 use Rattle.sketch_hash.specs.Laws.{AreWords, IsBlock, PieceLaws, MurmurStepLaws}
-use Rattle.sketch_hash.proofs.WordLemmas.{◌▸◌, alike}
-
-pub agree-front : {X : Type 0} (low high : ℕ) (a b : List X) → length a ≡ length b →
-    AgreeOutside low high a b → take low a ≡ take low b
-agree-front low high a b e h =
-    same_lists (take low a) (take low b)
-    (length-take low a ∙ ap (min low) e ∙ sym (length-take low b))
-    (λ k d l.
-    let within : k < low = omega (arith, length-take low a) in
-    get_or-take low a k d within ∙ h k d (inl within) ∙ sym (get_or-take low b k d within))
-
-pub agree-back : {X : Type 0} (low high : ℕ) (a b : List X) → length a ≡ length b →
-    AgreeOutside low high a b → drop high a ≡ drop high b
-agree-back low high a b e h =
-    same_lists (drop high a) (drop high b)
-    (length-drop high a ∙ ap (λ n. n - high) e ∙ sym (length-drop high b))
-    (λ k d l. get_or-drop high a k d ∙ h (high + k) d (inr (omega arith)) ∙ sym (get_or-drop high b k d))
-
--- where the range is beyond both lists, they are the same
-pub agree-beyond : {X : Type 0} (low high : ℕ) (a b : List X) → length a ≡ length b →
-    AgreeOutside low high a b → length a ≤ low → a ≡ b
-agree-beyond low high a b e h beyond =
-    sym (take_all low a beyond) ∙ agree-front low high a b e h ∙ take_all low b (omega arith)
-
--- a list is its front, its middle and its back
-pub three_parts : {X : Type 0} (low n : ℕ) (a : List X) →
-    take low a ++ take n (drop low a) ++ drop (low + n) a ≡ a
-three_parts low n a =
-    append_assoc (take low a) (take n (drop low a)) (drop (low + n) a)
-    ∙ ap (λ t. take low a ++ (take n (drop low a) ++ t)) (sym (drop-drop n low a))
-    ∙ ap (λ t. take low a ++ t) (take-append-drop n (drop low a)) ∙ take-append-drop low a
-
--- a list is its front, one element, and its back
-pub parts_at : {X : Type 0} (a : List X) (i : ℕ) (d : X) → i < length a →
-    take i a ++ get_or a i d ∷ drop (i + 1) a ≡ a
-parts_at a i d l = ap (λ t. take i a ++ t) (sym (drop_more a i d l)) ∙ take-append-drop i a
+use Rattle.sketch_hash.proofs.OneToOne.{◌▸◌, alike}
 
 length_word : (n : ℕ) → IsWord (n % 2 ^ 64)
 length_word n = mod_below n (2 ^ 64) (omega arith)
 
 -- ---- a hash in two parts: the pair of words after whole blocks, and what is made of it
 
--- what is answered from a pair of words on, for the bytes that follow and the whole length
+-- the hash from the pair after full blocks, for the bytes after them and the length of all
 onward : List ℕ → ℕ → ℕ × ℕ → ℕ × ℕ
 onward bytes n h = finalize (with_tail (fold step h (blocks bytes)) (tail bytes)) (n % 2 ^ 64)
 
@@ -263,4 +228,4 @@ murmur_one_block ps ms seed a b p h k d e =
       ]
     ])
 
-pub ruleset two_streams = (murmur_one_block, murmur_two_seeds, bytes_known)
+pub ruleset for_murmur_both = (murmur_one_block, murmur_two_seeds, bytes_known)

@@ -12,10 +12,10 @@ use Rattle.sketch_hash.specs.Words.{IsWord, plus, OneToOne}
 use Rattle.sketch_hash.specs.Pieces.{rest}
 use Rattle.sketch_hash.specs.Xxh64.{prime5, Lanes, lanes, merge, stripes, tail_step, tail_steps, avalanche, finalize, xxh64}
 use Rattle.sketch_hash.specs.Laws.{IsStep, step_widths, PieceLaws, Xxh64StepLaws}
-use Rattle.sketch_hash.proofs.WordLemmas.{◌▸◌, alike}
+use Rattle.sketch_hash.proofs.OneToOne.{◌▸◌, alike}
 use Rattle.sketch_hash.proofs.WordLemmas.{plus-lt}
 use Rattle.datasketches.specs.Laws.{AgreeOutside, HashU64Law, XxTailLaw, XxSeedLaw}
-use Rattle.datasketches.proofs.MurmurLawLemmas.{agree-front, agree-back, agree-beyond, parts_at}
+use Rattle.datasketches.proofs.ListLemmas.{agree-front, agree-back, agree-beyond, parts_at}
 
 -- ---- a hash in two parts: the word that the tail begins at, and what is made of it
 
@@ -27,7 +27,7 @@ tail_start-lands : (seed : ℕ) (v : Lanes) (n : ℕ) → IsWord (tail_start see
 unfolding tail_start
 tail_start-lands seed v n = plus-lt (if nat_lt n 32 then plus seed prime5 else merge v) n
 
--- what is answered from a word on, for the steps that follow
+-- the hash from the word before the tail, for the steps of the tail
 onward : List (ℕ × ℕ) → ℕ → ℕ
 onward list h = avalanche (fold tail_step h list)
 

@@ -18,7 +18,7 @@ use sketch_hash::laws::{murmur_step_laws, piece_laws, xxh64_step_laws};
 /// With the same seed, two streams of the same length that differ only in one aligned block of
 /// sixteen bytes have different pairs. The block may be cut off at the end of the streams. One
 /// stream has different pairs under two seeds.
-#[tactic(auto, using(crate::proofs::MurmurLawLemmas::two_streams))]
+#[tactic(auto, using(crate::proofs::MurmurLawLemmas::for_murmur_both))]
 pub fn murmur_both(seed_a: u64, a: &[u8], seed_b: u64, b: &[u8]) -> ((u64, u64), (u64, u64))
     ensures values { result ≡ (murmur seed_a a.now, murmur seed_b b.now) }
     ensures one_block { seed_a ≡ seed_b → DifferInOneBlock a.now b.now → result.0 ≢ result.1 }
@@ -91,7 +91,7 @@ pub fn xx_seed_law()
 /// Two integers from -2^31 to 2^32 - 1, each extended to eight bytes and hashed alone with the same
 /// seed, have equal Murmur pairs exactly if they are equal, and equal XXH64 hashes exactly if they
 /// are equal. Any two integers have equal hashes exactly if they agree modulo 2^64.
-#[tactic(auto, using(crate::proofs::IntegerLemmas::both_hashes))]
+#[tactic(auto, using(crate::proofs::IntegerLemmas::for_integer_law))]
 pub fn integer_law()
     ensures murmur { IntegerLaw murmur }
     ensures xxh64 { IntegerLaw xxh64 }

@@ -27,7 +27,7 @@ pub fn fill<T: Hash>(alloc: Global, values: &[T], one_in: u64) -> Result<BloomFi
     insert_law();
     let bytes = bytes_for(values.len() as u64, one_in).unwrap_or(1 << 27);
     let mut filter = BloomFilter::new(alloc, bytes)?;
-    filter.insert_each(values);
+    filter.insert_each_value(values);
     Ok(filter)
 }
 

@@ -1,5 +1,5 @@
-//! Examples of the library's use, to copy. Each is proved from the library's public contracts
-//! alone.
+//! Examples of the library's use, to copy. Each is proved from the library's public contracts and
+//! its lemmas about definitions.
 #![tactic(auto)]
 
 pub mod bloom_filter;

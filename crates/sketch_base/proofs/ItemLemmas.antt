@@ -1,5 +1,5 @@
--- Items and their bytes: each item has one form, and a list is read back. And what one more item does to
--- widths, bytes and places.
+-- Items and their bytes: each item has one form, and a list is read back. One more item adds to widths, bytes
+-- and places.
 use Rattle.std.proofs.Common.{◌≡◌, ℕ, suc, ◌+◌, ◌<◌, List, [], ◌∷◌, ◌++◌, length, take, drop, get_or, set, refl, ap, sym, ◌∙◌, arith, add-one, append_assoc, append-nil, length-drop, ◌-◌, ◌*◌, ◌%◌, ◌^◌, ◌≤◌, map, reverse, length-append, nat_lt, Bool, true, false}
 use Rattle.std.proofs.lemmas.List.Elements.{All-more, All-push, All-same, All-head, All-tail}
 use Rattle.std.specs.List.{All}
@@ -217,7 +217,7 @@ be-again count bytes h is =
     let turned = le-again count (reverse bytes) (AreBytes-reverse bytes h) (length-reverse bytes ∙ is) in
     ap reverse turned ∙ reverse-reverse bytes
 
--- and so are they of the number that a signed one is modulo 2 ^ w
+-- Bytes are the lowest bytes, the highest first, of a signed number modulo 2 ^ w.
 signed_le-again : (w half count : ℕ) (bytes : List ℕ) → 2 ^ (w - 1) ≡ half → 2 ^ w ≡ 2 * half →
     256 ^ count ≡ 2 ^ w →
     AreBytes bytes → length bytes ≡ count → low_bytes count (modulo w (twos_complement w (le bytes))) ≡ bytes

@@ -11,7 +11,7 @@ use datasketches::hash::{Hash, Offset, XxHash64, check_offsets};
 
 // How many keys are hashed before the filter is read for any of them. A processor then waits for
 // many blocks of a large filter at once: in 128 MiB a key takes 0.6 times as long.
-const AHEAD: usize = 32;
+const BATCH: usize = 32;
 
 /// Inserts the keys of a column. Key i is the bytes of `keys` from offset i up to offset i + 1, as
 /// Apache Arrow lays out strings. There is one key less than offsets.
@@ -27,10 +27,10 @@ pub fn insert_each<O: Offset>(filter: &mut [u8], keys: &[u8], offsets: &[O]) -> 
     check_length(filter.len())?;
     let count = offsets.len().saturating_sub(1);
     check_offsets(keys, offsets, count).map_err(Fault::Offset)?;
-    let mut hashes = [0; AHEAD];
+    let mut hashes = [0; BATCH];
     let mut start = 0;
     while start < count {
-        let run = &mut hashes[..AHEAD.min(count - start)];
+        let run = &mut hashes[..BATCH.min(count - start)];
         XxHash64::hash_run(keys, offsets, start, 0, run);
         insert_hashes(filter, run);
         start += run.len();
@@ -59,10 +59,10 @@ pub fn contains_each<O: Offset>(
     check_length(filter.len())?;
     let count = found.len();
     check_offsets(keys, offsets, count).map_err(Fault::Offset)?;
-    let mut hashes = [0; AHEAD];
+    let mut hashes = [0; BATCH];
     let mut start = 0;
     while start < count {
-        let run = &mut hashes[..AHEAD.min(count - start)];
+        let run = &mut hashes[..BATCH.min(count - start)];
         XxHash64::hash_run(keys, offsets, start, 0, run);
         find_hashes(filter, run, found, start);
         start += run.len();

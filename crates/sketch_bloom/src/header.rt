@@ -6,7 +6,7 @@ ghost use Rattle.sketch_bloom.specs.Header.{IsHeaderLength, header, number_at, n
 use crate::filter::is_length;
 
 // The largest number of bytes of a header.
-const MOST: usize = 19;
+const MAX_HEADER: usize = 19;
 
 // The fields for the algorithm, the hash and the compression, and the end of the header.
 const UNION_FIELDS: [u8; 13] = [0x1c, 0x1c, 0, 0, 0x1c, 0x1c, 0, 0, 0x1c, 0x1c, 0, 0, 0];
@@ -52,7 +52,7 @@ pub fn read_header(input: &[u8]) -> Option<(usize, usize)>
         × (input.now ≡ header read.0 ++ drop read.1 input.now)) }
 {
     let bytes = length_in(input);
-    let mut header = [0; MOST];
+    let mut header = [0; MAX_HEADER];
     let count = write_header(bytes, &mut header)?;
     if has_prefix(input, &header[..count]) {
         Some((bytes, count))
@@ -82,12 +82,19 @@ fn number_field(bytes: usize) -> ([u8; 6], usize)
     let d = c / 128;
     let e = d / 128;
     let more = usize::from(b > 0) + usize::from(c > 0) + usize::from(d > 0) + usize::from(e > 0);
-    let field = [0x15, digit(a), digit(b), digit(c), digit(d), digit(e)];
+    let field = [
+        0x15,
+        varint_byte(a),
+        varint_byte(b),
+        varint_byte(c),
+        varint_byte(d),
+        varint_byte(e),
+    ];
     (field, 2 + more)
 }
 
-// The first byte of a variable-length number. `number` reads it.
-fn digit(number: u64) -> u8
+// The first byte of a variable-length number. `read_varint` reads it.
+fn varint_byte(number: u64) -> u8
     ensures last { number < 128 → result ≡ number }
     ensures more { 128 ≤ number → result ≡ number % 128 + 128 }
 {
@@ -107,13 +114,16 @@ fn length_in(input: &[u8]) -> usize
     let [_, a, b, c, d, e, ..] = input else {
         return 0;
     };
-    let twice = number(*a, number(*b, number(*c, number(*d, number(*e, 0)))));
+    let twice = read_varint(
+        *a,
+        read_varint(*b, read_varint(*c, read_varint(*d, read_varint(*e, 0)))),
+    );
     (twice / 2) as usize
 }
 
-// A variable-length number, from its first byte, as `digit` gives it, and the number in the bytes
-// after it.
-fn number(byte: u8, after: u64) -> u64
+// A variable-length number, from its first byte, as `varint_byte` returns it, and the number in the
+// bytes after it.
+fn read_varint(byte: u8, after: u64) -> u64
     requires { after < 2 ^ 56 }
     ensures value { result ≡ number_at byte after }
     ensures most { result ≤ 127 + 128 * after }

@@ -4,7 +4,7 @@ ghost use Rattle.std.specs.Prelude.{◌≡◌, ℕ, ◌↔◌, List, IsTrue, Mat
 ghost use Rattle.sketch_bloom.specs.Filter.{Folds, Inserts, InsertsAll, IsFoldFault, IsFoldable, IsLength, IsLengthFault, IsMember, IsMergeFault, IsNewFault, Merges, hash_of};
 ghost use Rattle.sketch_bloom.specs.Laws.{empty_filter};
 
-use crate::columns::insert_each_value;
+use crate::columns;
 use crate::fault::Fault;
 use crate::filter::{check_length, fold, insert_into, is_in, is_length, merge};
 use datasketches::hash::Hash;
@@ -77,12 +77,12 @@ impl BloomFilter {
     }
 
     /// Inserts each value of a slice.
-    pub fn insert_each<T: Hash>(&mut self, values: &[T])
+    pub fn insert_each_value<T: Hash>(&mut self, values: &[T])
         ensures { let hashes = map (λ value. hash_of (T.fed value)) values.now in
             InsertsAll hashes self.old self.new }
     {
         // A filter has a valid length, so this is never an error.
-        let _ = insert_each_value(&mut self.bytes, values);
+        let _ = columns::insert_each_value(&mut self.bytes, values);
     }
 
     /// Whether the filter may contain a value. If not, it was never inserted.

@@ -12,9 +12,12 @@ ghost use Rattle.std.specs.Prelude.{◌≡◌, ◌↔◌, ℕ, ◌-◌, ◌*◌,
 ghost use Rattle.sketch_bloom.specs.Size.{IsLeastSize, IsRateAtMost, NoneKeepsRate, eighth_power};
 
 // The most values a block on average. With more, the rate is above one in two.
-const FULL: u64 = 128;
+const MAX_LOAD: u64 = 128;
 
-// The number of terms. Later ones are too small to count, with at most `FULL` values a block.
+// The sizes: the powers of two from one block of 32 bytes to 2^22 blocks, 128 MiB.
+const SIZES: u32 = 23;
+
+// The number of terms. Later ones are too small to count, with at most `MAX_LOAD` values a block.
 const TERMS: u64 = 384;
 
 /// The smallest number of bytes, a power of two from 32 bytes to 128 MiB, for a filter of `keys`
@@ -40,7 +43,7 @@ pub fn bytes_for(keys: u64, one_in: u64) -> Option<usize>
         1 => return Some(32),
         _ => {}
     }
-    for log2_blocks in 0..23 {
+    for log2_blocks in 0..SIZES {
         if keeps_rate(keys, log2_blocks, one_in) {
             return Some(32 << log2_blocks);
         }
@@ -54,7 +57,7 @@ pub(crate) fn keeps_rate(keys: u64, log2_blocks: u32, one_in: u64) -> bool
     requires one_in { 0 < one_in }
     ensures { IsTrue result ↔ IsRateAtMost keys log2_blocks one_in }
 {
-    if keys > FULL << log2_blocks {
+    if keys > MAX_LOAD << log2_blocks {
         return false;
     }
     // The sum of the terms' weights, and of the terms in parts of 2^60.
@@ -88,7 +91,7 @@ fn next_weight(weight: u64, keys: u64, log2_blocks: u32, k: u64) -> u64
     ((u128::from(weight) * u128::from(keys)) >> log2_blocks) as u64 / k
 }
 
-// 32^8 times the eighth power of 1 - clear / 2^50, in parts of 2^20.
+// The eighth power of 1 - clear / 2^50, in parts of 2^60.
 #[tactic(auto, unfolding(crate::specs::Size::eighth_power))]
 fn covered(clear: u64) -> u64
     requires { clear ≤ 2 ^ 50 }

@@ -9,7 +9,7 @@ ghost use Rattle.sketch_bloom.specs.Header.{IsHeaderLength, header};
 ghost use Rattle.sketch_bloom.specs.Size.{IsLeastSize, NoneKeepsRate};
 ghost use Rattle.sketch_c.specs.{Changes, IsNumber, MayContain, Reports, error};
 
-use crate::{done, reported};
+use crate::{report, status_of};
 use datasketches::hash::value::raw_bytes;
 
 /// The smallest number of bytes, a power of two from 32 bytes to 128 MiB, for a filter of `keys`
@@ -46,7 +46,7 @@ pub extern "C" fn sketch_bloom_check(length: usize) -> i32
 pub extern "C" fn sketch_bloom_insert(bits: &mut [u8], key: &[u8]) -> i32
     ensures { Changes (Inserts (hash_of key.now) bits.old bits.new) bits.old bits.new result }
 {
-    done(sketch_bloom::insert(bits, &raw_bytes::from_slice(key)))
+    status_of(sketch_bloom::insert(bits, &raw_bytes::from_slice(key)))
 }
 
 /// Returns 0 if the filter certainly does not contain a key, and 1 if it may. Returns 1 too if the
@@ -63,7 +63,7 @@ pub extern "C" fn sketch_bloom_contains(bits: &[u8], key: &[u8]) -> i32
 pub extern "C" fn sketch_bloom_insert_hash(bits: &mut [u8], hash: u64) -> i32
     ensures { Changes (Inserts hash bits.old bits.new) bits.old bits.new result }
 {
-    done(sketch_bloom::insert_hash(bits, hash))
+    status_of(sketch_bloom::insert_hash(bits, hash))
 }
 
 /// Returns 0 if the filter certainly does not contain the key with this hash, XXH64 with seed 0,
@@ -87,7 +87,7 @@ pub extern "C" fn sketch_bloom_insert_each32(
         × InsertsKeys keys.now offsets.now bits.old bits.new outcome
         × Reports outcome wrong_offset.old wrong_offset.new result }
 {
-    reported(sketch_bloom::insert_each(bits, keys, offsets), wrong_offset)
+    report(sketch_bloom::insert_each(bits, keys, offsets), wrong_offset)
 }
 
 /// Inserts the keys of a column with 64-bit offsets. There is one key less than offsets.
@@ -102,7 +102,7 @@ pub extern "C" fn sketch_bloom_insert_each64(
         × InsertsKeys keys.now offsets.now bits.old bits.new outcome
         × Reports outcome wrong_offset.old wrong_offset.new result }
 {
-    reported(sketch_bloom::insert_each(bits, keys, offsets), wrong_offset)
+    report(sketch_bloom::insert_each(bits, keys, offsets), wrong_offset)
 }
 
 /// Inserts the four little-endian bytes of each number.
@@ -111,7 +111,7 @@ pub extern "C" fn sketch_bloom_insert_each_u32(bits: &mut [u8], values: &[u32]) 
     ensures { let hashes = map (λ n. hash_of (low_bytes 4 n)) values.now in
         Changes (InsertsAll hashes bits.old bits.new) bits.old bits.new result }
 {
-    done(sketch_bloom::insert_each_value(bits, values))
+    status_of(sketch_bloom::insert_each_value(bits, values))
 }
 
 /// Inserts the eight little-endian bytes of each number.
@@ -120,7 +120,7 @@ pub extern "C" fn sketch_bloom_insert_each_u64(bits: &mut [u8], values: &[u64]) 
     ensures { let hashes = map (λ n. hash_of (low_bytes 8 n)) values.now in
         Changes (InsertsAll hashes bits.old bits.new) bits.old bits.new result }
 {
-    done(sketch_bloom::insert_each_value(bits, values))
+    status_of(sketch_bloom::insert_each_value(bits, values))
 }
 
 /// Inserts each key of a column by its hash: XXH64 with seed 0.
@@ -128,7 +128,7 @@ pub extern "C" fn sketch_bloom_insert_each_u64(bits: &mut [u8], values: &[u64]) 
 pub extern "C" fn sketch_bloom_insert_each_hash(bits: &mut [u8], hashes: &[u64]) -> i32
     ensures { Changes (InsertsAll hashes.now bits.old bits.new) bits.old bits.new result }
 {
-    done(sketch_bloom::insert_each_hash(bits, hashes))
+    status_of(sketch_bloom::insert_each_hash(bits, hashes))
 }
 
 /// Writes to `found[i]` 1 if the filter may contain key i of a column with 32-bit offsets, else 0.
@@ -146,7 +146,7 @@ pub extern "C" fn sketch_bloom_contains_each32(
         × Reports outcome wrong_offset.old wrong_offset.new result }
 {
     let outcome = sketch_bloom::contains_each(bits, keys, offsets, found);
-    reported(outcome, wrong_offset)
+    report(outcome, wrong_offset)
 }
 
 /// Writes to `found[i]` 1 if the filter may contain key i of a column with 64-bit offsets, else 0.
@@ -164,7 +164,7 @@ pub extern "C" fn sketch_bloom_contains_each64(
         × Reports outcome wrong_offset.old wrong_offset.new result }
 {
     let outcome = sketch_bloom::contains_each(bits, keys, offsets, found);
-    reported(outcome, wrong_offset)
+    report(outcome, wrong_offset)
 }
 
 /// Writes to `found[i]` 1 if the filter may contain number i, as four little-endian bytes, else 0.
@@ -178,7 +178,7 @@ pub extern "C" fn sketch_bloom_contains_each_u32(
         (outcome : Result Unit Fault)
         × FindsEach bits.now hashes found.old found.new outcome × IsNumber outcome result }
 {
-    done(sketch_bloom::contains_each_value(bits, values, found))
+    status_of(sketch_bloom::contains_each_value(bits, values, found))
 }
 
 /// Writes to `found[i]` 1 if the filter may contain number i, as eight little-endian bytes, else 0.
@@ -192,7 +192,7 @@ pub extern "C" fn sketch_bloom_contains_each_u64(
         (outcome : Result Unit Fault)
         × FindsEach bits.now hashes found.old found.new outcome × IsNumber outcome result }
 {
-    done(sketch_bloom::contains_each_value(bits, values, found))
+    status_of(sketch_bloom::contains_each_value(bits, values, found))
 }
 
 /// Writes to `found[i]` 1 if the filter may contain the key with hash i (XXH64, seed 0), else 0.
@@ -205,7 +205,7 @@ pub extern "C" fn sketch_bloom_contains_each_hash(
     ensures { (outcome : Result Unit Fault)
         × FindsEach bits.now hashes.now found.old found.new outcome × IsNumber outcome result }
 {
-    done(sketch_bloom::contains_each_hash(bits, hashes, found))
+    status_of(sketch_bloom::contains_each_hash(bits, hashes, found))
 }
 
 /// Merges the filter `from` into the filter `into` of the same length.
@@ -215,7 +215,7 @@ pub extern "C" fn sketch_bloom_merge(into: &mut [u8], from: &[u8]) -> i32
         ⊎ ((result ≡ error 1) × (into.new ≡ into.old)
         × ((fault : Fault) × IsMergeFault (length into.old) (length from.now) fault)) }
 {
-    done(sketch_bloom::merge(into, from))
+    status_of(sketch_bloom::merge(into, from))
 }
 
 /// Folds a filter of an even number of blocks into its first half, which is then the filter of that
@@ -227,7 +227,7 @@ pub extern "C" fn sketch_bloom_fold(bits: &mut [u8]) -> i32
         × (drop half bits.new ≡ drop half bits.old))
         ⊎ ((result ≡ error 1) × (bits.new ≡ bits.old) × (IsFoldable (length bits.old) → ⊥)) }
 {
-    done(sketch_bloom::fold(bits))
+    status_of(sketch_bloom::fold(bits))
 }
 
 /// Writes the header of a filter with this many bytes to the start of `out`, and returns the

@@ -5,9 +5,21 @@ ghost use Rattle.sketch_c.specs.{ReportsOffset, error};
 ghost use Rattle.datasketches.specs.Columns.{HashesEach, HashesEachNumber, murmur_words};
 ghost use Rattle.datasketches.specs.Xxh64.{xxh64};
 
-use crate::{done, reported};
 use datasketches::hash::{MurmurHash3X64128, XxHash64};
-use sketch_bloom::Fault;
+
+// 0, or -2 for a wrong offset, whose index is written.
+#[inline(always)]
+fn report_offset(hashed: Result<(), usize>, wrong_offset: &mut usize) -> i32
+    ensures { ReportsOffset hashed wrong_offset.old wrong_offset.new result }
+{
+    match hashed {
+        Ok(()) => 0,
+        Err(i) => {
+            *wrong_offset = i;
+            -2
+        }
+    }
+}
 
 /// XXH64 of the keys of a column with 32-bit offsets, one for each place of `out`.
 #[unsafe(no_mangle)]
@@ -24,7 +36,7 @@ pub extern "C" fn sketch_xxh64_each32(
         × ReportsOffset outcome wrong_offset.old wrong_offset.new result }
 {
     let hashed = XxHash64::hash_each(input, offsets, seed, out);
-    reported(hashed.map_err(Fault::Offset), wrong_offset)
+    report_offset(hashed, wrong_offset)
 }
 
 /// XXH64 of the keys of a column with 64-bit offsets, one for each place of `out`.
@@ -42,7 +54,7 @@ pub extern "C" fn sketch_xxh64_each64(
         × ReportsOffset outcome wrong_offset.old wrong_offset.new result }
 {
     let hashed = XxHash64::hash_each(input, offsets, seed, out);
-    reported(hashed.map_err(Fault::Offset), wrong_offset)
+    report_offset(hashed, wrong_offset)
 }
 
 /// XXH64 of the eight little-endian bytes of each number, one for each place of `out`.
@@ -52,7 +64,10 @@ pub extern "C" fn sketch_xxh64_each_u64(values: &[u64], seed: u64, out: &mut [u6
         ((result ≡ pos 0) × Outcome (Ok tt))
         ⊎ ((result ≡ error 3) × (numbers : ℕ) × Outcome (Err numbers)) }
 {
-    done(XxHash64::hash_each_u64(values, seed, out).map_err(Fault::Count))
+    match XxHash64::hash_each_u64(values, seed, out) {
+        Ok(()) => 0,
+        Err(_) => -3,
+    }
 }
 
 /// MurmurHash3 x64 128 of the keys of a column with 32-bit offsets, one for each place of `out`.
@@ -70,7 +85,7 @@ pub extern "C" fn sketch_murmur3_x64_128_each32(
         × ReportsOffset outcome wrong_offset.old wrong_offset.new result }
 {
     let hashed = MurmurHash3X64128::hash_each(input, offsets, seed, out);
-    reported(hashed.map_err(Fault::Offset), wrong_offset)
+    report_offset(hashed, wrong_offset)
 }
 
 /// MurmurHash3 x64 128 of the keys of a column with 64-bit offsets, one for each place of `out`.
@@ -88,5 +103,5 @@ pub extern "C" fn sketch_murmur3_x64_128_each64(
         × ReportsOffset outcome wrong_offset.old wrong_offset.new result }
 {
     let hashed = MurmurHash3X64128::hash_each(input, offsets, seed, out);
-    reported(hashed.map_err(Fault::Offset), wrong_offset)
+    report_offset(hashed, wrong_offset)
 }

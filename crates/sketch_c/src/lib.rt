@@ -31,7 +31,7 @@ pub extern "C" fn sketch_hash_version() -> u32
 
 // 0, or the number of the error.
 #[inline(always)]
-fn done(outcome: Result<(), Fault>) -> i32
+fn status_of(outcome: Result<(), Fault>) -> i32
     ensures { IsNumber outcome result }
 {
     match outcome {
@@ -45,11 +45,11 @@ fn done(outcome: Result<(), Fault>) -> i32
 
 // 0, or the number of the error. The index of a wrong offset is written.
 #[inline(always)]
-fn reported(outcome: Result<(), Fault>, wrong_offset: &mut usize) -> i32
+fn report(outcome: Result<(), Fault>, wrong_offset: &mut usize) -> i32
     ensures { Reports outcome wrong_offset.old wrong_offset.new result }
 {
     if let Err(Fault::Offset(i)) = outcome {
         *wrong_offset = i;
     }
-    done(outcome)
+    status_of(outcome)
 }

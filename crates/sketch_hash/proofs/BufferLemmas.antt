@@ -46,7 +46,7 @@ copy_overlapping-is buffer bytes front back at k m place low high within f b =
     (append_assoc (take at buffer) (take (n - k) bytes) (drop (n - k) bytes)
     ∙ ap (λ t. take at buffer ++ t) (take-append-drop (n - k) bytes))
 
--- the bytes in front of which others were put
+-- the bytes of a buffer after those that were put at its start
 pub take-copy : (buffer bytes : List ℕ) (at : ℕ) → at + length bytes ≤ length buffer →
     take (at + length bytes) (take at buffer ++ bytes ++ drop (at + length bytes) buffer)
     ≡ take at buffer ++ bytes
@@ -57,7 +57,7 @@ take-copy buffer bytes at h =
     ap (λ i. take i (take at buffer ++ bytes ++ drop (at + length bytes) buffer)) seam
     ∙ take-append_seam (take at buffer ++ bytes) (drop (at + length bytes) buffer)
 
--- bytes up to the end
+-- bytes that were put at the end of a buffer
 pub copy_to_end : (buffer bytes : List ℕ) (at : ℕ) → length (take at buffer) + length bytes ≡ length buffer →
     take at buffer ++ bytes ++ drop (at + length bytes) buffer ≡ take at buffer ++ bytes
 copy_to_end buffer bytes at h =
@@ -80,7 +80,7 @@ take-copy_found buffer bytes at h =
     let at_len = length-take at buffer in
     (refl, take-copy buffer bytes at (omega (arith, h, at_len)))
 
--- bytes at the front
+-- bytes that were put at the start of a buffer
 pub take-append_found : (bytes behind : List ℕ) →
     Found (bytes ++ behind) (take (length bytes) (bytes ++ behind) ≡ bytes)
 take-append_found bytes behind = (refl, take-append_seam bytes behind)

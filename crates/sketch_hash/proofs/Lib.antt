@@ -1,3 +1,4 @@
+pub mod OneToOne
 pub mod WordLemmas
 pub mod PiecesLemmas
 pub mod NumberLemmas

@@ -54,7 +54,7 @@ finalize_is h1 h2 n = refl
 
 pub ruleset for_finalize_unvectorized = (finalize_is, fmix_zero, of_words, of_swapped_words)
 
--- no tail, a tail of one word, and one of two: their words enter those of the hash
+-- A tail of no word, of one and of two words enters the words of the hash.
 pub no_tail : (h1 h2 : ℕ) (tail : List ℕ) → IsWord h1 → IsWord h2 → length tail ≡ 0 →
     ◌≡◌ {A = ℕ × ℕ} (h1, h2) (with_tail (h1, h2) tail)
 unfolding with_tail

@@ -9,7 +9,8 @@ use Rattle.sketch_hash.specs.Words.{IsWord, plus, times, rotate, OneToOne}
 use Rattle.sketch_hash.specs.Pieces.{pieces}
 use Rattle.sketch_hash.specs.Murmur.{block_words, c1, c2, mix1, mix2, fmix, step1, step2, step, blocks, with_tail, cross, finalize}
 use Rattle.sketch_hash.specs.Laws.{AreWords, IsBlock, MurmurStepLaws}
-use Rattle.sketch_hash.proofs.WordLemmas.{Undoes, one_to_one, times-once, plus-once, xor-once, xor_word-once, rotate-once, shifted-once, ◌▸◌, on_first, on_second, on_both, along}
+use Rattle.sketch_hash.proofs.OneToOne.{Undoes, one_to_one, ◌▸◌, on_first, on_second, on_both, along}
+use Rattle.sketch_hash.proofs.WordLemmas.{times-once, plus-once, xor-once, xor_word-once, rotate-once, shifted-once}
 use Rattle.sketch_hash.proofs.PiecesLemmas.{IsPiece, pieces-are}
 use Rattle.std.specs.List.{All, fold}
 use Rattle.sketch_hash.proofs.NumberLemmas.{first_half, halves, joined_words, second_half}
@@ -94,7 +95,7 @@ step-on_state k p =
     on_first (λ h1 h2. step1 h1 h2 k.0) (λ h2 q. first ▸ rest_of_step1-once h2 q)
     ▸ on_second (λ h1 h2. step2 h1 h2 k.1) (λ h1 q. second ▸ rest_of_step2-once h1 q)
 
--- a step, from one state
+-- a step, as a function of its block
 pub step-on_block : (h : ℕ × ℕ) → AreWords h → OneToOne AreWords AreWords (λ k. step h k)
 unfolding step step1 step2
 step-on_block h p =
@@ -103,7 +104,7 @@ step-on_block h p =
     on_first (λ k1 k2. step1 h.0 h.1 k1) (λ k2 q. first ▸ rest_of_step1-once h.1 p.1)
     ▸ on_second (λ h1 k2. step2 h1 h.1 k2) (λ h1 q. second ▸ rest_of_step2-once h1 q)
 
--- all steps, for one list of blocks
+-- the steps of a list of blocks, as a function of the pair before them
 pub steps-on_state : (blocks : List (ℕ × ℕ)) → All AreWords blocks →
     OneToOne AreWords AreWords (λ h. fold step h blocks)
 steps-on_state blocks p = along step step-on_state blocks p
@@ -111,7 +112,7 @@ steps-on_state blocks p = along step step-on_state blocks p
 cross-once : OneToOne AreWords AreWords cross
 cross-once = on_first plus plus-once ▸ on_second (λ h1 h2. plus h2 h1) plus-once
 
--- the end, for one length
+-- the finalization for one length, as a function of the pair before it
 pub finalize-once : (n : ℕ) → IsWord n → OneToOne AreWords AreWords (λ h. finalize h n)
 unfolding finalize
 finalize-once n p =

@@ -115,7 +115,7 @@ pub rest_cut : (w : ℕ) (bytes : List ℕ) → 0 < w →
 unfolding rest
 rest_cut w bytes p = (refl, rest-lt w bytes p)
 
-pub ruleset cut = (chunks_cut, rest_cut)
+pub ruleset for_split_pieces = (chunks_cut, rest_cut)
 
 -- what is as long as a piece, or shorter, in two parts
 pub joined_piece : (w : ℕ) (held front : List ℕ) → 0 < w → length held + length front ≡ w →

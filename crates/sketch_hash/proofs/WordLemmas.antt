@@ -6,6 +6,7 @@ use Rattle.std.proofs.lemmas.Bool.{cond_both, eqb-true, eqb-false}
 use Rattle.std.proofs.lemmas.Nat.{mod-pow-add, xor_lt, mod_below, or_shifted, shr_below, shl_below, shr_split, mod_low, pow-add, pow_pos, shr_le, xor_comm, mul-mod_first, mul-mod_second, shr_high, mul-add-lt, shr-shr}
 use Rattle.std.proofs.lemmas.Nat.Bits.{bit_at_xor, bit_at-lt}
 use Rattle.std.proofs.Math.Nat.{mod-eq_of_lt, div-eq_of_lt, pow-le-pow_right}
+use Rattle.sketch_hash.proofs.OneToOne.{Undoes, alike, one_to_one}
 use Rattle.sketch_hash.specs.Words.{IsWord, plus, times, digit, xor_below, xor, rotate, xor_shift, OneToOne, minus}
 use Rattle.std.specs.List.{All, fold}
 use Rattle.std.proofs.lemmas.List.Elements.{All-head, All-tail}
@@ -80,7 +81,7 @@ pub five_times : (r x a b : ℕ) →
     plus (times (plus r x) 5) (5 * a + b) ≡ plus (times (plus r (plus x a)) 5) b
 five_times r x a b = omega arith
 
-pub ruleset rotation = (rotate-is)
+pub ruleset for_rotate = (rotate-is)
 
 -- the library's xor of two words, with its operands in either order
 pub of_words : (x y : ℕ) → IsWord x → IsWord y → bit_xor x y ≡ xor x y
@@ -90,100 +91,6 @@ pub of_swapped_words : (x y : ℕ) → IsWord x → IsWord y → bit_xor x y ≡
 of_swapped_words x y p q = xor_comm x y ∙ sym (xor-is y x q p)
 
 pub ruleset xors = (of_words, of_swapped_words)
-
--- Functions that take each value exactly once: composed in turn, in a part of a pair, along a list;
--- and the steps on words that the hashes are made of, each with another that undoes it.
-
--- the function that leaves every value
-pub same : {A : Type 0} {S : A → Type 0} → OneToOne S S (λ x. x)
-same = record { lands = λ x h. h; once = λ x y h k e. e; reached = λ y h. (y, h, refl) }
-
--- one function, and then another
-infixr 20 ◌▸◌
-pub ◌▸◌ : {A B C : Type 0} {S : A → Type 0} {T : B → Type 0} {U : C → Type 0}
-    {f : A → B} {g : B → C} →
-    OneToOne S T f → OneToOne T U g → OneToOne S U (λ x. g (f x))
-◌▸◌ {f = f} {g = g} p q = record {
-  lands = λ x h. q.lands (f x) (p.lands x h);
-  once = λ x y h k e. p.once x y h k (q.once (f x) (f y) (p.lands x h) (p.lands y k) e);
-  reached = λ z h. let m = q.reached z h in let r = p.reached m.0 m.1 in (r.0, r.1, ap g r.2 ∙ m.2);
-}
-
--- a function with the same values
-pub alike : {A B : Type 0} {S : A → Type 0} {T : B → Type 0} {f : A → B} (g : A → B) →
-    ((x : A) → S x → g x ≡ f x) → OneToOne S T f → OneToOne S T g
-alike g e p = record {
-  lands = λ x h. rw (e x h) (p.lands x h);
-  once = λ x y h k q. p.once x y h k (sym (e x h) ∙ q ∙ e y k);
-  reached = λ y h. let r = p.reached y h in (r.0, r.1, e r.0 r.1 ∙ r.2);
-}
-
--- the first of a pair, by a function that may look at the second
-pub on_first : {A B C : Type 0} {S : A → Type 0} {T : B → Type 0} {U : C → Type 0} (f : A → B → C) →
-    ((b : B) → T b → OneToOne S U (λ a. f a b)) →
-    OneToOne (λ (p : A × B). S p.0 × T p.1) (λ (p : C × B). U p.0 × T p.1) (λ p. (f p.0 p.1, p.1))
-on_first {A = A} {B = B} {C = C} f law = record {
-  lands = λ p h. ((law p.1 h.1).lands p.0 h.0, h.1);
-  once = λ p q h k e.
-      let second = ap (λ (t : C × B). t.1) e in
-      let first = ap (λ (t : C × B). t.0) e ∙ ap (f q.0) (sym second) in
-      ap (λ (a : A). (a, p.1)) ((law p.1 h.1).once p.0 q.0 h.0 k.0 first)
-      ∙ ap (λ (b : B). (q.0, b)) second;
-  reached = λ p h.
-      let r = (law p.1 h.1).reached p.0 h.0 in
-      ((r.0, p.1), (r.1, h.1), ap (λ (c : C). (c, p.1)) r.2);
-}
-
--- the second of a pair, by a function that may look at the first
-pub on_second : {A B C : Type 0} {S : A → Type 0} {T : B → Type 0} {U : C → Type 0}
-    (f : A → B → C) →
-    ((a : A) → S a → OneToOne T U (f a)) →
-    OneToOne (λ (p : A × B). S p.0 × T p.1) (λ (p : A × C). S p.0 × U p.1) (λ p. (p.0, f p.0 p.1))
-on_second {A = A} {B = B} {C = C} f law = record {
-  lands = λ p h. (h.0, (law p.0 h.0).lands p.1 h.1);
-  once = λ p q h k e.
-      let first = ap (λ (t : A × C). t.0) e in
-      let second = ap (λ (t : A × C). t.1) e ∙ ap (λ a. f a q.1) (sym first) in
-      ap (λ (b : B). (p.0, b)) ((law p.0 h.0).once p.1 q.1 h.1 k.1 second)
-      ∙ ap (λ (a : A). (a, q.1)) first;
-  reached = λ p h.
-      let r = (law p.0 h.0).reached p.1 h.1 in
-      ((p.0, r.0), (h.0, r.1), ap (λ (c : C). (p.0, c)) r.2);
-}
-
--- both of a pair, each by itself
-pub on_both : {A B C D : Type 0} {S : A → Type 0} {T : B → Type 0} {U : C → Type 0} {V : D → Type 0}
-    {f : A → C} {g : B → D} → OneToOne S U f → OneToOne T V g →
-    OneToOne (λ (p : A × B). S p.0 × T p.1) (λ (p : C × D). U p.0 × V p.1) (λ p. (f p.0, g p.1))
-on_both {f = f} {g = g} p q = on_first (λ a b. f a) (λ b h. p) ▸ on_second (λ c. g) (λ c h. q)
-
--- one of two functions, by a test
-pub choice : {A B : Type 0} {S : A → Type 0} {T : B → Type 0} {f g : A → B} (b : Bool) →
-    OneToOne S T f → OneToOne S T g → OneToOne S T (λ x. cond b (f x) (g x))
-choice true p q = p
-choice false p q = q
-
--- all elements of a list, one after another
-pub along : {A X : Type 0} {S : A → Type 0} {P : X → Type 0} (f : A → X → A) →
-    ((x : X) → P x → OneToOne S S (λ a. f a x)) → (xs : List X) → All P xs →
-    OneToOne S S (λ a. fold f a xs)
-along f law [] h = same
-along {P = P} f law (x ∷ xs) h = law x (All-head P x xs h) ▸ along f law xs (All-tail P x xs h)
-
--- f takes S to T, and g undoes it
-pub record Undoes {A B : Type 0} (S : A → Type 0) (T : B → Type 0) (f : A → B) (g : B → A) : Type 0 where
-  pub lands : (x : A) → S x → T (f x)
-  pub comes : (y : B) → T y → S (g y)
-  pub back : (x : A) → S x → g (f x) ≡ x
-  pub forth : (y : B) → T y → f (g y) ≡ y
-
-pub one_to_one : {A B : Type 0} {S : A → Type 0} {T : B → Type 0} {f : A → B} {g : B → A} →
-    Undoes S T f g → OneToOne S T f
-one_to_one {f = f} {g = g} u = record {
-  lands = u.lands;
-  once = λ x y h k e. sym (u.back x h) ∙ ap g e ∙ u.back y k;
-  reached = λ y h. (g y, u.comes y h, u.forth y h);
-}
 
 -- ---- the product with a number, undone by the product with another
 
@@ -274,7 +181,7 @@ rotate-once a b e = one_to_one (rotate-undone a b e)
 
 -- ---- a word xor its own upper digits
 
--- neighbours in a chain of exclusive ors meet and go
+-- the common word of two exclusive ors cancels in their exclusive or
 bit_xor-meet : (a b c : ℕ) → bit_xor (bit_xor a b) (bit_xor b c) ≡ bit_xor a c
 bit_xor-meet a b c =
     let gone = ap (λ n. bit_xor n c) (xor_self b) ∙ xor_comm 0 c ∙ xor_zero_r c in
@@ -286,7 +193,7 @@ shr-word x k h = let less = shr_le x k in omega arith
 shifted-lt : (k x : ℕ) → IsWord x → IsWord (xor_shift k x)
 shifted-lt k x h = xor-lt x (x / 2 ^ k) h (shr-word x k h)
 
--- beyond its 64 digits a word has none
+-- a word shifted by 64 places or more is 0
 shr-gone : (k x : ℕ) → 64 ≤ k → IsWord x → bit_xor x (x / 2 ^ k) ≡ x
 shr-gone k x m h =
     let below : x < 2 ^ k = lt_of_lt_of_le h (pow-le-pow_right {n = 2} (omega arith) m) in
@@ -296,14 +203,14 @@ shr-gone k x m h =
 shr-shifted : (k j x : ℕ) → bit_xor x (x / 2 ^ k) / 2 ^ j ≡ bit_xor (x / 2 ^ j) (x / 2 ^ (k + j))
 shr-shifted k j x = xor_shr x (x / 2 ^ k) j ∙ ap (bit_xor (x / 2 ^ j)) (shr-shr x k j)
 
--- done twice, it is done by twice the places
+-- two shifts by k places with an exclusive or are one by 2 k
 shifted-two : (k x : ℕ) → IsWord x → xor_shift k (xor_shift k x) ≡ bit_xor x (x / 2 ^ (k + k))
 shifted-two k x h =
     xor_shift-is k (xor_shift k x) (shifted-lt k x h)
     ∙ ap (λ n. bit_xor n (n / 2 ^ k)) (xor_shift-is k x h)
     ∙ ap (bit_xor (bit_xor x (x / 2 ^ k))) (shr-shifted k k x) ∙ bit_xor-meet x (x / 2 ^ k) (x / 2 ^ (k + k))
 
--- by 32 places and more it undoes itself
+-- an exclusive or with a shift by 32 places or more undoes itself
 shifted-undone : (k : ℕ) → 32 ≤ k → Undoes IsWord IsWord (xor_shift k) (xor_shift k)
 shifted-undone k m = record { lands = shifted-lt k; comes = shifted-lt k; back = undone; forth = undone }
   where
@@ -325,7 +232,7 @@ shifted_twice-lt : (k y : ℕ) → IsWord y → IsWord (shifted_twice k y)
 unfolding shifted_twice
 shifted_twice-lt k y h = xor-lt (xor_shift k y) (y / 2 ^ (k + k)) (shifted-lt k y h) (shr-word y (k + k) h)
 
--- by 22 places and more it is undone by that
+-- `shifted_twice` undoes an exclusive or with a shift by 22 places or more
 shifted_less-undone : (k : ℕ) → 22 ≤ k → Undoes IsWord IsWord (xor_shift k) (shifted_twice k)
 shifted_less-undone k m = record {
   lands = shifted-lt k;

@@ -30,21 +30,21 @@ unfolding stripe_step
 fold-each_lane [] v = refl
 fold-each_lane (s ∷ stripes) v = fold-each_lane stripes (stripe_step v s)
 
--- and the seed stays
+-- A fold over stripes changes the lanes, and keeps the seed.
 pub fold-seeded : (stripes : List (List ℕ)) (seed : ℕ) (v : Lanes) →
     fold seeded_step (seed, v) stripes ≡ (seed, each_lane v stripes)
 unfolding stripe_step
 fold-seeded [] seed v = refl
 fold-seeded (s ∷ stripes) seed v = fold-seeded stripes seed (stripe_step v s)
 
--- one stripe more
+-- lanes after stripes, and after one stripe more
 each_lane-more : (v : Lanes) (stripes : List (List ℕ)) (s : List ℕ) →
     stripe_step (each_lane v stripes) s ≡ each_lane v (stripes ++ s ∷ [])
 each_lane-more v stripes s =
     ap (λ v. stripe_step v s) (sym (fold-each_lane stripes v))
     ∙ sym (fold-append stripe_step v stripes (s ∷ [])) ∙ fold-each_lane (stripes ++ s ∷ []) v
 
--- a stripe alone
+-- the lanes after a list of one stripe
 pub one_stripe : (v : Lanes) (s : List ℕ) → stripe_step v s ≡ each_lane v (s ∷ [])
 unfolding stripe_step
 one_stripe v s = refl
@@ -76,7 +76,7 @@ up = act2 shl (s_int w64) (s_int w64) (s_int w64)
 abbrev down : ℕ → ℕ → ℕ
 down = act2 (shr unsigned) (s_int w64) (s_int w64) (s_int w64)
 
--- one lane
+-- what the vector round does on one lane
 one : (v w : ℕ) →
     product (either (up (sum v (product w prime2)) 31) (down (sum v (product w prime2)) 33)) prime1
     ≡ round v w

@@ -1,7 +1,8 @@
 -- XXH64's steps map words onto words, each exactly once. The numbers of a tail's steps are words,
 -- and their widths follow from the tail's length.
 use Rattle.std.proofs.Common.{◌≡◌, ℕ, zero, suc, List, ◌∷◌, ◌++◌, length, replicate, refl, sym, ap, ◌∙◌, arith, ◌≤◌, drop, map, ◌/◌}
-use Rattle.sketch_hash.proofs.WordLemmas.{◌▸◌, choice, along, times-once, plus-once, plus_word-once, xor-once, xor_word-once, rotate-once, shifted-once, shifted_less-once}
+use Rattle.sketch_hash.proofs.OneToOne.{◌▸◌, choice, along}
+use Rattle.sketch_hash.proofs.WordLemmas.{times-once, plus-once, plus_word-once, xor-once, xor_word-once, rotate-once, shifted-once, shifted_less-once}
 use Rattle.std.specs.List.{All}
 use Rattle.std.proofs.lemmas.List.{map-append}
 use Rattle.sketch_hash.specs.Xxh64.{round, prime1, prime2, prime5, steps_of, steps, tail_step, eight_step, four_step, byte_step, avalanche, prime3, prime4}
@@ -95,7 +96,7 @@ four-once = rotate-once 23 41 refl ▸ times2 ▸ plus-once prime3 (omega arith)
 byte-once : OneToOne IsWord IsWord (λ h. times (rotate h 11) prime1)
 byte-once = rotate-once 11 53 refl ▸ times1
 
--- for one step
+-- one step of the tail, as a function of the hash before it
 pub tail_step-on_state : (s : ℕ × ℕ) → IsStep s → OneToOne IsWord IsWord (λ h. tail_step h s)
 unfolding tail_step eight_step four_step byte_step
 tail_step-on_state s p =
@@ -103,7 +104,7 @@ tail_step-on_state s p =
     (choice (s.0 == 4) (xor-once (times s.1 prime1) (times1.lands s.1 p) ▸ four-once)
     (xor-once (times s.1 prime5) (times5.lands s.1 p) ▸ byte-once))
 
--- from one state, for steps of one width
+-- one step of the tail, as a function of its number
 pub tail_step-on_number : (width h : ℕ) → IsWord h → OneToOne IsWord IsWord (λ n. tail_step h (width, n))
 unfolding tail_step eight_step four_step byte_step
 tail_step-on_number width h p =

@@ -20,7 +20,7 @@ folded start bytes =
     ap (fold seeded_step start) (map-id (pieces 32 bytes))
     ∙ fold-seeded (pieces 32 bytes) start.0 start.1
 
--- where no byte waits, the stripes are those of the bytes
+-- If no byte waits, a write folds the stripes of its bytes.
 pub write_aligned : (s : State (ℕ × Lanes)) (bytes : List ℕ) → s.total < 2 ^ 64 → length s.waiting ≡ 0 →
     xxh64_after s bytes ≡ record {
       folded = (s.folded.0, each_lane s.folded.1 (pieces 32 bytes));
@@ -34,7 +34,7 @@ write_aligned s bytes t none =
     ∙ ap (λ v. record { folded = v; total = (s.total + length bytes) % 2 ^ 64; waiting = rest 32 bytes })
     (folded s.folded bytes)
 
--- where a stripe is begun
+-- If bytes wait, a write that fills their stripe folds it first.
 after-partial : (s : State (ℕ × Lanes)) (bytes : List ℕ) (missing : ℕ) → s.total < 2 ^ 64 →
     0 < missing → length s.waiting + missing ≡ 32 → missing ≤ length bytes →
     xxh64_after s bytes ≡ record {
@@ -132,7 +132,7 @@ write_across seed total count v buffer bytes below low size enough =
           rw (empty, nothing, alone) (write_aligned bare bytes below refl)
     ]
 
--- how many bytes wait then
+-- how many bytes wait after such a write
 pub left_count : (count : ℕ) (bytes : List ℕ) → count < 32 → (32 - count) % 32 ≤ length bytes →
     length (rest 32 (drop ((32 - count) % 32) bytes)) ≡ (count + length bytes) % 32
 left_count count bytes low h =

@@ -11,7 +11,7 @@ key_at bytes offsets i =
     take (slice_index offsets (i + 1) - start) (drop start bytes)
 
 -- The offset at place i is there, is at most the number of bytes, and is not below the offset
--- before it. Before the first stands 0.
+-- before it. The first may be any offset.
 abbrev pub IsBound : List ℕ → List ℕ → ℕ → Type 0
 IsBound bytes offsets i =
     (i < length offsets)
@@ -50,8 +50,8 @@ HashesEach hash bytes offsets before after result =
     × AreHashes hash (key_at bytes offsets) after)
     (λ fault. IsFirstWrongOffset bytes offsets n fault × (after ≡ before))
 
--- The same of a column of numbers, whose keys are their eight bytes. With fewer numbers than places
--- the fault is the first place without one.
+-- The outcome of hashing numbers, each as its eight bytes. With fewer numbers than places the fault
+-- is the first place without one, and nothing is written.
 abbrev pub HashesEachNumber : {X : Type 0} →
     (List ℕ → X) → List ℕ → List X → List X → Result Unit ℕ → Type 0
 HashesEachNumber hash numbers before after result =

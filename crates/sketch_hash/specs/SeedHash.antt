@@ -1,4 +1,4 @@
--- The seed hash, and what is said of one that is refused.
+-- The seed hash, and the texts of its errors.
 use Rattle.std.specs.Prelude.{ℕ, ◌%◌, List, ◌++◌, codes}
 use Rattle.std.specs.Fmt.{decimal}
 use Rattle.sketch_base.specs.Bytes.{eight}

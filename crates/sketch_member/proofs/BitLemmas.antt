@@ -81,7 +81,7 @@ pub ruleset for_set = (low_three, set_only, set_too, set_bytes)
 pub low_bits : (word n : ℕ) → n < 64 → bit_and word (1 * 2 ^ n % 2 ^ 64 - 1) ≡ word % 2 ^ n
 low_bits word n few = rw (one_shl n 64 few) (and_mask word n)
 
-pub ruleset indexes = (low_bits)
+pub ruleset for_index = (low_bits)
 
 -- no bit is set in zeros
 pub zeros-get : (n k : ℕ) → get_or (replicate {A = ℕ} n 0) k 0 ≡ 0

@@ -10,7 +10,7 @@ use Rattle.sketch_member.specs.declared.fault.Fault.{Fault}
 use Rattle.sketch_member.specs.declared.fault.Fault.TheVariants.{HeaderEnds, PreambleLongs, SerialVersion, Family, Log2Bits, Hashes, Reserved, UnknownCount, MissingBits, TrailingBytes}
 use Rattle.sketch_member.specs.Table.{IsHashes, IsLog2Bits, byte_count}
 
--- what is said of a fault
+-- what a fault prints
 abbrev pub fault_text : Fault → List ℕ
 fault_text HeaderEnds =
     insufficient_data_of_text (codes "member table") (codes "unexpected end of file")

@@ -1,4 +1,4 @@
--- How a table stands in bytes, in both versions, and how such bytes change.
+-- How a table is serialized, in both versions.
 use Rattle.std.specs.Prelude.{◌≡◌, ◌⊎◌, ℕ, ◌+◌, List, [], ◌∷◌, ◌++◌, Option, None, Some}
 use Rattle.datasketches.specs.Bytes.{eight}
 use Rattle.sketch_member.specs.Table.{Table}

@@ -138,5 +138,5 @@ impl MemberTable {
 pub fn table_law(table: &MemberTable)
     ensures { IsTable table.now }
 {
-    let _filter = &table.filter;
+    let _filter = &table.filter; // opens the invariant for the proof
 }

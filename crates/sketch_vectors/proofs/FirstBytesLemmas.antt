@@ -3,7 +3,7 @@ use Rattle.std.proofs.Common.{◌≡◌, ℕ, ◌<◌, ◌≤◌, ◌+◌, List,
 use Rattle.std.proofs.lemmas.List.{take_more, take_more_set, take_all, take-append-le, length-take-le, length_push}
 use Rattle.sketch_vectors.specs.{kept_after, kept_after-append}
 
--- a byte more, where there is room
+-- one byte more is kept if fewer than 64 are
 pub with_room : (xs : List ℕ) (n y : ℕ) → n < 64 → length xs ≡ 64 →
     take (n + 1) (set xs n y) ≡ take 64 (take n xs ++ y ∷ [])
 with_room xs n y h long =
@@ -11,14 +11,14 @@ with_room xs n y h long =
     let more = length_push (take n xs) y in
     take_more_set xs n y (omega arith) ∙ sym (take_all 64 (take n xs ++ y ∷ []) (omega arith))
 
--- and where there is none
+-- one byte more is dropped if 64 are kept
 pub without_room : (xs : List ℕ) (n y : ℕ) → n ≤ 64 → 64 ≤ n → length xs ≡ 64 →
     take 64 (take n xs ++ y ∷ []) ≡ take n xs
 without_room xs n y h k long =
     let kept = length-take-le n xs (omega arith) in
     take-append-le 64 (take n xs) (y ∷ []) (omega arith) ∙ take_all 64 (take n xs) (omega arith)
 
-pub ruleset kept = (with_room, without_room)
+pub ruleset for_keep = (with_room, without_room)
 
 -- after the first i + 1 bytes of a write
 pub kept_more : (kept bytes now : List ℕ) (i : ℕ) → i < length bytes →

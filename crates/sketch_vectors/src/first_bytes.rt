@@ -32,7 +32,7 @@ impl FirstBytes {
         }
     }
 
-    #[tactic(auto, using(crate::proofs::FirstBytesLemmas::kept))]
+    #[tactic(auto, using(crate::proofs::FirstBytesLemmas::for_keep))]
     fn keep(&mut self, byte: u8)
         ensures { self.new ≡ kept_after self.old (byte ∷ []) }
     {

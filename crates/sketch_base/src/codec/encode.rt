@@ -220,7 +220,7 @@ impl SketchBytes {
     pub fn write_items(&mut self, items: &[Item]) -> Result<(), Stopped>
         ensures { WritesItems items.now self.old result self.new }
     {
-        let _ = &self.bytes;
+        let _ = &self.bytes; // opens the invariant for the proof
         for (accepted, item) in items.iter().enumerate() {
             self.write_item(*item).map_err(|_| Stopped { accepted })?;
         }

@@ -12,7 +12,7 @@ pub trait Offset: Copy {
     ghost place: { Self → ℕ };
 
     /// How many bytes of the column are before the offset.
-    fn place(self) -> usize
+    fn to_usize(self) -> usize
         ensures { result ≡ place self };
 }
 
@@ -20,7 +20,7 @@ impl Offset for u32 {
     ghost place = { λ n. n };
 
     #[inline(always)]
-    fn place(self) -> usize {
+    fn to_usize(self) -> usize {
         self as usize
     }
 }
@@ -29,7 +29,7 @@ impl Offset for u64 {
     ghost place = { λ n. n };
 
     #[inline(always)]
-    fn place(self) -> usize {
+    fn to_usize(self) -> usize {
         self as usize
     }
 }
@@ -65,7 +65,7 @@ impl XxHash64 {
     }
 
     /// The 64-bit hash of each key of a run under a seed: of key `start`, and of as many keys as
-    /// `out` has places. For a caller that has checked the offsets, as [`check_offsets`] does.
+    /// `out` has places. The caller must have checked the offsets, as [`check_offsets`] does.
     #[inline(never)]
     pub fn hash_run<O: Offset>(
         bytes: &[u8],
@@ -173,7 +173,7 @@ fn check_offset<O: Offset>(
     if i >= offsets.len() {
         return Err(i);
     }
-    let place = offsets[i].place();
+    let place = offsets[i].to_usize();
     if place < last || bytes.len() < place {
         return Err(i);
     }
@@ -187,5 +187,5 @@ fn key_at<'a, O: Offset>(bytes: &'a [u8], offsets: &[O], i: usize) -> &'a [u8]
     requires end { IsBound bytes.now (map O.place offsets.now) (i + 1) }
     ensures { result.now ≡ key_at bytes.now (map O.place offsets.now) i }
 {
-    &bytes[offsets[i].place()..offsets[i + 1].place()]
+    &bytes[offsets[i].to_usize()..offsets[i + 1].to_usize()]
 }

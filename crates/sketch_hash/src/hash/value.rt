@@ -31,7 +31,7 @@ pub trait Hash {
         ensures { state.new ≡ H.after state.old (fed self.now) };
 
     /// `Some(n)` if the value feeds the eight little-endian bytes of `n`. A type may always return
-    /// `None`. A caller that hashes the value under several seeds reads it only once by this.
+    /// `None`. With it a caller that hashes the value under several seeds reads the bytes once.
     #[inline(always)]
     fn word(&self) -> Option<u64>
         ensures { IfSome result (λ n. fed self.now ≡ eight n) }

@@ -1,7 +1,7 @@
 //! Arithmetic of 64-bit words, words read from bytes, and bytes cut into pieces.
 //!
 //! A word is read in place by `as_array`, which is never `None` here. The 16 bytes of a block are
-//! copied, since the library has no words of 128 bits for `as_array` to give.
+//! copied into an array first.
 
 ghost use Rattle.std.specs.Prelude.{◌≡◌, ◌^◌, ◌<◌, length};
 ghost use Rattle.sketch_base.specs.Bytes.{le};
@@ -56,7 +56,7 @@ pub(crate) fn xor_shift(word: u64, places: u32) -> u64
 ///
 /// Next to a multiplication LLVM turns a shift of the rotation into a second multiplication. In a
 /// separate function, with a constant number of places, it recognizes the rotation first.
-#[tactic(auto, using(crate::proofs::WordLemmas::rotation))]
+#[tactic(auto, using(crate::proofs::WordLemmas::for_rotate))]
 pub(crate) fn rotate<const PLACES: u32>(word: u64) -> u64
     requires above { 0 < PLACES }
     requires below { PLACES < 64 }
@@ -67,7 +67,7 @@ pub(crate) fn rotate<const PLACES: u32>(word: u64) -> u64
 
 /// The full pieces of `WIDTH` bytes, and the bytes after them.
 #[inline(always)]
-#[tactic(auto, using(crate::proofs::PiecesLemmas::cut))]
+#[tactic(auto, using(crate::proofs::PiecesLemmas::for_split_pieces))]
 pub(super) fn split_pieces<const WIDTH: usize>(bytes: &[u8]) -> (&[[u8; WIDTH]], &[u8])
     requires { 0 < WIDTH }
     ensures whole { result.0.now ≡ pieces WIDTH bytes.now }

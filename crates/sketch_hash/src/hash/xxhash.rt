@@ -147,7 +147,8 @@ impl XxHash64 {
     }
 
     // Folds full stripes straight from the slice, as no stripe is partial, and buffers the bytes
-    // after them. Sets the fields after the copy, which LLVM cannot tell from an alias of them.
+    // after them. LLVM cannot tell that the copy does not alias the fields, so they are set after
+    // it.
     #[inline(always)]
     #[tactic(auto, using(crate::proofs::Xxh64Writes::for_write_aligned))]
     fn write_aligned(&mut self, bytes: &[u8])
@@ -163,8 +164,8 @@ impl XxHash64 {
         self.lanes = lanes.into_vector();
     }
 
-    // Completes the partial stripe, and goes on after it. Converts the lanes to four words once,
-    // and sets the count first, so that it needs no register in between.
+    // Completes the partial stripe, and goes on after it. Converts the lanes to four words once.
+    // The count is set first, so that no register has to hold it during the rounds.
     #[inline(never)]
     fn write_across(&mut self, bytes: &[u8])
         requires short { length self.old.waiting < 32 }

@@ -1,4 +1,4 @@
-//! Known answers of both hashes, and a Bloom filter in bytes of version 1, which hold no count.
+//! Known answers of both hashes, and a membership table in bytes of version 1, which has no count.
 
 use crate::tests::{FOX, FOX_MURMUR};
 use datasketches::error::Error;
