@@ -79,6 +79,7 @@ impl XxHash64 {
         ensures each { let places = map O.place offsets.now in
             AreHashes (xxh64 seed) (λ i. key_at bytes.now places (start + i)) out.new }
     {
+        // By `hash_one_of_many` keys of 8 to 24 bytes would take 1.07 to 1.1 times as long.
         for i in 0..out.len() {
             out[i] = XxHash64::hash(key_at(bytes, offsets, start + i), seed);
         }
