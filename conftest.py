@@ -4,6 +4,7 @@ import importlib
 import importlib.util
 import os
 import pathlib
+import platform
 import re
 import shutil
 import subprocess
@@ -51,17 +52,24 @@ def is_there(tool):
     return not oldest or version_of(name) >= tuple(map(int, oldest.split(".")))
 
 
+# Of Debian's releases, which have a number, none has them: only sid has.
+ONLY_IN_SID = {"duckdb", "python:pyarrow"}
+IS_RELEASE = "VERSION_ID" in getattr(platform, "freedesktop_os_release", dict)()
+
+
 @pytest.fixture(scope="session")
 def need():
     """need("gcc", "node 20", "xxhash.h", "python:numpy", "linux-x86_64"): a program, one of a version or newer, a header, a
     module, the platform.
 
-    Without it the test is skipped, with the reason; if CI is set it fails.
+    Without it the test is skipped, with the reason; if CI is set it fails, unless this system has no such package.
     """
 
     def need(*tools):
         for tool in tools:
             if not is_there(tool):
+                if tool in ONLY_IN_SID and IS_RELEASE:
+                    pytest.skip(f"needs {tool}, which of Debian only sid has: tools/on_debian sid")
                 test = os.environ["PYTEST_CURRENT_TEST"].partition("::")[0]
                 (pytest.fail if IS_CI else pytest.skip)(f"{test} needs {tool}: bash .ci/setup installs what there is")
 

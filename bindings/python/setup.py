@@ -49,7 +49,7 @@ modules = [
         extra_objects=archives,
         extra_link_args=exports,
     )
-    for name in ("_columns", "_hashes", "_bloom")
+    for name in ("_arrow", "_columns", "_hashes", "_bloom")
 ]
 directives = {"language_level": 3, "binding": False, "auto_pickle": False, "always_allow_keywords": False}
 setup(

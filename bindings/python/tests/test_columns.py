@@ -75,7 +75,7 @@ def test_a_wrong_offset_is_reported_and_nothing_added(call, dtype, index, wrong)
 
 
 ROW = "one row of whole numbers of {} bits in the machine's byte order, as array.array has"
-PAIR_OR = "^a column is a pair of bytes and offsets, as column.texts. makes it, or "
+PAIR_OR = "^a column is a pair of bytes and offsets, as column.texts. makes it, an Arrow array or "
 COLUMN, OF_FILTER = PAIR_OR + ROW.format("64"), PAIR_OR + "one row of numbers of 32 or 64 bits"
 XXH64, FILTER = [xxh64_each], [BLOOM.add_each, BLOOM.contains_each]
 
@@ -117,7 +117,7 @@ class Liar(numpy.ndarray):
 
 @pytest.mark.parametrize("data", [
     numpy.zeros(4, object), memoryview(numpy.zeros(4, object)), numpy.zeros(4, object).view(Liar),
-    numpy.zeros(2, [("text", object), ("number", "u8")]), numpy.zeros(2, [("date", "M8[D]"), ("text", object)]),
+    numpy.zeros(2, [("text", object), ("number", "u8")]), numpy.zeros(2, [("date", "datetime64[D]"), ("text", object)]),
     (ctypes.py_object * 4)(*"foxy"), (ctypes.c_char_p * 4)(b"fox"), (ctypes.POINTER(ctypes.c_int) * 4)(),
 ], ids=["objects", "memoryview", "another dtype", "a field", "a field after a date", "ctypes", "char *", "pointers"])
 def test_an_array_of_objects_is_an_error(data):
@@ -129,7 +129,7 @@ def test_an_array_of_objects_is_an_error(data):
 
 
 @pytest.mark.parametrize("data", [
-    numpy.zeros(2, [("O", "S3"), ("number", "u8")]), numpy.zeros(2, "M8[D]"), numpy.zeros(2, "c16"),
+    numpy.zeros(2, [("O", "S3"), ("number", "u8")]), numpy.zeros(2, "datetime64[D]"), numpy.zeros(2, "c16"),
 ], ids=["a field named O", "dates", "complex numbers"])
 def test_an_array_without_objects_is_data(data):
     assert sketch_hash.xxh64_digest(data) == sketch_hash.xxh64_digest(data.tobytes())
@@ -165,10 +165,33 @@ def test_a_column_of_texts_is_their_bytes_and_offsets():
     assert xxh64_each(sketch_hash.column([])).tolist() == []
 
 
+@pytest.mark.parametrize("dtype", ["f4", "f8"])
+def test_a_nan_of_numpy_is_an_error(dtype):
+    """It may be a missing value of whole numbers, which would be other keys."""
+    for call in FILTER:
+        with pytest.raises(ValueError, match="^the key at 1 must not be NaN, .*: pass the Arrow array that it came from"):
+            call(numpy.array([1, numpy.nan, 3], dtype))
+
+
+class Series:
+    """As that of pandas 2, which exports nothing."""
+    def __array__(self):
+        return numpy.zeros(2)
+
+
+@pytest.mark.parametrize("keys", [Series(), numpy.zeros(2, "datetime64[ns]"), numpy.zeros(2, "timedelta64[ms]")],
+                         ids=["Series", "dates", "durations"])
+def test_what_exports_no_numbers_is_an_error_with_the_cure(keys):
+    for call in (*EACH, *FILTER):
+        with pytest.raises(TypeError, match=r": pyarrow.array\(keys\) makes an Arrow array$"):
+            call(keys)
+
+
 @pytest.mark.parametrize("texts, text", [
+    (numpy.array([b"ab\0"]), "^texts must not be an array of numpy's type S, which drops zero bytes at their ends: pass"),
     (["fox", None], "^the key at 1 is neither str nor bytes, but NoneType$"),
     ("fox", "^column takes many texts, and not one$"),
-], ids=["missing value", "one text"])
+], ids=["type S of numpy", "missing value", "one text"])
 def test_column_rejects_other_texts(texts, text):
     with pytest.raises(TypeError, match=text):
         sketch_hash.column(texts)

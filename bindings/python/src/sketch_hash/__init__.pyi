@@ -1,7 +1,7 @@
 import sys
 from array import array
 from collections.abc import Iterable
-from typing import ClassVar, SupportsFloat, SupportsIndex, TypeVar, Union
+from typing import Any, ClassVar, Protocol, SupportsFloat, SupportsIndex, TypeVar, Union
 
 from _typeshed import ReadableBuffer
 
@@ -9,7 +9,15 @@ _Kind = TypeVar("_Kind", bound="_Hasher")
 _Filter = TypeVar("_Filter", bound="BloomFilter")
 _Key = Union[str, ReadableBuffer]
 _Pair = tuple[ReadableBuffer, ReadableBuffer]
-_Column = Union[ReadableBuffer, _Pair]
+
+class _ArrowArray(Protocol):
+    def __arrow_c_array__(self, requested_schema: Any = None, /) -> tuple[object, object]: ...
+
+class _ArrowStream(Protocol):
+    def __arrow_c_stream__(self, requested_schema: Any = None, /) -> object: ...
+
+_Texts = Union[_Pair, _ArrowArray, _ArrowStream]
+_Column = Union[ReadableBuffer, _Texts]
 
 __version__: str
 __all__ = [
@@ -47,7 +55,7 @@ def xxh64_hexdigest(data: ReadableBuffer, seed: SupportsIndex = 0) -> str: ...
 def xxh64_intdigest(data: ReadableBuffer, seed: SupportsIndex = 0) -> int: ...
 def murmur3_x64_128_bytes(data: ReadableBuffer, seed: SupportsIndex = 0) -> bytes: ...
 def murmur3_x64_128_digest(data: ReadableBuffer, seed: SupportsIndex = 0) -> bytes: ...
-def murmur3_x64_128_each(keys: _Pair, seed: SupportsIndex = 0) -> memoryview: ...
+def murmur3_x64_128_each(keys: _Texts, seed: SupportsIndex = 0) -> memoryview: ...
 def murmur3_x64_128_hexdigest(data: ReadableBuffer, seed: SupportsIndex = 0) -> str: ...
 def murmur3_x64_128_intdigest(data: ReadableBuffer, seed: SupportsIndex = 0) -> int: ...
 

@@ -8,7 +8,7 @@ from libc.stdint cimport uint32_t, uint64_t, uintptr_t
 from libc.string cimport memcpy, memset
 
 from ._columns cimport (
-    HASHES, LONG, NUMBERS32, NUMBERS64, OFFSETS32, OFFSETS64, Column, Lock, PyBuffer_Release, PyObject_GetBuffer, View,
+    ARROW, HASHES, LONG, NUMBERS32, NUMBERS64, OFFSETS32, OFFSETS64, Column, Lock, PyBuffer_Release, PyObject_GetBuffer, View,
     acquire, attributes_of, check_offsets, get_bytes, refuse_addresses, release, set_attributes, wait, word_of,
 )
 from ._library cimport *
@@ -88,6 +88,8 @@ cdef inline bint overlap(const View *one, const View *other) noexcept:
 
 cdef int insert_column(void *bits, size_t length, Column keys, size_t *wrong) noexcept nogil:
     cdef void *numbers = keys.numbers.buf
+    if keys.kind == ARROW:
+        return keys.arrow.insert(bits, length)
     if keys.kind == OFFSETS32:
         return sketch_bloom_insert_each32(
             bits, length, keys.data.buf, keys.data.len, <uint32_t *>numbers, keys.items, wrong)
@@ -106,6 +108,8 @@ cdef int contains_column(
 ) noexcept nogil:
     cdef void *numbers = keys.numbers.buf
     cdef size_t items = keys.items, count = keys.count
+    if keys.kind == ARROW:
+        return keys.arrow.contains(bits, length, found)
     if keys.kind == OFFSETS32:
         return sketch_bloom_contains_each32(
             bits, length, keys.data.buf, keys.data.len, <uint32_t *>numbers, items, found, count, wrong)
@@ -327,6 +331,8 @@ cdef class BloomFilter:
             status = READ_ONLY
         elif overlap(&self.bits, &keys.data) or overlap(&self.bits, &keys.numbers):
             status = OVERLAP
+        elif keys.kind == ARROW and keys.arrow.overlaps(self.bits.buf, self.bits.len):
+            status = OVERLAP
         elif is_long:
             with nogil:
                 status = insert_column(self.bits.buf, self.bits.len, keys, &wrong)
@@ -359,13 +365,14 @@ cdef class BloomFilter:
 
         The keys are a pair of bytes and offsets, as for xxh64_each. Or they are numbers of 32 or 64 bits: any buffer,
         such as an array of numpy. Each counts as its four or eight little-endian bytes, as Parquet stores numbers of
-        that width; so ask with numbers of the same width. If ValueError is raised, nothing was added.
+        that width; so ask with numbers of the same width. Or they are an Arrow array or stream, of whose values each
+        counts as Parquet stores it; a null is not added. If ValueError is raised, nothing was added.
         """
         self.insert(Column(keys, "keys"))
 
     def contains_each(self, keys):
         """contains_each($self, keys, /)\n--\n\nReturns whether the filter may have each key of a column, as for
-        add_each: a memoryview of bools."""
+        add_each: a memoryview of bools. A null of Arrow is not found."""
         return self.contains(Column(keys, "keys"))
 
     def add_hashes(self, hashes):

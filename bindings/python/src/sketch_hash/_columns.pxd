@@ -11,6 +11,8 @@ from cpython.pythread cimport (
 )
 from libc.stdint cimport uint64_t
 
+from ._arrow cimport Arrow
+
 cdef extern from "Python.h":
     # Cython counts no references of a struct with this name, so obj may be NULL.
     ctypedef struct View "Py_buffer":
@@ -76,17 +78,19 @@ cdef inline int get_bytes(object data, View *memory) except -1:
 
 
 cdef enum Kind:
-    OFFSETS32, OFFSETS64, NUMBERS32, NUMBERS64, HASHES
+    OFFSETS32, OFFSETS64, NUMBERS32, NUMBERS64, HASHES, ARROW
 
 
 cdef class Column:
     cdef object texts  # what data is of: exact bytes are no buffer that could keep them
     cdef View data, numbers  # the bytes of texts; their offsets, or else the numbers
+    cdef Arrow arrow
     cdef Kind kind
     cdef size_t items, count  # how many numbers or offsets there are, and how many keys
 
     cdef size_t get_numbers(self, object numbers, str what) except 0
     cdef int check_signs(self) except -1
+    cdef int refuse_nan(self, bint is_narrow) except -1
     cdef Py_ssize_t size(self) noexcept
 
 

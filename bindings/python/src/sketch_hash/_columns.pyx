@@ -5,6 +5,7 @@ from cpython.bytearray cimport PyByteArray_AS_STRING
 from libc.stdint cimport INT32_MAX, int32_t, uint32_t, uint64_t, uintptr_t
 from libc.string cimport strpbrk
 
+from ._arrow cimport Arrow, exports_arrow
 from ._library cimport *
 
 import array
@@ -80,15 +81,32 @@ cdef uint64_t word_of(object number, str name) except? -1:
 
 
 ROW = "in the machine's byte order, as array.array has"
-PAIR = "a pair of bytes and offsets, as column(texts) makes it"
+PAIR = "a pair of bytes and offsets, as column(texts) makes it, an Arrow array"
 WHAT = {
     "offsets": (4, b"iIlLqQ", f"offsets are one row of whole numbers of 32 or 64 bits {ROW}", ""),
     "hashes": (8, b"lLqQ", f"hashes are one row of whole numbers of 64 bits {ROW}", ""),
-    "wide keys": (8, b"lLqQ", f"a column is {PAIR}, or one row of whole numbers of 64 bits {ROW}",
+    "wide keys": (8, b"lLqQ", f"a column is {PAIR} or one row of whole numbers of 64 bits {ROW}",
                   ': numbers.astype("uint64") makes it'),
-    "keys": (4, b"iIlLqQfd", f"a column is {PAIR}, or one row of numbers of 32 or 64 bits {ROW}",
+    "keys": (4, b"iIlLqQfd", f"a column is {PAIR} or one row of numbers of 32 or 64 bits {ROW}",
              ': numbers.astype("int32") makes it, as Parquet stores smaller ones'),
 }
+
+
+cdef type no_arrow = bytes  # the last type of keys that export no Arrow: to look again takes a tenth of a short call
+
+
+cdef bint is_arrow(object keys) except -1:
+    global no_arrow
+    if type(keys) is no_arrow:
+        return False
+    if exports_arrow(keys):
+        return True
+    no_arrow = type(keys)
+    return False
+
+
+cdef str cure_of(object keys):
+    return ": pyarrow.array(keys) makes an Arrow array" if hasattr(type(keys), "__array__") else ""
 
 
 @cython.no_gc
@@ -106,11 +124,15 @@ cdef class Column:
             self.count = self.items - 1 if self.items else 0
             if self.kind == OFFSETS32 and self.data.len > INT32_MAX:
                 self.check_signs()
+        elif what != "hashes" and is_arrow(keys):
+            self.arrow = Arrow(keys)
+            self.kind = ARROW
+            self.count = self.arrow.count
         elif what and not isinstance(keys, tuple):
             self.kind = NUMBERS32 if self.get_numbers(keys, what) == 4 else HASHES if what == "hashes" else NUMBERS64
             self.count = self.items
         else:
-            raise TypeError(WHAT["hashes"][2] if what == "hashes" else f"a column of bytes is {PAIR}")
+            raise TypeError(WHAT["hashes"][2] if what == "hashes" else f"a column of bytes is {PAIR}{cure_of(keys)}")
 
     def __dealloc__(self):
         PyBuffer_Release(&self.data)
@@ -122,8 +144,10 @@ cdef class Column:
         format, is_row = b"", False
         try:
             PyObject_GetBuffer(numbers, &self.numbers, PyBUF_C_CONTIGUOUS | PyBUF_FORMAT)
-        except TypeError:
-            pass
+        except (TypeError, ValueError) as error:
+            if isinstance(error, ValueError) and getattr(getattr(numbers, "dtype", None), "kind", None) not in ("M", "m"):
+                raise
+            text += cure_of(numbers)
         else:
             format = b"B" if self.numbers.format is NULL else (<bytes>self.numbers.format).lstrip(b"@=<")
             is_row = len(format) == 1 and self.numbers.ndim == 1
@@ -133,7 +157,22 @@ cdef class Column:
         if self.numbers.len and <uintptr_t>self.numbers.buf % self.numbers.itemsize:
             raise ValueError("a column of numbers must be aligned to their width: pass a copy")
         self.items = self.numbers.len // self.numbers.itemsize
+        if format in b"fd":
+            self.refuse_nan(format == b"f")
         return self.numbers.itemsize
+
+    cdef int refuse_nan(self, bint is_narrow) except -1:
+        """numpy has NaN for a missing value, and then makes whole numbers floats, which are other keys."""
+        cdef const float *narrow = <float *>self.numbers.buf
+        cdef const double *wide = <double *>self.numbers.buf
+        cdef size_t i = 0, items = self.items
+        with nogil:
+            while i < items and (narrow[i] == narrow[i] if is_narrow else wide[i] == wide[i]):
+                i += 1
+        if i < items:
+            raise ValueError(f"the key at {i} must not be NaN, which numpy has for a missing value: pass the Arrow array "
+                             "that it came from, or pyarrow.array(numbers) if the keys are floats with NaN")
+        return 0
 
     cdef int check_signs(self) except -1:
         """For the library offsets have no sign, so a negative one of 32 bits is not past the end of 2 GiB and more."""
@@ -147,7 +186,7 @@ cdef class Column:
         return check_offsets(SKETCH_ERROR_OFFSET if i < items else 0, i)
 
     cdef Py_ssize_t size(self) noexcept:
-        return self.data.len + self.numbers.len
+        return self.arrow.num_bytes if self.kind == ARROW else self.data.len + self.numbers.len
 
 
 cdef int check_offsets(int status, size_t wrong) except -1:
@@ -158,6 +197,9 @@ cdef int check_offsets(int status, size_t wrong) except -1:
 
 cdef int hash_xxh64(Column keys, uint64_t seed, void *out, size_t *wrong) noexcept nogil:
     cdef void *numbers = keys.numbers.buf
+    if keys.kind == ARROW:
+        keys.arrow.hash(1, seed, <uint64_t *>out)
+        return 0
     if keys.kind == OFFSETS32:
         return sketch_xxh64_each32(
             keys.data.buf, keys.data.len, <uint32_t *>numbers, keys.items, seed, out, keys.count, wrong)
@@ -169,6 +211,9 @@ cdef int hash_xxh64(Column keys, uint64_t seed, void *out, size_t *wrong) noexce
 
 cdef int hash_murmur(Column keys, uint64_t seed, void *out, size_t *wrong) noexcept nogil:
     cdef void *offsets = keys.numbers.buf
+    if keys.kind == ARROW:
+        keys.arrow.hash(2, seed, <uint64_t *>out)
+        return 0
     if keys.kind == OFFSETS32:
         return sketch_murmur3_x64_128_each32(
             keys.data.buf, keys.data.len, <uint32_t *>offsets, keys.items, seed, out, keys.count, wrong)
@@ -182,6 +227,8 @@ ctypedef int (*Hash)(Column, uint64_t, void *, size_t *) noexcept nogil
 cdef object hashes_of(Column keys, Hash hash, object seed, size_t width):
     cdef uint64_t number = word_of(seed, "a seed")
     cdef size_t wrong = 0
+    if keys.kind == ARROW:
+        keys.arrow.refuse_nulls()
     hashes = bytearray(width * keys.count)
     cdef void *out = PyByteArray_AS_STRING(hashes)
     if keys.size() < LONG:
@@ -199,7 +246,8 @@ def xxh64_each(keys, seed=0):
     The keys are numbers of 64 bits, each hashed as its eight little-endian bytes: any buffer, as an array of numpy. Or
     they are a pair of bytes and offsets of 32 or 64 bits, one more than keys: a key is the bytes from its offset up to
     the next. Nothing is copied. Raises ValueError if an offset is past the end of the bytes or below the one before.
-    column(texts) returns such a pair.
+    column(texts) returns such a pair. Or they are an Arrow array or stream, of whose values each counts as Parquet
+    stores it. Raises ValueError if one is null.
     """
     return hashes_of(Column(keys, "wide keys"), hash_xxh64, seed, 8)
 
@@ -208,7 +256,7 @@ def murmur3_x64_128_each(keys, seed=0):
     """murmur3_x64_128_each(keys, seed=0)\n--\n\nReturns MurmurHash3 x64 128 of each key of a column, as a memoryview of
     whole numbers, two for a key.
 
-    The keys are a pair of bytes and offsets, as xxh64_each takes it. The words of key i are at 2 * i and 2 * i + 1:
+    The keys are a pair of bytes and offsets, or of Arrow, as xxh64_each takes them. The words of key i are at 2 * i and 2 * i + 1:
     numpy.asarray(hashes).reshape(-1, 2) has a row for a key.
     """
     return hashes_of(Column(keys, None), hash_murmur, seed, 16)
@@ -219,10 +267,13 @@ def column(texts):
     take columns.
 
     texts is any iterable of str, which become UTF-8, or of bytes: a list, an array of numpy, a Series of pandas. Raises
-    TypeError with the index of anything else in it, such as a missing value.
+    TypeError with the index of anything else in it, such as a missing value. An Arrow array is a column as it is.
     """
     if isinstance(texts, (str, bytes)):
         raise TypeError("column takes many texts, and not one")
+    if getattr(getattr(texts, "dtype", None), "kind", None) == "S":
+        raise TypeError("texts must not be an array of numpy's type S, which drops zero bytes at their ends: "
+                        "pass a list of bytes")
     keys = [text_bytes(i, text) for i, text in enumerate(texts)]
     return b"".join(keys), array.array("Q", itertools.accumulate(map(len, keys), initial=0))
 

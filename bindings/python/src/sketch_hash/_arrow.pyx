@@ -1,0 +1,417 @@
+"""Columns of keys from Arrow arrays and streams, which are used in place. Only little-endian machines have them."""
+cimport cython
+from cpython.exc cimport PyErr_CheckSignals
+from cpython.pycapsule cimport PyCapsule_GetPointer
+from libc.stdint cimport int32_t, int64_t, uint32_t, uint64_t, uintptr_t
+from libc.stdlib cimport calloc, free
+from libc.string cimport memcpy, memset
+
+from ._library cimport *
+
+import os
+
+MOST_ROWS = 2**59
+INTEGERS = {"c": (1, True), "C": (1, False), "s": (2, True), "S": (2, False),
+            "i": (4, True), "I": (4, False), "l": (8, True), "L": (8, False)}
+WIDTHS = {"e": 2, "f": 4, "g": 8, "tdD": 4, "ttm": 4, "ttu": 8, "ttn": 8, "tDs": 8, "tDm": 8, "tDu": 8, "tDn": 8,
+          "tsm": 8, "tsu": 8, "tsn": 8}
+TEXTS = {"z": 4, "u": 4, "Z": 8, "U": 8}
+REFUSED = [  # the start of a format, what it is, and what to do
+    ("b", "bools", "Parquet has no Bloom filters of them"),
+    ("tdm", "date64", 'Parquet stores days: cast it to "date32"'),
+    ("tts", "times in seconds", 'Parquet stores milliseconds: cast it to "time32[ms]"'),
+    ("tss", "timestamps in seconds", 'Parquet stores milliseconds: cast it to "timestamp[ms]"'),
+    ("d:", "decimals", "their bytes depend on the file: sketch_hash.parquet.add_filters reads them as they are stored"),
+    ("+r", "runs", "decode it: pyarrow.compute.run_end_decode(array)"),
+    ("+s", "structs", "pass one column of a table, or one field of an array: array.field(0)"),
+    ("+", "lists, maps or unions", "pass the values alone: array.flatten()"),
+    ("", "another type", "cast it to texts, bytes, numbers, dates or times"),
+]
+
+
+cdef tuple type_of(str format):
+    """The layout of values, their width, and whether they have a sign."""
+    if format == "n":
+        return NOTHING, 0, False
+    if format in INTEGERS:
+        width, is_signed = INTEGERS[format]
+        return FIXED if width >= 4 else WIDENED, width, is_signed
+    if format in TEXTS:
+        return OFFSETS, TEXTS[format], True
+    if format in ("vz", "vu"):
+        return VIEWS, 16, False
+    if format.startswith("w:") and 0 <= int(format[2:]) < 2**31:
+        return FIXED, int(format[2:]), False
+    if format[:3] in WIDTHS:
+        return FIXED, WIDTHS[format[:3]], False
+    what, cure = next(rest for start, *rest in REFUSED if format.startswith(start))
+    raise TypeError(f"an Arrow column must not have {what}, here {format!r}: {cure}")
+
+
+cdef inline int64_t load(const char *memory, size_t width, bint is_signed) noexcept nogil:
+    """A number that may not be aligned. One of 64 bits has a sign."""
+    cdef uint64_t number = 0
+    if width == 4:
+        memcpy(&number, memory, 4)
+    elif width == 8:
+        memcpy(&number, memory, 8)
+    elif width == 2:
+        memcpy(&number, memory, 2)
+    else:
+        memcpy(&number, memory, 1)
+    cdef int shift = 64 - 8 * width if is_signed else 0
+    return <int64_t>(number << shift) >> shift
+
+
+cdef inline bint is_missing(const Values *values, size_t i) noexcept nogil:
+    i += values.offset
+    if values.valid is NULL:
+        return values.layout == NOTHING
+    return not values.valid[i // 8] >> i % 8 & 1
+
+
+cdef inline int64_t code_of(const Values *rows, size_t i) noexcept nogil:
+    return load(rows.memory + (rows.offset + i) * rows.width, rows.width, rows.is_signed)
+
+
+cdef inline bint is_null(const Chunk *chunk, size_t i) noexcept nogil:
+    if is_missing(&chunk.rows, i):
+        return True
+    return chunk.keys is not &chunk.rows and is_missing(chunk.keys, code_of(&chunk.rows, i))
+
+
+cdef inline size_t key_at(const Values *values, size_t i, const char **key, int32_t *widened) noexcept nogil:
+    """Where a value that is not null begins, and how many bytes it has."""
+    cdef const char *place = values.memory + (values.offset + i) * values.width
+    cdef int64_t begin
+    cdef size_t length
+    if values.layout == OFFSETS:
+        begin = load(place, values.width, True)
+        key[0] = values.text + begin
+        return load(place + values.width, values.width, True) - begin
+    if values.layout == FIXED:
+        key[0] = place
+        return values.width
+    if values.layout == WIDENED:
+        widened[0] = load(place, values.width, values.is_signed)
+        key[0] = <char *>widened
+        return 4
+    length = load(place, 4, True)
+    key[0] = place + 4
+    if length > 12:
+        key[0] = <char *>values.texts[load(place + 8, 4, True)] + load(place + 12, 4, True)
+    return length
+
+
+cdef size_t text_begin(const Values *values) noexcept nogil:
+    return load(values.memory + values.offset * values.width, values.width, True)
+
+
+cdef size_t text_end(const Values *values) noexcept nogil:
+    return load(values.memory + (values.offset + values.length) * values.width, values.width, True)
+
+
+cdef void hash_rows(const Chunk *chunk, size_t start, size_t count, int words, uint64_t seed, uint64_t *out) noexcept nogil:
+    """Writes a word of XXH64 or two of Murmur for each row, and 0 for a null."""
+    cdef const char *key
+    cdef int32_t widened
+    cdef size_t i, length, wrong
+    cdef const Values *rows = &chunk.rows
+    cdef const char *offsets = rows.memory + (rows.offset + start) * rows.width
+    cdef bint is_coded = chunk.keys is not rows, is_plain = not is_coded and not chunk.has_nulls
+    # One call for texts takes a fifth less time.
+    if count and words == 1 and is_plain and rows.layout == OFFSETS and <uintptr_t>offsets % rows.width == 0:
+        if rows.width == 4:
+            sketch_xxh64_each32(rows.text, text_end(rows), <uint32_t *>offsets, count + 1, seed, out, count, &wrong)
+        else:
+            sketch_xxh64_each64(rows.text, text_end(rows), <uint64_t *>offsets, count + 1, seed, out, count, &wrong)
+        return
+    for i in range(start, start + count):
+        if chunk.has_nulls and is_null(chunk, i):
+            out[0] = 0
+        else:
+            length = key_at(chunk.keys, code_of(&chunk.rows, i) if is_coded else i, &key, &widened)
+            if words == 1:
+                out[0] = sketch_xxh64(key, length, seed)
+            else:
+                sketch_murmur3_x64_128(key, length, seed, out)
+        out += words
+
+
+cdef bint offsets_fall(const Values *values) noexcept nogil:
+    cdef int64_t offset, before = 0
+    cdef size_t i
+    for i in range(values.offset, values.offset + values.length + 1):
+        offset = load(values.memory + i * values.width, values.width, True)
+        if offset < before:
+            return True
+        before = offset
+    return False
+
+
+cdef bint views_leave(const Values *values, size_t *num_bytes) noexcept nogil:
+    """Whether a view is not within its text. Adds the bytes of all."""
+    cdef const char *view
+    cdef int64_t length, text, begin
+    cdef size_t i
+    for i in range(values.length):
+        if not is_missing(values, i):
+            view = values.memory + (values.offset + i) * 16
+            length, text, begin = load(view, 4, True), load(view + 8, 4, True), load(view + 12, 4, True)
+            if length < 0:
+                return True
+            if length > 12:
+                if not 0 <= text < <int64_t>values.text_count or begin < 0:
+                    return True
+                if values.texts[text] is NULL or length > load(values.sizes + 8 * text, 8, True) - begin:
+                    return True
+            num_bytes[0] += length
+    return False
+
+
+cdef bint codes_leave(const Values *rows, size_t length) noexcept nogil:
+    cdef size_t i
+    for i in range(rows.length):
+        if not is_missing(rows, i) and not 0 <= code_of(rows, i) < <int64_t>length:
+            return True
+    return False
+
+
+cdef int must(bint holds, str what) except -1:
+    if not holds:
+        raise ValueError(f"an Arrow array must have {what}")
+    return 0
+
+
+cdef int read_values(const ArrowArray *array, tuple type, Values *values) except -1:
+    """Checks all but the values themselves."""
+    cdef bint has_memory
+    values.layout, values.width, values.is_signed = type
+    cdef size_t most = 3 if values.layout == OFFSETS else 2
+    must(0 <= array.length < MOST_ROWS and 0 <= array.offset < MOST_ROWS, "a length and an offset from 0 to 2**59 - 1")
+    must((<object>array.length + array.offset) * values.width < 2**62, "less than 2**62 bytes")
+    values.offset, values.length = array.offset, array.length
+    if values.layout == NOTHING:
+        return 0
+    must(array.n_buffers >= 3 if values.layout == VIEWS else array.n_buffers == most, "the buffers of its type")
+    must(array.buffers is not NULL and array.n_children == 0, "buffers, and no children")
+    values.valid = <unsigned char *>array.buffers[0] if array.null_count else NULL
+    must(array.null_count <= 0 or values.valid is not NULL, "a bitmap if it has nulls")
+    values.memory = <char *>array.buffers[1]
+    must(values.memory is not NULL or not values.length or not values.width, "memory for its values")
+    if values.layout == OFFSETS:
+        values.text = <char *>array.buffers[2]
+    elif values.layout == VIEWS:
+        values.texts = array.buffers + 2
+        values.text_count = array.n_buffers - 3
+        values.sizes = <char *>array.buffers[array.n_buffers - 1]
+        must(values.sizes is not NULL or not values.text_count, "the sizes of its texts")
+    return 0
+
+
+cdef size_t check_values(const Values *values) except? 0:
+    """Returns about how many bytes there are to read."""
+    cdef size_t num_bytes = values.length * (8 + values.width)
+    cdef bint is_wrong
+    if values.layout == OFFSETS and values.length:
+        with nogil:
+            is_wrong = offsets_fall(values)
+        must(not is_wrong, "offsets from 0 on that do not fall")
+        num_bytes += text_end(values) - text_begin(values)
+        must(text_begin(values) == text_end(values) or values.text is not NULL, "memory for its texts")
+    elif values.layout == VIEWS:
+        with nogil:
+            is_wrong = views_leave(values, &num_bytes)
+        must(not is_wrong, "views within its texts")
+    return num_bytes
+
+
+cdef bint meet(const void *one, size_t size, const void *other, size_t length) noexcept nogil:
+    return <uintptr_t>one < <uintptr_t>other + length and <uintptr_t>other < <uintptr_t>one + size
+
+
+cdef bint values_meet(const Values *values, const void *memory, size_t length) noexcept nogil:
+    cdef bint is_text = values.layout == OFFSETS
+    cdef size_t i, begin = values.offset * values.width, size = (values.length + is_text) * values.width
+    if not values.length or values.layout == NOTHING:
+        return False
+    if values.valid is not NULL and meet(values.valid + values.offset // 8, values.length // 8 + 2, memory, length):
+        return True
+    if is_text and meet(values.text + text_begin(values), text_end(values) - text_begin(values), memory, length):
+        return True
+    for i in range(values.text_count):
+        if meet(values.texts[i], load(values.sizes + 8 * i, 8, True), memory, length):
+            return True
+    return meet(values.memory + begin, size, memory, length)
+
+
+cdef bint exports_arrow(object keys) except -1:
+    """By the class, as for other special methods: pyarrow.Array itself has them too."""
+    return hasattr(type(keys), "__arrow_c_array__") or hasattr(type(keys), "__arrow_c_stream__")
+
+
+@cython.no_gc
+cdef class Arrow:
+    def __cinit__(self, keys):
+        kind = type(keys)
+        if hasattr(kind, "__arrow_c_array__"):
+            schema, array = kind.__arrow_c_array__(keys)
+            self.import_array(schema, array)
+        else:
+            self.import_stream(kind.__arrow_c_stream__(keys))
+
+    def __dealloc__(self):
+        cdef Chunk *chunk
+        with nogil:  # what is released may wait for a thread that needs the GIL
+            while self.first is not NULL:
+                chunk = self.first
+                self.first = chunk.next
+                if chunk.array.release is not NULL:
+                    chunk.array.release(&chunk.array)
+                free(chunk)
+            if self.schema.release is not NULL:
+                self.schema.release(&self.schema)
+            if self.stream.release is not NULL:
+                self.stream.release(&self.stream)
+
+    cdef int import_array(self, object schema, object array) except -1:
+        cdef ArrowSchema *its_schema = <ArrowSchema *>PyCapsule_GetPointer(schema, "arrow_schema")
+        cdef ArrowArray *its_array = <ArrowArray *>PyCapsule_GetPointer(array, "arrow_array")
+        self.schema = its_schema[0]
+        its_schema.release = NULL
+        self.read_schema()
+        must(its_array.release is not NULL, "not been released")
+        return self.append(its_array)
+
+    cdef int import_stream(self, object capsule) except -1:
+        """Imports all arrays of a stream, which may wait for a thread that needs the GIL."""
+        cdef ArrowArrayStream *stream = <ArrowArrayStream *>PyCapsule_GetPointer(capsule, "arrow_array_stream")
+        cdef ArrowArray array
+        self.stream = stream[0]
+        stream.release = NULL
+        must(self.stream.release is not NULL, "not been released")
+        with nogil:
+            status = self.stream.get_schema(&self.stream, &self.schema)
+        if status:
+            self.schema.release = NULL
+        self.check_stream(status)
+        self.read_schema()
+        while True:
+            memset(&array, 0, sizeof(array))
+            with nogil:
+                status = self.stream.get_next(&self.stream, &array)
+            self.check_stream(status)
+            if array.release is NULL:
+                return 0
+            self.append(&array)
+            PyErr_CheckSignals()
+
+    cdef int check_stream(self, int status) except -1:
+        if status:
+            text = self.stream.get_last_error(&self.stream)
+            reason = os.strerror(status) if text is NULL else text.decode("utf-8", "replace")
+            raise ValueError(f"the Arrow stream failed: {reason}")
+        return 0
+
+    cdef int read_schema(self) except -1:
+        cdef ArrowSchema *of_keys = self.schema.dictionary
+        must(self.schema.release is not NULL and self.schema.format is not NULL, "a schema with a format")
+        self.rows = type_of(self.schema.format.decode())
+        if of_keys is not NULL:
+            must(self.schema.format.decode() in INTEGERS and of_keys.format is not NULL, "whole numbers as codes of a dictionary")
+            if of_keys.dictionary is not NULL:
+                raise TypeError("an Arrow column must not have a dictionary of dictionaries: cast it to its values")
+            self.keys = type_of(of_keys.format.decode())
+        return 0
+
+    cdef int append(self, ArrowArray *array) except -1:
+        """Takes an array, and checks it."""
+        cdef Chunk *chunk = <Chunk *>calloc(1, sizeof(Chunk))
+        cdef bint is_wrong
+        if chunk is NULL:
+            array.release(array)
+            raise MemoryError("no memory for an Arrow array")
+        chunk.array = array[0]
+        array.release = NULL
+        chunk.keys = &chunk.rows
+        if self.last is NULL:
+            self.first = chunk
+        else:
+            self.last.next = chunk
+        self.last = chunk
+        read_values(&chunk.array, self.rows, &chunk.rows)
+        must((chunk.array.dictionary is NULL) == (self.keys is None), "a dictionary if its type has one")
+        if self.keys is not None:
+            chunk.keys = &chunk.dictionary
+            read_values(chunk.array.dictionary, self.keys, &chunk.dictionary)
+            with nogil:
+                is_wrong = codes_leave(&chunk.rows, chunk.dictionary.length)
+            must(not is_wrong, "codes within its dictionary")
+        chunk.has_nulls = (chunk.rows.valid is not NULL or chunk.keys.valid is not NULL
+                           or chunk.keys.layout == NOTHING)
+        self.count += chunk.rows.length
+        must(self.count < MOST_ROWS, "less than 2**59 values")
+        self.num_bytes += chunk.rows.length * 8 + check_values(chunk.keys)
+        return 0
+
+    cdef int refuse_nulls(self) except -1:
+        cdef const Chunk *chunk = self.first
+        cdef size_t i, before = 0
+        while chunk is not NULL:
+            for i in range(chunk.rows.length):
+                if chunk.has_nulls and is_null(chunk, i):
+                    raise ValueError(f"the key at {before + i} must not be null: a null has no hash")
+            before += chunk.rows.length
+            chunk = chunk.next
+        return 0
+
+    cdef bint overlaps(self, const void *memory, size_t length) noexcept nogil:
+        cdef const Chunk *chunk = self.first
+        while chunk is not NULL:
+            if values_meet(&chunk.rows, memory, length) or values_meet(chunk.keys, memory, length):
+                return True
+            chunk = chunk.next
+        return False
+
+    cdef void hash(self, int words, uint64_t seed, uint64_t *out) noexcept nogil:
+        cdef const Chunk *chunk = self.first
+        while chunk is not NULL:
+            hash_rows(chunk, 0, chunk.rows.length, words, seed, out)
+            out += words * chunk.rows.length
+            chunk = chunk.next
+
+    cdef int insert(self, void *bits, size_t length) noexcept nogil:
+        cdef const Chunk *chunk = self.first
+        cdef uint64_t hashes[1024]
+        cdef size_t start, count, kept, i
+        while chunk is not NULL:
+            for start in range(0, chunk.rows.length, 1024):
+                count = kept = min(<size_t>1024, chunk.rows.length - start)
+                hash_rows(chunk, start, count, 1, 0, hashes)
+                if chunk.has_nulls:
+                    kept = 0
+                    for i in range(count):
+                        hashes[kept] = hashes[i]
+                        kept += not is_null(chunk, start + i)
+                status = sketch_bloom_insert_each_hash(bits, length, hashes, kept)
+                if status:
+                    return status
+            chunk = chunk.next
+        return 0
+
+    cdef int contains(self, const void *bits, size_t length, unsigned char *found) noexcept nogil:
+        cdef const Chunk *chunk = self.first
+        cdef uint64_t hashes[1024]
+        cdef size_t start, count, i
+        while chunk is not NULL:
+            for start in range(0, chunk.rows.length, 1024):
+                count = min(<size_t>1024, chunk.rows.length - start)
+                hash_rows(chunk, start, count, 1, 0, hashes)
+                status = sketch_bloom_contains_each_hash(bits, length, hashes, count, found, count)
+                if status:
+                    return status
+                for i in range(count if chunk.has_nulls else 0):
+                    found[i] &= not is_null(chunk, start + i)
+                found += count
+            chunk = chunk.next
+        return 0

@@ -1,0 +1,449 @@
+"""Arrow arrays as columns: made by ctypes, with all that a producer may do, and by pyarrow where it is packaged."""
+import ctypes
+import errno
+import struct
+import subprocess
+
+import pytest
+from sketch_hash import BloomFilter, murmur3_x64_128_each, murmur3_x64_128_intdigest, xxh64_each, xxh64_intdigest
+from test_sharing import assert_releases_the_gil, ticks
+
+P, I64 = ctypes.c_void_p, ctypes.c_int64
+RELEASE, GET = ctypes.CFUNCTYPE(None, P), ctypes.CFUNCTYPE(ctypes.c_int, P, P)
+
+
+class Schema(ctypes.Structure):
+    name = b"arrow_schema"
+    _fields_ = [("format", ctypes.c_char_p), ("its_name", P), ("metadata", P), ("flags", I64), ("n_children", I64),
+                ("children", P), ("dictionary", P), ("release", P), ("private_data", P)]
+
+
+class Array(ctypes.Structure):
+    name = b"arrow_array"
+    _fields_ = [("length", I64), ("null_count", I64), ("offset", I64), ("n_buffers", I64), ("n_children", I64),
+                ("buffers", P), ("children", P), ("dictionary", P), ("release", P), ("private_data", P)]
+
+
+class Stream(ctypes.Structure):
+    name = b"arrow_array_stream"
+    _fields_ = [("get_schema", P), ("get_next", P), ("get_last_error", P), ("release", P), ("private_data", P)]
+
+
+def capsule(made, name=None):
+    new = ctypes.pythonapi.PyCapsule_New
+    new.restype, new.argtypes = ctypes.py_object, [P, ctypes.c_char_p, P]
+    return new(ctypes.addressof(made), name or made.name, None)
+
+
+class Producer:
+    """Makes structures, and counts how often each is released."""
+
+    def __init__(self):
+        self.releases, self.kept = [], []
+
+    def make(self, kind, **fields):
+        number = len(self.releases)
+
+        def release(address):
+            self.releases[number] += 1
+            kind.from_address(address).release = None
+
+        self.releases.append(0)
+        self.kept.append(RELEASE(release))
+        self.kept.append(kind(release=ctypes.cast(self.kept[-1], P), **fields))
+        return self.kept[-1]
+
+    def place(self, data):
+        self.kept.append(data if data is None else ctypes.create_string_buffer(bytes(data), max(len(data), 1)))
+        return data if data is None else ctypes.addressof(self.kept[-1])
+
+    def schema(self, format, dictionary=None):
+        return self.make(Schema, format=format.encode(), dictionary=dictionary and ctypes.addressof(dictionary))
+
+    def array(self, length, *buffers, null_count=-1, dictionary=None, **fields):
+        places = (P * len(buffers))(*map(self.place, buffers))
+        self.kept.append(places)
+        fields = {"n_buffers": len(buffers), "buffers": ctypes.addressof(places), **fields}
+        return self.make(Array, length=length, null_count=null_count,
+                         dictionary=dictionary and ctypes.addressof(dictionary), **fields)
+
+    def exported(self, schema, array):
+        """An object of one array."""
+        method = lambda _, requested=None: (capsule(schema), capsule(array))
+        return type("Exported", (), {"__arrow_c_array__": method})()
+
+    def streamed(self, schema, *arrays, error=0, text=None):
+        """An object of chunks, with an error after them."""
+        left = list(arrays)
+
+        def get(source, to):
+            if source is None:
+                return error or errno.EIO
+            ctypes.memmove(to, ctypes.addressof(source), ctypes.sizeof(source))
+            source.release = None
+            return 0
+
+        end = Array() if not error else None
+        calls = [GET(lambda _, to: get(schema, to)), GET(lambda _, to: get(left.pop(0) if left else end, to)),
+                 ctypes.CFUNCTYPE(P, P)(lambda _: self.place(text))]
+        self.kept += calls
+        stream = self.make(Stream, **dict(zip(("get_schema", "get_next", "get_last_error"),
+                                              (ctypes.cast(it, P) for it in calls))))
+        return type("Streamed", (), {"__arrow_c_stream__": lambda _, requested=None: capsule(stream)})()
+
+
+# How the types are in memory, and as Parquet stores them.
+NUMBERS = {"c": "bi", "C": "Bi", "s": "hi", "S": "Hi", "i": "ii", "I": "II", "l": "qq", "L": "QQ", "e": "ee", "f": "ff",
+           "g": "dd", "tdD": "ii", "ttm": "ii", "ttu": "qq", "ttn": "qq", "tsm:": "qq", "tsu:UTC": "qq", "tsn:": "qq",
+           "tDs": "qq", "tDm": "qq", "tDu": "qq", "tDn": "qq"}
+TEXTS = ["u", "z", "U", "Z", "vu", "vz", "w:3", "w:0"]
+
+
+def values_of(format):
+    if format in NUMBERS:
+        is_signed = NUMBERS[format][0] not in "BHIQ"
+        return [struct.pack("<" + NUMBERS[format][1], n) for n in (5, -3 if is_signed else 200, 0, 7, 100)] * 4
+    if format.startswith("w:"):
+        return [b"fox", b"dog", b"\0\0\0", b"cat", b"cow"] * 4 if format == "w:3" else [b""] * 20
+    return [b"fox", b"", b"twelve bytes", b"thirteen byte", bytes(range(200))] * 4
+
+
+def buffers_of(format, keys):
+    """The buffers of keys, of which None is a null."""
+    valid = bytearray(len(keys) // 8 + 1)
+    for i, key in enumerate(keys):
+        valid[i // 8] |= (key is not None) << i % 8
+    if format in NUMBERS:
+        memory, stored = NUMBERS[format]
+        return valid, b"".join(struct.pack("<" + memory, *struct.unpack("<" + stored, key)) if key is not None
+                               else b"\x55" * struct.calcsize(memory) for key in keys)
+    if format.startswith("w:"):
+        return valid, b"".join(bytes(int(format[2:])) if key is None else key for key in keys)
+    texts = [key or b"" for key in keys]
+    if format in "zuZU":
+        ends = [sum(map(len, texts[:i])) for i in range(len(texts) + 1)]
+        return valid, struct.pack(f"<{len(ends)}{'i' if format in 'zu' else 'q'}", *ends), b"".join(texts)
+    views, two, count = b"", [b"", b""], 0
+    for key in keys:
+        if key is None:  # whatever is there is not read
+            views += b"\xff" * 16
+        elif len(key) <= 12:
+            views += struct.pack("<i12s", len(key), key)
+        else:
+            views += struct.pack("<i4sii", len(key), key[:4], count % 2, len(two[count % 2]))
+            two[count % 2] += key
+            count += 1
+    return valid, views, *two, struct.pack("<qq", *map(len, two))
+
+
+def check(make, keys):
+    """All four calls on a column, which is made anew for each."""
+    there, seed = [key for key in keys if key is not None], 2**64 - 1
+    bloom, expected = BloomFilter(1024), BloomFilter(1024)
+    bloom.add_each(make())
+    expected.update(there)
+    assert bloom == expected
+    assert bloom.contains_each(make()).tolist() == [key is not None for key in keys]
+    assert BloomFilter(32).contains_each(make()).tolist() == [False] * len(keys)
+    if len(there) < len(keys):
+        for call in (xxh64_each, murmur3_x64_128_each):
+            with pytest.raises(ValueError, match=f"^the key at {keys.index(None)} must not be null: a null has no hash$"):
+                call(make())
+    else:
+        assert xxh64_each(make(), seed).tolist() == [xxh64_intdigest(key, seed) for key in keys]
+        pairs = [divmod(murmur3_x64_128_intdigest(key, seed), 2**64) for key in keys]
+        assert murmur3_x64_128_each(make(), seed).tolist() == [word for pair in pairs for word in pair]
+
+
+@pytest.fixture
+def producer():
+    """Each structure is released once, by its producer if nobody has taken it."""
+    producer = Producer()
+    producer.inner = Producer()  # of dictionaries, which the structure around them releases
+    yield producer
+    for made in producer.kept:
+        if getattr(made, "release", None):
+            ctypes.cast(made.release, RELEASE)(ctypes.addressof(made))
+    assert set(producer.releases) <= {1}, producer.releases
+
+
+@pytest.mark.parametrize("has_nulls", [False, True], ids=["no nulls", "nulls"])
+@pytest.mark.parametrize("format", [*NUMBERS, *TEXTS])
+def test_each_key_of_each_type(format, has_nulls, producer):
+    keys = [None if has_nulls and i % 3 == 1 else key for i, key in enumerate(values_of(format))]
+    buffers = buffers_of(format, keys)
+    whole = lambda **fields: producer.array(20, *buffers, **fields)
+    check(lambda: producer.exported(producer.schema(format), whole()), keys)
+    check(lambda: producer.exported(producer.schema(format), producer.array(6, *buffers, offset=9)), keys[9:15])
+    chunks = lambda: [producer.array(7, *buffers), producer.array(0, *buffers), producer.array(11, *buffers, offset=9)]
+    check(lambda: producer.streamed(producer.schema(format), *chunks()), keys[:7] + keys[9:])
+    if not has_nulls:
+        check(lambda: producer.exported(producer.schema(format), producer.array(20, None, *buffers[1:])), keys)
+        check(lambda: producer.exported(producer.schema(format), whole(null_count=0)), keys)
+
+
+@pytest.mark.parametrize("format", ["u", "U", "l", "s", "vu"])
+def test_memory_may_not_be_aligned(format, producer):
+    keys = values_of(format)
+    buffers = [b"-" + buffer for buffer in buffers_of(format, keys)]
+
+    def make():
+        array = producer.array(20, *buffers, null_count=0)
+        places = (P * len(buffers)).from_address(array.buffers)
+        places[:] = [place + 1 for place in places]
+        return producer.exported(producer.schema(format), array)
+
+    check(make, keys)
+
+
+@pytest.mark.parametrize("code", "bBhHiIqQ")
+@pytest.mark.parametrize("format", ["u", "vz", "s", "w:3", "n"])
+def test_dictionaries(code, format, producer):
+    keys = values_of(format)[:4] if format != "n" else [None] * 4
+    codes, formats = [3, 0, None, 2, 1, 0, 3], dict(zip("bBhHiIqQ", "cCsSiIlL"))
+    rows = [None if it is None else keys[it] for it in codes]
+    wild = struct.pack("<7" + code, *(111 if it is None else it for it in codes))
+
+    def make(keys=keys, begin=0):
+        values = buffers_of(format, keys) if format != "n" else ()
+        return producer.exported(
+            producer.schema(formats[code], producer.inner.schema(format)),
+            producer.array(7 - begin, b"\x7b", wild, offset=begin, dictionary=producer.inner.array(len(keys), *values)))
+
+    check(make, rows)
+    check(lambda: make(begin=3), rows[3:])
+    if format != "n":
+        some = [keys[0], None, keys[2], keys[3]]
+        check(lambda: make(some), [None if it is None else some[it] for it in codes])
+
+
+def test_a_column_of_nulls_or_without_chunks(producer):
+    check(lambda: producer.exported(producer.schema("n"), producer.array(3)), [None] * 3)
+    check(lambda: producer.streamed(producer.schema("u")), [])
+    check(lambda: producer.exported(producer.schema("u"), producer.array(0, None, None, None)), [])
+
+
+def test_long_columns(producer):
+    """Longer than a block, and long enough for the GIL to be released."""
+    keys = [None if n % 7 == 3 else b"key %d" % n for n in range(10_000)]
+    for kept in (keys, [key for key in keys if key]):
+        check(lambda: producer.exported(producer.schema("u"), producer.array(len(kept), *buffers_of("u", kept))), kept)
+    bloom, left = BloomFilter(1024), lambda: producer.exported(
+        producer.schema("u"), producer.array(1000, *buffers_of("u", [b"x"] * 1000)))
+    assert bloom.contains_each(left()).tolist() == [False] * 1000
+
+
+CALLS = [xxh64_each, murmur3_x64_128_each, BloomFilter(32).add_each, BloomFilter(32).contains_each]
+
+
+@pytest.mark.parametrize("format, text", [
+    ("b", "bools, here 'b': Parquet has no Bloom filters of them"),
+    ("tdm", "date64, here 'tdm': Parquet stores days: cast it to \"date32\""),
+    ("tts", "times in seconds.* cast it to \"time32.ms.\""), ("tss:UTC", "timestamps in seconds.* cast it to \"timestamp"),
+    ("d:9,2", "decimals.* sketch_hash.parquet.add_filters reads them as they are stored"),
+    ("+s", "structs.* pass one column of a table"), ("+l", "lists, maps or unions.* array.flatten"),
+    ("+r", "runs.* pyarrow.compute.run_end_decode"), ("tiM", "another type"), ("w:-1", "another type"), ("", "another type"),
+    ("w:99999999999", "another type"),
+])
+@pytest.mark.parametrize("is_coded", [False, True], ids=["values", "dictionary"])
+def test_another_type_is_an_error_with_the_cure(format, text, is_coded, producer):
+    for call in CALLS:
+        for make in (producer.exported, producer.streamed):
+            schema = producer.schema("i", producer.inner.schema(format)) if is_coded else producer.schema(format)
+            with pytest.raises(TypeError, match=f"^an Arrow column must not have {text}"):
+                call(make(schema, producer.array(0, None, None)))
+
+
+OFFSETS = struct.pack("<4i", 0, 3, 6, 9)
+VIEW = struct.Struct("<i4sii")
+BROKEN = {  # a format, a length, buffers, other fields, what must be
+    "length": ("i", -1, [None, OFFSETS], {}, "a length"),
+    "long length": ("w:2147483647", 2**58, [None, OFFSETS], {}, "less than"),
+    "offset": ("i", 1, [None, OFFSETS], {"offset": -1}, "a length"),
+    "sum": ("l", 2**59 - 1, [None, OFFSETS], {"offset": 2**59 - 1}, "less than|memory"),
+    "no buffers": ("i", 3, [], {}, "the buffers"),
+    "three buffers": ("i", 3, [None, OFFSETS, None], {}, "the buffers"),
+    "NULL": ("i", 3, [None, OFFSETS], {"buffers": None}, "buffers"),
+    "children": ("i", 3, [None, OFFSETS], {"n_children": 1}, "buffers, and no children"),
+    "no bitmap": ("i", 3, [None, OFFSETS], {"null_count": 1}, "a bitmap"),
+    "no values": ("i", 3, [None, None], {}, "memory for its values"),
+    "no offsets": ("u", 3, [None, None, b"foxdogcat"], {}, "memory for its values"),
+    "no text": ("u", 3, [None, OFFSETS, None], {}, "memory for its texts"),
+    "negative offset": ("u", 2, [None, struct.pack("<3i", -1, 0, 3), b"fox"], {}, "offsets"),
+    "falling": ("u", 2, [None, struct.pack("<3i", 0, 3, 2), b"fox"], {}, "offsets"),
+    "falling 64": ("U", 2, [None, struct.pack("<3q", 0, 3, -2**63), b"fox"], {}, "offsets"),
+    "view length": ("vu", 1, [None, VIEW.pack(-1, b"", 0, 0), b""], {}, "views"),
+    "view text": ("vu", 1, [None, VIEW.pack(13, b"", 1, 0), bytes(20), struct.pack("<q", 20)], {}, "views"),
+    "view text -1": ("vu", 1, [None, VIEW.pack(13, b"", -1, 0), bytes(20), struct.pack("<q", 20)], {}, "views"),
+    "view begin": ("vu", 1, [None, VIEW.pack(13, b"", 0, -1), bytes(20), struct.pack("<q", 20)], {}, "views"),
+    "view end": ("vu", 1, [None, VIEW.pack(13, b"", 0, 8), bytes(20), struct.pack("<q", 20)], {}, "views"),
+    "view NULL": ("vu", 1, [None, VIEW.pack(13, b"", 0, 0), None, struct.pack("<q", 20)], {}, "views"),
+    "view sizes": ("vu", 1, [None, VIEW.pack(13, b"", 0, 0), bytes(20), None], {}, "the sizes"),
+    "dictionary": ("i", 3, [None, OFFSETS], {"dictionary": Array(n_buffers=2)}, "a dictionary if"),
+    "released": ("i", 3, [None, OFFSETS], {"release": None}, "not been released"),
+}
+
+
+@pytest.mark.parametrize("format, length, buffers, fields, text", BROKEN.values(), ids=BROKEN)
+def test_a_broken_array_is_an_error_and_nothing_added(format, length, buffers, fields, text, producer):
+    bloom = BloomFilter(32)
+    for call in (*CALLS, bloom.add_each):
+        good = producer.array(1, *buffers_of(format, [values_of(format)[0]]))
+        for make, chunks in ((producer.exported, []), (producer.streamed, [good])):
+            array = producer.array(length, *buffers, **{k: v for k, v in fields.items() if k != "release"})
+            if "release" in fields:
+                if chunks:
+                    continue  # such an array is the end of a stream
+                array.release, producer.releases[-1] = None, 1
+            with pytest.raises(ValueError, match=f"^an Arrow array must have (been )?({text})"):
+                call(make(producer.schema(format), *chunks, array))
+    assert bloom == BloomFilter(32)
+
+
+@pytest.mark.parametrize("codes", [[0, 4], [-1, 0], [127, 0]])
+def test_a_code_outside_its_dictionary_is_an_error(codes, producer):
+    for call in CALLS:
+        dictionary = producer.inner.array(4, *buffers_of("u", [b"fox"] * 4))
+        with pytest.raises(ValueError, match="^an Arrow array must have codes within its dictionary$"):
+            call(producer.exported(producer.schema("c", producer.inner.schema("u")),
+                                   producer.array(2, None, struct.pack("2b", *codes), dictionary=dictionary)))
+
+
+@pytest.mark.parametrize("schema, error, text, message", [
+    ("u", errno.EIO, None, "Input/output error"), ("u", errno.EIO, b"the disk is gone\0", "the disk is gone"),
+    (None, errno.ENOMEM, None, "Cannot allocate memory"),
+])
+def test_a_stream_that_fails_is_an_error_and_nothing_added(schema, error, text, message, producer):
+    bloom = BloomFilter(32)
+    for call in (*CALLS, bloom.add_each):
+        made, chunks = (producer.schema(schema), [producer.array(1, *buffers_of("u", [b"fox"]))]) if schema else (None, [])
+        with pytest.raises(ValueError, match=f"^the Arrow stream failed: {message}$"):
+            call(producer.streamed(made, *chunks, error=error, text=text))
+    assert bloom == BloomFilter(32)
+
+
+RELEASED = Schema(), Array(), Stream()
+
+
+@pytest.mark.parametrize("method, value", [
+    ("__arrow_c_array__", None), ("__arrow_c_array__", (1, 2)), ("__arrow_c_array__", (1, 2, 3)),
+    ("__arrow_c_array__", (capsule(RELEASED[0]), capsule(RELEASED[2]))), ("__arrow_c_stream__", None),
+    ("__arrow_c_array__", (capsule(RELEASED[0]), capsule(RELEASED[1]))), ("__arrow_c_stream__", capsule(RELEASED[2])),
+], ids=range(7))
+def test_other_results_of_the_methods_are_errors(method, value):
+    for call in CALLS:
+        with pytest.raises((TypeError, ValueError)):
+            call(type("Strange", (), {method: lambda _: value})())
+
+
+def test_the_methods_are_those_of_the_class():
+    strange = type("Strange", (), {})()
+    strange.__arrow_c_array__ = lambda: pytest.fail("called")
+    for keys in (strange, type("Kind", (), {"__arrow_c_array__": lambda _: pytest.fail("called")})):
+        with pytest.raises(TypeError, match="^a column is"):
+            CALLS[0](keys)
+
+
+def test_a_column_in_the_memory_of_the_filter_is_an_error(producer):
+    memory = bytearray(64)
+    bloom, start = BloomFilter.view(memory), ctypes.addressof((ctypes.c_char * 64).from_buffer(memory))
+    for buffers in ([None, 8, 0], [None, 0, 8], [8, 0, 0]):
+        array = producer.array(1, *buffers_of("u", [b"fox"]))
+        places = (P * 3).from_address(array.buffers)
+        places[:] = [start + to if to else place for place, to in zip(places, buffers)]
+        if buffers[1]:
+            memory[8:16] = bytes(8)
+        is_empty = buffers[1]
+        if is_empty:
+            bloom.contains_each(producer.exported(producer.schema("u"), array))
+            array = producer.array(1, *buffers_of("u", [b"fox"]))
+            (P * 3).from_address(array.buffers)[1] = start + 8
+        with pytest.raises(ValueError, match="^the column is in the filter's own memory: pass a copy of it$"):
+            bloom.add_each(producer.exported(producer.schema("u"), array))
+    assert memory == bytes(64)
+
+
+def test_a_stream_may_wait_for_a_thread_that_needs_the_gil(need, tmp_path, ticks):
+    need("gcc")
+    (tmp_path / "slow.c").write_text("#include <unistd.h>\nint slow(void *a, void *b) { usleep(50000); return 5; }\n")
+    subprocess.run(["gcc", "-shared", "-fPIC", "-o", tmp_path / "slow.so", tmp_path / "slow.c"], check=True)
+    slow = ctypes.CDLL(str(tmp_path / "slow.so")).slow
+    producer = Producer()
+
+    def call(_):
+        stream = producer.make(Stream, get_schema=ctypes.cast(slow, P),
+                               get_last_error=ctypes.cast(ctypes.CFUNCTYPE(P, P)(0), P))
+        producer.kept.append(no_text := ctypes.CFUNCTYPE(P, P)(lambda _: None))
+        stream.get_last_error = ctypes.cast(no_text, P)
+        with pytest.raises(ValueError, match="Input/output error"):
+            xxh64_each(type("Slow", (), {"__arrow_c_stream__": lambda _: capsule(stream)})())
+
+    assert_releases_the_gil(call, None, ticks)
+
+
+# ---- Arrays of pyarrow
+
+@pytest.fixture
+def pa(need):
+    need("python:pyarrow")
+    return __import__("pyarrow")
+
+
+def stored(value, type):
+    """The bytes of a value in a Parquet file."""
+    import pyarrow as pa
+    if pa.types.is_dictionary(type):
+        return stored(value, type.value_type)
+    if isinstance(value.as_py(), (str, bytes)):
+        text = value.as_py()
+        return text.encode() if isinstance(text, str) else text
+    if pa.types.is_floating(type):
+        return struct.pack({16: "<e", 32: "<f", 64: "<d"}[type.bit_width], value.as_py())
+    if type.bit_width == 32 and not pa.types.is_integer(type):
+        value, width = value.cast("int32"), 32
+    elif not pa.types.is_integer(type):
+        value, width = value.cast("int64"), 64
+    return struct.pack("<q", value.as_py() if value.as_py() < 2**63 else value.as_py() - 2**64)[: max(type.bit_width, 32) // 8]
+
+
+@pytest.mark.parametrize("name", [
+    "int8", "uint8", "int16", "uint16", "int32", "uint32", "int64", "uint64", "float16", "float32", "float64", "date32",
+    "time32('ms')", "time64('us')", "time64('ns')", "timestamp('ms')", "timestamp('us', 'UTC')", "timestamp('ns')",
+    "duration('us')", "string", "large_string", "string_view", "binary", "large_binary", "binary_view", "binary(4)",
+])
+@pytest.mark.parametrize("is_coded", [False, True], ids=["values", "dictionary"])
+def test_arrays_of_pyarrow(name, is_coded, pa):
+    type = eval(f"pa.{name}" + "()" * ("(" not in name))
+    values = ["fox%d" % i for i in range(10)] + ["fox", ""] if "string" in name or "binary" in name else range(12)
+    if name == "binary(4)":
+        values = [b"%4d" % i for i in range(12)]
+    if "float" in name or "date" in name or "time" in name:
+        whole = pa.array(values, "int32" if type.bit_width == 32 and "float" not in name else "int64")
+        plain = whole.cast("float64").cast(type) if "float" in name else whole.cast(type)
+    else:
+        plain = pa.array(values).cast(type)
+    mask = pa.array([i % 4 == 1 for i in range(12)])
+    import pyarrow.compute
+    gaps = pyarrow.compute.if_else(mask, pa.scalar(None, type), plain) if "view" not in name else plain
+    for it in (plain, gaps):
+        if is_coded:
+            try:
+                it = it.dictionary_encode()
+            except pa.ArrowNotImplementedError:
+                return
+        keys = [stored(value, it.type) if value.is_valid else None for value in it]
+        check(lambda: it, keys)
+        check(lambda: it[3:9], keys[3:9])
+        check(lambda: pa.chunked_array([it[:5], it[7:]]), keys[:5] + keys[7:])
+
+
+def test_batches_of_pyarrow_are_slices(pa):
+    table = pa.table({"name": [f"fox{i}" for i in range(20)]})
+    bloom = BloomFilter(1024)
+    for batch in table.to_batches(max_chunksize=6):
+        bloom.add_each(batch["name"])
+    assert all(f"fox{i}" in bloom for i in range(20)) and bloom.contains_each(table["name"]).tolist() == [True] * 20
+    with pytest.raises(TypeError, match="pass one column of a table"):
+        bloom.add_each(table)
+    mask = pa.array(bloom.contains_each(table["name"]))
+    assert table.filter(mask).num_rows == 20
