@@ -90,7 +90,6 @@ cdef class Column:
 
     cdef size_t get_numbers(self, object numbers, str what) except 0
     cdef int check_signs(self) except -1
-    cdef int refuse_nan(self, bint is_narrow) except -1
     cdef Py_ssize_t size(self) noexcept
 
 

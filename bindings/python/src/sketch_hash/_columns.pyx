@@ -3,7 +3,7 @@ cimport cython
 from cpython.buffer cimport PyBUF_C_CONTIGUOUS, PyBUF_FORMAT, PyBUF_ND
 from cpython.bytearray cimport PyByteArray_AS_STRING
 from libc.stdint cimport INT32_MAX, int32_t, uint32_t, uint64_t, uintptr_t
-from libc.string cimport strpbrk
+from libc.string cimport strchr, strlen, strpbrk, strspn
 
 from ._arrow cimport Arrow, exports_arrow
 from ._library cimport *
@@ -105,6 +105,17 @@ cdef bint is_arrow(object keys) except -1:
     return False
 
 
+cdef int refuse_nan(cython.floating *numbers, size_t items) except -1:
+    """numpy has NaN for a missing value, and then makes whole numbers floats, which are other keys."""
+    cdef size_t i = 0
+    while i < items and numbers[i] == numbers[i]:
+        i += 1
+    if i < items:
+        raise ValueError(f"the key at {i} must not be NaN, which numpy has for a missing value: pass the Arrow array "
+                         "that it came from, or pyarrow.array(numbers) if the keys are floats with NaN")
+    return 0
+
+
 cdef str cure_of(object keys):
     return ": pyarrow.array(keys) makes an Arrow array" if hasattr(type(keys), "__array__") else ""
 
@@ -140,39 +151,35 @@ cdef class Column:
 
     cdef size_t get_numbers(self, object numbers, str what) except 0:
         """Returns the width of each number."""
+        cdef bytes formats
+        cdef const char *format = ""
+        cdef char letter = 0  # of the numbers, if they are one row
         narrowest, formats, text, cure = WHAT[what]
-        format, is_row = b"", False
         try:
             PyObject_GetBuffer(numbers, &self.numbers, PyBUF_C_CONTIGUOUS | PyBUF_FORMAT)
-        except (TypeError, ValueError) as error:
-            if isinstance(error, ValueError) and getattr(getattr(numbers, "dtype", None), "kind", None) not in ("M", "m"):
+        except TypeError:
+            text += cure_of(numbers)
+        except ValueError:
+            if getattr(getattr(numbers, "dtype", None), "kind", None) not in ("M", "m"):
                 raise
             text += cure_of(numbers)
         else:
-            format = b"B" if self.numbers.format is NULL else (<bytes>self.numbers.format).lstrip(b"@=<")
-            is_row = len(format) == 1 and self.numbers.ndim == 1
-        if not is_row or format not in formats or self.numbers.itemsize < narrowest:
-            is_small = is_row and format in b"bBhHiI" and not isinstance(numbers, (bytes, bytearray))
+            format = self.numbers.format
+            if format is NULL:
+                format = "B"
+            format += strspn(format, "@=<")
+            letter = format[0] if strlen(format) == 1 and self.numbers.ndim == 1 else 0
+        if letter == 0 or strchr(formats, letter) is NULL or self.numbers.itemsize < narrowest:
+            is_small = letter and strchr("bBhHiI", letter) is not NULL and not isinstance(numbers, (bytes, bytearray))
             raise TypeError(text + cure if is_small else text)
         if self.numbers.len and <uintptr_t>self.numbers.buf % self.numbers.itemsize:
             raise ValueError("a column of numbers must be aligned to their width: pass a copy")
         self.items = self.numbers.len // self.numbers.itemsize
-        if format in b"fd":
-            self.refuse_nan(format == b"f")
+        if letter == c"d":
+            refuse_nan(<double *>self.numbers.buf, self.items)
+        elif letter == c"f":
+            refuse_nan(<float *>self.numbers.buf, self.items)
         return self.numbers.itemsize
-
-    cdef int refuse_nan(self, bint is_narrow) except -1:
-        """numpy has NaN for a missing value, and then makes whole numbers floats, which are other keys."""
-        cdef const float *narrow = <float *>self.numbers.buf
-        cdef const double *wide = <double *>self.numbers.buf
-        cdef size_t i = 0, items = self.items
-        with nogil:
-            while i < items and (narrow[i] == narrow[i] if is_narrow else wide[i] == wide[i]):
-                i += 1
-        if i < items:
-            raise ValueError(f"the key at {i} must not be NaN, which numpy has for a missing value: pass the Arrow array "
-                             "that it came from, or pyarrow.array(numbers) if the keys are floats with NaN")
-        return 0
 
     cdef int check_signs(self) except -1:
         """For the library offsets have no sign, so a negative one of 32 bits is not past the end of 2 GiB and more."""
