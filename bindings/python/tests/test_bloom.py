@@ -1,5 +1,6 @@
 """The Bloom filter: its format, keys and columns, whole filters, memory, threads, and errors."""
 import array
+import fractions
 import gc
 import io
 import itertools
@@ -238,6 +239,61 @@ def test_a_pickle_out_of_band_has_the_bits_without_a_copy():
     assert copy == filled() and buffers[0].raw() == bloom
 
 
+def rate_of(bloom):
+    """By the bits that are set, how often another key is found."""
+    data = bytes(bloom)
+    blocks = [[bin(int.from_bytes(data[i + 4 * j : i + 4 * j + 4], "little")).count("1") for j in range(8)]
+              for i in range(0, len(data), 32)]
+    return fractions.Fraction(sum(map(math.prod, blocks)), len(blocks) << 40)
+
+
+@pytest.mark.parametrize("num_bytes", [64, 192, 1024, 1 << 18])
+def test_a_folded_filter_is_that_of_half_the_size(num_bytes):
+    bloom = filled(KEYS, num_bytes)
+    bloom.fold()
+    assert bloom == filled(KEYS, num_bytes // 2) and sys.getsizeof(bloom) < num_bytes // 2 + 200
+    bloom.add(b"fox")
+    assert bloom == filled([*KEYS, b"fox"], num_bytes // 2)
+
+
+@pytest.mark.parametrize("rate", [0.9, 0.01, 1e-5, 1e-9])
+@pytest.mark.parametrize("num_bytes", [32, 96, 1536, 1 << 17])
+def test_a_filter_is_folded_to_an_error_rate(rate, num_bytes):
+    bloom, before = filled(KEYS, num_bytes), filled(KEYS, num_bytes)
+    bloom.fold(error_rate=rate)
+    assert bloom == filled(KEYS, bloom.num_bytes)
+    assert rate_of(bloom) <= rate or bloom == before
+    assert bloom.num_bytes % 64 or rate_of(filled(KEYS, bloom.num_bytes // 2)) > rate
+
+
+def test_the_rate_of_a_fold_is_exact():
+    rate = float(rate_of(filled(KEYS, 512)))
+    assert rate == rate_of(filled(KEYS, 512))  # it has few enough bits for a float
+    for rate, num_bytes in ((rate, 512), (math.nextafter(rate, 0), 1024)):
+        bloom = filled(KEYS, 2048)
+        bloom.fold(rate)
+        assert bloom.num_bytes == num_bytes
+
+
+@pytest.mark.parametrize("make, args, error, text", [
+    (lambda: BloomFilter(96), (), ValueError, "must have an even number of blocks, not 3"),
+    (lambda: BloomFilter(32), (), ValueError, "must have an even number of blocks, not 1"),
+    (lambda: BloomFilter.view(bytearray(64)), (), TypeError, "must not be a view: copy.. makes one"),
+    (lambda: BloomFilter.view(bytearray(64)), (0.5,), TypeError, "must not be a view: copy.. makes one"),
+    (lambda: BloomFilter(64), ("0.01",), TypeError, "must be real number"),
+    (lambda: BloomFilter(64), (1,), ValueError, "error_rate is above 0 and below 1"),
+    (lambda: BloomFilter(64), (math.nan,), ValueError, "error_rate is above 0 and below 1"),
+    (lambda: BloomFilter.__new__(BloomFilter), (), ValueError, "the filter was released"),
+], ids=range(8))
+def test_another_fold_is_an_error(make, args, error, text):
+    bloom = make()
+    with pytest.raises(error, match=text):
+        bloom.fold(*args)
+    if "released" not in repr(bloom):
+        bloom.add(b"fox")
+        assert bloom == filled([b"fox"], bloom.num_bytes)
+
+
 # ---- Memory
 
 @pytest.mark.parametrize("call", [BloomFilter.copy, lambda it: it | BloomFilter(32)], ids=["copy", "|"])
@@ -329,7 +385,7 @@ CALLS = {
     "contains_each": lambda it: it.contains_each(PAIR), "add_hashes": lambda it: it.add_hashes(array.array("Q", [1])),
     "|=": lambda it: it.__ior__(filled()), "source of |=": lambda it: filled().__ior__(it),
     "|": lambda it: it | filled(), "==": lambda it: it == filled(), "copy": BloomFilter.copy,
-    "to_bytes": BloomFilter.to_bytes, "to_parquet": BloomFilter.to_parquet,
+    "to_bytes": BloomFilter.to_bytes, "to_parquet": BloomFilter.to_parquet, "fold": lambda it: it.fold(0.5),
 }
 NEVER_WAITS = {"num_bytes": lambda it: it.num_bytes, "memoryview": memoryview}
 
@@ -350,7 +406,7 @@ def test_a_memoryview_shares_the_bits():
         bloom.update(KEYS)
         assert memory == bits()
         memory[:] = bytes(1024)
-        for call in (bloom.release, lambda: bloom.__init__(32)):
+        for call in (bloom.release, lambda: bloom.__init__(32), bloom.fold):
             with pytest.raises(BufferError, match="^memoryviews of the filter exist: release them first$"):
                 call()
     assert bytes(bloom) == bytes(1024)

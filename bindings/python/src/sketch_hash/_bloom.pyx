@@ -18,6 +18,7 @@ import pickle
 
 cdef extern from "Python.h":
     const char *PyUnicode_AsUTF8AndSize(object, Py_ssize_t *) except NULL
+    int __builtin_popcountll(uint64_t) nogil
     ctypedef int (*visitproc)(PyObject *, void *) noexcept
     ctypedef int (*traverseproc)(PyObject *, visitproc, void *) noexcept
     ctypedef int (*inquiry)(PyObject *) noexcept
@@ -131,11 +132,31 @@ cdef int check_length(object length) except -1:
     return 0
 
 
+def parquet_header(data):
+    """How many bytes the header at the beginning of data has, and the filter after it."""
+    cdef View memory
+    get_bytes(data, &memory)
+    try:
+        return header_of(&memory)
+    finally:
+        PyBuffer_Release(&memory)
+
+
+cdef tuple header_of(const View *memory):
+    cdef uint64_t num_bytes = 0
+    cdef size_t header = sketch_bloom_header_read(memory.buf, memory.len, &num_bytes)
+    if header == 0:
+        raise ValueError(
+            "data does not begin with the whole header of an uncompressed split block Bloom filter with XXH64: "
+            "it is at the column's bloom_filter_offset; from_bytes takes bits alone")
+    return header, num_bytes
+
+
 cdef object copied(object kind, const void *bits, size_t length):
     """A filter of a kind, with a copy of the bits."""
     check_length(length)
     cdef BloomFilter filter = empty(kind)
-    filter.hold(PyByteArray_FromStringAndSize(<char *>bits, length))
+    filter.hold(PyByteArray_FromStringAndSize(<char *>bits, length), False)
     return filter
 
 
@@ -161,22 +182,24 @@ cdef class BloomFilter:
     cdef View bits  # of an own bytearray, or of the buffer of a view
     cdef Lock lock  # created by the first long call or merge
     cdef Py_ssize_t exports  # how many memoryviews of the bits there are
+    cdef bint is_view
 
     def __init__(self, num_bytes):
         num_bytes = operator.index(num_bytes)
         check_length(num_bytes)
-        self.hold(bytearray(num_bytes))
+        self.hold(bytearray(num_bytes), False)
 
     def __dealloc__(self):
         PyBuffer_Release(&self.bits)
 
-    cdef int hold(self, object buffer) except -1:
+    cdef int hold(self, object buffer, bint is_view) except -1:
         """Takes the memory of a buffer, and releases what it had."""
         cdef View bits
         PyObject_GetBuffer(buffer, &bits, PyBUF_SIMPLE)
         try:
             check_length(bits.len)
             self.exchange(&bits)
+            self.is_view = is_view
         finally:
             PyBuffer_Release(&bits)
         return 0
@@ -184,10 +207,14 @@ cdef class BloomFilter:
     cdef int exchange(self, View *bits) except -1:
         cdef View before
         wait(<void *>self.lock)
-        if self.exports:
-            raise BufferError("memoryviews of the filter exist: release them first")
+        self.check_exports()
         before, self.bits = self.bits, bits[0]
         bits[0] = before
+        return 0
+
+    cdef int check_exports(self) except -1:
+        if self.exports:
+            raise BufferError("memoryviews of the filter exist: release them first")
         return 0
 
     cdef int begin(self, bint is_long) except -1:
@@ -242,15 +269,10 @@ cdef class BloomFilter:
         file from its bloom_filter_offset on: a header, and the bits. Bytes after them are ignored. Raises ValueError if
         the header is not that of a split block filter with XXH64, uncompressed, or if bits are missing."""
         cdef View memory
-        cdef uint64_t num_bytes = 0
         cdef size_t header
         get_bytes(data, &memory)
         try:
-            header = sketch_bloom_header_read(memory.buf, memory.len, &num_bytes)
-            if header == 0:
-                raise ValueError(
-                    "data does not begin with the whole header of an uncompressed split block Bloom filter with XXH64: "
-                    "it is at the column's bloom_filter_offset; from_bytes takes bits alone")
+            header, num_bytes = header_of(&memory)
             if num_bytes > memory.len - header:
                 raise ValueError(f"the filter is truncated: it has {num_bytes} bytes after its header, and here are "
                                  f"{memory.len - header}")
@@ -271,7 +293,7 @@ cdef class BloomFilter:
             buffer = memoryview(buffer)
             if buffer.format != "B":
                 refuse_addresses(buffer.format)
-        filter.hold(buffer)
+        filter.hold(buffer, True)
         return filter
 
     def release(self):
@@ -429,6 +451,56 @@ cdef class BloomFilter:
         filter.merge(other)
         return filter
 
+    def fold(self, error_rate=None):
+        """fold($self, error_rate=None)\n--\n\nMakes the filter half as large: it is then that of this size with the same
+        keys. Raises ValueError if its number of blocks of 32 bytes is odd. With an error rate, as 0.01, it is halved
+        while other keys are found at this rate at most, by the bits that are set, and may stay as it is. So create a
+        filter for all keys, and fold it once they are added. Raises TypeError for a view, and BufferError if memoryviews
+        exist."""
+        cdef double rate = 0.5 if error_rate is None else error_rate
+        check_rate(rate)
+        ratio = None if error_rate is None else rate.as_integer_ratio()
+        self.begin(True)
+        cdef bint has_exports = self.exports != 0, is_odd = self.bits.len % 64 != 0
+        try:  # no exception is made here: garbage would be collected, whose code may call the filter
+            if not (self.bits.buf is NULL or self.is_view or has_exports):
+                self.halve(ratio)
+        finally:
+            release(self.lock)
+        self.check(0)
+        if has_exports:
+            self.check_exports()
+        if self.is_view:
+            raise TypeError("a filter to fold must not be a view: copy() makes one that can be folded")
+        if is_odd and ratio is None:
+            raise ValueError(f"a filter to fold must have an even number of blocks, not {self.bits.len // 32}")
+        self.shrink()
+
+    cdef int halve(self, tuple ratio) except -1:
+        while self.bits.len % 64 == 0 and (ratio is None or self.may_halve(ratio)):
+            with nogil:
+                sketch_bloom_fold(self.bits.buf, self.bits.len)
+            self.bits.len //= 2
+            if ratio is None:
+                break
+        return 0
+
+    cdef bint may_halve(self, tuple ratio) except -1:
+        """Whether the rate of the next fold is at most this ratio. The numbers are exact."""
+        cdef uint64_t high = 0, low = 0
+        with nogil:
+            sum_rates(<uint64_t *>self.bits.buf, self.bits.len // 64, &high, &low)
+        return ((<object>high << 64) + low) * ratio[1] <= (ratio[0] * (self.bits.len // 64) << 40)
+
+    cdef int shrink(self) except -1:
+        """Gives memory back that a fold has left unused, if there is memory for the copy."""
+        wait(<void *>self.lock)
+        try:
+            self.hold(PyByteArray_FromStringAndSize(<char *>self.bits.buf, self.bits.len), False)
+        except (BufferError, MemoryError, ValueError):  # another thread has made a memoryview, or released the filter
+            pass
+        return 0
+
     def __eq__(self, other):
         """Whether both have the same bits."""
         if not isinstance(other, BloomFilter):
@@ -492,7 +564,7 @@ cdef BloomFilter duplicate(object kind, BloomFilter source):
     cdef BloomFilter filter = empty(kind)  # runs code that may change the source
     wait(<void *>source.lock)
     source.check(0)
-    filter.hold(PyByteArray_FromStringAndSize(<char *>source.bits.buf, source.bits.len))
+    filter.hold(PyByteArray_FromStringAndSize(<char *>source.bits.buf, source.bits.len), False)
     if kind is not BloomFilter:
         set_attributes(filter, attributes_of(source))
     return filter
@@ -523,10 +595,30 @@ cdef int clear(PyObject *filter) noexcept:
 (<Type *>BloomFilter).tp_clear = clear
 
 
-cdef object one_in_of(double rate):
-    """The smallest number whose reciprocal, as a float, is at most the error rate."""
+cdef void sum_rates(const uint64_t *words, size_t pairs, uint64_t *high, uint64_t *low) noexcept nogil:
+    """Adds how many of 2**40 other keys each block of the folded filter finds: the product of its words' set bits."""
+    cdef uint64_t found, both
+    cdef size_t i
+    cdef int j
+    for i in range(pairs):
+        found = 1
+        for j in range(4):
+            both = words[8 * i + j] | words[8 * i + 4 + j]
+            found *= __builtin_popcountll(<uint32_t>both) * __builtin_popcountll(both >> 32)
+        low[0] += found
+        if low[0] < found:
+            high[0] += 1
+
+
+cdef int check_rate(double rate) except -1:
     if not 0 < rate < 1:
         raise ValueError(f"error_rate is above 0 and below 1, as 0.01 for one key in a hundred, and not {rate}")
+    return 0
+
+
+cdef object one_in_of(double rate):
+    """The smallest number whose reciprocal, as a float, is at most the error rate."""
+    check_rate(rate)
     if rate < 2.0**-63:
         return 2**64 - 1
     one_in = round(1 / rate)
