@@ -39,6 +39,7 @@ int main(void) {
     same("the version", sketch_hash_version(), SKETCH_HASH_VERSION);
     verification_values();
     filter();
-    puts(faults ? "FAILED: these answers are not the published ones" : "OK: the answers are the published ones");
+    puts(faults ? "FAILED: these answers are not the published ones"
+                : "OK: the answers are the published ones");
     return faults != 0;
 }

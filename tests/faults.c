@@ -23,7 +23,8 @@ __attribute__((constructor)) static void begin(void) {
     if (!kind) return;
     at = atol(getenv("FAULT_AT"));
     all = getenv("FAULT_ALL") != NULL;
-    log_file = syscall(SYS_openat, AT_FDCWD, getenv("FAULT_LOG"), O_WRONLY | O_CREAT | O_TRUNC | O_CLOEXEC, 0600);
+    log_file = syscall(SYS_openat, AT_FDCWD, getenv("FAULT_LOG"),
+                       O_WRONLY | O_CREAT | O_TRUNC | O_CLOEXEC, 0600);
     fault = *kind;
 }
 
@@ -52,7 +53,9 @@ static ssize_t move(long call, int file, void *bytes, size_t count, char letter,
     return syscall(call, file, bytes, struck && count > 1 ? 1 : count);
 }
 
-ssize_t read(int file, void *bytes, size_t count) { return move(SYS_read, file, bytes, count, 'r', EINTR); }
+ssize_t read(int file, void *bytes, size_t count) {
+    return move(SYS_read, file, bytes, count, 'r', EINTR);
+}
 
 ssize_t write(int file, const void *bytes, size_t count) {
     return move(SYS_write, file, (void *)bytes, count, file == 1 ? 'o' : 'e', EIO);

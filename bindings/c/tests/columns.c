@@ -217,7 +217,8 @@ static void headers(void) {
          SKETCH_BLOOM_HEADER_MAX);
     same("a buffer that is too short", sketch_bloom_header_write(1024, input, 15), 0);
     same("no filter", sketch_bloom_header_write(1000, header, SKETCH_BLOOM_HEADER_MAX), 0);
-    same("2^31 bytes", sketch_bloom_header_write((uint64_t)1 << 31, header, SKETCH_BLOOM_HEADER_MAX), 0);
+    same("2^31 bytes",
+         sketch_bloom_header_write((uint64_t)1 << 31, header, SKETCH_BLOOM_HEADER_MAX), 0);
     memcpy(input, header_of_1024, 16);
     for (size_t length = 0; length < 16; length++)
         same("a truncated header", sketch_bloom_header_read(input, length, &bytes), 0);

@@ -10,6 +10,7 @@ __attribute__((used)) static long handle(EXCEPTION_POINTERS *exception, void *fr
     return EXCEPTION_EXECUTE_HANDLER;
 }
 
+/* clang-format off */
 __attribute__((noinline)) static int read_bad_pointer(const volatile int *values) {
     int a = values[0], b = values[1], c = values[2], d = values[3], e = values[4], f = values[5], g = values[6];
     uint64_t hash[2];
@@ -18,6 +19,7 @@ __attribute__((noinline)) static int read_bad_pointer(const volatile int *values
     __except1
     return a + b + c + d + e + f + g == 28;
 }
+/* clang-format on */
 
 int main(void) {
     static const volatile int values[] = {1, 2, 3, 4, 5, 6, 7};

@@ -12,6 +12,7 @@ CALLS
 #ifdef _WIN32
 #include <windows.h>
 
+/* clang-format off */
 /* A call must keep these registers. They are saved, set to the numbers in `before`, compared with them after the call, and
  * restored. saved[0] is the address that the call returns to. */
 __attribute__((aligned(16))) uint64_t saved[30], before[30], changed[2];
@@ -27,6 +28,7 @@ __asm__(".text\n" CALLS
         EACH_REGISTER("xor before + at(%rip), %\\r; or %\\r, changed(%rip); mov saved + at(%rip), %\\r",
                       "pxor before + at(%rip), %\\r; por changed(%rip), %\\r; movaps %\\r, changed(%rip); movaps saved + at(%rip), %\\r")
         "jmp *saved(%rip)\n");
+/* clang-format on */
 
 static void report(void) { puts(changed[0] | changed[1] ? "registers changed" : "registers kept"); }
 
@@ -49,9 +51,11 @@ __asm__(".text\n" CALLS);
 
 #define FIND(name, offset) (library == MAP_FAILED ? NULL : library + (offset))
 __attribute__((constructor)) static void load(void) {
-    char *library = mmap(NULL, CODE_SIZE, PROT_READ | PROT_EXEC, MAP_PRIVATE, open(LIBRARY, O_RDONLY), 0);
+    char *library =
+        mmap(NULL, CODE_SIZE, PROT_READ | PROT_EXEC, MAP_PRIVATE, open(LIBRARY, O_RDONLY), 0);
 #endif
 #undef X
-#define X(name, offset) if (!(at_##name = (void *)FIND(name, offset))) puts("no " #name), exit(1);
+#define X(name, offset)                                                                            \
+    if (!(at_##name = (void *)FIND(name, offset))) puts("no " #name), exit(1);
     CALLS
 }
