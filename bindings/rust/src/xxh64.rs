@@ -101,7 +101,9 @@ impl Xxh64 {
     #[inline]
     pub fn update(&mut self, input: &[u8]) {
         let Xxh64State { total, waiting, .. } = &mut self.state;
-        // The key of a map is short. It is copied here, and `digest` hashes it in one call.
+        // The key of a map is short. It is copied here, and `digest` hashes it in one call. By calls
+        // alone a look-up in a `HashMap` takes 2.5 to 3.9 times as long for numbers, and 1.7 to 1.9
+        // times for texts of 16 bytes.
         if *total < STRIPE && (input.len() as u64) < STRIPE - *total {
             waiting[*total as usize..][..input.len()].copy_from_slice(input);
             *total += input.len() as u64;
