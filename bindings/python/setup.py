@@ -67,9 +67,10 @@ setup(
         "Typing :: Typed",
     ],
     python_requires=">=3.9",
-    packages=["sketch_hash"],
+    packages=["sketch_hash", "sketch_hash.parquet"],
+    extras_require={"parquet": ["pyarrow", "thrift"]},
     package_dir={"": "src"},
-    package_data={"sketch_hash": ["py.typed", "*.pyi"]},
+    package_data={"sketch_hash": ["py.typed", "*.pyi"], "sketch_hash.parquet": ["*.pyi"]},
     entry_points={"console_scripts": ["sketch-hash = sketch_hash.__main__:command"]},
     ext_modules=cythonize(modules, build_dir="build", compiler_directives=directives),
 )

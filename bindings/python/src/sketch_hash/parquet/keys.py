@@ -1,0 +1,107 @@
+"""The bytes that a Parquet file stores for a value."""
+import datetime
+import decimal
+import numbers
+import operator
+import struct
+import uuid
+
+from .footer import BYTE_ARRAY, DOUBLE, FLOAT, INT32, INT64
+
+def keys_of(value, column):
+    """The keys of a value: two for zero as a float, none if the column cannot have the value."""
+    kind = column.kind
+    reason = kind.why_no_filter()
+    if reason:
+        raise TypeError(f"the column {column.name} must not be {reason}")
+    if value is None or isinstance(value, bool) or value != value:
+        raise TypeError(f"a value must not be a null, a NaN or a bool, as {value!r}")
+    try:
+        if kind.type in (FLOAT, DOUBLE):
+            return of_float(value, "<f" if kind.type == FLOAT else "<d")
+        if kind.name == "decimal":
+            return of_integer(unscaled(value, kind.scale), kind)
+        if kind.name in MOMENTS and kind.unit:
+            return of_integer(MOMENTS[kind.name](value, kind), kind)
+        if kind.type in (INT32, INT64):
+            return of_integer(operator.index(value), kind)
+        return of_bytes(value, kind)
+    except TypeError as error:
+        raise TypeError(f"a value of {type(value).__name__} cannot be in {column.name}: {error}") from None
+
+
+def of_float(value, format):
+    if not isinstance(value, numbers.Real):
+        raise TypeError("it must be a number")
+    try:
+        key = struct.pack(format, value)
+    except OverflowError:
+        return []
+    if struct.unpack(format, key)[0] != value:
+        return []
+    return [key] if value else [struct.pack(format, 0.0), struct.pack(format, -0.0)]
+
+
+def of_integer(number, kind):
+    if kind.type == BYTE_ARRAY:
+        raise TypeError("decimals in BYTE_ARRAY have several forms")
+    width, order = {INT32: (4, "little"), INT64: (8, "little")}.get(kind.type, (kind.length, "big"))
+    try:
+        return [] if number is None else [number.to_bytes(width, order, signed=not kind.is_unsigned)]
+    except OverflowError:
+        return []
+
+
+def of_bytes(value, kind):
+    if kind.name == "uuid" and isinstance(value, uuid.UUID):
+        value = value.bytes
+    elif isinstance(value, str) and kind.type == BYTE_ARRAY:
+        value = value.encode()
+    if not isinstance(value, bytes):
+        raise TypeError("it must be bytes" + (" or a str" if kind.type == BYTE_ARRAY else ""))
+    return [value] if kind.type == BYTE_ARRAY or len(value) == kind.length else []
+
+
+def unscaled(value, scale):
+    """The whole number that is stored for a decimal, or None. Arithmetic of decimals would round."""
+    if not isinstance(value, decimal.Decimal):
+        value = decimal.Decimal(operator.index(value))
+    sign, digits, exponent = value.as_tuple()
+    if not isinstance(exponent, int) or exponent + scale > 10**4:
+        return None
+    number = int("".join(map(str, digits))) * (-1 if sign else 1)
+    shift = exponent + scale
+    if shift >= 0:
+        return number * 10**shift
+    return None if number % 10**-shift else number // 10**-shift
+
+
+def days(value, kind):
+    if not isinstance(value, datetime.date) or isinstance(value, datetime.datetime):
+        raise TypeError("it must be a datetime.date")
+    return value.toordinal() - datetime.date(1970, 1, 1).toordinal()
+
+
+def in_unit(delta, value, kind):
+    """A pandas.Timestamp has nanoseconds that its arithmetic as a datetime hides."""
+    nanoseconds = delta // datetime.timedelta(microseconds=1) * 1000 + getattr(value, "nanosecond", 0)
+    return None if nanoseconds % kind.unit else nanoseconds // kind.unit
+
+
+def since_1970(value, kind):
+    if not isinstance(value, datetime.datetime) or (value.tzinfo is not None) != kind.is_utc:
+        raise TypeError(f"it must be a datetime.datetime {'with' if kind.is_utc else 'without'} a time zone")
+    epoch = datetime.datetime(1970, 1, 1, tzinfo=datetime.timezone.utc if kind.is_utc else None)
+    since = value - epoch
+    if hasattr(since, "to_pytimedelta"):  # of pandas
+        since = since.floor("us").to_pytimedelta()
+    return in_unit(since, value, kind)
+
+
+def since_midnight(value, kind):
+    if not isinstance(value, datetime.time) or value.tzinfo is not None:
+        raise TypeError("it must be a datetime.time without a time zone")
+    return in_unit(datetime.datetime.combine(datetime.date.min, value) - datetime.datetime.min, value, kind)
+
+
+MOMENTS = {"date": days, "timestamp": since_1970, "time": since_midnight}
