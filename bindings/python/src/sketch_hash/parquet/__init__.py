@@ -63,7 +63,7 @@ def check_columns(footer, columns, replace):
         if reason:
             raise ValueError(f"the column {column.name} must not be {reason}")
         if any(FILE_PATH in it for it in column.chunks):
-            raise ValueError(f"the column {column.name} must be in this file, not in {column.chunks[0][FILE_PATH][1]!r}")
+            raise ValueError(f"the column {column.name} must be in this file alone, not in those that the footer names")
         if any(OFFSET in it for it in column.metadata) and not replace:
             raise ValueError(f"the column {column.name} must not have filters, or replace=True")
 
