@@ -5,7 +5,7 @@ import shutil
 import subprocess
 
 import pytest
-from conftest import DIST
+from conftest import DIST, ROOT
 
 HERE = pathlib.Path(__file__).resolve().parent
 
@@ -42,7 +42,16 @@ def project(need, tmp_path):
 def test_program_of_the_page_prints_what_its_comments_say(project):
     (program,) = re.findall(r"^```js\n(.*?)^```", (DIST / "wasm/README.md").read_text(), re.M | re.S)
     (project / "page.mjs").write_text(program)
-    version = subprocess.check_output(["node", "--version"], text=True)
-    flags = ["--experimental-wasm-memory64"] if version < "v24" else []
+    major = int(re.match(r"v(\d+)", subprocess.check_output(["node", "--version"], text=True))[1])
+    flags = ["--experimental-wasm-memory64"] if major < 24 else []
     expected = [it.split(":")[0] for it in re.findall(r"^console\.log\(.*\); // (.*)$", program, re.M)]
     assert subprocess.check_output(["node", *flags, "page.mjs"], cwd=project, text=True).splitlines() == expected
+
+
+def test_the_page_explains_the_definitions_in_its_contracts():
+    page = (DIST / "wasm/index.html").read_text()
+    legend, contracts = re.search(r"<table>(.*?)</table>\n<pre>(.*?)</pre>", page, re.S).groups()
+    specs = "".join(it.read_text() for it in sorted(ROOT.glob("crates/*/specs/*.antt")))
+    defined = set(re.findall(r"^(?:abbrev|unfoldable) pub (\w+) :", specs, re.M))
+    explained = set(re.findall(r"\w+", "".join(re.findall(r"<th>(.*?)</th>", legend))))
+    assert set(re.findall(r"\w+", contracts)) & defined == explained & defined != set()
