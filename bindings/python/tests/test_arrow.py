@@ -1,5 +1,6 @@
 """Arrow arrays as columns: made by ctypes, with all that a producer may do, and by pyarrow where it is packaged."""
 import ctypes
+import decimal
 import errno
 import struct
 import subprocess
@@ -7,6 +8,10 @@ import subprocess
 import pytest
 from sketch_hash import BloomFilter, murmur3_x64_128_each, murmur3_x64_128_intdigest, xxh64_each, xxh64_intdigest
 from test_sharing import assert_releases_the_gil, ticks
+
+pytest.importorskip("thrift")
+from sketch_hash import parquet
+from sketch_hash.parquet.footer import Footer
 
 P, I64 = ctypes.c_void_p, ctypes.c_int64
 RELEASE, GET = ctypes.CFUNCTYPE(None, P), ctypes.CFUNCTYPE(ctypes.c_int, P, P)
@@ -147,7 +152,7 @@ def check(make, keys):
     assert BloomFilter(32).contains_each(make()).tolist() == [False] * len(keys)
     if len(there) < len(keys):
         for call in (xxh64_each, murmur3_x64_128_each):
-            with pytest.raises(ValueError, match=f"^the key at {keys.index(None)} must not be null: a null has no hash$"):
+            with pytest.raises(ValueError, match=f"^the key at {keys.index(None)} must not be null: a null has no"):
                 call(make())
     else:
         assert xxh64_each(make(), seed).tolist() == [xxh64_intdigest(key, seed) for key in keys]
@@ -228,9 +233,6 @@ def test_long_columns(producer):
     keys = [None if n % 7 == 3 else b"key %d" % n for n in range(10_000)]
     for kept in (keys, [key for key in keys if key]):
         check(lambda: producer.exported(producer.schema("u"), producer.array(len(kept), *buffers_of("u", kept))), kept)
-    bloom, left = BloomFilter(1024), lambda: producer.exported(
-        producer.schema("u"), producer.array(1000, *buffers_of("u", [b"x"] * 1000)))
-    assert bloom.contains_each(left()).tolist() == [False] * 1000
 
 
 CALLS = [xxh64_each, murmur3_x64_128_each, BloomFilter(32).add_each, BloomFilter(32).contains_each]
@@ -239,11 +241,11 @@ CALLS = [xxh64_each, murmur3_x64_128_each, BloomFilter(32).add_each, BloomFilter
 @pytest.mark.parametrize("format, text", [
     ("b", "bools, here 'b': Parquet has no Bloom filters of them"),
     ("tdm", "date64, here 'tdm': Parquet stores days: cast it to \"date32\""),
-    ("tts", "times in seconds.* cast it to \"time32.ms.\""), ("tss:UTC", "timestamps in seconds.* cast it to \"timestamp"),
+    ("tts", "times in seconds.* cast it to \"time32.ms.\""), ("tss:UTC", "timestamps in seconds.* to \"timestamp"),
     ("d:9,2", "decimals.* sketch_hash.parquet.add_filters reads them as they are stored"),
     ("+s", "structs.* pass one column of a table"), ("+l", "lists, maps or unions.* array.flatten"),
-    ("+r", "runs.* pyarrow.compute.run_end_decode"), ("tiM", "another type"), ("w:-1", "another type"), ("", "another type"),
-    ("w:99999999999", "another type"),
+    ("+r", "runs.* pyarrow.compute.run_end_decode"),
+    *((it, "another type") for it in ("tiM", "", "w:-1", "w:9999999999")),
 ])
 @pytest.mark.parametrize("is_coded", [False, True], ids=["values", "dictionary"])
 def test_another_type_is_an_error_with_the_cure(format, text, is_coded, producer):
@@ -316,7 +318,8 @@ def test_a_code_outside_its_dictionary_is_an_error(codes, producer):
 def test_a_stream_that_fails_is_an_error_and_nothing_added(schema, error, text, message, producer):
     bloom = BloomFilter(32)
     for call in (*CALLS, bloom.add_each):
-        made, chunks = (producer.schema(schema), [producer.array(1, *buffers_of("u", [b"fox"]))]) if schema else (None, [])
+        made = schema and producer.schema(schema)
+        chunks = [producer.array(1, *buffers_of("u", [b"fox"]))] if schema else []
         with pytest.raises(ValueError, match=f"^the Arrow stream failed: {message}$"):
             call(producer.streamed(made, *chunks, error=error, text=text))
     assert bloom == BloomFilter(32)
@@ -344,23 +347,27 @@ def test_the_methods_are_those_of_the_class():
             CALLS[0](keys)
 
 
-def test_a_column_in_the_memory_of_the_filter_is_an_error(producer):
-    memory = bytearray(64)
-    bloom, start = BloomFilter.view(memory), ctypes.addressof((ctypes.c_char * 64).from_buffer(memory))
-    for buffers in ([None, 8, 0], [None, 0, 8], [8, 0, 0]):
-        array = producer.array(1, *buffers_of("u", [b"fox"]))
-        places = (P * 3).from_address(array.buffers)
-        places[:] = [start + to if to else place for place, to in zip(places, buffers)]
-        if buffers[1]:
-            memory[8:16] = bytes(8)
-        is_empty = buffers[1]
-        if is_empty:
-            bloom.contains_each(producer.exported(producer.schema("u"), array))
-            array = producer.array(1, *buffers_of("u", [b"fox"]))
-            (P * 3).from_address(array.buffers)[1] = start + 8
+@pytest.mark.parametrize("format, buffer", [("u", 0), ("u", 1), ("u", 2), ("vu", 1), ("vu", 2), ("l", 1), ("w:3", 1)])
+def test_a_column_in_the_memory_of_the_filter_is_an_error(format, buffer, producer):
+    """All its buffers count, also those of a dictionary."""
+    memory = bytearray(1024)
+    bloom, start = BloomFilter.view(memory), ctypes.addressof((ctypes.c_char * 1024).from_buffer(memory))
+
+    def of_filter(producer):
+        buffers = buffers_of(format, values_of(format))
+        array = producer.array(20, *buffers)
+        memory[: len(buffers[buffer])] = buffers[buffer]
+        (P * len(buffers)).from_address(array.buffers)[buffer] = start
+        return array
+
+    coded = lambda: producer.exported(producer.schema("c", producer.inner.schema(format)),
+                                      producer.array(2, None, b"\0\1", dictionary=of_filter(producer.inner)))
+    for make in (coded, lambda: producer.exported(producer.schema(format), of_filter(producer))):
+        bloom.contains_each(make())
+        before = bytes(memory)
         with pytest.raises(ValueError, match="^the column is in the filter's own memory: pass a copy of it$"):
-            bloom.add_each(producer.exported(producer.schema("u"), array))
-    assert memory == bytes(64)
+            bloom.add_each(make())
+        assert memory == before
 
 
 def test_a_stream_may_wait_for_a_thread_that_needs_the_gil(need, tmp_path, ticks):
@@ -370,11 +377,10 @@ def test_a_stream_may_wait_for_a_thread_that_needs_the_gil(need, tmp_path, ticks
     slow = ctypes.CDLL(str(tmp_path / "slow.so")).slow
     producer = Producer()
 
+    no_text = ctypes.CFUNCTYPE(P, P)(lambda _: None)
+
     def call(_):
-        stream = producer.make(Stream, get_schema=ctypes.cast(slow, P),
-                               get_last_error=ctypes.cast(ctypes.CFUNCTYPE(P, P)(0), P))
-        producer.kept.append(no_text := ctypes.CFUNCTYPE(P, P)(lambda _: None))
-        stream.get_last_error = ctypes.cast(no_text, P)
+        stream = producer.make(Stream, get_schema=ctypes.cast(slow, P), get_last_error=ctypes.cast(no_text, P))
         with pytest.raises(ValueError, match="Input/output error"):
             xxh64_each(type("Slow", (), {"__arrow_c_stream__": lambda _: capsule(stream)})())
 
@@ -383,55 +389,53 @@ def test_a_stream_may_wait_for_a_thread_that_needs_the_gil(need, tmp_path, ticks
 
 # ---- Arrays of pyarrow
 
+TYPES = [
+    "int8", "uint8", "int16", "uint16", "int32", "uint32", "int64", "uint64", "float32", "float64", "date32",
+    "time32('ms')", "time64('us')", "time64('ns')", "timestamp('ms')", "timestamp('us', 'UTC')", "timestamp('ns')",
+    "duration('s')", "string", "large_string", "binary", "binary(4)", "dictionary",
+]
+
+
 @pytest.fixture
 def pa(need):
     need("python:pyarrow")
-    return __import__("pyarrow")
-
-
-def stored(value, type):
-    """The bytes of a value in a Parquet file."""
-    import pyarrow as pa
-    if pa.types.is_dictionary(type):
-        return stored(value, type.value_type)
-    if isinstance(value.as_py(), (str, bytes)):
-        text = value.as_py()
-        return text.encode() if isinstance(text, str) else text
-    if pa.types.is_floating(type):
-        return struct.pack({16: "<e", 32: "<f", 64: "<d"}[type.bit_width], value.as_py())
-    if type.bit_width == 32 and not pa.types.is_integer(type):
-        value, width = value.cast("int32"), 32
-    elif not pa.types.is_integer(type):
-        value, width = value.cast("int64"), 64
-    return struct.pack("<q", value.as_py() if value.as_py() < 2**63 else value.as_py() - 2**64)[: max(type.bit_width, 32) // 8]
-
-
-@pytest.mark.parametrize("name", [
-    "int8", "uint8", "int16", "uint16", "int32", "uint32", "int64", "uint64", "float16", "float32", "float64", "date32",
-    "time32('ms')", "time64('us')", "time64('ns')", "timestamp('ms')", "timestamp('us', 'UTC')", "timestamp('ns')",
-    "duration('us')", "string", "large_string", "string_view", "binary", "large_binary", "binary_view", "binary(4)",
-])
-@pytest.mark.parametrize("is_coded", [False, True], ids=["values", "dictionary"])
-def test_arrays_of_pyarrow(name, is_coded, pa):
-    type = eval(f"pa.{name}" + "()" * ("(" not in name))
-    values = ["fox%d" % i for i in range(10)] + ["fox", ""] if "string" in name or "binary" in name else range(12)
-    if name == "binary(4)":
-        values = [b"%4d" % i for i in range(12)]
-    if "float" in name or "date" in name or "time" in name:
-        whole = pa.array(values, "int32" if type.bit_width == 32 and "float" not in name else "int64")
-        plain = whole.cast("float64").cast(type) if "float" in name else whole.cast(type)
-    else:
-        plain = pa.array(values).cast(type)
-    mask = pa.array([i % 4 == 1 for i in range(12)])
     import pyarrow.compute
-    gaps = pyarrow.compute.if_else(mask, pa.scalar(None, type), plain) if "view" not in name else plain
-    for it in (plain, gaps):
-        if is_coded:
-            try:
-                it = it.dictionary_encode()
-            except pa.ArrowNotImplementedError:
-                return
-        keys = [stored(value, it.type) if value.is_valid else None for value in it]
+    import pyarrow.parquet
+    return pyarrow
+
+
+def column_of(pa, name, count=4000):
+    """Values with nulls, of which some are equal."""
+    rows = [None if i % 7 == 3 else i % 3000 for i in range(count)]
+    if name == "dictionary":
+        return column_of(pa, "string", count).dictionary_encode()
+    type = eval(f"pa.{name}" + "()" * ("(" not in name))
+    if "int" in name:
+        return pa.array([None if it is None else it % 2 ** (type.bit_width - 1) for it in rows], type)
+    if "string" in name or "binary" in name:
+        return pa.array([None if it is None else f"{it:04}" for it in rows]).cast("binary").cast(type)
+    if "decimal" in name:
+        return pa.array([None if it is None else decimal.Decimal(it) / 100 for it in rows], type)
+    if name == "date64":
+        return pa.array([None if it is None else it * 86_400_000 for it in rows], type)
+    return pa.array(rows, "int32" if type.bit_width == 32 and "float" not in name else "int64").cast(type)
+
+
+def stored(pa, values, path):
+    """The bytes of values in a Parquet file, as pyarrow reads them if it knows nothing of their types."""
+    formats = {"int32": "<i", "int64": "<q", "float": "<f", "double": "<d"}
+    pa.parquet.write_table(pa.table({"x": values}), path)
+    footer = Footer(open(path, "rb"))
+    arrays = [it for batches in parquet.stored_values(path, footer, footer.columns[0]) for it in batches]
+    return [value if value is None or isinstance(value, bytes) else struct.pack(formats[str(it.type)], value)
+            for it in arrays for value in it.to_pylist()]
+
+
+@pytest.mark.parametrize("name", [*TYPES, "float16", "string_view", "binary_view"])
+def test_a_value_of_pyarrow_is_a_key_as_parquet_stores_it(name, pa, tmp_path):
+    whole = column_of(pa, name, 40)
+    for it in (whole, whole[4:10]):  # the slice has no nulls
+        keys = stored(pa, it, tmp_path / "a")
         check(lambda: it, keys)
         check(lambda: it[3:9], keys[3:9])
         check(lambda: pa.chunked_array([it[:5], it[7:]]), keys[:5] + keys[7:])
@@ -442,8 +446,7 @@ def test_batches_of_pyarrow_are_slices(pa):
     bloom = BloomFilter(1024)
     for batch in table.to_batches(max_chunksize=6):
         bloom.add_each(batch["name"])
-    assert all(f"fox{i}" in bloom for i in range(20)) and bloom.contains_each(table["name"]).tolist() == [True] * 20
+    assert all(f"fox{i}" in bloom for i in range(20))
+    assert table.filter(pa.array(bloom.contains_each(table["name"]))).num_rows == 20
     with pytest.raises(TypeError, match="pass one column of a table"):
         bloom.add_each(table)
-    mask = pa.array(bloom.contains_each(table["name"]))
-    assert table.filter(mask).num_rows == 20

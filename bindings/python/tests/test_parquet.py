@@ -1,4 +1,4 @@
-"""Filters of Parquet files. data/ has two files of pyarrow 25: the tests that need pyarrow itself run where it is packaged."""
+"""Filters of Parquet files. data/ has two files of pyarrow 25; it is needed by the last tests alone."""
 import datetime
 import decimal
 import io
@@ -16,7 +16,7 @@ import uuid
 
 import pytest
 from sketch_hash import column
-from test_arrow import pa
+from test_arrow import TYPES, column_of, pa
 
 thrift = pytest.importorskip("thrift")
 from sketch_hash import parquet
@@ -35,8 +35,8 @@ def moment(**fields):
 VALUES = {
     "int8": lambda i: i - 12, "uint16": lambda i: 65535 - i, "int32": lambda i: i * 1000,
     "uint32": lambda i: 2**32 - 1 - i, "int64": lambda i: 2**40 + i, "uint64": lambda i: 2**64 - 1 - i,
-    "float": lambda i: i / 4, "double": lambda i: i / 10, "string": lambda i: f"fox {i}", "binary": lambda i: b"\xff%d" % i,
-    "fixed": lambda i: b"%04d" % i, "date": lambda i: DAY + datetime.timedelta(i),
+    "float": lambda i: i / 4, "double": lambda i: i / 10, "string": lambda i: f"fox {i}",
+    "binary": lambda i: b"\xff%d" % i, "fixed": lambda i: b"%04d" % i, "date": lambda i: DAY + datetime.timedelta(i),
     "time_ms": lambda i: datetime.time(1, 2, i, 3000), "time_us": lambda i: datetime.time(1, 2, 3, i),
     "ms": lambda i: moment(second=i), "us_utc": lambda i: moment(second=1, microsecond=i, tzinfo=UTC),
     "ns": lambda i: moment(second=1, microsecond=i), "decimal9": lambda i: decimal.Decimal(i) / 100,
@@ -77,9 +77,10 @@ def test_a_value_that_the_column_cannot_have_is_in_no_row_group(name, value):
 
 
 @pytest.mark.parametrize("name, value", [
-    ("int8", 5.0), ("int8", "5"), ("int8", None), ("int8", True), ("double", float("nan")), ("double", "1"), ("string", 5),
-    ("fixed", "0000"), ("date", moment()), ("date", 20000), ("ms", DAY), ("ms", moment(tzinfo=UTC)), ("us_utc", moment()),
-    ("time_us", moment()), ("uuid", "00"), ("decimal9", 0.5), ("decimal9", decimal.Decimal("nan")),
+    ("int8", 5.0), ("int8", "5"), ("int8", None), ("int8", True), ("double", float("nan")), ("double", "1"),
+    ("string", 5), ("fixed", "0000"), ("date", moment()), ("date", 20000), ("ms", DAY), ("ms", moment(tzinfo=UTC)),
+    ("us_utc", moment()), ("time_us", moment()), ("uuid", "00"), ("decimal9", 0.5),
+    ("decimal9", decimal.Decimal("nan")),
 ])
 def test_a_value_of_another_type_is_an_error(name, value):
     with pytest.raises(TypeError):
@@ -95,8 +96,8 @@ class Timestamp(datetime.datetime):
 
 
 def test_nanoseconds_of_pandas_count():
-    value = Timestamp(2026, 1, 1, 1, 1, 1, 3)
-    assert parquet.may_contain(FILTERS, "ns", value) == [] and 0 in parquet.may_contain(FILTERS, "ns", moment(second=1, microsecond=3))
+    assert parquet.may_contain(FILTERS, "ns", Timestamp(2026, 1, 1, 1, 1, 1, 3)) == []
+    assert 0 in parquet.may_contain(FILTERS, "ns", datetime.datetime(2026, 1, 1, 1, 1, 1, 3))
 
 
 @pytest.mark.parametrize("call, error, text", [
@@ -247,7 +248,7 @@ def test_a_footer_of_another_form_is_an_error(copy):
     with open(copy, "rb") as opened:
         footer = Footer(opened)
     copy.write_bytes(ODD.read_bytes()[:-8] + b"more" + (len(footer.data) + 4).to_bytes(4, "little") + b"PAR1")
-    with pytest.raises(ValueError, match="^the footer must be as Thrift writes it, so that all else in it stays as it is$"):
+    with pytest.raises(ValueError, match="^the footer must be as Thrift writes it, so that all else"):
         parquet.add_filters(copy, copy, ["plain"])
 
 
@@ -266,8 +267,9 @@ def test_an_error_while_values_are_read_leaves_the_target(copy, tmp_path, monkey
 
 
 def test_a_killed_run_leaves_the_target(copy, tmp_path):
-    code = "import os; from sketch_hash import parquet; import test_parquet; parquet.stored_values = test_parquet.texts;" \
-           f"parquet.set_place = lambda *_: os.kill(os.getpid(), 9); parquet.add_filters({str(copy)!r}, {str(copy)!r}, ['plain'])"
+    code = f"""import os, test_parquet; from sketch_hash import parquet
+parquet.stored_values, parquet.set_place = test_parquet.texts, lambda *_: os.kill(os.getpid(), 9)
+parquet.add_filters({str(copy)!r}, {str(copy)!r}, ["plain"])"""
     done = subprocess.run([sys.executable, "-c", code], env={**os.environ, "PYTHONPATH": os.pathsep.join(sys.path)})
     assert done.returncode == -signal.SIGKILL and copy.read_bytes() == ODD.read_bytes()
     assert sorted(it[:13] for it in os.listdir(tmp_path)) == [".sketch_hash-", "a.parquet"]
@@ -302,41 +304,18 @@ def test_the_command_reports_errors(args, status, text):
 
 # ---- With pyarrow and DuckDB
 
-TYPES = [
-    "int8", "uint8", "int16", "uint16", "int32", "uint32", "int64", "uint64", "float32", "float64", "string", "binary",
-    "large_string", "binary(4)", "date32", "date64", "time32('s')", "time32('ms')", "time64('us')", "time64('ns')",
-    "timestamp('s')", "timestamp('ms')", "timestamp('us', 'UTC')", "timestamp('ns')", "duration('s')",
-    "decimal128(9, 2)", "decimal128(18, 2)", "decimal128(30, 2)", "dictionary",
-]
+ALL_TYPES = [*TYPES, "date64", "time32('s')", "timestamp('s')", *(f"decimal128({it}, 2)" for it in (9, 18, 30))]
 OPTIONS = [
     {}, {"data_page_version": "2.0", "compression": "zstd"}, {"use_dictionary": False, "write_page_index": True},
-    {"version": "1.0", "coerce_timestamps": "ms", "allow_truncated_timestamps": True}, {"store_decimal_as_integer": True},
+    {"version": "1.0", "coerce_timestamps": "ms", "allow_truncated_timestamps": True},
+    {"store_decimal_as_integer": True},
 ]
 
 
-def column_of(pa, name):
-    """4,000 values with nulls, of which some are equal."""
-    rows = [None if i % 7 == 3 else i % 3000 for i in range(4000)]
-    if name == "dictionary":
-        return column_of(pa, "string").dictionary_encode()
-    type = eval(f"pa.{name}" + "()" * ("(" not in name))
-    if "int" in name:
-        return pa.array([None if it is None else it % 2 ** (type.bit_width - 1) for it in rows], type)
-    if "string" in name or name == "binary":
-        return pa.array([None if it is None else f"fox {it}" for it in rows]).cast(type)
-    if name == "binary(4)":
-        return pa.array([None if it is None else b"%04d" % it for it in rows], type)
-    if "decimal" in name:
-        return pa.array([None if it is None else decimal.Decimal(it) / 100 for it in rows], type)
-    if "date64" in name:
-        return pa.array([None if it is None else it * 86_400_000 for it in rows], type)
-    return pa.array(rows, "int32" if type.bit_width == 32 and "float" not in name else "int64").cast(type)
-
-
-@pytest.mark.parametrize("name", TYPES)
+@pytest.mark.parametrize("name", ALL_TYPES)
 def test_filters_are_those_of_pyarrow(name, pa, tmp_path):
-    import pyarrow.parquet
-    table, plain, ours, theirs = pa.table({"x": column_of(pa, name)}), *(tmp_path / it for it in ("plain", "ours", "theirs"))
+    table = pa.table({"x": column_of(pa, name)})
+    plain, ours, theirs = (tmp_path / it for it in ("plain", "ours", "theirs"))
     for options in OPTIONS:
         pa.parquet.write_table(table, plain, row_group_size=1500, **options)
         options = {**options, "bloom_filter_options": {"x": {"ndv": 1500, "fpp": 0.01}}}
@@ -352,7 +331,6 @@ def test_filters_are_those_of_pyarrow(name, pa, tmp_path):
 
 
 def test_nested_columns_have_filters_of_their_values(pa, tmp_path):
-    import pyarrow.parquet
     rows = [None if i % 5 == 2 else [{"a": i, "m": [(str(i), None if i % 3 else i)]}] * (i % 3) for i in range(100)]
     type = pa.list_(pa.struct([("a", pa.int32()), ("m", pa.map_(pa.string(), pa.int64()))]))
     table = pa.table({"x": pa.array(rows, type)})
@@ -364,7 +342,8 @@ def test_nested_columns_have_filters_of_their_values(pa, tmp_path):
     for i in range(100):
         if i % 5 != 2 and i % 3:
             values = [i, str(i), *[i] * (i % 3 == 0)]
-            assert all(i // 40 in parquet.may_contain(tmp_path / "a", name, value) for name, value in zip(names, values))
+            found = [parquet.may_contain(tmp_path / "a", name, value) for name, value in zip(names, values)]
+            assert all(i // 40 in groups for groups in found)
 
 
 def test_the_command_adds_and_checks(pa, tmp_path):
@@ -390,8 +369,7 @@ def duckdb(folder, *queries):
 
 def test_duckdb_finds_the_same_rows_and_prunes(need, pa, tmp_path):
     need("duckdb")
-    import pyarrow.parquet
-    names = [it for it in TYPES if it not in ("binary", "binary(4)", "date64", "duration('s')")]
+    names = [it for it in ALL_TYPES if it not in ("binary", "binary(4)", "date64", "duration('s')")]
     table = pa.table({f"c{i}": column_of(pa, it) for i, it in enumerate(names)})
     pa.parquet.write_table(table, tmp_path / "plain.parquet", row_group_size=700, write_statistics=False)
     parquet.add_filters(tmp_path / "plain.parquet", tmp_path / "filters.parquet", table.column_names)
@@ -401,12 +379,13 @@ def test_duckdb_finds_the_same_rows_and_prunes(need, pa, tmp_path):
     assert "none" not in values
     asked = [f"select count(*) from '{{0}}' where {name} = '{value}'"
              for i, name in enumerate(table.column_names) for value in values[3 * i : 3 * i + 3]]
-    plain, filtered = (duckdb(tmp_path, *(it.format(file) for it in asked)) for file in ("plain.parquet", "filters.parquet"))
+    plain = duckdb(tmp_path, *(it.format("plain.parquet") for it in asked))
+    filtered = duckdb(tmp_path, *(it.format("filters.parquet") for it in asked))
     assert filtered == plain and "0" not in plain
 
     probe = "select bloom_filter_excludes from parquet_bloom_probe('filters.parquet', '{}', {})"
     for name, type, value in ((f"c{i}", it, v) for i, it in enumerate(names)
-                              for v in (5, 99999, "fox 7", "dog") if (it == "string") == isinstance(v, str)):
+                              for v in (5, 99999, "0007", "dog") if (it == "string") == isinstance(v, str)):
         if type in ("int32", "int64", "string"):
             excluded = duckdb(tmp_path, probe.format(name, repr(value)))
             groups = parquet.may_contain(tmp_path / "filters.parquet", name, value)

@@ -8,8 +8,9 @@ from libc.stdint cimport uint32_t, uint64_t, uintptr_t
 from libc.string cimport memcpy, memset
 
 from ._columns cimport (
-    ARROW, HASHES, LONG, NUMBERS32, NUMBERS64, OFFSETS32, OFFSETS64, Column, Lock, PyBuffer_Release, PyObject_GetBuffer, View,
-    acquire, attributes_of, check_offsets, get_bytes, refuse_addresses, release, set_attributes, wait, word_of,
+    ARROW, HASHES, LONG, NUMBERS32, NUMBERS64, OFFSETS32, OFFSETS64, Column, Lock, PyBuffer_Release,
+    PyObject_GetBuffer, View, acquire, attributes_of, check_offsets, get_bytes, refuse_addresses, release,
+    set_attributes, wait, word_of,
 )
 from ._library cimport *
 
@@ -55,8 +56,8 @@ cdef type bytes_like = bytearray  # the type of the last key that was a row: to 
 
 
 cdef bint is_row(object key) except -1:
-    """Whether it is not a scalar of numpy: a number or date, whose bytes in a Parquet file may be others. The buffer of a
-    date has one dimension, but not the date."""
+    """Whether it is not a scalar of numpy: a number or date, whose bytes in a Parquet file may be others. The buffer of
+    a date has one dimension, but not the date."""
     global bytes_like
     if getattr(key, "ndim", 1) == 0:
         return False
@@ -452,11 +453,11 @@ cdef class BloomFilter:
         return filter
 
     def fold(self, error_rate=None):
-        """fold($self, error_rate=None)\n--\n\nMakes the filter half as large: it is then that of this size with the same
-        keys. Raises ValueError if its number of blocks of 32 bytes is odd. With an error rate, as 0.01, it is halved
-        while other keys are found at this rate at most, by the bits that are set, and may stay as it is. So create a
-        filter for all keys, and fold it once they are added. Raises TypeError for a view, and BufferError if memoryviews
-        exist."""
+        """fold($self, error_rate=None)\n--\n\nMakes the filter half as large: it is then that of this size with the
+        same keys. Raises ValueError if its number of blocks of 32 bytes is odd. With an error rate, as 0.01, it is
+        halved while other keys are found at this rate at most, by the bits that are set, and may stay as it is. So
+        create a filter for all keys, and fold it once they are added. Raises TypeError for a view, and BufferError if
+        memoryviews exist."""
         cdef double rate = 0.5 if error_rate is None else error_rate
         check_rate(rate)
         ratio = None if error_rate is None else rate.as_integer_ratio()
@@ -490,7 +491,7 @@ cdef class BloomFilter:
         cdef uint64_t high = 0, low = 0
         with nogil:
             sum_rates(<uint64_t *>self.bits.buf, self.bits.len // 64, &high, &low)
-        return ((<object>high << 64) + low) * ratio[1] <= (ratio[0] * (self.bits.len // 64) << 40)
+        return (<object>high * 2**64 + low) * ratio[1] <= ratio[0] * (self.bits.len // 64) * 2**40
 
     cdef int shrink(self) except -1:
         """Gives memory back that a fold has left unused, if there is memory for the copy."""

@@ -263,8 +263,8 @@ def murmur3_x64_128_each(keys, seed=0):
     """murmur3_x64_128_each(keys, seed=0)\n--\n\nReturns MurmurHash3 x64 128 of each key of a column, as a memoryview of
     whole numbers, two for a key.
 
-    The keys are a pair of bytes and offsets, or of Arrow, as xxh64_each takes them. The words of key i are at 2 * i and 2 * i + 1:
-    numpy.asarray(hashes).reshape(-1, 2) has a row for a key.
+    The keys are a pair of bytes and offsets, or of Arrow, as xxh64_each takes them. The words of key i are at 2 * i and
+    2 * i + 1: numpy.asarray(hashes).reshape(-1, 2) has a row for a key.
     """
     return hashes_of(Column(keys, None), hash_murmur, seed, 16)
 

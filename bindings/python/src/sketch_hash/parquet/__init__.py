@@ -11,9 +11,9 @@ import tempfile
 from .. import BloomFilter, xxh64_intdigest
 from .._bloom import parquet_header
 from .footer import (
-    ALL_ROWS, BYTE_SIZE, CHILDREN, COLUMNS, CREATED_BY, ENCRYPTION, FILE_OFFSET, FILE_PATH, LENGTH, METADATA, NAME, OFFSET,
-    REPETITION, ROW_GROUPS, ROWS, SCHEMA, STATISTICS, TYPE, TYPE_LENGTH, VALUES, VERSION, Footer, TType, damage, get,
-    serialize,
+    ALL_ROWS, BYTE_SIZE, CHILDREN, COLUMNS, CREATED_BY, ENCRYPTION, FILE_OFFSET, FILE_PATH, LENGTH, METADATA, NAME,
+    OFFSET, REPETITION, ROW_GROUPS, ROWS, SCHEMA, STATISTICS, TYPE, TYPE_LENGTH, VALUES, VERSION, Footer, TType, damage,
+    get, serialize,
 )
 from .keys import keys_of
 
@@ -22,17 +22,19 @@ HEADER_MAX = 19
 
 
 def add_filters(source, target, columns, *, error_rate=0.01, replace=False):
-    """Writes the Parquet file `source` to `target`, which may be the same, with a filter for each row group of the columns.
+    """Writes the Parquet file `source` to `target`, which may be the same, with filters for each row group.
 
-    All before the footer is copied as it is; in the footer only the places of the filters change. The filter of a
-    nested column is of all its values, and its name is "a.b". Returns how many bytes the filters have. Raises ValueError
-    if a column has filters, unless they are to be replaced, and if the footer is encrypted or signed. A target is whole
-    at any time: it is written beside, as .sketch_hash-.., and then renamed.
+    columns is a list of names; that of a nested column is "a.b". All before the footer is copied as it is; in the
+    footer only the places of the filters change. Returns how many bytes the filters have. Raises ValueError if a column
+    has filters, unless they are to be replaced, and if the footer is encrypted or signed. A target is whole at any
+    time: it is written beside, as .sketch_hash-.., and then renamed.
     """
     return add(source, target, columns, error_rate, replace, lambda steps, count: steps)
 
 
 def add(source, target, columns, error_rate, replace, bar):
+    if isinstance(columns, str):
+        raise TypeError("columns must be a list of names, not one name")
     with open(source, "rb") as file:
         footer = Footer(file)
         chosen = [footer.column(name) for name in columns]
@@ -71,7 +73,7 @@ def check_columns(footer, columns, replace):
 def new_filters(source, footer, columns, error_rate):
     for column in columns:
         for metadata, batches in zip(column.metadata, stored_values(source, footer, column)):
-            filter = BloomFilter.for_keys(max(get(metadata, VALUES, TType.I64), 1), error_rate=error_rate)
+            filter = BloomFilter.for_keys(max(get(metadata, VALUES, TType.I64) or 1, 1), error_rate=error_rate)
             for batch in batches:
                 filter.add_each(batch)
             filter.fold(error_rate)
@@ -203,11 +205,10 @@ def read_filter(file, row_group, column):
 
 
 def may_contain(file, column, value):
-    """The row groups that may have a value in a column, so also those without a filter. Of a filter a header and one block
-    are read.
+    """The row groups that may have a value in a column, so also those without a filter.
 
-    The value is that of pyarrow: a str, bytes, a number, a date, time or datetime, a Decimal, a UUID. A value that the
-    column cannot have, such as 2**40 in INT32, is in no row group.
+    A header and one block of each filter are read. The value is that of pyarrow: a str, bytes, a number, a date, time
+    or datetime, a Decimal, a UUID. A value that the column cannot have, such as 2**40 in INT32, is in no row group.
     """
     with opened(file) as (file, footer):
         column = footer.column(column)
@@ -226,8 +227,10 @@ def may_have(file, place, hash):
 
 
 def check_filters(file):
-    """Reads all values of the columns that have filters. Raises ValueError if a filter lacks one. Returns how many filters
-    there are."""
+    """Reads all values of the columns that have filters. Raises ValueError if a filter lacks one.
+
+    Returns how many filters there are.
+    """
     return check(file, lambda steps, count: steps)
 
 

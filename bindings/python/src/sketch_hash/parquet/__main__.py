@@ -9,7 +9,7 @@ def main():
     parser = argparse.ArgumentParser(prog="python -m sketch_hash.parquet", description=__doc__)
     commands = parser.add_subparsers(dest="command", required=True)
     adds = commands.add_parser("add", help="adds filters to files, in place or to another one")
-    adds.add_argument("-c", "--column", action="append", required=True, help="its name, as id or address.city; repeat it")
+    adds.add_argument("-c", "--column", action="append", required=True, help="as id or address.city; may be repeated")
     adds.add_argument("-e", "--error-rate", type=float, default=0.01, help="0.01 if left out")
     adds.add_argument("-o", "--output", help="the file to write, if there is one FILE")
     adds.add_argument("--replace", action="store_true", help="replaces filters that a file has")

@@ -1,4 +1,4 @@
-"""The footer of a Parquet file: a tree of all that is in it, by Apache Thrift's library, and the columns in the tree."""
+"""The footer of a Parquet file: a tree of all that is in it, by Apache Thrift's library, and its columns."""
 import contextlib
 import os
 
@@ -109,8 +109,8 @@ def leaf_paths(elements):
 BOOLEAN, INT32, INT64, INT96, FLOAT, DOUBLE, BYTE_ARRAY, FIXED = range(8)
 MILLIS, MICROS, NANOS = 10**6, 10**3, 1  # in nanoseconds
 # The types that readers know by annotations: of LogicalType, and of the older ConvertedType.
-NAMES = {1: "text", 4: "text", 5: "decimal", 6: "date", 7: "time", 8: "timestamp", 10: "integer", 12: "text", 13: "text",
-         14: "uuid", 15: "float16"}
+NAMES = {1: "text", 4: "text", 5: "decimal", 6: "date", 7: "time", 8: "timestamp", 10: "integer", 12: "text",
+         13: "text", 14: "uuid", 15: "float16"}
 OLD = {0: "text", 4: "text", 5: "decimal", 6: "date", 7: "time", 8: "time", 9: "timestamp", 10: "timestamp",
        19: "text", 20: "text", **dict.fromkeys(range(11, 19), "integer")}
 
@@ -192,6 +192,6 @@ def damage():
     """Thrift's library raises all these for bytes that are no footer."""
     try:
         yield
-    except (ArithmeticError, AssertionError, AttributeError, EOFError, LookupError, RecursionError, TException, TypeError,
-            ValueError) as error:
+    except (ArithmeticError, AssertionError, AttributeError, EOFError, LookupError, RecursionError, TException,
+            TypeError, ValueError) as error:
         raise ValueError(f"the footer is damaged: {error or type(error).__name__}") from error
