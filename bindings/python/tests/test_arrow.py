@@ -9,10 +9,6 @@ import pytest
 from sketch_hash import BloomFilter, murmur3_x64_128_each, murmur3_x64_128_intdigest, xxh64_each, xxh64_intdigest
 from test_sharing import assert_releases_the_gil, ticks
 
-pytest.importorskip("thrift")
-from sketch_hash import parquet
-from sketch_hash.parquet.footer import Footer
-
 P, I64 = ctypes.c_void_p, ctypes.c_int64
 RELEASE, GET = ctypes.CFUNCTYPE(None, P), ctypes.CFUNCTYPE(ctypes.c_int, P, P)
 
@@ -423,6 +419,8 @@ def column_of(pa, name, count=4000):
 
 def stored(pa, values, path):
     """The bytes of values in a Parquet file, as pyarrow reads them if it knows nothing of their types."""
+    from sketch_hash import parquet
+    from sketch_hash.parquet.footer import Footer
     formats = {"int32": "<i", "int64": "<q", "float": "<f", "double": "<d"}
     pa.parquet.write_table(pa.table({"x": values}), path)
     footer = Footer(open(path, "rb"))
