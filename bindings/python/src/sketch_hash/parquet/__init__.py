@@ -37,19 +37,17 @@ def add(source, target, columns, error_rate, replace, bar):
         raise TypeError("columns must be a list of names, not one name")
     with open(source, "rb") as file:
         footer = Footer(file)
-        chosen = [footer.column(name) for name in columns]
-        check_columns(footer, chosen, replace)
-        steps = new_filters(source, footer, chosen, error_rate)
-        place = footer.start
-        with replaced(source, target) as output:
-            file.seek(0)
-            copy_bytes(file, output, footer.start)
-            for metadata, filter in bar(steps, len(chosen) * len(footer.groups)):
-                data = filter.to_parquet()
-                output.write(data)
-                set_place(metadata, place, len(data))
-                place += len(data)
-            output.write(end_of(footer.fields))
+    chosen = [footer.column(name) for name in columns]
+    check_columns(footer, chosen, replace)
+    steps = new_filters(source, footer, chosen, error_rate)
+    place = footer.start
+    with replaced(source, target, footer.start) as output:
+        for metadata, filter in bar(steps, len(chosen) * len(footer.groups)):
+            data = filter.to_parquet()
+            output.write(data)
+            set_place(metadata, place, len(data))
+            place += len(data)
+        output.write(end_of(footer.fields))
     return place - footer.start
 
 
@@ -132,13 +130,19 @@ def leaf_values(batch):
 
 
 @contextlib.contextmanager
-def replaced(source, target):
-    """A new file, which replaces the target once it is written and synced. It gets the source's mode."""
+def replaced(source, target, length):
+    """A copy of so many bytes of the source, which replaces the target once more is written, and synced. It gets the
+    source's mode."""
     target = os.path.realpath(target)
     folder = os.path.dirname(target)
     number, path = tempfile.mkstemp(prefix=".sketch_hash-", dir=folder)
     try:
-        with open(number, "wb") as output:
+        with open(number, "r+b") as output:
+            shutil.copyfile(source, path)  # by the system's own call, where there is one
+            if os.path.getsize(path) < length:
+                raise ValueError("the file must not change while it is read")
+            output.truncate(length)
+            output.seek(length)
             yield output
             output.flush()
             os.fsync(output.fileno())
@@ -151,15 +155,6 @@ def replaced(source, target):
         folder = os.open(folder, os.O_RDONLY)
         os.fsync(folder)
         os.close(folder)
-
-
-def copy_bytes(source, target, count):
-    while count:
-        data = source.read(min(count, 1 << 20))
-        if not data:
-            raise ValueError("the file must not change while it is read")
-        target.write(data)
-        count -= len(data)
 
 
 @contextlib.contextmanager
