@@ -19,8 +19,10 @@ one_more : (hash : ℕ) (filter hashes : List ℕ) → length filter ≡ 1024 �
     StandsFor filter hashes → StandsFor (with_value hash filter) (hashes ++ hash ∷ [])
 one_more hash filter hashes size inside =
     let blocks : length filter / 32 ≡ 32 = omega arith in
+    let start = block_of 32 hash * 32 in
+    let mask = bytes_of hash in
     insert_law.one_more filter (with_value hash filter) hash hashes
-    (inserted hash (block_of 32 hash * 32) (bytes_of hash) filter (rw blocks refl) (omega arith) refl (mask_bits hash))
+    (inserted hash start mask filter (rw blocks refl) (omega arith) refl (mask_bits hash))
 
 pub filter_answer : FilterAnswer
 unfolding xor_below xor rotate pieces rest round steps eight_step four_step byte_step tail_step avalanche

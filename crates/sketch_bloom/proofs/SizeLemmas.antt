@@ -32,6 +32,10 @@ add_units : (sum more unit factor : ℕ) → 0 < unit →
 add_units sum more unit factor positive =
     rw (← div-div-eq-div-mul (sum + more * unit) unit factor, add-mul-div_right sum more positive) refl
 
+quotient : (more unit factor : ℕ) → 0 < unit → more * unit / (unit * factor) ≡ more / factor
+quotient more unit factor positive =
+    rw (← div-div-eq-div-mul (more * unit) unit factor, mul-div_cancel more positive) refl
+
 module _ {keys log2_blocks k units all found clear_now : ℕ}
     (before : Reached keys log2_blocks k units all found clear_now) where
   abbrev pub next : ℕ
@@ -59,9 +63,7 @@ module _ {keys log2_blocks k units all found clear_now : ℕ}
       let share = covered (suc k) in
       let product : next * unit * share ≡ next * share * unit = grind arith in
       record {
-        units_are =
-            rw (unit_is, parts_are, ← div-div-eq-div-mul (next * unit) unit (growth next), mul-div_cancel next positive)
-            refl;
+        units_are = rw (unit_is, parts_are) (sym (quotient next unit (growth next) positive));
         all_is = rw (unit_is, parts_are, before.all_is)
             (sym (add_units (all_to keys log2_blocks k) next unit (growth next) positive));
         found_is = rw (unit_is, parts_are, before.found_is, before.clear_is, product)

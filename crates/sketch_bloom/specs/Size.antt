@@ -2,8 +2,8 @@
 --
 -- A filter of z = 2 ^ log2_blocks blocks has n values. A block has k of them with a probability in
 -- proportion to w(k) = n^k / (z^k k!), as the law of Poisson says. Another value's bit of a word is
--- then set with probability 1 - (31/32)^k, and its eight bits are set with the eighth power of that,
--- c(k). So the false positive rate is the sum of w(k) c(k), divided by the sum of w(k).
+-- then set with probability 1 - (31/32)^k, and its eight bits with the eighth power of that, c(k).
+-- So the false positive rate is the sum of w(k) c(k), divided by the sum of w(k).
 --
 -- Both sums have 384 terms here, and are of integers: each division rounds down. With at most 128
 -- values a block, later terms are too small to count.
@@ -30,8 +30,8 @@ pub record Weight : Type 0 where
   pub parts : ℕ
   pub unit : ℕ
 
--- The next weight, in units: times n / z / (k + 1). A weight of 2 ^ 48 units or more is exact enough
--- in units that are 2 ^ 8 times as large.
+-- The next weight, in units: times n / z / (k + 1). If it has 2 ^ 48 units or more, units that are
+-- 2 ^ 8 times as large are exact enough.
 abbrev pub next_units : ℕ → ℕ → ℕ → Weight → ℕ
 next_units keys log2_blocks k w = w.parts / w.unit * keys / 2 ^ log2_blocks / suc k
 

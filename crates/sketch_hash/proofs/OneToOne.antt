@@ -1,4 +1,5 @@
--- Functions that take each value exactly once: composed, in a part of a pair, along a list, and undone by another.
+-- Functions that take each value exactly once: composed, in a part of a pair, along a list, or undone by
+-- another function.
 use Rattle.std.proofs.Common.{◌≡◌, List, [], ◌∷◌, Bool, true, false, cond, refl, sym, ap, ◌∙◌}
 use Rattle.std.specs.List.{All, fold}
 use Rattle.std.proofs.lemmas.List.Elements.{All-head, All-tail}

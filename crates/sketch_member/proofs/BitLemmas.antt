@@ -78,10 +78,8 @@ set_bytes xs i k place low within bytes = rw low (elim (cases_eq k (i / 8)) [
 pub ruleset for_set = (low_three, set_only, set_too, set_bytes)
 
 -- the low bits of a word
-pub low_bits : (word n : ℕ) → n < 64 → bit_and word (1 * 2 ^ n % 2 ^ 64 - 1) ≡ word % 2 ^ n
-low_bits word n few = rw (one_shl n 64 few) (and_mask word n)
-
-pub ruleset for_index = (low_bits)
+pub and_low : (word n : ℕ) → n < 64 → bit_and word (1 * 2 ^ n % 2 ^ 64 - 1) ≡ word % 2 ^ n
+and_low word n few = rw (one_shl n 64 few) (and_mask word n)
 
 -- no bit is set in zeros
 pub zeros-get : (n k : ℕ) → get_or (replicate {A = ℕ} n 0) k 0 ≡ 0

@@ -108,7 +108,7 @@ impl Filter {
 
     // The value's index number `j`. `word` is the number whose eight bytes the value feeds, if it
     // feeds those of one number.
-    #[tactic(auto, unfolding(crate::specs::Table::index), using(crate::proofs::BitLemmas::for_index))]
+    #[tactic(auto, unfolding(crate::specs::Table::index), using(crate::proofs::BitLemmas::and_low))]
     fn index<T: Hash>(&self, value: &T, word: Option<u64>, j: u8) -> usize
         requires word { IfSome word (λ n. T.fed value.now ≡ eight n) }
         requires size { IsLog2Bits self.now.log2_bits }

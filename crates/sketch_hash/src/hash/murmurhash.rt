@@ -200,8 +200,8 @@ impl Hasher for MurmurHash3X64128 {
         }
     }
 
-    /// The first word of [`MurmurHash3X64128::finish128`]. Inputs whose pairs differ can share it: the
-    /// laws of collisions are about pairs.
+    /// The first word of [`MurmurHash3X64128::finish128`]. Inputs whose pairs differ can share it,
+    /// since the laws of collisions are about pairs.
     #[inline(always)]
     fn finish(&self) -> u64
         ensures answer { result ≡ (murmur_answer self.now).0 }

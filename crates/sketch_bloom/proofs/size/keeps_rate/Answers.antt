@@ -18,7 +18,8 @@ loop-k-preserved c =
     let (last, k_is, before) = c.loop-k.invariant.4 in
     let next = rw k_is at c.next_weight-weight.ensures.value in
     let share = c.from-in-loop-k.ensures ∙ c.covered.ensures.value in
-    let product = mul-le c.from.result c.from-in-loop-k.result (2 ^ 55) (2 ^ 60) (omega arith) (omega arith) in
+    let parts = c.from-in-loop-k.result in
+    let product = mul-le c.from.result parts (2 ^ 55) (2 ^ 60) (omega arith) (omega arith) in
     let suc_is : c.loop-k.k + 1 ≡ suc (suc last) = omega arith in
     elim c.if-weight-gt0.branch [
       | then-weight-gt0 w ↦ (
