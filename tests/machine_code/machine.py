@@ -1,0 +1,147 @@
+"""What the two processors have in common: memory, conditions, and a run from a call to its return."""
+import functools
+
+from values import (Stop, add, bitwise, complement, cut, extend, is_below, is_zero, join, known, linear, number, number_in,
+                    range_of, show, signed, sub, unknown, width_of)
+
+CALLER = number(0xCA11E4)  # where a call returns to
+STACK = 4096  # how much of it a call may use
+OPPOSITE = {"ne": "e", "ae": "b", "a": "be", "ns": "s"}
+
+
+class Undecided(Stop):
+    """A branch that is taken if a value is 0, which depends on an unknown."""
+
+    def __init__(self, value):
+        super().__init__(f"a branch depends on an unknown: whether this is 0: {show(value)}")
+        self.value = value
+
+
+@functools.cache
+def place_of(address):
+    """An address as what it is relative to, and an offset."""
+    n, factors = linear(address)
+    return tuple(sorted(factors.items())), signed(n)
+
+
+class Machine:
+    """One call. A subclass has the registers and the instructions of a processor."""
+
+    def __init__(self, library):
+        self.library, self.registers, self.bytes, self.writable = library, {}, {}, set()
+        self.flags, self.next, self.executed = None, None, []
+        self.stack = extend(unknown("stack", 62, 1 << 20))
+        self.set_up()
+
+    def map(self, address, values, writable=False):
+        """Memory with these values, each of some bytes."""
+        base, at = place_of(address)
+        for value in values:
+            for i in range(width_of(value) // 8):
+                self.bytes[base, at] = value, 8 * i
+                if writable:
+                    self.writable.add((base, at))
+                at += 1
+
+    def byte(self, base, at):
+        """A value and the bit of it from which on it has this byte."""
+        if base == place_of(self.stack)[0] and at < self.end_of_stack():
+            raise Stop("a read below the stack")
+        if (base, at) in self.bytes:
+            return self.bytes[base, at]
+        offset = self.library.offset_of(at) if not base else None
+        if offset is None:
+            raise Stop("a read outside of what the call is given")
+        return number(self.library.data[offset], 8), 0
+
+    def load(self, address, size):
+        (base, start), parts = place_of(address), []
+        for at in range(start, start + size):
+            value, bit = self.byte(base, at)
+            if parts and parts[-1][0] is value and parts[-1][1] + parts[-1][2] == bit:
+                parts[-1][2] += 8
+            else:
+                parts.append([value, bit, 8])
+        return join(*(cut(*part) for part in parts))
+
+    def store(self, address, value):
+        (base, start), of_stack = place_of(address), place_of(self.stack)[0]
+        for i in range(width_of(value) // 8):
+            at = base, start + i
+            if at not in self.writable and not (base == of_stack and self.end_of_stack() <= at[1] < 0):
+                raise Stop("a write outside of what the call is given")
+            self.bytes[at] = value, 8 * i
+
+    def end_of_stack(self):
+        base, at = place_of(self.registers[self.pointer])
+        if base != place_of(self.stack)[0] or not -STACK <= at <= 0:
+            raise Stop("the stack pointer leaves the stack")
+        return at - self.red_zone
+
+    def must_be_aligned(self, address, size=16):
+        base, at = place_of(address)
+        if base not in ((), place_of(self.stack)[0]) or (at + (self.entry if base else 0)) % size:
+            raise Stop("an access that is perhaps not aligned")
+
+    # ---- conditions, by the names that x86-64 has for them
+
+    def compare(self, what, x, y, result):
+        self.flags = what, x, y, result
+        return result
+
+    def condition(self, name):
+        """One bit. The last comparison was a "sub", an "add", something "logic"al, or an "other" that sets no carry."""
+        if name in OPPOSITE:
+            return complement(self.condition(OPPOSITE[name]))
+        if not self.flags or name not in ("e", "b", "be", "s"):
+            raise Stop(f"the condition {name} is not known here")
+        what, x, y, result = self.flags
+        if name == "e":
+            bit = is_zero(result)
+            return bit if what != "sub" or number_in(bit) is not None else is_zero(bitwise("xor", x, y))
+        if name == "s":
+            return cut(result, width_of(result) - 1, 1)
+        if name == "be" and what == "sub":
+            return number(not is_below(y, x), 1)
+        if name == "be":
+            return bitwise("or", self.condition("b"), self.condition("e"))
+        if what == "add" and sum(range_of(it)[1] for it in (x, y)) >> width_of(x) or what == "other":
+            raise Stop("a carry that is not known")
+        return number(what == "sub" and is_below(x, y), 1)
+
+    def holds(self, name):
+        bit = self.condition(name)
+        if number_in(bit) is None and name in ("e", "ne"):
+            raise Undecided(self.flags[3])
+        return known(bit, "a branch")
+
+    def subtract(self, x, y):
+        return self.compare("sub", x, y, sub(x, y))
+
+    def sum(self, x, y):
+        return self.compare("add", x, y, add(x, y))
+
+    # ---- a run
+
+    def call(self, function, arguments):
+        self.pass_arguments(arguments)
+        before, at = dict(self.registers), self.library.functions[function]
+        while at != number_in(CALLER):
+            if at not in self.library.instructions or len(self.executed) > 20000:
+                raise Stop("a jump to where no instruction is" if len(self.executed) <= 20000 else "no end")
+            op, operands, self.next = self.library.instructions[at]
+            self.executed.append(at)
+            try:
+                self.step(op, operands)
+            except Undecided:
+                raise
+            except Stop as stop:
+                raise Stop(f"{at:x}: {op} {operands}: {stop}") from None
+            except (KeyError, ValueError, IndexError, TypeError, AttributeError) as error:
+                raise Stop(f"{at:x}: {op} {operands}: not understood: {error!r}") from None
+            at = self.next
+        for name, width in self.kept.items():
+            if cut(self.registers[name], 0, width) != cut(before[name], 0, width):
+                raise Stop(f"{name} is not restored")
+        if self.registers[self.pointer] != add(before[self.pointer], number(self.popped)):
+            raise Stop("the stack pointer is not restored")
