@@ -2,23 +2,56 @@
 import functools
 import re
 
-from machine import CALLER, Machine
-from values import (Stop, add, bitwise, complement, cut, extend, join, known, lanes, mul, number, number_in, power_of_two,
-                    rotate_left, shift_left, shift_right, sub, unknown, width_of)
+from machine import CALLER, Machine, logic, shift_one
+from values import (add, bitwise, complement, cut, extend, join, known, lanes, mul, number, rotate_right, shift_left,
+                    shift_right, sub, unknown, width_of)
 
 CONDITIONS = {"eq": "e", "ne": "ne", "cc": "b", "cs": "ae", "hi": "a", "ls": "be", "mi": "s", "pl": "ns"}
-SHIFTS = {"lsl": shift_left, "lsr": shift_right, "ror": lambda x, n: rotate_left(x, -n)}
-BITWISE = {"and": "and", "ands": "and", "tst": "and", "bic": "and", "orr": "or", "orn": "or", "eor": "xor", "mvn": "or"}
-LETTERS = {"b": 8, "h": 16, "s": 32, "d": 64, "q": 128, "w": 32, "x": 64}
+WIDTHS = {"b": 8, "h": 16, "s": 32, "d": 64, "q": 128, "w": 32, "x": 64}
 
 
-def shift_one(x, n):
-    if x != number(1, 32) or number_in(cut(n, 5, 27)) != 0:
-        raise Stop("a shift that is not known")
-    return power_of_two(cut(n, 0, 5), 32)
+@functools.cache
+def split(text):
+    """The operands. What is in brackets is one; so is a shift with the register before it."""
+    return re.split(r",\s*(?=\S)(?![^\[]*\])(?!(?:ls[lr]|ror|uxtw)\b)", text) if text else []
 
 
-LANES = {"add": add, "mul": mul, "ushl": shift_one}
+def shift(function):
+    return lambda m, x, n: function(x, known(cut(n, 0, 6 if width_of(x) == 64 else 5), "a shift"))
+
+
+def inverse(op):
+    return lambda m, x, y: bitwise(op, x, complement(y))
+
+
+def plain(function):
+    return lambda m, *values: function(*values)
+
+
+def select(change):
+    return lambda m, x, y, holds: x if holds else change(y)
+
+
+def plus_one(x):
+    return add(x, number(1, width_of(x)))
+
+
+def add_with_carry(m, x, y):
+    return add(add(x, y), extend(m.condition("b" if m.flags[0] == "add" else "ae"), width_of(x)))
+
+
+# What an instruction computes from its operands without the first, which it writes. Those of vectors do it for each lane.
+OPERATIONS = {
+    "mov": plain(lambda x: x), "fmov": plain(lambda x: x), "adrp": plain(lambda x: x), "adr": plain(lambda x: x),
+    "add": plain(add), "sub": plain(sub), "adds": Machine.sum, "subs": Machine.subtract, "cmp": Machine.subtract,
+    "adc": add_with_carry, "neg": plain(lambda x: sub(number(0, width_of(x)), x)), "mul": plain(mul),
+    "madd": plain(lambda x, y, z: add(mul(x, y), z)), "and": plain(functools.partial(bitwise, "and")), "ands": logic("and"),
+    "tst": logic("and"), "orr": plain(functools.partial(bitwise, "or")), "eor": plain(functools.partial(bitwise, "xor")),
+    "bic": inverse("and"), "orn": inverse("or"), "mvn": plain(complement), "lsl": shift(shift_left), "lsr": shift(shift_right),
+    "ror": shift(rotate_right), "extr": lambda m, x, y, n: cut(join(y, x), known(n, "a shift"), width_of(x)),
+    "csel": select(lambda y: y), "csinc": select(plus_one), "cinc": lambda m, x, holds: plus_one(x) if holds else x,
+    "cset": plain(lambda bit: bit), "ushl": plain(shift_one), "ushr": shift(shift_right), "shl": shift(shift_left),
+}
 
 
 class Aarch64(Machine):
@@ -38,192 +71,117 @@ class Aarch64(Machine):
     def result(self):
         return self.registers["x0"]
 
-    # ---- operands: registers, numbers, and the last one perhaps shifted
+    # ---- operands
 
-    def read(self, name, width=None):
-        if name[0] == "#":
-            return number(int(name[1:], 0), width)
-        if name in ("xzr", "wzr"):
-            return number(0, LETTERS[name[0]])
-        if name == "sp":
-            return self.registers["sp"]
-        kind = "x" if name[0] in "wx" else "v"
-        return cut(self.registers[kind + re.match(r"\d+", name[1:])[0]], 0, LETTERS.get(name[0], 128))
+    def register(self, name):
+        """The register, and how many bits of it a name is for: v0.8b has 64 bits, v0.d[1] too."""
+        kind, index, lane, letter = re.fullmatch(r"([a-z])(\d+)(?:\.(\d*)([bhsd])(?:\[\d\])?)?", name).groups()
+        return ("x" if kind in "wx" else "v") + index, int(lane or 1) * WIDTHS[letter or kind]
+
+    def read(self, text, width=64):
+        """A number, a register, or a register that is shifted."""
+        name, _, change = text.partition(", ")
+        if name in CONDITIONS:
+            return CONDITIONS[name]
+        if name[0] == "#" or name[0].isdigit():
+            return number(int(name.strip("#"), 0), width)
+        if name in ("xzr", "wzr", "sp"):
+            return self.registers["sp"] if name == "sp" else number(0, WIDTHS[name[0]])
+        register, size = self.register(name)
+        place = re.search(r"\[(\d)\]", name)
+        value = cut(self.registers[register], size * int(place[1]) if place else 0, size)
+        how, _, n = change.partition(" #")
+        if how == "uxtw":
+            value, how = extend(value), "lsl"
+        return OPERATIONS[how](self, value, number(int(n or "0", 0))) if how else value
 
     def write(self, name, value):
         """A write of a part clears the rest."""
         if name == "sp":
             self.registers["sp"] = value
         elif name not in ("xzr", "wzr"):
-            kind, size = ("x", 64) if name[0] in "wx" else ("v", 128)
-            self.registers[kind + re.match(r"\d+", name[1:])[0]] = extend(value, size)
+            register, width = self.register(name)
+            self.registers[register] = extend(extend(value, width), width_of(self.registers[register]))
 
-    def last(self, names, width):
-        """The last operand, which a second word may shift or extend."""
-        value = self.read(names[0], width)
-        if len(names) == 1:
-            return value
-        how, _, n = names[1].partition(" #")
-        if how == "uxtw":
-            value, how = extend(value), "lsl"
-        return SHIFTS[how](value, int(n or "0", 0))
-
-    def address(self, names):
+    def address(self, operands):
         """The address, and the register that changes, with what it is after the access."""
-        if names[0][0] != "[":
-            return number(int(names[0], 16)), None
-        base, *rest = re.split(r",\s*", names[0].strip("[]!"))
+        if operands[0][0] != "[":
+            return number(int(operands[0], 16)), None
+        base, _, offset = operands[0].strip("[]!").partition(", ")
         start = self.read(base)
         if base == "sp":
             self.must_be_aligned(start)
-        at = add(start, self.last(rest, 64)) if rest else start
-        if names[0].endswith("!"):
+        at = add(start, self.read(offset)) if offset else start
+        if operands[0].endswith("!"):
             self.write(base, at)  # now, since the stack is used from there on
-        return at, (base, add(start, self.read(names[1], 64))) if len(names) > 1 else None
+        return at, (base, add(start, self.read(operands[1]))) if len(operands) > 1 else None
 
     # ---- instructions
 
     def step(self, op, text):
-        names = split(text)
-        width = LETTERS.get(names[0][0], 128) if names else None
+        operands = split(text)
         if op == "nop":
             return
-        if op[:2] in ("b.", "cb", "tb") or op in ("b", "bl", "ret"):
-            self.jump(op, names, width)
+        if op in ("b", "bl", "ret", "cbz", "cbnz", "tbz", "tbnz") or op[:2] == "b.":
+            self.jump(op, operands)
         elif op[:2] in ("ld", "st"):
-            self.access(op, names, width)
-        elif hasattr(self, "do_" + op) and names[0][0] != "v":
-            getattr(self, "do_" + op)(names, width)
-        elif names[0][0] == "v" or op in ("fmov", "movi", "umaxv", "addv"):
-            self.write(names[0], self.vector(op, names))
-        elif op in BITWISE:
-            self.logic(op, names, width)
-        elif op in SHIFTS:
-            n = known(cut(self.read(names[2], width), 0, 6 if width == 64 else 5), "a shift")
-            self.write(names[0], SHIFTS[op](self.read(names[1]), n))
+            self.access(op, operands)
+        elif op == "movk":
+            _, _, place = operands[1].partition(", lsl #")
+            value, place = self.read(operands[0]), int(place or 0)
+            part = self.read(operands[1].partition(",")[0], 16)
+            self.write(operands[0], join(cut(value, 0, place), part, cut(value, place + 16, width_of(value) - place - 16)))
+        elif operands[0][0] == "v":
+            self.write(operands[0], self.vector(op, operands))
         else:
-            self.arithmetic(op, names, width)
+            width = width_of(self.read(operands[0]))
+            values = [self.read(it, width) for it in operands[op not in ("cmp", "tst") :]]
+            if values[-1] in CONDITIONS.values():
+                values[-1] = self.condition(values[-1]) if op == "cset" else self.holds(values[-1])
+            result = OPERATIONS[op](self, *values)
+            if op not in ("cmp", "tst"):
+                self.write(operands[0], result)
 
-    def jump(self, op, names, width):
+    def jump(self, op, operands):
+        taken, before = True, self.flags
         if op == "ret":
             self.next = known(self.registers["x30"], "the end of a call")
             return
-        taken = True
         if op == "bl":
             self.registers["x30"] = number(self.next)
         elif op[:2] == "b.":
             taken = self.holds(CONDITIONS[op[2:]])
-        elif op[:2] == "cb":
-            before, self.flags = self.flags, ("logic", None, None, self.read(names[0]))
-            taken, self.flags = self.holds("e" if op == "cbz" else "ne"), before
-        elif op[:2] == "tb":
-            taken = known(cut(self.read(names[0]), int(names[1][1:], 0), 1), "a branch") == (op == "tbnz")
+        elif op[:2] in ("cb", "tb"):
+            value = self.read(operands[0])
+            self.compare("logic", value, value, cut(value, int(operands[1][1:], 0), 1) if op[0] == "t" else value)
+            taken, self.flags = self.holds("e" if op[2:] == "z" else "ne"), before
         if taken:
-            self.next = int(names[-1], 16)
+            self.next = int(operands[-1], 16)
 
-    def access(self, op, names, width):
-        count = 2 if op in ("ldp", "stp") else 1
-        size = LETTERS[op[-1]] if op[-1] in "bh" else width
-        if op.rstrip("bh") not in ("ldr", "ldur", "ldp", "str", "stur", "stp"):
-            raise Stop("an instruction that is not known")
-        values = [cut(self.read(it), 0, size) for it in names[:count]] if op[0] == "s" else None
-        at, later = self.address(names[count:])
-        for i, name in enumerate(names[:count]):
-            place = add(at, number(size // 8 * i))
-            if op[0] == "s":
-                self.store(place, values[i])
-            else:
-                self.write(name, self.load(place, size // 8))
+    def access(self, op, operands):
+        count = {"ldr": 1, "ldur": 1, "ldp": 2, "str": 1, "stur": 1, "stp": 2}[op.rstrip("bh")]
+        names = operands[:count]
+        size = WIDTHS[op[-1]] if op[-1] in "bh" else WIDTHS[names[0][0]]
+        values = [cut(self.read(it), 0, size) for it in names] if op[0] == "s" else []
+        at, later = self.address(operands[count:])
+        if values:
+            self.store(at, join(*values))
+        else:
+            for i, name in enumerate(names):
+                self.write(name, self.load(add(at, number(size // 8 * i)), size // 8))
         if later:
             self.write(*later)
 
-    def logic(self, op, names, width):
-        to, x, last = (None, names[0], names[1:]) if op == "tst" else (names[0], names[1], names[2:])
-        x, last = (f"{names[0][0]}zr", names[1:]) if op == "mvn" else (x, last)
-        y = self.last(last, width)
-        result = bitwise(BITWISE[op], self.read(x), complement(y) if op in ("bic", "orn", "mvn") else y)
-        if op in ("ands", "tst"):
-            self.compare("logic", None, None, result)
-        if to:
-            self.write(to, result)
-
-    def arithmetic(self, op, names, width):
-        to, x, last = {"cmp": (None, names[0], names[1:]), "neg": (names[0], f"{names[0][0]}zr", names[1:])}.get(
-            op, (names[0], names[1], names[2:]))
-        x, y, before = self.read(x), self.last(last, width), self.flags
-        if op not in ("add", "adds", "adc", "sub", "subs", "cmp", "neg"):
-            raise Stop("an instruction that is not known")
-        y = add(y, extend(self.condition("b" if before[0] == "add" else "ae"), width)) if op == "adc" else y
-        result = self.sum(x, y) if op[0] == "a" else self.subtract(x, y)
-        if op[-1] != "s" and op != "cmp":
-            self.flags = before
-        if to:
-            self.write(to, result)
-
-    def do_mov(self, names, width):
-        self.write(names[0], self.vector("mov", names) if names[1][0] == "v" else self.read(names[1], width))
-
-    def do_movk(self, names, width):
-        place = int(names[2].split("#")[1]) if len(names) > 2 else 0
-        value = self.read(names[0])
-        self.write(names[0], join(cut(value, 0, place), self.read(names[1], 16), cut(value, place + 16, width - place - 16)))
-
-    def do_adrp(self, names, width):
-        self.write(names[0], number(int(names[1], 16)))
-
-    do_adr = do_adrp
-
-    def do_mul(self, names, width):
-        self.write(names[0], mul(self.read(names[1]), self.read(names[2])))
-
-    def do_madd(self, names, width):
-        self.write(names[0], add(mul(self.read(names[1]), self.read(names[2])), self.read(names[3])))
-
-    def do_csel(self, names, width):
-        self.write(names[0], self.read(names[1 if self.holds(CONDITIONS[names[3]]) else 2]))
-
-    def do_cset(self, names, width):
-        self.write(names[0], extend(self.condition(CONDITIONS[names[1]]), width))
-
-    def do_csinc(self, names, width):
-        is_first = self.holds(CONDITIONS[names[3]])
-        self.write(names[0], self.read(names[1]) if is_first else add(self.read(names[2]), number(1, width)))
-
-    def do_cinc(self, names, width):
-        value = self.read(names[1])
-        self.write(names[0], add(value, number(1, width)) if self.holds(CONDITIONS[names[2]]) else value)
-
-    def do_extr(self, names, width):
-        self.write(names[0], cut(join(self.read(names[2]), self.read(names[1])), int(names[3][1:], 0), width))
-
-    # ---- vectors
-
-    def vector(self, op, names):
-        """The result, of the width that the first operand names: v0.8b has 64 bits, v0.4s has 128."""
-        count, letter = re.fullmatch(r"v\d+\.(\d+)(\w)", names[0]).groups() if names[0][0] == "v" else (1, names[0][0])
-        size = LETTERS[letter]
-        width = int(count) * size
-        if op == "movi":
-            return join(*[self.read(names[1], size)] * int(count))
-        if op == "dup":
-            return join(*[cut(self.read(names[1]), 0, size)] * int(count))
-        x, y = (cut(self.read(it), 0, width) if it[0] == "v" else self.read(it, width) for it in (names[1], names[min(2, len(names) - 1)]))
-        if op == "mov":
-            place = re.fullmatch(r"v\d+\.(\w)\[(\d)\]", names[1])
-            return cut(self.read(names[1]), LETTERS[place[1]] * int(place[2]), size)
-        if op == "fmov":
-            return x
-        if op in BITWISE:
-            return bitwise(BITWISE[op], x, complement(y) if op in ("bic", "orn") else y)
-        if op in ("ushr", "shl"):
-            shift = shift_right if op == "ushr" else shift_left
-            return join(*(shift(it, int(names[2][1:], 0)) for it in lanes(x, size)))
+    def vector(self, op, operands):
+        count, size = re.fullmatch(r"v\d+\.(\d+)(\w)", operands[0]).groups()
+        count, size = int(count), WIDTHS[size]
+        values = [self.read(it, size if it[0] == "#" else 64) for it in operands[1:]]
+        if op in ("dup", "movi"):
+            return join(*[cut(values[0], 0, size)] * count)
         if op == "ext":
-            return cut(join(x, y), 8 * int(names[3][1:], 0), width)
-        return join(*map(LANES[op], lanes(x, size), lanes(y, size)))
-
-
-@functools.cache
-def split(text):
-    """Operands. What is in brackets is one; a shift belongs to the one before it, but is a word of its own here."""
-    return tuple(re.split(r",\s*(?![^\[]*\])", text)) if text else ()
+            return cut(join(*values[:2]), 8 * known(values[2], "a place"), count * size)
+        if op in ("ushr", "shl"):
+            return lanes(size, lambda it: OPERATIONS[op](self, it, values[1]), values[0])
+        if op in ("add", "sub", "mul", "ushl"):
+            return lanes(size, functools.partial(OPERATIONS[op], self), *values)
+        return {it: OPERATIONS[it] for it in ("and", "orr", "eor", "bic", "orn", "mvn")}[op](self, *values)

@@ -2,9 +2,8 @@
 import collections
 import itertools
 
-from specs import filter, murmur, states, xxh64
-from specs.pieces import rest
-from values import add, bitwise, cut, extend, join, known, number, unknown
+from definitions import FILTER, MURMUR, XXH64, as_value
+from values import add, bitwise, complement, cut, extend, is_zero, join, number, power_of_two, unknown, width_of
 
 # `build` gives the Call anew for each path.
 Case = collections.namedtuple("Case", "function about build")
@@ -37,30 +36,33 @@ def hashes(n):
     data, out = some_bytes("input", n), pointer("out")
     for at in [pointer("input")] + [NULL] * (n == 0):
         source = Memory(at, data)
-        yield Case("sketch_xxh64", f"{n} bytes", lambda: Call([at, number(n), seed], [source], xxh64.xxh64(seed, data)))
+        yield Case("sketch_xxh64", f"{n} bytes", lambda: Call([at, number(n), seed], [source], XXH64.xxh64(seed, data)))
         yield Case("sketch_murmur3_x64_128", f"{n} bytes", lambda: Call(
-            [at, number(n), seed, out], [source, Memory(out, some_words("old", 2), murmur.murmur(seed, data))]))
+            [at, number(n), seed, out], [source, Memory(out, some_words("old", 2), MURMUR.murmur(seed, data))]))
 
 
 def numbers():
     value, out = unknown("value", 64), pointer("out")
     words = some_words("word", 2)
-    yield Case("sketch_xxh64_u64", "any number", lambda: Call([value, seed], [], xxh64.xxh64(seed, bytes_of(value))))
+    yield Case("sketch_xxh64_u64", "any number", lambda: Call([value, seed], [], XXH64.xxh64(seed, bytes_of(value))))
     yield Case("sketch_murmur3_x64_128_bytes", "any hash", lambda: Call(
         [pointer("hash"), out], [Memory(pointer("hash"), words), Memory(out, some_bytes("old", 16), bytes_of(join(*words)))]))
 
 
 def bytes_of(value):
-    return [cut(value, 8 * i, 8) for i in range(sum(it[2] for it in value) // 8)]
+    return [cut(value, at, 8) for at in range(0, width_of(value), 8)]
 
 
 # ---- streams: any state with this many waiting bytes
 
-Stream = collections.namedtuple("Stream", "name words piece state_of start after answer")
-STREAMS = [
-    Stream("xxh64", 5, 32, states.xxh64_state_of, xxh64.xxh64_start, xxh64.xxh64_after, xxh64.xxh64_answer),
-    Stream("murmur3_x64_128", 2, 16, states.murmur_state_of, murmur.murmur_start, murmur.murmur_after, murmur.murmur_answer),
-]
+# Its piece, the words of a state, and the definitions.
+Stream = collections.namedtuple("Stream", "name piece words definitions")
+STREAMS = [Stream("xxh64", 32, ["seed", "v1", "v2", "v3", "v4"], XXH64), Stream("murmur3_x64_128", 16, ["h1", "h2"], MURMUR)]
+
+
+def of(stream, name):
+    """A definition whose name begins with that of the hash."""
+    return getattr(stream.definitions, f"{stream.name.partition('3')[0]}_{name}")
 
 
 def total(stream, fill, least=0):
@@ -68,38 +70,48 @@ def total(stream, fill, least=0):
     return join(number(fill, bits), unknown(("pieces", least), 64 - bits, least))
 
 
-def fields(stream, state):
+def fields(state, piece):
     """A state as memory. What is behind the waiting bytes may be anything."""
-    folded = state.folded if stream.words == 2 else [state.folded[0], *state.folded[1]]
-    return [*folded, state.total, *state.waiting, *[None] * (stream.piece - len(state.waiting))]
+    seed_or_h1, lanes_or_h2 = state["folded"]
+    words = [seed_or_h1, *lanes_or_h2.values()] if isinstance(lanes_or_h2, dict) else state["folded"]
+    return [*map(as_value, (*words, state["total"])), *state["waiting"], *[None] * (piece - len(state["waiting"]))]
 
 
 def reset(stream):
-    old = some_words("old", stream.words + 1) + some_bytes("old", stream.piece)
+    old, at = some_words("old", len(stream.words) + 1) + some_bytes("old", stream.piece), pointer("state")
     yield Case(f"sketch_{stream.name}_reset", "any state", lambda: Call(
-        [pointer("state"), seed], [Memory(pointer("state"), old, fields(stream, stream.start(seed)))]))
+        [at, seed], [Memory(at, old, fields(of(stream, "start")(seed), stream.piece))]))
+
+
+def saved(stream, total):
+    """Any saved state with this total."""
+    words = {name: unknown(name, 64) for name in stream.words}
+    return {**words, "total": total, "waiting": some_bytes("waiting", stream.piece)}
+
+
+def of_memory(state):
+    return [it for field in state.values() for it in (field if isinstance(field, list) else [field])]
 
 
 def update(stream, fill, n):
-    words, waiting, data = some_words("word", stream.words), some_bytes("waiting", stream.piece), some_bytes("input", n)
-    before = [*words, total(stream, fill), *waiting]
+    before, data, state = saved(stream, total(stream, fill)), some_bytes("input", n), pointer("state")
     for at in [pointer("input")] + [NULL] * (n == 0):
-        yield Case(f"sketch_{stream.name}_update", f"{n} bytes after {fill} waiting ones", lambda: Call(
-            [pointer("state"), at, number(n)],
-            [Memory(at, data), Memory(pointer("state"), before, fields(
-                stream, stream.after(stream.state_of(words, before[len(words)], waiting), data)))]))
+        def build(at=at):
+            after = of(stream, "after")(of(stream, "state_of")(before), data)
+            return Call([state, at, number(n)],
+                        [Memory(at, data), Memory(state, of_memory(before), fields(after, stream.piece))])
+
+        yield Case(f"sketch_{stream.name}_update", f"{n} bytes after {fill} waiting ones", build)
 
 
 def digest(stream, fill):
-    words, waiting, out = some_words("word", stream.words), some_bytes("waiting", stream.piece), pointer("out")
-    for all_bytes in [number(fill), total(stream, fill, 1)] if stream.name == "xxh64" else [total(stream, fill)]:
-        state = Memory(pointer("state"), [*words, all_bytes, *waiting])
-
-        def build(all_bytes=all_bytes, state=state):
-            answer = stream.answer(stream.state_of(words, all_bytes, waiting))
+    at, out = pointer("state"), pointer("out")
+    for it in [number(fill), total(stream, fill, 1)] if stream.name == "xxh64" else [total(stream, fill)]:
+        def build(it=saved(stream, it)):
+            answer, state = of(stream, "answer")(of(stream, "state_of")(it)), Memory(at, of_memory(it))
             if stream.name == "xxh64":
-                return Call([state.at], [state], answer)
-            return Call([state.at, out], [state, Memory(out, some_words("old", 2), answer)])
+                return Call([at], [state], answer)
+            return Call([at, out], [state, Memory(out, some_words("old", 2), answer)])
 
         yield Case(f"sketch_{stream.name}_digest", f"{fill} waiting bytes", build)
 
@@ -109,7 +121,7 @@ def digest(stream, fill):
 def each_number(n):
     values, old, out = some_words("value", n), some_words("old", n + 1), pointer("out")
     for count in (n, n + 1):
-        new = [xxh64.xxh64(seed, bytes_of(it)) for it in values] if count == n else old
+        new = [XXH64.xxh64(seed, bytes_of(it)) for it in values] if count == n else old
         yield Case("sketch_xxh64_each_u64", f"{n} numbers, {count} places", lambda: Call(
             [pointer("values"), number(n), seed, out, number(count)],
             [Memory(pointer("values"), values), Memory(out, old[:count], new)], OK if count == n else COUNT))
@@ -134,7 +146,7 @@ def each_key(stream, width, column):
     """The hash of each key, or the first wrong offset and nothing else."""
     length, offsets, count = column
     data, out, fault = some_bytes("input", length), pointer("out"), pointer("fault")
-    hash, words = (xxh64.xxh64, 1) if stream.name == "xxh64" else (murmur.murmur, 2)
+    hash, words = (XXH64.xxh64, 1) if stream.name == "xxh64" else (MURMUR.murmur, 2)
     old = some_words("old", words * count)
 
     def build():
@@ -163,6 +175,11 @@ WRONG = [number(0), join(number(0, 5), unknown("too many blocks", 59, 1 << 32))]
 WRONG += [join(number(it, 5), unknown("any blocks", 59)) for it in range(1, 32)]
 
 
+def mask(hash):
+    """The eight bits of a hash in a block."""
+    return join(*(power_of_two(cut(as_value(FILTER.mask_bit(hash, w)), 0, 5), 32) for w in range(8)))
+
+
 class Filter:
     """What is before and after at the places that a call may reach: for each a block of the filter."""
 
@@ -176,18 +193,18 @@ class Filter:
         return join(*(unknown(("block", i, w), 32) for w in range(8)))
 
     def block(self, hash):
-        at = filter.block_of(extend(blocks) if self.count is None else number(self.count), hash)
-        at = add(bits, extend(join(number(0, 5), cut(at, 0, 32))))
+        block = as_value(FILTER.block_of(extend(blocks) if self.count is None else self.count, hash))
+        at = add(bits, extend(join(number(0, 5), cut(block, 0, 32))))
         if at not in self.blocks:
             self.blocks[at] = self.before[at] = self.fresh(len(self.blocks))
         return at
 
     def insert(self, hash):
         at = self.block(hash)
-        self.blocks[at] = filter.inserts(hash, self.blocks[at])
+        self.blocks[at] = bitwise("or", self.blocks[at], mask(hash))
 
     def contains(self, hash):
-        return filter.is_member(hash, self.blocks[self.block(hash)])
+        return is_zero(bitwise("and", complement(self.blocks[self.block(hash)]), mask(hash)))
 
     def memory(self, is_written):
         return [Memory(at, [old], [self.blocks[at]] * is_written) for at, old in self.before.items()]
@@ -213,7 +230,7 @@ def filter_keys(lengths):
     for n in lengths:
         data = some_bytes("input", n)
         for at in [pointer("input")] + [NULL] * (n == 0):
-            yield from one_key("", [at, number(n)], [Memory(at, data)], lambda: filter.hash_of(data))
+            yield from one_key("", [at, number(n)], [Memory(at, data)], lambda: FILTER.hash_of(data))
 
 
 def filter_columns(name, given, keys, count, sizes):
@@ -243,7 +260,7 @@ def numbers_in_filters(n):
     for name, width in (("_u32", 32), ("_u64", 64)):
         values = some_words("value", n, width)
         given = [at, number(n)], [Memory(at, values)]
-        yield from filter_columns(name, given, lambda values=values: [filter.hash_of(bytes_of(it)) for it in values], n, [None, 1])
+        yield from filter_columns(name, given, lambda values=values: [FILTER.hash_of(bytes_of(it)) for it in values], n, [None, 1])
     for high in itertools.product((0, 1), repeat=n):
         hashes = [join(unknown(("hash", i), 63), number(bit, 1)) for i, bit in enumerate(high)]
         given = [at, number(n)], [Memory(at, hashes)]

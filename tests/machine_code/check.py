@@ -4,7 +4,7 @@ import machine, values, calls
 from aarch64 import Aarch64
 from library import Library
 from machine import Undecided
-from values import Stop, cut, is_zero, number, width_of, show
+from values import Stop, cut, is_zero, number, width_of
 from x86 import X86
 MACHINES = {"x86-64": X86, "aarch64": Aarch64}
 DECIDES_BY_A_SUM = {"sketch_murmur3_x64_128_digest"}
@@ -35,12 +35,12 @@ def run(m, case):
         m.map(it.at, it.before, bool(it.after))
     m.call(case.function, call.arguments)
     if call.result is not None and cut(m.result(), 0, width_of(call.result)) != call.result:
-        raise Stop(f"returns {show(m.result())}, must be {show(call.result)}")
+        raise Stop(f"returns another value")
     for it in call.memory:
         at = it.at
         for value, old in zip(it.after, it.before):
             if value is not None and m.load(at, width_of(old) // 8) != value:
-                raise Stop(f"writes {show(m.load(at, width_of(old) // 8))}, must be {show(value)}")
+                raise Stop(f"writes another value")
             at = values.add(at, number(width_of(old) // 8))
 
 def cases(lengths, added):

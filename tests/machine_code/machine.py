@@ -1,8 +1,8 @@
 """What the two processors have in common: memory, conditions, and a run from a call to its return."""
 import functools
 
-from values import (Stop, add, bitwise, complement, cut, extend, is_below, is_zero, join, known, linear, number, number_in,
-                    range_of, show, signed, sub, unknown, width_of)
+from values import (Stop, add, bitwise, complement, cut, extend, greatest, is_below, is_zero, join, known, linear, number,
+                    number_in, power_of_two, signed, sub, unknown, width_of)
 
 CALLER = number(0xCA11E4)  # where a call returns to
 STACK = 4096  # how much of it a call may use
@@ -10,11 +10,22 @@ OPPOSITE = {"ne": "e", "ae": "b", "a": "be", "ns": "s"}
 
 
 class Undecided(Stop):
-    """A branch that is taken if a value is 0, which depends on an unknown."""
+    """A choice by whether a value is 0, which depends on an unknown."""
 
     def __init__(self, value):
-        super().__init__(f"a branch depends on an unknown: whether this is 0: {show(value)}")
+        super().__init__("a choice depends on an unknown: whether a value is 0")
         self.value = value
+
+
+def shift_one(x, n):
+    """1 shifted to the left by a number that may be an unknown."""
+    if x != number(1, 32) or number_in(cut(n, 5, 27)) != 0:
+        raise Stop("a shift that is not understood")
+    return power_of_two(cut(n, 0, 5), 32)
+
+
+def logic(op):
+    return lambda machine, x, y: machine.compare("logic", x, y, bitwise(op, x, y))
 
 
 @functools.cache
@@ -93,21 +104,19 @@ class Machine:
         """One bit. The last comparison was a "sub", an "add", something "logic"al, or an "other" that sets no carry."""
         if name in OPPOSITE:
             return complement(self.condition(OPPOSITE[name]))
-        if not self.flags or name not in ("e", "b", "be", "s"):
+        if not self.flags or not self.flags[0] or name not in ("e", "b", "be", "s"):
             raise Stop(f"the condition {name} is not known here")
         what, x, y, result = self.flags
+        if name == "s":
+            return cut(result, width_of(result) - 1, 1)
         if name == "e":
             bit = is_zero(result)
             return bit if what != "sub" or number_in(bit) is not None else is_zero(bitwise("xor", x, y))
-        if name == "s":
-            return cut(result, width_of(result) - 1, 1)
-        if name == "be" and what == "sub":
-            return number(not is_below(y, x), 1)
-        if name == "be":
-            return bitwise("or", self.condition("b"), self.condition("e"))
-        if what == "add" and sum(range_of(it)[1] for it in (x, y)) >> width_of(x) or what == "other":
+        if what == "sub":
+            return number(is_below(x, y) if name == "b" else not is_below(y, x), 1)
+        if what == "other" or what == "add" and (greatest(x) + greatest(y)) >> width_of(x):
             raise Stop("a carry that is not known")
-        return number(what == "sub" and is_below(x, y), 1)
+        return number(0, 1) if name == "b" else self.condition("e")
 
     def holds(self, name):
         bit = self.condition(name)

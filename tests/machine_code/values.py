@@ -3,15 +3,15 @@
 A value has a fixed width. It is a tuple of pieces, the lowest first: (atom, low, width) is `width` bits of an atom, from
 bit `low` on, and (NUMBER, n, width) is the number n. An atom is an unknown, or an operation that no rule below makes
 simpler; it is known by what it is made of. Each rule gives a value that is equal to what it was made from. Equal values
-may keep different forms: then a comparison fails that should not, and never the other way round.
+may keep different forms: then a comparison fails that should not. Different values never get one form.
 """
 import functools
 
 NUMBER = -1
-BITS = {"and": lambda x, y: x & y, "or": lambda x, y: x | y, "xor": lambda x, y: x ^ y}
 WORD = 1 << 64
-kinds, ranges, numbers = [], [], {}  # of each atom: what it is made of, its least and greatest value; and its index
-facts = {}  # what the present path assumes: a value, and the value that it equals
+BITS = {"and": lambda x, y: x & y, "or": lambda x, y: x | y, "xor": lambda x, y: x ^ y}
+kinds, ranges, indices = [], [], {}  # of each atom: what it is made of, its least and greatest value; and its index
+facts = {}  # what the present path assumes: values, and what they equal
 
 
 class Stop(Exception):
@@ -19,11 +19,11 @@ class Stop(Exception):
 
 
 def atom(kind, width, least=0, most=None):
-    if kind not in numbers:
-        numbers[kind] = len(kinds)
+    if kind not in indices:
+        indices[kind] = len(kinds)
         kinds.append(kind)
         ranges.append((least, (1 << width) - 1 if most is None else most))
-    return ((numbers[kind], 0, width),)
+    return ((indices[kind], 0, width),)
 
 
 def unknown(name, width, least=0):
@@ -34,25 +34,19 @@ def number(n, width=64):
     return ((NUMBER, n % (1 << width), width),) if width else ()
 
 
-def width_of(value):
-    return sum(width for _, _, width in value)
-
-
 def number_in(value):
     """The number that a value is, or None if it depends on an unknown."""
     return value[0][1] if len(value) == 1 and value[0][0] == NUMBER else None
 
 
 def known(value, what):
-    n = number_in(value)
-    if n is None:
-        raise Stop(f"{what} depends on an unknown: {show(value)}")
-    return n
+    if number_in(value) is None:
+        raise Stop(f"{what} depends on an unknown")
+    return number_in(value)
 
 
-def show(value):
-    return " ".join(f"{low:#x}:{width}" if a == NUMBER else f"{kinds[a][:2] if kinds[a][0] == 'unknown' else kinds[a][0]}"
-                    f"[{low}:{low + width}]" for a, low, width in value)
+def width_of(value):
+    return sum(width for _, _, width in value)
 
 
 # ---- bits
@@ -61,22 +55,12 @@ def join(*values):
     """The values side by side, the lowest first. Neighbours that belong together become one piece."""
     out = []
     for value in values:
-        for piece in value:
-            one = merged(out[-1], piece) if out else None
-            out[-1 if one else len(out):] = [one or piece]
+        for a, low, width in value:
+            if out and out[-1][0] == a and (a == NUMBER or out[-1][1] + out[-1][2] == low):
+                _, start, before = out.pop()
+                low, width = start | low << before if a == NUMBER else start, before + width
+            out.append((a, low, width))
     return tuple(out)
-
-
-def merged(one, other):
-    """Two neighbours as one piece, or None."""
-    (a, low, width), (b, start, size) = one, other
-    if a == b and (a == NUMBER or low + width == start):
-        return a, low | start << width if a == NUMBER else low, width + size
-    if a != b and NUMBER not in (a, b) and kinds[a][0] in BITS and kinds[a][0] == kinds[b][0] and len(kinds[a][3]) == len(kinds[b][3]):
-        members = [join(*pair) for pair in zip(kinds[a][3], kinds[b][3])]
-        if all(len(it) == 1 for it in members):
-            return atom((kinds[a][0], width + size, kinds[a][2] | kinds[b][2] << width, in_order(members)), width + size)[0]
-    return None
 
 
 def cut(value, low, width):
@@ -86,21 +70,15 @@ def cut(value, low, width):
     parts, at = [], 0
     for a, start, size in value:
         first, last = max(low - at, 0), min(low + width - at, size)
-        if first < last and a == NUMBER:
-            parts.append(number(start >> first, last - first))
-        elif first < last:
-            parts.append(part_of(a, start + first, last - first))
+        if first < last:
+            parts.append(number(start >> first, last - first) if a == NUMBER else part_of(a, start + first, last - first))
         at += size
     return join(*parts)
 
 
 @functools.cache
 def part_of(a, low, width):
-    """Bits of an atom: of a sum without the terms that are multiples of what is above, of "xor" the "xor" of the bits."""
-    if kinds[a][0] in BITS and width < kinds[a][1]:
-        op, _, n, members = kinds[a]
-        parts = [cut(it, low, width) for it in members] + [number(n >> low, width)] * (op == "xor")
-        return functools.reduce(functools.partial(bitwise, op), parts)
+    """Bits of an atom: of a sum without the terms that are multiples of what is above these bits."""
     if kinds[a][0] == "sum":
         _, n, terms = kinds[a]
         left = {piece: factor for piece, factor in terms if factor % (1 << low + width)}
@@ -121,13 +99,14 @@ def shift_right(value, n):
     return extend(cut(value, n, width_of(value) - n), width_of(value))
 
 
-def rotate_left(value, n):
-    size = width_of(value)
-    return join(cut(value, size - n % size, n % size), cut(value, 0, size - n % size))
+def rotate_right(value, n):
+    return join(cut(value, n, width_of(value) - n), cut(value, 0, n))
 
 
-def lanes(value, size):
-    return [cut(value, at, size) for at in range(0, width_of(value), size)]
+def lanes(size, function, *values):
+    """A function of each lane of some values, or of a value and numbers."""
+    split = [[it] * 8 if isinstance(it, int) else [cut(it, at, size) for at in range(0, width_of(it), size)] for it in values]
+    return join(*map(function, *split))
 
 
 def power_of_two(exponent, width):
@@ -136,20 +115,18 @@ def power_of_two(exponent, width):
     return number(1 << n, width) if n is not None else atom(("power", exponent), width, 1)
 
 
-# ---- sums and products, modulo 2^64
+# ---- sums and products, modulo 2^64: a number plus pieces with factors
 
 @functools.cache
 def linear(value):
-    """A value of 64 bits as a number plus pieces with factors."""
-    n, factors, at = 0, {}, 0
+    factors, at = {}, 0
     for a, low, width in value:
         if a == NUMBER:
-            n += low << at
+            factors[None] = factors.get(None, 0) + (low << at)
         else:
             collect(factors, a, low, width, 1 << at)
         at += width
-    n += factors.pop(None, 0)
-    return n, factors
+    return factors.pop(None, 0), factors
 
 
 def collect(factors, a, low, width, factor):
@@ -167,13 +144,12 @@ def collect(factors, a, low, width, factor):
 
 
 def signed(n):
-    n %= WORD
-    return n - WORD if n >> 63 else n
+    return (n + WORD // 2) % WORD - WORD // 2
 
 
 def exact(n, factors):
-    """The number and factors as integers whose sum is from 0 to 2^64 - 1, so that nothing is lost; and its least and
-    greatest value. None if there are none."""
+    """The same number and factors as integers whose sum is from 0 to 2^64 - 1, so that nothing is lost modulo 2^64; and its
+    least and greatest value. None if there are none."""
     for reading in (lambda k: k % WORD, signed):
         own = {piece: reading(factor) for piece, factor in factors.items()}
         least, most = limits(reading(n), own)
@@ -185,9 +161,8 @@ def exact(n, factors):
 def limits(n, factors):
     least = most = n
     for (a, low, width), factor in factors.items():
-        first, last = piece_range(a, low, width)
-        least += min(first * factor, last * factor)
-        most += max(first * factor, last * factor)
+        ends = [end * factor for end in piece_range(a, low, width)]
+        least, most = least + min(ends), most + max(ends)
     return least, most
 
 
@@ -197,45 +172,41 @@ def piece_range(a, low, width):
     return (least >> low, most >> low) if most >> low + width == 0 else (0, (1 << width) - 1)
 
 
-def range_of(value):
-    least = most = at = 0
-    for a, low, width in value:
-        first, last = (low, low) if a == NUMBER else piece_range(a, low, width)
-        least, most, at = least + (first << at), most + (last << at), at + width
-    return least, most
+def greatest(value):
+    found = exact(*linear(extend(value)))
+    return found[3] if found else WORD - 1
 
 
 def total(n, factors):
-    """The value of 64 bits that is a number plus pieces with factors."""
-    factors = {piece: factor % WORD for piece, factor in factors.items() if factor % WORD}
-    n %= WORD
+    """The value of 64 bits."""
+    n, factors = n % WORD, {piece: factor % WORD for piece, factor in factors.items() if factor % WORD}
     if not factors:
         return number(n)
-    common = functools.reduce(lambda x, y: x | y, factors.values(), n)
-    common = (common & -common).bit_length() - 1
+    bits = functools.reduce(lambda x, y: x | y, factors.values(), n)
+    common = (bits & -bits).bit_length() - 1
     if common:
         return shift_left(total(signed(n) >> common, {it: signed(factor) >> common for it, factor in factors.items()}), common)
     return side_by_side(n, factors) or sum_atom(n, factors)
 
 
 def side_by_side(n, factors):
-    """The pieces as fields of one value, if no two of them and no bit of the number overlap; else None."""
+    """The pieces as bits of one value, if no two of them, and no bit of the number, overlap; else None."""
     out, at = [], 0
     for piece, factor in sorted(factors.items(), key=lambda it: it[1]):
         place = factor.bit_length() - 1
         if factor != 1 << place or place < at:
             return None
-        field = cut((piece,), 0, min(piece[2], 64 - place))
-        out += [number(n >> at, place - at), field]
-        at = place + width_of(field)
+        bits = cut((piece,), 0, min(piece[2], 64 - place))
+        out += [number(n >> at, place - at), bits]
+        at = place + width_of(bits)
         if n >> place & (1 << at - place) - 1:
             return None
     return join(*out, number(n >> at, 64 - at))
 
 
 def sum_atom(n, factors):
-    bounds = exact(n, factors)
-    least, most = bounds[2:] if bounds else (0, WORD - 1)
+    found = exact(n, factors)
+    least, most = found[2:] if found else (0, WORD - 1)
     value = extend(atom(("sum", n, tuple(sorted(factors.items()))), most.bit_length(), least, most))
     return facts.get(value, value)
 
@@ -253,7 +224,6 @@ def sub(x, y):
 
 
 def mul(x, y):
-    """The product of two values of one width, modulo 2 to the power of it."""
     size, x, y = width_of(x), extend(x), extend(y)
     for one, other in ((x, y), (y, x)):
         if (k := number_in(one)) is not None:
@@ -261,15 +231,12 @@ def mul(x, y):
             for piece, factor in factors.items():
                 collect(scaled, *piece, factor * k)
             return cut(total(n * k + scaled.pop(None, 0), scaled), 0, size)
-    most = min(range_of(x)[1] * range_of(y)[1], WORD - 1)
+    most = min(greatest(x) * greatest(y), WORD - 1)
     return cut(extend(atom(("product", *sorted((x, y))), most.bit_length(), 0, most)), 0, size)
 
 
 def is_below(x, y):
-    """Whether x is the smaller one."""
-    (least, most), (first, last) = range_of(x), range_of(y)
-    if most < first or last <= least:
-        return most < first
+    """Whether x is the smaller one, if that depends on no unknown."""
     x, y = exact(*linear(extend(x))), exact(*linear(extend(y)))
     if x and y:
         gap = {piece: y[1].get(piece, 0) - x[1].get(piece, 0) for piece in {**x[1], **y[1]}}
@@ -293,21 +260,20 @@ def bitwise(op, x, y):
 
 
 def of_pieces(op, x, y, width):
+    n, other = (number_in(x), y) if number_in(x) is not None else (number_in(y), x)
     if len(x) > 1 or len(y) > 1:
         return bitwise(op, x, y)
-    n, other = (number_in(x), y) if number_in(x) is not None else (number_in(y), x)
-    if n is None:
-        if x == y:
-            return x if op != "xor" else number(0, width)
-    elif number_in(other) is not None:
+    if n is None and x == y:
+        return number(0, width) if op == "xor" else x
+    if n is None or op == "xor" and n and number_in(other) is None:
+        return operation(op, (x, y), width)
+    if number_in(other) is not None:
         return number(BITS[op](n, number_in(other)), width)
-    elif n == 0 or n == (1 << width) - 1 and op != "xor":
+    if n in (0, (1 << width) - 1):
         return other if (n == 0) == (op != "and") else number(n, width)
-    elif op != "xor":  # a mask: each run of equal bits by itself
-        run = ((n ^ n >> 1) & -(n ^ n >> 1)).bit_length()
-        parts = (number(n, run), cut(other, 0, run)), (number(n >> run, width - run), cut(other, run, width - run))
-        return join(*(of_pieces(op, *part, width_of(part[0])) for part in parts))
-    return operation(op, [x, y], width)
+    run = ((n ^ n >> 1) & -(n ^ n >> 1)).bit_length()  # a mask: each run of equal bits by itself
+    return join(bitwise(op, number(n, run), cut(other, 0, run)),
+                bitwise(op, number(n >> run, width - run), cut(other, run, width - run)))
 
 
 def operation(op, operands, width):
@@ -315,27 +281,21 @@ def operation(op, operands, width):
     n, members, todo = 0, set(), list(operands)
     while todo:
         value = todo.pop()
-        a, low, size = value[0]
+        a, low, _ = value[0]
         if a == NUMBER:
             n ^= low
-        elif kinds[a][0] == op and kinds[a][1] == size:
+        elif kinds[a][0] == op and kinds[a][1] == width:
             n ^= kinds[a][2]
             todo += kinds[a][3]
+        elif kinds[a][0] == op:  # some of its bits
+            parts = [cut(it, low, width) for it in kinds[a][3]] + [number(kinds[a][2] >> low, width)] * (op == "xor")
+            rest = [number(n, width)] * (op == "xor") + [*members, *todo]
+            return functools.reduce(functools.partial(bitwise, op), parts + rest)
         else:
             members = members ^ {value} if op == "xor" else members | {value}
     if n == 0 and len(members) < 2:
         return min(members, default=number(0, width))
-    return atom((op, width, n, in_order(members)), width) if members else number(n, width)
-
-
-def in_order(values):
-    """By the unknowns inside, so that neighbouring bits are in one order and next to each other."""
-    return tuple(sorted(values, key=lambda it: (place_in(it[0]), it)))
-
-
-def place_in(piece):
-    a, low, _ = piece
-    return place_in(kinds[a][3][0][0]) if kinds[a][0] in BITS else (a, low)
+    return atom((op, width, n, tuple(sorted(members))), width) if members else number(n, width)
 
 
 def complement(value):
@@ -351,12 +311,12 @@ def is_zero(value):
                 return number(0, 1)
             kind = kinds[a] if a != NUMBER else (None,)
             if kind[0] == "or":
-                todo += kind[3]
+                todo += [cut(it, low, width) for it in kind[3]]
             elif kind[:3] == ("xor", 1, 1) and len(kind[3]) == 1 and kinds[kind[3][0][0][0]][0] == "is zero":
                 todo.append(kinds[kind[3][0][0][0]][1])  # "it is not 0" is 0 if it is 0
             elif a != NUMBER:
                 pieces.add((a, low, width))
     if not pieces:
         return number(1, 1)
-    result = atom(("is zero", join(*in_order((it,) for it in pieces))), 1)
+    result = atom(("is zero", join(*((it,) for it in sorted(pieces)))), 1)
     return facts.get(result, result)

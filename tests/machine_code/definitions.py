@@ -1,0 +1,202 @@
+"""The prover's own definitions, read from crates/*/specs/*.antt and evaluated over numbers or over unknowns.
+
+It reads the part of the language that they are written in: equations with patterns, `let`, `if`, λ, pairs, records, lists
+and arithmetic. A word that depends on unknowns is a value of 64 bits. Sums and products of such are modulo 2^64, as the
+definitions take them. Two definitions go digit by digit, and are given here: `xor`, and `le`, the number of some bytes.
+"""
+import functools
+import operator
+import pathlib
+import re
+
+from values import add, bitwise, cut, extend, is_below, join, mul, number, number_in, shift_right, sub
+
+CRATES = pathlib.Path(__file__).parents[2] / "crates"
+TOKEN = re.compile(r'\s*(0x[0-9A-Fa-f]+|\d+|"[^"]*"|[^\W\d]\w*|\.\w+|\[\]|\+\+|==|\S)')
+LEVELS = [["≡"], ["=="], ["∷", "++"], ["+", "-"], ["*", "/", "%"], ["^"]]
+
+
+class Function:
+    """Fewer arguments than it takes give a function of the others."""
+
+    def __init__(self, count, run):
+        self.count, self.run = count, run
+
+    def __call__(self, *arguments):
+        if len(arguments) < self.count:
+            return Function(self.count - len(arguments), functools.partial(self.run, *arguments))
+        return self.run(*arguments)
+
+
+def of_words(on_numbers, on_values):
+    def run(x, y):
+        if isinstance(x, int) and isinstance(y, int):
+            return on_numbers(x, y)
+        return as_number(on_values(as_value(x), as_value(y)))
+
+    return Function(2, run)
+
+
+def as_value(it, width=64):
+    return number(it, width) if isinstance(it, int) else it
+
+
+def as_number(it):
+    n = it if isinstance(it, bool) else number_in(it)
+    return extend(it) if n is None else n
+
+
+def places(power):
+    """Of a number 2^n: n."""
+    n = number_in(power) or 1 << 64  # which has no place in 64 bits
+    assert n & n - 1 == 0
+    return n.bit_length() - 1
+
+
+OPERATORS = {
+    "≡": operator.eq, "==": operator.eq, "++": operator.add, "^": operator.pow, "∷": lambda x, rest: [x, *rest],
+    "+": of_words(operator.add, add), "-": of_words(operator.sub, sub), "*": of_words(operator.mul, mul),
+    "/": of_words(operator.floordiv, lambda x, n: shift_right(x, places(n))),
+    "%": of_words(operator.mod, lambda x, n: extend(cut(x, 0, places(n)))),
+}
+GIVEN = {
+    "xor": of_words(operator.xor, functools.partial(bitwise, "xor")), "nat_lt": of_words(operator.lt, is_below),
+    "le": Function(1, lambda data: as_number(join(*(as_value(it, 8) for it in data)))),
+    "map": Function(2, lambda f, items: [f(it) for it in items]),
+    "fold": Function(3, lambda f, start, items: functools.reduce(f, items, start)),
+    "take": Function(2, lambda n, items: items[:n]), "drop": Function(2, lambda n, items: items[n:]),
+    "slice_index": Function(2, lambda items, i: items[i]), "replicate": Function(2, lambda n, it: [it] * n),
+    "length": Function(1, len), "codes": Function(1, lambda text: [*text.encode()]),
+}
+
+
+class Definitions:
+    """The names of some files. Each is read when it is first used."""
+
+    def __init__(self, *files, edit=lambda text: text):
+        self.equations, self.known = {}, dict(GIVEN)
+        for file in files:
+            text = re.sub(r"--.*", "", edit((CRATES / file).read_text()))
+            for name in re.findall(r"^(?:abbrev|unfoldable) pub (\w+) :", text, re.M):
+                found = re.findall("^" + name + r"\b((?: [^=\n]*)?)=[ \n](.*(?:\n+[ }].*)*)", text, re.M)
+                self.equations.setdefault(name, found)
+
+    def __getattr__(self, name):
+        if name not in self.known:
+            self.known[name] = self.read([(Reader(self, left), Reader(self, right)) for left, right in self.equations[name]])
+        setattr(self, name, self.known[name])
+        return self.known[name]
+
+    def read(self, equations):
+        cases = [(left.patterns(), right.expression()) for left, right in equations]
+
+        def run(*arguments):
+            for patterns, body in cases:
+                bound = {}
+                if all(fits(argument, bound) for fits, argument in zip(patterns, arguments)):
+                    return body(bound)
+
+        return Function(len(cases[0][0]), run) if cases[0][0] else run()
+
+
+class Reader:
+    """Makes a function of what is bound from the words of an expression, and a test that binds from a pattern."""
+
+    def __init__(self, definitions, text):
+        self.definitions, self.words = definitions, TOKEN.findall(text)
+
+    def next(self, *expected):
+        if expected and self.words[:1] != list(expected):
+            raise SyntaxError(f"must be {expected[0]}, not {self.words[:5]}")
+        return self.words.pop(0)
+
+    def patterns(self):
+        found = []
+        while self.words and self.words[0] != ")":
+            found.append(self.pattern())
+        return found
+
+    def pattern(self):
+        first = self.next()
+        if first == "[]":
+            return lambda it, bound: it == []
+        if first == "zero":
+            return lambda it, bound: it == 0
+        if first != "(":
+            return lambda it, bound: bound.update({first: it}) or True
+        one, two = self.next(), self.next()
+        name = self.next() if two == "∷" else two
+        self.next(")")
+        if two == "∷":
+            return lambda it, bound: it != [] and (bound.update({one: it[0], name: it[1:]}) or True)
+        return lambda it, bound: it > 0 and (bound.update({name: it - 1}) or True)
+
+    def expression(self, level=0):
+        if self.words[0] in ("let", "if", "λ"):
+            return getattr(self, {"let": "let", "if": "choice", "λ": "function"}[self.next()])()
+        if level == len(LEVELS):
+            return self.application()
+        left = self.expression(level + 1)
+        while self.words and self.words[0] in LEVELS[level]:
+            run = OPERATORS[self.next()]
+            right = self.expression(level if run is OPERATORS["∷"] or run is operator.add else level + 1)
+            left = (lambda run, left, right: lambda bound: run(left(bound), right(bound)))(run, left, right)
+        return left
+
+    def let(self):
+        name, _, value, _, body = self.next(), self.next("="), self.expression(), self.next("in"), self.expression()
+        return lambda bound: body({**bound, name: value(bound)})
+
+    def choice(self):
+        test, _, yes, _, no = self.expression(), self.next("then"), self.expression(), self.next("else"), self.expression()
+        return lambda bound: yes(bound) if test(bound) else no(bound)
+
+    def function(self):
+        name, _, body = self.next(), self.next("."), self.expression()
+        return lambda bound: Function(1, lambda it: body({**bound, name: it}))
+
+    def application(self):
+        function, arguments = self.atom(), []
+        while self.words and re.match(r"[\w(\"]|\[\]", self.words[0]) and self.words[0] not in ("in", "then", "else"):
+            arguments.append(self.atom())
+        return (lambda bound: function(bound)(*(it(bound) for it in arguments))) if arguments else function
+
+    def atom(self):
+        first = self.next()
+        if first == "(":
+            parts = [self.expression()]
+            while self.words[0] == ",":
+                self.next(",")
+                parts.append(self.expression())
+            self.next(")")
+            it = parts[0] if len(parts) == 1 else lambda bound: tuple(part(bound) for part in parts)
+        elif first == "record":
+            it = self.record()
+        else:
+            it = self.plain(first)
+        while self.words and self.words[0][0] == "." and self.words[0] != ".":
+            it = (lambda it, key: lambda bound: it(bound)[int(key) if key.isdigit() else key])(it, self.next()[1:])
+        return it
+
+    def record(self):
+        fields = {}
+        self.next("{")
+        while self.words[0] != "}":
+            name, _, fields[name] = self.next(), self.next("="), self.expression()
+            if self.words[0] == ";":
+                self.next()
+        self.next("}")
+        return lambda bound: {name: it(bound) for name, it in fields.items()}
+
+    def plain(self, text):
+        if text[0].isdigit():
+            return lambda bound: int(text, 0)
+        if text == "[]" or text[0] == '"':
+            return lambda bound: [] if text == "[]" else text[1:-1]
+        return lambda bound: bound[text] if text in bound else getattr(self.definitions, text)
+
+
+HASHES = [f"sketch_hash/specs/{name}.antt" for name in ("Words", "Pieces", "Xxh64", "States")]
+XXH64 = Definitions(*HASHES)
+MURMUR = Definitions(*(name.replace("Xxh64", "Murmur") for name in HASHES))
+FILTER = Definitions("sketch_bloom/specs/Filter.antt", *HASHES)
