@@ -50,7 +50,7 @@ OPERATIONS = {
     "bic": inverse("and"), "orn": inverse("or"), "mvn": plain(complement), "lsl": shift(shift_left), "lsr": shift(shift_right),
     "ror": shift(rotate_right), "extr": lambda m, x, y, n: cut(join(y, x), known(n, "a shift"), width_of(x)),
     "csel": select(lambda y: y), "csinc": select(plus_one), "cinc": lambda m, x, holds: plus_one(x) if holds else x,
-    "cset": plain(lambda bit: bit), "ushl": plain(shift_one), "ushr": shift(shift_right), "shl": shift(shift_left),
+    "cset": plain(lambda bit: bit), "csetm": lambda m, holds: number(-holds), "ushl": plain(shift_one), "ushr": shift(shift_right), "shl": shift(shift_left),
 }
 
 
@@ -101,7 +101,8 @@ class Aarch64(Machine):
             self.registers["sp"] = value
         elif name not in ("xzr", "wzr"):
             register, width = self.register(name)
-            self.registers[register] = extend(extend(value, width), width_of(self.registers[register]))
+            value = cut(value, 0, min(width, width_of(value)))
+            self.registers[register] = extend(value, width_of(self.registers[register]))
 
     def address(self, operands):
         """The address, and the register that changes, with what it is after the access."""
@@ -145,7 +146,7 @@ class Aarch64(Machine):
     def jump(self, op, operands):
         taken, before = True, self.flags
         if op == "ret":
-            self.next = known(self.registers["x30"], "the end of a call")
+            self.next = known(self.read(*operands or ["x30"]), "the end of a call")
             return
         if op == "bl":
             self.registers["x30"] = number(self.next)

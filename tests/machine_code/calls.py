@@ -1,19 +1,24 @@
 """What is called with what, and what each call must leave, by the definitions."""
 import collections
+import functools
 import itertools
 
 from definitions import FILTER, MURMUR, XXH64, as_value
-from values import add, bitwise, complement, cut, extend, is_zero, join, number, power_of_two, unknown, width_of
+from values import (add, bitwise, complement, cut, extend, is_zero, join, number, number_in, power_of_two, shift_right, unknown,
+                    width_of)
 
-# `build` gives the Call anew for each path.
-Case = collections.namedtuple("Case", "function about build")
-# The arguments have 64 bits each. A call that returns nothing has the result None.
+# `build` gives the Call of these arguments anew, since what a path assumes may change it.
+Case = collections.namedtuple("Case", "function build")
+# The arguments of a call have 64 bits each. A call that returns nothing has the result None.
 Call = collections.namedtuple("Call", "arguments memory result", defaults=[None])
-# Values at an address before and after the call. After it, None is any value; `after` is () where it may not write.
+# Values at an address before a call and after it. None is any value. Where there is none after it, it may not write.
 Memory = collections.namedtuple("Memory", "at before after", defaults=[()])
 
-NULL = number(0)
 OK, LENGTH, OFFSET, COUNT = (number(n, 32) for n in (0, -1, -2, -3))
+NAMES = {"xxh64": "xxh64", "murmur": "murmur3_x64_128"}
+DEFINITIONS = {"xxh64": XXH64, "murmur": MURMUR}
+PIECE = {"xxh64": 32, "murmur": 16}
+WORDS = {"xxh64": ["seed", "v1", "v2", "v3", "v4"], "murmur": ["h1", "h2"]}
 seed = unknown("seed", 64)
 
 
@@ -21,249 +26,283 @@ def pointer(name):
     return extend(unknown(name, 62, 1))
 
 
-def some_bytes(name, n):
-    return [unknown((name, i), 8) for i in range(n)]
+bits, found, input, out, state, values = map(pointer, ("bits", "found", "input", "out", "state", "values"))
 
 
-def some_words(name, n, width=64):
-    return [unknown((name, i, width), width) for i in range(n)]
-
-
-# ---- one call
-
-def hashes(n):
-    """Both hashes of n bytes; NULL too is a place of no bytes."""
-    data, out = some_bytes("input", n), pointer("out")
-    for at in [pointer("input")] + [NULL] * (n == 0):
-        source = Memory(at, data)
-        yield Case("sketch_xxh64", f"{n} bytes", lambda: Call([at, number(n), seed], [source], XXH64.xxh64(seed, data)))
-        yield Case("sketch_murmur3_x64_128", f"{n} bytes", lambda: Call(
-            [at, number(n), seed, out], [source, Memory(out, some_words("old", 2), MURMUR.murmur(seed, data))]))
-
-
-def numbers():
-    value, out = unknown("value", 64), pointer("out")
-    words = some_words("word", 2)
-    yield Case("sketch_xxh64_u64", "any number", lambda: Call([value, seed], [], XXH64.xxh64(seed, bytes_of(value))))
-    yield Case("sketch_murmur3_x64_128_bytes", "any hash", lambda: Call(
-        [pointer("hash"), out], [Memory(pointer("hash"), words), Memory(out, some_bytes("old", 16), bytes_of(join(*words)))]))
+def some(name, n, width=8):
+    return [unknown((name, i), width) for i in range(n)]
 
 
 def bytes_of(value):
     return [cut(value, at, 8) for at in range(0, width_of(value), 8)]
 
 
-# ---- streams: any state with this many waiting bytes
+# ---- the hash of n bytes. NULL too is a place of no bytes.
 
-# Its piece, the words of a state, and the definitions.
-Stream = collections.namedtuple("Stream", "name piece words definitions")
-STREAMS = [Stream("xxh64", 32, ["seed", "v1", "v2", "v3", "v4"], XXH64), Stream("murmur3_x64_128", 16, ["h1", "h2"], MURMUR)]
-
-
-def of(stream, name):
-    """A definition whose name begins with that of the hash."""
-    return getattr(stream.definitions, f"{stream.name.partition('3')[0]}_{name}")
+def words_of(hash, seed, data):
+    return [XXH64.xxh64(seed, data)] if hash == "xxh64" else list(MURMUR.murmur(seed, data))
 
 
-def total(stream, fill, least=0):
-    bits = stream.piece.bit_length() - 1
-    return join(number(fill, bits), unknown(("pieces", least), 64 - bits, least))
+def one_call(hash, n, is_null=False):
+    at, data = number(0) if is_null else input, some("input", n)
+    words = words_of(hash, seed, data)
+    if hash == "xxh64":
+        return Call([at, number(n), seed], [Memory(at, data)], *words)
+    return Call([at, number(n), seed, out], [Memory(at, data), Memory(out, some("old", 2, 64), words)])
 
 
-def fields(state, piece):
-    """A state as memory. What is behind the waiting bytes may be anything."""
+def xxh64_u64():
+    value = unknown("value", 64)
+    return Call([value, seed], [], XXH64.xxh64(seed, bytes_of(value)))
+
+
+def murmur_bytes():
+    hash = some("hash", 2, 64)
+    return Call([values, out], [Memory(values, hash), Memory(out, some("old", 16), bytes_of(join(*hash)))])
+
+
+# ---- streams: any state with so many waiting bytes
+
+def of(hash, name):
+    return getattr(DEFINITIONS[hash], f"{hash}_{name}")
+
+
+def any_state(hash, total):
+    return {**{name: unknown(name, 64) for name in WORDS[hash]}, "total": total, "waiting": some("waiting", PIECE[hash])}
+
+
+def total(hash, fill, least=0):
+    size = PIECE[hash].bit_length() - 1
+    return join(number(fill, size), unknown("pieces", 64 - size, least))
+
+
+def saved(fields):
+    """A state as it is in memory."""
+    return [*(it for name, it in fields.items() if name != "waiting"), *fields["waiting"]]
+
+
+def fields(hash, state):
+    """A state of the definitions. What is behind the waiting bytes may be anything."""
     seed_or_h1, lanes_or_h2 = state["folded"]
-    words = [seed_or_h1, *lanes_or_h2.values()] if isinstance(lanes_or_h2, dict) else state["folded"]
-    return [*map(as_value, (*words, state["total"])), *state["waiting"], *[None] * (piece - len(state["waiting"]))]
+    words = [seed_or_h1, *lanes_or_h2.values()] if hash == "xxh64" else [seed_or_h1, lanes_or_h2]
+    waiting = state["waiting"]
+    return [*map(as_value, words), as_value(state["total"]), *waiting, *[None] * (PIECE[hash] - len(waiting))]
 
 
-def reset(stream):
-    old, at = some_words("old", len(stream.words) + 1) + some_bytes("old", stream.piece), pointer("state")
-    yield Case(f"sketch_{stream.name}_reset", "any state", lambda: Call(
-        [at, seed], [Memory(at, old, fields(of(stream, "start")(seed), stream.piece))]))
+def reset(hash):
+    """Also of the waiting bytes, so that a state equals one that the header initializes."""
+    before, after = saved(any_state(hash, unknown("total", 64))), fields(hash, of(hash, "start")(seed))
+    return Call([state, seed], [Memory(state, before, [it or number(0, 8) for it in after])])
 
 
-def saved(stream, total):
-    """Any saved state with this total."""
-    words = {name: unknown(name, 64) for name in stream.words}
-    return {**words, "total": total, "waiting": some_bytes("waiting", stream.piece)}
+def update(hash, fill, n, is_null=False):
+    at, data, before = number(0) if is_null else input, some("input", n), any_state(hash, total(hash, fill))
+    after = of(hash, "after")(of(hash, "state_of")(before), data)
+    return Call([state, at, number(n)], [Memory(at, data), Memory(state, saved(before), fields(hash, after))])
 
 
-def of_memory(state):
-    return [it for field in state.values() for it in (field if isinstance(field, list) else [field])]
+def digest(hash, fill, least=None):
+    """With no whole piece before, if `least` is None; else with so many of them or more."""
+    before = any_state(hash, number(fill) if least is None else total(hash, fill, least))
+    answer = of(hash, "answer")(of(hash, "state_of")(before))
+    if hash == "xxh64":
+        return Call([state], [Memory(state, saved(before))], answer)
+    return Call([state, out], [Memory(state, saved(before)), Memory(out, some("old", 2, 64), answer)])
 
 
-def update(stream, fill, n):
-    before, data, state = saved(stream, total(stream, fill)), some_bytes("input", n), pointer("state")
-    for at in [pointer("input")] + [NULL] * (n == 0):
-        def build(at=at):
-            after = of(stream, "after")(of(stream, "state_of")(before), data)
-            return Call([state, at, number(n)],
-                        [Memory(at, data), Memory(state, of_memory(before), fields(after, stream.piece))])
+# ---- columns: a length of the input, its offsets, and a number of keys
 
-        yield Case(f"sketch_{stream.name}_update", f"{n} bytes after {fill} waiting ones", build)
-
-
-def digest(stream, fill):
-    at, out = pointer("state"), pointer("out")
-    for it in [number(fill), total(stream, fill, 1)] if stream.name == "xxh64" else [total(stream, fill)]:
-        def build(it=saved(stream, it)):
-            answer, state = of(stream, "answer")(of(stream, "state_of")(it)), Memory(at, of_memory(it))
-            if stream.name == "xxh64":
-                return Call([at], [state], answer)
-            return Call([at, out], [state, Memory(out, some_words("old", 2), answer)])
-
-        yield Case(f"sketch_{stream.name}_digest", f"{fill} waiting bytes", build)
-
-
-# ---- columns
-
-def each_number(n):
-    values, old, out = some_words("value", n), some_words("old", n + 1), pointer("out")
-    for count in (n, n + 1):
-        new = [XXH64.xxh64(seed, bytes_of(it)) for it in values] if count == n else old
-        yield Case("sketch_xxh64_each_u64", f"{n} numbers, {count} places", lambda: Call(
-            [pointer("values"), number(n), seed, out, number(count)],
-            [Memory(pointer("values"), values), Memory(out, old[:count], new)], OK if count == n else COUNT))
-
-
-# A length of the input, offsets, and a number of keys.
-COLUMNS = [(0, [], 0), (9, [4], 0), (8, [0, 3], 1), (41, [1, 1, 9, 41], 3), (100, [0, 33, 100, 7], 2),  # right
-           (8, [], 1), (8, [9], 0), (8, [0], 1), (8, [0, 9], 1), (8, [0, 3, 2], 2), (8, [5, 4], 1), (50, [0, 40, 41, 51, 9], 4)]
+EACH_LENGTH = 0, *itertools.accumulate(range(97))
+RIGHT = [(EACH_LENGTH[-1], EACH_LENGTH, 97), (0, (), 0), (9, (4,), 0), (8, (0, 3), 1), (41, (1, 1, 9, 41), 3)]
+WRONG = [(8, (), 1), (8, (9,), 0), (8, (0,), 1), (8, (0, 9), 1), (8, (0, 3, 2), 2), (8, (5, 4), 1), (50, (0, 40, 41, 51, 9), 4)]
+WRONG += [(8, (0, high + 3), 1) for high in (1 << 31, 1 << 32, 1 << 63)]
+COLUMNS = {32: RIGHT + WRONG[:-2], 64: RIGHT + WRONG + [(1 << 33, ((1 << 32) + 5, 7), 1)]}
 
 
 def first_wrong_offset(length, offsets, count):
-    """IsFirstWrongOffset: the place, or None if all are bounds."""
+    """IsFirstWrongOffset: its index, or None."""
     if count == 0 and not offsets:
         return None
-    for i in range(count + 1):
-        if i >= len(offsets) or offsets[i] > length or offsets[i] < [0, *offsets][i]:
-            return i
-    return None
+    wrong = (i for i in range(count + 1) if i >= len(offsets) or not (0, *offsets)[i] <= offsets[i] <= length)
+    return next(wrong, None)
 
 
-def each_key(stream, width, column):
-    """The hash of each key, or the first wrong offset and nothing else."""
-    length, offsets, count = column
-    data, out, fault = some_bytes("input", length), pointer("out"), pointer("fault")
-    hash, words = (XXH64.xxh64, 1) if stream.name == "xxh64" else (MURMUR.murmur, 2)
-    old = some_words("old", words * count)
+class Column:
+    """Keys in a call: its arguments before the places for results, and after them; the keys; and what it reads and writes."""
 
-    def build():
-        wrong = first_wrong_offset(*column)
-        found = [hash(seed, data[start:end]) for start, end in zip(offsets, offsets[1 : count + 1])] if wrong is None else []
-        new = old if wrong is not None else found if words == 1 else [it for pair in found for it in pair]
-        return Call([pointer("input"), number(length), pointer("offsets"), number(len(offsets)), seed, out, number(count), fault],
-                    [Memory(pointer("input"), data), Memory(pointer("offsets"), [number(it, width) for it in offsets]),
-                     Memory(out, old, new), fault_memory(fault, wrong)], OK if wrong is None else OFFSET)
-
-    yield Case(f"sketch_{stream.name}_each{width}", f"{length} bytes, offsets {offsets}, {count} keys", build)
+    def __init__(self, width, length, offsets, count, is_read=True):
+        wrong = first_wrong_offset(length, offsets, count) if is_read else None
+        data, fault, old = some("input", length * (wrong is None and is_read)), pointer("fault"), unknown("old fault", 64)
+        self.status = OK if wrong is None else OFFSET
+        self.keys = [data[start:end] for start, end in zip(offsets, offsets[1 : count + 1])] if wrong is None else []
+        self.first, self.last = [input, number(length), values, number(len(offsets))], [fault]
+        self.memory = [Memory(input, data), Memory(values, [number(it, width) for it in offsets]),
+                       Memory(fault, [old], [old if wrong is None else number(wrong)])]
 
 
-def fault_memory(at, wrong):
-    old = unknown("old fault", 64)
-    return Memory(at, [old], [old if wrong is None else number(wrong)])
+def each_key(hash, width, length, offsets, count):
+    it, old = Column(width, length, offsets, count), some("old", count * (1 if hash == "xxh64" else 2), 64)
+    new = [word for key in it.keys for word in words_of(hash, seed, key)] if it.status == OK else old
+    return Call([*it.first, seed, out, number(count), *it.last], [*it.memory, Memory(out, old, new)], it.status)
+
+
+def each_number(n, places):
+    numbers, old = some("number", n, 64), some("old", min(n, places), 64)
+    new = [XXH64.xxh64(seed, bytes_of(it)) for it in numbers[:places]] if places <= n else old
+    return Call([values, number(n), seed, out, number(places)],
+                [Memory(values, numbers), Memory(out, old, new)], OK if places <= n else COUNT)
 
 
 # ---- filters
 
-bits = pointer("bits")
-blocks = unknown("blocks", 32, 1)
-any_length = extend(join(number(0, 5), blocks))
-# All other lengths: none, too many blocks, and what is no multiple of 32.
-WRONG = [number(0), join(number(0, 5), unknown("too many blocks", 59, 1 << 32))]
-WRONG += [join(number(it, 5), unknown("any blocks", 59)) for it in range(1, 32)]
+any_length = extend(join(number(0, 5), unknown("blocks", 32, 1)))
+# All other lengths: none, too many blocks, and no multiple of 32.
+WRONG_LENGTHS = [number(0), join(number(0, 5), unknown("too many blocks", 59, 1 << 32))]
+WRONG_LENGTHS += [join(number(n, 5), unknown("any blocks", 59)) for n in range(1, 32)]
 
 
 def mask(hash):
-    """The eight bits of a hash in a block."""
-    return join(*(power_of_two(cut(as_value(FILTER.mask_bit(hash, w)), 0, 5), 32) for w in range(8)))
+    """IsMaskBit: a block with the eight bits of a hash."""
+    places = [as_value(FILTER.mask_bit(hash, w)) for w in range(8)]
+    assert all(number_in(shift_right(it, 5)) == 0 for it in places)
+    return join(*(power_of_two(cut(it, 0, 5), 32) for it in places))
 
 
 class Filter:
-    """What is before and after at the places that a call may reach: for each a block of the filter."""
+    """The blocks that a call may reach, before it and after it."""
 
-    def __init__(self, count=None):
+    def __init__(self, blocks=None):
         """Of so many blocks, or of any number: then each key has another one."""
-        self.count, self.length = count, any_length if count is None else number(32 * count)
-        self.blocks = {} if count is None else {add(bits, number(32 * i)): self.fresh(i) for i in range(count)}
-        self.before = dict(self.blocks)
-
-    def fresh(self, i):
-        return join(*(unknown(("block", i, w), 32) for w in range(8)))
+        self.count, self.length = (blocks, number(32 * blocks)) if blocks else (cut(any_length, 5, 32), any_length)
+        self.before = {add(bits, number(32 * i)): join(*some(("block", i), 8, 32)) for i in range(blocks or 0)}
+        self.after = dict(self.before)
 
     def block(self, hash):
-        block = as_value(FILTER.block_of(extend(blocks) if self.count is None else self.count, hash))
-        at = add(bits, extend(join(number(0, 5), cut(block, 0, 32))))
-        if at not in self.blocks:
-            self.blocks[at] = self.before[at] = self.fresh(len(self.blocks))
+        block = as_value(FILTER.block_of(self.count if isinstance(self.count, int) else extend(self.count), hash))
+        at = add(bits, join(number(0, 5), cut(block, 0, 59)))
+        if at not in self.after:
+            self.after[at] = self.before[at] = join(*some(("block", len(self.after)), 8, 32))
         return at
 
     def insert(self, hash):
         at = self.block(hash)
-        self.blocks[at] = bitwise("or", self.blocks[at], mask(hash))
+        self.after[at] = bitwise("or", self.after[at], mask(hash))
 
-    def contains(self, hash):
-        return is_zero(bitwise("and", complement(self.blocks[self.block(hash)]), mask(hash)))
+    def contains(self, hash, width):
+        return extend(is_zero(bitwise("and", complement(self.after[self.block(hash)]), mask(hash))), width)
 
-    def memory(self, is_written):
-        return [Memory(at, [old], [self.blocks[at]] * is_written) for at, old in self.before.items()]
-
-
-def one_key(name, key, of_key, hash):
-    """Inserts and looks up a key or a hash, in a filter of any length; and what no filter is."""
-    def build(is_insert):
-        it = Filter()
-        result = it.insert(hash()) or OK if is_insert else extend(it.contains(hash()), 32)
-        return Call([bits, it.length, *key], it.memory(is_insert) + of_key, result)
-
-    for call, is_insert in ((f"sketch_bloom_insert{name}", True), (f"sketch_bloom_contains{name}", False)):
-        yield Case(call, f"any filter, {len(key)}", lambda is_insert=is_insert: build(is_insert))
-        for wrong in WRONG if name else WRONG[:3]:
-            yield Case(call, "a wrong length", lambda wrong=wrong, is_insert=is_insert: Call(
-                [bits, wrong, *key], of_key, LENGTH if is_insert else number(1, 32)))
+    def memory(self, is_insert):
+        return [Memory(at, [block], [self.after[at]] * is_insert) for at, block in self.before.items()]
 
 
-def filter_keys(lengths):
-    hash = unknown("hash", 64)
-    yield from one_key("_hash", [hash], [], lambda: hash)
-    for n in lengths:
-        data = some_bytes("input", n)
-        for at in [pointer("input")] + [NULL] * (n == 0):
-            yield from one_key("", [at, number(n)], [Memory(at, data)], lambda: FILTER.hash_of(data))
+def one_key(is_insert, n=None, is_null=False, wrong=None):
+    """A key of n bytes, or the hash of one; in any filter, or in one of a wrong length, of which nothing is read."""
+    at, data, it = number(0) if is_null else input, some("input", n or 0), Filter()
+    hash, key = (unknown("hash", 64), [unknown("hash", 64)]) if n is None else (FILTER.hash_of(data), [at, number(n)])
+    if wrong is not None:
+        return Call([bits, WRONG_LENGTHS[wrong], *key], [Memory(at, data)], LENGTH if is_insert else number(1, 32))
+    result = OK if is_insert else it.contains(hash, 32)
+    if is_insert:
+        it.insert(hash)
+    return Call([bits, it.length, *key], [*it.memory(is_insert), Memory(at, data)], result)
 
 
-def filter_columns(name, given, keys, count, sizes):
-    """Inserts and looks up several keys. `given` are the arguments, with their memory, and `keys` the hashes."""
-    arguments, memory = given
-    found, old = pointer("found"), some_bytes("old", count)
-
-    def build(is_insert, size):
-        it = Filter(size)
-        if is_insert:
-            for hash in keys():
-                it.insert(hash)
-            return Call([bits, it.length, *arguments], it.memory(True) + memory, OK)
-        answers = [extend(it.contains(hash), 8) for hash in keys()]
-        return Call([bits, it.length, *arguments, found, number(count)],
-                    it.memory(False) + [*memory, Memory(found, old, answers)], OK)
-
-    for call, is_insert in ((f"sketch_bloom_insert_each{name}", True), (f"sketch_bloom_contains_each{name}", False)):
-        for size in sizes:
-            about = f"{count} keys in {size or 'any number of'} blocks"
-            yield Case(call, about, lambda is_insert=is_insert, size=size: build(is_insert, size))
+def column_in_filter(is_insert, blocks, hashes, first, memory, places, status=OK, last=()):
+    """With 0 blocks the filter has a wrong length."""
+    it, old, status = Filter(blocks), some("old", places), status if blocks != 0 else LENGTH
+    hashes = hashes if status == OK else []
+    answers = [it.contains(hash, 8) for hash in hashes] if status == OK and not is_insert else old
+    for hash in hashes * is_insert:
+        it.insert(hash)
+    results = [] if is_insert else [found, number(places)]
+    return Call([bits, it.length if blocks != 0 else number(33), *first, *results, *last],
+                [*it.memory(is_insert), *memory, Memory(found, old, [] if is_insert else answers)], status)
 
 
-def numbers_in_filters(n):
-    """Columns of n numbers and of n hashes, whose highest bit says which of two blocks is theirs."""
-    at = pointer("values")
-    for name, width in (("_u32", 32), ("_u64", 64)):
-        values = some_words("value", n, width)
-        given = [at, number(n)], [Memory(at, values)]
-        yield from filter_columns(name, given, lambda values=values: [FILTER.hash_of(bytes_of(it)) for it in values], n, [None, 1])
-    for high in itertools.product((0, 1), repeat=n):
-        hashes = [join(unknown(("hash", i), 63), number(bit, 1)) for i, bit in enumerate(high)]
-        given = [at, number(n)], [Memory(at, hashes)]
-        yield from filter_columns("_hash", given, lambda hashes=hashes: hashes, n, [2])
-    hashes = some_words("hash", n)
-    yield from filter_columns("_hash", ([at, number(n)], [Memory(at, hashes)]), lambda: hashes, n, [None, 1])
+def keys_in_filter(is_insert, blocks, width, length, offsets, count):
+    """To insert a column takes as many keys as its offsets bound."""
+    it = Column(width, length, offsets, max(len(offsets) - 1, 0) if is_insert else count, blocks != 0)
+    return column_in_filter(is_insert, blocks, [*map(FILTER.hash_of, it.keys)], it.first, it.memory, count, it.status, it.last)
+
+
+def numbers_in_filter(is_insert, blocks, width, n, places):
+    numbers = some("number", n, width)
+    hashes = [FILTER.hash_of(bytes_of(it)) for it in numbers[:places]]
+    status = OK if places <= n else COUNT
+    return column_in_filter(is_insert, blocks, hashes, [values, number(n)], [Memory(values, numbers)], places, status)
+
+
+def hashes_in_filter(is_insert, blocks, n, choice=()):
+    """`choice`: of two blocks, that of each hash, which its highest bit says."""
+    hashes = [join(unknown(("hash", i), 63), number(bit, 1)) for i, bit in enumerate(choice)] or some("hash", n, 64)
+    return column_in_filter(is_insert, blocks, hashes, [values, number(n)], [Memory(values, hashes)], n)
+
+
+def merge_wrong(wrong):
+    return Call([bits, WRONG_LENGTHS[wrong], values, WRONG_LENGTHS[wrong]], [], LENGTH)
+
+
+def merge(length, other_length, is_first):
+    """Of two filters, whichever is the first in memory."""
+    before, other = some("bit", length), some("other", other_length)
+    places = [bits, add(bits, extend(unknown("gap", 61, 1 << 20)))]
+    into, source = places if is_first else reversed(places)
+    is_right = length == other_length and length and length % 32 == 0
+    after = [bitwise("or", *pair) for pair in zip(before, other)] if is_right else before
+    return Call([into, number(length), source, number(other_length)],
+                [Memory(into, before, after), Memory(source, other)], OK if is_right else LENGTH)
+
+
+def fold(length):
+    """Folds: block k is the union of blocks 2 * k and 2 * k + 1. The second half is unchanged."""
+    before, is_right = some("bit", length), length and length % 64 == 0
+    halves = [bitwise("or", before[i + i // 32 * 32], before[i + i // 32 * 32 + 32]) for i in range(length // 2 * is_right)]
+    return Call([bits, number(length)], [Memory(bits, before, halves + before[len(halves) :])], OK if is_right else LENGTH)
+
+
+def check(wrong=None):
+    return Call([any_length if wrong is None else WRONG_LENGTHS[wrong]], [], OK if wrong is None else LENGTH)
+
+
+# ---- all calls, by function
+
+def cases(lengths, added):
+    """The lengths of one call; and what one update adds, or a key in a filter has."""
+    def case(function, build, *arguments):
+        return Case(f"sketch_{function}", functools.partial(build, *arguments))
+
+    yield case("xxh64_u64", xxh64_u64)
+    yield case("murmur3_x64_128_bytes", murmur_bytes)
+    for hash, name in NAMES.items():
+        yield from (case(name, one_call, hash, n, is_null) for n in lengths for is_null in (False, True)[: 1 + (n == 0)])
+        yield case(f"{name}_reset", reset, hash)
+        for fill in range(PIECE[hash]):
+            yield from (case(f"{name}_digest", digest, hash, fill, least) for least in ((None, 1) if hash == "xxh64" else (0,)))
+            yield from (case(f"{name}_update", update, hash, fill, n) for n in added)
+        yield case(f"{name}_update", update, hash, 7, 0, True)
+        yield from (case(f"{name}_each{width}", each_key, hash, width, *it) for width in (32, 64) for it in COLUMNS[width])
+    yield from (case("xxh64_each_u64", each_number, n, places) for n in range(18) for places in (n - (n > 9), n + 1))
+    yield from (case("bloom_check", check, wrong) for wrong in (None, *range(33)))
+    lengths = [0, 32, 64, 96, 128, 192, 256, 320]
+    yield from (case("bloom_merge", merge, n, n, first) for n in [1, *lengths] for first in (True, False))
+    yield from (case("bloom_merge", merge_wrong, wrong) for wrong in range(33))
+    yield from (case("bloom_merge", merge, n, m, True) for n, m in ((0, 32), (32, 0), (64, 32), (32, 64), (33, 32)))
+    for it in (True, False):
+        yield from filter_cases(case, it, f"bloom_{'insert' if it else 'contains'}", added)
+
+
+def filter_cases(case, it, name, added):
+    yield from (case(f"{name}_hash", one_key, it, None, False, wrong) for wrong in (None, *range(33)))
+    yield from (case(name, one_key, it, n, False, wrong) for n in added for wrong in (None, 0, 1, 2))
+    yield case(name, one_key, it, 0, True)
+    for n, blocks in itertools.product(range(4), (None, 1)):
+        yield case(f"{name}_each_hash", hashes_in_filter, it, blocks, n)
+        for width, places in itertools.product((32, 64), (n,) if it else (n, n + 1)):
+            yield case(f"{name}_each_u{width}", numbers_in_filter, it, blocks, width, n, places)
+    for n in (1, 2, 3):
+        yield from (case(f"{name}_each_hash", hashes_in_filter, it, 2, n, choice) for choice in itertools.product((0, 1), repeat=n))
+    for width in COLUMNS:
+        for column, blocks in itertools.product(COLUMNS[width], (None, 1, 0)):
+            yield case(f"{name}_each{width}", keys_in_filter, it, blocks, width, *column)
+    yield case(f"{name}_each_hash", hashes_in_filter, it, 0, 2)
+    yield from (case(f"{name}_each_u{width}", numbers_in_filter, it, 0, width, 2, 2) for width in (32, 64))

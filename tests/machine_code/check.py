@@ -1,72 +1,96 @@
-"""..."""
-import argparse, pathlib, sys, time, collections
-import machine, values, calls
+"""Checks the instructions of a library, as they ship, against the definitions: for every content, seed and address.
+
+    check.py [--all] LIBRARY..      --all: more lengths, in about two minutes a library
+
+For each call in calls.py it executes the instructions on unknowns, and compares what they leave with what the definitions
+say of the same unknowns. Where both have one normal form, they are equal for all values of the unknowns. Then it also holds:
+reads and writes are only where the header allows, the registers that a caller keeps and the stack are restored, accesses
+that must be aligned are, and no branch and no address depends on a content or a seed, but for the block of a filter.
+
+What is believed, in the place of a compiler: that objdump decodes an instruction as the processor does; that x86.py and
+aarch64.py say what each does; that each rule of values.py gives an equal value; that definitions.py reads specs/*.antt as
+the prover does; that calls.py says what the header does; and the system's loader. An instruction, a form or a flag that is
+not known stops the check. Not covered are other lengths, the calls that calls.py does not have, and time.
+"""
+import argparse
+import collections
+import pathlib
+import sys
+
+import calls
+import machine
+import values
 from aarch64 import Aarch64
 from library import Library
-from machine import Undecided
-from values import Stop, cut, is_zero, number, width_of
+from values import Stop, add, cut, is_zero, number, width_of
 from x86 import X86
+
 MACHINES = {"x86-64": X86, "aarch64": Aarch64}
-DECIDES_BY_A_SUM = {"sketch_murmur3_x64_128_digest"}
+ALL = range(257), range(101)
+SOME = [*range(98), 128, 255, 256], [*range(36), 47, 48, 49, 63, 64, 65, 72, 95, 100]
+# These calls choose by whether a sum is 0, and so by content. Both ways are checked. To forbid it, remove the name.
+CHOOSE_BY_A_SUM = {"sketch_murmur3_x64_128_digest"}
+
 
 def assume(facts):
-    values.facts.clear(); values.facts.update(facts)
-    for it in (values.part_of, values.linear, machine.place_of): it.cache_clear()
+    values.facts.clear()
+    values.facts.update(facts)
+    for it in (values.part_of, values.linear, machine.place_of):
+        it.cache_clear()
+
 
 def check(library, case):
-    executed, paths = set(), [{}]
+    """Checks a call on each path, or raises Stop. Returns the addresses of the instructions that were executed."""
+    executed, paths = {}, [{}]
     while paths:
         facts = paths.pop()
-        assume(facts)
-        m = MACHINES[library.processor](library)
+        if facts or values.facts:
+            assume(facts)
+        run = MACHINES[library.processor](library)
         try:
-            run(m, case)
-        except Undecided as it:
-            if case.function not in DECIDES_BY_A_SUM: raise
-            paths += [{**facts, is_zero(it.value): number(1, 1), it.value: number(0)}, {**facts, is_zero(it.value): number(0, 1)}]
-        finally:
-            executed |= set(m.executed)
-            if facts: assume({})
+            check_path(run, case)
+        except machine.Undecided as choice:
+            if case.function not in CHOOSE_BY_A_SUM:
+                raise
+            zero = is_zero(choice.value)
+            paths += [{**facts, zero: number(1, 1), choice.value: number(0)}, {**facts, zero: number(0, 1)}]
+        executed |= dict.fromkeys(run.executed)
     return executed
 
-def run(m, case):
+
+def check_path(run, case):
     call = case.build()
     for it in call.memory:
-        m.map(it.at, it.before, bool(it.after))
-    m.call(case.function, call.arguments)
-    if call.result is not None and cut(m.result(), 0, width_of(call.result)) != call.result:
-        raise Stop(f"returns another value")
+        run.map(it.at, it.before, writable=bool(it.after))
+    run.call(case.function, call.arguments)
+    if call.result is not None and cut(run.result(), 0, width_of(call.result)) != call.result:
+        raise Stop("the result is not what the definitions say")
     for it in call.memory:
         at = it.at
-        for value, old in zip(it.after, it.before):
-            if value is not None and m.load(at, width_of(old) // 8) != value:
-                raise Stop(f"writes another value")
-            at = values.add(at, number(width_of(old) // 8))
+        for before, after in zip(it.before, it.after):
+            if after is not None and run.load(at, width_of(before) // 8) != after:
+                raise Stop("what is written is not what the definitions say")
+            at = add(at, number(width_of(before) // 8))
 
-def cases(lengths, added):
-    for n in lengths: yield from calls.hashes(n)
-    yield from calls.numbers()
-    for s in calls.STREAMS:
-        yield from calls.reset(s)
-        for f in range(s.piece):
-            yield from calls.digest(s, f)
-            for n in added: yield from calls.update(s, f, n)
-        for w in (32, 64):
-            for c in calls.COLUMNS: yield from calls.each_key(s, w, c)
-    for n in range(17): yield from calls.each_number(n)
-    yield from calls.filter_keys(added)
-    for n in range(4): yield from calls.numbers_in_filters(n)
 
-for path in sys.argv[3:]:
-    library = Library(pathlib.Path(path).read_bytes())
-    print(path, len(library.functions), len(library.instructions))
-    found = collections.defaultdict(lambda: [0, 0, 0.0, None])
-    for case in cases(range(int(sys.argv[1])), range(int(sys.argv[2]))):
-        f = found[case.function]; t = time.process_time()
-        try:
-            check(library, case); f[0] += 1
-        except Stop as e:
-            f[1] += 1; f[3] = f[3] or (case.about, str(e)[:300])
-        f[2] += time.process_time() - t
-    for k, v in found.items(): print(k, v)
-    print(sum(v[2] for v in found.values()))
+def main():
+    options = argparse.ArgumentParser(description=__doc__, formatter_class=argparse.RawDescriptionHelpFormatter)
+    options.add_argument("--all", action="store_true")
+    options.add_argument("libraries", nargs="+", type=pathlib.Path)
+    options = options.parse_args()
+    is_wrong = False
+    for path in options.libraries:
+        library, equal = Library(path.read_bytes()), collections.Counter()
+        for case in calls.cases(*(ALL if options.all else SOME)):
+            try:
+                check(library, case)
+                equal[case.function] += 1
+            except Stop as stop:
+                is_wrong = True
+                print(f"{case.function} {case.build.args}: {stop}")
+        print(f"{path}: {equal.total()} calls equal", *(f"{count:6} {name}" for name, count in equal.items()), sep="\n  ")
+    return is_wrong
+
+
+if __name__ == "__main__":
+    sys.exit(main())

@@ -8,11 +8,13 @@ import functools
 import operator
 import pathlib
 import re
+import sys
 
 from values import add, bitwise, cut, extend, is_below, join, mul, number, number_in, shift_right, sub
 
 CRATES = pathlib.Path(__file__).parents[2] / "crates"
 TOKEN = re.compile(r'\s*(0x[0-9A-Fa-f]+|\d+|"[^"]*"|[^\W\d]\w*|\.\w+|\[\]|\+\+|==|\S)')
+sys.setrecursionlimit(10_000)  # definitions call themselves for each of 256 inputs
 LEVELS = [["≡"], ["=="], ["∷", "++"], ["+", "-"], ["*", "/", "%"], ["^"]]
 
 
@@ -46,18 +48,22 @@ def as_number(it):
     return extend(it) if n is None else n
 
 
-def places(power):
-    """Of a number 2^n: n."""
-    n = number_in(power) or 1 << 64  # which has no place in 64 bits
-    assert n & n - 1 == 0
-    return n.bit_length() - 1
+def by_power(on_numbers, on_values):
+    """Of a number, or of a word and a power of two up to 2^64."""
+    def run(x, n):
+        if isinstance(x, int):
+            return on_numbers(x, n)
+        if n & n - 1 or n > 1 << 64:
+            raise ValueError(f"a word is divided by {n}")
+        return as_number(on_values(x, n.bit_length() - 1))
+
+    return run
 
 
 OPERATORS = {
     "≡": operator.eq, "==": operator.eq, "++": operator.add, "^": operator.pow, "∷": lambda x, rest: [x, *rest],
     "+": of_words(operator.add, add), "-": of_words(operator.sub, sub), "*": of_words(operator.mul, mul),
-    "/": of_words(operator.floordiv, lambda x, n: shift_right(x, places(n))),
-    "%": of_words(operator.mod, lambda x, n: extend(cut(x, 0, places(n)))),
+    "/": by_power(operator.floordiv, shift_right), "%": by_power(operator.mod, lambda x, n: extend(cut(x, 0, n))),
 }
 GIVEN = {
     "xor": of_words(operator.xor, functools.partial(bitwise, "xor")), "nat_lt": of_words(operator.lt, is_below),
@@ -67,28 +73,25 @@ GIVEN = {
     "take": Function(2, lambda n, items: items[:n]), "drop": Function(2, lambda n, items: items[n:]),
     "slice_index": Function(2, lambda items, i: items[i]), "replicate": Function(2, lambda n, it: [it] * n),
     "length": Function(1, len), "codes": Function(1, lambda text: [*text.encode()]),
+    "range_with_len": Function(2, lambda start, n: [*range(start, start + n)]),
 }
 
 
 class Definitions:
     """The names of some files. Each is read when it is first used."""
 
-    def __init__(self, *files, edit=lambda text: text):
-        self.equations, self.known = {}, dict(GIVEN)
+    def __init__(self, *files):
+        self.equations, self.texts = dict.fromkeys(GIVEN), []
+        self.__dict__ |= GIVEN
         for file in files:
-            text = re.sub(r"--.*", "", edit((CRATES / file).read_text()))
+            text = re.sub(r"--.*", "", (CRATES / file).read_text())
+            self.texts.append(text)
             for name in re.findall(r"^(?:abbrev|unfoldable) pub (\w+) :", text, re.M):
                 found = re.findall("^" + name + r"\b((?: [^=\n]*)?)=[ \n](.*(?:\n+[ }].*)*)", text, re.M)
                 self.equations.setdefault(name, found)
 
     def __getattr__(self, name):
-        if name not in self.known:
-            self.known[name] = self.read([(Reader(self, left), Reader(self, right)) for left, right in self.equations[name]])
-        setattr(self, name, self.known[name])
-        return self.known[name]
-
-    def read(self, equations):
-        cases = [(left.patterns(), right.expression()) for left, right in equations]
+        cases = [(Reader(self, left).patterns(), Reader(self, right).expression()) for left, right in self.equations[name]]
 
         def run(*arguments):
             for patterns, body in cases:
@@ -96,7 +99,23 @@ class Definitions:
                 if all(fits(argument, bound) for fits, argument in zip(patterns, arguments)):
                     return body(bound)
 
-        return Function(len(cases[0][0]), run) if cases[0][0] else run()
+        setattr(self, name, Function(len(cases[0][0]), run) if cases[0][0] else run())
+        return getattr(self, name)
+
+    def used(self):
+        return [name for name in self.equations if name in vars(self) and name not in GIVEN]
+
+    def change(self, name, i, right):
+        """Gives an equation another right side; everything is read anew."""
+        self.equations[name][i] = self.equations[name][i][0], right
+        for it in self.used():
+            delattr(self, it)
+
+    def claims(self, record):
+        """The fields of a record that say of two things that they are equal: the name of each, and whether they are."""
+        (fields,) = (it for text in self.texts for it in re.findall(rf"^pub record {record} :.*\n((?:  .*\n)*)", text, re.M))
+        for name, claim in re.findall(r"^  pub (\w+) :((?:.*\n)+?)(?=  pub|\Z)", fields, re.M):
+            yield name, Reader(self, claim).expression()({})
 
 
 class Reader:
@@ -196,7 +215,9 @@ class Reader:
         return lambda bound: bound[text] if text in bound else getattr(self.definitions, text)
 
 
-HASHES = [f"sketch_hash/specs/{name}.antt" for name in ("Words", "Pieces", "Xxh64", "States")]
-XXH64 = Definitions(*HASHES)
-MURMUR = Definitions(*(name.replace("Xxh64", "Murmur") for name in HASHES))
-FILTER = Definitions("sketch_bloom/specs/Filter.antt", *HASHES)
+def of_hash(hash, *files):
+    return Definitions(*files, *(f"sketch_hash/specs/{name}.antt" for name in ("Words", "Pieces", hash, "States")))
+
+
+XXH64, MURMUR = of_hash("Xxh64"), of_hash("Murmur")
+FILTER = of_hash("Xxh64", "sketch_bloom/specs/Filter.antt")

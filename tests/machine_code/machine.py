@@ -133,6 +133,8 @@ class Machine:
     # ---- a run
 
     def call(self, function, arguments):
+        if function not in self.library.functions:
+            raise Stop("the library does not have it")
         self.pass_arguments(arguments)
         before, at = dict(self.registers), self.library.functions[function]
         while at != number_in(CALLER):

@@ -65,8 +65,8 @@ def plus_one(sign):
     return lambda m, x: m.compare("other", x, None, add(x, number(1, width_of(x)), sign))
 
 
-def add_with_carry(m, x, y):
-    return m.compare(None, x, y, add(add(x, y), extend(m.condition("b"), width_of(x))))
+def with_carry(sign):
+    return lambda m, x, y: m.compare(None, x, y, add(add(x, y, sign), extend(m.condition("b"), width_of(x)), sign))
 
 
 def interleaved(size, x, y):
@@ -92,7 +92,7 @@ def plain(function):
 
 SOURCE = plain(lambda x: x)
 OPERATIONS = {
-    "add": Machine.sum, "sub": Machine.subtract, "cmp": Machine.subtract, "adc": add_with_carry,
+    "add": Machine.sum, "sub": Machine.subtract, "cmp": Machine.subtract, "adc": with_carry(1), "sbb": with_carry(-1),
     "neg": lambda m, x: m.subtract(number(0, width_of(x)), x), "inc": plus_one(1), "dec": plus_one(-1),
     "imul": lambda m, x, y: m.compare(None, x, y, mul(x, y)), "not": plain(complement),
     "shl": shift(shift_left), "shr": shift(shift_right), "ror": shift(rotate_right),
