@@ -84,12 +84,13 @@ class Aarch64(Machine):
         if name in CONDITIONS:
             return CONDITIONS[name]
         if name[0] == "#" or name[0].isdigit():
-            return number(int(name.strip("#"), 0), width)
-        if name in ("xzr", "wzr", "sp"):
-            return self.registers["sp"] if name == "sp" else number(0, WIDTHS[name[0]])
-        register, size = self.register(name)
-        place = re.search(r"\[(\d)\]", name)
-        value = cut(self.registers[register], size * int(place[1]) if place else 0, size)
+            value = number(int(name.strip("#"), 0), width)
+        elif name in ("xzr", "wzr", "sp"):
+            value = self.registers["sp"] if name == "sp" else number(0, WIDTHS[name[0]])
+        else:
+            register, size = self.register(name)
+            place = re.search(r"\[(\d)\]", name)
+            value = cut(self.registers[register], size * int(place[1]) if place else 0, size)
         how, _, n = change.partition(" #")
         if how == "uxtw":
             value, how = extend(value), "lsl"

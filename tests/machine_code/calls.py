@@ -2,6 +2,8 @@
 import collections
 import functools
 import itertools
+import pathlib
+import re
 
 from definitions import FILTER, MURMUR, XXH64, as_value
 from values import (add, bitwise, complement, cut, extend, is_zero, join, number, number_in, power_of_two, shift_right, unknown,
@@ -19,6 +21,8 @@ NAMES = {"xxh64": "xxh64", "murmur": "murmur3_x64_128"}
 DEFINITIONS = {"xxh64": XXH64, "murmur": MURMUR}
 PIECE = {"xxh64": 32, "murmur": 16}
 WORDS = {"xxh64": ["seed", "v1", "v2", "v3", "v4"], "murmur": ["h1", "h2"]}
+HEADER = pathlib.Path(__file__).parents[2] / "dist/include/sketch_hash.h"
+VERSION = int(re.search(r"SKETCH_HASH_VERSION (\d+)", HEADER.read_text())[1])
 seed = unknown("seed", 64)
 
 
@@ -232,10 +236,12 @@ def numbers_in_filter(is_insert, blocks, width, n, places):
     return column_in_filter(is_insert, blocks, hashes, [values, number(n)], [Memory(values, numbers)], places, status)
 
 
-def hashes_in_filter(is_insert, blocks, n, choice=()):
+def hashes_in_filter(is_insert, blocks, n, places, choice=()):
     """`choice`: of two blocks, that of each hash, which its highest bit says."""
-    hashes = [join(unknown(("hash", i), 63), number(bit, 1)) for i, bit in enumerate(choice)] or some("hash", n, 64)
-    return column_in_filter(is_insert, blocks, hashes, [values, number(n)], [Memory(values, hashes)], n)
+    hashes, status = some("hash", n, 64), OK if places <= n else COUNT
+    hashes = [join(cut(it, 0, 63), number(bit, 1)) for it, bit in zip(hashes, choice)] or hashes
+    first, memory = [values, number(n)], [Memory(values, hashes)]
+    return column_in_filter(is_insert, blocks, hashes[:places], first, memory, places, status)
 
 
 def merge_wrong(wrong):
@@ -253,11 +259,20 @@ def merge(length, other_length, is_first):
                 [Memory(into, before, after), Memory(source, other)], OK if is_right else LENGTH)
 
 
+def fold_wrong(rest, blocks_from=0):
+    """A length that is `rest` more than a multiple of 64, of so many blocks or more."""
+    return Call([bits, join(number(rest, 6), unknown("pairs of blocks", 58, blocks_from // 2))], [], LENGTH)
+
+
 def fold(length):
     """Folds: block k is the union of blocks 2 * k and 2 * k + 1. The second half is unchanged."""
     before, is_right = some("bit", length), length and length % 64 == 0
     halves = [bitwise("or", before[i + i // 32 * 32], before[i + i // 32 * 32 + 32]) for i in range(length // 2 * is_right)]
     return Call([bits, number(length)], [Memory(bits, before, halves + before[len(halves) :])], OK if is_right else LENGTH)
+
+
+def version():
+    return Call([], [], number(VERSION, 32))
 
 
 def check(wrong=None):
@@ -271,6 +286,7 @@ def cases(lengths, added):
     def case(function, build, *arguments):
         return Case(f"sketch_{function}", functools.partial(build, *arguments))
 
+    yield case("hash_version", version)
     yield case("xxh64_u64", xxh64_u64)
     yield case("murmur3_x64_128_bytes", murmur_bytes)
     for hash, name in NAMES.items():
@@ -287,6 +303,9 @@ def cases(lengths, added):
     yield from (case("bloom_merge", merge, n, n, first) for n in [1, *lengths] for first in (True, False))
     yield from (case("bloom_merge", merge_wrong, wrong) for wrong in range(33))
     yield from (case("bloom_merge", merge, n, m, True) for n, m in ((0, 32), (32, 0), (64, 32), (32, 64), (33, 32)))
+    yield from (case("bloom_fold", fold, n) for n in [33, *lengths])
+    yield from (case("bloom_fold", fold_wrong, rest) for rest in range(1, 64))
+    yield case("bloom_fold", fold_wrong, 0, 1 << 32)
     for it in (True, False):
         yield from filter_cases(case, it, f"bloom_{'insert' if it else 'contains'}", added)
 
@@ -295,14 +314,15 @@ def filter_cases(case, it, name, added):
     yield from (case(f"{name}_hash", one_key, it, None, False, wrong) for wrong in (None, *range(33)))
     yield from (case(name, one_key, it, n, False, wrong) for n in added for wrong in (None, 0, 1, 2))
     yield case(name, one_key, it, 0, True)
-    for n, blocks in itertools.product(range(4), (None, 1)):
-        yield case(f"{name}_each_hash", hashes_in_filter, it, blocks, n)
-        for width, places in itertools.product((32, 64), (n,) if it else (n, n + 1)):
-            yield case(f"{name}_each_u{width}", numbers_in_filter, it, blocks, width, n, places)
+    for n, blocks, more in itertools.product(range(4), (None, 1), (0,) if it else (0, 1)):
+        yield case(f"{name}_each_hash", hashes_in_filter, it, blocks, n, n + more)
+        for width in (32, 64):
+            yield case(f"{name}_each_u{width}", numbers_in_filter, it, blocks, width, n, n + more)
     for n in (1, 2, 3):
-        yield from (case(f"{name}_each_hash", hashes_in_filter, it, 2, n, choice) for choice in itertools.product((0, 1), repeat=n))
+        for choice in itertools.product((0, 1), repeat=n):
+            yield case(f"{name}_each_hash", hashes_in_filter, it, 2, n, n, choice)
     for width in COLUMNS:
         for column, blocks in itertools.product(COLUMNS[width], (None, 1, 0)):
             yield case(f"{name}_each{width}", keys_in_filter, it, blocks, width, *column)
-    yield case(f"{name}_each_hash", hashes_in_filter, it, 0, 2)
+    yield case(f"{name}_each_hash", hashes_in_filter, it, 0, 2, 2)
     yield from (case(f"{name}_each_u{width}", numbers_in_filter, it, 0, width, 2, 2) for width in (32, 64))

@@ -177,7 +177,8 @@ class X86(Machine):
             if kind == "memory" and (size or 0) > 64 and name not in UNALIGNED and (not is_avx or name in ("movaps", "movdqa")):
                 self.must_be_aligned(self.address(what), size // 8)
         if op[:3] == "set" or op[:4] == "cmov":
-            result = self.condition(op[3:]) if op[0] == "s" else self.read(operands[self.holds(op[4:])], width)
+            values = [self.read(it, width) for it in operands[op[0] == "s" :]]
+            result = self.condition(op[3:]) if op[0] == "s" else values[self.holds(op[4:])]
         elif op == "lea":
             result = self.address(operands[1][1])
         else:
