@@ -27,7 +27,7 @@ from x86 import X86
 
 MACHINES = {"x86-64": X86, "aarch64": Aarch64}
 ALL = range(257), range(101)
-SOME = [*range(98), 128, 255, 256], [*range(36), 47, 48, 49, 63, 64, 65, 72, 95, 100]
+SOME = [*range(98), 128, 255, 256], [*range(10), 15, 16, 17, 31, 32, 33, 40, 63, 64, 65, 95, 100]
 # These calls choose by whether a sum is 0, and so by content. Both ways are checked. To forbid it, remove the name.
 CHOOSE_BY_A_SUM = {"sketch_murmur3_x64_128_digest"}
 

@@ -106,8 +106,12 @@ class Definitions:
         return [name for name in self.equations if name in vars(self) and name not in GIVEN]
 
     def change(self, name, i, right):
-        """Gives an equation another right side; everything is read anew."""
+        """Gives an equation another right side."""
         self.equations[name][i] = self.equations[name][i][0], right
+        self.forget()
+
+    def forget(self):
+        """Everything is read anew."""
         for it in self.used():
             delattr(self, it)
 

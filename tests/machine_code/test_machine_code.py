@@ -58,8 +58,13 @@ def test_the_definitions_give_the_published_answers(hash):
 
 # ---- mistakes
 
-# Changes of one bit after which an instruction computes the same.
+# Changes of one bit with which a call computes the same.
 SAME = {
+    "linux-aarch64 sketch_bloom_insert_hash: mov w0, wzr -> orr w0, wzr, wzr, lsl #1": "0 shifted is 0",
+    "linux-x86_64 sketch_bloom_merge: jb -> jb": "no filter has so few bytes",
+    "linux-x86_64 sketch_bloom_insert_hash: pshufd xmm4,xmm4,0xe8 -> pshufd xmm4,xmm4,0xa8": "the third word is not used",
+    "linux-x86_64 sketch_bloom_contains_each_u64: shr rsi,0x5 -> shr rsi,0x45": "a shift is taken modulo 64",
+    "linux-x86_64 sketch_bloom_insert_each_u32: add r8,rdi -> or r8,rdi": "r8 is 0",
 }
 # Changes of one number of a definition that change nothing here.
 SAME_NUMBERS = {
@@ -71,8 +76,8 @@ SAME_NUMBERS = {
 
 
 def changed(library, users, name):
-    """A library with one bit of one of these instructions changed, and the change: the same for each name as long as the
-    code is the same."""
+    """Libraries with one bit of one of these instructions changed, and the change without a jump's target: the same for each
+    name, as long as the code of its function is the same."""
     pick = random.Random(name)
     while True:
         at = pick.choice(list(users))
@@ -82,7 +87,7 @@ def changed(library, users, name):
         other = Library(bytes(data))
         new = " ".join(other.instructions.get(at, ("nothing",))[:2])
         if op != "nop" and new != f"{op} {text}":
-            yield at, other, f"{name}: {op} {text} -> {new}"
+            yield at, other, re.sub(r" 0x[0-9a-f]+\b(?= ->|$)", "", f"{name}: {op} {text} -> {new}")
 
 
 @pytest.mark.parametrize("target", ["linux-x86_64", "linux-aarch64"])
@@ -109,6 +114,7 @@ def test_a_changed_bit_of_an_instruction_is_noticed(target):
 ], ids=["XXH64", "Murmur", "filter"])
 def test_a_changed_number_of_a_definition_is_noticed(definitions, functions):
     library = library_of("linux-x86_64")
+    definitions.forget()
     cases = [it for it in calls.cases([0, 5, 14, 47, 70], [0, 5, 40]) if re.fullmatch(f"sketch_{functions}", it.function)]
     assert [*wrong_calls(library, cases)] == []
     missed, count = [], 0
