@@ -322,7 +322,8 @@ def filter_cases(case, it, name, added):
         for choice in itertools.product((0, 1), repeat=n):
             yield case(f"{name}_each_hash", hashes_in_filter, it, 2, n, n, choice)
     for width in COLUMNS:
-        for column, blocks in itertools.product(COLUMNS[width], (None, 1, 0)):
+        yield case(f"{name}_each{width}", keys_in_filter, it, None, width, *COLUMNS[width][0])
+        for column, blocks in itertools.product(COLUMNS[width][1:], (None, 1, 0)):
             yield case(f"{name}_each{width}", keys_in_filter, it, blocks, width, *column)
     yield case(f"{name}_each_hash", hashes_in_filter, it, 0, 2, 2)
     yield from (case(f"{name}_each_u{width}", numbers_in_filter, it, 0, width, 2, 2) for width in (32, 64))

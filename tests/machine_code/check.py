@@ -32,20 +32,13 @@ SOME = [*range(98), 128, 255, 256], [*range(10), 15, 16, 17, 31, 32, 33, 40, 63,
 CHOOSE_BY_A_SUM = {"sketch_murmur3_x64_128_digest"}
 
 
-def assume(facts):
-    values.facts.clear()
-    values.facts.update(facts)
-    for it in (values.part_of, values.linear, machine.place_of):
-        it.cache_clear()
-
-
 def check(library, case):
     """Checks a call on each path, or raises Stop. Returns the addresses of the instructions that were executed."""
     executed, paths = {}, [{}]
     while paths:
         facts = paths.pop()
         if facts or values.facts:
-            assume(facts)
+            values.assume(facts)
         run = MACHINES[library.processor](library)
         try:
             check_path(run, case)

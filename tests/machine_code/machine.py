@@ -28,7 +28,7 @@ def logic(op):
     return lambda machine, x, y: machine.compare("logic", x, y, bitwise(op, x, y))
 
 
-@functools.cache
+@functools.lru_cache(1 << 16)
 def place_of(address):
     """An address as what it is relative to, and an offset."""
     n, factors = linear(address)

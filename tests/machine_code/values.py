@@ -12,6 +12,14 @@ WORD = 1 << 64
 BITS = {"and": lambda x, y: x & y, "or": lambda x, y: x | y, "xor": lambda x, y: x ^ y}
 kinds, ranges, indices = [], [], {}  # of each atom: what it is made of, its least and greatest value; and its index
 facts = {}  # what the present path assumes: values, and what they equal
+remember = functools.lru_cache(1 << 16)
+
+
+def assume(equalities):
+    facts.clear()
+    facts.update(equalities)
+    for it in (part_of, linear, add, mul):
+        it.cache_clear()
 
 
 class Stop(Exception):
@@ -46,7 +54,7 @@ def known(value, what):
 
 
 def width_of(value):
-    return sum(width for _, _, width in value)
+    return value[0][2] if len(value) == 1 else sum([width for _, _, width in value])
 
 
 # ---- bits
@@ -76,7 +84,7 @@ def cut(value, low, width):
     return join(*parts)
 
 
-@functools.cache
+@remember
 def part_of(a, low, width):
     """Bits of an atom: of a sum without the terms that are multiples of what is above these bits."""
     if kinds[a][0] == "sum":
@@ -117,7 +125,7 @@ def power_of_two(exponent, width):
 
 # ---- sums and products, modulo 2^64: a number plus pieces with factors
 
-@functools.cache
+@remember
 def linear(value):
     factors, at = {}, 0
     for a, low, width in value:
@@ -211,6 +219,7 @@ def sum_atom(n, factors):
     return facts.get(value, value)
 
 
+@remember
 def add(x, y, sign=1):
     (n, factors), (m, others) = linear(extend(x)), linear(extend(y))
     factors = dict(factors)
@@ -223,6 +232,7 @@ def sub(x, y):
     return add(x, y, -1)
 
 
+@remember
 def mul(x, y):
     size, x, y = width_of(x), extend(x), extend(y)
     for one, other in ((x, y), (y, x)):
