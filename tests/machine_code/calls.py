@@ -150,11 +150,18 @@ def each_key(hash, width, length, offsets, count):
     return Call([*it.first, seed, out, number(count), *it.last], [*it.memory, Memory(out, old, new)], it.status)
 
 
-def each_number(n, places):
+def two_places(is_first):
+    """Two pointers, of which the first is to what is before in memory, or behind: code may ask whether they overlap."""
+    behind = add(bits, extend(unknown("gap", 61, 1 << 20)))
+    return (bits, behind) if is_first else (behind, bits)
+
+
+def each_number(n, places, is_first):
     numbers, old = some("number", n, 64), some("old", min(n, places), 64)
     new = [XXH64.xxh64(seed, bytes_of(it)) for it in numbers[:places]] if places <= n else old
-    return Call([values, number(n), seed, out, number(places)],
-                [Memory(values, numbers), Memory(out, old, new)], OK if places <= n else COUNT)
+    source, to = two_places(is_first)
+    return Call([source, number(n), seed, to, number(places)],
+                [Memory(source, numbers), Memory(to, old, new)], OK if places <= n else COUNT)
 
 
 # ---- filters
@@ -249,10 +256,8 @@ def merge_wrong(wrong):
 
 
 def merge(length, other_length, is_first):
-    """Of two filters, whichever is the first in memory."""
     before, other = some("bit", length), some("other", other_length)
-    places = [bits, add(bits, extend(unknown("gap", 61, 1 << 20)))]
-    into, source = places if is_first else reversed(places)
+    into, source = two_places(is_first)
     is_right = length == other_length and length and length % 32 == 0
     after = [bitwise("or", *pair) for pair in zip(before, other)] if is_right else before
     return Call([into, number(length), source, number(other_length)],
@@ -297,7 +302,8 @@ def cases(lengths, added):
             yield from (case(f"{name}_update", update, hash, fill, n) for n in added)
         yield case(f"{name}_update", update, hash, 7, 0, True)
         yield from (case(f"{name}_each{width}", each_key, hash, width, *it) for width in (32, 64) for it in COLUMNS[width])
-    yield from (case("xxh64_each_u64", each_number, n, places) for n in range(18) for places in (n - (n > 9), n + 1))
+    for n, is_first in itertools.product(range(18), (True, False)):
+        yield from (case("xxh64_each_u64", each_number, n, places, is_first) for places in (n - (n > 9), n + 1))
     yield from (case("bloom_check", check, wrong) for wrong in (None, *range(33)))
     lengths = [0, 32, 64, 96, 128, 192, 256, 320]
     yield from (case("bloom_merge", merge, n, n, first) for n in [1, *lengths] for first in (True, False))

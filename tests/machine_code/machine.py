@@ -101,12 +101,15 @@ class Machine:
         return result
 
     def condition(self, name):
-        """One bit. The last comparison was a "sub", an "add", something "logic"al, or an "other" that sets no carry."""
+        """One bit. The last comparison was a "sub", an "add", something "logic"al, an "other" that sets no carry, or one that
+        sets these "bits"."""
         if name in OPPOSITE:
             return complement(self.condition(OPPOSITE[name]))
         if not self.flags or not self.flags[0] or name not in ("e", "b", "be", "s"):
             raise Stop(f"the condition {name} is not known here")
         what, x, y, result = self.flags
+        if what == "bits":
+            return {"e": x, "b": y}[name]
         if name == "s":
             return cut(result, width_of(result) - 1, 1)
         if name == "e":

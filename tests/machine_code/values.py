@@ -6,6 +6,7 @@ simpler; it is known by what it is made of. Each rule gives a value that is equa
 may keep different forms: then a comparison fails that should not. Different values never get one form.
 """
 import functools
+import itertools
 
 NUMBER = -1
 WORD = 1 << 64
@@ -86,12 +87,14 @@ def cut(value, low, width):
 
 @remember
 def part_of(a, low, width):
-    """Bits of an atom: of a sum without the terms that are multiples of what is above these bits."""
+    """Bits of an atom. Those of a sum are simpler if they are no sum without the terms that are multiples of what is above."""
     if kinds[a][0] == "sum":
         _, n, terms = kinds[a]
         left = {piece: factor for piece, factor in terms if factor % (1 << low + width)}
         if len(left) < len(terms):
-            return cut(total(n % (1 << low + width), left), low, width)
+            rest = total(n % (1 << low + width), left)
+            if not any(b != NUMBER and kinds[b][0] == "sum" for b, _, _ in rest):
+                return cut(rest, low, width)
     return ((a, low, width),)
 
 
@@ -158,11 +161,11 @@ def signed(n):
 def exact(n, factors):
     """The same number and factors as integers whose sum is from 0 to 2^64 - 1, so that nothing is lost modulo 2^64; and its
     least and greatest value. None if there are none."""
-    for reading in (lambda k: k % WORD, signed):
+    for reading, more in ((lambda k: k % WORD, 0), (signed, 0), (signed, WORD)):
         own = {piece: reading(factor) for piece, factor in factors.items()}
-        least, most = limits(reading(n), own)
+        least, most = limits(reading(n) + more, own)
         if 0 <= least and most < WORD:
-            return reading(n), own, least, most
+            return reading(n) + more, own, least, most
     return None
 
 
@@ -186,10 +189,18 @@ def greatest(value):
 
 
 def total(n, factors):
-    """The value of 64 bits."""
+    """The value of 64 bits. Neighbouring bits whose factors fit are one piece."""
     n, factors = n % WORD, {piece: factor % WORD for piece, factor in factors.items() if factor % WORD}
     if not factors:
         return number(n)
+    for one, other in itertools.pairwise(sorted(factors)):
+        if one[:2] == other[:2] and (factors[other] & -factors[other]) << one[2] >= WORD:
+            factors[one] += factors.pop(other)  # whose higher bits count nothing
+            return total(n, factors)
+        if one[0] == other[0] and one[1] + one[2] == other[1] and (factors[one] << one[2]) % WORD == factors[other]:
+            del factors[other]
+            collect(factors, one[0], one[1], one[2] + other[2], factors.pop(one))
+            return total(n + factors.pop(None, 0), factors)
     bits = functools.reduce(lambda x, y: x | y, factors.values(), n)
     common = (bits & -bits).bit_length() - 1
     if common:

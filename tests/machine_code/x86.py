@@ -90,6 +90,15 @@ def plain(function):
     return lambda m, *values: function(*values)
 
 
+def broadcast(size):
+    return lambda m, x: join(*[cut(x, 0, size)] * (256 // size))
+
+
+def is_covered(m, x, y):
+    """`ptest`: whether the values have no bit in common, and whether x has all bits of y."""
+    return m.compare("bits", is_zero(bitwise("and", x, y)), is_zero(bitwise("and", complement(x), y)), None)
+
+
 SOURCE = plain(lambda x: x)
 OPERATIONS = {
     "add": Machine.sum, "sub": Machine.subtract, "cmp": Machine.subtract, "adc": with_carry(1), "sbb": with_carry(-1),
@@ -107,11 +116,20 @@ OPERATIONS = {
     "pmuludq": lanewise(64, half_product), "psllvd": lanewise(32, shift_one),
     "pcmpeqb": lanewise(8, is_equal), "pcmpeqd": lanewise(32, is_equal),
     "psrld": shifted_lanes(32, shift_right), "pslld": shifted_lanes(32, shift_left), "psrlq": shifted_lanes(64, shift_right),
+    "psllq": shifted_lanes(64, shift_left),
+    # of x86-64-v3
+    "rorx": plain(lambda x, n: rotate_right(x, known(n, "a shift"))), "andn": lambda m, x, y: logic("and")(m, complement(x), y),
+    "shlx": plain(lambda x, n: shift_left(x, count_of(n, width_of(x)))), "pbroadcastd": broadcast(32),
+    "shrx": plain(lambda x, n: shift_right(x, count_of(n, width_of(x)))), "pbroadcastq": broadcast(64), "ptest": is_covered,
+    "pextrq": plain(lambda x, n: cut(x, 64 * known(n, "a place"), 64)),
+    "extracti128": plain(lambda x, n: cut(x, 128 * known(n, "a place"), 128)),
+    "inserti128": plain(lambda x, y, n: join(*((y, cut(x, 128, 128)) if known(n, "a place") == 0 else (cut(x, 0, 128), y)))),
+    "permq": plain(lambda x, n: join(*(cut(x, 64 * (known(n, "an order") >> 2 * i & 3), 64) for i in range(4)))),
 }
 OPERATIONS |= {name: logic(op) for name, op in (("and", "and"), ("test", "and"), ("or", "or"), ("xor", "xor"))}
 OPERATIONS |= {name: plain(functools.partial(bitwise, op)) for op in ("and", "or", "xor") for name in (f"p{op}", f"{op}ps")}
 OPERATIONS |= dict.fromkeys("mov movabs movzx movd movq movups movdqu movaps movdqa".split(), SOURCE)
-READ_ONLY = "cmp", "test"  # the first operand is not written
+READ_ONLY = "cmp", "test", "ptest", "vptest"  # the first operand is not written
 WRITTEN = "cvttps2dq", "pmovmskb", "lea"  # and moves: it is not read
 UNALIGNED = "movups", "movdqu"
 
@@ -173,6 +191,7 @@ class X86(Machine):
         name = op[1:] if is_avx else op
         width = max(it[2] or 0 for it in operands)
         skips = is_avx or name[:3] == "mov" or name in WRITTEN or len(operands) == 3 and name not in ("shld", "shrd")
+        skips &= op not in READ_ONLY
         for kind, what, size in operands:
             if kind == "memory" and (size or 0) > 64 and name not in UNALIGNED and (not is_avx or name in ("movaps", "movdqa")):
                 self.must_be_aligned(self.address(what), size // 8)
