@@ -1,5 +1,6 @@
 # find_package(sketch_hash) gives two targets, the shared and the static library:
-# sketch_hash::sketch_hash and sketch_hash::sketch_hash_static.
+# sketch_hash::sketch_hash and sketch_hash::sketch_hash_static. For Linux on x86-64 there is a third, the static library
+# for what is compiled with -march=x86-64-v3: sketch_hash::sketch_hash_static_x86_64_v3.
 
 foreach(sketch_hash_component IN LISTS sketch_hash_FIND_COMPONENTS)
     if(sketch_hash_FIND_REQUIRED_${sketch_hash_component})
@@ -30,4 +31,11 @@ if(NOT TARGET sketch_hash::sketch_hash)
     set_target_properties(sketch_hash::sketch_hash_static PROPERTIES
         IMPORTED_LOCATION "${sketch_hash_prefix}/lib/libsketch_hash.a")
 endif()
+set(sketch_hash_later "${sketch_hash_prefix}/lib/glibc-hwcaps/x86-64-v3/libsketch_hash.a")
+if(EXISTS "${sketch_hash_later}" AND NOT TARGET sketch_hash::sketch_hash_static_x86_64_v3)
+    add_library(sketch_hash::sketch_hash_static_x86_64_v3 STATIC IMPORTED)
+    set_target_properties(sketch_hash::sketch_hash_static_x86_64_v3 PROPERTIES
+        INTERFACE_INCLUDE_DIRECTORIES "${sketch_hash_prefix}/include" IMPORTED_LOCATION "${sketch_hash_later}")
+endif()
+unset(sketch_hash_later)
 unset(sketch_hash_prefix)

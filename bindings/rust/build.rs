@@ -20,14 +20,20 @@ fn main() {
     println!("cargo:rustc-link-lib=static:+verbatim=libsketch_hash.a");
 }
 
+/// What a target has if it is x86-64-v3, as far as Rust names it.
+const V3: [&str; 7] = ["avx2", "bmi1", "bmi2", "f16c", "fma", "lzcnt", "movbe"];
+
 /// The folder of the archive for the target: in `lib` of the packed crate, or in the repository's
 /// `dist`.
 fn of_target() -> PathBuf {
     let [os, processor, endian, bits] = ["OS", "ARCH", "ENDIAN", "POINTER_WIDTH"]
         .map(|name| env::var(format!("CARGO_CFG_TARGET_{name}")).unwrap_or_default());
     let package = PathBuf::from(env::var_os("CARGO_MANIFEST_DIR").unwrap());
+    let features = env::var("CARGO_CFG_TARGET_FEATURE").unwrap_or_default();
+    let is_v3 = V3.iter().all(|it| features.split(',').any(|feature| feature == *it));
+    let level = if is_v3 && os == "linux" { "-v3" } else { "" };
     ["lib", "../../dist"]
-        .map(|folder| package.join(folder).join(format!("{os}-{processor}")))
+        .map(|folder| package.join(folder).join(format!("{os}-{processor}{level}")))
         .into_iter()
         .find(|folder| folder.is_dir() && endian == "little" && bits == "64")
         .unwrap_or_else(|| {

@@ -74,7 +74,7 @@ def copy(tmp_path):
 def test_package_builds_on_its_own(copy, target, tmp_path):
     """After docs/contributing.md's command has put the archives into the package's folder."""
     archives = {str(it.relative_to(DIST)): it.read_bytes() for it in DIST.glob("*/*.a")}
-    assert len(archives) == 5
+    assert len(archives) == 6
     (command,) = re.findall(r"^    (mkdir .*rust/lib\))$", (DIST.parent / "docs/contributing.md").read_text(), re.M)
     shutil.copytree(DIST, tmp_path / "dist")
     subprocess.run(command, shell=True, cwd=tmp_path, check=True)
@@ -108,6 +108,14 @@ def project(tmp_path):
 
 def test_project_links_the_library_of_the_package(project):
     cargo("run", folder=project)
+
+
+def test_project_for_a_later_processor_links_its_library(project, target, need):
+    need("linux-x86_64")
+    cargo("build", folder=project, RUSTFLAGS="-Ctarget-cpu=x86-64-v3")
+    script = max(target.glob("debug/build/sketch-hash-*/output"), key=os.path.getmtime)
+    (folder,) = re.findall(r"search=native=(.*)", script.read_text())
+    assert pathlib.Path(folder).samefile(DIST / "linux-x86_64-v3")
 
 
 def test_project_links_a_library_elsewhere(project, need, tmp_path):

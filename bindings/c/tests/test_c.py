@@ -12,6 +12,7 @@ from conftest import CALLS, DIST
 HERE = pathlib.Path(__file__).resolve().parent
 INCLUDE, NATIVE = DIST / "include", DIST / "linux-x86_64"
 HEADER = (INCLUDE / "sketch_hash.h").read_text()
+HAS_V3 = {"avx2", "bmi1", "bmi2", "fma", "movbe"} <= set(pathlib.Path("/proc/cpuinfo").read_text().split())
 STRICT = ["-Wall", "-Wextra", "-Werror"]
 
 
@@ -53,6 +54,8 @@ def test_header_rejects_another_layout_of_a_state(old, new, need, tmp_path):
 MINGW, QEMU = "x86_64-w64-mingw32-gcc", ["qemu-aarch64", "-L", "/usr/aarch64-linux-gnu"]
 SYSTEMS = {  # a compiler, the library, and what runs the program
     "linux": (["gcc"], "linux-x86_64/libsketch_hash.a", []),
+    "x86-64-v3, static": (["gcc"], "linux-x86_64-v3/libsketch_hash.a", []),
+    "x86-64-v3, shared": (["gcc", f"-Wl,-rpath,{DIST / 'linux-x86_64-v3'}"], "linux-x86_64-v3/libsketch_hash.so.2", []),
     "linux-aarch64": (["aarch64-linux-gnu-gcc"], "linux-aarch64/libsketch_hash.a", QEMU),
     "musl, static": (["musl-gcc", "-static"], "linux-x86_64/libsketch_hash.a", []),
     "musl, shared": (["musl-gcc", f"-Wl,-rpath,{DIST / 'linux-x86_64'}"], "linux-x86_64/libsketch_hash.so.2", []),
@@ -109,6 +112,8 @@ def built(need, tmp_path, request):
 
     def built(name, system="linux"):
         (compiler, *options), library, runner = SYSTEMS[system]
+        if "v3" in library and not HAS_V3:
+            pytest.skip("this processor has not what x86-64-v3 has")
         peers = ["xxhash", "murmurhash"] if name == "compare" else []
         need(compiler, *runner[:1], *(f"{it}.h" for it in peers))
         source, program = (DIST if name == "check" else HERE) / f"{name}.c", tmp_path / f"{name}, {system}.exe"
@@ -155,7 +160,7 @@ def test_calls_run_in_a_stack_of_256_kib(name, built):
 
 # ---- the files
 
-@pytest.fixture(params=["linux-x86_64", "linux-aarch64"])
+@pytest.fixture(params=["linux-x86_64", "linux-x86_64-v3", "linux-aarch64"])
 def folder(request):
     return DIST / request.param
 

@@ -11,6 +11,7 @@ from conftest import CALLS, DIST
 
 HERE = pathlib.Path(__file__).resolve().parent
 CC = ["gcc", "-Wall", "-Wextra", "-Werror"]
+HAS_V3 = {"avx2", "bmi1", "bmi2", "fma", "movbe"} <= set(pathlib.Path("/proc/cpuinfo").read_text().split())
 MAN_PAGE = (DIST / "sketch_hash.3").read_text()
 
 INSTALLED = {
@@ -18,6 +19,7 @@ INSTALLED = {
     "lib/pkgconfig/sketch_hash.pc", "lib/cmake/sketch_hash/sketch_hash-config.cmake",
     "lib/cmake/sketch_hash/sketch_hash-config-version.cmake", "share/man/man3/sketch_hash.3",
     "bin/sketchsum", "share/man/man1/sketchsum.1",
+    "lib/glibc-hwcaps/x86-64-v3/libsketch_hash.a", "lib/glibc-hwcaps/x86-64-v3/libsketch_hash.so.2",
     *(f"share/man/man3/{it}.3" for it in CALLS),
     *(f"share/doc/sketch_hash/{it}" for it in ("LICENSE", "NOTICE", "PROVED", "README.md")),
 }
@@ -25,6 +27,10 @@ INSTALLED = {
 
 def make(*args, folder=DIST, **kwargs):
     return subprocess.run(["make", "-C", folder, *args], capture_output=True, text=True, **kwargs)
+
+
+def output(*command):
+    return subprocess.run(command, check=True, stdout=subprocess.PIPE, text=True).stdout
 
 
 def files_in(folder):
@@ -69,7 +75,8 @@ def test_installed_files_are_those_of_dist_and_readable(tmp_path):
     for name in INSTALLED:
         links = {".so": "libsketch_hash.so.2", ".3": "sketch_hash.3"}
         of_dist = links.get(pathlib.Path(name).suffix, pathlib.Path(name).name)
-        (source,) = (it for folder in (".", "include", "linux-x86_64") for it in DIST.glob(f"{folder}/{of_dist}"))
+        folders = ["linux-x86_64-v3"] if "x86-64-v3" in name else [".", "include", "linux-x86_64"]
+        (source,) = (it for folder in folders for it in DIST.glob(f"{folder}/{of_dist}"))
         assert (prefix / name).read_bytes() == source.read_bytes()
         assert (prefix / name).stat().st_mode & 0o777 == (0o755 if name == "bin/sketchsum" else 0o644)
     assert {it.stat().st_mode & 0o777 for it in prefix.rglob("*") if it.is_dir()} == {0o755}
@@ -90,7 +97,8 @@ def test_an_upgrade_replaces_the_library_in_use(prefix, tmp_path):
 def test_install_for_another_machine(target, libraries, tmp_path):
     assert make("install", f"PREFIX={tmp_path}", f"TARGET={target}").returncode == 0
     of_this_machine = {"bin/sketchsum", "share/man/man1/sketchsum.1", "lib/libsketch_hash.so", "lib/libsketch_hash.so.2"}
-    assert files_in(tmp_path) == INSTALLED - of_this_machine | libraries
+    of_later_ones = {it for it in INSTALLED if "x86-64-v3" in it}
+    assert files_in(tmp_path) == INSTALLED - of_this_machine - of_later_ones | libraries
     assert (tmp_path / "lib/libsketch_hash.a").read_bytes() == (DIST / target / "libsketch_hash.a").read_bytes()
     assert make("uninstall", f"PREFIX={tmp_path}").returncode == 0 and files_in(tmp_path) == set()
 
@@ -114,6 +122,18 @@ def test_make_alone_installs_nothing_and_checks_the_sums(tmp_path):
         assert done.returncode and "libsketch_hash.a" in done.stdout + done.stderr
     sums = re.findall(r"^\w{64}  \./(.*)$", (DIST / "SHA256SUMS").read_text(), re.M)
     assert {*sums, "SHA256SUMS"} == files_in(DIST)
+
+
+def test_the_loader_takes_the_library_for_the_processor(prefix, tmp_path):
+    library, later = prefix / "lib/libsketch_hash.so.2", prefix / "lib/glibc-hwcaps/x86-64-v3/libsketch_hash.so.2"
+    subprocess.run([*CC, "-o", tmp_path / "check", DIST / "check.c", f"-I{prefix}/include", library], check=True)
+    loader = re.search(r"\[Requesting program interpreter: (.*)\]", output("readelf", "-l", tmp_path / "check"))[1]
+    if not re.search(r"x86-64-v3 \(supported, searched\)", output(loader, "--help")):
+        pytest.skip("this processor, or this glibc, has no x86-64-v3")
+    command = [loader, "--library-path", prefix / "lib"]
+    assert f"=> {later} " in output(*command, "--list", tmp_path / "check")
+    assert f"=> {library} " in output(*command, "--glibc-hwcaps-mask", "x86-64-v2", "--list", tmp_path / "check")
+    assert "OK" in output(*command, tmp_path / "check")
 
 
 def test_uninstall_keeps_other_files(prefix):
@@ -152,6 +172,8 @@ def test_pkg_config(prefix, need, tmp_path, monkeypatch):
     flags = shlex.split(subprocess.check_output(["pkg-config", "--cflags", "--libs", "sketch_hash"], text=True))
     subprocess.run([*CC, "-o", tmp_path / "filter", tmp_path / "filter.c", *flags], check=True)
     assert subprocess.check_output(tmp_path / "filter") == b"certainly not\n"
+    (later,) = shlex.split(output("pkg-config", "--variable=libdir_x86_64_v3", "sketch_hash"))
+    assert pathlib.Path(later, "libsketch_hash.a").samefile(prefix / "lib/glibc-hwcaps/x86-64-v3/libsketch_hash.a")
     static = subprocess.check_output(["pkg-config", "--static", "--libs-only-l", "sketch_hash"])
     assert static.split() == [b"-lsketch_hash"]
 
@@ -178,7 +200,8 @@ def test_cmake_builds_with_both_libraries(by_a_link, prefix, need, tmp_path):
         (tmp_path / "linked/lib").symlink_to(prefix / "lib")
     done = cmake(project, tmp_path / "linked" if by_a_link else prefix)
     assert done.returncode == 0, done.stderr
-    for name in ("one/one", "one/one_static", "other/other", "other/other_static"):
+    later = ["one/one_static_v3", "other/other_static_v3"] if HAS_V3 else []
+    for name in ("one/one", "one/one_static", "other/other", "other/other_static", *later):
         fox = subprocess.check_output(project / "build" / name, input=b"The quick brown fox jumps over the lazy dog")
         assert fox == b"0b242d361fda71bc\n"
 
