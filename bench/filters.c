@@ -1,8 +1,10 @@
-/* The Bloom filter compared with the same in plain C and with libbloom, in cache and in memory. */
+/* The Bloom filter compared with the same in plain C, with AVX2 in C, and with libbloom, in cache and in memory. GROUP is
+ * the first word of each line, which names the library. */
 #define XXH_INLINE_ALL
 #include "../dist/include/sketch_hash.h"
 #include "measure.h"
 #include <bloom.h>
+#include <immintrin.h>
 #include <string.h>
 #include <xxhash.h>
 
@@ -28,6 +30,31 @@ __attribute__((noinline)) static int plain_contains(uint64_t hash) {
     return missing == 0;
 }
 
+/* As Arrow does it on a processor that has AVX2. */
+__attribute__((target("avx2"))) static inline __m256i avx2_mask(uint64_t hash) {
+    const __m256i salts = _mm256_loadu_si256((const __m256i *)salt);
+    const __m256i products = _mm256_mullo_epi32(_mm256_set1_epi32((int)hash), salts);
+    return _mm256_sllv_epi32(_mm256_set1_epi32(1), _mm256_srli_epi32(products, 27));
+}
+
+__attribute__((noinline, target("avx2"))) static void avx2_insert(uint64_t hash) {
+    __m256i *block = (__m256i *)theirs + ((hash >> 32) * (bytes / 32) >> 32);
+    _mm256_storeu_si256(block, _mm256_or_si256(_mm256_loadu_si256(block), avx2_mask(hash)));
+}
+
+__attribute__((noinline, target("avx2"))) static int avx2_contains(uint64_t hash) {
+    const __m256i *block = (const __m256i *)theirs + ((hash >> 32) * (bytes / 32) >> 32);
+    return _mm256_testc_si256(_mm256_loadu_si256(block), avx2_mask(hash));
+}
+
+__attribute__((noipa)) static void avx2_insert_key(const void *key, size_t length) {
+    avx2_insert(XXH64(key, length, 0));
+}
+
+__attribute__((noipa)) static int avx2_contains_key(const void *key, size_t length) {
+    return avx2_contains(XXH64(key, length, 0));
+}
+
 /* With noinline alone gcc would compile these two for keys of 16 bytes only. */
 __attribute__((noipa)) static void plain_insert_key(const void *key, size_t length) {
     plain_insert(XXH64(key, length, 0));
@@ -51,6 +78,10 @@ CALLS(contains_hash, sketch_bloom_contains_hash(ours, bytes, given[i]))
 CALLS(c_contains_hash, plain_contains(given[i]))
 CALLS(insert_key, sketch_bloom_insert(ours, bytes, data + KEY * i, KEY) + 1)
 CALLS(c_insert_key, (plain_insert_key(data + KEY * i, KEY), 1))
+CALLS(v_insert_hash, (avx2_insert(given[i]), 1))
+CALLS(v_contains_hash, avx2_contains(given[i]))
+CALLS(v_insert_key, (avx2_insert_key(data + KEY * i, KEY), 1))
+CALLS(v_contains_key, avx2_contains_key(data + KEY * i, KEY))
 CALLS(libbloom_insert, (bloom_add(&libbloom, data + KEY * i, KEY), 1))
 CALLS(contains_key, sketch_bloom_contains(ours, bytes, data + KEY * i, KEY))
 CALLS(c_contains_key, plain_contains_key(data + KEY * i, KEY))
@@ -71,6 +102,15 @@ static uint64_t contains_column(size_t total, size_t length) {
     return length == 0 ? sum : 0;
 }
 
+/* A filter in memory that is new, since where its pages are changes what a call takes. */
+static unsigned char *renewed(unsigned char *filter) {
+    unsigned char *copy = malloc(bytes);
+    if (!copy) exit(1);
+    memcpy(copy, filter, bytes);
+    free(filter);
+    return copy;
+}
+
 static void rows(const char *where) {
     char name[64];
     static const struct { const char *name, *peer; work *ours, *theirs; size_t other; } cells[] = {
@@ -86,10 +126,21 @@ static void rows(const char *where) {
         {"insert, a column", "plain C", insert_column, c_insert_key, 0},
         {"found, a column", "plain C", contains_column, c_contains_key, 0},
         {"absent, a column", "plain C", contains_column, c_contains_key, 1},
+        {"insert, hash given", "AVX2 in C", insert_hash, v_insert_hash, 0},
+        {"found, hash given", "AVX2 in C", contains_hash, v_contains_hash, 0},
+        {"absent, hash given", "AVX2 in C", contains_hash, v_contains_hash, 1},
+        {"insert, 16 bytes", "AVX2 in C", insert_key, v_insert_key, 0},
+        {"found, 16 bytes", "AVX2 in C", contains_key, v_contains_key, 0},
+        {"absent, 16 bytes", "AVX2 in C", contains_key, v_contains_key, 1},
+        {"insert, a column", "AVX2 in C", insert_column, v_insert_key, 0},
+        {"found, a column", "AVX2 in C", contains_column, v_contains_key, 0},
+        {"absent, a column", "AVX2 in C", contains_column, v_contains_key, 1},
     };
     for (size_t i = 0; i < sizeof cells / sizeof *cells; i++) {
+        if (!strcmp(cells[i].peer, "AVX2 in C") && !__builtin_cpu_supports("avx2")) continue;
         snprintf(name, sizeof name, "%s, %s", cells[i].name, where);
-        compare("filter", name, cells[i].peer, cells[i].ours, cells[i].theirs, 104729 * KEYS, cells[i].other, KEYS);
+        ours = renewed(ours), theirs = renewed(theirs);
+        compare(GROUP, name, cells[i].peer, cells[i].ours, cells[i].theirs, 104729 * KEYS, cells[i].other, KEYS);
     }
 }
 
