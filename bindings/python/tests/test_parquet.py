@@ -195,6 +195,18 @@ def test_all_but_the_places_of_the_filters_stays_as_it_is(copy, tmp_path):
     assert [parquet.may_contain(target, "plain", f"fox {i}") for i in (3, 9, 20)] == [[0], [1], [2]]
 
 
+def test_progress_is_drawn_as_tqdm_does(copy):
+    drawn = []
+
+    def progress(steps, total):
+        for step in steps:
+            drawn.append(total)
+            yield step
+
+    parquet.add_filters(copy, copy, ["plain", "b"], progress=progress)
+    assert drawn == [6] * 6
+
+
 def test_a_filter_is_as_small_as_its_error_rate_allows(copy, tmp_path):
     sizes = []
     for rate in (0.5, 0.01, 1e-6):
@@ -233,13 +245,13 @@ def set_path(footer):
     (["bool"], None, "must not be BOOLEAN"), (["half"], None, "must not be FLOAT16: DuckDB"),
     (["int96"], None, "must not be INT96"), (["x.y"], None, "the name of a column must be that of one alone"),
     (["none"], None, "the column must be one of"), ([], None, "one or more, each once"),
-    (["plain", "plain"], None, "one or more, each once"),
-], ids=range(9))
+    (["plain", "plain"], None, "one or more, each once"), ("plain", None, "columns must be a list of names"),
+], ids=range(10))
 def test_what_cannot_have_filters_is_an_error_and_the_target_stays(names, change, text, copy, tmp_path):
     if change:
         copy.write_bytes(changed(ODD, change).read())
     before = copy.read_bytes()
-    with pytest.raises(ValueError, match=text):
+    with pytest.raises((TypeError, ValueError), match=text):
         parquet.add_filters(copy, copy, names)
     assert copy.read_bytes() == before and os.listdir(tmp_path) == ["a.parquet"]
 

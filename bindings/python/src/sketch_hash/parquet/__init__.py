@@ -21,18 +21,14 @@ __all__ = ["add_filters", "check_filters", "filters", "may_contain", "read_filte
 HEADER_MAX = 19
 
 
-def add_filters(source, target, columns, *, error_rate=0.01, replace=False):
+def add_filters(source, target, columns, *, error_rate=0.01, replace=False, progress=None):
     """Writes the Parquet file `source` to `target`, which may be the same, with filters for each row group.
 
     columns is a list of names; that of a nested column is "a.b". All before the footer is copied as it is; in the
     footer only the places of the filters change. Returns how many bytes the filters have. Raises ValueError if a column
     has filters, unless they are to be replaced, and if the footer is encrypted or signed. A target is whole at any
-    time: it is written beside, as .sketch_hash-.., and then renamed.
+    time: it is written beside, as .sketch_hash-.., and then renamed. progress, as tqdm.tqdm, draws a bar.
     """
-    return add(source, target, columns, error_rate, replace, lambda steps, count: steps)
-
-
-def add(source, target, columns, error_rate, replace, bar):
     if isinstance(columns, str):
         raise TypeError("columns must be a list of names, not one name")
     with open(source, "rb") as file:
@@ -40,9 +36,11 @@ def add(source, target, columns, error_rate, replace, bar):
     chosen = [footer.column(name) for name in columns]
     check_columns(footer, chosen, replace)
     steps = new_filters(source, footer, chosen, error_rate)
+    if progress:
+        steps = progress(steps, total=len(chosen) * len(footer.groups))
     place = footer.start
     with replaced(source, target, footer.start) as output:
-        for metadata, filter in bar(steps, len(chosen) * len(footer.groups)):
+        for metadata, filter in steps:
             data = filter.to_parquet()
             output.write(data)
             set_place(metadata, place, len(data))
@@ -221,22 +219,20 @@ def may_have(file, place, hash):
     return BloomFilter.view(read_at(file, begin + 32 * block, 32)).contains_hashes(array.array("Q", [hash]))[0]
 
 
-def check_filters(file):
+def check_filters(source, *, progress=None):
     """Reads all values of the columns that have filters. Raises ValueError if a filter lacks one.
 
-    Returns how many filters there are.
+    Returns how many filters there are. progress, as tqdm.tqdm, draws a bar.
     """
-    return check(file, lambda steps, count: steps)
-
-
-def check(source, bar):
     with open(source, "rb") as file:
         footer = Footer(file)
         columns = [it for it in footer.columns if any(OFFSET in its for its in it.metadata)]
         steps = ((column, group, batches) for column in columns
                  for group, batches in enumerate(stored_values(source, footer, column)))
+        if progress:
+            steps = progress(steps, total=len(columns) * len(footer.groups))
         count = 0
-        for column, group, batches in bar(steps, len(columns) * len(footer.groups)):
+        for column, group, batches in steps:
             place = header_at(file, footer, column, group)
             if place:
                 filter = BloomFilter.from_bytes(read_at(file, *place))

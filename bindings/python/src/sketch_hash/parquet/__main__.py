@@ -1,8 +1,9 @@
 """Adds Bloom filters to finished Parquet files, or checks that the filters have all values."""
 import argparse
+import functools
 import sys
 
-from . import add, check
+from . import add_filters, check_filters
 
 
 def main():
@@ -26,10 +27,10 @@ def run(args, file):
     """Returns the exit status for a file. The others go on if it fails."""
     try:
         if args.command == "add":
-            count = add(file, args.output or file, args.column, args.error_rate, args.replace, bar_of(file))
-            print(f"{file}: {count} bytes of filters")
+            options = {"error_rate": args.error_rate, "replace": args.replace, "progress": bar_of(file)}
+            print(f"{file}: {add_filters(file, args.output or file, args.column, **options)} bytes of filters")
         else:
-            print(f"{file}: {check(file, bar_of(file))} filters have all values")
+            print(f"{file}: {check_filters(file, progress=bar_of(file))} filters have all values")
     except (ImportError, MemoryError, NotImplementedError, OSError, TypeError, ValueError) as error:
         print(f"sketch_hash.parquet: {file}: {error or type(error).__name__}", file=sys.stderr)
         return 1
@@ -37,12 +38,12 @@ def run(args, file):
 
 
 def bar_of(file):
-    """Draws a bar on a terminal, if tqdm is installed."""
+    """What draws a bar on a terminal, if tqdm is installed."""
     try:
         from tqdm import tqdm
     except ImportError:
-        return lambda steps, count: steps
-    return lambda steps, count: tqdm(steps, total=count, desc=file, disable=None, unit="chunk")
+        return None
+    return functools.partial(tqdm, desc=file, disable=None, unit="chunk")
 
 
 if __name__ == "__main__":
