@@ -70,7 +70,7 @@ def test_a_row_group_without_a_filter_may_have_each_value():
 @pytest.mark.parametrize("name, value", [
     ("int8", 2**40), ("uint32", -1), ("uint64", 2**64), ("float", 0.1), ("float", 1e300), ("fixed", b"12345"),
     ("ms", moment(microsecond=1)), ("decimal9", decimal.Decimal("0.001")), ("decimal9", decimal.Decimal("1e999999")),
-    ("decimal9", decimal.Decimal("Infinity")), ("decimal30", 10**40), ("time_ms", datetime.time(1, 2, 3, 1)),
+    ("decimal9", decimal.Decimal("Infinity")), ("decimal9", decimal.Decimal("1e-999999999")), ("decimal30", 10**40), ("time_ms", datetime.time(1, 2, 3, 1)),
 ])
 def test_a_value_that_the_column_cannot_have_is_in_no_row_group(name, value):
     assert parquet.may_contain(FILTERS, name, value) == []
@@ -87,8 +87,9 @@ def test_a_value_of_another_type_is_an_error(name, value):
         parquet.may_contain(FILTERS, name, value)
 
 
-def test_both_zeros_are_looked_for():
-    assert parquet.may_contain(FILTERS, "double", -0.0) == parquet.may_contain(FILTERS, "double", 0) == [0]
+def test_each_form_of_zero_is_looked_for():
+    for name, values in (("double", (-0.0, 0)), ("decimal9", map(decimal.Decimal, ("0", "-0", "0e-999999999")))):
+        assert all(0 in parquet.may_contain(FILTERS, name, value) for value in values)
 
 
 class Timestamp(datetime.datetime):

@@ -8,6 +8,7 @@ import uuid
 
 from .footer import BYTE_ARRAY, DOUBLE, FLOAT, INT32, INT64
 
+
 def keys_of(value, column):
     """The keys of a value: two for zero as a float, none if the column cannot have the value."""
     kind = column.kind
@@ -67,10 +68,9 @@ def unscaled(value, scale):
     if not isinstance(value, decimal.Decimal):
         value = decimal.Decimal(operator.index(value))
     sign, digits, exponent = value.as_tuple()
-    if not isinstance(exponent, int) or exponent + scale > 10**4:
-        return None
-    number = int("".join(map(str, digits))) * (-1 if sign else 1)
-    shift = exponent + scale
+    if not value or not isinstance(exponent, int) or abs(exponent + scale) > 4000:
+        return None if value else 0
+    number, shift = int("".join(map(str, digits))) * (-1 if sign else 1), exponent + scale
     if shift >= 0:
         return number * 10**shift
     return None if number % 10**-shift else number // 10**-shift
