@@ -3,7 +3,7 @@ import functools
 import re
 
 from machine import CALLER, Machine, logic, shift_one
-from values import (add, bitwise, complement, cut, extend, join, known, lanes, mul, number, rotate_right, shift_left,
+from values import (Stop, add, bitwise, complement, cut, extend, join, known, lanes, mul, number, rotate_right, shift_left,
                     shift_right, sub, unknown, width_of)
 
 CONDITIONS = {"eq": "e", "ne": "ne", "cc": "b", "cs": "ae", "hi": "a", "ls": "be", "mi": "s", "pl": "ns"}
@@ -37,7 +37,8 @@ def plus_one(x):
 
 
 def add_with_carry(m, x, y):
-    return add(add(x, y), extend(m.condition("b" if m.flags[0] == "add" else "ae"), width_of(x)))
+    """The carry of a subtraction is the opposite of x86-64's."""
+    return add(add(x, y), extend(Machine.condition(m, "b" if m.flags[0] == "add" else "ae"), width_of(x)))
 
 
 # What an instruction computes from its operands without the first, which it writes. Those of vectors do it for each lane.
@@ -118,6 +119,12 @@ class Aarch64(Machine):
             self.write(base, at)  # now, since the stack is used from there on
         return at, (base, add(start, self.read(operands[1]))) if len(operands) > 1 else None
 
+    def condition(self, name):
+        """Those of a carry have x86-64's names only after a subtraction."""
+        if name in ("b", "be", "a", "ae") and (not self.flags or self.flags[0] != "sub"):
+            raise Stop("a carry that is not understood")
+        return super().condition(name)
+
     # ---- instructions
 
     def step(self, op, text):
@@ -182,7 +189,7 @@ class Aarch64(Machine):
             return join(*[cut(values[0], 0, size)] * count)
         if op == "ext":
             return cut(join(*values[:2]), 8 * known(values[2], "a place"), count * size)
-        if op in ("ushr", "shl"):
+        if op in ("ushr", "shl") and known(values[1], "a shift") < size:
             return lanes(size, lambda it: OPERATIONS[op](self, it, values[1]), values[0])
         if op in ("add", "sub", "mul", "ushl"):
             return lanes(size, functools.partial(OPERATIONS[op], self), *values)

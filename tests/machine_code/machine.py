@@ -91,7 +91,8 @@ class Machine:
 
     def must_be_aligned(self, address, size=16):
         base, at = place_of(address)
-        if base not in ((), place_of(self.stack)[0]) or (at + (self.entry if base else 0)) % size:
+        is_known = not base or base == place_of(self.stack)[0] and size <= 16  # of the stack pointer nobody knows more
+        if not is_known or (at + (self.entry if base else 0)) % size:
             raise Stop("an access that is perhaps not aligned")
 
     # ---- conditions, by the names that x86-64 has for them

@@ -116,7 +116,8 @@ def rotate_right(value, n):
 
 def lanes(size, function, *values):
     """A function of each lane of some values, or of a value and numbers."""
-    split = [[it] * 8 if isinstance(it, int) else [cut(it, at, size) for at in range(0, width_of(it), size)] for it in values]
+    split = [itertools.repeat(it) if isinstance(it, int) else [cut(it, at, size) for at in range(0, width_of(it), size)]
+             for it in values]
     return join(*map(function, *split))
 
 

@@ -55,8 +55,16 @@ def count_of(value, width):
 def shift(function):
     def run(m, x, count=number(1, 8)):
         n = count_of(count, width_of(x))
-        result = function(x, n)
-        return m.compare("other", x, None, result) if n else result
+        return m.compare("other", x, None, function(x, n)) if n else x
+
+    return run
+
+
+def rotate(places):
+    """It changes the carry alone."""
+    def run(m, x, count=number(1, 8)):
+        m.flags = ("other", *m.flags[1:]) if m.flags and m.flags[0] not in (None, "bits") else None
+        return rotate_right(x, places(count_of(count, width_of(x)), width_of(x)))
 
     return run
 
@@ -69,7 +77,14 @@ def with_carry(sign):
     return lambda m, x, y: m.compare(None, x, y, add(add(x, y, sign), extend(m.condition("b"), width_of(x)), sign))
 
 
+def of_128_bits(x):
+    """AVX does these for each half of 256 bits."""
+    if width_of(x) != 128:
+        raise Stop("a vector of 256 bits")
+
+
 def interleaved(size, x, y):
+    of_128_bits(x)
     parts = [cut(it, at, size) for at in range(0, 64, size) for it in (x, y)]
     return join(*parts)
 
@@ -83,6 +98,7 @@ def shifted_lanes(size, function):
 
 
 def reordered(m, x, order):
+    of_128_bits(x)
     return join(*(cut(x, 32 * (known(order, "an order") >> 2 * i & 3), 32) for i in range(4)))
 
 
@@ -104,8 +120,8 @@ OPERATIONS = {
     "add": Machine.sum, "sub": Machine.subtract, "cmp": Machine.subtract, "adc": with_carry(1), "sbb": with_carry(-1),
     "neg": lambda m, x: m.subtract(number(0, width_of(x)), x), "inc": plus_one(1), "dec": plus_one(-1),
     "imul": lambda m, x, y: m.compare(None, x, y, mul(x, y)), "not": plain(complement),
-    "shl": shift(shift_left), "shr": shift(shift_right), "ror": shift(rotate_right),
-    "rol": shift(lambda x, n: rotate_right(x, width_of(x) - n)),
+    "shl": shift(shift_left), "shr": shift(shift_right), "ror": rotate(lambda n, width: n),
+    "rol": rotate(lambda n, width: width - n),
     "shld": lambda m, x, y, n: m.compare(None, x, y, cut(join(y, x), width_of(x) - count_of(n, width_of(x)), width_of(x))),
     "shrd": lambda m, x, y, n: m.compare(None, x, y, cut(join(x, y), count_of(n, width_of(x)), width_of(x))),
     "cvttps2dq": plain(lambda x: lanes(32, from_float, x)), "pshufd": reordered,
@@ -180,7 +196,10 @@ class X86(Machine):
             self.registers[what] = extend(value, width_of(before)) if clears or width in (32, 64) else join(value, rest)
 
     def step(self, op, text):
-        if op in ("nop", "data16", "cs", "vzeroupper") or (op, text) == ("xchg", "ax,ax"):
+        if op in ("nop", "data16", "cs") or (op, text) == ("xchg", "ax,ax"):
+            return
+        if op == "vzeroupper":
+            self.registers |= {name: extend(cut(it, 0, 128), 256) for name, it in self.registers.items() if name[0] == "y"}
             return
         if op == "call" or op[0] == "j":
             return self.jump(op, int(text, 16))
