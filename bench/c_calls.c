@@ -25,16 +25,16 @@ static unsigned char mixed[KEYS]; /* lengths of 1 to 64 */
 #define FLAT __attribute__((flatten)) static uint64_t
 
 /* Keys one after the other: of `length` bytes, or of mixed lengths if that is 0. */
-#define KEYS_BY(NAME, CALL)                                        \
-    FLAT NAME(size_t total, size_t length) {                       \
-        uint64_t all = 0;                                          \
-        if (length == 0)                                           \
-            for (size_t at = 0, i = 0; i < KEYS; at += mixed[i++]) \
-                all ^= CALL(input + at, mixed[i], 7);              \
-        else                                                       \
-            for (size_t at = 0; at + length <= total; at += length) \
-                all ^= CALL(input + at, length, 7);                \
-        return all;                                                \
+#define KEYS_BY(NAME, CALL)                                                                        \
+    FLAT NAME(size_t total, size_t length) {                                                       \
+        uint64_t all = 0;                                                                          \
+        if (length == 0)                                                                           \
+            for (size_t at = 0, i = 0; i < KEYS; at += mixed[i++])                                 \
+                all ^= CALL(input + at, mixed[i], 7);                                              \
+        else                                                                                       \
+            for (size_t at = 0; at + length <= total; at += length)                                \
+                all ^= CALL(input + at, length, 7);                                                \
+        return all;                                                                                \
     }
 
 KEYS_BY(ours_xxh64, sketch_xxh64)
@@ -46,14 +46,16 @@ KEYS_BY(their_murmur, reference)
 static uint64_t ours_stream(size_t total, size_t length) {
     sketch_xxh64_state_t state;
     sketch_xxh64_reset(&state, 7);
-    for (size_t at = 0; at + length <= total; at += length) sketch_xxh64_update(&state, input + at, length);
+    for (size_t at = 0; at + length <= total; at += length)
+        sketch_xxh64_update(&state, input + at, length);
     return sketch_xxh64_digest(&state);
 }
 
 FLAT their_stream(size_t total, size_t length) {
     XXH64_state_t state;
     XXH64_reset(&state, 7);
-    for (size_t at = 0; at + length <= total; at += length) XXH64_update(&state, input + at, length);
+    for (size_t at = 0; at + length <= total; at += length)
+        XXH64_update(&state, input + at, length);
     return XXH64_digest(&state);
 }
 
@@ -67,7 +69,8 @@ static uint64_t ours_column(size_t total, size_t length) {
 }
 
 FLAT their_column(size_t total, size_t length) {
-    for (size_t i = 0; i < KEYS; i++) hashes[i] = XXH64(input + offsets[i], offsets[i + 1] - offsets[i], 7);
+    for (size_t i = 0; i < KEYS; i++)
+        hashes[i] = XXH64(input + offsets[i], offsets[i + 1] - offsets[i], 7);
     return hashes[KEYS - 1];
 }
 
@@ -105,8 +108,8 @@ int main(void) {
         keys(name_of("keys of %zu byte%s", lengths[i]), KEYS * lengths[i], lengths[i]);
     keys("keys of 1 to 64 bytes", KEYS * 64, 0);
     for (size_t i = 0; i < sizeof writes / sizeof *writes; i++)
-        compare("c", name_of("writes of %zu byte%s", writes[i]), "XXH64_update, inlined", ours_stream, their_stream,
-                STREAM, writes[i], STREAM / writes[i]);
+        compare("c", name_of("writes of %zu byte%s", writes[i]), "XXH64_update, inlined",
+                ours_stream, their_stream, STREAM, writes[i], STREAM / writes[i]);
     column("keys of 1 to 16 bytes", 1, 16);
     column("keys of 1 to 64 bytes", 1, 64);
     column("keys of 32 to 64 bytes", 32, 64);
@@ -115,8 +118,8 @@ int main(void) {
     column("keys of 31 bytes", 31, 31);
     column("keys of 64 bytes", 64, 64);
     for (size_t i = 0; i < KEYS; i++) numbers[i] = i * 0x9e3779b97f4a7c15;
-    compare("column", "numbers of 64 bits", "XXH64 in a loop, inlined", ours_numbers, their_numbers, 0, 0,
-            KEYS);
+    compare("column", "numbers of 64 bits", "XXH64 in a loop, inlined", ours_numbers, their_numbers,
+            0, 0, KEYS);
     keys("64 KiB at once", 1 << 16, 1 << 16);
     keys("1 MiB at once", LARGEST, LARGEST);
     return 0;

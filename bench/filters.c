@@ -13,7 +13,8 @@ enum { KEY = 16 };
 static const uint32_t salt[8] = {0x47b6137b, 0x44974d91, 0x8824ad5b, 0xa2b7289d,
                                  0x705495c7, 0x2df1424b, 0x9efc4947, 0x5c6bfb31};
 
-static size_t bytes, keys, at; /* the filters' length, the keys in them, the first key of the next call */
+static size_t bytes, keys,
+    at; /* the filters' length, the keys in them, the first key of the next call */
 static unsigned char *ours, *theirs, *data;
 static uint64_t *given, offsets_of_keys[KEYS + 1];
 static struct bloom libbloom;
@@ -65,12 +66,12 @@ __attribute__((noipa)) static int plain_contains_key(const void *key, size_t len
 }
 
 /* A function for `compare`: the calls for KEYS keys of the inserted ones (`length` 0) or the others. */
-#define CALLS(NAME, CALL)                                                     \
-    static uint64_t NAME(size_t total, size_t length) {                       \
-        uint64_t found = 0;                                                   \
-        const size_t first = (at += total) % (keys - KEYS) + length * keys;   \
-        for (size_t i = first; i < first + KEYS; i++) found += CALL;          \
-        return found * (length == 0);                                         \
+#define CALLS(NAME, CALL)                                                                          \
+    static uint64_t NAME(size_t total, size_t length) {                                            \
+        uint64_t found = 0;                                                                        \
+        const size_t first = (at += total) % (keys - KEYS) + length * keys;                        \
+        for (size_t i = first; i < first + KEYS; i++) found += CALL;                               \
+        return found * (length == 0);                                                              \
     }
 CALLS(insert_hash, sketch_bloom_insert_hash(ours, bytes, given[i]) + 1)
 CALLS(c_insert_hash, (plain_insert(given[i]), 1))
@@ -89,15 +90,16 @@ CALLS(libbloom_contains, (bloom_check(&libbloom, data + KEY * i, KEY) != 0))
 
 static uint64_t insert_column(size_t total, size_t length) {
     size_t wrong, first = (at += total) % (keys - KEYS) + length * keys;
-    sketch_bloom_insert_each64(ours, bytes, data + KEY * first, KEY * KEYS, offsets_of_keys, KEYS + 1, &wrong);
+    sketch_bloom_insert_each64(ours, bytes, data + KEY * first, KEY * KEYS, offsets_of_keys,
+                               KEYS + 1, &wrong);
     return length == 0 ? KEYS : 0;
 }
 
 static uint64_t contains_column(size_t total, size_t length) {
     static unsigned char found[KEYS];
     size_t wrong, first = (at += total) % (keys - KEYS) + length * keys, sum = 0;
-    sketch_bloom_contains_each64(ours, bytes, data + KEY * first, KEY * KEYS, offsets_of_keys, KEYS + 1, found,
-                                 KEYS, &wrong);
+    sketch_bloom_contains_each64(ours, bytes, data + KEY * first, KEY * KEYS, offsets_of_keys,
+                                 KEYS + 1, found, KEYS, &wrong);
     for (size_t i = 0; i < KEYS; i++) sum += found[i];
     return length == 0 ? sum : 0;
 }
@@ -113,7 +115,11 @@ static unsigned char *renewed(unsigned char *filter) {
 
 static void rows(const char *where) {
     char name[64];
-    static const struct { const char *name, *peer; work *ours, *theirs; size_t other; } cells[] = {
+    static const struct {
+        const char *name, *peer;
+        work *ours, *theirs;
+        size_t other;
+    } cells[] = {
         {"insert, hash given", "plain C", insert_hash, c_insert_hash, 0},
         {"found, hash given", "plain C", contains_hash, c_contains_hash, 0},
         {"absent, hash given", "plain C", contains_hash, c_contains_hash, 1},
@@ -140,13 +146,15 @@ static void rows(const char *where) {
         if (!strcmp(cells[i].peer, "AVX2 in C") && !__builtin_cpu_supports("avx2")) continue;
         snprintf(name, sizeof name, "%s, %s", cells[i].name, where);
         ours = renewed(ours), theirs = renewed(theirs);
-        compare(GROUP, name, cells[i].peer, cells[i].ours, cells[i].theirs, 104729 * KEYS, cells[i].other, KEYS);
+        compare(GROUP, name, cells[i].peer, cells[i].ours, cells[i].theirs, 104729 * KEYS,
+                cells[i].other, KEYS);
     }
 }
 
 static void filter(const char *where, size_t length, size_t count) {
     bytes = length, keys = count;
-    ours = calloc(1, bytes), theirs = calloc(1, bytes), data = malloc(2 * keys * KEY), given = malloc(2 * keys * 8);
+    ours = calloc(1, bytes), theirs = calloc(1, bytes), data = malloc(2 * keys * KEY),
+    given = malloc(2 * keys * 8);
     if (!ours || !theirs || !data || !given || bloom_init(&libbloom, (int)keys, 0.01)) exit(1);
     for (size_t i = 0; i < 2 * keys; i++) {
         uint64_t words[2] = {i * 0x9e3779b97f4a7c15, i ^ i << 32};

@@ -55,7 +55,8 @@ static inline void compare(const char *table, const char *name, const char *peer
     }
     qsort(ratios, ROUNDS, sizeof *ratios, by_value);
     qsort(times_of_ours, ROUNDS, sizeof *times_of_ours, by_value);
-    printf("%s\t%s\t%s\t%.2f\t%.2f\t%.2f\t%.1f\n", table, name, peer, ratios[ROUNDS / 2], ratios[ROUNDS / 10],
-           ratios[ROUNDS - 1 - ROUNDS / 10], times_of_ours[ROUNDS / 2] / times / (double)items * 1e9);
+    printf("%s\t%s\t%s\t%.2f\t%.2f\t%.2f\t%.1f\n", table, name, peer, ratios[ROUNDS / 2],
+           ratios[ROUNDS / 10], ratios[ROUNDS - 1 - ROUNDS / 10],
+           times_of_ours[ROUNDS / 2] / times / (double)items * 1e9);
     fflush(stdout);
 }
