@@ -11,11 +11,15 @@ from ._library cimport *
 import os
 
 MOST_ROWS = 2**59
-INTEGERS = {"c": (1, True), "C": (1, False), "s": (2, True), "S": (2, False),
-            "i": (4, True), "I": (4, False), "l": (8, True), "L": (8, False)}
-WIDTHS = {"e": 2, "f": 4, "g": 8, "tdD": 4, "ttm": 4, "ttu": 8, "ttn": 8, "tDs": 8, "tDm": 8, "tDu": 8, "tDn": 8,
-          "tsm": 8, "tsu": 8, "tsn": 8}
-TEXTS = {"z": 4, "u": 4, "Z": 8, "U": 8}
+TYPES = {  # by their formats: the layout of values, their width, and whether they have a sign
+    "n": (NOTHING, 0, False), "c": (WIDENED, 1, True), "C": (WIDENED, 1, False), "s": (WIDENED, 2, True),
+    "S": (WIDENED, 2, False), "i": (FIXED, 4, True), "I": (FIXED, 4, False), "l": (FIXED, 8, True), "L": (FIXED, 8, False),
+    "e": (FIXED, 2, False), "f": (FIXED, 4, False), "g": (FIXED, 8, False), "z": (OFFSETS, 4, True),
+    "u": (OFFSETS, 4, True), "Z": (OFFSETS, 8, True), "U": (OFFSETS, 8, True), "vz": (VIEWS, 16, False),
+    "vu": (VIEWS, 16, False), "tdD": (FIXED, 4, False), "ttm": (FIXED, 4, False),
+    **dict.fromkeys(("ttu", "ttn", "tsm", "tsu", "tsn", "tDs", "tDm", "tDu", "tDn"), (FIXED, 8, False)),
+}
+CODES = "c", "C", "s", "S", "i", "I", "l", "L"
 REFUSED = [  # the start of a format, what it is, and what to do
     ("b", "bools", "Parquet has no Bloom filters of them"),
     ("tdm", "date64", 'Parquet stores days: cast it to "date32"'),
@@ -30,20 +34,12 @@ REFUSED = [  # the start of a format, what it is, and what to do
 
 
 cdef tuple type_of(str format):
-    """The layout of values, their width, and whether they have a sign."""
-    if format == "n":
-        return NOTHING, 0, False
-    if format in INTEGERS:
-        width, is_signed = INTEGERS[format]
-        return FIXED if width >= 4 else WIDENED, width, is_signed
-    if format in TEXTS:
-        return OFFSETS, TEXTS[format], True
-    if format in ("vz", "vu"):
-        return VIEWS, 16, False
+    if format in TYPES:
+        return TYPES[format]
+    if format[:2] == "ts" and format[:3] in TYPES:  # a time zone follows
+        return TYPES[format[:3]]
     if format.startswith("w:") and 0 <= int(format[2:]) < 2**31:
         return FIXED, int(format[2:]), False
-    if format[:3] in WIDTHS:
-        return FIXED, WIDTHS[format[:3]], False
     what, cure = next(rest for start, *rest in REFUSED if format.startswith(start))
     raise TypeError(f"an Arrow column must not have {what}, here {format!r}: {cure}")
 
@@ -107,6 +103,21 @@ cdef int64_t offset_at(const Values *values, size_t i) noexcept nogil:
     return load(values.memory + (values.offset + i) * values.width, values.width, True)
 
 
+cdef void hash_texts(
+    const Values *rows, const char *offsets, size_t count, int words, uint64_t seed, uint64_t *out
+) noexcept nogil:
+    cdef const char *text = rows.text
+    cdef size_t length = offset_at(rows, rows.length), wrong
+    if words == 1 and rows.width == 4:
+        sketch_xxh64_each32(text, length, <uint32_t *>offsets, count + 1, seed, out, count, &wrong)
+    elif words == 1:
+        sketch_xxh64_each64(text, length, <uint64_t *>offsets, count + 1, seed, out, count, &wrong)
+    elif rows.width == 4:
+        sketch_murmur3_x64_128_each32(text, length, <uint32_t *>offsets, count + 1, seed, <void *>out, count, &wrong)
+    else:
+        sketch_murmur3_x64_128_each64(text, length, <uint64_t *>offsets, count + 1, seed, <void *>out, count, &wrong)
+
+
 cdef void hash_rows(
     const Chunk *chunk, size_t start, size_t count, int words, uint64_t seed, uint64_t *out
 ) noexcept nogil:
@@ -114,17 +125,17 @@ cdef void hash_rows(
     cdef const char *key
     cdef int32_t widened
     cdef const Values *rows = &chunk.rows
-    cdef size_t i, length, wrong
-    cdef const char *offsets = rows.memory + (rows.offset + start) * rows.width
-    cdef bint is_coded = chunk.keys is not rows, is_plain = not is_coded and not chunk.has_nulls
-    # One call for many texts takes a fifth less time.
-    if count and words == 1 and is_plain and rows.layout == OFFSETS and <uintptr_t>offsets % rows.width == 0:
-        length = offset_at(rows, rows.length)
-        if rows.width == 4:
-            sketch_xxh64_each32(rows.text, length, <uint32_t *>offsets, count + 1, seed, out, count, &wrong)
-        else:
-            sketch_xxh64_each64(rows.text, length, <uint64_t *>offsets, count + 1, seed, out, count, &wrong)
-        return
+    cdef size_t i, length
+    cdef const char *place = rows.memory + (rows.offset + start) * rows.width
+    cdef bint is_coded = chunk.keys is not rows, is_aligned = <uintptr_t>place & (rows.width - 1) == 0
+    # One call for many texts takes a fifth less time, and for many numbers a third.
+    if count and is_aligned and not is_coded and not chunk.has_nulls:
+        if rows.layout == OFFSETS:
+            hash_texts(rows, place, count, words, seed, out)
+            return
+        if rows.layout == FIXED and rows.width == 8 and words == 1:
+            sketch_xxh64_each_u64(<uint64_t *>place, count, seed, out, count)
+            return
     for i in range(start, start + count):
         if chunk.has_nulls and is_null(chunk, i):
             out[0] = 0
@@ -137,13 +148,20 @@ cdef void hash_rows(
         out += words
 
 
-cdef bint offsets_fall(const Values *values) noexcept nogil:
-    cdef int64_t before = 0
+ctypedef fused Offset:
+    int32_t
+    int64_t
+
+
+cdef bint fall(const char *offsets, size_t count, Offset before) noexcept nogil:
+    """Whether a number is below the one before it."""
+    cdef Offset offset
     cdef size_t i
-    for i in range(values.length + 1):
-        if offset_at(values, i) < before:
+    for i in range(count):
+        memcpy(&offset, offsets + i * sizeof(Offset), sizeof(Offset))
+        if offset < before:
             return True
-        before = offset_at(values, i)
+        before = offset
     return False
 
 
@@ -209,10 +227,14 @@ cdef int read_values(const ArrowArray *array, tuple type, Values *values) except
 cdef size_t check_values(const Values *values) except? 0:
     """Returns about how many bytes there are to read."""
     cdef size_t num_bytes = values.length * (8 + values.width)
+    cdef const char *first = values.memory + values.offset * values.width
     cdef bint is_wrong
     if values.layout == OFFSETS and values.length:
         with nogil:
-            is_wrong = offsets_fall(values)
+            if values.width == 4:
+                is_wrong = fall[int32_t](first, values.length + 1, 0)
+            else:
+                is_wrong = fall[int64_t](first, values.length + 1, 0)
         must(not is_wrong, "offsets from 0 on that do not fall")
         length = offset_at(values, values.length) - offset_at(values, 0)
         must(values.text is not NULL or length == 0, "memory for its texts")
@@ -318,7 +340,7 @@ cdef class Arrow:
         must(self.schema.release is not NULL and self.schema.format is not NULL, "a schema with a format")
         self.rows = type_of(self.schema.format.decode())
         if of_keys is not NULL:
-            is_coded = self.schema.format.decode() in INTEGERS and of_keys.format is not NULL
+            is_coded = self.schema.format.decode() in CODES and of_keys.format is not NULL
             must(is_coded, "whole numbers as codes of a dictionary")
             if of_keys.dictionary is not NULL:
                 raise TypeError("an Arrow column must not have a dictionary of dictionaries: cast it to its values")

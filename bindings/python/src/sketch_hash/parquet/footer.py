@@ -61,10 +61,6 @@ def write_value(protocol, kind, value):
         protocol.writeStructEnd()
 
 
-def parse(data):
-    return read_value(TCompactProtocol(TMemoryBuffer(data)), TType.STRUCT)
-
-
 def serialize(fields):
     buffer = TMemoryBuffer()
     write_value(TCompactProtocol(buffer), TType.STRUCT, fields)
@@ -109,10 +105,8 @@ def leaf_paths(elements):
 BOOLEAN, INT32, INT64, INT96, FLOAT, DOUBLE, BYTE_ARRAY, FIXED = range(8)
 MILLIS, MICROS, NANOS = 10**6, 10**3, 1  # in nanoseconds
 # The types that readers know by annotations: of LogicalType, and of the older ConvertedType.
-NAMES = {1: "text", 4: "text", 5: "decimal", 6: "date", 7: "time", 8: "timestamp", 10: "integer", 12: "text",
-         13: "text", 14: "uuid", 15: "float16"}
-OLD = {0: "text", 4: "text", 5: "decimal", 6: "date", 7: "time", 8: "time", 9: "timestamp", 10: "timestamp",
-       19: "text", 20: "text", **dict.fromkeys(range(11, 19), "integer")}
+NAMES = {5: "decimal", 6: "date", 7: "time", 8: "timestamp", 10: "integer", 14: "uuid", 15: "float16"}
+OLD = {5: "decimal", 6: "date", 7: "time", 8: "time", 9: "timestamp", 10: "timestamp"}
 
 
 class Kind:
@@ -170,7 +164,7 @@ class Footer:
         file.seek(self.start)
         self.data = file.read(size - 8 - self.start)
         with damage():
-            self.fields = parse(self.data)
+            self.fields = read_value(TCompactProtocol(TMemoryBuffer(self.data)), TType.STRUCT)
             self.groups = structs(self.fields, ROW_GROUPS)
             chunks = [structs(it, COLUMNS) for it in self.groups]
             paths = list(leaf_paths(structs(self.fields, SCHEMA)))
