@@ -157,7 +157,7 @@ def test_python(need, tmp_path):
     copy = tmp_path / "repository"
     for folder in ("dist", "bindings/python"):
         shutil.copytree(ROOT / folder, copy / folder)
-    commands = re.findall(r"`(\S+ -m venv [^`]+|\S*pip install [^`]+)`", re.sub(r"\s+", " ", PAGE))
+    commands = re.findall(r"`(\S+ -m venv [^`]+|\.\./\S*pip install [^`]+)`", re.sub(r"\s+", " ", PAGE))
     assert len(commands) == 2 and all(f"    {it}\n" in OF_PYTHON for it in commands)
     for command in commands:
         output_of(f"unset PYTHONPATH; {command}", copy)

@@ -179,7 +179,7 @@ int sketch_murmur3_x64_128_each64(const void *input, size_t length, const uint64
                                   size_t offset_count, uint64_t seed, uint64_t (*out)[2],
                                   size_t count, size_t *wrong_offset);
 
-/* ---- The split block Bloom filter of Apache Parquet, which Spark, Arrow and DuckDB read
+/* ---- The split block Bloom filter of Apache Parquet, which Arrow and DuckDB read
  *
  * A filter is `length` bytes at `bits`, the same on every machine, of any alignment. Bytes of 0 are
  * the filter without keys. The length is a positive multiple of 32 below 2^37, else a call returns
@@ -189,8 +189,8 @@ int sketch_murmur3_x64_128_each64(const void *input, size_t length, const uint64
  * A key is the value's plain bytes in Parquet: those of a text without a length, those of a number
  * with the lowest first. */
 
-/** Returns how many bytes the smallest filter has of which at most one in `one_in` other keys is
- * found, once it has `keys` keys: a power of two, 32 bytes to 128 MiB. 0 if there is none. */
+/** Returns how many bytes the smallest filter has whose false positive rate is at most one in
+ * `one_in`, once it has `keys` keys: a power of two, 32 bytes to 128 MiB. 0 if there is none. */
 size_t sketch_bloom_bytes_for(uint64_t keys, uint64_t one_in);
 
 /** Returns 0 if a filter may have this length, or SKETCH_ERROR_LENGTH. */

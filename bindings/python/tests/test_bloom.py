@@ -72,12 +72,12 @@ def test_an_error_rate_is_one_in_its_reciprocal(one_in):
     (1000, {}, TypeError, "takes one of error_rate, as 0.01, and one_in, as 100"),
     (1000, {"error_rate": 0.01, "one_in": 100}, TypeError, "takes one of error_rate"),
     (1000, {"error_rate": 1e-300}, ValueError, "no filter of up to 128 MiB"),
-    (1000, {"one_in": 0}, ValueError, "one_in is at least 1"),
-    (-1, {"one_in": 100}, OverflowError, "keys is from 0 to"),
-    (1000, {"one_in": 2**64}, OverflowError, "one_in is from 0 to"),
+    (1000, {"one_in": 0}, ValueError, "one_in must be at least 1"),
+    (-1, {"one_in": 100}, OverflowError, "keys must be from 0 to"),
+    (1000, {"one_in": 2**64}, OverflowError, "one_in must be from 0 to"),
     (1000.0, {"one_in": 100}, TypeError, "integer"),
     (1000, {"error_rate": "0.01"}, TypeError, "must be real number, not str"),
-    *((1000, {"error_rate": rate}, ValueError, "^error_rate is above 0 and below 1, as 0.01 for one key in a hundred")
+    *((1000, {"error_rate": rate}, ValueError, "^error_rate must be above 0 and below 1, as 0.01 for one key in a hundred")
       for rate in (0, 1, -0.01, math.nan, math.inf)),
 ], ids=str)
 def test_for_keys_rejects_other_arguments(keys, kwargs, error, text):
@@ -281,8 +281,8 @@ def test_the_rate_of_a_fold_is_exact():
     (lambda: BloomFilter.view(bytearray(64)), (), TypeError, "must not be a view: copy.. makes one"),
     (lambda: BloomFilter.view(bytearray(64)), (0.5,), TypeError, "must not be a view: copy.. makes one"),
     (lambda: BloomFilter(64), ("0.01",), TypeError, "must be real number"),
-    (lambda: BloomFilter(64), (1,), ValueError, "error_rate is above 0 and below 1"),
-    (lambda: BloomFilter(64), (math.nan,), ValueError, "error_rate is above 0 and below 1"),
+    (lambda: BloomFilter(64), (1,), ValueError, "error_rate must be above 0 and below 1"),
+    (lambda: BloomFilter(64), (math.nan,), ValueError, "error_rate must be above 0 and below 1"),
     (lambda: BloomFilter.__new__(BloomFilter), (), ValueError, "the filter was released"),
 ], ids=range(8))
 def test_another_fold_is_an_error(make, args, error, text):

@@ -51,8 +51,8 @@ def test_a_seed_is_a_number_as_in_python(text, seed):
 
 
 @pytest.mark.parametrize("args, text", [
-    (["-a", "md5"], b"'md5' (choose from "), (["-s", "18446744073709551616"], b"a seed is from 0 to"),
-    (["-s", "-1"], b"a seed is from 0 to"), (["-s", "1.5"], b"a seed is a whole number"),
+    (["-a", "md5"], b"'md5' (choose from "), (["-s", "18446744073709551616"], b"a seed must be from 0 to"),
+    (["-s", "-1"], b"a seed must be from 0 to"), (["-s", "1.5"], b"a seed must be a whole number"),
 ], ids=["algorithm", "wide seed", "negative seed", "fraction"])
 def test_wrong_arguments_exit_with_2(args, text):
     status, output, message = run(*args, "fox")

@@ -8,7 +8,7 @@ use alloc::{vec, vec::Vec};
 use core::fmt;
 use core::ops::Range;
 
-/// The split block Bloom filter of Apache Parquet, which Spark, Arrow and DuckDB read.
+/// The split block Bloom filter of Apache Parquet, which Arrow and DuckDB read.
 ///
 /// It has no false negatives: [`contains`](Self::contains) returns `true` for each key that was
 /// inserted. It returns `true` for some others too. A filter has no seed, and does not grow.

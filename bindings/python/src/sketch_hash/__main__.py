@@ -51,7 +51,7 @@ def seed(text):
     except OverflowError as error:
         raise argparse.ArgumentTypeError(error) from None
     except ValueError:
-        raise argparse.ArgumentTypeError(f"a seed is a whole number, and not {text!r}") from None
+        raise argparse.ArgumentTypeError(f"a seed must be a whole number, not {text!r}") from None
 
 
 def lines(name):

@@ -238,15 +238,15 @@ cdef class BloomFilter:
 
     @classmethod
     def for_keys(cls, keys, *, error_rate=None, one_in=None):
-        """for_keys($type, keys, *, error_rate=None, one_in=None)\n--\n\nReturns the smallest filter that reports at
-        most this share of other keys, once it has so many keys: error_rate=0.01, or one_in=100. Its size is a power of
-        two. Raises ValueError if it would need more than 128 MiB."""
+        """for_keys($type, keys, *, error_rate=None, one_in=None)\n--\n\nReturns the smallest filter whose
+        false positive rate is at most this, error_rate=0.01 or one_in=100, once it has so many keys. Its size is a
+        power of two. Raises ValueError if it would need more than 128 MiB."""
         if (error_rate is None) == (one_in is None):
             raise TypeError("for_keys takes one of error_rate, as 0.01, and one_in, as 100")
         if one_in is None:
             one_in = one_in_of(error_rate)
         if one_in == 0:
-            raise ValueError("one_in is at least 1")
+            raise ValueError("one_in must be at least 1, not 0")
         cdef size_t num_bytes = sketch_bloom_bytes_for(word_of(keys, "keys"), word_of(one_in, "one_in"))
         if num_bytes == 0:
             raise ValueError(f"no filter of up to 128 MiB has {keys} keys and reports one in {one_in} others: "
@@ -524,7 +524,7 @@ cdef class BloomFilter:
         self.check(0)
         cdef size_t length = sketch_bloom_header_write(self.bits.len, header, sizeof(header))
         if length == 0:
-            raise ValueError(f"a filter in a Parquet file has less than 2**31 bytes, and not {self.bits.len}")
+            raise ValueError(f"a filter in a Parquet file must have fewer than 2**31 bytes, not {self.bits.len}")
         stored = PyBytes_FromStringAndSize(NULL, length + self.bits.len)
         memcpy(PyBytes_AS_STRING(stored), header, length)
         memcpy(PyBytes_AS_STRING(stored) + length, self.bits.buf, self.bits.len)
@@ -613,7 +613,7 @@ cdef void sum_rates(const uint64_t *words, size_t pairs, uint64_t *high, uint64_
 
 cdef int check_rate(double rate) except -1:
     if not 0 < rate < 1:
-        raise ValueError(f"error_rate is above 0 and below 1, as 0.01 for one key in a hundred, and not {rate}")
+        raise ValueError(f"error_rate must be above 0 and below 1, as 0.01 for one key in a hundred, not {rate}")
     return 0
 
 

@@ -77,7 +77,7 @@ cdef uint64_t word_of(object number, str name) except? -1:
     try:
         return PyLong_AsUnsignedLongLong(number)
     except OverflowError:
-        raise OverflowError(f"{name} is from 0 to 2**64 - 1") from None
+        raise OverflowError(f"{name} must be from 0 to 2**64 - 1") from None
 
 
 ROW = "in the machine's byte order, as array.array has"
@@ -277,7 +277,7 @@ def column(texts):
     TypeError with the index of anything else in it, such as a missing value. An Arrow array is a column as it is.
     """
     if isinstance(texts, (str, bytes)):
-        raise TypeError("column takes many texts, and not one")
+        raise TypeError("texts must be many, not one")
     if getattr(getattr(texts, "dtype", None), "kind", None) == "S":
         raise TypeError("texts must not be an array of numpy's type S, which drops zero bytes at their ends: "
                         "pass a list of bytes")

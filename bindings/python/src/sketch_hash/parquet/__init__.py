@@ -63,7 +63,7 @@ def check_columns(footer, columns, replace):
         if any(FILE_PATH in it for it in column.chunks):
             raise ValueError(f"the column {column.name} must be in this file alone, not in those that the footer names")
         if any(OFFSET in it for it in column.metadata) and not replace:
-            raise ValueError(f"the column {column.name} must not have filters, or replace=True")
+            raise ValueError(f"the column {column.name} has filters: pass replace=True to replace them")
 
 
 def new_filters(source, footer, columns, error_rate):
@@ -88,7 +88,7 @@ def stored_values(source, footer, column):
         import pyarrow
         import pyarrow.parquet
     except ImportError as error:
-        raise ImportError("this call must have pyarrow: pip install 'sketch-hash[parquet]'") from error
+        raise ImportError("this call needs pyarrow: pip install 'sketch-hash[parquet]'") from error
     with damage():
         data = bare_footer(footer, column)
     metadata = pyarrow.parquet.read_metadata(pyarrow.BufferReader(b"PAR1" + data))

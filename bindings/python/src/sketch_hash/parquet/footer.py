@@ -7,7 +7,7 @@ try:
     from thrift.Thrift import TException, TType
     from thrift.transport.TTransport import TMemoryBuffer
 except ImportError:
-    raise ImportError("sketch_hash.parquet must have Apache Thrift's library: pip install thrift") from None
+    raise ImportError("sketch_hash.parquet needs Apache Thrift's library: pip install thrift") from None
 
 CALLS = {TType.BOOL: "Bool", TType.BYTE: "Byte", TType.I16: "I16", TType.I32: "I32", TType.I64: "I64",
          TType.DOUBLE: "Double", TType.STRING: "Binary"}
@@ -169,7 +169,7 @@ class Footer:
             chunks = [structs(it, COLUMNS) for it in self.groups]
             paths = list(leaf_paths(structs(self.fields, SCHEMA)))
             if any(len(it) != len(paths) for it in chunks):
-                raise ValueError("a row group has not all columns")
+                raise ValueError("a row group must have all columns")
             self.columns = [Column(path, [it[i] for it in chunks]) for i, path in enumerate(paths)]
 
     def column(self, name):
