@@ -287,7 +287,7 @@ def check(wrong=None):
 # ---- all calls, by function
 
 def cases(lengths, added):
-    """The lengths of one call; and what one update adds, or a key in a filter has."""
+    """The lengths of one call, which up to 100 are also those of a key in a filter; and what one update adds."""
     def case(function, build, *arguments):
         return Case(f"sketch_{function}", functools.partial(build, *arguments))
 
@@ -305,20 +305,20 @@ def cases(lengths, added):
     for n, is_first in itertools.product(range(18), (True, False)):
         yield from (case("xxh64_each_u64", each_number, n, places, is_first) for places in (n - (n > 9), n + 1))
     yield from (case("bloom_check", check, wrong) for wrong in (None, *range(33)))
-    lengths = [0, 32, 64, 96, 128, 192, 256, 320]
-    yield from (case("bloom_merge", merge, n, n, first) for n in [1, *lengths] for first in (True, False))
+    of_filters = [0, 32, 64, 96, 128, 192, 256, 320, 512, 1088]
+    yield from (case("bloom_merge", merge, n, n, first) for n in [1, *of_filters] for first in (True, False))
     yield from (case("bloom_merge", merge_wrong, wrong) for wrong in range(33))
     yield from (case("bloom_merge", merge, n, m, True) for n, m in ((0, 32), (32, 0), (64, 32), (32, 64), (33, 32)))
-    yield from (case("bloom_fold", fold, n) for n in [33, *lengths])
+    yield from (case("bloom_fold", fold, n) for n in [33, *of_filters])
     yield from (case("bloom_fold", fold_wrong, rest) for rest in range(1, 64))
     yield case("bloom_fold", fold_wrong, 0, 1 << 32)
     for it in (True, False):
-        yield from filter_cases(case, it, f"bloom_{'insert' if it else 'contains'}", added)
+        yield from filter_cases(case, it, f"bloom_{'insert' if it else 'contains'}", [n for n in lengths if n <= 100])
 
 
-def filter_cases(case, it, name, added):
+def filter_cases(case, it, name, lengths):
     yield from (case(f"{name}_hash", one_key, it, None, False, wrong) for wrong in (None, *range(33)))
-    yield from (case(name, one_key, it, n, False, wrong) for n in added for wrong in (None, 0, 1, 2))
+    yield from (case(name, one_key, it, n, False, wrong) for n in lengths for wrong in (None, 0, 1, 2))
     yield case(name, one_key, it, 0, True)
     for n, blocks, more in itertools.product(range(4), (None, 1), (0,) if it else (0, 1)):
         yield case(f"{name}_each_hash", hashes_in_filter, it, blocks, n, n + more)

@@ -16,7 +16,7 @@ from values import Stop
 SHARED = sorted(it for end in ("so.2", "dylib", "dll") for it in DIST.glob(f"*/*.{end}"))
 LINKERS = {"linux-x86_64": "ld", "linux-x86_64-v3": "ld", "linux-aarch64": "aarch64-linux-gnu-ld",
            "windows-x86_64": "x86_64-w64-mingw32-ld"}
-FEW = [*range(24), 31, 32, 33, 40, 47, 63, 64, 65, 72, 84, 95], [*range(9), 15, 16, 17, 31, 32, 33, 40, 64]
+FEW = [*range(98)], [*range(9), 15, 16, 17, 31, 32, 33, 40, 64]
 
 
 @pytest.fixture(autouse=True)
