@@ -13,8 +13,8 @@ enum { KEY = 16 };
 static const uint32_t salt[8] = {0x47b6137b, 0x44974d91, 0x8824ad5b, 0xa2b7289d,
                                  0x705495c7, 0x2df1424b, 0x9efc4947, 0x5c6bfb31};
 
-static size_t bytes, keys,
-    at; /* the filters' length, the keys in them, the first key of the next call */
+/* the filters' length, the keys in them, the first key of the next call */
+static size_t bytes, keys, at;
 static unsigned char *ours, *theirs, *data;
 static uint64_t *given, offsets_of_keys[KEYS + 1];
 static struct bloom libbloom;
