@@ -136,21 +136,22 @@ cdef int check_length(object length) except -1:
 def parquet_header(data):
     """How many bytes the header at the beginning of data has, and the filter after it."""
     cdef View memory
+    cdef uint64_t num_bytes = 0
     get_bytes(data, &memory)
     try:
-        return header_of(&memory)
+        header = header_of(&memory, &num_bytes)
+        return header, num_bytes
     finally:
         PyBuffer_Release(&memory)
 
 
-cdef tuple header_of(const View *memory):
-    cdef uint64_t num_bytes = 0
-    cdef size_t header = sketch_bloom_header_read(memory.buf, memory.len, &num_bytes)
+cdef size_t header_of(const View *memory, uint64_t *num_bytes) except 0:
+    cdef size_t header = sketch_bloom_header_read(memory.buf, memory.len, num_bytes)
     if header == 0:
         raise ValueError(
             "data does not begin with the whole header of an uncompressed split block Bloom filter with XXH64: "
             "it is at the column's bloom_filter_offset; from_bytes takes bits alone")
-    return header, num_bytes
+    return header
 
 
 cdef object copied(object kind, const void *bits, size_t length):
@@ -270,10 +271,11 @@ cdef class BloomFilter:
         file from its bloom_filter_offset on: a header, and the bits. Bytes after them are ignored. Raises ValueError if
         the header is not that of a split block filter with XXH64, uncompressed, or if bits are missing."""
         cdef View memory
+        cdef uint64_t num_bytes = 0
         cdef size_t header
         get_bytes(data, &memory)
         try:
-            header, num_bytes = header_of(&memory)
+            header = header_of(&memory, &num_bytes)
             if num_bytes > memory.len - header:
                 raise ValueError(f"the filter is truncated: it has {num_bytes} bytes after its header, and here are "
                                  f"{memory.len - header}")
