@@ -93,6 +93,22 @@ def test_a_copy_keeps_what_a_subclass_has_added(it, way):
     assert (copied.note is it.note) == (way in (copy.copy, WAYS[2]) or way not in WAYS)
 
 
+class Locked(BloomFilter):
+    """As a class does whose attributes cannot be pickled."""
+    def __getstate__(self):
+        return self.path
+
+    def __setstate__(self, path):
+        self.path, self.lock = path, threading.Lock()
+
+
+@pytest.mark.parametrize("way", WAYS)
+def test_a_copy_takes_the_state_that_a_subclass_gives(way):
+    it = Locked(32)
+    it.path, it.lock = "seen.bloom", threading.Lock()
+    assert way(it).path == "seen.bloom" and way(it).lock is not it.lock
+
+
 @pytest.mark.parametrize("kind, size", [(xxh64, 80), (murmur3_x64_128, 40)])
 def test_a_checkpoint_of_another_length_is_an_error(kind, size):
     hasher = kind(b"fox", 7)

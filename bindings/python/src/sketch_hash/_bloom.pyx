@@ -569,7 +569,11 @@ cdef BloomFilter duplicate(object kind, BloomFilter source):
     source.check(0)
     filter.hold(PyByteArray_FromStringAndSize(<char *>source.bits.buf, source.bits.len), False)
     if kind is not BloomFilter:
-        set_attributes(filter, attributes_of(source))
+        attributes = attributes_of(source)
+        if attributes is not None and hasattr(filter, "__setstate__"):
+            filter.__setstate__(attributes)
+        else:
+            set_attributes(filter, attributes)
     return filter
 
 

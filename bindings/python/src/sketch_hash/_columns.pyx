@@ -116,8 +116,9 @@ cdef int refuse_nan(cython.floating *numbers, size_t items) except -1:
     return 0
 
 
-cdef str cure_of(object keys):
-    return ": pyarrow.array(keys) makes an Arrow array" if hasattr(type(keys), "__array__") else ""
+cdef str cure_of(object keys, str what):
+    is_series = hasattr(type(keys), "__array__") and what not in ("offsets", "hashes")
+    return ": pyarrow.array(keys) makes an Arrow array" if is_series else ""
 
 
 @cython.no_gc
@@ -143,7 +144,7 @@ cdef class Column:
             self.kind = NUMBERS32 if self.get_numbers(keys, what) == 4 else HASHES if what == "hashes" else NUMBERS64
             self.count = self.items
         else:
-            raise TypeError(WHAT["hashes"][2] if what == "hashes" else f"a column of bytes is {PAIR}{cure_of(keys)}")
+            raise TypeError(WHAT["hashes"][2] if what == "hashes" else f"a column of bytes is {PAIR}{cure_of(keys, what)}")
 
     def __dealloc__(self):
         PyBuffer_Release(&self.data)
@@ -158,11 +159,11 @@ cdef class Column:
         try:
             PyObject_GetBuffer(numbers, &self.numbers, PyBUF_C_CONTIGUOUS | PyBUF_FORMAT)
         except TypeError:
-            text += cure_of(numbers)
+            text += cure_of(numbers, what)
         except ValueError:
             if getattr(getattr(numbers, "dtype", None), "kind", None) not in ("M", "m"):
                 raise
-            text += cure_of(numbers)
+            text += cure_of(numbers, what)
         else:
             format = self.numbers.format
             if format is NULL:
