@@ -9,8 +9,10 @@ try:
 except ImportError:
     raise ImportError("sketch_hash.parquet needs Apache Thrift's library: pip install thrift") from None
 
-CALLS = {TType.BOOL: "Bool", TType.BYTE: "Byte", TType.I16: "I16", TType.I32: "I32", TType.I64: "I64",
+PLAIN = {TType.BOOL: "Bool", TType.BYTE: "Byte", TType.I16: "I16", TType.I32: "I32", TType.I64: "I64",
          TType.DOUBLE: "Double", TType.STRING: "Binary"}
+READ = {kind: getattr(TCompactProtocol, f"read{name}") for kind, name in PLAIN.items()}
+WRITE = {kind: getattr(TCompactProtocol, f"write{name}") for kind, name in PLAIN.items()}
 
 # Numbers of the fields, as parquet.thrift gives them, in FileMetaData, SchemaElement, RowGroup, ColumnChunk and
 # ColumnMetaData.
@@ -22,8 +24,8 @@ VALUES, STATISTICS, OFFSET, LENGTH = 5, 12, 14, 15
 
 
 def read_value(protocol, kind):
-    if kind in CALLS:
-        return getattr(protocol, "read" + CALLS[kind])()
+    if kind in READ:
+        return READ[kind](protocol)
     if kind == TType.LIST:
         kind, count = protocol.readListBegin()
         items = [read_value(protocol, kind) for _ in range(count)]
@@ -44,8 +46,8 @@ def read_value(protocol, kind):
 
 
 def write_value(protocol, kind, value):
-    if kind in CALLS:
-        getattr(protocol, "write" + CALLS[kind])(value)
+    if kind in WRITE:
+        WRITE[kind](protocol, value)
     elif kind == TType.LIST:
         protocol.writeListBegin(value[0], len(value[1]))
         for item in value[1]:
