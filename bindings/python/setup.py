@@ -40,7 +40,7 @@ for archive in archives:
         raise SystemExit(f"{archive} is missing: set SKETCH_HASH_LIB_DIR to the absolute path of its folder")
 # Other extensions, or a program that embeds Python, may have another version's calls under the same names. So the names
 # of the archive stay inside of each module.
-exports = [f"-Wl,--version-script={os.path.join(here, 'exports.map')}"] if sys.platform == "linux" else []
+exports = ["-Xlinker", f"--version-script={here}/exports.map"] if sys.platform == "linux" else []
 modules = [
     Extension(
         f"sketch_hash.{name}",
