@@ -111,7 +111,7 @@ def test_objects_free_their_memory():
         column = b"foxdog", array.array("I", [0, 3, 6])
         def turn():
             bloom = it.BloomFilter(1024)
-            bloom.add_each(column); bloom.contains_each(column); bloom |= bloom.copy(); memoryview(bloom).tobytes()
+            bloom.add_each(column); bloom.contains_each(column); bloom |= bloom.copy(); memoryview(bloom).tobytes(); bloom.copy().fold(0.5)
             it.BloomFilter.from_parquet(bloom.to_parquet()); it.xxh64_each(column); it.xxh64(b"fox").copy().hexdigest()
             bloom.add_hashes(it.xxh64_each(column)); pickle.loads(pickle.dumps([bloom, it.murmur3_x64_128(b"fox")]))
             for wrong in (5, memoryview(b"foxdog").cast("H")):
