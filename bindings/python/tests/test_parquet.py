@@ -279,6 +279,17 @@ def test_an_error_while_values_are_read_leaves_the_target(copy, tmp_path, monkey
     assert copy.read_bytes() == ODD.read_bytes() and os.listdir(tmp_path) == ["a.parquet"]
 
 
+def test_a_file_that_changes_meanwhile_is_an_error(copy, tmp_path, monkeypatch):
+    def other_values(*args):
+        os.replace(shutil.copy(FILTERS, tmp_path / "b"), copy)
+        return texts(*args)
+
+    monkeypatch.setattr(parquet, "stored_values", other_values)
+    with pytest.raises(ValueError, match="^the file must not change while it is read$"):
+        parquet.add_filters(copy, copy, ["plain"])
+    assert copy.read_bytes() == FILTERS.read_bytes() and os.listdir(tmp_path) == ["a.parquet"]
+
+
 def test_a_killed_run_leaves_the_target(copy, tmp_path):
     code = f"""import os, test_parquet; from sketch_hash import parquet
 parquet.stored_values, parquet.set_place = test_parquet.texts, lambda *_: os.kill(os.getpid(), 9)

@@ -32,14 +32,14 @@ def add_filters(source, target, columns, *, error_rate=0.01, replace=False, prog
     if isinstance(columns, str):
         raise TypeError("columns must be a list of names, not one name")
     with open(source, "rb") as file:
-        footer = Footer(file)
+        footer, version = Footer(file), version_of(os.fstat(file.fileno()))
     chosen = [footer.column(name) for name in columns]
     check_columns(footer, chosen, replace)
     steps = new_filters(source, footer, chosen, error_rate)
     if progress:
         steps = progress(steps, total=len(chosen) * len(footer.groups))
     place = footer.start
-    with replaced(source, target, footer.start) as output:
+    with replaced(source, target, footer.start, version) as output:
         for metadata, filter in steps:
             data = filter.to_parquet()
             output.write(data)
@@ -127,24 +127,28 @@ def leaf_values(batch):
     return values
 
 
+def version_of(status):
+    return status.st_dev, status.st_ino, status.st_size, status.st_mtime_ns
+
+
 @contextlib.contextmanager
-def replaced(source, target, length):
+def replaced(source, target, length, version):
     """A copy of so many bytes of the source, which replaces the target once more is written, and synced. It gets the
-    source's mode."""
+    source's mode. Nothing is replaced if the source has become another file since its footer was read."""
     target = os.path.realpath(target)
     folder = os.path.dirname(target)
     number, path = tempfile.mkstemp(prefix=".sketch_hash-", dir=folder)
     try:
         with open(number, "r+b") as output:
             shutil.copyfile(source, path)  # by the system's own call, where there is one
-            if os.path.getsize(path) < length:
-                raise ValueError("the file must not change while it is read")
             output.truncate(length)
             output.seek(length)
             yield output
             output.flush()
             os.fsync(output.fileno())
         shutil.copymode(source, path)
+        if version_of(os.stat(source)) != version:
+            raise ValueError("the file must not change while it is read")
         os.replace(path, target)
     except BaseException:
         os.unlink(path)
