@@ -41,18 +41,19 @@ def add_with_carry(m, x, y):
     return add(add(x, y), extend(Machine.condition(m, "b" if m.flags[0] == "add" else "ae"), width_of(x)))
 
 
-# What an instruction computes from its operands without the first, which it writes. Those of vectors do it for each lane.
+# What an instruction computes from its operands but the first, which it writes. Those of vectors do it for each lane.
 OPERATIONS = {
-    "mov": plain(lambda x: x), "fmov": plain(lambda x: x), "adrp": plain(lambda x: x), "adr": plain(lambda x: x),
-    "add": plain(add), "sub": plain(sub), "adds": Machine.sum, "subs": Machine.subtract, "cmp": Machine.subtract,
-    "adc": add_with_carry, "neg": plain(lambda x: sub(number(0, width_of(x)), x)), "mul": plain(mul),
-    "madd": plain(lambda x, y, z: add(mul(x, y), z)), "and": plain(functools.partial(bitwise, "and")), "ands": logic("and"),
-    "tst": logic("and"), "orr": plain(functools.partial(bitwise, "or")), "eor": plain(functools.partial(bitwise, "xor")),
-    "bic": inverse("and"), "orn": inverse("or"), "mvn": plain(complement), "lsl": shift(shift_left), "lsr": shift(shift_right),
-    "ror": shift(rotate_right), "extr": lambda m, x, y, n: cut(join(y, x), known(n, "a shift"), width_of(x)),
+    "add": plain(add), "sub": plain(sub), "mul": plain(mul), "madd": plain(lambda x, y, z: add(mul(x, y), z)),
+    "adds": Machine.sum, "subs": Machine.subtract, "cmp": Machine.subtract, "adc": add_with_carry,
+    "neg": plain(lambda x: sub(number(0, width_of(x)), x)), "mvn": plain(complement), "bic": inverse("and"), "orn": inverse("or"),
+    "ands": logic("and"), "tst": logic("and"), "lsl": shift(shift_left), "lsr": shift(shift_right), "ror": shift(rotate_right),
+    "extr": lambda m, x, y, n: cut(join(y, x), known(n, "a shift"), width_of(x)),
     "csel": select(lambda y: y), "csinc": select(plus_one), "cinc": lambda m, x, holds: plus_one(x) if holds else x,
-    "cset": plain(lambda bit: bit), "csetm": lambda m, holds: number(-holds), "ushl": plain(shift_one), "ushr": shift(shift_right), "shl": shift(shift_left),
+    "cset": plain(lambda bit: bit), "csetm": lambda m, holds: number(-holds),
+    "ushl": plain(shift_one), "ushr": shift(shift_right), "shl": shift(shift_left),
 }
+OPERATIONS |= dict.fromkeys(("mov", "fmov", "adr", "adrp"), plain(lambda x: x))
+OPERATIONS |= {name: plain(functools.partial(bitwise, op)) for name, op in (("and", "and"), ("orr", "or"), ("eor", "xor"))}
 
 
 class Aarch64(Machine):

@@ -1,16 +1,19 @@
 """Checks the instructions of a library, as they ship, against the definitions: for every content, seed and address.
 
-    check.py [--all] LIBRARY..      --all: more lengths, in about two minutes a library
+    check.py [--all] LIBRARY..      --all: more lengths, in about a minute a library
 
-For each call in calls.py it executes the instructions on unknowns, and compares what they leave with what the definitions
-say of the same unknowns. Where both have one normal form, they are equal for all values of the unknowns. Then it also holds:
-reads and writes are only where the header allows, the registers that a caller keeps and the stack are restored, accesses
-that must be aligned are, and no branch and no address depends on a content or a seed, but for the block of a filter.
+Each call in calls.py is executed instruction by instruction, as a processor does, but on unknowns: a byte of the input,
+a seed or an address stands for every number that it can be, and a sum of two is kept as a sum. What the call leaves is
+compared with what the definitions say of the same unknowns. If both have one normal form, they are equal whatever the
+unknowns are. Then this holds too: reads and writes are only where the header allows; the registers that a caller keeps and
+the stack are restored; accesses that must be aligned are; no branch and no address depends on a content or a seed, but for
+the block of a filter.
 
-What is believed, in the place of a compiler: that objdump decodes an instruction as the processor does; that x86.py and
-aarch64.py say what each does; that each rule of values.py gives an equal value; that definitions.py reads specs/*.antt as
-the prover does; that calls.py says what the header does; and the system's loader. An instruction, a form or a flag that is
-not known stops the check. Not covered are other lengths, the calls that calls.py does not have, and time.
+What is believed, in a compiler's place: objdump decodes as the processor does; x86.py and aarch64.py say what each
+instruction does; each rule of values.py gives an equal value; definitions.py reads specs/*.antt as the prover does;
+calls.py says what the header does; a loader maps the file as library.py reads it; what a call is given does not overlap,
+as the header demands. An instruction, a form of one or a flag that is not known stops the check. Not covered are other
+lengths, calls that calls.py does not have, the processor's modes (of rounding, of direction), and time.
 """
 import argparse
 import collections

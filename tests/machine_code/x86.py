@@ -196,7 +196,7 @@ class X86(Machine):
             self.registers[what] = extend(value, width_of(before)) if clears or width in (32, 64) else join(value, rest)
 
     def step(self, op, text):
-        if op in ("nop", "data16", "cs") or (op, text) == ("xchg", "ax,ax"):
+        if re.match(r"((data16|cs) )*nop( |$)|xchg ax,ax$", f"{op} {text}"):
             return
         if op == "vzeroupper":
             self.registers |= {name: extend(cut(it, 0, 128), 256) for name, it in self.registers.items() if name[0] == "y"}
@@ -211,9 +211,8 @@ class X86(Machine):
         width = max(it[2] or 0 for it in operands)
         skips = is_avx or name[:3] == "mov" or name in WRITTEN or len(operands) == 3 and name not in ("shld", "shrd")
         skips &= op not in READ_ONLY
-        for kind, what, size in operands:
-            if kind == "memory" and (size or 0) > 64 and name not in UNALIGNED and (not is_avx or name in ("movaps", "movdqa")):
-                self.must_be_aligned(self.address(what), size // 8)
+        if name not in UNALIGNED and (not is_avx or name in ("movaps", "movdqa")):
+            self.must_be_aligned_vectors(operands)
         if op[:3] == "set" or op[:4] == "cmov":
             values = [self.read(it, width) for it in operands[op[0] == "s" :]]
             result = self.condition(op[3:]) if op[0] == "s" else values[self.holds(op[4:])]
@@ -223,6 +222,11 @@ class X86(Machine):
             result = OPERATIONS[name](self, *(self.read(it, width) for it in operands[skips:]))
         if op not in READ_ONLY:
             self.write(operands[0], result, is_avx)
+
+    def must_be_aligned_vectors(self, operands):
+        for kind, what, size in operands:
+            if kind == "memory" and size and size > 64:
+                self.must_be_aligned(self.address(what), size // 8)
 
     def jump(self, op, target):
         if op == "call":
