@@ -6,30 +6,22 @@ from machine import CALLER, Machine, logic, shift_one
 from values import (Stop, add, bitwise, complement, cut, extend, join, known, lanes, mul, number, rotate_right, shift_left,
                     shift_right, sub, unknown, width_of)
 
-CONDITIONS = {"eq": "e", "ne": "ne", "cc": "b", "cs": "ae", "hi": "a", "ls": "be", "mi": "s", "pl": "ns"}
+CONDITIONS = {"eq": "e", "ne": "ne", "cc": "b", "cs": "ae", "hi": "a", "ls": "be"}
 WIDTHS = {"b": 8, "h": 16, "s": 32, "d": 64, "q": 128, "w": 32, "x": 64}
 
 
 @functools.cache
 def split(text):
     """The operands. What is in brackets is one; so is a shift with the register before it."""
-    return re.split(r",\s*(?=\S)(?![^\[]*\])(?!(?:ls[lr]|ror|uxtw)\b)", text) if text else []
+    return re.split(r",\s*(?=\S)(?![^\[]*\])(?!(?:ls[lr]|ror)\b)", text) if text else []
 
 
 def shift(function):
     return lambda m, x, n: function(x, known(cut(n, 0, 6 if width_of(x) == 64 else 5), "a shift"))
 
 
-def inverse(op):
-    return lambda m, x, y: bitwise(op, x, complement(y))
-
-
 def plain(function):
     return lambda m, *values: function(*values)
-
-
-def select(change):
-    return lambda m, x, y, holds: x if holds else change(y)
 
 
 def plus_one(x):
@@ -45,14 +37,14 @@ def add_with_carry(m, x, y):
 OPERATIONS = {
     "add": plain(add), "sub": plain(sub), "mul": plain(mul), "madd": plain(lambda x, y, z: add(mul(x, y), z)),
     "adds": Machine.sum, "subs": Machine.subtract, "cmp": Machine.subtract, "adc": add_with_carry,
-    "neg": plain(lambda x: sub(number(0, width_of(x)), x)), "mvn": plain(complement), "bic": inverse("and"), "orn": inverse("or"),
+    "neg": plain(lambda x: sub(number(0, width_of(x)), x)), "mvn": plain(complement),
+    "bic": lambda m, x, y: bitwise("and", x, complement(y)),
     "ands": logic("and"), "tst": logic("and"), "lsl": shift(shift_left), "lsr": shift(shift_right), "ror": shift(rotate_right),
-    "extr": lambda m, x, y, n: cut(join(y, x), known(n, "a shift"), width_of(x)),
-    "csel": select(lambda y: y), "csinc": select(plus_one), "cinc": lambda m, x, holds: plus_one(x) if holds else x,
+    "csel": lambda m, x, y, holds: x if holds else y, "csinc": lambda m, x, y, holds: x if holds else plus_one(y),
     "cset": plain(lambda bit: bit), "csetm": lambda m, holds: number(-holds),
-    "ushl": plain(shift_one), "ushr": shift(shift_right), "shl": shift(shift_left),
+    "ushl": plain(shift_one), "ushr": shift(shift_right),
 }
-OPERATIONS |= dict.fromkeys(("mov", "fmov", "adr", "adrp"), plain(lambda x: x))
+OPERATIONS |= dict.fromkeys(("mov", "fmov", "adrp"), plain(lambda x: x))
 OPERATIONS |= {name: plain(functools.partial(bitwise, op)) for name, op in (("and", "and"), ("orr", "or"), ("eor", "xor"))}
 
 
@@ -94,9 +86,7 @@ class Aarch64(Machine):
             place = re.search(r"\[(\d)\]", name)
             value = cut(self.registers[register], size * int(place[1]) if place else 0, size)
         how, _, n = change.partition(" #")
-        if how == "uxtw":
-            value, how = extend(value), "lsl"
-        return OPERATIONS[how](self, value, number(int(n or "0", 0))) if how else value
+        return OPERATIONS[how](self, value, number(int(n, 0))) if how else value
 
     def write(self, name, value):
         """A write of a part clears the rest."""
@@ -132,7 +122,7 @@ class Aarch64(Machine):
         operands = split(text)
         if op == "nop":
             return
-        if op in ("b", "bl", "ret", "cbz", "cbnz", "tbz", "tbnz") or op[:2] == "b.":
+        if op in ("b", "bl", "ret", "cbz", "cbnz") or op[:2] == "b.":
             self.jump(op, operands)
         elif op[:2] in ("ld", "st"):
             self.access(op, operands)
@@ -161,10 +151,10 @@ class Aarch64(Machine):
             self.registers["x30"] = number(self.next)
         elif op[:2] == "b.":
             taken = self.holds(CONDITIONS[op[2:]])
-        elif op[:2] in ("cb", "tb"):
+        elif op[:2] == "cb":
             value = self.read(operands[0])
-            self.compare("logic", value, value, cut(value, int(operands[1][1:], 0), 1) if op[0] == "t" else value)
-            taken, self.flags = self.holds("e" if op[2:] == "z" else "ne"), before
+            self.compare("logic", value, value, value)
+            taken, self.flags = self.holds("e" if op == "cbz" else "ne"), before
         if taken:
             self.next = int(operands[-1], 16)
 
@@ -190,8 +180,8 @@ class Aarch64(Machine):
             return join(*[cut(values[0], 0, size)] * count)
         if op == "ext":
             return cut(join(*values[:2]), 8 * known(values[2], "a place"), count * size)
-        if op in ("ushr", "shl") and known(values[1], "a shift") < size:
+        if op == "ushr" and known(values[1], "a shift") < size:
             return lanes(size, lambda it: OPERATIONS[op](self, it, values[1]), values[0])
-        if op in ("add", "sub", "mul", "ushl"):
+        if op in ("add", "mul", "ushl"):
             return lanes(size, functools.partial(OPERATIONS[op], self), *values)
-        return {it: OPERATIONS[it] for it in ("and", "orr", "eor", "bic", "orn", "mvn")}[op](self, *values)
+        return {it: OPERATIONS[it] for it in ("and", "orr", "eor", "bic", "mvn")}[op](self, *values)

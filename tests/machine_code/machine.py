@@ -6,7 +6,7 @@ from values import (Stop, add, bitwise, complement, cut, extend, greatest, is_be
 
 CALLER = number(0xCA11E4)  # where a call returns to
 STACK = 4096  # how much of it a call may use
-OPPOSITE = {"ne": "e", "ae": "b", "a": "be", "ns": "s"}
+OPPOSITE = {"ne": "e", "ae": "b", "a": "be"}
 
 
 class Undecided(Stop):
@@ -106,13 +106,11 @@ class Machine:
         sets these "bits"."""
         if name in OPPOSITE:
             return complement(self.condition(OPPOSITE[name]))
-        if not self.flags or not self.flags[0] or name not in ("e", "b", "be", "s"):
+        if not self.flags or not self.flags[0] or name not in ("e", "b", "be"):
             raise Stop(f"the condition {name} is not known here")
         what, x, y, result = self.flags
         if what == "bits":
             return {"e": x, "b": y}[name]
-        if name == "s":
-            return cut(result, width_of(result) - 1, 1)
         if name == "e":
             bit = is_zero(result)
             return bit if what != "sub" or number_in(bit) is not None else is_zero(bitwise("xor", x, y))

@@ -1,5 +1,4 @@
 """The instructions of each library beside the definitions, and whether a mistake in either is noticed."""
-import functools
 import random
 import re
 import subprocess
@@ -7,9 +6,8 @@ import subprocess
 import calls
 import check
 import pytest
-import values
 from conftest import DIST
-from definitions import GIVEN, of_hash
+from definitions import of_hash
 from library import Library
 from values import Stop
 

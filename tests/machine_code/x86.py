@@ -60,13 +60,10 @@ def shift(function):
     return run
 
 
-def rotate(places):
+def rotate_left(m, x, count):
     """It changes the carry alone."""
-    def run(m, x, count=number(1, 8)):
-        m.flags = ("other", *m.flags[1:]) if m.flags and m.flags[0] not in (None, "bits") else None
-        return rotate_right(x, places(count_of(count, width_of(x)), width_of(x)))
-
-    return run
+    m.flags = ("other", *m.flags[1:]) if m.flags and m.flags[0] not in (None, "bits") else None
+    return rotate_right(x, width_of(x) - count_of(count, width_of(x)))
 
 
 def plus_one(sign):
@@ -83,10 +80,9 @@ def of_128_bits(x):
         raise Stop("a vector of 256 bits")
 
 
-def interleaved(size, x, y):
+def interleaved(x, y):
     of_128_bits(x)
-    parts = [cut(it, at, size) for at in range(0, 64, size) for it in (x, y)]
-    return join(*parts)
+    return join(*(cut(it, at, 32) for at in (0, 32) for it in (x, y)))
 
 
 def lanewise(size, function):
@@ -120,17 +116,16 @@ OPERATIONS = {
     "add": Machine.sum, "sub": Machine.subtract, "cmp": Machine.subtract, "adc": with_carry(1), "sbb": with_carry(-1),
     "neg": lambda m, x: m.subtract(number(0, width_of(x)), x), "inc": plus_one(1), "dec": plus_one(-1),
     "imul": lambda m, x, y: m.compare(None, x, y, mul(x, y)), "not": plain(complement),
-    "shl": shift(shift_left), "shr": shift(shift_right), "ror": rotate(lambda n, width: n),
-    "rol": rotate(lambda n, width: width - n),
+    "shl": shift(shift_left), "shr": shift(shift_right), "rol": rotate_left,
     "shld": lambda m, x, y, n: m.compare(None, x, y, cut(join(y, x), width_of(x) - count_of(n, width_of(x)), width_of(x))),
     "shrd": lambda m, x, y, n: m.compare(None, x, y, cut(join(x, y), count_of(n, width_of(x)), width_of(x))),
     "cvttps2dq": plain(lambda x: lanes(32, from_float, x)), "pshufd": reordered,
-    "punpckldq": plain(functools.partial(interleaved, 32)), "punpcklqdq": plain(functools.partial(interleaved, 64)),
+    "punpckldq": plain(interleaved),
     "pmovmskb": plain(lambda x: lanes(8, lambda it: cut(it, 7, 1), x)),
     "pandn": plain(lambda x, y: bitwise("and", complement(x), y)),
-    "paddd": lanewise(32, add), "paddq": lanewise(64, add), "psubq": lanewise(64, sub), "pmulld": lanewise(32, mul),
+    "paddd": lanewise(32, add), "paddq": lanewise(64, add), "pmulld": lanewise(32, mul),
     "pmuludq": lanewise(64, half_product), "psllvd": lanewise(32, shift_one),
-    "pcmpeqb": lanewise(8, is_equal), "pcmpeqd": lanewise(32, is_equal),
+    "pcmpeqb": lanewise(8, is_equal),
     "psrld": shifted_lanes(32, shift_right), "pslld": shifted_lanes(32, shift_left), "psrlq": shifted_lanes(64, shift_right),
     "psllq": shifted_lanes(64, shift_left),
     # of x86-64-v3
@@ -139,11 +134,9 @@ OPERATIONS = {
     "shrx": plain(lambda x, n: shift_right(x, count_of(n, width_of(x)))), "pbroadcastq": broadcast(64), "ptest": is_covered,
     "pextrq": plain(lambda x, n: cut(x, 64 * known(n, "a place"), 64)),
     "extracti128": plain(lambda x, n: cut(x, 128 * known(n, "a place"), 128)),
-    "inserti128": plain(lambda x, y, n: join(*((y, cut(x, 128, 128)) if known(n, "a place") == 0 else (cut(x, 0, 128), y)))),
-    "permq": plain(lambda x, n: join(*(cut(x, 64 * (known(n, "an order") >> 2 * i & 3), 64) for i in range(4)))),
 }
 OPERATIONS |= {name: logic(op) for name, op in (("and", "and"), ("test", "and"), ("or", "or"), ("xor", "xor"))}
-OPERATIONS |= {name: plain(functools.partial(bitwise, op)) for op in ("and", "or", "xor") for name in (f"p{op}", f"{op}ps")}
+OPERATIONS |= {name: plain(functools.partial(bitwise, op)) for op in ("or", "xor") for name in (f"p{op}", f"{op}ps")}
 OPERATIONS |= dict.fromkeys("mov movabs movzx movd movq movups movdqu movaps movdqa".split(), SOURCE)
 READ_ONLY = "cmp", "test", "ptest", "vptest"  # the first operand is not written
 WRITTEN = "cvttps2dq", "pmovmskb", "lea"  # and moves: it is not read
