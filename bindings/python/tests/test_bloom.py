@@ -339,10 +339,29 @@ def test_a_cycle_through_a_view_is_collected():
         buffer.view = view(buffer)
         return weakref.ref(buffer)
 
-    references = [cycle(BloomFilter.view), cycle(lambda it: BloomFilter.view(memoryview(it))),
-                  cycle(lambda it: memoryview(BloomFilter.view(it))), cycle(type("Kind", (BloomFilter,), {}).view)]
-    gc.collect()
-    assert [it() for it in references] == [None] * 4
+    ways = [BloomFilter.view, lambda it: BloomFilter.view(memoryview(it)), lambda it: memoryview(BloomFilter.view(it)),
+            lambda it: BloomFilter.view(memoryview(BloomFilter.view(it))), type("Kind", (BloomFilter,), {}).view]
+    for way in ways:
+        references = [cycle(way) for _ in range(50)]
+        for it in references[::2]:
+            it().before = it()  # the order in which the collector clears them is another one
+        gc.collect()
+        assert [it() for it in references] == [None] * 50
+
+
+def test_a_view_outlives_the_memoryview_that_it_was_made_of():
+    memory = memoryview(bytearray(bits()))
+    view = BloomFilter.view(memory[:512])
+    memory.release()
+    view.add(b"fox")
+    assert b"fox" in view and view.num_bytes == 512
+    view.release()
+
+
+def test_a_view_is_of_contiguous_memory():
+    for memory in (memoryview(bits())[::2], numpy.zeros((32, 32), "u1").T):
+        with pytest.raises(BufferError, match="^a view must be of memory that is C-contiguous$"):
+            BloomFilter.view(memory)
 
 
 def test_a_view_changes_the_buffer():

@@ -20,11 +20,10 @@ import pickle
 cdef extern from "Python.h":
     const char *PyUnicode_AsUTF8AndSize(object, Py_ssize_t *) except NULL
     int __builtin_popcountll(uint64_t) nogil
-    ctypedef int (*visitproc)(PyObject *, void *) noexcept
-    ctypedef int (*traverseproc)(PyObject *, visitproc, void *) noexcept
+    View *PyMemoryView_GET_BUFFER(object)
+    bint PyBuffer_IsContiguous(const View *, char)
     ctypedef int (*inquiry)(PyObject *) noexcept
     ctypedef struct Type "PyTypeObject":
-        traverseproc tp_traverse
         inquiry tp_clear
 
 cdef enum:
@@ -181,7 +180,8 @@ cdef class BloomFilter:
     shares the bits. Calls of several threads on one filter take turns, so threads and signal handlers may share it.
     """
 
-    cdef View bits  # of an own bytearray, or of the buffer of a view
+    cdef View bits  # of an own bytearray, or of a view
+    cdef object memory  # a memoryview that keeps the bits of a view, or None
     cdef Lock lock  # created by the first long call or merge
     cdef Py_ssize_t exports  # how many memoryviews of the bits there are
     cdef bint is_view
@@ -195,12 +195,21 @@ cdef class BloomFilter:
         PyBuffer_Release(&self.bits)
 
     cdef int hold(self, object buffer, bint is_view) except -1:
-        """Takes the memory of a buffer, and releases what it had."""
+        """Takes the memory of a buffer, and releases what it had.
+
+        A memoryview is kept, and has no exports: if it had, the garbage collector could not clear it, and would crash.
+        """
         cdef View bits
-        PyObject_GetBuffer(buffer, &bits, PyBUF_SIMPLE)
+        memory = buffer if isinstance(buffer, memoryview) else None
+        if memory is None:
+            PyObject_GetBuffer(buffer, &bits, PyBUF_SIMPLE)
+        else:
+            bits = PyMemoryView_GET_BUFFER(buffer)[0]
+            bits.obj = NULL
         try:
             check_length(bits.len)
             self.exchange(&bits)
+            memory, self.memory = self.memory, memory
             self.is_view = is_view
         finally:
             PyBuffer_Release(&bits)
@@ -296,6 +305,8 @@ cdef class BloomFilter:
             buffer = memoryview(buffer)
             if buffer.format != "B":
                 refuse_addresses(buffer.format)
+            if not PyBuffer_IsContiguous(PyMemoryView_GET_BUFFER(buffer), c"C"):
+                raise BufferError("a view must be of memory that is C-contiguous")
         filter.hold(buffer, True)
         return filter
 
@@ -304,6 +315,7 @@ cdef class BloomFilter:
         cdef View nothing
         nothing.buf, nothing.obj, nothing.len, nothing.readonly = NULL, NULL, 0, 0
         self.exchange(&nothing)
+        memory, self.memory = self.memory, None
         PyBuffer_Release(&nothing)
 
     def __enter__(self):
@@ -577,28 +589,18 @@ cdef BloomFilter duplicate(object kind, BloomFilter source):
     return filter
 
 
-# Cython does not know of the object in a buffer, which may refer to the filter: the garbage collector must.
-cdef traverseproc traverse_rest = (<Type *>BloomFilter).tp_traverse
 cdef inquiry clear_rest = (<Type *>BloomFilter).tp_clear
 
 
-cdef int traverse(PyObject *filter, visitproc visit, void *arg) noexcept:
-    cdef int status = traverse_rest(filter, visit, arg)
-    if status == 0 and (<BloomFilter>filter).bits.obj is not NULL:
-        status = visit((<BloomFilter>filter).bits.obj, arg)
-    return status
-
-
 cdef int clear(PyObject *filter) noexcept:
-    cdef View bits
-    if (<BloomFilter>filter).exports == 0:
-        bits = (<BloomFilter>filter).bits
+    """Releases a filter that is garbage. What still has its memory is garbage too, and is cleared first."""
+    if (<BloomFilter>filter).exports:
+        return 0
+    if (<BloomFilter>filter).bits.obj is NULL:  # the bits are of a memoryview
         memset(&(<BloomFilter>filter).bits, 0, sizeof(View))
-        PyBuffer_Release(&bits)
     return clear_rest(filter)
 
 
-(<Type *>BloomFilter).tp_traverse = traverse
 (<Type *>BloomFilter).tp_clear = clear
 
 
