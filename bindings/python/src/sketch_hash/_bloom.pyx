@@ -195,24 +195,28 @@ cdef class BloomFilter:
         PyBuffer_Release(&self.bits)
 
     cdef int hold(self, object buffer, bint is_view) except -1:
-        """Takes the memory of a buffer, and releases what it had.
-
-        A memoryview is kept, and has no exports: if it had, the garbage collector could not clear it, and would crash.
-        """
+        """Takes the memory of a buffer, and releases what it had."""
         cdef View bits
-        memory = buffer if isinstance(buffer, memoryview) else None
-        if memory is None:
-            PyObject_GetBuffer(buffer, &bits, PyBUF_SIMPLE)
-        else:
-            bits = PyMemoryView_GET_BUFFER(buffer)[0]
-            bits.obj = NULL
+        PyObject_GetBuffer(buffer, &bits, PyBUF_SIMPLE)
         try:
             check_length(bits.len)
             self.exchange(&bits)
-            memory, self.memory = self.memory, memory
             self.is_view = is_view
+            if self.memory is not None:
+                self.memory = None
         finally:
             PyBuffer_Release(&bits)
+        return 0
+
+    cdef int hold_memoryview(self, object memory) except -1:
+        """As hold, but nothing is exported: CPython crashes if the garbage collector clears a memoryview with exports."""
+        cdef View bits = PyMemoryView_GET_BUFFER(memory)[0]
+        bits.obj = NULL
+        check_length(bits.len)
+        self.exchange(&bits)
+        memory, self.memory = self.memory, memory
+        self.is_view = True
+        PyBuffer_Release(&bits)
         return 0
 
     cdef int exchange(self, View *bits) except -1:
@@ -301,13 +305,15 @@ cdef class BloomFilter:
         view is released: by release, at the end of a with block, or with the view itself.
         """
         cdef BloomFilter filter = empty(cls)
-        if type(buffer) is not bytes and type(buffer) is not bytearray:
-            buffer = memoryview(buffer)
-            if buffer.format != "B":
-                refuse_addresses(buffer.format)
-            if not PyBuffer_IsContiguous(PyMemoryView_GET_BUFFER(buffer), c"C"):
-                raise BufferError("a view must be of memory that is C-contiguous")
-        filter.hold(buffer, True)
+        if type(buffer) is bytes or type(buffer) is bytearray:
+            filter.hold(buffer, True)
+            return filter
+        memory = memoryview(buffer)
+        if memory.format != "B":
+            refuse_addresses(memory.format)
+        if not PyBuffer_IsContiguous(PyMemoryView_GET_BUFFER(memory), c"C"):
+            raise BufferError("a view must be of memory that is C-contiguous")
+        filter.hold_memoryview(memory)
         return filter
 
     def release(self):
