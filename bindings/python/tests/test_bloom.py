@@ -90,7 +90,7 @@ def test_another_length_is_an_error(length):
     if 0 <= length < 2**37:
         calls += [lambda: BloomFilter.from_bytes(bytes(length)), lambda: BloomFilter.view(bytes(length))]
     for call in calls:
-        with pytest.raises(ValueError, match=f"multiple of 32 bytes, below 2..37, and not {length}: BloomFilter.for"):
+        with pytest.raises(ValueError, match=f"multiple of 32 bytes, below 2..37, not {length}: BloomFilter.for"):
             call()
 
 
@@ -115,7 +115,7 @@ def test_a_key_is_a_text_or_bytes(key, data):
 def test_another_type_of_key_is_an_error(key):
     bloom = filled()
     for call in (bloom.add, bloom.__contains__):
-        with pytest.raises(TypeError, match="^a key is a str or bytes, and not .*: add_each and contains_each take"):
+        with pytest.raises(TypeError, match="^a key must be str or bytes, not .*: add_each and contains_each take"):
             call(key)
     assert bloom == filled()
 

@@ -189,7 +189,7 @@ def test_what_exports_no_numbers_is_an_error_with_the_cure(keys):
 
 @pytest.mark.parametrize("texts, text", [
     (numpy.array([b"ab\0"]), "^texts must not be an array of numpy's type S, which drops zero bytes at their ends"),
-    (["fox", None], "^the key at 1 is neither str nor bytes, but NoneType$"),
+    (["fox", None], "^the key at 1 must be str or bytes, not NoneType$"),
     ("fox", "^texts must be many, not one$"),
 ], ids=["type S of numpy", "missing value", "one text"])
 def test_column_rejects_other_texts(texts, text):

@@ -77,7 +77,7 @@ cdef int get_key(object key, View *memory) except -1:
             PyBuffer_Release(memory)
     if not is_bytes:
         raise TypeError(
-            f"a key is a str or bytes, and not {type(key).__name__}: "
+            f"a key must be str or bytes, not {type(key).__name__}: "
             "add_each and contains_each take numbers and columns")
     return 0
 
@@ -127,7 +127,7 @@ cdef int contains_column(
 cdef int check_length(object length) except -1:
     if not 0 < length < 2**37 or sketch_bloom_check(length):
         raise ValueError(
-            f"a Bloom filter has a positive multiple of 32 bytes, below 2**37, and not {length}: "
+            f"a Bloom filter must have a positive multiple of 32 bytes, below 2**37, not {length}: "
             "BloomFilter.for_keys finds the number for keys and an error rate; from_parquet reads a filter with its header")
     return 0
 

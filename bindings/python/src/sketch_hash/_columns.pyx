@@ -291,4 +291,4 @@ cdef bytes text_bytes(i, text):
         return text.encode()
     if isinstance(text, bytes):
         return bytes(text)
-    raise TypeError(f"the key at {i} is neither str nor bytes, but {type(text).__name__}")
+    raise TypeError(f"the key at {i} must be str or bytes, not {type(text).__name__}")
