@@ -339,7 +339,7 @@ def test_the_methods_are_those_of_the_class():
     strange = type("Strange", (), {})()
     strange.__arrow_c_array__ = lambda: pytest.fail("called")
     for keys in (strange, type("Kind", (), {"__arrow_c_array__": lambda _: pytest.fail("called")})):
-        with pytest.raises(TypeError, match="^a column is"):
+        with pytest.raises(TypeError, match="^a column must be"):
             CALLS[0](keys)
 
 

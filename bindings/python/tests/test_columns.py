@@ -75,7 +75,7 @@ def test_a_wrong_offset_is_reported_and_nothing_added(call, dtype, index, wrong)
 
 
 ROW = "one row of whole numbers of {} bits in the machine's byte order, as array.array has"
-PAIR_OR = "^a column is a pair of bytes and offsets, as column.texts. makes it, an Arrow array or "
+PAIR_OR = "^a column must be a pair of bytes and offsets, as column.texts. makes it, an Arrow array or "
 COLUMN, OF_FILTER = PAIR_OR + ROW.format("64"), PAIR_OR + "one row of numbers of 32 or 64 bits"
 XXH64, FILTER = [xxh64_each], [BLOOM.add_each, BLOOM.contains_each]
 
@@ -84,17 +84,17 @@ XXH64, FILTER = [xxh64_each], [BLOOM.add_each, BLOOM.contains_each]
     (XXH64, numpy.zeros(4, "u4"), COLUMN + r': numbers.astype."uint64". makes it$'),
     *((XXH64, numpy.zeros(*shape), COLUMN + "$") for shape in ((4, ">u8"), (4, "f8"), ((2, 2), "u8"), ((), "u8"))),
     *((XXH64, keys, COLUMN + "$") for keys in ([1, 2], "fox", DATA)),
-    *((XXH64, (DATA, offsets), "^offsets are " + ROW.format("32 or 64"))
+    *((XXH64, (DATA, offsets), "^offsets must be " + ROW.format("32 or 64"))
       for offsets in (numpy.zeros(4, "u2"), numpy.zeros(4, "f4"), numpy.array(5, "u8"), DATA, [0, 3])),
-    (XXH64, (DATA,), "^a column of bytes is a pair of bytes and offsets, as column"),
-    (XXH64, (DATA, OFFSETS, 0), "^a column of bytes is a pair"),
+    (XXH64, (DATA,), "^a column of bytes must be a pair of bytes and offsets, as column"),
+    (XXH64, (DATA, OFFSETS, 0), "^a column of bytes must be a pair"),
     (XXH64, ("text", [0, 4]), "^a str has no bytes until it is encoded"),
     (XXH64, (numpy.array(["fox"], dtype=object), [0, 8]), "^data must be bytes, not addresses of objects"),
-    ([murmur3_x64_128_each], numpy.zeros(4, "u8"), "^a column of bytes is a pair of bytes and offsets, as column"),
+    ([murmur3_x64_128_each], numpy.zeros(4, "u8"), "^a column of bytes must be a pair of bytes and offsets, as column"),
     (FILTER, numpy.zeros(3, "i2"), OF_FILTER + r'.* numbers.astype."int32". makes it, as Parquet stores smaller ones$'),
     *((FILTER, keys, OF_FILTER + ".* has$")
       for keys in (KEYS, numpy.zeros(3, "f2"), numpy.zeros((2, 2), "u8"), b"fox")),
-    *(([BLOOM.add_hashes, BLOOM.contains_hashes], hashes, "^hashes are " + ROW.format("64"))
+    *(([BLOOM.add_hashes, BLOOM.contains_hashes], hashes, "^hashes must be " + ROW.format("64"))
       for hashes in (PAIR, [1, 2], numpy.zeros(2, "u4"), numpy.zeros(2, "f8"))),
 ])
 def test_another_column_is_an_error(calls, keys, text):

@@ -82,12 +82,12 @@ cdef uint64_t word_of(object number, str name) except? -1:
 
 ROW = "in the machine's byte order, as array.array has"
 PAIR = "a pair of bytes and offsets, as column(texts) makes it, an Arrow array"
-WHAT = {
-    "offsets": (4, b"iIlLqQ", f"offsets are one row of whole numbers of 32 or 64 bits {ROW}", ""),
-    "hashes": (8, b"lLqQ", f"hashes are one row of whole numbers of 64 bits {ROW}", ""),
-    "wide keys": (8, b"lLqQ", f"a column is {PAIR} or one row of whole numbers of 64 bits {ROW}",
+NUMBER_KINDS = {
+    "offsets": (4, b"iIlLqQ", f"offsets must be one row of whole numbers of 32 or 64 bits {ROW}", ""),
+    "hashes": (8, b"lLqQ", f"hashes must be one row of whole numbers of 64 bits {ROW}", ""),
+    "wide keys": (8, b"lLqQ", f"a column must be {PAIR} or one row of whole numbers of 64 bits {ROW}",
                   ': numbers.astype("uint64") makes it'),
-    "keys": (4, b"iIlLqQfd", f"a column is {PAIR} or one row of numbers of 32 or 64 bits {ROW}",
+    "keys": (4, b"iIlLqQfd", f"a column must be {PAIR} or one row of numbers of 32 or 64 bits {ROW}",
              ': numbers.astype("int32") makes it, as Parquet stores smaller ones'),
 }
 
@@ -125,7 +125,7 @@ cdef str cure_of(object keys, str what):
 cdef class Column:
     """The keys of a call: texts with the offsets where they begin and end, or numbers.
 
-    `what` is the kind of numbers that may be keys, by its name in WHAT, or None if only texts may be keys.
+    `what` is the kind of numbers that may be keys, by its name in NUMBER_KINDS, or None if only texts may be keys.
     """
 
     def __cinit__(self, object keys, str what):
@@ -144,7 +144,8 @@ cdef class Column:
             self.kind = NUMBERS32 if self.get_numbers(keys, what) == 4 else HASHES if what == "hashes" else NUMBERS64
             self.count = self.items
         else:
-            raise TypeError(WHAT["hashes"][2] if what == "hashes" else f"a column of bytes is {PAIR}{cure_of(keys, what)}")
+            raise TypeError(NUMBER_KINDS["hashes"][2] if what == "hashes" else
+                            f"a column of bytes must be {PAIR}{cure_of(keys, what)}")
 
     def __dealloc__(self):
         PyBuffer_Release(&self.data)
@@ -155,7 +156,7 @@ cdef class Column:
         cdef bytes formats
         cdef const char *format = ""
         cdef char letter = 0  # of the numbers, if they are one row
-        narrowest, formats, text, cure = WHAT[what]
+        narrowest, formats, text, cure = NUMBER_KINDS[what]
         try:
             PyObject_GetBuffer(numbers, &self.numbers, PyBUF_C_CONTIGUOUS | PyBUF_FORMAT)
         except TypeError:
