@@ -1,8 +1,11 @@
 //! Links the proved archive: that of the package, or that of the folder that `SKETCH_HASH_LIB_DIR`
 //! names.
 
-use std::env;
 use std::path::{self, PathBuf};
+use std::{env, fs};
+
+/// A call that only version 2 has. Version 1 has others under the same names, with other arguments.
+const OF_VERSION_2: &[u8] = b"sketch_bloom_insert_hash";
 
 fn main() {
     println!("cargo:rerun-if-env-changed=SKETCH_HASH_LIB_DIR");
@@ -15,6 +18,11 @@ fn main() {
         archive.display(),
     );
     println!("cargo:rerun-if-changed={}", archive.display());
+    assert!(
+        fs::read(&archive).unwrap().windows(OF_VERSION_2.len()).any(|name| name == OF_VERSION_2),
+        "{} must be the library of version 2",
+        archive.display(),
+    );
     println!("cargo:rustc-link-search=native={}", folder.display());
     // By its file name: dist/ has an import library sketch_hash.lib for Windows too.
     println!("cargo:rustc-link-lib=static:+verbatim=libsketch_hash.a");

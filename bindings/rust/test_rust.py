@@ -130,15 +130,13 @@ def test_project_links_a_library_elsewhere(project, need, tmp_path):
     assert try_cargo("run", folder=project, SKETCH_HASH_LIB_DIR=str(elsewhere)).returncode != 0
 
 
-def test_a_library_of_another_version_does_not_link(project, need, tmp_path):
+def test_a_library_of_another_version_is_refused(project, tmp_path):
     """Even if the program makes no call that is new."""
-    need("objcopy")
-    library = shutil.copy(DIST / "linux-x86_64/libsketch_hash.a", tmp_path)
-    subprocess.run(["objcopy", "--redefine-sym", "sketch_bloom_insert_hash=other", library], check=True)
+    library, data = tmp_path / "libsketch_hash.a", (DIST / "linux-x86_64/libsketch_hash.a").read_bytes()
+    library.write_bytes(data.replace(b"sketch_bloom_insert_hash", b"sketch_bloom_insert_none"))
     (project / "src/main.rs").write_text("fn main() { sketch_hash::version(); }")
-    for profile in ("dev", "release"):
-        done = try_cargo("build", "--profile", profile, folder=project, SKETCH_HASH_LIB_DIR=str(tmp_path))
-        assert re.search("undefined .*sketch_bloom_insert_hash", done.stderr)
+    done = try_cargo("build", folder=project, SKETCH_HASH_LIB_DIR=str(tmp_path))
+    assert f"{library} must be the library of version 2" in done.stderr
 
 
 def test_a_cdylib_exports_none_of_the_calls(project, target, need):

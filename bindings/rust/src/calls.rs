@@ -9,11 +9,6 @@ pub const ERROR_OFFSET: c_int = -2;
 pub const ERROR_COUNT: c_int = -3;
 pub const BLOOM_HEADER_MAX: usize = 19;
 
-/// Refers to a call that only version 2 of the library has, whether a program makes it or not. An
-/// archive of version 1, whose calls take other arguments under the same names, does not link.
-#[used]
-static OF_VERSION_2: unsafe extern "C" fn(*mut u8, usize, u64) -> c_int = sketch_bloom_insert_hash;
-
 #[repr(C)]
 #[derive(Clone, Copy, PartialEq)]
 pub struct Xxh64State {
