@@ -222,7 +222,7 @@ def test_a_file_is_replaced_with_its_mode_and_behind_its_link(copy, tmp_path):
     parquet.add_filters(tmp_path / "link", tmp_path / "link", ["plain"])
     assert (tmp_path / "link").is_symlink() and stat.S_IMODE(copy.stat().st_mode) == 0o640
     assert set(os.listdir(tmp_path)) == {"a.parquet", "link"} and len(parquet.filters(copy)) == 3
-    with pytest.raises(ValueError, match="^the column plain has filters: pass replace=True to replace them$"):
+    with pytest.raises(ValueError, match="^the column plain has filters: replace=True, or --replace, replaces them$"):
         parquet.add_filters(copy, copy, ["plain"])
     parquet.add_filters(copy, copy, ["b"])
     parquet.add_filters(copy, copy, ["plain"], replace=True)

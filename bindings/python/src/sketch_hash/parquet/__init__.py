@@ -63,7 +63,7 @@ def check_columns(footer, columns, replace):
         if any(FILE_PATH in it for it in column.chunks):
             raise ValueError(f"the column {column.name} must be in this file alone, not in those that the footer names")
         if any(OFFSET in it for it in column.metadata) and not replace:
-            raise ValueError(f"the column {column.name} has filters: pass replace=True to replace them")
+            raise ValueError(f"the column {column.name} has filters: replace=True, or --replace, replaces them")
 
 
 def new_filters(source, footer, columns, error_rate):
