@@ -1,4 +1,5 @@
-"""What the tests share: `need`, by which each names the tools that it needs, the folders, the calls of the library."""
+"""What the tests share: `need`, by which each names the tools that it needs, the folders, the calls of the library, pyarrow,
+and what shows that a call releases the GIL."""
 import functools
 import importlib
 import importlib.util
@@ -8,7 +9,10 @@ import platform
 import re
 import shutil
 import subprocess
+import sys
 import sysconfig
+import threading
+import time
 
 import pytest
 
@@ -82,6 +86,43 @@ def proved():
     if not PROVED:
         pytest.skip("needs what rt ci proves and builds: bash .ci/run")
     return PROVED
+
+
+@pytest.fixture
+def pa(need):
+    need("python:pyarrow")
+    import pyarrow.compute
+    import pyarrow.parquet
+    return pyarrow
+
+
+@pytest.fixture
+def ticks():
+    """A list that another thread appends to whenever the GIL is released."""
+    found, is_over, interval = [], threading.Event(), sys.getswitchinterval()
+
+    def tick():
+        while not is_over.is_set():
+            found.append(1)
+            time.sleep(0.001)
+
+    sys.setswitchinterval(1000)
+    worker = threading.Thread(target=tick)
+    worker.start()
+    while not found:
+        time.sleep(0.001)
+    yield found
+    sys.setswitchinterval(interval)
+    is_over.set()
+    worker.join()
+
+
+def assert_releases_the_gil(call, data, ticks):
+    """The other thread may be late on a busy machine, so it has ten seconds."""
+    before, end = len(ticks), time.monotonic() + 10
+    while len(ticks) == before and time.monotonic() < end:
+        call(data)
+    assert len(ticks) > before
 
 
 class NotBuilt(pytest.Module):

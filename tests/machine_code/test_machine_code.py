@@ -19,7 +19,7 @@ FEW = [*range(98)], [*range(9), 15, 16, 17, 31, 32, 33, 40, 64]
 
 @pytest.fixture(autouse=True)
 def tools(need):
-    need("objdump", "aarch64-linux-gnu-objdump")
+    need("linux-x86_64", "objdump", "aarch64-linux-gnu-objdump")
 
 
 def library_of(target):

@@ -6,8 +6,8 @@ import struct
 import subprocess
 
 import pytest
+from conftest import assert_releases_the_gil
 from sketch_hash import BloomFilter, murmur3_x64_128_each, murmur3_x64_128_intdigest, xxh64_each, xxh64_intdigest
-from test_sharing import assert_releases_the_gil, ticks
 
 P, I64 = ctypes.c_void_p, ctypes.c_int64
 RELEASE, GET = ctypes.CFUNCTYPE(None, P), ctypes.CFUNCTYPE(ctypes.c_int, P, P)
@@ -390,14 +390,6 @@ TYPES = [
     "time32('ms')", "time64('us')", "time64('ns')", "timestamp('ms')", "timestamp('us', 'UTC')", "timestamp('ns')",
     "duration('s')", "string", "large_string", "binary", "binary(4)", "dictionary",
 ]
-
-
-@pytest.fixture
-def pa(need):
-    need("python:pyarrow")
-    import pyarrow.compute
-    import pyarrow.parquet
-    return pyarrow
 
 
 def column_of(pa, name, count=4000):

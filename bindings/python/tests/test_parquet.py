@@ -9,14 +9,13 @@ import re
 import shutil
 import signal
 import stat
-import struct
 import subprocess
 import sys
 import uuid
 
 import pytest
 from sketch_hash import column
-from test_arrow import TYPES, column_of, pa
+from test_arrow import TYPES, column_of
 
 thrift = pytest.importorskip("thrift")
 from sketch_hash import parquet

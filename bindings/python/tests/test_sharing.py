@@ -5,12 +5,12 @@ import fractions
 import mmap
 import pickle
 import signal
-import sys
 import threading
 import time
 
 import pytest
 import sketch_hash
+from conftest import assert_releases_the_gil
 from sketch_hash import BloomFilter, murmur3_x64_128, murmur3_x64_128_each, xxh64, xxh64_each
 
 numpy = pytest.importorskip("numpy")
@@ -167,27 +167,6 @@ def test_a_signal_handler_may_call_the_object(make, append, ask):
     assert ask(shared) == ask(other)
 
 
-@pytest.fixture
-def ticks():
-    """A list that another thread appends to whenever the GIL is released."""
-    found, is_over, interval = [], threading.Event(), sys.getswitchinterval()
-
-    def tick():
-        while not is_over.is_set():
-            found.append(1)
-            time.sleep(0.001)
-
-    sys.setswitchinterval(1000)
-    worker = threading.Thread(target=tick)
-    worker.start()
-    while not found:
-        time.sleep(0.001)
-    yield found
-    sys.setswitchinterval(interval)
-    is_over.set()
-    worker.join()
-
-
 def test_short_calls_keep_the_gil(ticks):
     data, hashers = bytes(65535), [kind() for kind in KINDS]
     before = len(ticks)
@@ -195,14 +174,6 @@ def test_short_calls_keep_the_gil(ticks):
         for call in (*ONE_CALL, *[it.update for it in hashers]):
             call(data)
     assert len(ticks) == before
-
-
-def assert_releases_the_gil(call, data, ticks):
-    """The other thread may be late on a busy machine, so it has ten seconds."""
-    before, end = len(ticks), time.monotonic() + 10
-    while len(ticks) == before and time.monotonic() < end:
-        call(data)
-    assert len(ticks) > before
 
 
 @pytest.mark.parametrize("call", [
