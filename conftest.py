@@ -56,9 +56,12 @@ def is_there(tool):
     return not oldest or version_of(name) >= tuple(map(int, oldest.split(".")))
 
 
-# Of Debian's releases, which have a number, none has them: only sid has.
-ONLY_IN_SID = {"duckdb", "python:pyarrow"}
-IS_RELEASE = "VERSION_ID" in getattr(platform, "freedesktop_os_release", dict)()
+# The one release of Debian that has a tool.
+ONLY_IN = {"clang-format-14": "12", "duckdb": "sid", "python:pyarrow": "sid", "ruff": "no release"}
+try:
+    RELEASE = platform.freedesktop_os_release().get("VERSION_ID", "sid")
+except (AttributeError, OSError):  # Python 3.9, or not Linux
+    RELEASE = ""
 
 
 @pytest.fixture(scope="session")
@@ -72,8 +75,8 @@ def need():
     def need(*tools):
         for tool in tools:
             if not is_there(tool):
-                if tool in ONLY_IN_SID and IS_RELEASE:
-                    pytest.skip(f"needs {tool}, which of Debian only sid has: tools/on_debian sid")
+                if ONLY_IN.get(tool, RELEASE) != RELEASE:
+                    pytest.skip(f"needs {tool}: of Debian, {ONLY_IN[tool]} has it")
                 test = os.environ["PYTEST_CURRENT_TEST"].partition("::")[0]
                 (pytest.fail if IS_CI else pytest.skip)(f"{test} needs {tool}: bash .ci/setup installs what there is")
 
