@@ -352,7 +352,8 @@ cdef class Arrow:
         cdef Chunk *chunk = <Chunk *>calloc(1, sizeof(Chunk))
         cdef bint is_wrong
         if chunk is NULL:
-            array.release(array)
+            with nogil:  # what is released may wait for a thread that needs the GIL
+                array.release(array)
             raise MemoryError("no memory for an Arrow array")
         chunk.array = array[0]
         array.release = NULL

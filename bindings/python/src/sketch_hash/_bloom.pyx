@@ -153,11 +153,11 @@ cdef size_t header_of(const View *memory, uint64_t *num_bytes) except 0:
     return header
 
 
-cdef object copied(object kind, const void *bits, size_t length):
+cdef object copy_of(object kind, const void *bits, size_t length):
     """A filter of a kind, with a copy of the bits."""
     check_length(length)
     cdef BloomFilter filter = empty(kind)
-    filter.hold(PyByteArray_FromStringAndSize(<char *>bits, length), False)
+    filter.adopt(PyByteArray_FromStringAndSize(<char *>bits, length), False)
     return filter
 
 
@@ -189,18 +189,18 @@ cdef class BloomFilter:
     def __init__(self, num_bytes):
         num_bytes = operator.index(num_bytes)
         check_length(num_bytes)
-        self.hold(bytearray(num_bytes), False)
+        self.adopt(bytearray(num_bytes), False)
 
     def __dealloc__(self):
         PyBuffer_Release(&self.bits)
 
-    cdef int hold(self, object buffer, bint is_view) except -1:
+    cdef int adopt(self, object buffer, bint is_view) except -1:
         """Takes the memory of a buffer, and releases what it had."""
         cdef View bits
         PyObject_GetBuffer(buffer, &bits, PyBUF_SIMPLE)
         try:
             check_length(bits.len)
-            self.exchange(&bits)
+            self.swap_memory(&bits)
             self.is_view = is_view
             if self.memory is not None:
                 self.memory = None
@@ -208,18 +208,18 @@ cdef class BloomFilter:
             PyBuffer_Release(&bits)
         return 0
 
-    cdef int hold_memoryview(self, object memory) except -1:
-        """As hold, but nothing is exported: CPython crashes if the garbage collector clears a memoryview with exports."""
+    cdef int adopt_memoryview(self, object memory) except -1:
+        """As adopt, but nothing is exported: CPython crashes if the garbage collector clears a memoryview with exports."""
         cdef View bits = PyMemoryView_GET_BUFFER(memory)[0]
         bits.obj = NULL
         check_length(bits.len)
-        self.exchange(&bits)
+        self.swap_memory(&bits)
         memory, self.memory = self.memory, memory
         self.is_view = True
         PyBuffer_Release(&bits)
         return 0
 
-    cdef int exchange(self, View *bits) except -1:
+    cdef int swap_memory(self, View *bits) except -1:
         cdef View before
         wait(<void *>self.lock)
         self.check_exports()
@@ -274,7 +274,7 @@ cdef class BloomFilter:
         cdef View memory
         get_bytes(data, &memory)
         try:
-            return copied(cls, memory.buf, memory.len)
+            return copy_of(cls, memory.buf, memory.len)
         finally:
             PyBuffer_Release(&memory)
 
@@ -292,7 +292,7 @@ cdef class BloomFilter:
             if num_bytes > memory.len - header:
                 raise ValueError(f"the filter is truncated: it has {num_bytes} bytes after its header, and here are "
                                  f"{memory.len - header}")
-            return copied(cls, <char *>memory.buf + header, num_bytes)
+            return copy_of(cls, <char *>memory.buf + header, num_bytes)
         finally:
             PyBuffer_Release(&memory)
 
@@ -306,21 +306,21 @@ cdef class BloomFilter:
         """
         cdef BloomFilter filter = empty(cls)
         if type(buffer) is bytes or type(buffer) is bytearray:
-            filter.hold(buffer, True)
+            filter.adopt(buffer, True)
             return filter
         memory = memoryview(buffer)
         if memory.format != "B":
             refuse_addresses(memory.format)
         if not PyBuffer_IsContiguous(PyMemoryView_GET_BUFFER(memory), c"C"):
             raise BufferError("a view must be of memory that is C-contiguous")
-        filter.hold_memoryview(memory)
+        filter.adopt_memoryview(memory)
         return filter
 
     def release(self):
         """release($self)\n--\n\nReleases the memory. Later calls raise ValueError; another release does nothing."""
         cdef View nothing
         nothing.buf, nothing.obj, nothing.len, nothing.readonly = NULL, NULL, 0, 0
-        self.exchange(&nothing)
+        self.swap_memory(&nothing)
         memory, self.memory = self.memory, None
         PyBuffer_Release(&nothing)
 
@@ -517,7 +517,7 @@ cdef class BloomFilter:
         """Gives memory back that a fold has left unused, if there is memory for the copy."""
         wait(<void *>self.lock)
         try:
-            self.hold(PyByteArray_FromStringAndSize(<char *>self.bits.buf, self.bits.len), False)
+            self.adopt(PyByteArray_FromStringAndSize(<char *>self.bits.buf, self.bits.len), False)
         except (BufferError, MemoryError, ValueError):  # another thread has made a memoryview, or released the filter
             pass
         return 0
@@ -585,7 +585,7 @@ cdef BloomFilter duplicate(object kind, BloomFilter source):
     cdef BloomFilter filter = empty(kind)  # runs code that may change the source
     wait(<void *>source.lock)
     source.check(0)
-    filter.hold(PyByteArray_FromStringAndSize(<char *>source.bits.buf, source.bits.len), False)
+    filter.adopt(PyByteArray_FromStringAndSize(<char *>source.bits.buf, source.bits.len), False)
     if kind is not BloomFilter:
         attributes = attributes_of(source)
         if attributes is not None and hasattr(filter, "__setstate__"):
