@@ -56,7 +56,7 @@ def is_there(tool):
     return not oldest or version_of(name) >= tuple(map(int, oldest.split(".")))
 
 
-# The one release of Debian that has a tool.
+# Tools that one release of Debian has, or none. In others their tests are skipped, also if CI is set.
 ONLY_IN = {"clang-format-14": "12", "duckdb": "sid", "python:pyarrow": "sid", "ruff": "no release"}
 try:
     RELEASE = platform.freedesktop_os_release().get("VERSION_ID", "sid")
@@ -130,7 +130,7 @@ def assert_releases_the_gil(call, data, ticks):
 
 class NotBuilt(pytest.Module):
     """A file of tests of the Python package, which is not built. The tests are skipped if something to build it with is
-    missing. Else, or if CI is set, they fail with pip's output."""
+    missing. Else, or if CI is set, they fail with pip's output. A fixture would come too late for their imports."""
 
     def collect(self):
         name, missing = self.path.relative_to(ROOT), [it for it in BUILD_PYTHON if not is_there(it)]

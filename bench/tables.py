@@ -41,9 +41,10 @@ PANELS = [
     ("The Bloom filter in C, compared with libbloom", "filter", FILTER, ["libbloom"]),
 ]
 LEFT, RIGHT, LOW, HIGH = 250, 830, 0.2, 1.4
-STYLE = (".ink{fill:#222}.grid{stroke:#ddd}.same{stroke:#222}.faster{fill:#1b6ca8;stroke:#1b6ca8}.slower{fill:#c4581a;stroke:#c4581a}"
-         "@media(prefers-color-scheme:dark){.ink{fill:#ddd}.grid{stroke:#444}.same{stroke:#ddd}.faster{fill:#6db3f2;stroke:#6db3f2}"
-         ".slower{fill:#f0955b;stroke:#f0955b}.page{fill:#111}}")
+STYLE = (".ink{fill:#222}.grid{stroke:#ddd}.same{stroke:#222}"
+         ".faster{fill:#1b6ca8;stroke:#1b6ca8}.slower{fill:#c4581a;stroke:#c4581a}"
+         "@media(prefers-color-scheme:dark){.ink{fill:#ddd}.grid{stroke:#444}.same{stroke:#ddd}"
+         ".faster{fill:#6db3f2;stroke:#6db3f2}.slower{fill:#f0955b;stroke:#f0955b}.page{fill:#111}}")
 
 
 def place(ratio):
@@ -65,9 +66,9 @@ for title, group, cases, peers in PANELS:
         for is_inlined, peer in enumerate(peers):
             median, low, high, _ = cells[group, case, peer]
             level = y + (is_inlined * 6 - 2 if len(peers) > 1 else 0)
-            color = "faster" if float(median) <= 1 else "slower"
-            parts.append(f'<path d="M{place(low):.0f} {level}H{place(high):.0f}" class="{color}" stroke-width="1.5" opacity=".5"/>')
-            parts.append(f'<circle cx="{place(median):.0f}" cy="{level}" r="4" class="{color}" fill-opacity="{1 - is_inlined}"/>')
+            color = f'class="{"faster" if float(median) <= 1 else "slower"}"'
+            parts.append(f'<path d="M{place(low):.0f} {level}H{place(high):.0f}" {color} stroke-width="1.5" opacity=".5"/>')
+            parts.append(f'<circle cx="{place(median):.0f}" cy="{level}" r="4" {color} fill-opacity="{1 - is_inlined}"/>')
     y += 26
 grid = []
 for ratio in (0.25, 0.5, 0.75, 1, 1.25):

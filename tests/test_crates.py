@@ -9,13 +9,16 @@ from conftest import DIST, PROVED, ROOT
 pytestmark = pytest.mark.xdist_group("rt")  # so that dist/ is built once for all
 
 if not PROVED:  # else rt ci has run them, as it has proved them
-    TESTED = sorted({it.relative_to(ROOT / "crates").parts[0] for it in ROOT.glob("crates/*/src/**/*.rt") if "#[cfg(test)]" in it.read_text()})
+    TESTED = sorted({it.relative_to(ROOT / "crates").parts[0] for it in ROOT.glob("crates/*/src/**/*.rt")
+                     if "#[cfg(test)]" in it.read_text()})
 
     @pytest.mark.parametrize("crate", TESTED)
     def test_crate(crate, need):
         need("rt")
-        done = subprocess.run(["rt", "try", "--test"], cwd=ROOT / "crates" / crate, stdout=subprocess.PIPE, stderr=subprocess.STDOUT, text=True)
-        assert done.returncode == 0 and re.search(r"^test result: ok\. [1-9]\d* passed; 0 failed; 0 ignored", done.stdout, re.M), done.stdout
+        done = subprocess.run(["rt", "try", "--test"], cwd=ROOT / "crates" / crate, stdout=subprocess.PIPE,
+                              stderr=subprocess.STDOUT, text=True)
+        passed = re.search(r"^test result: ok\. [1-9]\d* passed; 0 failed; 0 ignored", done.stdout, re.M)
+        assert done.returncode == 0 and passed, done.stdout
 
 
 @pytest.fixture(scope="module")

@@ -127,7 +127,8 @@ def test_program(program, case, tmp_path):
 @pytest.mark.parametrize("program", PROGRAMS, ids=lambda it: it.name)
 def test_program_gives_back_its_memory(program, need):
     need("valgrind")
-    result = answer(["valgrind", "-q", "--leak-check=full", "--show-leak-kinds=all", "--error-exitcode=9", program, "murmur", "0"])
+    checks = ["--leak-check=full", "--show-leak-kinds=all", "--error-exitcode=9"]
+    result = answer(["valgrind", "-q", *checks, program, "murmur", "0"])
     assert result == (0, MURMUR, b"")
 
 

@@ -52,7 +52,8 @@ BLOCKS = {
     for page in PAGES if not page.startswith(("bindings/", "dist/"))
     for code in re.findall(r"^```rust\n(.*?)^```", text_of(page), re.M | re.S)
 }
-PROVED_CODE = ["\n".join(it.strip() for it in text_of(name).splitlines()) for name in FILES if re.match(r"crates/\w+/src/.*\.rt$", name)]
+PROVED_CODE = ["\n".join(it.strip() for it in text_of(name).splitlines()) for name in FILES
+               if re.match(r"crates/\w+/src/.*\.rt$", name)]
 
 
 @pytest.mark.parametrize("block", BLOCKS)
@@ -68,7 +69,8 @@ def test_files_that_a_page_names_are_there(page):
 
 
 VERSION = re.search(r"^## \[?(\d+\.\d+\.\d+)", text_of("CHANGELOG.md"), re.M)[1]
-VERSIONED = [it for it in FILES if re.search(r"sketch_hash(-config-version)?\.(3|h|pc|cmake|mjs)$|python/setup\.py$|rust/Cargo\.(toml|lock)$|wasm/package\.json$", it)]
+VERSIONED = [it for it in FILES if re.search(r"sketch_hash(-config-version)?\.(3|h|pc|cmake|mjs)$", it) or it.endswith(
+    ("python/setup.py", "rust/Cargo.toml", "rust/Cargo.lock", "wasm/package.json"))]
 
 
 @pytest.mark.parametrize("name", [*VERSIONED, "README.md"])
@@ -106,7 +108,8 @@ def the_block(page, language):
 
 def output_of(command, folder, **environment):
     environment = {**os.environ, **environment}
-    return subprocess.run(command, shell=True, executable="/bin/bash", cwd=folder, env=environment, check=True, stdout=subprocess.PIPE, text=True).stdout
+    return subprocess.run(command, shell=True, executable="/bin/bash", cwd=folder, env=environment, check=True,
+                          stdout=subprocess.PIPE, text=True).stdout
 
 
 def test_the_program(need):

@@ -84,7 +84,7 @@ def fields(hash, state):
 
 
 def reset(hash):
-    """Also of the waiting bytes, so that a state equals one that the header initializes."""
+    """The waiting bytes become zeros too, so that the state equals one that the header initializes."""
     before, after = saved(any_state(hash, unknown("total", 64))), fields(hash, of(hash, "start")(seed))
     return Call([state, seed], [Memory(state, before, [it or number(0, 8) for it in after])])
 

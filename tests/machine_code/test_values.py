@@ -33,8 +33,8 @@ def number_of_atom(a, known, pick):
 
 def random_operation(pick):
     """A function of two values of 64 bits, and the same of two numbers."""
-    n, width = pick.choice([1, 8, 16, 31, 32, 33, pick.randrange(1, 63)]), pick.choice([1, 8, 16, 32, 33, pick.randrange(1, 63)])
-    n, width = n, min(width, 64 - n)
+    n = pick.choice([1, 8, 16, 31, 32, 33, pick.randrange(1, 63)])
+    width = min(pick.choice([1, 8, 16, 32, 33, pick.randrange(1, 63)]), 64 - n)
     ones, factor = (1 << width) - 1, pick.choice([1 << n, pick.getrandbits(64), WORD - 1])
     return pick.choice([
         (add, lambda x, y: x + y), (sub, lambda x, y: x - y), (mul, lambda x, y: x * y),

@@ -1,12 +1,12 @@
 """Arrow arrays as columns: made by ctypes, with all that a producer may do, and by pyarrow where it is packaged."""
 import ctypes
-import decimal
 import errno
 import struct
 import subprocess
 
 import pytest
 from conftest import assert_releases_the_gil
+from helpers import TYPES, column_of
 from sketch_hash import BloomFilter, murmur3_x64_128_each, murmur3_x64_128_intdigest, xxh64_each, xxh64_intdigest
 
 P, I64 = ctypes.c_void_p, ctypes.c_int64
@@ -384,30 +384,6 @@ def test_a_stream_may_wait_for_a_thread_that_needs_the_gil(need, tmp_path, ticks
 
 
 # ---- Arrays of pyarrow
-
-TYPES = [
-    "int8", "uint8", "int16", "uint16", "int32", "uint32", "int64", "uint64", "float32", "float64", "date32",
-    "time32('ms')", "time64('us')", "time64('ns')", "timestamp('ms')", "timestamp('us', 'UTC')", "timestamp('ns')",
-    "duration('s')", "string", "large_string", "binary", "binary(4)", "dictionary",
-]
-
-
-def column_of(pa, name, count=4000):
-    """Values with nulls, of which some are equal."""
-    rows = [None if i % 7 == 3 else i % 3000 for i in range(count)]
-    if name == "dictionary":
-        return column_of(pa, "string", count).dictionary_encode()
-    type = eval(f"pa.{name}" + "()" * ("(" not in name))
-    if "int" in name:
-        return pa.array([None if it is None else it % 2 ** (type.bit_width - 1) for it in rows], type)
-    if "string" in name or "binary" in name:
-        return pa.array([None if it is None else f"{it:04}" for it in rows]).cast("binary").cast(type)
-    if "decimal" in name:
-        return pa.array([None if it is None else decimal.Decimal(it) / 100 for it in rows], type)
-    if name == "date64":
-        return pa.array([None if it is None else it * 86_400_000 for it in rows], type)
-    return pa.array(rows, "int32" if type.bit_width == 32 and "float" not in name else "int64").cast(type)
-
 
 def stored(pa, values, path):
     """The bytes of values in a Parquet file, as pyarrow reads them if it knows nothing of their types."""

@@ -10,8 +10,8 @@ import subprocess
 import sys
 
 import pytest
+from helpers import WAYS, ZEROS, in_threads, waits
 from sketch_hash import BloomFilter, xxh64_each
-from test_sharing import WAYS, ZEROS, in_threads, waits
 
 numpy = pytest.importorskip("numpy")
 

@@ -7,8 +7,8 @@ import random
 
 import pytest
 import sketch_hash
+from helpers import MAP_NORESERVE
 from sketch_hash import BloomFilter, murmur3_x64_128_each, xxh64_each
-from test_sharing import MAP_NORESERVE
 
 numpy = pytest.importorskip("numpy")
 xxhash = pytest.importorskip("xxhash")

@@ -1,7 +1,6 @@
 """The example for a Dask cluster: a worker that is killed while it has results, and the filter in DuckDB."""
 import os
 import pathlib
-import shutil
 import signal
 import subprocess
 import sys
@@ -61,25 +60,24 @@ def test_a_killed_worker_changes_nothing(tmp_path):
     assert sum(str(key) in bloom for key in range(20_000, 120_000)) < 1_100
 
 
-if shutil.which("duckdb"):  # only Debian sid has it
+def test_duckdb_prunes_by_the_filter(need, tmp_path):
+    """It replaces the filter that DuckDB wrote for as many other keys."""
+    need("duckdb")
+    (tmp_path / "keys").write_text("".join(f"fox{n}\n" for n in range(1000)))
+    options = ["--keys", "1000", "--out", "out", "keys"]
+    subprocess.run([sys.executable, EXAMPLE, *options], cwd=tmp_path, check=True, timeout=120)
 
-    def test_duckdb_prunes_by_the_filter(tmp_path):
-        """It replaces the filter that DuckDB wrote for as many other keys."""
-        (tmp_path / "keys").write_text("".join(f"fox{n}\n" for n in range(1000)))
-        options = ["--keys", "1000", "--out", "out", "keys"]
-        subprocess.run([sys.executable, EXAMPLE, *options], cwd=tmp_path, check=True, timeout=120)
+    def ask(query):
+        output = subprocess.check_output(["duckdb", "-csv", "-noheader", "-c", query], cwd=tmp_path, text=True)
+        return output.split()
 
-        def ask(query):
-            output = subprocess.check_output(["duckdb", "-csv", "-noheader", "-c", query], cwd=tmp_path, text=True)
-            return output.split()
-
-        ask("copy (select 'dog' || (range % 1000) as key from range(10000)) to 'dogs.parquet'")
-        (place,) = ask("select bloom_filter_offset, bloom_filter_length from parquet_metadata('dogs.parquet')")
-        offset, length = map(int, place.split(","))
-        ours, file = (tmp_path / "out").read_bytes(), bytearray((tmp_path / "dogs.parquet").read_bytes())
-        assert len(ours) == length
-        file[offset : offset + length] = ours
-        (tmp_path / "dogs.parquet").write_bytes(file)
-        excluded = "select count(*) from parquet_bloom_probe('dogs.parquet', 'key', '{}') where bloom_filter_excludes"
-        assert [ask(excluded.format(key)) for key in ("fox0", "fox999")] == [["0"], ["0"]]
-        assert [ask(excluded.format(key)) for key in ("dog0", "dog999")] == [["1"], ["1"]]
+    ask("copy (select 'dog' || (range % 1000) as key from range(10000)) to 'dogs.parquet'")
+    (place,) = ask("select bloom_filter_offset, bloom_filter_length from parquet_metadata('dogs.parquet')")
+    offset, length = map(int, place.split(","))
+    ours, file = (tmp_path / "out").read_bytes(), bytearray((tmp_path / "dogs.parquet").read_bytes())
+    assert len(ours) == length
+    file[offset : offset + length] = ours
+    (tmp_path / "dogs.parquet").write_bytes(file)
+    excluded = "select count(*) from parquet_bloom_probe('dogs.parquet', 'key', '{}') where bloom_filter_excludes"
+    assert [ask(excluded.format(key)) for key in ("fox0", "fox999")] == [["0"], ["0"]]
+    assert [ask(excluded.format(key)) for key in ("dog0", "dog999")] == [["1"], ["1"]]

@@ -7,8 +7,8 @@ import mmap
 
 import pytest
 import sketch_hash
+from helpers import FORMS, KINDS, MAP_NORESERVE, ONE_CALL, ZEROS, waits
 from sketch_hash import murmur3_x64_128, xxh64
-from test_sharing import FORMS, KINDS, MAP_NORESERVE, ONE_CALL, ZEROS, waits
 
 numpy = pytest.importorskip("numpy")
 xxhash = pytest.importorskip("xxhash")

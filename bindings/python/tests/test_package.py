@@ -54,7 +54,9 @@ def test_an_upgraded_library_is_linked_again(source, need, tmp_path):
 def test_only_its_own_name_leaves_an_extension(source, tmp_path):
     """Also if the linker has none of Debian's options: other versions of the calls may be in the same process."""
     assert install(source, tmp_path / "installed", LDSHARED="gcc -shared", CFLAGS="-O0").returncode == 0
-    for extension in (tmp_path / "installed/sketch_hash").glob("*.so"):
+    extensions = [*(tmp_path / "installed/sketch_hash").glob("*.so")]
+    assert extensions
+    for extension in extensions:
         names = subprocess.check_output(["nm", "-D", "--defined-only", "--format=just-symbols", extension], text=True)
         assert names.split() == [f"PyInit_{extension.name.partition('.')[0]}"]
 
@@ -111,7 +113,8 @@ def test_objects_free_their_memory():
         column = b"foxdog", array.array("I", [0, 3, 6])
         def turn():
             bloom = it.BloomFilter(1024)
-            bloom.add_each(column); bloom.contains_each(column); bloom |= bloom.copy(); memoryview(bloom).tobytes(); bloom.copy().fold(0.5)
+            bloom.add_each(column); bloom.contains_each(column); bloom |= bloom.copy()
+            memoryview(bloom).tobytes(); bloom.copy().fold(0.5)
             it.BloomFilter.from_parquet(bloom.to_parquet()); it.xxh64_each(column); it.xxh64(b"fox").copy().hexdigest()
             bloom.add_hashes(it.xxh64_each(column)); pickle.loads(pickle.dumps([bloom, it.murmur3_x64_128(b"fox")]))
             for wrong in (5, memoryview(b"foxdog").cast("H")):

@@ -2,54 +2,16 @@
 import array
 import copy
 import fractions
-import mmap
 import pickle
 import signal
 import threading
-import time
 
 import pytest
-import sketch_hash
 from conftest import assert_releases_the_gil
+from helpers import KINDS, ONE_CALL, WAYS, in_threads
 from sketch_hash import BloomFilter, murmur3_x64_128, murmur3_x64_128_each, xxh64, xxh64_each
 
 numpy = pytest.importorskip("numpy")
-
-KINDS = [xxh64, murmur3_x64_128]
-FORMS = ["digest", "hexdigest", "intdigest"]
-ONE_CALL = [getattr(sketch_hash, f"{kind.__name__}_{form}") for kind in KINDS for form in FORMS]
-PICKLES = [lambda it, n=n: pickle.loads(pickle.dumps(it, n)) for n in range(6)]
-WAYS = [copy.copy, copy.deepcopy, lambda it: it.copy(), *PICKLES]
-
-MAP_NORESERVE = 0x4000  # of Linux
-# They take no memory, since they are never written. A call on them takes a tenth of a second or more.
-ZEROS = mmap.mmap(-1, 1 << 31, flags=mmap.MAP_PRIVATE | mmap.MAP_ANONYMOUS | MAP_NORESERVE, prot=mmap.PROT_READ)
-
-
-def in_threads(work, count=4):
-    """Runs work(0) to work(count - 1) at the same time."""
-    start = threading.Barrier(count)
-    workers = [threading.Thread(target=lambda n=n: (start.wait(), work(n))) for n in range(count)]
-    for worker in workers:
-        worker.start()
-    for worker in workers:
-        worker.join()
-
-
-def waits(long_call, call):
-    """Whether a call waits for a long one. It is tried again, since on a busy machine the long one may end too soon."""
-    for _ in range(5):
-        worker = threading.Thread(target=long_call)
-        worker.start()
-        time.sleep(0.02)
-        start = time.monotonic()
-        call()
-        seconds = time.monotonic() - start
-        worker.join()
-        if seconds > 0.02:
-            return True
-    return False
-
 
 @pytest.mark.parametrize("kind", KINDS)
 @pytest.mark.parametrize("way", WAYS)

@@ -1,5 +1,7 @@
 """The Arrow C data interface: https://arrow.apache.org/docs/format/CDataInterface.html"""
-from libc.stdint cimport int64_t, uint64_t
+from libc.stdint cimport int64_t, uint32_t, uint64_t, uintptr_t
+
+from ._library cimport *
 
 
 cdef struct ArrowSchema:
@@ -48,6 +50,24 @@ cdef struct Chunk:
     Values *keys  # the rows, or the dictionary whose codes they are
     bint has_nulls
     Chunk *next
+
+
+cdef inline bint meet(const void *one, size_t size, const void *other, size_t length) noexcept nogil:
+    return <uintptr_t>one < <uintptr_t>other + length and <uintptr_t>other < <uintptr_t>one + size
+
+
+cdef inline int hash_texts(
+    int words, size_t width, const void *text, size_t length, const void *offsets, size_t items, uint64_t seed, void *out,
+    size_t count, size_t *wrong
+) noexcept nogil:
+    """Writes a word of XXH64 or two of Murmur for each text. The width is that of an offset."""
+    if words == 1 and width == 4:
+        return sketch_xxh64_each32(text, length, <uint32_t *>offsets, items, seed, out, count, wrong)
+    if words == 1:
+        return sketch_xxh64_each64(text, length, <uint64_t *>offsets, items, seed, out, count, wrong)
+    if width == 4:
+        return sketch_murmur3_x64_128_each32(text, length, <uint32_t *>offsets, items, seed, out, count, wrong)
+    return sketch_murmur3_x64_128_each64(text, length, <uint64_t *>offsets, items, seed, out, count, wrong)
 
 
 cdef bint exports_arrow(object keys) except -1

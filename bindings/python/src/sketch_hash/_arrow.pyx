@@ -2,7 +2,7 @@
 cimport cython
 from cpython.exc cimport PyErr_CheckSignals
 from cpython.pycapsule cimport PyCapsule_GetPointer
-from libc.stdint cimport int32_t, int64_t, uint32_t, uint64_t, uintptr_t
+from libc.stdint cimport int32_t, int64_t, uint64_t, uintptr_t
 from libc.stdlib cimport calloc, free
 from libc.string cimport memcpy, memset
 
@@ -66,14 +66,15 @@ cdef inline bint is_missing(const Values *values, size_t i) noexcept nogil:
     return not values.valid[i // 8] >> i % 8 & 1
 
 
-cdef inline int64_t code_of(const Values *rows, size_t i) noexcept nogil:
-    return load(rows.memory + (rows.offset + i) * rows.width, rows.width, rows.is_signed)
+cdef inline int64_t number_at(const Values *values, size_t i) noexcept nogil:
+    """A code of a dictionary, or an offset of a text."""
+    return load(values.memory + (values.offset + i) * values.width, values.width, values.is_signed)
 
 
 cdef inline bint is_null(const Chunk *chunk, size_t i) noexcept nogil:
     if is_missing(&chunk.rows, i):
         return True
-    return chunk.keys is not &chunk.rows and is_missing(chunk.keys, code_of(&chunk.rows, i))
+    return chunk.keys is not &chunk.rows and is_missing(chunk.keys, number_at(&chunk.rows, i))
 
 
 cdef inline size_t key_at(const Values *values, size_t i, const char **key, int32_t *widened) noexcept nogil:
@@ -99,25 +100,6 @@ cdef inline size_t key_at(const Values *values, size_t i, const char **key, int3
     return length
 
 
-cdef int64_t offset_at(const Values *values, size_t i) noexcept nogil:
-    return load(values.memory + (values.offset + i) * values.width, values.width, True)
-
-
-cdef void hash_texts(
-    const Values *rows, const char *offsets, size_t count, int words, uint64_t seed, uint64_t *out
-) noexcept nogil:
-    cdef const char *text = rows.text
-    cdef size_t length = offset_at(rows, rows.length), wrong
-    if words == 1 and rows.width == 4:
-        sketch_xxh64_each32(text, length, <uint32_t *>offsets, count + 1, seed, out, count, &wrong)
-    elif words == 1:
-        sketch_xxh64_each64(text, length, <uint64_t *>offsets, count + 1, seed, out, count, &wrong)
-    elif rows.width == 4:
-        sketch_murmur3_x64_128_each32(text, length, <uint32_t *>offsets, count + 1, seed, <void *>out, count, &wrong)
-    else:
-        sketch_murmur3_x64_128_each64(text, length, <uint64_t *>offsets, count + 1, seed, <void *>out, count, &wrong)
-
-
 cdef void hash_rows(
     const Chunk *chunk, size_t start, size_t count, int words, uint64_t seed, uint64_t *out
 ) noexcept nogil:
@@ -125,13 +107,14 @@ cdef void hash_rows(
     cdef const char *key
     cdef int32_t widened
     cdef const Values *rows = &chunk.rows
-    cdef size_t i, length
+    cdef size_t i, length, wrong
     cdef const char *place = rows.memory + (rows.offset + start) * rows.width
     cdef bint is_coded = chunk.keys is not rows, is_aligned = <uintptr_t>place & (rows.width - 1) == 0
     # One call for many texts takes a fifth less time, and for many numbers a third.
     if count and is_aligned and not is_coded and not chunk.has_nulls:
         if rows.layout == OFFSETS:
-            hash_texts(rows, place, count, words, seed, out)
+            length = number_at(rows, rows.length)
+            hash_texts(words, rows.width, rows.text, length, place, count + 1, seed, out, count, &wrong)
             return
         if rows.layout == FIXED and rows.width == 8 and words == 1:
             sketch_xxh64_each_u64(<uint64_t *>place, count, seed, out, count)
@@ -140,7 +123,7 @@ cdef void hash_rows(
         if chunk.has_nulls and is_null(chunk, i):
             out[0] = 0
         else:
-            length = key_at(chunk.keys, code_of(&chunk.rows, i) if is_coded else i, &key, &widened)
+            length = key_at(chunk.keys, number_at(&chunk.rows, i) if is_coded else i, &key, &widened)
             if words == 1:
                 out[0] = sketch_xxh64(key, length, seed)
             else:
@@ -154,7 +137,8 @@ ctypedef fused Offset:
 
 
 cdef bint fall(const char *offsets, size_t count, Offset before) noexcept nogil:
-    """Whether a number is below the one before it."""
+    """Whether a number is below the one before it. All chunks are checked before the first is used, so that a call that
+    raises changes nothing."""
     cdef Offset offset
     cdef size_t i
     for i in range(count):
@@ -188,7 +172,7 @@ cdef bint views_leave(const Values *values, size_t *num_bytes) noexcept nogil:
 cdef bint codes_leave(const Values *rows, size_t length) noexcept nogil:
     cdef size_t i
     for i in range(rows.length):
-        if not is_missing(rows, i) and not 0 <= code_of(rows, i) < <int64_t>length:
+        if not is_missing(rows, i) and not 0 <= number_at(rows, i) < <int64_t>length:
             return True
     return False
 
@@ -236,7 +220,7 @@ cdef size_t check_values(const Values *values) except? 0:
             else:
                 is_wrong = fall[int64_t](first, values.length + 1, 0)
         must(not is_wrong, "offsets from 0 on that do not fall")
-        length = offset_at(values, values.length) - offset_at(values, 0)
+        length = number_at(values, values.length) - number_at(values, 0)
         must(values.text is not NULL or length == 0, "memory for its texts")
         num_bytes += length
     elif values.layout == VIEWS:
@@ -244,10 +228,6 @@ cdef size_t check_values(const Values *values) except? 0:
             is_wrong = views_leave(values, &num_bytes)
         must(not is_wrong, "views within its texts")
     return num_bytes
-
-
-cdef bint meet(const void *one, size_t size, const void *other, size_t length) noexcept nogil:
-    return <uintptr_t>one < <uintptr_t>other + length and <uintptr_t>other < <uintptr_t>one + size
 
 
 cdef bint values_meet(const Values *values, const void *memory, size_t length) noexcept nogil:
@@ -258,8 +238,8 @@ cdef bint values_meet(const Values *values, const void *memory, size_t length) n
     if values.valid is not NULL and meet(values.valid + values.offset // 8, values.length // 8 + 2, memory, length):
         return True
     if is_text:
-        begin = offset_at(values, 0)
-        if meet(values.text + begin, offset_at(values, values.length) - begin, memory, length):
+        begin = number_at(values, 0)
+        if meet(values.text + begin, number_at(values, values.length) - begin, memory, length):
             return True
     for i in range(values.text_count):
         if meet(values.texts[i], load(values.sizes + 8 * i, 8, True), memory, length):

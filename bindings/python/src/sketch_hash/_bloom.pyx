@@ -7,6 +7,7 @@ from cpython.ref cimport Py_DECREF
 from libc.stdint cimport uint32_t, uint64_t, uintptr_t
 from libc.string cimport memcpy, memset
 
+from ._arrow cimport meet
 from ._columns cimport (
     ARROW, HASHES, LONG, NUMBERS32, NUMBERS64, OFFSETS32, OFFSETS64, Column, Lock, PyBuffer_Release,
     PyObject_GetBuffer, View, acquire, attributes_of, check_offsets, get_bytes, refuse_addresses, release,
@@ -29,6 +30,8 @@ cdef extern from "Python.h":
 cdef enum:
     READ_ONLY = -100  # not a status of the library
     OVERLAP = -101
+
+HEADER_MAX = SKETCH_BLOOM_HEADER_MAX
 
 
 cdef inline uint64_t hash_of(object key) except? -1:
@@ -80,11 +83,6 @@ cdef int get_key(object key, View *memory) except -1:
             f"a key must be str or bytes, not {type(key).__name__}: "
             "add_each and contains_each take numbers and columns")
     return 0
-
-
-cdef inline bint overlap(const View *one, const View *other) noexcept:
-    return (<uintptr_t>other.buf < <uintptr_t>one.buf + <size_t>one.len
-            and <uintptr_t>one.buf < <uintptr_t>other.buf + <size_t>other.len)
 
 
 cdef int insert_column(void *bits, size_t length, Column keys, size_t *wrong) noexcept nogil:
@@ -372,9 +370,7 @@ cdef class BloomFilter:
         self.begin(is_long)
         if self.bits.readonly:
             status = READ_ONLY
-        elif overlap(&self.bits, &keys.data) or overlap(&self.bits, &keys.numbers):
-            status = OVERLAP
-        elif keys.kind == ARROW and keys.arrow.overlaps(self.bits.buf, self.bits.len):
+        elif keys.overlaps(self.bits.buf, self.bits.len):
             status = OVERLAP
         elif is_long:
             with nogil:
@@ -446,7 +442,7 @@ cdef class BloomFilter:
         acquire(second.lock)
         if self.bits.readonly:
             status = READ_ONLY
-        elif overlap(&self.bits, &source.bits):
+        elif meet(self.bits.buf, self.bits.len, source.bits.buf, source.bits.len):
             status = OVERLAP
         elif self.bits.len < LONG:
             status = sketch_bloom_merge(self.bits.buf, self.bits.len, source.bits.buf, source.bits.len)

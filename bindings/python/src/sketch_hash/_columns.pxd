@@ -89,8 +89,8 @@ cdef class Column:
     cdef size_t items, count  # how many numbers or offsets there are, and how many keys
 
     cdef size_t get_numbers(self, object numbers, str what) except 0
-    cdef int check_signs(self) except -1
     cdef Py_ssize_t size(self) noexcept
+    cdef bint overlaps(self, const void *memory, size_t length) noexcept
 
 
 cdef int check_offsets(int status, size_t wrong) except -1

@@ -2,10 +2,10 @@
 cimport cython
 from cpython.buffer cimport PyBUF_C_CONTIGUOUS, PyBUF_FORMAT, PyBUF_ND
 from cpython.bytearray cimport PyByteArray_AS_STRING
-from libc.stdint cimport INT32_MAX, int32_t, uint32_t, uint64_t, uintptr_t
+from libc.stdint cimport INT32_MAX, uint64_t, uintptr_t
 from libc.string cimport strchr, strlen, strpbrk, strspn
 
-from ._arrow cimport Arrow, exports_arrow
+from ._arrow cimport Arrow, exports_arrow, hash_texts, meet
 from ._library cimport *
 
 import array
@@ -134,8 +134,9 @@ cdef class Column:
             get_bytes(self.texts, &self.data)
             self.kind = OFFSETS32 if self.get_numbers((<tuple>keys)[1], "offsets") == 4 else OFFSETS64
             self.count = self.items - 1 if self.items else 0
-            if self.kind == OFFSETS32 and self.data.len > INT32_MAX:
-                self.check_signs()
+            if self.kind == OFFSETS32 and (<bytes>self.numbers.format).islower():  # i or l, and not I or L
+                # For the library offsets have no sign. So a negative one is past the end.
+                self.data.len = min(self.data.len, INT32_MAX)
         elif what != "hashes" and is_arrow(keys):
             self.arrow = Arrow(keys)
             self.kind = ARROW
@@ -183,19 +184,14 @@ cdef class Column:
             refuse_nan(<float *>self.numbers.buf, self.items)
         return self.numbers.itemsize
 
-    cdef int check_signs(self) except -1:
-        """For the library offsets have no sign, so a negative one of 32 bits is not past the end of 2 GiB and more."""
-        cdef const int32_t *offsets = <int32_t *>self.numbers.buf
-        cdef size_t i = 0, items = self.items
-        if not (<bytes>self.numbers.format).islower():  # I or L, and not i or l
-            return 0
-        with nogil:
-            while i < items and offsets[i] >= 0:
-                i += 1
-        return check_offsets(SKETCH_ERROR_OFFSET if i < items else 0, i)
-
     cdef Py_ssize_t size(self) noexcept:
         return self.arrow.num_bytes if self.kind == ARROW else self.data.len + self.numbers.len
+
+    cdef bint overlaps(self, const void *memory, size_t length) noexcept:
+        if self.kind == ARROW:
+            return self.arrow.overlaps(memory, length)
+        return (meet(self.data.buf, self.data.len, memory, length)
+                or meet(self.numbers.buf, self.numbers.len, memory, length))
 
 
 cdef int check_offsets(int status, size_t wrong) except -1:
@@ -204,47 +200,29 @@ cdef int check_offsets(int status, size_t wrong) except -1:
     return 0
 
 
-cdef int hash_xxh64(Column keys, uint64_t seed, void *out, size_t *wrong) noexcept nogil:
-    cdef void *numbers = keys.numbers.buf
+cdef int hash_column(Column keys, int words, uint64_t seed, void *out, size_t *wrong) noexcept nogil:
+    """Writes a word of XXH64 or two of Murmur for each key."""
     if keys.kind == ARROW:
-        keys.arrow.hash(1, seed, <uint64_t *>out)
+        keys.arrow.hash(words, seed, <uint64_t *>out)
         return 0
-    if keys.kind == OFFSETS32:
-        return sketch_xxh64_each32(
-            keys.data.buf, keys.data.len, <uint32_t *>numbers, keys.items, seed, out, keys.count, wrong)
-    if keys.kind == OFFSETS64:
-        return sketch_xxh64_each64(
-            keys.data.buf, keys.data.len, <uint64_t *>numbers, keys.items, seed, out, keys.count, wrong)
-    return sketch_xxh64_each_u64(<uint64_t *>numbers, keys.items, seed, out, keys.count)
+    if keys.kind == NUMBERS64:
+        return sketch_xxh64_each_u64(<uint64_t *>keys.numbers.buf, keys.items, seed, out, keys.count)
+    return hash_texts(words, 4 if keys.kind == OFFSETS32 else 8, keys.data.buf, keys.data.len, keys.numbers.buf,
+                      keys.items, seed, out, keys.count, wrong)
 
 
-cdef int hash_murmur(Column keys, uint64_t seed, void *out, size_t *wrong) noexcept nogil:
-    cdef void *offsets = keys.numbers.buf
-    if keys.kind == ARROW:
-        keys.arrow.hash(2, seed, <uint64_t *>out)
-        return 0
-    if keys.kind == OFFSETS32:
-        return sketch_murmur3_x64_128_each32(
-            keys.data.buf, keys.data.len, <uint32_t *>offsets, keys.items, seed, out, keys.count, wrong)
-    return sketch_murmur3_x64_128_each64(
-        keys.data.buf, keys.data.len, <uint64_t *>offsets, keys.items, seed, out, keys.count, wrong)
-
-
-ctypedef int (*Hash)(Column, uint64_t, void *, size_t *) noexcept nogil
-
-
-cdef object hashes_of(Column keys, Hash hash, object seed, size_t width):
+cdef object hashes_of(Column keys, int words, object seed):
     cdef uint64_t number = word_of(seed, "a seed")
     cdef size_t wrong = 0
     if keys.kind == ARROW:
         keys.arrow.refuse_nulls()
-    hashes = bytearray(width * keys.count)
+    hashes = bytearray(8 * words * keys.count)
     cdef void *out = PyByteArray_AS_STRING(hashes)
     if keys.size() < LONG:
-        status = hash(keys, number, out, &wrong)
+        status = hash_column(keys, words, number, out, &wrong)
     else:
         with nogil:
-            status = hash(keys, number, out, &wrong)
+            status = hash_column(keys, words, number, out, &wrong)
     check_offsets(status, wrong)
     return memoryview(hashes).cast("Q")
 
@@ -258,7 +236,7 @@ def xxh64_each(keys, seed=0):
     column(texts) returns such a pair. Or they are an Arrow array or stream, of whose values each counts as Parquet
     stores it. Raises ValueError if one is null.
     """
-    return hashes_of(Column(keys, "wide keys"), hash_xxh64, seed, 8)
+    return hashes_of(Column(keys, "wide keys"), 1, seed)
 
 
 def murmur3_x64_128_each(keys, seed=0):
@@ -268,7 +246,7 @@ def murmur3_x64_128_each(keys, seed=0):
     The keys are a pair of bytes and offsets, or of Arrow, as xxh64_each takes them. The words of key i are at 2 * i and
     2 * i + 1: numpy.asarray(hashes).reshape(-1, 2) has a row for a key.
     """
-    return hashes_of(Column(keys, None), hash_murmur, seed, 16)
+    return hashes_of(Column(keys, None), 2, seed)
 
 
 def column(texts):

@@ -9,7 +9,7 @@ import shutil
 import tempfile
 
 from .. import BloomFilter, xxh64_intdigest
-from .._bloom import parquet_header
+from .._bloom import HEADER_MAX, parquet_header
 from .footer import (
     ALL_ROWS, BYTE_SIZE, CHILDREN, COLUMNS, CREATED_BY, ENCRYPTION, FILE_OFFSET, FILE_PATH, LENGTH, METADATA, NAME,
     OFFSET, REPETITION, ROW_GROUPS, ROWS, SCHEMA, STATISTICS, TYPE, TYPE_LENGTH, VALUES, VERSION, Footer, TType, damage,
@@ -18,7 +18,6 @@ from .footer import (
 from .keys import keys_of
 
 __all__ = ["add_filters", "check_filters", "filters", "may_contain", "read_filter"]
-HEADER_MAX = 19
 
 
 def add_filters(source, target, columns, *, error_rate=0.01, replace=False, progress=None):
@@ -219,7 +218,7 @@ def may_have(file, place, hash):
         return True
     begin, num_bytes = place
     block = (hash >> 32) * (num_bytes // 32) >> 32
-    # A filter of this block alone has the key if the whole one has.
+    # The block is block_of in Filter.antt. A filter of this block alone has the key if the whole one has.
     return BloomFilter.view(read_at(file, begin + 32 * block, 32)).contains_hashes(array.array("Q", [hash]))[0]
 
 

@@ -1,0 +1,69 @@
+"""What several files of tests use: the calls on hashes, copies, threads, and columns of pyarrow."""
+import copy
+import decimal
+import mmap
+import pickle
+import threading
+import time
+
+import sketch_hash
+from sketch_hash import murmur3_x64_128, xxh64
+
+KINDS = [xxh64, murmur3_x64_128]
+FORMS = ["digest", "hexdigest", "intdigest"]
+ONE_CALL = [getattr(sketch_hash, f"{kind.__name__}_{form}") for kind in KINDS for form in FORMS]
+PICKLES = [lambda it, n=n: pickle.loads(pickle.dumps(it, n)) for n in range(6)]
+WAYS = [copy.copy, copy.deepcopy, lambda it: it.copy(), *PICKLES]
+
+MAP_NORESERVE = 0x4000  # of Linux
+# They take no memory, since they are never written. A call on them takes a tenth of a second or more.
+ZEROS = mmap.mmap(-1, 1 << 31, flags=mmap.MAP_PRIVATE | mmap.MAP_ANONYMOUS | MAP_NORESERVE, prot=mmap.PROT_READ)
+
+
+def in_threads(work, count=4):
+    """Runs work(0) to work(count - 1) at the same time."""
+    start = threading.Barrier(count)
+    workers = [threading.Thread(target=lambda n=n: (start.wait(), work(n))) for n in range(count)]
+    for worker in workers:
+        worker.start()
+    for worker in workers:
+        worker.join()
+
+
+def waits(long_call, call):
+    """Whether a call waits for a long one. It is tried again, since on a busy machine the long one may end too soon."""
+    for _ in range(5):
+        worker = threading.Thread(target=long_call)
+        worker.start()
+        time.sleep(0.02)
+        start = time.monotonic()
+        call()
+        seconds = time.monotonic() - start
+        worker.join()
+        if seconds > 0.02:
+            return True
+    return False
+
+
+TYPES = [
+    "int8", "uint8", "int16", "uint16", "int32", "uint32", "int64", "uint64", "float32", "float64", "date32",
+    "time32('ms')", "time64('us')", "time64('ns')", "timestamp('ms')", "timestamp('us', 'UTC')", "timestamp('ns')",
+    "duration('s')", "string", "large_string", "binary", "binary(4)", "dictionary",
+]
+
+
+def column_of(pa, name, count=4000):
+    """Values with nulls, of which some are equal."""
+    rows = [None if i % 7 == 3 else i % 3000 for i in range(count)]
+    if name == "dictionary":
+        return column_of(pa, "string", count).dictionary_encode()
+    type = eval(f"pa.{name}" + "()" * ("(" not in name))
+    if "int" in name:
+        return pa.array([None if it is None else it % 2 ** (type.bit_width - 1) for it in rows], type)
+    if "string" in name or "binary" in name:
+        return pa.array([None if it is None else f"{it:04}" for it in rows]).cast("binary").cast(type)
+    if "decimal" in name:
+        return pa.array([None if it is None else decimal.Decimal(it) / 100 for it in rows], type)
+    if name == "date64":
+        return pa.array([None if it is None else it * 86_400_000 for it in rows], type)
+    return pa.array(rows, "int32" if type.bit_width == 32 and "float" not in name else "int64").cast(type)
