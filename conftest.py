@@ -41,6 +41,11 @@ def version_of(program):
     return tuple(int(part) for part in re.search(r"\d+(?:\.\d+)*", output)[0].split("."))
 
 
+def has_v3():
+    """Whether this processor runs the library for x86-64-v3."""
+    return {"avx2", "bmi1", "bmi2", "fma", "movbe"} <= set(pathlib.Path("/proc/cpuinfo").read_text().split())
+
+
 @functools.cache
 def is_there(tool):
     name, _, oldest = tool.partition(" ")

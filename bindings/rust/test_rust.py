@@ -74,7 +74,7 @@ def copy(tmp_path):
 def test_package_builds_on_its_own(copy, target, tmp_path):
     """After docs/contributing.md's command has put the archives into the package's folder."""
     archives = {str(it.relative_to(DIST)): it.read_bytes() for it in DIST.glob("*/*.a")}
-    assert len(archives) == 6
+    assert archives
     (command,) = re.findall(r"^    (mkdir .*rust/lib\))$", (DIST.parent / "docs/contributing.md").read_text(), re.M)
     shutil.copytree(DIST, tmp_path / "dist")
     subprocess.run(command, shell=True, cwd=tmp_path, check=True)

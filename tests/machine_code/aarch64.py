@@ -2,7 +2,7 @@
 import functools
 import re
 
-from machine import CALLER, Machine, logic, shift_one
+from machine import CALLER, Machine, logic, plain, shift_one
 from values import (Stop, add, bitwise, complement, cut, extend, join, known, lanes, mul, number, rotate_right, shift_left,
                     shift_right, sub, unknown, width_of)
 
@@ -18,10 +18,6 @@ def split(text):
 
 def shift(function):
     return lambda m, x, n: function(x, known(cut(n, 0, 6 if width_of(x) == 64 else 5), "a shift"))
-
-
-def plain(function):
-    return lambda m, *values: function(*values)
 
 
 def plus_one(x):

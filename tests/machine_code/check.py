@@ -69,6 +69,17 @@ def check_path(run, case):
             at = add(at, number(width_of(before) // 8))
 
 
+def wrong_calls(library, cases, equal=None):
+    """What is wrong with each call that differs. Counts the others by function."""
+    for case in cases:
+        try:
+            check(library, case)
+            if equal is not None:
+                equal[case.function] += 1
+        except Stop as stop:
+            yield f"{case.function} {case.build.args}: {stop}"
+
+
 def main():
     options = argparse.ArgumentParser(description=__doc__, formatter_class=argparse.RawDescriptionHelpFormatter)
     options.add_argument("--all", action="store_true")
@@ -77,13 +88,9 @@ def main():
     is_wrong = False
     for path in options.libraries:
         library, equal = Library(path.read_bytes()), collections.Counter()
-        for case in calls.cases(*(ALL if options.all else SOME)):
-            try:
-                check(library, case)
-                equal[case.function] += 1
-            except Stop as stop:
-                is_wrong = True
-                print(f"{case.function} {case.build.args}: {stop}")
+        for wrong in wrong_calls(library, calls.cases(*(ALL if options.all else SOME)), equal):
+            is_wrong = True
+            print(wrong)
         print(f"{path}: {equal.total()} calls equal", *(f"{count:6} {name}" for name, count in equal.items()), sep="\n  ")
     return is_wrong
 

@@ -24,6 +24,11 @@ def shift_one(x, n):
     return power_of_two(cut(n, 0, 5), 32)
 
 
+def plain(function):
+    """An operation that sets no condition."""
+    return lambda machine, *values: function(*values)
+
+
 def logic(op):
     return lambda machine, x, y: machine.compare("logic", x, y, bitwise(op, x, y))
 

@@ -6,10 +6,10 @@ import subprocess
 import calls
 import check
 import pytest
+from check import wrong_calls
 from conftest import DIST
 from definitions import of_hash
 from library import Library
-from values import Stop
 
 SHARED = sorted(it for end in ("so.2", "dylib", "dll") for it in DIST.glob(f"*/*.{end}"))
 LINKERS = {"linux-x86_64": "ld", "linux-x86_64-v3": "ld", "linux-aarch64": "aarch64-linux-gnu-ld",
@@ -25,14 +25,6 @@ def tools(need):
 def library_of(target):
     (path,) = (it for it in SHARED if it.parent.name == target)
     return Library(path.read_bytes())
-
-
-def wrong_calls(library, cases):
-    for case in cases:
-        try:
-            check.check(library, case)
-        except Stop as stop:
-            yield f"{case.function} {case.build.args}: {stop}"
 
 
 @pytest.mark.parametrize("target", [it.parent.name for it in SHARED])

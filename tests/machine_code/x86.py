@@ -2,7 +2,7 @@
 import functools
 import re
 
-from machine import CALLER, Machine, logic, shift_one
+from machine import CALLER, Machine, logic, plain, shift_one
 from values import (Stop, add, bitwise, complement, cut, extend, is_zero, join, known, lanes, mul, number, power_of_two,
                     rotate_right, shift_left, shift_right, sub, unknown, width_of)
 
@@ -96,10 +96,6 @@ def shifted_lanes(size, function):
 def reordered(m, x, order):
     of_128_bits(x)
     return join(*(cut(x, 32 * (known(order, "an order") >> 2 * i & 3), 32) for i in range(4)))
-
-
-def plain(function):
-    return lambda m, *values: function(*values)
 
 
 def broadcast(size):

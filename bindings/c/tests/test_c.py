@@ -7,12 +7,11 @@ import struct
 import subprocess
 
 import pytest
-from conftest import CALLS, DIST
+from conftest import CALLS, DIST, has_v3
 
 HERE = pathlib.Path(__file__).resolve().parent
 INCLUDE, NATIVE = DIST / "include", DIST / "linux-x86_64"
 HEADER = (INCLUDE / "sketch_hash.h").read_text()
-HAS_V3 = {"avx2", "bmi1", "bmi2", "fma", "movbe"} <= set(pathlib.Path("/proc/cpuinfo").read_text().split())
 STRICT = ["-Wall", "-Wextra", "-Werror"]
 
 
@@ -112,7 +111,7 @@ def built(need, tmp_path, request):
 
     def built(name, system="linux"):
         (compiler, *options), library, runner = SYSTEMS[system]
-        if "v3" in library and not HAS_V3:
+        if "v3" in library and not has_v3():
             pytest.skip("this processor has not what x86-64-v3 has")
         peers = ["xxhash", "murmurhash"] if name == "compare" else []
         need(compiler, *runner[:1], *(f"{it}.h" for it in peers))

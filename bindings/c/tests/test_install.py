@@ -7,11 +7,10 @@ import shutil
 import subprocess
 
 import pytest
-from conftest import CALLS, DIST
+from conftest import CALLS, DIST, has_v3
 
 HERE = pathlib.Path(__file__).resolve().parent
 CC = ["gcc", "-Wall", "-Wextra", "-Werror"]
-HAS_V3 = {"avx2", "bmi1", "bmi2", "fma", "movbe"} <= set(pathlib.Path("/proc/cpuinfo").read_text().split())
 MAN_PAGE = (DIST / "sketch_hash.3").read_text()
 
 INSTALLED = {
@@ -200,7 +199,7 @@ def test_cmake_builds_with_both_libraries(by_a_link, prefix, need, tmp_path):
         (tmp_path / "linked/lib").symlink_to(prefix / "lib")
     done = cmake(project, tmp_path / "linked" if by_a_link else prefix)
     assert done.returncode == 0, done.stderr
-    later = ["one/one_static_v3", "other/other_static_v3"] if HAS_V3 else []
+    later = ["one/one_static_v3", "other/other_static_v3"] if has_v3() else []
     for name in ("one/one", "one/one_static", "other/other", "other/other_static", *later):
         fox = subprocess.check_output(project / "build" / name, input=b"The quick brown fox jumps over the lazy dog")
         assert fox == b"0b242d361fda71bc\n"

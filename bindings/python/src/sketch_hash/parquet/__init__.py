@@ -13,7 +13,7 @@ from .._bloom import HEADER_MAX, parquet_header
 from .footer import (
     ALL_ROWS, BYTE_SIZE, CHILDREN, COLUMNS, CREATED_BY, ENCRYPTION, FILE_OFFSET, FILE_PATH, LENGTH, METADATA, NAME,
     OFFSET, REPETITION, ROW_GROUPS, ROWS, SCHEMA, STATISTICS, TYPE, TYPE_LENGTH, VALUES, VERSION, Footer, TType, damage,
-    get, serialize,
+    end_of, get, serialize,
 )
 from .keys import keys_of
 
@@ -110,11 +110,6 @@ def bare_footer(footer, column):
     fields[SCHEMA] = TType.LIST, (TType.STRUCT, path)
     fields[ROW_GROUPS] = TType.LIST, (TType.STRUCT, groups)
     return end_of(fields)
-
-
-def end_of(fields):
-    data = serialize(fields)
-    return data + len(data).to_bytes(4, "little") + b"PAR1"
 
 
 def leaf_values(batch):

@@ -69,6 +69,12 @@ def serialize(fields):
     return buffer.getvalue()
 
 
+def end_of(fields):
+    """The footer, its length, and the mark at the end of a file."""
+    data = serialize(fields)
+    return data + len(data).to_bytes(4, "little") + b"PAR1"
+
+
 def get(fields, number, kind):
     """The value of a field, or None. Those of a list are of its kind."""
     found = fields.get(number)
