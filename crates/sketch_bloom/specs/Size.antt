@@ -70,13 +70,17 @@ abbrev pub KeepsRate : ℕ → ℕ → ℕ → Type 0
 KeepsRate keys log2_blocks one_in =
     (one_in ≡ 1) ⊎ ((1 < one_in) × IsRateAtMost keys log2_blocks one_in)
 
--- The least power of two of blocks that keeps the rate. 2 ^ 22 blocks are the most, 128 MiB.
+-- The largest filter that Arrow reads has 2 ^ 22 blocks, 128 MiB.
+abbrev pub max_log2_blocks : ℕ
+max_log2_blocks = 22
+
+-- The least power of two of blocks that keeps the rate.
 pub record IsLeastSize (keys one_in log2_blocks : ℕ) : Type 0 where
-  pub most : log2_blocks ≤ 22
+  pub most : log2_blocks ≤ max_log2_blocks
   pub keeps : KeepsRate keys log2_blocks one_in
   pub least : (smaller : ℕ) → smaller < log2_blocks → KeepsRate keys smaller one_in → ⊥
 
--- no filter of up to 2 ^ 22 blocks keeps the rate
+-- no filter of up to 128 MiB keeps the rate
 abbrev pub NoneKeepsRate : ℕ → ℕ → Type 0
 NoneKeepsRate keys one_in =
-    (log2_blocks : ℕ) → log2_blocks ≤ 22 → KeepsRate keys log2_blocks one_in → ⊥
+    (log2_blocks : ℕ) → log2_blocks ≤ max_log2_blocks → KeepsRate keys log2_blocks one_in → ⊥

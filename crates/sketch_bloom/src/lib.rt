@@ -39,4 +39,4 @@ pub use self::fault::Fault;
 pub use self::filter::{contains, contains_hash, fold, insert, insert_hash, is_length, merge};
 pub use self::header::{read_header, write_header};
 pub use self::owned::BloomFilter;
-pub use self::size::bytes_for;
+pub use self::size::{MAX_BYTES, bytes_for};

@@ -9,13 +9,15 @@
 //! The sum is computed in integers, since the library has no floats.
 
 ghost use Rattle.std.specs.Prelude.{◌≡◌, ◌↔◌, ℕ, ◌-◌, ◌*◌, ◌/◌, ◌^◌, ◌<◌, ◌≤◌, IfSome, IsTrue, MatchOption, None, Some};
-ghost use Rattle.sketch_bloom.specs.Size.{IsLeastSize, IsRateAtMost, NoneKeepsRate, eighth_power};
+ghost use Rattle.sketch_bloom.specs.Size.{IsLeastSize, IsRateAtMost, NoneKeepsRate, eighth_power, max_log2_blocks};
 
 // The most values a block on average. With more, the rate is above one in two.
 const MAX_LOAD: u64 = 128;
 
-// The sizes: the powers of two from one block of 32 bytes to 2^22 blocks, 128 MiB.
-const SIZES: u32 = 23;
+const MAX_LOG2_BLOCKS: u32 = 22;
+
+/// The largest size that [`bytes_for`] returns, 128 MiB. Arrow reads no larger filter.
+pub const MAX_BYTES: usize = 32 << MAX_LOG2_BLOCKS;
 
 // The number of terms. Later ones are too small to count, with at most `MAX_LOAD` values a block.
 const TERMS: u64 = 384;
@@ -23,16 +25,15 @@ const TERMS: u64 = 384;
 /// The smallest number of bytes, a power of two from 32 bytes to 128 MiB, for a filter of `keys`
 /// different values with a false positive rate of at most one in `one_in`.
 ///
-/// Returns `None` if 128 MiB, the largest filter that Arrow reads, is too small, or if `one_in` is
-/// 0.
+/// Returns `None` if [`MAX_BYTES`] are too few, or if `one_in` is 0.
 ///
 /// The rate is exact for this filter, up to rounding. Parquet's writers use m = -8 n / ln(1 -
 /// p^(1/8)) bits, which ignores that blocks fill unevenly. At exactly that size the rate is up to
-/// 50 % above the target for targets of 1 %: 0.0147 for 0.01.
+/// 50 % above the target for targets of 1 %: 0.0146 for 0.01.
 pub fn bytes_for(keys: u64, one_in: u64) -> Option<usize>
     ensures least { MatchOption result (NoneKeepsRate keys one_in) (λ bytes. (log2_blocks : ℕ)
         × (bytes ≡ 32 * 2 ^ log2_blocks) × IsLeastSize keys one_in log2_blocks) }
-    ensures size { IfSome result (λ bytes. (log2_blocks : ℕ) × (log2_blocks ≤ 22)
+    ensures size { IfSome result (λ bytes. (log2_blocks : ℕ) × (log2_blocks ≤ max_log2_blocks)
         × (bytes ≡ 32 * 2 ^ log2_blocks)) }
     ensures some { one_in ≡ 1 → result ≡ Some 32 }
     ensures load { 1 < one_in → IfSome result (λ bytes. keys ≤ 4 * bytes) }
@@ -43,7 +44,7 @@ pub fn bytes_for(keys: u64, one_in: u64) -> Option<usize>
         1 => return Some(32),
         _ => {}
     }
-    for log2_blocks in 0..SIZES {
+    for log2_blocks in 0..MAX_LOG2_BLOCKS + 1 {
         if keeps_rate(keys, log2_blocks, one_in) {
             return Some(32 << log2_blocks);
         }
@@ -53,7 +54,7 @@ pub fn bytes_for(keys: u64, one_in: u64) -> Option<usize>
 
 // Whether a filter of 2^log2_blocks blocks keeps the rate.
 pub(crate) fn keeps_rate(keys: u64, log2_blocks: u32, one_in: u64) -> bool
-    requires blocks { log2_blocks ≤ 22 }
+    requires blocks { log2_blocks ≤ max_log2_blocks }
     requires one_in { 0 < one_in }
     ensures { IsTrue result ↔ IsRateAtMost keys log2_blocks one_in }
 {
@@ -82,7 +83,7 @@ pub(crate) fn keeps_rate(keys: u64, log2_blocks: u32, one_in: u64) -> bool
 // The weight of term `k`, from the one before it: times n / z / k.
 fn next_weight(weight: u64, keys: u64, log2_blocks: u32, k: u64) -> u64
     requires weight { weight < 2 ^ 48 }
-    requires blocks { log2_blocks ≤ 22 }
+    requires blocks { log2_blocks ≤ max_log2_blocks }
     requires keys { keys ≤ 128 * 2 ^ log2_blocks }
     requires k { 0 < k }
     ensures value { result ≡ weight * keys / 2 ^ log2_blocks / k }

@@ -6,7 +6,7 @@ ghost use Rattle.sketch_bloom.specs.declared.fault.Fault.{Fault};
 ghost use Rattle.sketch_bloom.specs.Columns.{FindsEach, FindsKeys, InsertsKeys};
 ghost use Rattle.sketch_bloom.specs.Filter.{Folds, Inserts, InsertsAll, IsFoldable, IsLength, IsMergeFault, Merges, hash_of};
 ghost use Rattle.sketch_bloom.specs.Header.{IsHeaderLength, header};
-ghost use Rattle.sketch_bloom.specs.Size.{IsLeastSize, NoneKeepsRate};
+ghost use Rattle.sketch_bloom.specs.Size.{IsLeastSize, NoneKeepsRate, max_log2_blocks};
 ghost use Rattle.sketch_c.specs.{Changes, IsNumber, MayContain, Reports, error};
 
 use crate::{report, status_of};
@@ -19,7 +19,7 @@ use datasketches::hash::value::raw_bytes;
 pub extern "C" fn sketch_bloom_bytes_for(keys: u64, one_in: u64) -> usize
     ensures least { ((result ≡ 0) × NoneKeepsRate keys one_in) ⊎ ((log2_blocks : ℕ)
         × (result ≡ 32 * 2 ^ log2_blocks) × IsLeastSize keys one_in log2_blocks) }
-    ensures size { (result ≡ 0) ⊎ ((log2_blocks : ℕ) × (log2_blocks ≤ 22)
+    ensures size { (result ≡ 0) ⊎ ((log2_blocks : ℕ) × (log2_blocks ≤ max_log2_blocks)
         × (result ≡ 32 * 2 ^ log2_blocks)) }
     ensures some { one_in ≡ 1 → result ≡ 32 }
     ensures load { 1 < one_in → (result ≡ 0) ⊎ (keys ≤ 4 * result) }
