@@ -1,4 +1,4 @@
-//! The bytes of other writers, headers, the false positive rate, memory, errors.
+//! The bytes of other writers, headers, the false positive rate, memory.
 
 mod header;
 mod size;
@@ -44,26 +44,4 @@ fn a_filter_makes_1_request(rt: HostRuntime) {
         Ok(filter) => assert_eq!(rt; filter.as_bytes(), [0; 32].as_slice()),
         Err(fault) => assert_eq!(rt; fault, Fault::OutOfMemory),
     }
-}
-
-#[test]
-fn prints_what_is_wrong(rt: HostRuntime) -> Result<(), Fail> {
-    let length = "invalid filter length: expected a positive multiple of 32 below 2^37, got 33";
-    for (fault, text) in [
-        (Fault::Length(33), length),
-        (
-            Fault::OtherLength(64),
-            "filters of two lengths: the other has 64 bytes",
-        ),
-        (
-            Fault::OddBlocks(32),
-            "odd number of blocks: expected a multiple of 64 bytes, got 32",
-        ),
-        (Fault::Offset(2), "invalid offset at index 2"),
-        (Fault::Count(1), "more places than values: 1 values"),
-        (Fault::OutOfMemory, "out of memory"),
-    ] {
-        assert_eq!(rt; fault.to_string(rt.alloc())?.as_str(), text);
-    }
-    Ok(())
 }

@@ -3,7 +3,6 @@
 use crate::bloom::*;
 use crate::columns::*;
 use crate::murmur::*;
-use crate::sketch_hash_version;
 use crate::xxh64::*;
 use datasketches::hash::{Hasher, MurmurHash3X64128, XxHash64};
 
@@ -23,23 +22,6 @@ fn murmur(input: &[u8], seed: u64) -> [u64; 2] {
 fn hashes_a_sentence_in_one_call(rt: HostRuntime) {
     assert_eq!(rt; sketch_xxh64(FOX, 0), FOX_XXH64);
     assert_eq!(rt; murmur(FOX, 0), FOX_MURMUR);
-}
-
-#[test]
-fn writes_the_bytes_of_a_murmur_hash(rt: HostRuntime) {
-    let mut out = [0; 16];
-    sketch_murmur3_x64_128_bytes(&[0x0807_0605_0403_0201, 0x100f_0e0d_0c0b_0a09], &mut out);
-    assert_eq!(rt;
-        out,
-        [1, 2, 3, 4, 5, 6, 7, 8, 9, 10, 11, 12, 13, 14, 15, 16]
-    );
-}
-
-#[test]
-fn hashes_a_number_as_its_eight_bytes(rt: HostRuntime) {
-    let bytes = [0x1f, 0x2e, 0x3d, 0x4c, 0x5b, 0x6a, 0x79, 0x88];
-    let hash = sketch_xxh64_u64(0x8879_6a5b_4c3d_2e1f, 9001);
-    assert_eq!(rt; hash, sketch_xxh64(&bytes, 9001));
 }
 
 // A reset of a used state leaves a buffer of zeros, as an initializer does.
@@ -106,11 +88,6 @@ fn hashes_a_column_by_murmur(rt: HostRuntime) {
     out = [[9; 2]; 2];
     let result = sketch_murmur3_x64_128_each64(b"foxes", &[0, 3, 5], 7, &mut out, &mut wrong);
     assert_eq!(rt; (result, out), (0, hashes));
-}
-
-#[test]
-fn returns_its_version(rt: HostRuntime) {
-    assert_eq!(rt; sketch_hash_version(), 20_100);
 }
 
 // A filter of one block with the keys fox and es.
@@ -221,26 +198,4 @@ fn returns_an_error_for_a_length_that_no_filter_has(rt: HostRuntime) {
         -1
     );
     assert_eq!(rt; (bits, found, wrong), ([0; 33], [9; 1], 77));
-}
-
-#[test]
-fn writes_and_reads_a_header(rt: HostRuntime) {
-    let (mut header, mut bytes) = ([9; 16], 77);
-    assert_eq!(rt; sketch_bloom_header_write(1024, &mut header[..15]), 0);
-    assert_eq!(rt; sketch_bloom_header_write(1024, &mut header), 16);
-    assert_eq!(rt;
-        (sketch_bloom_header_read(&header, &mut bytes), bytes),
-        (16, 1024)
-    );
-    header[4] = 0x2c;
-    assert_eq!(rt;
-        (sketch_bloom_header_read(&header, &mut bytes), bytes),
-        (0, 1024)
-    );
-}
-
-#[test]
-fn chooses_a_size(rt: HostRuntime) {
-    assert_eq!(rt; sketch_bloom_bytes_for(1_000_000, 100), 2_097_152);
-    assert_eq!(rt; sketch_bloom_bytes_for(1_000_000_000, 100), 0);
 }

@@ -7,12 +7,6 @@ use std::num::{f32_to_bits_with_nan, f64_to_bits_with_nan};
 use std::process::Abort;
 use std::test::Fail;
 
-// The bits that are set in 1024 bytes, after hello, parquet, bloom and filter, by parquet-mr.
-const OF_PARQUET_MR: [usize; 32] = [
-    1044, 1065, 1098, 1127, 1161, 1215, 1244, 1275, 1303, 1340, 1344, 1404, 1413, 1461, 1502, 1523,
-    1794, 1846, 1878, 1907, 1946, 1965, 1988, 2017, 2581, 2603, 2632, 2685, 2711, 2747, 2760, 2796,
-];
-
 // The empty text and t0 to t89, by Arrow.
 const OF_ARROW: [u8; 128] = [
     21, 253, 176, 218, 199, 141, 211, 152, 162, 215, 149, 9, 250, 83, 87, 229, 73, 2, 234, 227,
@@ -32,13 +26,6 @@ const OF_DUCKDB: [u8; 32] = [
 
 #[test]
 fn writes_texts_as_other_writers_do(rt: HostRuntime) -> Result<(), Fail> {
-    let (mut filter, mut expected) = ([0; 1024], [0; 1024]);
-    for text in ["hello", "parquet", "bloom", "filter"] {
-        assert!(rt; insert(&mut filter, &raw_bytes::from_str(text)).is_ok());
-    }
-    for i in OF_PARQUET_MR {
-        expected[i / 8 % 1024] |= 1 << (i % 8);
-    }
     let (mut arrow, mut duckdb) = ([0; 128], [0; 32]);
     assert!(rt; insert(&mut arrow, &raw_bytes::from_str("")).is_ok());
     for n in 0..90 {
@@ -49,7 +36,7 @@ fn writes_texts_as_other_writers_do(rt: HostRuntime) -> Result<(), Fail> {
         let text = raw_bytes::from_string(format!(in rt.alloc(); "k{n}")?);
         assert!(rt; insert(&mut duckdb, &text).is_ok());
     }
-    assert!(rt; filter == expected && arrow == OF_ARROW && duckdb == OF_DUCKDB);
+    assert!(rt; arrow == OF_ARROW && duckdb == OF_DUCKDB);
     Ok(())
 }
 
