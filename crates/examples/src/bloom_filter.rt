@@ -1,6 +1,6 @@
 //! A Bloom filter of Apache Parquet that is filled, saved with its header, read, and merged.
 
-ghost use Rattle.std.specs.Prelude.{ℕ, List, ◌≡◌, ◌↔◌, ◌+◌, ◌++◌, ◌∷◌, [], Contains, IfOk, IfSome, IsTrue, length, map, take};
+ghost use Rattle.std.specs.Prelude.{ℕ, List, ◌≡◌, ◌↔◌, ◌+◌, ◌*◌, ◌++◌, ◌∷◌, [], Contains, IfOk, IfSome, IsTrue, length, map, take};
 ghost use Rattle.sketch_bloom.specs.Filter.{Inserts, hash_of};
 ghost use Rattle.sketch_bloom.specs.Header.{IsHeaderLength, header};
 ghost use Rattle.sketch_bloom.specs.Laws.{StandsFor};
@@ -9,8 +9,8 @@ use datasketches::hash::Hash;
 use datasketches::hash::value::raw_bytes;
 use sketch_bloom::laws::{fold_law, insert_law, merge_law};
 use sketch_bloom::{
-    BloomFilter, Fault, bytes_for, contains, insert, insert_each_value, merge, read_header,
-    write_header,
+    BloomFilter, Fault, MAX_BYTES, bytes_for, contains, insert, insert_each_value, merge,
+    read_header, write_header,
 };
 use std::alloc::Global;
 
@@ -25,24 +25,23 @@ pub fn fill<T: Hash>(alloc: Global, values: &[T], one_in: u64) -> Result<BloomFi
         StandsFor filter (map (λ value. hash_of (T.fed value)) values.now)) }
 {
     insert_law();
-    let bytes = bytes_for(values.len() as u64, one_in).unwrap_or(1 << 27);
+    let bytes = bytes_for(values.len() as u64, one_in).unwrap_or(MAX_BYTES);
     let mut filter = BloomFilter::new(alloc, bytes)?;
     filter.insert_each_value(values);
     Ok(filter)
 }
 
-/// Merges the filter of another worker.
+/// Whether a filter contains a key that was inserted. It always does.
 ///
 /// # Errors
 ///
-/// Returns [`Fault::OtherLength`] if the lengths differ. The filter is then unchanged.
-pub fn merge_worker(filter: &mut BloomFilter, worker: &BloomFilter) -> Result<(), Fault>
-    ensures { (hashes others : List ℕ) →
-        StandsFor filter.old hashes → StandsFor worker.now others →
-        IfOk result (λ _. StandsFor filter.new (hashes ++ others)) }
+/// Returns [`Fault::Length`] if no filter has this length.
+pub fn contains_inserted(filter: &[u8], key: &[u8]) -> Result<bool, Fault>
+    ensures { (hashes : List ℕ) → StandsFor filter.now hashes →
+        Contains hashes (hash_of key.now) → IfOk result (λ found. IsTrue found) }
 {
-    merge_law();
-    filter.merge(worker)
+    insert_law();
+    contains(filter, &raw_bytes::from_slice(key))
 }
 
 /// Whether two workers have the same filter. They do if they inserted the same values, in any order
@@ -73,18 +72,23 @@ pub fn merge_in_place(into: &mut [u8], worker: &[u8], whole: &[u8]) -> Result<bo
     Ok(is_same_filter(into, whole))
 }
 
-/// Folds a filter into one of half its length, which contains the same values.
+/// Folds a filter into one of half its length, which contains the same values, and returns whether
+/// it is the filter `half` into which the same values were inserted. It always is.
 ///
 /// # Errors
 ///
 /// Returns [`Fault::OddBlocks`] if the length is not a multiple of 64 bytes. The filter is then
 /// unchanged.
-pub fn shrink(filter: &mut BloomFilter) -> Result<(), Fault>
-    ensures { (hashes : List ℕ) → StandsFor filter.old hashes →
+pub fn shrink(filter: &mut BloomFilter, half: &[u8]) -> Result<bool, Fault>
+    ensures stands { (hashes : List ℕ) → StandsFor filter.old hashes →
         IfOk result (λ _. StandsFor filter.new hashes) }
+    ensures same { (hashes : List ℕ) → length filter.old ≡ 2 * length half.now →
+        StandsFor filter.old hashes → StandsFor half.now hashes →
+        IfOk result (λ same. IsTrue same) }
 {
     fold_law();
-    filter.fold()
+    filter.fold()?;
+    Ok(is_same_filter(filter.as_bytes(), half))
 }
 
 /// Writes the header and the filter, as in a Parquet file, and returns their number of bytes.

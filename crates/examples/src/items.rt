@@ -1,6 +1,6 @@
 //! Items that are written, and read back as a list.
 
-ghost use Rattle.std.specs.Prelude.{◌≡◌, ◌++◌, map, length, IfOk, IsOk};
+ghost use Rattle.std.specs.Prelude.{◌≡◌, ◌++◌, map, length, IfOk};
 ghost use Rattle.std.specs.List.{All};
 ghost use Rattle.datasketches.specs.Items.{InType, item_kind, spell_all};
 
@@ -48,11 +48,4 @@ fn write_all(alloc: Global, items: &[Item], rest: &[u8]) -> Result<Vec<u8>, Allo
     let mut bytes = writer.into_bytes();
     bytes.extend_from_slice(rest)?;
     Ok(bytes)
-}
-
-/// Writes no bytes, which never fails.
-pub fn write_nothing(writer: &mut SketchBytes) -> Result<(), AllocError>
-    ensures { IsOk result }
-{
-    writer.write(&[])
 }

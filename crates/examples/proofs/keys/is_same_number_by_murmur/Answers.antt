@@ -1,4 +1,4 @@
-use Rattle.std.proofs.Common.{◌≡◌, ◌%◌, ◌^◌, ◌∙◌, pos, sym, arith}
+use Rattle.std.proofs.Common.{◌≡◌, ◌%◌, ◌^◌, pos, arith}
 use Rattle.std.proofs.lemmas.Bool.Decides.{nat_tests}
 use Rattle.examples.proofs.keys.is_same_number_by_murmur.Goals as goal
 
