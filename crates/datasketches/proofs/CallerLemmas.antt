@@ -4,7 +4,6 @@ use Rattle.std.specs.List.{All}
 use Rattle.sketch_base.specs.declared.codec.item.Item.{Item}
 use Rattle.sketch_base.specs.declared.codec.item.Kind.{Kind}
 use Rattle.sketch_base.specs.Items.{InType, item_kind, spell_all, widths}
-use Rattle.sketch_base.proofs.BytesLemmas.{bytes_known}
 use Rattle.sketch_base.proofs.ItemLemmas.{item_law}
 use Rattle.sketch_hash.specs.Pieces.{State}
 use Rattle.sketch_hash.specs.Murmur.{murmur, murmur_after, murmur_answer, MurmurStands}
@@ -34,6 +33,3 @@ items_fit items kinds rest bytes n same in_type whole = omega (
   ap widths same,
   ap length whole ∙ length-append (spell_all items) rest,
 )
-
--- the elements of a slice of bytes are below 256
-pub ruleset slice_has_bytes = (bytes_known)

@@ -1,6 +1,6 @@
--- Integers that are written as eight bytes. Short ones collide exactly if they are equal: modulo 2 ^ 64 they
--- are different words, and different words have different lists of eight bytes. The two
--- ways to extend an integer feed the same bytes for some integers.
+-- Integers that are written as eight bytes. Two short ones collide exactly if they are equal: different
+-- ones are different words modulo 2 ^ 64, and different words have different lists of eight bytes. The
+-- two ways to extend an integer feed the same bytes for some integers.
 use Rattle.std.proofs.Common.{◌≡◌, ◌↔◌, ℕ, ◌+◌, ◌-◌, ◌%◌, ◌^◌, ◌<◌, ◌≤◌, inl, inr, List, [], refl, sym, ap, ◌∙◌, arith, lt-ltb, le-ltb, mod-eq_of_lt, pow-suc}
 use Rattle.std.specs.Prelude.{ℤ, pos, negsuc, ◌-ℤ◌}
 use Rattle.std.proofs.lemmas.Int.{ints}
@@ -29,27 +29,27 @@ modulo-once (pos n) (negsuc m) h k e = absurd (omega (arith, ints))
 modulo-once (negsuc n) (pos m) h k e = absurd (omega (arith, ints))
 modulo-once (negsuc n) (negsuc m) h k e = ap negsuc (omega (arith, ints))
 
--- the hash tells all words apart, written as eight bytes after one seed
-abbrev TellsWordsApart : {B : Type 0} → (ℕ → List ℕ → B) → Type 0
-TellsWordsApart hash =
+-- Different words, each hashed as its eight bytes with one seed, have different hashes.
+abbrev SeparatesWords : {B : Type 0} → (ℕ → List ℕ → B) → Type 0
+SeparatesWords hash =
     (seed u v : ℕ) → IsWord seed → IsWord u → IsWord v → hash seed (eight u) ≡ hash seed (eight v) → u ≡ v
 
-integers : {B : Type 0} (hash : ℕ → List ℕ → B) → TellsWordsApart hash → IntegerLaw hash
-integers hash apart seed x y p h k = (
-  λ e. modulo-once x y h k (apart seed (modulo 64 x) (modulo 64 y) p (modulo-lt x) (modulo-lt y) e),
+integers : {B : Type 0} (hash : ℕ → List ℕ → B) → SeparatesWords hash → IntegerLaw hash
+integers hash separates seed x y p h k = (
+  λ e. modulo-once x y h k (separates seed (modulo 64 x) (modulo 64 y) p (modulo-lt x) (modulo-lt y) e),
   ap (λ z. hash seed (eight (modulo 64 z))),
 )
 
--- eight bytes are one cut-off block with nothing in front
-murmur-apart : PieceLaws → MurmurStepLaws → TellsWordsApart murmur
-murmur-apart ps ms seed u v p h k e =
+-- eight bytes are a partial block, after no full one
+murmur-separates : PieceLaws → MurmurStepLaws → SeparatesWords murmur
+murmur-separates ps ms seed u v p h k e =
     let none = All-nil IsByte in
     let once = cut_block-once ps ms seed 0 [] (eight u) (eight v) p none (low_bytes-are 8 u)
     (low_bytes-are 8 v) refl refl (omega arith) in
     sym (le-back 8 u h) ∙ ap le (once e) ∙ le-back 8 v k
 
 pub murmur_integers : PieceLaws → MurmurStepLaws → IntegerLaw murmur
-murmur_integers ps ms = integers murmur (murmur-apart ps ms)
+murmur_integers ps ms = integers murmur (murmur-separates ps ms)
 
 pub xxh64_integers : PieceLaws → Xxh64StepLaws → IntegerLaw xxh64
 xxh64_integers ps ss = integers xxh64 (λ seed u v p. (hash_u64_law ps ss seed p).once u v)
@@ -58,7 +58,7 @@ xxh64_integers ps ss = integers xxh64 (λ seed u v p. (hash_u64_law ps ss seed p
 pub murmur_modulo : PieceLaws → MurmurStepLaws → (seed : ℕ) (x y : ℤ) → IsWord seed →
     murmur seed (integer_bytes x) ≡ murmur seed (integer_bytes y) → modulo 64 x ≡ modulo 64 y
 murmur_modulo ps ms seed x y p =
-    murmur-apart ps ms seed (modulo 64 x) (modulo 64 y) p (modulo-lt x) (modulo-lt y)
+    murmur-separates ps ms seed (modulo 64 x) (modulo 64 y) p (modulo-lt x) (modulo-lt y)
 
 pub xxh64_modulo : PieceLaws → Xxh64StepLaws → (seed : ℕ) (x y : ℤ) → IsWord seed →
     xxh64 seed (integer_bytes x) ≡ xxh64 seed (integer_bytes y) → modulo 64 x ≡ modulo 64 y

@@ -1,13 +1,13 @@
 -- Murmur's pairs do not collide if one block alone differs, or the seed alone.
-use Rattle.std.proofs.Common.{◌≡◌, ℕ, ◌+◌, ◌-◌, ◌<◌, ◌≤◌, inl, inr, List, ◌∷◌, ◌++◌, length, take, drop, get_or, min, sym, ap, ◌∙◌, arith, length-take, length-drop, append_assoc, ◌≢◌, ◌*◌, ◌/◌, ◌%◌, ◌^◌, [], map, refl, length-append}
-use Rattle.std.proofs.lemmas.List.{same_lists, get_or-take, get_or-drop, drop-drop, drop_more, take-append-drop, take_all, map-append, length-take-le}
+use Rattle.std.proofs.Common.{◌≡◌, ℕ, ◌+◌, ◌-◌, ◌<◌, ◌≤◌, inl, inr, List, ◌∷◌, ◌++◌, length, take, drop, sym, ap, ◌∙◌, arith, length-drop, ◌≢◌, ◌*◌, ◌/◌, ◌%◌, ◌^◌, [], map, refl, length-append}
+use Rattle.std.proofs.lemmas.List.{take-append-drop, map-append, length-take-le}
 use Rattle.datasketches.specs.Laws.{AgreeOutside, DifferInOneBlock, MurmurSeedLaw}
 use Rattle.std.specs.List.{fold}
 use Rattle.std.proofs.lemmas.Nat.{mod_below}
 use Rattle.std.proofs.lemmas.Bool.{cases_lt}
 use Rattle.std.proofs.lemmas.List.Sums.{fold-append}
 use Rattle.std.proofs.lemmas.List.Elements.{All-take, All-drop}
-use Rattle.datasketches.proofs.ListLemmas.{agree-back, agree-beyond, agree-front, parts_at, three_parts}
+use Rattle.datasketches.proofs.ListLemmas.{agree-back, agree-beyond, agree-front, three_parts}
 use Rattle.sketch_base.specs.Bytes.{AreBytes}
 use Rattle.sketch_base.proofs.BytesLemmas.{IsByte, bytes_known}
 use Rattle.sketch_hash.specs.Words.{IsWord, OneToOne}
@@ -51,7 +51,7 @@ blocks-aligned ps ms i before after e =
     ap (map block_words) (ps.pieces_behind 16 before after (omega arith) whole)
     ∙ map-append block_words (pieces 16 before) (pieces 16 after)
 
--- the hash of bytes behind whole blocks
+-- the hash of bytes after full blocks
 murmur-aligned : PieceLaws → MurmurStepLaws →
     (seed i : ℕ) (before after : List ℕ) → length before ≡ 16 * i →
     murmur seed (before ++ after) ≡ onward after (length before + length after) (pair_after seed before)
@@ -77,9 +77,9 @@ pair_after-more ps ms seed i before block e f =
     (blocks-aligned ps ms i before block e ∙ ap (λ list. blocks before ++ list) one)
     ∙ fold-append step (seed, seed) (blocks before) (block_words block ∷ [])
 
--- ---- a block that is full, and a block that is cut off
+-- ---- a full block, and a partial one
 
--- behind bytes that are whole blocks
+-- after full blocks
 pub murmur_block_law : PieceLaws → MurmurStepLaws → (seed : ℕ) (before after : List ℕ) →
     IsWord seed → AreBytes before → AreBytes after → length before % 16 ≡ 0 →
     OneToOne IsBlock AreWords (λ block. murmur seed (before ++ block ++ after))
@@ -110,7 +110,7 @@ murmur_block_law ps ms seed before after p h k e =
 pub murmur_seed_law : MurmurStepLaws → MurmurSeedLaw
 murmur_seed_law ms = ms.steps_of_pair
 
--- the hash of whole blocks and a block that is cut off
+-- the hash of full blocks and a partial block
 murmur-cut : PieceLaws → MurmurStepLaws →
     (seed i : ℕ) (before last : List ℕ) → length before ≡ 16 * i → length last < 16 →
     murmur seed (before ++ last)
@@ -119,7 +119,7 @@ unfolding onward
 murmur-cut ps ms seed i before last e l =
     murmur-aligned ps ms seed i before last e ∙ rw (ps.short_pieces 16 last l, ps.short_rest 16 last l) refl
 
--- behind the same whole blocks, two blocks cut off at one length that lead to one hash are one
+-- Two partial blocks of one length, after the same full blocks, are equal if the hashes are.
 pub cut_block-once : PieceLaws → MurmurStepLaws → (seed i : ℕ) (before a b : List ℕ) →
     IsWord seed → AreBytes before → AreBytes a → AreBytes b →
     length before ≡ 16 * i → length a ≡ length b → length a < 16 →

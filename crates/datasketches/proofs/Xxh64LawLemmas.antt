@@ -74,7 +74,7 @@ one_width h i xs ys s l k =
     sym (get_or-map (λ s. s.0) xs i (0, 0) 0 l) ∙ ap (λ t. get_or t i 0) s.same_widths
     ∙ get_or-map (λ s. s.0) ys i (0, 0) 0 k
 
--- the two steps at the place have one number
+-- Two lists of steps that differ in step i alone have one number there, if their results are equal.
 one_number : PieceLaws → Xxh64StepLaws →
     (h i : ℕ) (xs ys : List (ℕ × ℕ)) → SameOutsideStep h i xs ys → i < length xs → i < length ys →
     (get_or xs i (0, 0)).1 ≡ (get_or ys i (0, 0)).1

@@ -55,7 +55,7 @@ sets_by_or Bits other before after is size each = record {
       rw (each (i / 8)) (grind (arith, bit_at_or (get_or before (i / 8) 0) (other (i / 8)) (i % 8), is i));
 }
 
--- a bit of a byte that is joined with another, or is past the end
+-- for `merge`: the bits of a byte that is joined with another, and of one past the end
 pub ruleset for_merge = (bit_at_or, bit_at-zero, get_or_past)
 
 -- ---- the mask of a hash

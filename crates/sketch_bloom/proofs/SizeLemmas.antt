@@ -26,7 +26,7 @@ unit_is_positive keys log2_blocks zero = omega arith
 unit_is_positive keys log2_blocks (suc k) =
     grind (arith, nat_tests, unit_is_positive keys log2_blocks k)
 
--- A sum in units that has a multiple of the unit more, in a unit that is larger by a factor
+-- (sum + more * unit) / (unit * factor) = (sum / unit + more) / factor
 add_units : (sum more unit factor : ℕ) → 0 < unit →
     (sum + more * unit) / (unit * factor) ≡ (sum / unit + more) / factor
 add_units sum more unit factor positive =

@@ -20,7 +20,7 @@ pub record InsertLaw : Type 0 where
       Inserts hash before after → StandsFor before hashes → StandsFor after (hashes ++ hash ∷ [])
   pub all_more : (before after hashes more : List ℕ) →
       InsertsAll more before after → StandsFor before hashes → StandsFor after (hashes ++ more)
-  -- so inserts into an empty filter make the filter of the values
+  -- inserts into an empty filter make the filter of the values
   pub made : (bytes : ℕ) (filter hashes : List ℕ) →
       InsertsAll hashes (empty_filter bytes) filter → StandsFor filter hashes
   -- no inserted value is missed
@@ -37,7 +37,7 @@ pub record MergeLaw : Type 0 where
   -- a merge makes the filter of the values of both
   pub both : (before other after hashes others : List ℕ) → Merges other before after →
       StandsFor before hashes → StandsFor other others → StandsFor after (hashes ++ others)
-  -- and that byte for byte: it is the filter into which both streams of values were inserted
+  -- the merged filter is, byte for byte, the one into which both streams of values were inserted
   pub streams : (before other after whole hashes others : List ℕ) →
       AreBytes after → AreBytes whole → length whole ≡ length before →
       Merges other before after → StandsFor before hashes → StandsFor other others →
@@ -51,7 +51,7 @@ pub record FoldLaw : Type 0 where
   -- a folded filter stands for the same values
   pub stands : (before after hashes : List ℕ) → IsFoldable (length before) → Folds before after →
       StandsFor before hashes → StandsFor after hashes
-  -- and that byte for byte: it is the filter of its length into which the values were inserted
+  -- the folded filter is, byte for byte, the one of its length into which the values were inserted
   pub streams : (before after whole hashes : List ℕ) → AreBytes after → AreBytes whole →
       length whole ≡ length after → IsFoldable (length before) → Folds before after →
       StandsFor before hashes → StandsFor whole hashes → after ≡ whole

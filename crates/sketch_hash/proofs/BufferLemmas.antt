@@ -1,11 +1,10 @@
 -- Copies of a few bytes into a buffer.
-use Rattle.std.proofs.Common.{◌≡◌, ℕ, ◌+◌, ◌-◌, ◌<◌, ◌≤◌, List, ◌++◌, length, take, drop, refl, sym, ap, ◌∙◌, arith, append_assoc, append-nil, length-append, length-drop, zero, suc, ◌%◌, ◌/◌, ◌^◌, ◌∷◌}
+use Rattle.std.proofs.Common.{◌≡◌, ℕ, ◌+◌, ◌-◌, ◌<◌, ◌≤◌, List, ◌++◌, length, take, drop, refl, sym, ap, ◌∙◌, arith, append_assoc, append-nil, length-append, length-drop, ◌%◌, ◌^◌}
 use Rattle.std.proofs.Math.Seq.{take-append-add, take-append_seam}
 use Rattle.std.proofs.lemmas.List.{take_all, drop_all, length-take, length-take-le, take_rest, take-append-drop, take-append-le}
 use Rattle.std.proofs.lemmas.Slice.{put_mid-paste, drop-put_mid}
 use borrow.Rule.Slice.PartMut.{put_mid, post_of}
-use Rattle.std.proofs.Math.Nat.{mod-add-mod, mod-eq_of_lt, suc-add}
-use Rattle.sketch_base.specs.Bytes.{low_bytes}
+use Rattle.std.proofs.Math.Nat.{mod-add-mod, mod-eq_of_lt}
 
 pub copy_overlapping-is : (buffer bytes front back : List ℕ) (at k m : ℕ) → m ≡ at + length bytes - k →
     k ≤ length bytes → length bytes ≤ k + k → at + length bytes ≤ length buffer →
@@ -46,7 +45,7 @@ copy_overlapping-is buffer bytes front back at k m place low high within f b =
     (append_assoc (take at buffer) (take (n - k) bytes) (drop (n - k) bytes)
     ∙ ap (λ t. take at buffer ++ t) (take-append-drop (n - k) bytes))
 
--- the bytes of a buffer after those that were put at its start
+-- the start of a buffer, up to the end of the bytes that were copied into it
 pub take-copy : (buffer bytes : List ℕ) (at : ℕ) → at + length bytes ≤ length buffer →
     take (at + length bytes) (take at buffer ++ bytes ++ drop (at + length bytes) buffer)
     ≡ take at buffer ++ bytes
@@ -57,7 +56,7 @@ take-copy buffer bytes at h =
     ap (λ i. take i (take at buffer ++ bytes ++ drop (at + length bytes) buffer)) seam
     ∙ take-append_seam (take at buffer ++ bytes) (drop (at + length bytes) buffer)
 
--- bytes that were put at the end of a buffer
+-- A copy that fills a buffer to its end leaves nothing after it.
 pub copy_to_end : (buffer bytes : List ℕ) (at : ℕ) → length (take at buffer) + length bytes ≡ length buffer →
     take at buffer ++ bytes ++ drop (at + length bytes) buffer ≡ take at buffer ++ bytes
 copy_to_end buffer bytes at h =
@@ -65,12 +64,12 @@ copy_to_end buffer bytes at h =
     ap (λ t. take at buffer ++ bytes ++ t) (drop_all (at + length bytes) buffer (omega (arith, h, at_len)))
     ∙ append-nil (take at buffer ++ bytes)
 
--- A fact P about a term t. `grind` applies a lemma where it sees the first call of the conclusion, and
--- reads the arguments from it: so t is written before P, as an equation that says nothing.
+-- A fact P, with `t ≡ t` before it. `grind` applies a lemma where it finds the first call of its
+-- conclusion, and takes the arguments from there: here the call is t.
 abbrev pub Found : {X : Type 0} → X → Type 0 → Type 0
 Found t P = (t ≡ t) × P
 
--- the bytes in front of which others were put, with room behind them
+-- `take-copy` for `grind`: a copy that does not fill the buffer
 pub take-copy_found : (buffer bytes : List ℕ) (at : ℕ) →
     length (take at buffer) + length bytes < length buffer →
     Found (take at buffer ++ bytes ++ drop (at + length bytes) buffer)
@@ -80,15 +79,15 @@ take-copy_found buffer bytes at h =
     let at_len = length-take at buffer in
     (refl, take-copy buffer bytes at (omega (arith, h, at_len)))
 
--- bytes that were put at the start of a buffer
+-- `take-append_seam` for `grind`: the bytes that a list begins with
 pub take-append_found : (bytes behind : List ℕ) →
     Found (bytes ++ behind) (take (length bytes) (bytes ++ behind) ≡ bytes)
 take-append_found bytes behind = (refl, take-append_seam bytes behind)
 
--- the second copy may also be cut by a range
+-- The second copy of `copy_overlapping` may be cut by a range.
 pub ruleset for_copy_overlapping = (copy_overlapping-is, take_rest)
 
--- bytes that fill no piece, put behind the waiting ones, wait with them
+-- If the buffered and the new bytes fill no piece, all of them are buffered.
 pub take-copy_waiting : (w total : ℕ) (buffer bytes : List ℕ) → ((n : ℕ) → n % 2 ^ 64 % w ≡ n % w) →
     total % w + length bytes < w → total % w + length bytes ≤ length buffer →
     take ((total + length bytes) % 2 ^ 64 % w)
@@ -97,10 +96,3 @@ pub take-copy_waiting : (w total : ℕ) (buffer bytes : List ℕ) → ((n : ℕ)
 take-copy_waiting w total buffer bytes h few within =
     let count = h (total + length bytes) ∙ sym (mod-add-mod total w (length bytes)) ∙ mod-eq_of_lt few in
     rw count (take-copy buffer bytes (total % w) within)
-
--- the first of a number's lowest bytes
-pub take-low_bytes : (count k n : ℕ) → take count (low_bytes (count + k) n) ≡ low_bytes count n
-take-low_bytes zero k n = refl
-take-low_bytes (suc count) k n =
-    ap (λ m. take (suc count) (low_bytes m n)) (suc-add count k)
-    ∙ ap (λ t. n % 256 ∷ t) (take-low_bytes count k (n / 256))

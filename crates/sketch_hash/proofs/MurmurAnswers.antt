@@ -100,7 +100,7 @@ short_tail_mixed h1 h2 m1 k tail known short f1 f2 g1 words one =
 
 pub ruleset for_mix_tail = (no_tail, short_tail_mixed, tail_mixed)
 
--- the words of the waiting bytes enter as a tail
+-- the tail of the buffered bytes, from the two words that hold them
 pub with_tail-low_bytes : (h1 h2 low high count : ℕ) → count < 16 →
     low < 256 ^ min count 8 → high < 256 ^ (count - 8) → low < 2 ^ 64 →
     with_tail (h1, h2) (low_bytes count (low + high * 2 ^ 64)) ≡ (xor h1 (mix1 low), xor h2 (mix2 high))
@@ -122,12 +122,12 @@ answer_stands state answer answered seed bytes stands =
 
 pub ruleset for_finish128 = (with_tail-low_bytes, answer_is, answer_stands, of_words, of_swapped_words)
 
--- what was written after other bytes
+-- One write of two parts equals two writes.
 pub written_after : (state : State (ℕ × ℕ)) (before bytes : List ℕ) →
     murmur_after state (before ++ bytes) ≡ murmur_after (murmur_after state before) bytes
 written_after state before bytes = sym (murmur_after-append state before bytes)
 
--- a step, with all that it takes
+-- `step` of the definition, unfolded
 pub step_is : (h1 h2 k1 k2 : ℕ) →
     let first = plus (times (plus (rotate (xor h1 (mix1 k1)) 27) h2) 5) 0x52dce729 in
     step (h1, h2) (k1, k2) ≡ (first, plus (times (plus (rotate (xor h2 (mix2 k2)) 31) first) 5) 0x38495ab5)

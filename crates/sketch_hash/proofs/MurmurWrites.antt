@@ -4,14 +4,14 @@ use Rattle.std.proofs.Math.Nat.{add-mod-mod, mod-eq_of_lt}
 use Rattle.std.proofs.lemmas.List.{take_all, take_rest, length-take-le, length-take}
 use Rattle.sketch_base.specs.Bytes.{le, low_bytes, AreBytes}
 use Rattle.sketch_base.proofs.BytesLemmas.{bytes_known, low_bytes-take, length-low_bytes, le-lt, le-again, low_bytes-le, IsByte, to_le_bytes-is}
-use Rattle.sketch_hash.proofs.NumberLemmas.{number-lt, kept-lt, le-front, le_take-lt, pow_eight, joined-lt, low_bytes-joined, le-drop, block_words-filled, words-lt, words-number}
+use Rattle.sketch_hash.proofs.NumberLemmas.{number-lt, kept-lt, take-low_bytes, le-front, le_take-lt, pow_eight, joined-lt, low_bytes-joined, le-drop, block_words-filled, words-lt, words-number}
 use Rattle.sketch_hash.specs.Pieces.{State, pieces, rest}
 use Rattle.sketch_hash.specs.Murmur.{step, murmur_after, block_words, Waits}
 use Rattle.std.proofs.lemmas.List.Elements.{All-drop}
 use Rattle.std.specs.List.{fold}
 use Rattle.sketch_hash.proofs.PiecesLemmas.{length_rest, pieces_short, rest_short, state_after-waits, state_after-through}
 use Rattle.sketch_hash.proofs.MurmurAnswers.{murmur_stands_after, written_after}
-use Rattle.sketch_hash.proofs.BufferLemmas.{Found, take-copy_waiting, take-low_bytes}
+use Rattle.sketch_hash.proofs.BufferLemmas.{Found, take-copy_waiting}
 use Rattle.std.specs.Int.{w128, to_le_bytes}
 use Rattle.sketch_hash.specs.declared.hash.murmurhash.state.MurmurState.{MurmurState}
 use Rattle.sketch_hash.specs.States.{murmur_state_of, MurmurStateStands}
@@ -20,7 +20,7 @@ use Rattle.sketch_hash.specs.States.{murmur_state_of, MurmurStateStands}
 pub waiting_size : (count v : ℕ) (w : List ℕ) → w ≡ low_bytes count v → length w ≡ count
 waiting_size count v w is = ap length is ∙ length-low_bytes count v
 
--- ---- the words of waiting bytes with others behind them
+-- ---- the words of buffered bytes with others after them
 
 pub place_after-is : (number count sum v : ℕ) → count < 16 → sum ≡ v + number * 2 ^ (8 * count) % 2 ^ 128 →
     sum % 2 ^ 128 ≡ (v + number * 256 ^ count) % 2 ^ 128

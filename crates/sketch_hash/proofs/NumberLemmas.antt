@@ -1,6 +1,6 @@
 -- Numbers of lists of bytes: joined, cut, and as a block's two words.
 use Rattle.std.proofs.Common.{◌≡◌, ℕ, zero, suc, ◌+◌, ◌-◌, ◌*◌, ◌/◌, ◌%◌, ◌^◌, ◌<◌, ◌≤◌, List, [], ◌∷◌, ◌++◌, length, take, drop, replicate, refl, sym, ap, ap₂, ◌∙◌, arith, subst, length-append, length-drop, zero-add, lt_of_lt_of_le, one-mul, min, inl, inr, add_comm, sub-add_cancel, get_or, w8, Fits}
-use Rattle.std.proofs.Math.Nat.{pow-suc, mod-eq_of_lt, div-eq_of_lt, add-mul-mod_self_right, add-mul-div_right, one-le-pow, pow-le-pow_right, min-eq_left, min-eq_right}
+use Rattle.std.proofs.Math.Nat.{pow-suc, suc-add, mod-eq_of_lt, div-eq_of_lt, add-mul-mod_self_right, add-mul-div_right, one-le-pow, pow-le-pow_right, min-eq_left, min-eq_right}
 use Rattle.std.proofs.Math.Pow.{pow-lt}
 use Rattle.std.proofs.lemmas.Bool.{cases_lt}
 use Rattle.std.proofs.lemmas.Nat.{pow-add, shl_whole, shr_le}
@@ -51,7 +51,7 @@ le-append (x ∷ xs) ys =
     spread : (x a b p : ℕ) → x + 256 * (a + b * p) ≡ (x + 256 * a) + b * (p * 256)
     spread x a b p = omega arith
 
--- the number of the first bytes, and of those behind them
+-- the number of the first bytes, and that of the bytes after them
 pub le-cut : (n : ℕ) (bytes : List ℕ) → n ≤ length bytes →
     le bytes ≡ le (take n bytes) + le (drop n bytes) * 256 ^ n
 le-cut n bytes h =
@@ -63,7 +63,7 @@ le_take-lt n bytes b h =
     subst (λ k. le (take n bytes) < 256 ^ k) (length-take-le n bytes h)
     (le-lt (take n bytes) (All-take IsByte n bytes b))
 
--- the number of what is behind the first bytes, as a quotient
+-- the number of the bytes after the first ones, as a quotient
 pub le-drop : (n : ℕ) (bytes : List ℕ) → AreBytes bytes → n ≤ length bytes →
     le (drop n bytes) ≡ le bytes / 256 ^ n
 le-drop n bytes b h =
@@ -164,7 +164,7 @@ last_le bytes known low high =
     let words = number-words first (last / 256 ^ (8 + 8 - n)) below in
     rw (take_rest bytes (n - 8), pow_eight (16 - n), sym all) (ap₂ (λ x y. (x, y)) words.0 words.1)
 
--- a number's lowest bytes, and bytes joined behind them
+-- a number's lowest bytes, and bytes joined after them
 le-joined : (count n : ℕ) (bytes : List ℕ) → n < 256 ^ count →
     le (low_bytes count n ++ bytes) ≡ n + le bytes * 256 ^ count
 le-joined count n bytes h =
@@ -192,7 +192,7 @@ joined-lt count n bytes b h =
     (subst (λ k. le (low_bytes count n ++ bytes) < 256 ^ k) (joined-length count n bytes)
     (le-lt (low_bytes count n ++ bytes) (joined-are count n bytes b)))
 
--- bytes behind those of a number, 16 or more in all: modulo 2 ^ 128 those beyond 16 fall out
+-- bytes after those of a number, 16 or more in all: modulo 2 ^ 128 those after the 16th drop out
 le-block : (count n : ℕ) (bytes : List ℕ) → AreBytes bytes → n < 256 ^ count → count ≤ 16 →
     16 ≤ count + length bytes →
     (n + le (take 16 bytes) * 256 ^ count) % 2 ^ 128 ≡ le (low_bytes count n ++ take (16 - count) bytes)
@@ -232,7 +232,7 @@ block_words-le block b h =
     halves block (b, h) ∙ ap (λ v. (v, le (drop 8 block))) (le-take 8 block b (omega arith))
     ∙ ap (λ v. (le block % 2 ^ 64, v)) (le-drop 8 block b (omega arith))
 
--- zeros behind bytes count nothing
+-- zeros after bytes count nothing
 le-padded : (n : ℕ) (bytes : List ℕ) → le (bytes ++ replicate n 0) ≡ le bytes
 le-padded n bytes =
     le-append bytes (replicate n 0) ∙ ap (λ v. le bytes + v * 256 ^ length bytes) (zeros n)
@@ -270,14 +270,14 @@ tail_words bytes b h =
     ap (λ t. block_words (t ++ replicate (16 - length t) 0)) (sym (low_bytes-le bytes b))
     ∙ padded_words (length bytes) (le bytes) h (le-lt bytes b)
 
--- bytes behind those of a number, where all are fewer than 16
+-- bytes after those of a number, if all are fewer than 16
 pub kept-lt : (count n : ℕ) (bytes : List ℕ) → AreBytes bytes → n < 256 ^ count → count + length bytes < 16 →
     n + le bytes * 256 ^ count < 2 ^ 128
 kept-lt count n bytes b h short =
     let within : count + length bytes ≤ 16 = omega arith in
     lt_of_lt_of_le (joined-lt count n bytes b h) (pow-le-pow_right {n = 256} (omega arith) within)
 
--- the words of the block that a number's bytes and the first bytes behind them fill
+-- the words of the block that a number's bytes and the first bytes after them fill
 pub block_words-filled : (count n : ℕ) (bytes : List ℕ) → AreBytes bytes → n < 256 ^ count → count < 16 →
     16 ≤ count + length bytes →
     block_words (low_bytes count n ++ take (16 - count) bytes)
@@ -335,3 +335,10 @@ words-lt count n p = elim (cases_lt count 8) [
       let all : n < 256 ^ (count - 8) * 2 ^ 64 = subst (λ k. n < k) (beyond_eight count m) p in
       (rw many (omega arith), omega arith)
 ]
+
+-- the first of a number's lowest bytes
+pub take-low_bytes : (count k n : ℕ) → take count (low_bytes (count + k) n) ≡ low_bytes count n
+take-low_bytes zero k n = refl
+take-low_bytes (suc count) k n =
+    ap (λ m. take (suc count) (low_bytes m n)) (suc-add count k)
+    ∙ ap (λ t. n % 256 ∷ t) (take-low_bytes count k (n / 256))

@@ -109,7 +109,7 @@ pub chunks_cut : (w : ℕ) (bytes : List ℕ) → first_chunks w (length bytes /
 unfolding pieces
 chunks_cut w bytes = chunks_are (length bytes / w) w bytes
 
--- what a slice has behind those arrays is its rest
+-- the bytes of a slice after its full pieces are its rest
 pub rest_cut : (w : ℕ) (bytes : List ℕ) → 0 < w →
     (drop (length bytes / w * w) bytes ≡ rest w bytes) × (length (drop (length bytes / w * w) bytes) < w)
 unfolding rest
@@ -117,7 +117,7 @@ rest_cut w bytes p = (refl, rest-lt w bytes p)
 
 pub ruleset for_split_pieces = (chunks_cut, rest_cut)
 
--- what is as long as a piece, or shorter, in two parts
+-- two parts that are one piece, or less
 pub joined_piece : (w : ℕ) (held front : List ℕ) → 0 < w → length held + length front ≡ w →
     pieces w (held ++ front) ≡ (held ++ front) ∷ []
 joined_piece w held front p h = pieces_one w (held ++ front) p (length-append held front ∙ h)
@@ -128,7 +128,7 @@ no_piece w held front h =
     let short : length (held ++ front) < w = rw (length-append held front) h in
     pieces_short w (held ++ front) short
 
--- an empty write is no special case
+-- The general case covers an empty write.
 state_after-is : {P R : Type 0} (w : ℕ) (read : List ℕ → R) (f : P → R →
     P) (state : State P) (bytes : List ℕ) →
     length state.waiting < w → state.total < 2 ^ 64 →
@@ -187,7 +187,7 @@ state_after-fresh w read f state bytes p t h =
     let short : length state.waiting < w = rw h p in
     state_after-is w read f state bytes short t ∙ rw h refl
 
--- bytes whose first k fill a piece: the pieces behind it are those of the others alone
+-- If the first k bytes fill a piece, the pieces after it are those of the other bytes alone.
 pub state_after-through : {P R : Type 0} (w : ℕ) (read : List ℕ → R) (f : P → R →
     P) (state : State P) (bytes : List ℕ)
     (k : ℕ) → 0 < w → state.total < 2 ^ 64 → length state.waiting < w → k ≤ length bytes →

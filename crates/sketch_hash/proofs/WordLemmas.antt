@@ -1,5 +1,5 @@
 -- The arithmetic of words beside the library's operations: `bit_xor` and `rotate_left`.
-use Rattle.std.proofs.Common.{◌≡◌, ℕ, zero, suc, ◌+◌, ◌-◌, ◌*◌, ◌/◌, ◌%◌, ◌^◌, ◌<◌, sym, ap, ◌∙◌, arith, cond, subst, add_comm, List, [], ◌∷◌, refl, Bool, true, false, ◌≤◌, lt_of_lt_of_le, mul_assoc, mul_comm}
+use Rattle.std.proofs.Common.{◌≡◌, ℕ, zero, suc, ◌+◌, ◌-◌, ◌*◌, ◌/◌, ◌%◌, ◌^◌, ◌<◌, sym, ap, ◌∙◌, arith, cond, subst, add_comm, refl, ◌≤◌, lt_of_lt_of_le, mul_assoc, mul_comm}
 use Rattle.std.specs.Prelude.{◌==◌, bit_xor, bit_or}
 use Rattle.std.specs.Int.{bit_at, rotate_left, w64}
 use Rattle.std.proofs.lemmas.Bool.{cond_both, eqb-true, eqb-false}
@@ -8,8 +8,6 @@ use Rattle.std.proofs.lemmas.Nat.Bits.{bit_at_xor, bit_at-lt}
 use Rattle.std.proofs.Math.Nat.{mod-eq_of_lt, div-eq_of_lt, pow-le-pow_right}
 use Rattle.sketch_hash.proofs.OneToOne.{Undoes, alike, one_to_one}
 use Rattle.sketch_hash.specs.Words.{IsWord, plus, times, digit, xor_below, xor, rotate, xor_shift, OneToOne, minus}
-use Rattle.std.specs.List.{All, fold}
-use Rattle.std.proofs.lemmas.List.Elements.{All-head, All-tail}
 use Rattle.std.specs.Int.Bits.{xor_assoc, xor_self, xor_zero_r, xor_shr}
 
 -- the sum over the places at which two digits differ is the library's exclusive or
@@ -76,7 +74,7 @@ plus-lt x y = omega arith
 pub times-lt : (x y : ℕ) → IsWord (times x y)
 times-lt x y = mod_below (x * y) (2 ^ 64) (omega arith)
 
--- a part of a sum that is taken five times can be added at the end, five times as large
+-- 5 (r + x) + 5 a + b = 5 (r + x + a) + b
 pub five_times : (r x a b : ℕ) →
     plus (times (plus r x) 5) (5 * a + b) ≡ plus (times (plus r (plus x a)) 5) b
 five_times r x a b = omega arith

@@ -57,7 +57,7 @@ after-partial s bytes missing t p e h =
     ∙ ap (λ v. record { folded = v; total = (s.total + length bytes) % 2 ^ 64; waiting = rest 32 behind })
     (folded (seeded_step s.folded (s.waiting ++ front)) behind)
 
--- bytes that fill no stripe wait behind those that wait
+-- If the buffered and the new bytes fill no stripe, all are buffered.
 pub write_within : (s : State (ℕ × Lanes)) (bytes : List ℕ) → s.total < 2 ^ 64 →
     length s.waiting + length bytes < 32 →
     xxh64_after s bytes ≡ record {
@@ -83,7 +83,7 @@ write_to_the_end s bytes t short h =
     let full : length (s.waiting ++ bytes) ≡ 32 = length-append s.waiting bytes ∙ h in
     state_after-fills 32 (λ stripe. stripe) seeded_step s bytes (omega arith) t short full
 
--- how many bytes are behind the stripes
+-- how many bytes follow the stripes
 pub left_over : (bytes : List ℕ) → length (rest 32 bytes) ≡ length bytes % 32
 left_over bytes = rw (length_rest 32 bytes) (omega arith)
 
@@ -98,7 +98,7 @@ take-copy_waiting_32 total buffer bytes few size =
     let within : total % 32 + length bytes ≤ length buffer = omega arith in
     (refl, take-copy_waiting 32 total buffer bytes (λ n. omega arith) few within)
 
--- any write that fills the stripe that is begun: its stripe, where there is one, and then those behind
+-- a write that fills the buffered stripe: this stripe, if there is one, and then those after it
 pub write_across : (seed total count : ℕ) (v : Lanes) (buffer bytes : List ℕ) → total < 2 ^ 64 →
     count < 32 → length buffer ≡ 32 → (32 - count) % 32 ≤ length bytes →
     xxh64_after (record { folded = (seed, v); total = total; waiting = take count buffer }) bytes ≡ record {
@@ -132,15 +132,15 @@ write_across seed total count v buffer bytes below low size enough =
           rw (empty, nothing, alone) (write_aligned bare bytes below refl)
     ]
 
--- how many bytes wait after such a write
+-- how many bytes are buffered after a write that completes the buffered stripe
 pub left_count : (count : ℕ) (bytes : List ℕ) → count < 32 → (32 - count) % 32 ≤ length bytes →
     length (rest 32 (drop ((32 - count) % 32) bytes)) ≡ (count + length bytes) % 32
 left_count count bytes low h =
     rw (length_rest 32 (drop ((32 - count) % 32) bytes), length-drop ((32 - count) % 32) bytes)
     (omega arith)
 
--- what search takes for a write into the buffer, one that completes a stripe, one where no byte
--- waits, one into a state, the stripe that is begun, and a write through it
+-- One ruleset for each path of a write: into the buffer, to the end of the buffer, with an empty
+-- buffer, into a state's buffer, the completion of the buffered stripe, and a write beyond it.
 pub ruleset for_write_within = (write_within, take-copy_found)
 
 pub ruleset for_write_to_the_end = (write_to_the_end, copy_to_end)

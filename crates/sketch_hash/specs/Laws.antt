@@ -25,7 +25,7 @@ abbrev pub step_widths : List (ℕ × ℕ) → List ℕ
 step_widths list = map (λ s. s.0) list
 
 -- How lists of bytes are cut: full pieces at the start leave the pieces and the rest of what comes
--- after them, fewer bytes than a piece are all rest, and a rest is shorter than a piece. And eight
+-- after them, fewer bytes than a piece are all rest, and a rest is shorter than a piece. Eight
 -- bytes are one word.
 pub record PieceLaws : Type 0 where
   pub whole_rest : (w i : ℕ) (bytes : List ℕ) → 0 < w → length bytes ≡ w * i → rest w bytes ≡ []

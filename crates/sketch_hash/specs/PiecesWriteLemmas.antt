@@ -9,7 +9,7 @@ use Rattle.sketch_hash.specs.Pieces.{first_pieces, pieces, rest, State, absorb, 
 use Rattle.sketch_hash.specs.Murmur.{block_words, step, murmur_after}
 use Rattle.sketch_hash.specs.Xxh64.{Lanes, seeded_step, xxh64_after}
 
--- pieces in front do not depend on what is joined after them
+-- The first pieces do not depend on what is joined after them.
 first_pieces-append : (n m w : ℕ) (xs ys : List ℕ) → n * w ≤ length xs →
     first_pieces (n + m) w (xs ++ ys)
     ≡ first_pieces n w xs ++ first_pieces m w (drop (n * w) xs ++ ys)

@@ -1,5 +1,5 @@
 -- Words and their arithmetic, in whole numbers: no machine operation is used to say what a hash is.
--- And what it is to reach each value exactly once.
+-- A bijection reaches each value exactly once.
 use Rattle.std.specs.Prelude.{ℕ, zero, suc, ◌+◌, ◌-◌, ◌*◌, ◌/◌, ◌%◌, ◌^◌, ◌<◌, ◌==◌, if◌then◌else◌, ◌≡◌}
 
 -- a word is a whole number below 2 ^ 64

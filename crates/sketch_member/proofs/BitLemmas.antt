@@ -98,7 +98,7 @@ whole_bytes n h =
     let split : 2 ^ n ≡ 2 ^ (n - 3) * 8 = ap (λ k. 2 ^ k) e ∙ pow-add 2 (n - 3) 3 in
     omega arith
 
--- zeros, as std says of a new vector that it is full of them
+-- a new vector of zeros, in the form of std's contract
 pub zeros_long : (bits : List ℕ) (count : ℕ) →
     (((n : ℕ) → n ≡ 0 → n ≡ 0) → bits ≡ replicate count 0) → length bits ≡ count
 zeros_long bits count zeros = ap length (zeros (λ n is. is)) ∙ length-replicate count 0

@@ -13,7 +13,7 @@ use Rattle.sketch_member.specs.Form.{IsForm, flag_of, number_of}
 use Rattle.sketch_member.specs.Table.{Table, IsTable, byte_count}
 use Rattle.sketch_member.proofs.BitLemmas.{whole_bytes}
 
--- the first fault of the first steps is that of all; if they pass, so is the first fault of the others
+-- The first fault of two lists of steps is that of the first list, or if all of these pass, of the second.
 pub fault-front : (count : ℕ) (front others : List Step) (fault : Fault) →
     IsFirstFault count front fault → IsFirstFault count (front ++ others) fault
 fault-front count [] others fault first = absurd first
@@ -172,17 +172,17 @@ first_fault-numbers bytes fault kind sizes first =
     (fault-front (length bytes) (number_steps bytes) (bits_steps bytes (header_length bytes)
     (byte_count (get_or bytes 3 0))) fault first)
 
--- the first fault of the bits, if the header passes, is that of all
+-- If the header passes, the first fault of the bits is the first of all.
 pub first_fault-bits : (bytes : List ℕ) (start need : ℕ) (fault : Fault) →
     AllPass (length bytes) (kind_steps bytes) → AllPass (length bytes) (size_steps bytes) →
     AllPass (length bytes) (number_steps bytes) → start ≡ header_length bytes →
     need ≡ byte_count (get_or bytes 3 0) →
     IsFirstFault (length bytes) (bits_steps bytes start need) fault →
     IsFirstFault (length bytes) (steps bytes) fault
-first_fault-bits bytes start need fault kind sizes numbers is_start is_need told =
+first_fault-bits bytes start need fault kind sizes numbers is_start is_need first =
     after_sizes bytes fault kind sizes
     (fault-later (length bytes) (number_steps bytes) (bits_steps bytes (header_length bytes)
-    (byte_count (get_or bytes 3 0))) fault numbers (rw (is_start, is_need) at told))
+    (byte_count (get_or bytes 3 0))) fault numbers (rw (is_start, is_need) at first))
 
 pub ruleset for_read = (first_fault-kind, first_fault-sizes, first_fault-numbers, first_fault-bits)
 

@@ -52,13 +52,12 @@ IsFirstFault count [] fault = ⊥
 IsFirstFault count (step ∷ steps) fault =
     Fails count step fault ⊎ (Passes count step × IsFirstFault count steps fault)
 
--- the error is of this kind and tells of the first fault
+-- the error has this kind, and the text of the first fault
 abbrev pub FirstFault : ErrorKind → ℕ → List Step → ErrorValue → Type 0
 FirstFault kind count steps error =
     (fault : Fault) × IsFirstFault count steps fault × Refuses kind (fault_text fault) error
 
--- the error of a call that takes these steps: it tells of the first fault, or they all pass and
--- memory ran out
+-- the error of a call that takes these steps: that of the first fault, or of memory if all pass
 abbrev pub IsStepsError : ErrorKind → ℕ → List Step → ErrorValue → Type 0
 IsStepsError kind count steps error = FirstFault kind count steps error
     ⊎ (AllPass count steps × (error ≡ memory_error))
@@ -94,7 +93,7 @@ kind_steps bytes =
     }
     ∷ []
 
--- that the sizes lie in their limits
+-- that the sizes are within their limits
 abbrev pub size_steps : List ℕ → List Step
 size_steps bytes =
     record {
@@ -109,7 +108,7 @@ size_steps bytes =
     }
     ∷ []
 
--- the flag that tells whether the count is known: version 1 has 0 alone
+-- the flag is 1 if the count is known, else 0: version 1 has 0 alone
 abbrev pub IsFlag : ℕ → ℕ → Type 0
 IsFlag longs flag = (flag ≡ 0) ⊎ ((longs ≡ 3) × (flag ≡ 1))
 
@@ -158,7 +157,7 @@ steps bytes = kind_steps bytes ++ (size_steps bytes ++ (number_steps bytes
 
 -- ---- the steps of other calls
 
--- that the sizes of a new table lie in their limits
+-- that the sizes of a new table are within their limits
 abbrev pub new_steps : ℕ → ℕ → List Step
 new_steps log2_bits hashes =
     record { needs = 0; Condition = IsLog2Bits log2_bits; fault = Log2Bits log2_bits }

@@ -39,7 +39,7 @@ IsSet bits i = digit (slice_index bits (i / 8)) (i % 8) ≡ 1
 abbrev pub byte_count : ℕ → ℕ
 byte_count log2_bits = 2 ^ log2_bits / 8
 
--- what holds of every table: its numbers lie in their limits, and its bits fill their bytes
+-- what holds of every table: its numbers are within their limits, and its bits fill their bytes
 pub record IsTable (table : Table) : Type 0 where
   pub seed : IsWord table.seed
   pub log2_bits : IsLog2Bits table.log2_bits

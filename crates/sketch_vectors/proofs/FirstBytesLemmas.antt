@@ -1,4 +1,4 @@
--- One byte more, kept where there is room.
+-- The test hasher keeps a byte if it has fewer than 64.
 use Rattle.std.proofs.Common.{◌≡◌, ℕ, ◌<◌, ◌≤◌, ◌+◌, List, [], ◌∷◌, ◌++◌, length, take, set, get_or, ◌∙◌, ap, sym, arith}
 use Rattle.std.proofs.lemmas.List.{take_more, take_more_set, take_all, take-append-le, length-take-le, length_push}
 use Rattle.sketch_vectors.specs.{kept_after, kept_after-append}

@@ -8,7 +8,7 @@ abbrev pub kept_after : List ℕ → List ℕ → List ℕ
 kept_after kept [] = kept
 kept_after kept (b ∷ bytes) = take 64 (kept ++ b ∷ bytes)
 
--- what stands behind 64 bytes is dropped at once or later
+-- bytes after the first 64 are dropped, now or with the next write
 take-take-append : (n : ℕ) (xs ys : List ℕ) → take n (take n xs ++ ys) ≡ take n (xs ++ ys)
 take-take-append zero xs ys = refl
 take-take-append (suc n) [] ys = refl

@@ -1,3 +1,5 @@
+//! Both hashers at once, for the tests that cross crates.
+
 mod cuts;
 mod equalities;
 mod fed;

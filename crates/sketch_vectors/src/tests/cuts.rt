@@ -59,7 +59,7 @@ fn one_call_equals_a_hasher(rt: HostRuntime) {
     }
 }
 
-// What both states answer that are written to and taken up again, after a write of each piece.
+// The hashes after a write of each piece into saved states, which are then resumed.
 fn state_answers(pieces: &[&[u8]]) -> ((u64, u64), u64) {
     let mut murmur = MurmurHash3X64128::with_seed(MURMUR_SEED).state();
     let mut xxh64 = XxHash64::with_seed(XXH64_SEED).state();

@@ -106,7 +106,7 @@ fn bytes_and_texts_agree(rt: HostRuntime) -> Result<(), AllocError> {
     Ok(())
 }
 
-// Whether each of the four ways to wrap a text tells through the wrapper that it is empty.
+// Whether a text is empty, by each of the four wrappers of it.
 fn empty_ones(alloc: Global, text: &str) -> Result<[bool; 4], AllocError> {
     let bytes = raw_bytes::from_vec(Vec::from_slice(alloc, text.as_bytes())?);
     let string = raw_bytes::from_string(String::from_str(alloc, text)?);

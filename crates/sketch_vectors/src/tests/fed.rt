@@ -9,7 +9,7 @@ use std::alloc::{AllocError, Global};
 use std::io::Eprint;
 use std::process::Abort;
 
-// Feeds one value to a hasher, and hands this over.
+// A hasher that was fed one value.
 fn feed<T: Hash + Drop>(value: T) -> FirstBytes {
     let mut hasher = FirstBytes::new();
     value.hash(&mut hasher);

@@ -1,3 +1,5 @@
+//! Arguments of the command line.
+
 use crate::arguments::{Algorithm, parse};
 use crate::ending::{Outcome, RunFault, ending};
 use std::alloc::{AllocError, Global};

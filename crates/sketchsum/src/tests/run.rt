@@ -1,3 +1,5 @@
+//! Runs over readers and writers in memory, and faults of both.
+
 use super::{Full, NarrowWriter, SlowReader};
 use crate::arguments::Algorithm;
 use crate::ending::RunFault;
@@ -77,8 +79,8 @@ fn a_read_that_fails_writes_nothing(rt: HostRuntime) {
         let mut reader = SlowReader::new(FOX, 5, Some((left, kind)));
         let mut written = Vec::new(rt.alloc());
         let answer = run(algorithm, 0, &mut reader, &mut written);
-        let told = (answer, reader.reads, is_line(written, ""));
-        assert_eq!(rt; told, (Err(RunFault::Read), reads, true));
+        let result = (answer, reader.reads, is_line(written, ""));
+        assert_eq!(rt; result, (Err(RunFault::Read), reads, true));
     }
 }
 
@@ -96,8 +98,12 @@ fn a_buffered_read_that_fails_writes_nothing(rt: HostRuntime) -> io::Result<()> 
     for left in [0, 1, 65_536, 131_072] {
         let slow = SlowReader::new(&bytes, usize::MAX, Some((left, ErrorKind::Interrupted)));
         let reader = BufReader::with_capacity(rt.alloc(), 65_536, slow)?;
-        let told = run_silently(rt.alloc(), reader);
-        assert_eq!(rt; told, (Err(RunFault::Read), true), "with {left} bytes left");
+        let result = run_silently(rt.alloc(), reader);
+        assert_eq!(rt;
+            result,
+            (Err(RunFault::Read), true),
+            "with {left} bytes left"
+        );
     }
     Ok(())
 }

@@ -1,4 +1,4 @@
-//! Bytes and text that are fed as they are, with no length in front and no end mark.
+//! Bytes and text that are fed as they are, with no length before them and no end mark.
 //!
 //! Empty bytes feed nothing. A caller that has to agree with an implementation which skips empty
 //! texts skips them itself.

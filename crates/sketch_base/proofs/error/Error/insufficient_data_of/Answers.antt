@@ -4,5 +4,5 @@ use Rattle.sketch_base.proofs.error.Error.insufficient_data_of.Goals as goal
 
 pub returns : goal.returns
 returns g c =
-    let told = printed_text string_bytes _ _ c.to_string-made.ensures.ok in
-    (told.0, told.1, c.from_text.ensures.refuses _ (search rules))
+    let printed = printed_text string_bytes _ _ c.to_string-made.ensures.ok in
+    (printed.0, printed.1, c.from_text.ensures.refuses _ (search rules))
