@@ -160,14 +160,14 @@ function libraryOf(calls) {
     }
     disposable(Stream);
 
-    const ofXxh64 = {
+    const xxh64Kind = {
         size: 80,
         digits: 16,
         reset: calls.sketch_xxh64_reset,
         update: calls.sketch_xxh64_update,
         digest: () => unsigned(calls.sketch_xxh64_digest(BigInt(state))),
     };
-    const ofMurmur = {
+    const murmurKind = {
         size: 40,
         digits: 32,
         reset: calls.sketch_murmur3_x64_128_reset,
@@ -175,10 +175,10 @@ function libraryOf(calls) {
         digest: () => { calls.sketch_murmur3_x64_128_digest(BigInt(state), BigInt(result)); return pair(); },
     };
 
-    class Xxh64 extends Stream { constructor(seed) { super(ofXxh64, seed); } }
+    class Xxh64 extends Stream { constructor(seed) { super(xxh64Kind, seed); } }
 
     class Murmur128 extends Stream {
-        constructor(seed) { super(ofMurmur, seed); }
+        constructor(seed) { super(murmurKind, seed); }
 
         digestBytes() {
             this.digest();
@@ -213,7 +213,7 @@ function libraryOf(calls) {
         Murmur128,
     };
 
-    // ---- Columns and Bloom filters. The page is built without them.
+    // ---- Columns and Bloom filters
 
     const HASHES = ['BigUint64Array'];
     const WIDE = [...HASHES, 'BigInt64Array'];
@@ -225,12 +225,14 @@ function libraryOf(calls) {
         throw new TypeError(`${name} must be of type ${types.join(', ')}`);
     }
 
+    const ERROR_OFFSET = -2;
+
     /** Throws the error that a status of the library stands for. */
     function check(status, wrongOffset) {
         if (status === 0) return;
-        throw new RangeError(status === -2
+        throw new RangeError(status === ERROR_OFFSET
             ? `the offset at ${wrongOffset} is missing, past the end or below the one before`
-            : 'a Bloom filter must have a positive multiple of 32 bytes, and both filters of a merge the same length');
+            : 'a Bloom filter must have a positive multiple of 32 bytes, below 2^37');
     }
 
     // The free ranges after the input, by their addresses. No two of them touch.
@@ -344,8 +346,8 @@ function libraryOf(calls) {
 
         // A view that a later call may detach.
         #bytes() {
-            if (!this.#block) throw new TypeError('the filter was freed');
-            return memory.subarray(this.#block.start, this.#block.start + this.#length);
+            const start = Number(this.#bits[0]);
+            return memory.subarray(start, start + this.#length);
         }
 
         static bytesFor(keys, oneIn) {
@@ -380,19 +382,19 @@ function libraryOf(calls) {
         get length() { return this.#length; }
 
         // One call, or that of the hash if the key is long.
-        #one(ofKey, ofHash, key) {
+        #callOnKey(ofKey, ofHash, key) {
             const bytes = keyView(key);
             if (bytes.length > PIECE) return ofHash(...this.#bits, xxh64(bytes));
             return ofKey(...this.#bits, ...put(bytes, input));
         }
 
         add(key) {
-            check(this.#one(calls.sketch_bloom_insert, calls.sketch_bloom_insert_hash, key));
+            check(this.#callOnKey(calls.sketch_bloom_insert, calls.sketch_bloom_insert_hash, key));
             return this;
         }
 
         has(key) {
-            return this.#one(calls.sketch_bloom_contains, calls.sketch_bloom_contains_hash, key) !== 0;
+            return this.#callOnKey(calls.sketch_bloom_contains, calls.sketch_bloom_contains_hash, key) !== 0;
         }
 
         addHash(hash) {
@@ -447,14 +449,16 @@ function libraryOf(calls) {
         merge(other) {
             if (!(#block in Object(other))) throw new TypeError('only a Bloom filter of this module can be merged');
             const args = [...this.#bits, ...other.#bits];
-            if (other !== this) check(calls.sketch_bloom_merge(...args));
+            if (other !== this && calls.sketch_bloom_merge(...args)) {
+                throw new RangeError(`filters of ${this.#length} and ${other.#length} bytes cannot be merged`);
+            }
             return this;
         }
 
         // The second half of the bits is free then.
         fold() {
             if (calls.sketch_bloom_fold(...this.#bits)) {
-                throw new RangeError(`a Bloom filter to fold must have a multiple of 64 bytes, not ${this.#length}`);
+                throw new RangeError(`a filter to fold must have an even number of blocks, not ${this.#length / 32}`);
             }
             this.#length /= 2;
             const start = this.#block.start + 64 * Math.ceil(this.#length / 64);

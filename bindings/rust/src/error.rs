@@ -49,12 +49,12 @@ impl fmt::Display for Error {
     fn fmt(&self, f: &mut fmt::Formatter<'_>) -> fmt::Result {
         match self {
             Error::Length => f.write_str(
-                "a Bloom filter must have a positive multiple of 32 bytes below 2^37, \
-                 both filters of a merge the same length, and a filter to fold a multiple of 64 bytes",
+                "a Bloom filter must have a positive multiple of 32 bytes, below 2^37, \
+                 both filters of a merge one length, and a filter to fold an even number of blocks",
             ),
             Error::Offset { index } => write!(
                 f,
-                "the offset at {index} is missing, past the end of the keys, or below the one before"
+                "the offset at {index} is missing, past the end or below the one before"
             ),
             Error::Count => f.write_str("there are fewer values than places for results"),
             Error::TooManyKeys => {

@@ -3,7 +3,7 @@ import { readFileSync } from 'node:fs';
 import test from 'node:test';
 import { runInNewContext } from 'node:vm';
 import { load } from '../../../dist/wasm/sketch_hash.mjs';
-import { bytes, fox, last, library, long, lost } from './helpers.mjs';
+import { bytes, fox, last, library, long, detachedViews } from './helpers.mjs';
 
 const { xxh64, xxh64Hex, murmur128, murmur128Hex, murmur128Bytes, Xxh64, Murmur128 } = library;
 const kinds = [[Xxh64, xxh64], [Murmur128, murmur128]];
@@ -121,7 +121,7 @@ test('an input of another type is a type error', () => {
 
 test('a view of a detached buffer is a type error', () => {
     for (const kind of [Uint8Array, BigUint64Array, DataView]) {
-        for (const view of lost(kind)) assert.throws(() => xxh64(view), TypeError);
+        for (const view of detachedViews(kind)) assert.throws(() => xxh64(view), TypeError);
     }
 });
 

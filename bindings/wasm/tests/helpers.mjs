@@ -13,7 +13,7 @@ export const long = new Uint8Array(1_000_001).map((_, at) => Math.imul(at, 26544
 export const bytes = (text) => new TextEncoder().encode(text);
 
 /** Views whose memory was given away, or ends before they begin. */
-export function lost(kind) {
+export function detachedViews(kind) {
     const givenAway = new kind(new ArrayBuffer(16));
     structuredClone(givenAway.buffer, { transfer: [givenAway.buffer] });
     const buffer = new ArrayBuffer(16, { maxByteLength: 16 });
