@@ -145,7 +145,8 @@ void sketch_murmur3_x64_128_bytes(const uint64_t hash[2], unsigned char out[16])
  *
  * Key i is the bytes input[offsets[i]] up to, and without, input[offsets[i + 1]]. So `count` keys
  * have count + 1 offsets, and no keys one or none. `offset_count` says how many may be read;
- * further ones are not. Arrow's offsets are signed: cast the pointer.
+ * further ones are not. Arrow's offsets are signed: cast the pointer. With offsets of 32 bits pass
+ * at most 2^31 - 1 bytes: then a negative offset is an error.
  *
  * If an offset is missing, above `length`, or below the one before it, a call returns
  * SKETCH_ERROR_OFFSET and writes its index to *wrong_offset, which is otherwise unchanged. */
@@ -279,7 +280,7 @@ int sketch_bloom_fold(void *bits, size_t length);
 size_t sketch_bloom_header_write(uint64_t bytes, unsigned char *header, size_t room);
 
 /** Reads the header of a split block filter with XXH64, uncompressed. Returns its length, or 0, and
- * writes nothing, if `input` does not begin with one. Writes the length of the filter behind it to
+ * writes nothing, if `input` does not begin with one. Writes the length of the filter after it to
  * *bytes. If that is more than is left of `input`, the file is truncated: do not use the filter. */
 size_t sketch_bloom_header_read(const void *input, size_t length, uint64_t *bytes);
 
