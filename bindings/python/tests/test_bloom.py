@@ -110,7 +110,7 @@ def test_a_key_is_a_text_or_bytes(key, data):
 @pytest.mark.parametrize("key", [
     5, None, ["fox"], array.array("d", [1]), numpy.int64(5), numpy.zeros(2, object), memoryview(bytes(8)).cast("I"),
     numpy.int8(5), numpy.uint8(5), numpy.bool_(True), numpy.datetime64("2026-11-29"), numpy.timedelta64(3, "s"),
-    numpy.void(b"fox"), numpy.array(5, "u1"), numpy.zeros(2, "datetime64[D]"),
+    numpy.void(b"fox"), numpy.array(5, "u1"), numpy.zeros(2, "datetime64[D]"), BloomFilter(32),
 ], ids=lambda key: type(key).__name__)
 def test_another_type_of_key_is_an_error(key):
     bloom = filled()
@@ -142,9 +142,9 @@ def test_update_keeps_the_keys_before_a_wrong_one(key, error):
     assert bloom == filled([b"fox"])
 
 
-@pytest.mark.parametrize("keys", [b"fox", "fox", bytearray(b"fox"), memoryview(b"fox")])
+@pytest.mark.parametrize("keys", [b"fox", "fox", bytearray(b"fox"), memoryview(b"fox"), BloomFilter(32)])
 def test_update_rejects_a_single_key(keys):
-    with pytest.raises(TypeError, match="^update takes an iterable of keys: add takes one key, and add_each a column$"):
+    with pytest.raises(TypeError, match="^update takes an iterable of keys: add takes one key, add_each a column, and"):
         BloomFilter(32).update(keys)
 
 

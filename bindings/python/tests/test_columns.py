@@ -86,11 +86,11 @@ XXH64, FILTER = [xxh64_each], [BLOOM.add_each, BLOOM.contains_each]
     *((XXH64, keys, COLUMN + "$") for keys in ([1, 2], "fox", DATA)),
     *((XXH64, (DATA, offsets), "^offsets must be " + ROW.format("32 or 64"))
       for offsets in (numpy.zeros(4, "u2"), numpy.zeros(4, "f4"), numpy.array(5, "u8"), DATA, [0, 3])),
-    (XXH64, (DATA,), "^a column of bytes must be a pair of bytes and offsets, as column"),
-    (XXH64, (DATA, OFFSETS, 0), "^a column of bytes must be a pair"),
+    (XXH64, (DATA,), "^a column here must be a pair of bytes and offsets, as column"),
+    (XXH64, (DATA, OFFSETS, 0), "^a column here must be a pair"),
     (XXH64, ("text", [0, 4]), "^a str has no bytes until it is encoded"),
     (XXH64, (numpy.array(["fox"], dtype=object), [0, 8]), "^data must be bytes, not addresses of objects"),
-    ([murmur3_x64_128_each], numpy.zeros(4, "u8"), "^a column of bytes must be a pair of bytes and offsets, as column"),
+    ([murmur3_x64_128_each], numpy.zeros(4, "u8"), "^a column here must be a pair of bytes and offsets, as column"),
     (FILTER, numpy.zeros(3, "i2"), OF_FILTER + r'.* numbers.astype."int32". makes it, as Parquet stores smaller ones$'),
     *((FILTER, keys, OF_FILTER + ".* has$")
       for keys in (KEYS, numpy.zeros(3, "f2"), numpy.zeros((2, 2), "u8"), b"fox")),

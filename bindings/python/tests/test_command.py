@@ -75,8 +75,8 @@ def test_the_installed_command_has_the_version():
 
 
 @pytest.mark.parametrize("args, status, output, message", [
-    ("fox >/dev/full", 1, b"", b"sketch_hash: standard output: No space left on device\n"),
-    ("fox >&-", 1, b"", b"sketch_hash: standard output: Bad file descriptor\n"),
+    ("fox >/dev/full", 1, b"", b"sketch-hash: standard output: No space left on device\n"),
+    ("fox >&-", 1, b"", b"sketch-hash: standard output: Bad file descriptor\n"),
     ("fox 2>&-", 0, XXH64 + b"  fox\n", b""),
     ("missing fox 2>&-", 1, XXH64 + b"  fox\n", b""),
     ("--check missing list 2>/dev/full", 1, b"fox: OK\n", b""),
@@ -106,7 +106,7 @@ def test_a_system_without_sigpipe():
     (b"missing", b"No such file or directory"), (b".", b"Is a directory"), (b"\xff", b"No such file or directory"),
 ], ids=["missing", "folder", "no UTF-8"])
 def test_other_files_are_hashed_if_one_cannot_be_read(name, reason):
-    assert run(name, "fox") == (1, XXH64 + b"  fox\n", b"sketch_hash: " + name + b": " + reason + b"\n")
+    assert run(name, "fox") == (1, XXH64 + b"  fox\n", b"sketch-hash: " + name + b": " + reason + b"\n")
 
 
 # Among them each byte that a name may have, and what Python takes for the end of a line.
@@ -131,11 +131,11 @@ def test_check_reads_what_was_printed(algorithm, locale):
 
 
 GOOD, WRONG, MISSING, OTHER = XXH64 + b"  fox\n", b"0" * 16 + b"  fox\n", XXH64 + b"  missing\n", b"not a hash\n"
-FORMAT = b"sketch_hash: 1 improperly formatted line(s)\n"
-UNREAD = b"sketch_hash: 1 file(s) could not be read\n"
-DIFFER = b"sketch_hash: 1 computed hash(es) did not match\n"
-NONE = b"sketch_hash: no line with a hash\n"
-NO_FILE = b"sketch_hash: missing: No such file or directory\n"
+FORMAT = b"sketch-hash: 1 improperly formatted line(s)\n"
+UNREAD = b"sketch-hash: 1 file(s) could not be read\n"
+DIFFER = b"sketch-hash: 1 computed hash(es) did not match\n"
+NONE = b"sketch-hash: no line with a hash\n"
+NO_FILE = b"sketch-hash: missing: No such file or directory\n"
 FAILED = b"missing: FAILED to open or read\n"
 
 
@@ -143,11 +143,13 @@ FAILED = b"missing: FAILED to open or read\n"
     (WRONG, b"fox: FAILED\n", DIFFER),
     (MISSING, FAILED, NO_FILE + UNREAD),
     (OTHER, b"", FORMAT + NONE),
+    (b"XXH64 (fox) = " + MURMUR + b"\n", b"", FORMAT + NONE),
+    (b"MURMUR3_X64_128 (fox) = " + XXH64 + b"\n", b"", FORMAT + NONE),
     (b"", b"", NONE),
     (GOOD + OTHER, b"fox: OK\n", FORMAT),
     (GOOD + WRONG + MISSING + OTHER, b"fox: OK\nfox: FAILED\n" + FAILED, NO_FILE + FORMAT + UNREAD + DIFFER),
-    (XXH64 + b"  a\0b\n", b"a\0b: FAILED to open or read\n", b"sketch_hash: a\0b: embedded null byte\n" + UNREAD),
-], ids=["wrong", "missing", "no hash", "empty", "good and no hash", "all", "byte 0"])
+    (XXH64 + b"  a\0b\n", b"a\0b: FAILED to open or read\n", b"sketch-hash: a\0b: embedded null byte\n" + UNREAD),
+], ids=["wrong", "missing", "no hash", "XXH64 with 32 digits", "Murmur with 16", "empty", "good and no hash", "all", "byte 0"])
 def test_check_reports_and_counts_what_is_wrong(lines, output, message):
     assert run("-c", input=lines) == (1, output, message)
 
@@ -180,7 +182,7 @@ def test_no_memory_is_an_error_with_a_message(args, text):
     with open("list", "wb") as file:
         file.write(GOOD)
     done = subprocess.run([sys.executable, "-c", code, *args], capture_output=True)
-    assert (done.returncode, done.stdout, done.stderr) == (1, text, b"sketch_hash: out of memory\n")
+    assert (done.returncode, done.stdout, done.stderr) == (1, text, b"sketch-hash: out of memory\n")
 
 
 @pytest.mark.parametrize("line", [

@@ -13,9 +13,10 @@ ESCAPES = {"\\": "\\\\", "\n": "\\n", "\r": "\\r"}
 BAD, UNREAD = "improperly formatted line(s)", "file(s) could not be read"
 DIFFERS = "computed hash(es) did not match"
 VERDICTS = {UNREAD: "FAILED to open or read", DIFFERS: "FAILED", "OK": "OK"}
-DIGITS = r"[0-9a-fA-F]{16}|[0-9a-fA-F]{32}"
+XXH64, MURMUR = "[0-9a-fA-F]{16}", "[0-9a-fA-F]{32}"
 # A hash and a name, after a '*' if the file was read as bytes; or with a tag. After a backslash the name is escaped.
-LINE = re.compile(rf"(\\?)(?:({DIGITS}) [ *](.+)|(?:XXH64|MURMUR3_X64_128) \((.+)\) = ({DIGITS}))", re.S)
+LINE = re.compile(rf"(\\?)(?:({XXH64}|{MURMUR}) [ *](.+)|XXH64 \((.+)\) = ({XXH64})"
+                  rf"|MURMUR3_X64_128 \((.+)\) = ({MURMUR}))", re.S)
 
 
 def main(argv):
@@ -96,11 +97,11 @@ def parse(text):
     match = LINE.fullmatch(text)
     if not match:
         return None
-    name = match[3] or match[4]
+    name = match[3] or match[4] or match[6]
     if match[1]:
         plain = {escaped: letter for letter, escaped in ESCAPES.items()}
         name = re.sub(r"\\[\\nr]", lambda found: plain[found[0]], name)
-    return (match[2] or match[5]).lower(), name
+    return (match[2] or match[5] or match[7]).lower(), name
 
 
 def check(lists, seed, is_quiet):
@@ -145,7 +146,7 @@ def write(text):
 
 def warn(text):
     try:
-        sys.stderr.buffer.write(b"sketch_hash: " + os.fsencode(text) + b"\n")
+        sys.stderr.buffer.write(b"sketch-hash: " + os.fsencode(text) + b"\n")
         sys.stderr.flush()
     except (AttributeError, OSError):
         pass  # nobody reads messages: the program goes on

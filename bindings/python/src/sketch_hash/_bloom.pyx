@@ -59,9 +59,9 @@ cdef type bytes_like = bytearray  # the type of the last key that was a row: to 
 
 cdef bint is_row(object key) except -1:
     """Whether it is not a scalar of numpy: a number or date, whose bytes in a Parquet file may be others. The buffer of
-    a date has one dimension, but not the date."""
+    a date has one dimension, but not the date. Nor a filter, whose bits would be one key."""
     global bytes_like
-    if getattr(key, "ndim", 1) == 0:
+    if getattr(key, "ndim", 1) == 0 or isinstance(key, BloomFilter):
         return False
     bytes_like = type(key)
     return True
@@ -81,7 +81,7 @@ cdef int get_key(object key, View *memory) except -1:
     if not is_bytes:
         raise TypeError(
             f"a key must be str or bytes, not {type(key).__name__}: "
-            "add_each and contains_each take numbers and columns")
+            "add_each and contains_each take numbers and columns, and |= a filter")
     return 0
 
 
@@ -358,8 +358,8 @@ cdef class BloomFilter:
     def update(self, keys):
         """update($self, keys, /)\n--\n\nAdds each key of an iterable. If one raises TypeError, those before it are
         added."""
-        if isinstance(keys, (str, bytes, bytearray, memoryview)):
-            raise TypeError("update takes an iterable of keys: add takes one key, and add_each a column")
+        if isinstance(keys, (str, bytes, bytearray, memoryview, BloomFilter)):
+            raise TypeError("update takes an iterable of keys: add takes one key, add_each a column, and |= a filter")
         for key in keys:
             self.add(key)
 

@@ -81,13 +81,13 @@ cdef uint64_t word_of(object number, str name) except? -1:
 
 
 ROW = "in the machine's byte order, as array.array has"
-PAIR = "a pair of bytes and offsets, as column(texts) makes it, an Arrow array"
+PAIR = "a pair of bytes and offsets, as column(texts) makes it,"
 NUMBER_KINDS = {
     "offsets": (4, b"iIlLqQ", f"offsets must be one row of whole numbers of 32 or 64 bits {ROW}", ""),
     "hashes": (8, b"lLqQ", f"hashes must be one row of whole numbers of 64 bits {ROW}", ""),
-    "wide keys": (8, b"lLqQ", f"a column must be {PAIR} or one row of whole numbers of 64 bits {ROW}",
+    "wide keys": (8, b"lLqQ", f"a column must be {PAIR} an Arrow array or one row of whole numbers of 64 bits {ROW}",
                   ': numbers.astype("uint64") makes it'),
-    "keys": (4, b"iIlLqQfd", f"a column must be {PAIR} or one row of numbers of 32 or 64 bits {ROW}",
+    "keys": (4, b"iIlLqQfd", f"a column must be {PAIR} an Arrow array or one row of numbers of 32 or 64 bits {ROW}",
              ': numbers.astype("int32") makes it, as Parquet stores smaller ones'),
 }
 
@@ -146,7 +146,7 @@ cdef class Column:
             self.count = self.items
         else:
             raise TypeError(NUMBER_KINDS["hashes"][2] if what == "hashes" else
-                            f"a column of bytes must be {PAIR}{cure_of(keys, what)}")
+                            f"a column here must be {PAIR} or an Arrow array{cure_of(keys, what)}")
 
     def __dealloc__(self):
         PyBuffer_Release(&self.data)

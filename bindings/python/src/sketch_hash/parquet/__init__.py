@@ -1,6 +1,6 @@
 """Bloom filters of Parquet files: added to a finished file, read, and asked for a value.
 
-add_filters needs pyarrow, which reads the values. All else needs Apache Thrift's library alone.
+add_filters and check_filters need pyarrow, which reads the values. All else needs Apache Thrift's library alone.
 """
 import array
 import contextlib
@@ -87,7 +87,7 @@ def stored_values(source, footer, column):
         import pyarrow
         import pyarrow.parquet
     except ImportError as error:
-        raise ImportError("this call needs pyarrow: pip install 'sketch-hash[parquet]'") from error
+        raise ImportError("this call needs pyarrow: pip install pyarrow") from error
     with damage():
         data = bare_footer(footer, column)
     metadata = pyarrow.parquet.read_metadata(pyarrow.BufferReader(b"PAR1" + data))

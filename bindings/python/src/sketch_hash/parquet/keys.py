@@ -59,7 +59,8 @@ def of_bytes(value, kind):
     elif isinstance(value, str) and kind.type == BYTE_ARRAY:
         value = value.encode()
     if not isinstance(value, bytes):
-        raise TypeError("it must be bytes" + (" or a str" if kind.type == BYTE_ARRAY else ""))
+        raise TypeError("it must be bytes" + (" or a str" if kind.type == BYTE_ARRAY else
+                                              " or a uuid.UUID" if kind.name == "uuid" else ""))
     return [value] if kind.type == BYTE_ARRAY or len(value) == kind.length else []
 
 
