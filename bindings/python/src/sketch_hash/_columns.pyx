@@ -134,9 +134,8 @@ cdef class Column:
             get_bytes(self.texts, &self.data)
             self.kind = OFFSETS32 if self.get_numbers((<tuple>keys)[1], "offsets") == 4 else OFFSETS64
             self.count = self.items - 1 if self.items else 0
-            if self.kind == OFFSETS32 and (<bytes>self.numbers.format).islower():  # i or l, and not I or L
-                # For the library offsets have no sign. So a negative one is past the end.
-                self.data.len = min(self.data.len, INT32_MAX)
+            if self.data.len > INT32_MAX and self.kind == OFFSETS32 and (<bytes>self.numbers.format).islower():
+                self.data.len = INT32_MAX  # no offset with a sign (i or l, and not I or L) reaches further
         elif what != "hashes" and is_arrow(keys):
             self.arrow = Arrow(keys)
             self.kind = ARROW
