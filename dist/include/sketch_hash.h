@@ -14,15 +14,15 @@
  *
  * What a caller must ensure, which no compiler checks:
  *   - A pointer with a length or a count points to that much memory, which is aligned for its type
- *     and may be NULL only if the count is 0. A length is below 2^63, a count below 2^60, and of
+ *     and may be NULL only if that is 0. A length is below 2^63, a count below 2^60, and of
  *     pairs, as `out` of sketch_murmur3_x64_128_each32 has them, below 2^59.
  *   - Any other pointer, wrong_offset too, is valid and not NULL.
  *   - What a call writes does not overlap anything else that it is given, and nobody else reads or
  *     writes it during the call. Nobody else writes what a call reads.
  *   - A state starts with its _INIT or its _reset.
  *
- * A state or a filter is plain data: copy it, save it, forget it. There is nothing to free. Threads
- * may share what they only read.
+ * A state or a filter is plain data: copy it, save it, forget it. There is nothing to free. Every
+ * 2.x reads a saved state. Threads may share what they only read.
  */
 #ifndef SKETCH_HASH_H
 #define SKETCH_HASH_H

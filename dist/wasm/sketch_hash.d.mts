@@ -1,5 +1,12 @@
 /** XXH64, MurmurHash3 x64 128 and the Bloom filter of Apache Parquet, from functions that are proved. */
 
+declare global {
+    /** Older compilers do not declare this. */
+    interface SymbolConstructor {
+        readonly dispose: unique symbol;
+    }
+}
+
 /** What is hashed: its bytes, as they are in memory. */
 export type Input = ArrayBuffer | ArrayBufferView;
 
@@ -35,8 +42,10 @@ export interface Stream {
     copy(): this;
     /** Drops all bytes, and keeps the seed if none is given. */
     reset(seed?: Whole): this;
-    /** Drops the state. Other calls throw a TypeError until a reset. `using` calls this, in engines that have it. */
+    /** Drops the state. Other calls throw a TypeError until a reset. */
     free(): void;
+    /** Calls free at the end of a block with `using`, in engines that have it. */
+    [Symbol.dispose](): void;
 }
 
 /** A stream of MurmurHash3 x64 128. */
@@ -85,8 +94,10 @@ export interface BloomFilter {
      * @throws {RangeError} if its length is not a multiple of 64. The filter is then unchanged
      */
     fold(): this;
-    /** Frees the memory. Later calls throw a TypeError. `using` calls this, in engines that have it. */
+    /** Frees the memory. Later calls but free throw a TypeError. */
     free(): void;
+    /** Calls free at the end of a block with `using`, in engines that have it. */
+    [Symbol.dispose](): void;
     /** A copy of the bytes, without a header. */
     toBytes(): Uint8Array;
     /** The filter as it is in a Parquet file: a header, and then the bytes. */

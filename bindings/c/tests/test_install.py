@@ -213,12 +213,16 @@ def test_cmake_builds_with_both_libraries(by_a_link, prefix, need, tmp_path):
     ("macos-x86_64", "Darwin", "arm64", "(Darwin, x86-64)"),
     ("windows-x86_64", "Windows", "AMD64", ""),
     ("windows-x86_64", "Linux", "x86_64", "(Windows, x86-64)"),
+    (None, "", "", "(not installed: make install)"),
 ])
 def test_cmake_knows_what_the_library_runs_on(target, system, processor, message, need, tmp_path):
     """Also in a project that has no language yet."""
     need("cmake")
-    prefix = tmp_path / "prefix"
-    assert make("install", f"PREFIX={prefix}", f"TARGET={target}").returncode == 0
+    prefix = tmp_path / "prefix" if target else DIST
+    if target:
+        assert make("install", f"PREFIX={prefix}", f"TARGET={target}").returncode == 0
+        has_v3_folder = "libdir_x86_64_v3" in (prefix / "lib/pkgconfig/sketch_hash.pc").read_text()
+        assert has_v3_folder == (target == "linux-x86_64")
     lines = "cmake_minimum_required(VERSION 3.7)\nproject(none NONE)\nfind_package(sketch_hash REQUIRED)\n"
     (tmp_path / "CMakeLists.txt").write_text(lines)
     cross = [f"-DCMAKE_SYSTEM_NAME={system}", f"-DCMAKE_SYSTEM_PROCESSOR={processor}"] if system else []

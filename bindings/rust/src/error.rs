@@ -58,7 +58,8 @@ impl fmt::Display for Error {
             ),
             Error::Count => f.write_str("there are fewer values than places for results"),
             Error::TooManyKeys => {
-                f.write_str("no Bloom filter of at most 128 MiB keeps this rate for so many keys, or `one_in` is 0")
+                f.write_str("no Bloom filter of at most 128 MiB keeps this rate for so many keys, or `one_in` is 0: allow \
+                             more, or split the keys over several filters")
             }
             Error::Header => f.write_str("the input does not begin with the whole header of a Bloom filter"),
             Error::Truncated => f.write_str("the input ends before the Bloom filter does"),

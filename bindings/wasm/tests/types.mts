@@ -31,6 +31,7 @@ const lengths: number[] = [filter.length, library.BloomFilter.bytesFor(1, 2)];
 let read: BloomFilter = library.BloomFilter.fromParquet(filter.toParquet());
 read = library.BloomFilter.fromBytes(filter.fold().toBytes());
 const freed: void[] = [read.free(), stream.free()];
+const disposed: { [Symbol.dispose](): void }[] = [read, stream];
 
 // @ts-expect-error: a string must be encoded
 library.xxh64('fox');
