@@ -3,6 +3,7 @@ import copy
 import decimal
 import mmap
 import pickle
+import sys
 import threading
 import time
 
@@ -15,7 +16,7 @@ ONE_CALL = [getattr(sketch_hash, f"{kind.__name__}_{form}") for kind in KINDS fo
 PICKLES = [lambda it, n=n: pickle.loads(pickle.dumps(it, n)) for n in range(6)]
 WAYS = [copy.copy, copy.deepcopy, lambda it: it.copy(), *PICKLES]
 
-MAP_NORESERVE = 0x4000  # of Linux
+MAP_NORESERVE = 0x4000 if sys.platform == "linux" else 0
 # They take no memory, since they are never written. A call on them takes a tenth of a second or more.
 ZEROS = mmap.mmap(-1, 1 << 31, flags=mmap.MAP_PRIVATE | mmap.MAP_ANONYMOUS | MAP_NORESERVE, prot=mmap.PROT_READ)
 

@@ -152,6 +152,7 @@ def test_a_negative_offset_is_an_error_beyond_2_gib(call):
         with pytest.raises(ValueError, match=f"^the offset at {index} is missing, past the end or below"):
             call((LONG_ZEROS, array.array("i", offsets)))
     call((LONG_ZEROS, array.array("I", [2**31, 2**31 + 3])))
+    call((LONG_ZEROS, array.array("i", [2**31 - 4, 2**31 - 1])))
 
 
 def test_a_column_of_texts_is_their_bytes_and_offsets():

@@ -152,7 +152,7 @@ def test_a_length_may_be_missing():
     assert parquet.may_contain(file, "int32", 8000) == [1] and parquet.filters(file) == parquet.filters(FILTERS)
 
 
-def test_a_damaged_footer_raises_no_other_error():
+def test_a_damaged_footer_raises_value_and_type_errors_alone():
     rng, data = random.Random(5), bytearray(FILTERS.read_bytes())
     with open(FILTERS, "rb") as opened:
         start = Footer(opened).start

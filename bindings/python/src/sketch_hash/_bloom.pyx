@@ -54,12 +54,12 @@ cdef inline uint64_t hash_of(object key) except? -1:
     return hash
 
 
-cdef type bytes_like = bytearray  # the type of the last key that was a row: to look again takes a fifth of a call
+cdef type bytes_like = bytearray  # the type of the last key that was bytes: to look again takes a fifth of a call
 
 
-cdef bint is_row(object key) except -1:
-    """Whether it is not a scalar of numpy: a number or date, whose bytes in a Parquet file may be others. The buffer of
-    a date has one dimension, but not the date. Nor a filter, whose bits would be one key."""
+cdef bint is_key(object key) except -1:
+    """Whether it is neither a scalar of numpy (a number or date, whose bytes in a Parquet file may be others; the buffer of
+    a date has one dimension, but not the date) nor a filter, whose bits would be one key."""
     global bytes_like
     if getattr(key, "ndim", 1) == 0 or isinstance(key, BloomFilter):
         return False
@@ -72,7 +72,7 @@ cdef int get_key(object key, View *memory) except -1:
     is_bytes = False
     try:
         PyObject_GetBuffer(key, memory, PyBUF_C_CONTIGUOUS)
-        is_bytes = memory.itemsize == 1 and memory.ndim != 0 and (type(key) is bytes_like or is_row(key))
+        is_bytes = memory.itemsize == 1 and memory.ndim != 0 and (type(key) is bytes_like or is_key(key))
     except TypeError:
         pass
     finally:
@@ -91,10 +91,10 @@ cdef int insert_column(void *bits, size_t length, Column keys, size_t *wrong) no
         return keys.arrow.insert(bits, length)
     if keys.kind == OFFSETS32:
         return sketch_bloom_insert_each32(
-            bits, length, keys.data.buf, keys.data.len, <uint32_t *>numbers, keys.items, wrong)
+            bits, length, keys.data.buf, keys.reach, <uint32_t *>numbers, keys.items, wrong)
     if keys.kind == OFFSETS64:
         return sketch_bloom_insert_each64(
-            bits, length, keys.data.buf, keys.data.len, <uint64_t *>numbers, keys.items, wrong)
+            bits, length, keys.data.buf, keys.reach, <uint64_t *>numbers, keys.items, wrong)
     if keys.kind == NUMBERS32:
         return sketch_bloom_insert_each_u32(bits, length, <uint32_t *>numbers, keys.count)
     if keys.kind == NUMBERS64:
@@ -111,10 +111,10 @@ cdef int contains_column(
         return keys.arrow.contains(bits, length, found)
     if keys.kind == OFFSETS32:
         return sketch_bloom_contains_each32(
-            bits, length, keys.data.buf, keys.data.len, <uint32_t *>numbers, items, found, count, wrong)
+            bits, length, keys.data.buf, keys.reach, <uint32_t *>numbers, items, found, count, wrong)
     if keys.kind == OFFSETS64:
         return sketch_bloom_contains_each64(
-            bits, length, keys.data.buf, keys.data.len, <uint64_t *>numbers, items, found, count, wrong)
+            bits, length, keys.data.buf, keys.reach, <uint64_t *>numbers, items, found, count, wrong)
     if keys.kind == NUMBERS32:
         return sketch_bloom_contains_each_u32(bits, length, <uint32_t *>numbers, items, found, count)
     if keys.kind == NUMBERS64:

@@ -86,6 +86,7 @@ cdef class Column:
     cdef View data, numbers  # the bytes of texts; their offsets, or else the numbers
     cdef Arrow arrow
     cdef Kind kind
+    cdef size_t reach  # how many bytes an offset can reach
     cdef size_t items, count  # how many numbers or offsets there are, and how many keys
 
     cdef size_t get_numbers(self, object numbers, str what) except 0

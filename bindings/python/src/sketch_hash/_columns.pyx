@@ -134,8 +134,9 @@ cdef class Column:
             get_bytes(self.texts, &self.data)
             self.kind = OFFSETS32 if self.get_numbers((<tuple>keys)[1], "offsets") == 4 else OFFSETS64
             self.count = self.items - 1 if self.items else 0
-            if self.data.len > INT32_MAX and self.kind == OFFSETS32 and (<bytes>self.numbers.format).islower():
-                self.data.len = INT32_MAX  # no offset with a sign (i or l, and not I or L) reaches further
+            self.reach = self.data.len
+            if self.reach > INT32_MAX and self.kind == OFFSETS32 and (<bytes>self.numbers.format).islower():
+                self.reach = INT32_MAX  # for the library a negative one (of i or l, not of I or L) is past this end
         elif what != "hashes" and is_arrow(keys):
             self.arrow = Arrow(keys)
             self.kind = ARROW
@@ -206,7 +207,7 @@ cdef int hash_column(Column keys, int words, uint64_t seed, void *out, size_t *w
         return 0
     if keys.kind == NUMBERS64:
         return sketch_xxh64_each_u64(<uint64_t *>keys.numbers.buf, keys.items, seed, out, keys.count)
-    return hash_texts(words, 4 if keys.kind == OFFSETS32 else 8, keys.data.buf, keys.data.len, keys.numbers.buf,
+    return hash_texts(words, 4 if keys.kind == OFFSETS32 else 8, keys.data.buf, keys.reach, keys.numbers.buf,
                       keys.items, seed, out, keys.count, wrong)
 
 
