@@ -48,7 +48,8 @@ fn of_target() -> PathBuf {
             let target = env::var("TARGET").unwrap_or_default();
             let lib = package.join("lib");
             panic!(
-                "sketch-hash has no library for {target} ({endian} endian, {bits} bits) in {}: set SKETCH_HASH_LIB_DIR",
+                "sketch-hash has no library for {target} ({endian} endian, {bits} bits) in {}; \
+                 if you have one elsewhere, set SKETCH_HASH_LIB_DIR",
                 lib.display()
             )
         })

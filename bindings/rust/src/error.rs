@@ -52,16 +52,17 @@ impl fmt::Display for Error {
                 "a Bloom filter must have a positive multiple of 32 bytes, below 2^37, \
                  both filters of a merge one length, and a filter to fold an even number of blocks",
             ),
-            Error::Offset { index } => write!(
-                f,
-                "the offset at {index} is missing, past the end or below the one before"
-            ),
-            Error::Count => f.write_str("there are fewer values than places for results"),
-            Error::TooManyKeys => {
-                f.write_str("no Bloom filter of at most 128 MiB keeps this rate for so many keys, or `one_in` is 0: allow \
-                             more, or split the keys over several filters")
+            Error::Offset { index } => {
+                write!(f, "the offset at {index} is missing, past the end or below the one before")
             }
-            Error::Header => f.write_str("the input does not begin with the whole header of a Bloom filter"),
+            Error::Count => f.write_str("there are fewer values than places for results"),
+            Error::TooManyKeys => f.write_str(
+                "no Bloom filter of at most 128 MiB keeps this rate for so many keys, or `one_in` \
+                 is 0: allow more, or split the keys over several filters",
+            ),
+            Error::Header => {
+                f.write_str("the input does not begin with the whole header of a Bloom filter")
+            }
             Error::Truncated => f.write_str("the input ends before the Bloom filter does"),
             Error::Unknown(status) => write!(f, "the library returned the unknown status {status}"),
         }
