@@ -1,7 +1,7 @@
 /** XXH64, MurmurHash3 x64 128 and the Bloom filter of Apache Parquet, from functions that are proved. */
 
 declare global {
-    /** Older compilers do not declare this. */
+    /** Of lib esnext.disposable. An engine without Symbol.dispose has no such method here, and no `using`. */
     interface SymbolConstructor {
         readonly dispose: unique symbol;
     }

@@ -177,6 +177,13 @@ def test_pkg_config(prefix, need, tmp_path, monkeypatch):
     assert static.split() == [b"-lsketch_hash"]
 
 
+@pytest.mark.parametrize("target", ["linux-x86_64", "linux-x86_64-v3", "linux-aarch64", "macos-aarch64"])
+def test_pkg_config_names_a_folder_for_later_processors_if_there_is_one(target, tmp_path):
+    assert make("install", f"PREFIX={tmp_path}", f"TARGET={target}").returncode == 0
+    named = "libdir_x86_64_v3" in (tmp_path / "lib/pkgconfig/sketch_hash.pc").read_text()
+    assert named == (tmp_path / "lib/glibc-hwcaps/x86-64-v3").is_dir() == (target == "linux-x86_64")
+
+
 def cmake(project, prefix, *args):
     """Configures and builds a project that finds only what was installed in the prefix."""
     finds = [f"-DCMAKE_PREFIX_PATH={prefix}", "-DCMAKE_FIND_USE_CMAKE_SYSTEM_PATH=OFF"]
@@ -213,7 +220,7 @@ def test_cmake_builds_with_both_libraries(by_a_link, prefix, need, tmp_path):
     ("macos-x86_64", "Darwin", "arm64", "(Darwin, x86-64)"),
     ("windows-x86_64", "Windows", "AMD64", ""),
     ("windows-x86_64", "Linux", "x86_64", "(Windows, x86-64)"),
-    (None, "", "", "(not installed: make install)"),
+    (None, "", "", "(no library here: make install)"),
 ])
 def test_cmake_knows_what_the_library_runs_on(target, system, processor, message, need, tmp_path):
     """Also in a project that has no language yet."""
@@ -221,8 +228,6 @@ def test_cmake_knows_what_the_library_runs_on(target, system, processor, message
     prefix = tmp_path / "prefix" if target else DIST
     if target:
         assert make("install", f"PREFIX={prefix}", f"TARGET={target}").returncode == 0
-        has_v3_folder = "libdir_x86_64_v3" in (prefix / "lib/pkgconfig/sketch_hash.pc").read_text()
-        assert has_v3_folder == (target == "linux-x86_64")
     lines = "cmake_minimum_required(VERSION 3.7)\nproject(none NONE)\nfind_package(sketch_hash REQUIRED)\n"
     (tmp_path / "CMakeLists.txt").write_text(lines)
     cross = [f"-DCMAKE_SYSTEM_NAME={system}", f"-DCMAKE_SYSTEM_PROCESSOR={processor}"] if system else []

@@ -127,7 +127,7 @@ test('a filter for keys has at most 128 MiB', () => {
 
 for (const length of [0, 31, 33, 2 ** 37]) {
     test(`the length ${length} is an error`, () => {
-        assert.throws(() => new BloomFilter(length), /^RangeError: .* positive multiple of 32/);
+        assert.throws(() => new BloomFilter(length), /^RangeError: .* positive multiple of 32 bytes, below 2\^37$/);
         if (length < 2 ** 37) assert.throws(() => BloomFilter.fromBytes(new Uint8Array(length)), RangeError);
     });
 }
@@ -195,7 +195,8 @@ test('a folded filter is that of half the length', () => {
 
 test('filters of different lengths are not merged', () => {
     const filter = filled();
-    assert.throws(() => filter.merge(new BloomFilter(2048)), RangeError);
+    const error = { name: 'RangeError', message: /^filters of \d+ and 2048 bytes cannot be merged$/ };
+    assert.throws(() => filter.merge(new BloomFilter(2048)), error);
     for (const other of [{}, undefined]) assert.throws(() => filter.merge(other), /only a Bloom filter/);
     assert.deepEqual(filter.toBytes(), filled().toBytes());
 });

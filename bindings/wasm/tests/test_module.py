@@ -39,6 +39,15 @@ def project(need, tmp_path):
     return tmp_path
 
 
+def test_the_package_has_its_notice_and_types_for_older_compilers(need, project):
+    need("tsc")
+    assert (project / "node_modules/sketch-hash/NOTICE").exists()
+    (project / "old.mts").write_text("import { load } from 'sketch-hash'; const { version } = await load(); version.length;\n")
+    args = "--noEmit --strict --target es2022 --lib es2022,dom --module es2022 --moduleResolution node old.mts"
+    done = subprocess.run(["tsc", *args.split()], cwd=project, capture_output=True, text=True)
+    assert done.returncode == 0, done.stdout
+
+
 def test_program_of_the_page_prints_what_its_comments_say(project):
     (program,) = re.findall(r"^```js\n(.*?)^```", (DIST / "wasm/README.md").read_text(), re.M | re.S)
     (project / "page.mjs").write_text(program)
