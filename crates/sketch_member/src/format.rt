@@ -1,4 +1,4 @@
-//! The format of serialized tables, written and read by place: docs/formats.md shows it.
+//! The format of serialized tables, written and read by place: `specs/Form.antt` shows it.
 
 ghost use Rattle.std.specs.Prelude.{◌≡◌, ◌+◌, ◌-◌, ◌<◌, ◌≤◌, ◌↔◌, [], ◌∷◌, Contains, length, take, drop, slice_index, IfSome, IsTrue, MatchResult};
 ghost use Rattle.datasketches.specs.Bytes.{eight, le};
