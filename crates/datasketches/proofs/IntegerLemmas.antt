@@ -1,6 +1,6 @@
 -- Integers that are written as eight bytes. Two short ones collide exactly if they are equal: different
--- ones are different words modulo 2 ^ 64, and different words have different lists of eight bytes. The
--- two ways to extend an integer feed the same bytes for some integers.
+-- ones are different words modulo 2 ^ 64, and the eight bytes of different words have different hashes.
+-- The two ways to extend an integer feed the same bytes for some integers.
 use Rattle.std.proofs.Common.{◌≡◌, ◌↔◌, ℕ, ◌+◌, ◌-◌, ◌%◌, ◌^◌, ◌<◌, ◌≤◌, inl, inr, List, [], refl, sym, ap, ◌∙◌, arith, lt-ltb, le-ltb, mod-eq_of_lt, pow-suc}
 use Rattle.std.specs.Prelude.{ℤ, pos, negsuc, ◌-ℤ◌}
 use Rattle.std.proofs.lemmas.Int.{ints}

@@ -51,7 +51,7 @@ blocks-aligned ps ms i before after e =
     ap (map block_words) (ps.pieces_behind 16 before after (omega arith) whole)
     ∙ map-append block_words (pieces 16 before) (pieces 16 after)
 
--- the hash of bytes after full blocks
+-- the hash of full blocks and the bytes after them
 murmur-aligned : PieceLaws → MurmurStepLaws →
     (seed i : ℕ) (before after : List ℕ) → length before ≡ 16 * i →
     murmur seed (before ++ after) ≡ onward after (length before + length after) (pair_after seed before)
@@ -79,7 +79,7 @@ pair_after-more ps ms seed i before block e f =
 
 -- ---- a full block, and a partial one
 
--- after full blocks
+-- The hash is a bijection of one full block, between full blocks and any bytes.
 pub murmur_block_law : PieceLaws → MurmurStepLaws → (seed : ℕ) (before after : List ℕ) →
     IsWord seed → AreBytes before → AreBytes after → length before % 16 ≡ 0 →
     OneToOne IsBlock AreWords (λ block. murmur seed (before ++ block ++ after))

@@ -72,7 +72,7 @@ fmix-once =
     shifted ▸ times-once 0xff51afd7ed558ccd 0x4f74430c22a54005 refl
     ▸ shifted ▸ times-once 0xc4ceb9fe1a85ec53 0x9cb4b2f8129337db refl ▸ shifted
 
--- the second half of a step, after a word of the block was mixed in
+-- the rest of `step1` or `step2`, after a word of the block was mixed in
 rest_of_step-once : (a b other c : ℕ) → a + b ≡ 64 → IsWord other → IsWord c →
     OneToOne IsWord IsWord (λ h. plus (times (plus (rotate h a) other) 5) c)
 rest_of_step-once a b other c e p q =

@@ -294,6 +294,13 @@ block_words-filled count n bytes b h low high =
     block_words-le (low_bytes count n ++ front) (joined-are count n front front_are) size
     ∙ ap (λ v. (v % 2 ^ 64, v / 2 ^ 64)) (sym (le-block count n bytes b h (omega arith) high))
 
+-- the first of a number's lowest bytes
+pub take-low_bytes : (count k n : ℕ) → take count (low_bytes (count + k) n) ≡ low_bytes count n
+take-low_bytes zero k n = refl
+take-low_bytes (suc count) k n =
+    ap (λ m. take (suc count) (low_bytes m n)) (suc-add count k)
+    ∙ ap (λ t. n % 256 ∷ t) (take-low_bytes count k (n / 256))
+
 -- ---- two words of waiting bytes, and their number
 
 pub words-number : (n : ℕ) → n % 2 ^ 64 + n / 2 ^ 64 * 2 ^ 64 ≡ n
@@ -335,10 +342,3 @@ words-lt count n p = elim (cases_lt count 8) [
       let all : n < 256 ^ (count - 8) * 2 ^ 64 = subst (λ k. n < k) (beyond_eight count m) p in
       (rw many (omega arith), omega arith)
 ]
-
--- the first of a number's lowest bytes
-pub take-low_bytes : (count k n : ℕ) → take count (low_bytes (count + k) n) ≡ low_bytes count n
-take-low_bytes zero k n = refl
-take-low_bytes (suc count) k n =
-    ap (λ m. take (suc count) (low_bytes m n)) (suc-add count k)
-    ∙ ap (λ t. n % 256 ∷ t) (take-low_bytes count k (n / 256))

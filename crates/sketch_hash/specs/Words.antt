@@ -1,5 +1,5 @@
 -- Words and their arithmetic, in whole numbers: no machine operation is used to say what a hash is.
--- A bijection reaches each value exactly once.
+-- At the end `OneToOne`, a bijection: it reaches each value exactly once.
 use Rattle.std.specs.Prelude.{ℕ, zero, suc, ◌+◌, ◌-◌, ◌*◌, ◌/◌, ◌%◌, ◌^◌, ◌<◌, ◌==◌, if◌then◌else◌, ◌≡◌}
 
 -- a word is a whole number below 2 ^ 64
