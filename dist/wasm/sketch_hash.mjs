@@ -213,7 +213,7 @@ function libraryOf(calls) {
         Murmur128,
     };
 
-    // ---- Columns and Bloom filters
+    // ---- Columns and Bloom filters, which tools/make_dist leaves out of the page
 
     const HASHES = ['BigUint64Array'];
     const WIDE = [...HASHES, 'BigInt64Array'];
