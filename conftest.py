@@ -27,6 +27,9 @@ if IS_CI:
 PYTHON_TESTS = ROOT / "bindings/python/tests"
 BUILD_PYTHON = "gcc", "Python.h", "python:Cython", "python:pip", "python:setuptools", "python:wheel"
 BUILD_LOG = ROOT / "out/python.log"  # which .ci/test leaves if the Python package cannot be built
+# The folder of Debian's crates, and the settings by which cargo takes them in place of those of crates.io.
+DEBIAN_CRATES = pathlib.Path("/usr/share/cargo/registry")
+CARGO_CONFIG = f'[source]\ncrates-io = {{ replace-with = "debian" }}\ndebian = {{ directory = "{DEBIAN_CRATES}" }}\n'
 PLATFORM = sysconfig.get_platform()
 if PLATFORM != "linux-x86_64":  # these run its library or its program
     collect_ignore = [*(f"tests/test_{it}.py" for it in ("crates", "faults")), "bindings/c",
@@ -41,13 +44,10 @@ def version_of(program):
     return tuple(int(part) for part in re.search(r"\d+(?:\.\d+)*", output)[0].split("."))
 
 
-def has_v3():
-    """Whether this processor runs the library for x86-64-v3."""
-    return {"avx2", "bmi1", "bmi2", "fma", "movbe"} <= set(pathlib.Path("/proc/cpuinfo").read_text().split())
-
-
 @functools.cache
 def is_there(tool):
+    if isinstance(tool, pathlib.Path):
+        return tool.exists()
     name, _, oldest = tool.partition(" ")
     if name == "linux-x86_64":
         return name == PLATFORM
@@ -71,8 +71,8 @@ except (AttributeError, OSError):  # Python 3.9, or not Linux
 
 @pytest.fixture(scope="session")
 def need():
-    """need("gcc", "node 20", "xxhash.h", "python:numpy", "linux-x86_64"): a program, one of a version or newer, a header, a
-    module, the platform.
+    """need("gcc", "node 20", "xxhash.h", "python:numpy", "linux-x86_64", folder): a program, one of a version or newer, a
+    header, a module, the platform, a folder.
 
     Without it the test is skipped, with the reason; if CI is set it fails, unless this system has no such package.
     """

@@ -1,4 +1,4 @@
-/* sketch_hash 2.1.0: XXH64, MurmurHash3_x64_128 and the Bloom filter of Apache Parquet, from
+/* sketch_hash 3.0.0: XXH64, MurmurHash3_x64_128 and the Bloom filter of Apache Parquet, from
  * functions that are proved. Licence: Apache-2.0.
  *
  * Proved: for every seed, a digest is the hash of all bytes since the reset, however they were
@@ -46,15 +46,25 @@ template <typename Number> constexpr uint64_t u64(Number number) {
 #define SKETCH_HASH_U64(number) sketch_hash::u64(number)
 #endif
 
+/* What each call is declared with. SKETCH_HASH_INLINE makes it static, for a program that includes
+ * sketch_hash.c, so that its compiler can inline calls. */
+#ifndef SKETCH_HASH_API
+#ifdef SKETCH_HASH_INLINE
+#define SKETCH_HASH_API static inline
+#else
+#define SKETCH_HASH_API
+#endif
+#endif
+
 #ifdef __cplusplus
 extern "C" {
 #endif
 
 /** The version of this header: major * 10000 + minor * 100 + patch. */
-#define SKETCH_HASH_VERSION 20100
+#define SKETCH_HASH_VERSION 30000
 
 /** Returns the version of the library. */
-uint32_t sketch_hash_version(void);
+SKETCH_HASH_API uint32_t sketch_hash_version(void);
 
 /** What an `int` call returns. */
 enum sketch_status {
@@ -93,19 +103,20 @@ typedef struct sketch_xxh64_state {
 /* clang-format on */
 
 /** Returns XXH64 of `length` bytes. It prints as "%016" PRIx64. */
-uint64_t sketch_xxh64(const void *input, size_t length, uint64_t seed);
+SKETCH_HASH_API uint64_t sketch_xxh64(const void *input, size_t length, uint64_t seed);
 
 /** Returns XXH64 of the eight bytes of a number, the lowest first. */
-uint64_t sketch_xxh64_u64(uint64_t value, uint64_t seed);
+SKETCH_HASH_API uint64_t sketch_xxh64_u64(uint64_t value, uint64_t seed);
 
 /** Starts a state with a seed, and no bytes. */
-void sketch_xxh64_reset(sketch_xxh64_state_t *state, uint64_t seed);
+SKETCH_HASH_API void sketch_xxh64_reset(sketch_xxh64_state_t *state, uint64_t seed);
 
 /** Appends bytes to the input. Splitting it into several calls gives the same hash. */
-void sketch_xxh64_update(sketch_xxh64_state_t *state, const void *input, size_t length);
+SKETCH_HASH_API void sketch_xxh64_update(sketch_xxh64_state_t *state, const void *input,
+                                         size_t length);
 
 /** Returns XXH64 of all bytes since the reset. The state is unchanged, so more may follow. */
-uint64_t sketch_xxh64_digest(const sketch_xxh64_state_t *state);
+SKETCH_HASH_API uint64_t sketch_xxh64_digest(const sketch_xxh64_state_t *state);
 
 /* ---- MurmurHash3_x64_128, after Austin Appleby, with a seed of 64 bits */
 
@@ -125,21 +136,24 @@ typedef struct sketch_murmur3_x64_128_state {
 /** Writes the two words of MurmurHash3_x64_128 of `length` bytes, as the original's `out`. A seed
  * below 2^32 gives the original's hash. hash[0] and then hash[1], each as "%016" PRIx64, are the 32
  * digits that sketchsum prints; for those of most other tools see sketch_murmur3_x64_128_bytes. */
-void sketch_murmur3_x64_128(const void *input, size_t length, uint64_t seed, uint64_t hash[2]);
+SKETCH_HASH_API void sketch_murmur3_x64_128(const void *input, size_t length, uint64_t seed,
+                                            uint64_t hash[2]);
 
 /** Starts a state with a seed, and no bytes. */
-void sketch_murmur3_x64_128_reset(sketch_murmur3_x64_128_state_t *state, uint64_t seed);
+SKETCH_HASH_API void sketch_murmur3_x64_128_reset(sketch_murmur3_x64_128_state_t *state,
+                                                  uint64_t seed);
 
 /** Appends bytes to the input. Splitting it into several calls gives the same hash. */
-void sketch_murmur3_x64_128_update(sketch_murmur3_x64_128_state_t *state, const void *input,
-                                   size_t length);
+SKETCH_HASH_API void sketch_murmur3_x64_128_update(sketch_murmur3_x64_128_state_t *state,
+                                                   const void *input, size_t length);
 
 /** Writes the two words of the hash of all bytes since the reset. The state is unchanged, so more
  * may follow. */
-void sketch_murmur3_x64_128_digest(const sketch_murmur3_x64_128_state_t *state, uint64_t hash[2]);
+SKETCH_HASH_API void sketch_murmur3_x64_128_digest(const sketch_murmur3_x64_128_state_t *state,
+                                                   uint64_t hash[2]);
 
 /** Writes a hash in the byte order that most tools print: the lowest byte of each word first. */
-void sketch_murmur3_x64_128_bytes(const uint64_t hash[2], unsigned char out[16]);
+SKETCH_HASH_API void sketch_murmur3_x64_128_bytes(const uint64_t hash[2], unsigned char out[16]);
 
 /* ---- Columns of keys, as Apache Arrow lays out strings
  *
@@ -153,32 +167,34 @@ void sketch_murmur3_x64_128_bytes(const uint64_t hash[2], unsigned char out[16])
 
 /** Writes XXH64 of key i to out[i], for each i below `count`. The offsets have 32 bits.
  * Returns 0 or SKETCH_ERROR_OFFSET. */
-int sketch_xxh64_each32(const void *input, size_t length, const uint32_t *offsets,
-                        size_t offset_count, uint64_t seed, uint64_t *out, size_t count,
-                        size_t *wrong_offset);
+SKETCH_HASH_API int sketch_xxh64_each32(const void *input, size_t length, const uint32_t *offsets,
+                                        size_t offset_count, uint64_t seed, uint64_t *out,
+                                        size_t count, size_t *wrong_offset);
 
 /** Writes XXH64 of key i to out[i], for each i below `count`. The offsets have 64 bits.
  * Returns 0 or SKETCH_ERROR_OFFSET. */
-int sketch_xxh64_each64(const void *input, size_t length, const uint64_t *offsets,
-                        size_t offset_count, uint64_t seed, uint64_t *out, size_t count,
-                        size_t *wrong_offset);
+SKETCH_HASH_API int sketch_xxh64_each64(const void *input, size_t length, const uint64_t *offsets,
+                                        size_t offset_count, uint64_t seed, uint64_t *out,
+                                        size_t count, size_t *wrong_offset);
 
 /** Writes sketch_xxh64_u64 of values[i] to out[i], for each i below `count`.
  * Returns 0, or SKETCH_ERROR_COUNT if `value_count` is below `count`. */
-int sketch_xxh64_each_u64(const uint64_t *values, size_t value_count, uint64_t seed, uint64_t *out,
-                          size_t count);
+SKETCH_HASH_API int sketch_xxh64_each_u64(const uint64_t *values, size_t value_count, uint64_t seed,
+                                          uint64_t *out, size_t count);
 
 /** Writes MurmurHash3_x64_128 of key i to out[i], for each i below `count`. The offsets have 32
  * bits. Returns 0 or SKETCH_ERROR_OFFSET. */
-int sketch_murmur3_x64_128_each32(const void *input, size_t length, const uint32_t *offsets,
-                                  size_t offset_count, uint64_t seed, uint64_t (*out)[2],
-                                  size_t count, size_t *wrong_offset);
+SKETCH_HASH_API int sketch_murmur3_x64_128_each32(const void *input, size_t length,
+                                                  const uint32_t *offsets, size_t offset_count,
+                                                  uint64_t seed, uint64_t (*out)[2], size_t count,
+                                                  size_t *wrong_offset);
 
 /** Writes MurmurHash3_x64_128 of key i to out[i], for each i below `count`. The offsets have 64
  * bits. Returns 0 or SKETCH_ERROR_OFFSET. */
-int sketch_murmur3_x64_128_each64(const void *input, size_t length, const uint64_t *offsets,
-                                  size_t offset_count, uint64_t seed, uint64_t (*out)[2],
-                                  size_t count, size_t *wrong_offset);
+SKETCH_HASH_API int sketch_murmur3_x64_128_each64(const void *input, size_t length,
+                                                  const uint64_t *offsets, size_t offset_count,
+                                                  uint64_t seed, uint64_t (*out)[2], size_t count,
+                                                  size_t *wrong_offset);
 
 /* ---- The split block Bloom filter of Apache Parquet, which Arrow and DuckDB read
  *
@@ -192,83 +208,96 @@ int sketch_murmur3_x64_128_each64(const void *input, size_t length, const uint64
 
 /** Returns how many bytes the smallest filter has whose false positive rate is at most one in
  * `one_in`, once it has `keys` keys: a power of two, 32 bytes to 128 MiB. 0 if there is none. */
-size_t sketch_bloom_bytes_for(uint64_t keys, uint64_t one_in);
+SKETCH_HASH_API size_t sketch_bloom_bytes_for(uint64_t keys, uint64_t one_in);
 
 /** Returns 0 if a filter may have this length, or SKETCH_ERROR_LENGTH. */
-int sketch_bloom_check(size_t length);
+SKETCH_HASH_API int sketch_bloom_check(size_t length);
 
 /** Inserts a key. Returns 0 or SKETCH_ERROR_LENGTH. */
-int sketch_bloom_insert(void *bits, size_t length, const void *key, size_t key_length);
+SKETCH_HASH_API int sketch_bloom_insert(void *bits, size_t length, const void *key,
+                                        size_t key_length);
 
 /** Returns 1 if the filter may contain the key, and 0 if it was certainly not inserted. Returns 1
  * too if no filter has this length: such bytes rule nothing out. */
-int sketch_bloom_contains(const void *bits, size_t length, const void *key, size_t key_length);
+SKETCH_HASH_API int sketch_bloom_contains(const void *bits, size_t length, const void *key,
+                                          size_t key_length);
 
 /** Inserts the key with this XXH64 of the seed 0. Returns 0 or SKETCH_ERROR_LENGTH. */
-int sketch_bloom_insert_hash(void *bits, size_t length, uint64_t hash);
+SKETCH_HASH_API int sketch_bloom_insert_hash(void *bits, size_t length, uint64_t hash);
 
 /** Returns what sketch_bloom_contains does for the key with this XXH64 of the seed 0. */
-int sketch_bloom_contains_hash(const void *bits, size_t length, uint64_t hash);
+SKETCH_HASH_API int sketch_bloom_contains_hash(const void *bits, size_t length, uint64_t hash);
 
 /** Inserts the offset_count - 1 keys of a column with offsets of 32 bits.
  * Returns 0, SKETCH_ERROR_LENGTH or SKETCH_ERROR_OFFSET. */
-int sketch_bloom_insert_each32(void *bits, size_t length, const void *keys, size_t keys_length,
-                               const uint32_t *offsets, size_t offset_count, size_t *wrong_offset);
+SKETCH_HASH_API int sketch_bloom_insert_each32(void *bits, size_t length, const void *keys,
+                                               size_t keys_length, const uint32_t *offsets,
+                                               size_t offset_count, size_t *wrong_offset);
 
 /** Inserts the offset_count - 1 keys of a column with offsets of 64 bits.
  * Returns 0, SKETCH_ERROR_LENGTH or SKETCH_ERROR_OFFSET. */
-int sketch_bloom_insert_each64(void *bits, size_t length, const void *keys, size_t keys_length,
-                               const uint64_t *offsets, size_t offset_count, size_t *wrong_offset);
+SKETCH_HASH_API int sketch_bloom_insert_each64(void *bits, size_t length, const void *keys,
+                                               size_t keys_length, const uint64_t *offsets,
+                                               size_t offset_count, size_t *wrong_offset);
 
 /** Inserts the four bytes of each value: Parquet's INT32 and FLOAT.
  * Returns 0 or SKETCH_ERROR_LENGTH. */
-int sketch_bloom_insert_each_u32(void *bits, size_t length, const uint32_t *values, size_t count);
+SKETCH_HASH_API int sketch_bloom_insert_each_u32(void *bits, size_t length, const uint32_t *values,
+                                                 size_t count);
 
 /** Inserts the eight bytes of each value: Parquet's INT64 and DOUBLE.
  * Returns 0 or SKETCH_ERROR_LENGTH. */
-int sketch_bloom_insert_each_u64(void *bits, size_t length, const uint64_t *values, size_t count);
+SKETCH_HASH_API int sketch_bloom_insert_each_u64(void *bits, size_t length, const uint64_t *values,
+                                                 size_t count);
 
 /** Inserts the keys with these XXH64 of the seed 0. Returns 0 or SKETCH_ERROR_LENGTH. */
-int sketch_bloom_insert_each_hash(void *bits, size_t length, const uint64_t *hashes, size_t count);
+SKETCH_HASH_API int sketch_bloom_insert_each_hash(void *bits, size_t length, const uint64_t *hashes,
+                                                  size_t count);
 
 /** Writes 1 or 0 to found[i], as sketch_bloom_contains returns it for key i of a column with
  * offsets of 32 bits, for each i below `count`. Returns 0, SKETCH_ERROR_LENGTH or
  * SKETCH_ERROR_OFFSET. */
-int sketch_bloom_contains_each32(const void *bits, size_t length, const void *keys,
-                                 size_t keys_length, const uint32_t *offsets, size_t offset_count,
-                                 unsigned char *found, size_t count, size_t *wrong_offset);
+SKETCH_HASH_API int sketch_bloom_contains_each32(const void *bits, size_t length, const void *keys,
+                                                 size_t keys_length, const uint32_t *offsets,
+                                                 size_t offset_count, unsigned char *found,
+                                                 size_t count, size_t *wrong_offset);
 
 /** Writes 1 or 0 to found[i], as sketch_bloom_contains returns it for key i of a column with
  * offsets of 64 bits, for each i below `count`. Returns 0, SKETCH_ERROR_LENGTH or
  * SKETCH_ERROR_OFFSET. */
-int sketch_bloom_contains_each64(const void *bits, size_t length, const void *keys,
-                                 size_t keys_length, const uint64_t *offsets, size_t offset_count,
-                                 unsigned char *found, size_t count, size_t *wrong_offset);
+SKETCH_HASH_API int sketch_bloom_contains_each64(const void *bits, size_t length, const void *keys,
+                                                 size_t keys_length, const uint64_t *offsets,
+                                                 size_t offset_count, unsigned char *found,
+                                                 size_t count, size_t *wrong_offset);
 
 /** Writes 1 or 0 to found[i] for the four bytes of values[i], for each i below `count`. Returns 0,
  * SKETCH_ERROR_LENGTH, or SKETCH_ERROR_COUNT if `value_count` is below `count`. */
-int sketch_bloom_contains_each_u32(const void *bits, size_t length, const uint32_t *values,
-                                   size_t value_count, unsigned char *found, size_t count);
+SKETCH_HASH_API int sketch_bloom_contains_each_u32(const void *bits, size_t length,
+                                                   const uint32_t *values, size_t value_count,
+                                                   unsigned char *found, size_t count);
 
 /** Writes 1 or 0 to found[i] for the eight bytes of values[i], for each i below `count`. Returns 0,
  * SKETCH_ERROR_LENGTH, or SKETCH_ERROR_COUNT if `value_count` is below `count`. */
-int sketch_bloom_contains_each_u64(const void *bits, size_t length, const uint64_t *values,
-                                   size_t value_count, unsigned char *found, size_t count);
+SKETCH_HASH_API int sketch_bloom_contains_each_u64(const void *bits, size_t length,
+                                                   const uint64_t *values, size_t value_count,
+                                                   unsigned char *found, size_t count);
 
 /** Writes 1 or 0 to found[i] for the key with the XXH64 hashes[i], for each i below `count`.
  * Returns 0, SKETCH_ERROR_LENGTH, or SKETCH_ERROR_COUNT if `hash_count` is below `count`. */
-int sketch_bloom_contains_each_hash(const void *bits, size_t length, const uint64_t *hashes,
-                                    size_t hash_count, unsigned char *found, size_t count);
+SKETCH_HASH_API int sketch_bloom_contains_each_hash(const void *bits, size_t length,
+                                                    const uint64_t *hashes, size_t hash_count,
+                                                    unsigned char *found, size_t count);
 
 /** Merges the filter at `from` into the one at `into`, which then contains the keys of both.
  * Returns 0, or SKETCH_ERROR_LENGTH, also if the lengths are different. */
-int sketch_bloom_merge(void *into, size_t length, const void *from, size_t from_length);
+SKETCH_HASH_API int sketch_bloom_merge(void *into, size_t length, const void *from,
+                                       size_t from_length);
 
 /** Folds a filter into its first half, which is then the filter of `length` / 2 bytes of the same
  * keys. So a filter can be created for all keys, and made smaller once it is known how many are
  * different. The second half is unchanged. Returns 0, or SKETCH_ERROR_LENGTH, also if `length` is
  * not a multiple of 64. */
-int sketch_bloom_fold(void *bits, size_t length);
+SKETCH_HASH_API int sketch_bloom_fold(void *bits, size_t length);
 
 /** How many bytes sketch_bloom_header_write writes at most. */
 #define SKETCH_BLOOM_HEADER_MAX 19
@@ -277,12 +306,13 @@ int sketch_bloom_fold(void *bits, size_t length);
  * in a Parquet file, and returns its length: 15 to 19. Returns 0, and writes nothing, if `room` is
  * too small, or `bytes` is 2^31 or more or no filter's length. The file's bloom_filter_length is
  * that of the header and the filter. */
-size_t sketch_bloom_header_write(uint64_t bytes, unsigned char *header, size_t room);
+SKETCH_HASH_API size_t sketch_bloom_header_write(uint64_t bytes, unsigned char *header,
+                                                 size_t room);
 
 /** Reads the header of a split block filter with XXH64, uncompressed. Returns its length, or 0, and
  * writes nothing, if `input` does not begin with one. Writes the length of the filter after it to
  * *bytes. If that is more than is left of `input`, the file is truncated: do not use the filter. */
-size_t sketch_bloom_header_read(const void *input, size_t length, uint64_t *bytes);
+SKETCH_HASH_API size_t sketch_bloom_header_read(const void *input, size_t length, uint64_t *bytes);
 
 /* ---- The layouts that the library was built for. With another one an array below has the size -1,
  * and does not compile. */

@@ -130,7 +130,7 @@ export interface BloomFilterConstructor {
  * not from 0 to 2^64 - 1, or if there is no memory. A seed is 0 if left out.
  */
 export interface Library {
-    /** The module's version, as '2.1.0'. */
+    /** The module's version, as '3.0.0'. */
     readonly version: string;
 
     /** XXH64 of the bytes. */

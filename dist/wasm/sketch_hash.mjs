@@ -1,7 +1,7 @@
-// sketch_hash 2.1.0: XXH64, MurmurHash3 x64 128 and the Bloom filter of Apache Parquet, from functions
+// sketch_hash 3.0.0: XXH64, MurmurHash3 x64 128 and the Bloom filter of Apache Parquet, from functions
 // that are proved, for browsers and Node. Licence: Apache-2.0. sketch_hash.d.mts describes each call.
 
-const VERSION = 20100;
+const VERSION = 30000;
 const VERSION_TEXT = [VERSION / 10000, VERSION / 100 % 100, VERSION % 100].map(Math.floor).join('.');
 const PAGE = 65536;
 const PIECE = 4 * PAGE; // bytes of a long input that are copied into the module's memory at a time

@@ -24,7 +24,7 @@ static void lay_out(unsigned least, unsigned spread) {
     for (int i = 0; i < KEYS; i++) {
         wide[i + 1] = wide[i] + least + random31() % (spread + 1);
         narrow[i + 1] = (uint32_t)wide[i + 1];
-        numbers[i] = random31() << 33 ^ random31();
+        numbers[i] = random64();
     }
     length = wide[KEYS] + 3;
     keys = realloc(keys, length);

@@ -27,3 +27,8 @@ static inline uint64_t random31(void) {
     word = word * 6364136223846793005ULL + 1442695040888963407ULL;
     return word >> 33;
 }
+
+static inline uint64_t random64(void) {
+    const uint64_t high = random31(), middle = random31();
+    return high << 33 ^ middle << 7 ^ random31();
+}

@@ -52,7 +52,8 @@ static void stream(const unsigned char *bytes, size_t length, uint64_t seed) {
     unsigned char out[16];
     sketch_murmur3_x64_128_reset(&m, seed);
     for (size_t at = 0, n; at < length; at += n) {
-        n = 1 + random31() % (1 + (random31() & 1 ? 15 : length));
+        const size_t most = random31() & 1 ? 15 : length;
+        n = 1 + random31() % (1 + most);
         if (n > length - at) n = length - at;
         sketch_xxh64_update(&x, bytes + at, n);
         sketch_murmur3_x64_128_update(&m, bytes + at, n);
@@ -94,8 +95,6 @@ static void any_state(const unsigned char *bytes, size_t length) {
     free(x);
     free(m);
 }
-
-static uint64_t random64(void) { return random31() << 33 ^ random31() << 7 ^ random31(); }
 
 int main(int count, char **args) {
     static unsigned char bytes[1024];

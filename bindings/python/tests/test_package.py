@@ -17,15 +17,18 @@ FOX = "import sketch_hash; print(sketch_hash.xxh64_hexdigest(b'The quick brown f
 
 @pytest.fixture
 def source(need, tmp_path):
-    """A copy of the package, which `run` builds with the library of dist/."""
+    """A copy of the package alone, with the text of the library, as an archive of the sources has it."""
     need("gcc", "Python.h", "python:Cython", "python:setuptools", "python:wheel")
-    ignored = shutil.ignore_patterns("build", "*.egg-info", "tests", "__pycache__")
-    return pathlib.Path(shutil.copytree(HERE.parent, tmp_path / "source", ignore=ignored))
+    ignored = shutil.ignore_patterns("build", "*.egg-info", "tests", "__pycache__", "c")
+    source = pathlib.Path(shutil.copytree(HERE.parent, tmp_path / "source", ignore=ignored))
+    (source / "c").mkdir()
+    for name in ("sketch_hash.c", "include/sketch_hash.h"):
+        shutil.copy(DIST / name, source / "c")
+    return source
 
 
 def run(command, cwd=None, **environment):
-    env = {**os.environ, "SKETCH_HASH_LIB_DIR": str(DIST / "linux-x86_64"), **environment}
-    return subprocess.run(command, cwd=cwd, env=env, stdout=subprocess.PIPE, stderr=subprocess.STDOUT, text=True)
+    return subprocess.run(command, cwd=cwd, env={**os.environ, **environment}, stdout=subprocess.PIPE, stderr=subprocess.STDOUT, text=True)
 
 
 def install(source, to, **environment):
@@ -41,16 +44,6 @@ def test_an_archive_of_the_sources_is_installed(source, tmp_path):
     assert run([sys.executable, "-c", FOX], PYTHONPATH=str(tmp_path / "installed")).stdout == "0b242d361fda71bc\n"
 
 
-def test_an_upgraded_library_is_linked_again(source, need, tmp_path):
-    need("make")
-    prefix = tmp_path / "a prefix"
-    subprocess.run(["make", "-s", "-C", DIST, "install", f"PREFIX={prefix}"], check=True)
-    library = str(prefix / "lib")
-    assert install(source, tmp_path / "installed", SKETCH_HASH_LIB_DIR=library).returncode == 0
-    (prefix / "lib/libsketch_hash.a").write_text("spoiled")
-    assert "libsketch_hash.a" in install(source, tmp_path / "installed", SKETCH_HASH_LIB_DIR=library).stdout
-
-
 def test_only_its_own_name_leaves_an_extension(source, tmp_path):
     """Also if the linker has none of Debian's options: other versions of the calls may be in the same process."""
     assert install(source, tmp_path / "installed", LDSHARED="gcc -shared", CFLAGS="-O0").returncode == 0
@@ -59,11 +52,6 @@ def test_only_its_own_name_leaves_an_extension(source, tmp_path):
     for extension in extensions:
         names = subprocess.check_output(["nm", "-D", "--defined-only", "--format=just-symbols", extension], text=True)
         assert names.split() == [f"PyInit_{extension.name.partition('.')[0]}"]
-
-
-def test_a_missing_library_is_an_error_with_its_path(source, tmp_path):
-    done = install(source, tmp_path / "installed", SKETCH_HASH_LIB_DIR=str(tmp_path))
-    assert done.returncode and f"{tmp_path}/libsketch_hash.a is missing: set SKETCH_HASH_LIB_DIR" in done.stdout
 
 
 def test_a_free_threaded_python_is_an_error(source):

@@ -24,7 +24,7 @@ pub use xxh64::{xxh64, xxh64_u64, BuildXxh64, Xxh64};
 /// The version of the linked library: major * 10000 + minor * 100 + patch.
 ///
 /// ```
-/// assert_eq!(sketch_hash::version() / 10_000, 2);
+/// assert_eq!(sketch_hash::version() / 10_000, 3);
 /// ```
 pub fn version() -> u32 {
     calls::sketch_hash_version()

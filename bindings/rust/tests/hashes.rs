@@ -29,7 +29,7 @@ impl Rng {
 
 #[test]
 fn the_library_is_of_this_version() {
-    assert_eq!(sketch_hash::version(), 20_100);
+    assert_eq!(sketch_hash::version(), 30_000);
 }
 
 #[test]

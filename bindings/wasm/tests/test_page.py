@@ -5,6 +5,8 @@ import functools
 import http.server
 import random
 import shutil
+import subprocess
+import tempfile
 import threading
 
 import pytest
@@ -23,13 +25,21 @@ FOX = b"The quick brown fox jumps over the lazy dog"
 FOX_HASHES = ("0b242d361fda71bc", "e34bbc7bbc071b6c7a433ca9c49a9347", "6c1b07bc7bbc4be347939ac4a93c437a")
 NONE = ("", "", "")
 
-murmur = ctypes.CDLL(str(DIST / "linux-x86_64/libsketch_hash.so.2")).sketch_murmur3_x64_128
-murmur.argtypes = (ctypes.c_char_p, ctypes.c_size_t, ctypes.c_uint64, ctypes.POINTER(ctypes.c_uint64))
+@functools.cache
+def library():
+    """The library for C. Linux keeps it after its file is gone."""
+    with tempfile.TemporaryDirectory() as folder:
+        command = ["gcc", "-O1", "-fPIC", "-shared", "-I", DIST / "include", "-o", f"{folder}/library.so", DIST / "sketch_hash.c"]
+        subprocess.run(command, check=True)
+        found = ctypes.CDLL(f"{folder}/library.so")
+    words = ctypes.POINTER(ctypes.c_uint64)
+    found.sketch_murmur3_x64_128.argtypes = ctypes.c_char_p, ctypes.c_size_t, ctypes.c_uint64, words
+    return found
 
 
 def hashes(data, seed=0):
     words = (ctypes.c_uint64 * 2)()
-    murmur(data, len(data), seed, words)
+    library().sketch_murmur3_x64_128(data, len(data), seed, words)
     return xxhash.xxh64_hexdigest(data, seed), f"{words[0]:016x}{words[1]:016x}", bytes(words).hex()
 
 

@@ -21,12 +21,12 @@ pub mod xxh64;
 
 use sketch_bloom::Fault;
 
-/// The version of the library as one number, major * 10000 + minor * 100 + patch: 2.1.0.
+/// The version of the library as one number, major * 10000 + minor * 100 + patch: 3.0.0.
 #[unsafe(no_mangle)]
 pub extern "C" fn sketch_hash_version() -> u32
-    ensures { result ≡ 20100 }
+    ensures { result ≡ 30000 }
 {
-    20_100
+    30_000
 }
 
 // 0, or the number of the error.
