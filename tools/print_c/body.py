@@ -18,6 +18,7 @@ Loop = collections.namedtuple("Loop", "head body")
 Switch = collections.namedtuple("Switch", "text cases")
 
 WIDE = "skh_uint128"
+VECTORS = "has_vectors"  # the first parameter of a function that works on vectors
 TYPES = {"i1": "bool", "i8": "uint8_t", "i16": "uint16_t", "i32": "uint32_t", "i64": "uint64_t", "i128": WIDE, "void": "void"}
 LETTERS = {"i1": "c", "i8": "b", "i16": "s", "i32": "w", "i64": "x", "i128": "y", "ptr": "p"}
 SIGNS = {"add": "+", "sub": "-", "mul": "*", "and": "&", "or": "|", "xor": "^", "shl": "<<", "lshr": ">>", "udiv": "/", "urem": "%"}
@@ -382,14 +383,14 @@ class Body:
             asked = [(user.operation, user.more, user.operands[1].token) for user in self.users[it.result]]
             if set(asked) - {("icmp", "eq", "0"), ("icmp", "ne", "0")}:
                 raise Unknown("print_c knows llvm.vector.reduce.or only if it is compared with 0")
-            return call("skh_any", *self.words(it.operands[0]))
+            return call("skh_any", atom(VECTORS), *self.words(it.operands[0]))
         if operation in SIGNS:
             pairs = zip(self.words(it.operands[0]), self.words(it.operands[1]))
             is_not = operation == "xor" and it.operands[1].token == ["-1"] * type.count
             if is_not:
                 return [Expression(f"~{one.within(expression.UNARY)}", expression.UNARY, one.reads) for one, _ in pairs]
-            if operation == "shl" and isinstance(it.operands[0].token, list):
-                pairs = [(cast(TYPES[type.element], one), other) for one, other in pairs]
+            if operation == "shl" and it.operands[0].token == ["1"] * type.count:
+                return [call("skh_bit", atom(VECTORS), other) for _, other in pairs]
             return [binary(SIGNS[operation], one, other) for one, other in pairs]
         if operation == "insertelement":
             words = [*self.words(it.operands[0])]

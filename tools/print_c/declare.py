@@ -174,11 +174,11 @@ def wrap(text, indent):
     pad, out = " " * indent, []
     while len(pad) + len(text) > WIDTH:
         room = WIDTH - len(pad)
-        places = [(depth_at(text, found.start()), -found.start()) for found in re.finditer(r"(?<=,) | (?=[-+*/|&^<>=!?:%]+ )", text)
+        places = [(depth_at(text, found.start()), text[found.start() - 1] != ",", -found.start()) for found in re.finditer(r"(?<=,) | (?=[-+*/|&^<>=!?:%]+ )", text)
                   if found.start() <= room and found.start() > room // 3]
         if not places:
             break
-        _, at = min(places)
+        _, _, at = min(places)
         out.append(pad + text[:-at])
         text, pad = text[-at:].strip(), " " * (indent + 4)
     return out + [pad + text]
@@ -309,7 +309,7 @@ def print_function(function, signatures, written):
     storage = "SKETCH_HASH_API" if declared else "static SKH_NOINLINE"
     head, last = f"{storage} {type} {name}({parameters})", []
     if CHOSEN.fullmatch(name):
-        head = f"SKH_INLINE {type} {name}_any({parameters})"
+        head = f"SKH_INLINE {type} {name}_any(bool {body.VECTORS}, {parameters})"
         give = "" if type == "void" else "return"
         last = ["", *wrap(f"SKH_CHOOSE({storage}, {type}, {give}, {name}, ({parameters}), ({', '.join(names)}))", 0)]
     arrays = [f"    unsigned char {name}[{type.count}];" for name, type in made.arrays]

@@ -20,8 +20,8 @@
 #define SKH_INLINE static inline
 #endif
 
-/* A function with a body of its own for processors with AVX2, where the compiler may use it and the program was not
- * compiled for them anyway. Before the constructor has run, and where there is none, all take the other one. */
+/* A function of which there is a second one for processors with AVX2, where the compiler can make it and the program was not
+ * compiled for these processors alone. Before the constructor has run, the first one is called. */
 #if defined __GNUC__ && defined __x86_64__ && !defined __AVX2__
 #include <cpuid.h>
 static bool skh_has_avx2;
@@ -32,19 +32,21 @@ __attribute__((constructor)) static void skh_find_avx2(void) {
     if ((a & 6) != 6 || !__get_cpuid_count(7, 0, &a, &b, &c, &d)) return;
     skh_has_avx2 = (b & bit_AVX2) != 0;
 }
+#define SKH_GIVEN(...) __VA_ARGS__
 #define SKH_CHOOSE(STORAGE, TYPE, GIVE, NAME, PARAMETERS, ARGUMENTS)                               \
     __attribute__((target("avx2"))) static TYPE NAME##_avx2 PARAMETERS {                           \
-        GIVE NAME##_any ARGUMENTS;                                                                 \
+        GIVE NAME##_any(true, SKH_GIVEN ARGUMENTS);                                                \
     }                                                                                              \
     STORAGE TYPE NAME PARAMETERS {                                                                 \
         if (skh_has_avx2)                                                                          \
             GIVE NAME##_avx2 ARGUMENTS;                                                            \
         else                                                                                       \
-            GIVE NAME##_any ARGUMENTS;                                                             \
+            GIVE NAME##_any(false, SKH_GIVEN ARGUMENTS);                                           \
     }
 #else
+#define SKH_GIVEN(...) __VA_ARGS__
 #define SKH_CHOOSE(STORAGE, TYPE, GIVE, NAME, PARAMETERS, ARGUMENTS)                               \
-    STORAGE TYPE NAME PARAMETERS { GIVE NAME##_any ARGUMENTS; }
+    STORAGE TYPE NAME PARAMETERS { GIVE NAME##_any(true, SKH_GIVEN ARGUMENTS); }
 #endif
 
 /* As XXH64's specification and MurmurHash3's code name them. */
@@ -89,17 +91,33 @@ SKH_INLINE uint64_t skh_rotate64(uint64_t x, uint64_t n) { return __builtin_rota
 #else
 SKH_INLINE uint64_t skh_rotate64(uint64_t x, uint64_t n) { return x << n | x >> (64 - n); }
 #endif
-/* Whether any bit is set. gcc makes a vector only of the array, and clang only of the sum. */
-SKH_INLINE bool skh_any(uint32_t a, uint32_t b, uint32_t c, uint32_t d, uint32_t e, uint32_t f,
-                        uint32_t g, uint32_t h) {
-#ifdef __clang__
-    return (a | b | c | d | e | f | g | h) != 0;
-#else
-    const uint32_t words[8] = {a, b, c, d, e, f, g, h};
-    uint64_t pairs[4];
-    memcpy(pairs, words, sizeof pairs);
-    return (pairs[0] | pairs[1] | pairs[2] | pairs[3]) != 0;
+/* Bit n. Without AVX2 gcc makes no vector of shifts, and a look-up takes two thirds of the time of a shift. */
+SKH_INLINE uint32_t skh_bit(bool has_vectors, uint32_t n) {
+#ifndef __clang__
+    static const uint32_t bits[32] = {
+        1u << 0,  1u << 1,  1u << 2,  1u << 3,  1u << 4,  1u << 5,  1u << 6,  1u << 7,
+        1u << 8,  1u << 9,  1u << 10, 1u << 11, 1u << 12, 1u << 13, 1u << 14, 1u << 15,
+        1u << 16, 1u << 17, 1u << 18, 1u << 19, 1u << 20, 1u << 21, 1u << 22, 1u << 23,
+        1u << 24, 1u << 25, 1u << 26, 1u << 27, 1u << 28, 1u << 29, 1u << 30, 1u << 31};
+    if (!has_vectors) return bits[n];
 #endif
+    (void)has_vectors;
+    return (uint32_t)1 << n;
+}
+
+/* Whether any bit is set. gcc makes a vector only of the array, and clang only of the sum. */
+SKH_INLINE bool skh_any(bool has_vectors, uint32_t a, uint32_t b, uint32_t c, uint32_t d,
+                        uint32_t e, uint32_t f, uint32_t g, uint32_t h) {
+#ifndef __clang__
+    if (has_vectors) {
+        const uint32_t words[8] = {a, b, c, d, e, f, g, h};
+        uint64_t pairs[4];
+        memcpy(pairs, words, sizeof pairs);
+        return (pairs[0] | pairs[1] | pairs[2] | pairs[3]) != 0;
+    }
+#endif
+    (void)has_vectors;
+    return (a | b | c | d | e | f | g | h) != 0;
 }
 
 SKH_INLINE uint64_t skh_least64(uint64_t x, uint64_t y) { return x < y ? x : y; }
