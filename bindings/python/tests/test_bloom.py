@@ -348,6 +348,25 @@ def test_a_cycle_through_a_view_is_collected(way):
     subprocess.run([sys.executable, "-c", code], check=True)
 
 
+@pytest.mark.parametrize("call", ["view.release()", "view.__init__(64)", "view.add('fox')", "view.__init__(96)"])
+@pytest.mark.parametrize("end", ["view.release()", "view.__init__(64)"])
+def test_the_last_code_of_a_buffer_may_call_the_filter_that_was_its_view(end, call):
+    """In a process of its own, since what could be wrong is the use of freed memory."""
+    code = f"""if True:
+        import sketch_hash
+        calls = []
+        class Buffer(bytearray):
+            def __del__(self):
+                calls.append(1)
+                {call}
+        view = sketch_hash.BloomFilter.view(Buffer(64))
+        {end}
+        view.__init__(32)
+        view.add("fox")
+        assert "fox" in view and calls"""
+    subprocess.run([sys.executable, "-c", code], check=True, capture_output=True)
+
+
 def test_a_view_outlives_the_memoryview_that_it_was_made_of():
     memory = memoryview(bytearray(bits()))
     view = BloomFilter.view(memory[:512])

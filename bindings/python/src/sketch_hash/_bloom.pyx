@@ -1,11 +1,11 @@
 """The Bloom filter of Apache Parquet."""
+cimport cython
 from cpython.buffer cimport PyBUF_C_CONTIGUOUS, PyBUF_SIMPLE, PyBUF_WRITABLE, PyBuffer_FillInfo
 from cpython.bytearray cimport PyByteArray_AS_STRING, PyByteArray_FromStringAndSize
 from cpython.bytes cimport PyBytes_AS_STRING, PyBytes_FromStringAndSize
-from cpython.object cimport PyObject
 from cpython.ref cimport Py_DECREF
 from libc.stdint cimport uint32_t, uint64_t, uintptr_t
-from libc.string cimport memcpy, memset
+from libc.string cimport memcpy
 
 from ._arrow cimport meet
 from ._columns cimport (
@@ -23,9 +23,6 @@ cdef extern from "Python.h":
     int __builtin_popcountll(uint64_t) nogil
     View *PyMemoryView_GET_BUFFER(object)
     bint PyBuffer_IsContiguous(const View *, char)
-    ctypedef int (*inquiry)(PyObject *) noexcept
-    ctypedef struct Type "PyTypeObject":
-        inquiry tp_clear
 
 cdef enum:
     READ_ONLY = -100  # not a status of the library
@@ -169,6 +166,8 @@ cdef BloomFilter empty(object kind):
     return filter
 
 
+# The garbage collector breaks a cycle at another object, so the memory of the bits lives as long as the filter.
+@cython.no_gc_clear
 cdef class BloomFilter:
     """BloomFilter(num_bytes)\n--\n\nThe split block Bloom filter of Apache Parquet, without keys: it tells whether a
     key was added. It has no false negatives, and may have false positives.
@@ -200,8 +199,8 @@ cdef class BloomFilter:
             check_length(bits.len)
             self.swap_memory(&bits)
             self.is_view = is_view
-            if self.memory is not None:
-                self.memory = None
+            # Cython drops the old object before it stores the new one. Dropped later, it cannot find itself in here.
+            before, self.memory = self.memory, None
         finally:
             PyBuffer_Release(&bits)
         return 0
@@ -212,8 +211,8 @@ cdef class BloomFilter:
         bits.obj = NULL
         check_length(bits.len)
         self.swap_memory(&bits)
-        memory, self.memory = self.memory, memory
         self.is_view = True
+        memory, self.memory = self.memory, memory
         PyBuffer_Release(&bits)
         return 0
 
@@ -589,21 +588,6 @@ cdef BloomFilter duplicate(object kind, BloomFilter source):
         else:
             set_attributes(filter, attributes)
     return filter
-
-
-cdef inquiry clear_rest = (<Type *>BloomFilter).tp_clear
-
-
-cdef int clear(PyObject *filter) noexcept:
-    """Releases a filter that is garbage. What still has its memory is garbage too, and is cleared first."""
-    if (<BloomFilter>filter).exports:
-        return 0
-    if (<BloomFilter>filter).bits.obj is NULL:  # the bits are of a memoryview
-        memset(&(<BloomFilter>filter).bits, 0, sizeof(View))
-    return clear_rest(filter)
-
-
-(<Type *>BloomFilter).tp_clear = clear
 
 
 cdef void sum_rates(const uint64_t *words, size_t pairs, uint64_t *high, uint64_t *low) noexcept nogil:
