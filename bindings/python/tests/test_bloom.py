@@ -423,11 +423,11 @@ CALLS = {
     "|=": lambda it: it.__ior__(filled()), "source of |=": lambda it: filled().__ior__(it),
     "|": lambda it: it | filled(), "==": lambda it: it == filled(), "copy": BloomFilter.copy,
     "to_bytes": BloomFilter.to_bytes, "to_parquet": BloomFilter.to_parquet, "fold": lambda it: it.fold(0.5),
+    "num_bytes": lambda it: it.num_bytes, "memoryview": memoryview,
 }
-NEVER_WAITS = {"num_bytes": lambda it: it.num_bytes, "memoryview": memoryview}
 
 
-@pytest.mark.parametrize("call", {**CALLS, **NEVER_WAITS}.values(), ids={**CALLS, **NEVER_WAITS})
+@pytest.mark.parametrize("call", CALLS.values(), ids=CALLS)
 @pytest.mark.parametrize("is_new", [False, True], ids=["released", "never initialized"])
 def test_a_released_filter_raises(call, is_new):
     bloom = BloomFilter.__new__(BloomFilter) if is_new else filled()

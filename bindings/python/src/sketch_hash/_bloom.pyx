@@ -332,6 +332,7 @@ cdef class BloomFilter:
     @property
     def num_bytes(self):
         """How many bytes the bits have."""
+        wait(<void *>self.lock)
         self.check(0)
         return self.bits.len
 
@@ -551,11 +552,11 @@ cdef class BloomFilter:
 
     def __reduce_ex__(self, protocol):
         attributes = None if type(self) is BloomFilter else attributes_of(self)
-        wait(<void *>self.lock)
         bits = self.to_bytes() if protocol < 5 else pickle.PickleBuffer(self)
         return type(self).from_bytes, (bits,), attributes
 
     def __getbuffer__(self, Py_buffer *buffer, int flags):
+        wait(<void *>self.lock)
         self.check(0)
         if self.bits.readonly and flags & PyBUF_WRITABLE:
             raise BufferError("the filter is a view of read-only memory")
