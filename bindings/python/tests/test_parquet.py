@@ -17,6 +17,7 @@ import pytest
 from helpers import TYPES, column_of
 from sketch_hash import column
 
+numpy = pytest.importorskip("numpy")
 thrift = pytest.importorskip("thrift")
 from sketch_hash import parquet
 from sketch_hash.parquet.footer import LENGTH, OFFSET, Footer, TType, end_of, serialize
@@ -70,6 +71,7 @@ def test_a_row_group_without_a_filter_may_have_each_value():
     ("int8", 2**40), ("uint32", -1), ("uint64", 2**64), ("float", 0.1), ("float", 1e300), ("fixed", b"12345"),
     ("ms", moment(microsecond=1)), ("decimal9", decimal.Decimal("0.001")), ("decimal9", decimal.Decimal("1e999999")),
     ("decimal9", decimal.Decimal("Infinity")), ("decimal9", decimal.Decimal("1e-999999999")), ("decimal30", 10**40),
+    ("decimal30", decimal.Decimal("1" * 5000)),
     ("time_ms", datetime.time(1, 2, 3, 1)),
 ])
 def test_a_value_that_the_column_cannot_have_is_in_no_row_group(name, value):
@@ -80,11 +82,18 @@ def test_a_value_that_the_column_cannot_have_is_in_no_row_group(name, value):
     ("int8", 5.0), ("int8", "5"), ("int8", None), ("int8", True), ("double", float("nan")), ("double", "1"),
     ("string", 5), ("fixed", "0000"), ("date", moment()), ("date", 20000), ("ms", DAY), ("ms", moment(tzinfo=UTC)),
     ("us_utc", moment()), ("time_us", moment()), ("uuid", "00"), ("decimal9", 0.5),
-    ("decimal9", decimal.Decimal("nan")),
+    ("decimal9", decimal.Decimal("nan")), ("decimal9", decimal.Decimal("snan")), ("double", numpy.timedelta64(3, "s")),
+    ("double", numpy.zeros(2)),
 ])
 def test_a_value_of_another_type_is_an_error(name, value):
     with pytest.raises(TypeError):
         parquet.may_contain(FILTERS, name, value)
+
+
+def test_digits_of_a_decimal_that_change_nothing_are_ignored():
+    zeros = "0" * 5000
+    for value in (f"0.04{zeros}", f"4{zeros}E-5002", f"0{zeros}.04"):
+        assert 0 in parquet.may_contain(FILTERS, "decimal9", decimal.Decimal(value))
 
 
 def test_each_form_of_zero_is_looked_for():
@@ -150,6 +159,15 @@ def test_a_wrong_place_of_a_filter_is_an_error(change):
 def test_a_length_may_be_missing():
     file = changed(FILTERS, lambda footer: footer.columns[2].metadata[1].pop(LENGTH))
     assert parquet.may_contain(file, "int32", 8000) == [1] and parquet.filters(file) == parquet.filters(FILTERS)
+
+
+@pytest.mark.parametrize("length", [-1, 0, 2**31 - 1])
+def test_a_decimal_has_at_most_1024_bytes(length):
+    def change(footer):
+        footer.column("decimal30").path[-1][2] = TType.I32, length
+
+    with pytest.raises(ValueError, match=f"^whole numbers must have 1 to 1024 bytes in the file, not {length}$"):
+        parquet.may_contain(changed(FILTERS, change), "decimal30", decimal.Decimal(1))
 
 
 def test_a_damaged_footer_raises_value_and_type_errors_alone():
