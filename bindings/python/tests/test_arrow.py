@@ -388,11 +388,13 @@ def test_a_stream_may_wait_for_a_thread_that_needs_the_gil(need, tmp_path, ticks
 def stored(pa, values, path):
     """The bytes of values in a Parquet file, as pyarrow reads them if it knows nothing of their types."""
     from sketch_hash import parquet
+    from sketch_hash.parquet.files import Source
     from sketch_hash.parquet.footer import Footer
     formats = {"int32": "<i", "int64": "<q", "float": "<f", "double": "<d"}
     pa.parquet.write_table(pa.table({"x": values}), path)
-    footer = Footer(open(path, "rb"))
-    arrays = [it for batches in parquet.stored_values(path, footer, footer.columns[0]) for it in batches]
+    with open(path, "rb") as file:
+        footer = Footer(Source(file))
+        arrays = [it for batches in parquet.stored_values(file, footer, *footer.columns()) for it in batches]
     return [value if value is None or isinstance(value, bytes) else struct.pack(formats[str(it.type)], value)
             for it in arrays for value in it.to_pylist()]
 

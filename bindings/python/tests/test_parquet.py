@@ -1,6 +1,7 @@
 """Filters of Parquet files. data/ has two files of pyarrow 25; it is needed by the last tests alone."""
 import datetime
 import decimal
+import gzip
 import io
 import os
 import pathlib
@@ -11,16 +12,18 @@ import signal
 import stat
 import subprocess
 import sys
+import tracemalloc
 import uuid
 
 import pytest
-from helpers import TYPES, column_of
-from sketch_hash import column
+from helpers import TYPES, column_of, in_threads
+from sketch_hash import column, parquet
+from sketch_hash.parquet import values as parquet_values
+from sketch_hash.parquet.files import Source
+from sketch_hash.parquet.footer import LENGTH, OFFSET, Footer
+from thrift_tree import TType, chunk_of, join, metadata_of, split
 
 numpy = pytest.importorskip("numpy")
-thrift = pytest.importorskip("thrift")
-from sketch_hash import parquet
-from sketch_hash.parquet.footer import LENGTH, OFFSET, Footer, TType, end_of, serialize
 
 DATA = pathlib.Path(__file__).parent / "data"
 FILTERS, ODD = DATA / "filters.parquet", DATA / "odd.parquet"  # 24 rows in 3 row groups; those at 5 modulo 8 are null
@@ -60,6 +63,31 @@ def test_a_file_may_be_open_or_in_memory():
     for file in (io.BytesIO(FILTERS.read_bytes()), open(FILTERS, "rb"), str(FILTERS)):
         assert 1 in parquet.may_contain(file, "string", "fox 8") and len(parquet.filters(file)) == 3 * len(VALUES)
         assert "fox 8" in parquet.read_filter(file, 1, "string")
+
+
+@pytest.mark.parametrize("mode", ["rb", "r+b", None], ids=str)
+def test_threads_may_ask_one_open_file(mode, tmp_path):
+    """A seek must not come between the seek and the read of another thread."""
+    path, wrong, interval = shutil.copy(FILTERS, tmp_path), [], sys.getswitchinterval()
+    with open(path, mode) if mode else io.BytesIO(FILTERS.read_bytes()) as file:
+        def ask(number):
+            try:
+                for i in [number, number + 8, number + 16] * 5:
+                    wrong.extend([i] * (i // 8 not in parquet.may_contain(file, "int32", i * 1000)))
+            except ValueError as error:
+                wrong.append(error)
+
+        sys.setswitchinterval(1e-6)
+        in_threads(ask)
+    sys.setswitchinterval(interval)
+    assert wrong == []
+
+
+def test_a_file_that_decompresses_is_asked_for_its_own_bytes(tmp_path):
+    with gzip.open(tmp_path / "a.gz", "wb") as file:
+        file.write(FILTERS.read_bytes())
+    with gzip.open(tmp_path / "a.gz") as file:
+        assert parquet.filters(file) == parquet.filters(FILTERS)
 
 
 def test_a_row_group_without_a_filter_may_have_each_value():
@@ -125,21 +153,16 @@ def test_another_question_is_an_error(call, error, text):
         call()
 
 
-@pytest.mark.parametrize("file", [FILTERS, ODD], ids=["filters", "odd"])
-def test_a_footer_is_written_as_it_was_read(file):
+def footer_of(file):
     with open(file, "rb") as opened:
-        footer = Footer(opened)
-    assert serialize(footer.fields) == footer.data
+        return Footer(Source(opened))
 
 
 def changed(file, change):
-    """A file in memory, after a change of its footer."""
-    with open(file, "rb") as opened:
-        footer = Footer(opened)
-        opened.seek(0)
-        start = opened.read(footer.start)
-    change(footer)
-    return io.BytesIO(start + end_of(footer.fields))
+    """A file in memory, after a change of the tree of its footer."""
+    before, fields = split(file)
+    change(fields)
+    return io.BytesIO(join(before, fields))
 
 
 @pytest.mark.parametrize("change", [
@@ -148,7 +171,7 @@ def changed(file, change):
     lambda it: it.update({OFFSET: (TType.I32, 4)}),
 ], ids=["negative", "past the end", "no filter", "length", "type"])
 def test_a_wrong_place_of_a_filter_is_an_error(change):
-    file = changed(FILTERS, lambda footer: change(footer.columns[2].metadata[1]))
+    file = changed(FILTERS, lambda fields: change(metadata_of(fields, 1, 2)))
     for call in (lambda: parquet.may_contain(file, "int32", 1), lambda: parquet.read_filter(file, 1, "int32"),
                  lambda: parquet.filters(file)):
         with pytest.raises(ValueError):
@@ -157,14 +180,89 @@ def test_a_wrong_place_of_a_filter_is_an_error(change):
 
 
 def test_a_length_may_be_missing():
-    file = changed(FILTERS, lambda footer: footer.columns[2].metadata[1].pop(LENGTH))
+    file = changed(FILTERS, lambda fields: metadata_of(fields, 1, 2).pop(LENGTH))
     assert parquet.may_contain(file, "int32", 8000) == [1] and parquet.filters(file) == parquet.filters(FILTERS)
+
+
+def test_a_row_group_in_another_file_is_an_error(tmp_path):
+    """Its offsets are those of that file, and the same bytes of this file are other filters."""
+    file = tmp_path / "a.parquet"
+    file.write_bytes(changed(FILTERS, lambda fields: set_path(fields, 0, 0)).read())
+    for call in (lambda: parquet.may_contain(file, "int8", -12), lambda: parquet.read_filter(file, 0, "int8"),
+                 lambda: parquet.filters(file), lambda: parquet.check_filters(file)):
+        with pytest.raises(ValueError, match="^the column int8 must be in this file alone, not in those that the footer"):
+            call()
+    assert parquet.may_contain(file, "int32", 8000) == [1]
+
+
+def set_path(fields, group, column):
+    chunk = chunk_of(fields, group, column)
+    fields = {1: (TType.STRING, b"b.parquet"), **chunk}
+    chunk.clear()
+    chunk.update(fields)
+
+
+def structs(*items):
+    return TType.LIST, (TType.STRUCT, items)
+
+
+def element(name, **fields):
+    numbers = {"type": 1, "length": 2, "children": 5}
+    return {4: (TType.STRING, name), **{numbers[key]: (TType.I32, it) for key, it in fields.items()}}
+
+
+ROOT, LEAF = element(b"root", children=1), element(b"a", type=1)
+BOMBS = {
+    "empty structs": {2: structs(ROOT, LEAF), 99: structs(*[{}] * 50_000)},
+    "bools": {2: structs(ROOT, LEAF), 99: structs(*[{1: (TType.BOOL, True), 2: (TType.BOOL, True)}] * 20_000)},
+    "elements": {2: structs(*[{}] * 50_000)},
+    "columns": {2: structs(element(b"root", children=9000), *[LEAF] * 9000),
+                4: structs({1: structs(*[{}] * 9000), 3: (TType.I64, 1)})},
+    "row groups": {2: structs(ROOT, LEAF), 4: structs(*[{1: structs({}), 3: (TType.I64, 1)}] * 9000)},
+    "a long name above many columns": {
+        2: structs(ROOT, element(b"x" * 50_000, children=9000), *[LEAF] * 9000)},
+    "a deep schema": {2: structs(*[ROOT] * 9000)},
+}
+BYTES = {  # of an unknown field, and what is wrong with it
+    "a long number": (b"\x96" + b"\xff" * 100_000 + b"\x01", "a number must have at most 10 bytes"),
+    "deep structs": (b"\x9c" + b"\x1c" * 100_000, "lists and structs must be at most 64 deep"),
+    "deep lists": (b"\x99" + b"\x19" * 100_000, "lists and structs must be at most 64 deep"),
+    "a long list": (b"\x99\xfc" + b"\xff" * 8 + b"\x7f", "a list is truncated"),
+    "a long text": (b"\x98" + b"\xff" * 8 + b"\x7f", "a value is truncated"),
+    "a large field number": (b"\x05\x80\xf1\x04\x00", "a number must have 16 bits"),
+    "a negative field number": (b"\x05\x01\x00", "the number of a field must be from 1 to 32767"),
+    "a map": (b"\x9b\x00", "no value of a footer is a map, a set or of another kind"),
+}
+
+
+@pytest.mark.parametrize("fields", BOMBS.values(), ids=BOMBS)
+def test_a_footer_takes_memory_by_its_length(fields):
+    footer = join(b"", fields)
+    tracemalloc.start()
+    for call in (parquet.filters, lambda it: parquet.may_contain(it, "a", 5), lambda it: parquet.read_filter(it, 0, "a")):
+        try:
+            call(io.BytesIO(b"PAR1" + footer))
+        except (IndexError, ValueError):
+            pass
+    peak = tracemalloc.get_traced_memory()[1]
+    tracemalloc.stop()
+    assert peak < 20 * len(footer) + 50_000
+
+
+@pytest.mark.parametrize("data, text", BYTES.values(), ids=BYTES)
+def test_a_field_that_no_footer_has_is_an_error(data, text):
+    before, fields = split(FILTERS)
+    footer = join(b"", fields)[:-9] + data + b"\0" * 8  # after the last field that it has
+    file = io.BytesIO(before + footer + len(footer).to_bytes(4, "little") + b"PAR1")
+    for call in (parquet.filters, lambda it: parquet.may_contain(it, "int8", 5)):
+        with pytest.raises(ValueError, match=f"^the footer is damaged: {text}$"):
+            call(file)
 
 
 @pytest.mark.parametrize("length", [-1, 0, 2**31 - 1])
 def test_a_decimal_has_at_most_1024_bytes(length):
-    def change(footer):
-        footer.column("decimal30").path[-1][2] = TType.I32, length
+    def change(fields):
+        next(it for it in fields[2][1][1] if it[4][1] == b"decimal30")[2] = TType.I32, length
 
     with pytest.raises(ValueError, match=f"^whole numbers must have 1 to 1024 bytes in the file, not {length}$"):
         parquet.may_contain(changed(FILTERS, change), "decimal30", decimal.Decimal(1))
@@ -172,8 +270,7 @@ def test_a_decimal_has_at_most_1024_bytes(length):
 
 def test_a_damaged_footer_raises_value_and_type_errors_alone():
     rng, data = random.Random(5), bytearray(FILTERS.read_bytes())
-    with open(FILTERS, "rb") as opened:
-        start = Footer(opened).start
+    start = footer_of(FILTERS).start
     for _ in range(300):
         wrong = data.copy()
         for _ in range(rng.randint(1, 3)):
@@ -187,9 +284,9 @@ def test_a_damaged_footer_raises_value_and_type_errors_alone():
 
 # ---- Files that are written: the values come from here, and not from pyarrow
 
-def texts(source, footer, its_column):
+def texts(file, footer, any_column):
     """As stored_values, for any column."""
-    for group in range(len(footer.groups)):
+    for group in range(footer.groups):
         yield [column([f"fox {i}"]) for i in range(8 * group, 8 * group + 8)]
 
 
@@ -202,15 +299,14 @@ def copy(tmp_path, monkeypatch):
 def test_all_but_the_places_of_the_filters_stays_as_it_is(copy, tmp_path):
     target = tmp_path / "b.parquet"
     assert parquet.add_filters(copy, target, ["plain", "b"]) == sum(parquet.filters(target).values()) + 15 * 6
-    before, after = ODD.read_bytes(), target.read_bytes()
-    with open(ODD, "rb") as one, open(target, "rb") as two:
-        one, two = Footer(one), Footer(two)
-    assert after[: one.start] == before[: one.start] and copy.read_bytes() == before
-    for its_column in two.columns:
-        for metadata in its_column.metadata:
-            has_filter = its_column.name in ("plain", "b")
+    assert copy.read_bytes() == ODD.read_bytes()
+    (before, old), (after, new) = split(ODD), split(target)
+    assert after[: len(before)] == before
+    for index, its_column in enumerate(footer_of(target).columns()):
+        for group in range(3):
+            metadata, has_filter = metadata_of(new, group, index), its_column.name in ("plain", "b")
             assert (metadata.pop(OFFSET, None) is not None) == (metadata.pop(LENGTH, None) is not None) == has_filter
-    assert serialize(two.fields) == one.data
+    assert new == old
     assert [parquet.may_contain(target, "plain", f"fox {i}") for i in (3, 9, 20)] == [[0], [1], [2]]
 
 
@@ -247,20 +343,13 @@ def test_a_file_is_replaced_with_its_mode_and_behind_its_link(copy, tmp_path):
     assert len(parquet.filters(copy)) == 6
 
 
-def set_encryption(footer):
-    footer.fields[8] = TType.STRUCT, {1: (TType.STRUCT, {})}
-
-
-def set_path(footer):
-    chunk = footer.columns[5].chunks[1]
-    fields = {1: (TType.STRING, b"b.parquet"), **chunk}
-    chunk.clear()
-    chunk.update(fields)
+def sign(fields):
+    fields[8] = TType.STRUCT, {1: (TType.STRUCT, {})}
 
 
 @pytest.mark.parametrize("names, change, text", [
-    (["plain"], lambda footer: set_encryption(footer), "the footer must not be signed: each change"),
-    (["plain"], set_path, "the column plain must be in this file alone, not in those"),
+    (["plain"], sign, "the footer must not be signed: each change"),
+    (["plain"], lambda fields: set_path(fields, 1, 5), "the column plain must be in this file alone, not in those"),
     (["bool"], None, "must not be BOOLEAN"), (["half"], None, "must not be FLOAT16: DuckDB"),
     (["int96"], None, "must not be INT96"), (["x.y"], None, "the name of a column must be that of one alone"),
     (["none"], None, "the column must be one of"), ([], None, "one or more, each once"),
@@ -273,14 +362,6 @@ def test_what_cannot_have_filters_is_an_error_and_the_target_stays(names, change
     with pytest.raises((TypeError, ValueError), match=text):
         parquet.add_filters(copy, copy, names)
     assert copy.read_bytes() == before and os.listdir(tmp_path) == ["a.parquet"]
-
-
-def test_a_footer_of_another_form_is_an_error(copy):
-    with open(copy, "rb") as opened:
-        footer = Footer(opened)
-    copy.write_bytes(ODD.read_bytes()[:-8] + b"more" + (len(footer.data) + 4).to_bytes(4, "little") + b"PAR1")
-    with pytest.raises(ValueError, match="^the footer must be as Thrift writes it, so that all else"):
-        parquet.add_filters(copy, copy, ["plain"])
 
 
 def test_an_encrypted_footer_is_an_error(copy):
@@ -310,23 +391,19 @@ def test_a_file_that_changes_meanwhile_is_an_error(copy, tmp_path, monkeypatch):
 
 def test_a_killed_run_leaves_the_target(copy, tmp_path):
     code = f"""import os, test_parquet; from sketch_hash import parquet
-parquet.stored_values, parquet.set_place = test_parquet.texts, lambda *_: os.kill(os.getpid(), 9)
+parquet.stored_values, parquet.Footer.with_filters = test_parquet.texts, lambda *_: os.kill(os.getpid(), 9)
 parquet.add_filters({str(copy)!r}, {str(copy)!r}, ["plain"])"""
     done = subprocess.run([sys.executable, "-c", code], env={**os.environ, "PYTHONPATH": os.pathsep.join(sys.path)})
     assert done.returncode == -signal.SIGKILL and copy.read_bytes() == ODD.read_bytes()
     assert sorted(it[:13] for it in os.listdir(tmp_path)) == [".sketch_hash-", "a.parquet"]
 
 
-@pytest.mark.parametrize("module, code, text", [
-    ("pyarrow", f"import sketch_hash.parquet as it; it.add_filters({str(ODD)!r}, '/dev/null/x', ['plain'])", "pyarrow"),
-    ("thrift", "import sketch_hash.parquet", "Apache Thrift's library: pip install thrift"),
-])
-def test_a_missing_library_is_named(module, code, text, tmp_path):
-    code = code.replace("/dev/null/x", str(tmp_path / "b"))
-    done = subprocess.run([sys.executable, "-c", f"import sys; sys.modules[{module!r}] = None; {code}"],
-                          capture_output=True, text=True)
-    assert done.returncode and done.stderr.splitlines()[-1].startswith("ImportError") and text in done.stderr
-    assert not os.listdir(tmp_path)
+def test_a_missing_pyarrow_is_named(copy, tmp_path, monkeypatch):
+    monkeypatch.setattr(parquet, "stored_values", parquet_values.stored_values)
+    monkeypatch.setitem(sys.modules, "pyarrow", None)
+    with pytest.raises(ImportError, match="^this call needs pyarrow: pip install pyarrow$"):
+        parquet.add_filters(copy, tmp_path / "b.parquet", ["plain"])
+    assert os.listdir(tmp_path) == ["a.parquet"]
 
 
 def run(*args):
@@ -377,8 +454,7 @@ def test_nested_columns_have_filters_of_their_values(pa, tmp_path):
     type = pa.list_(pa.struct([("a", pa.int32()), ("m", pa.map_(pa.string(), pa.int64()))]))
     table = pa.table({"x": pa.array(rows, type)})
     pa.parquet.write_table(table, tmp_path / "a", row_group_size=40)
-    with open(tmp_path / "a", "rb") as file:
-        names = [it.name for it in Footer(file).columns]
+    names = [it.name for it in footer_of(tmp_path / "a").columns()]
     parquet.add_filters(tmp_path / "a", tmp_path / "a", names)
     assert parquet.check_filters(tmp_path / "a") == 9 and pa.parquet.read_table(tmp_path / "a").equals(table)
     for i in range(100):
@@ -392,8 +468,8 @@ def test_the_command_adds_and_checks(pa, tmp_path):
     file = str(shutil.copy(ODD, tmp_path / "a"))
     assert run("add", "-c", "plain", "-c", "b", "-e", "0.1", file).stdout == f"{file}: 282 bytes of filters\n"
     assert run("check", file).stdout == f"{file}: 6 filters have all values\n"
+    place = footer_of(file).find(["b"])[0].place(1)[0] + 15
     with open(file, "r+b") as opened:  # an empty filter
-        place = Footer(opened).columns[6].place(1)[0] + 15
         opened.seek(place)
         opened.write(bytes(32))
     done = run("check", file, str(FILTERS))
