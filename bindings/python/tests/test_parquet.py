@@ -9,6 +9,7 @@ import random
 import re
 import shutil
 import signal
+import socket
 import stat
 import subprocess
 import sys
@@ -389,9 +390,91 @@ def test_a_file_that_changes_meanwhile_is_an_error(copy, tmp_path, monkeypatch):
     assert copy.read_bytes() == FILTERS.read_bytes() and os.listdir(tmp_path) == ["a.parquet"]
 
 
+@pytest.mark.parametrize("old", [b"old", None])
+def test_a_target_that_changes_meanwhile_is_not_overwritten(old, copy, tmp_path, monkeypatch):
+    target = tmp_path / "b.parquet"
+    if old:
+        target.write_bytes(old)
+
+    def write_to_target(*args):
+        target.write_bytes(b"other data")
+        return texts(*args)
+
+    monkeypatch.setattr(parquet, "stored_values", write_to_target)
+    with pytest.raises(ValueError, match="^the file to replace must not change while its successor is written$"):
+        parquet.add_filters(copy, target, ["plain"])
+    assert target.read_bytes() == b"other data" and set(os.listdir(tmp_path)) == {"a.parquet", "b.parquet"}
+
+
+@pytest.mark.parametrize("has_locks", [True, False])
+def test_of_two_runs_on_one_file_one_fails(has_locks, copy, monkeypatch):
+    def second_run(*args):
+        monkeypatch.setattr(parquet, "stored_values", texts)
+        if has_locks:
+            with pytest.raises(ValueError, match="^another run is replacing the file$"):
+                parquet.add_filters(copy, copy, ["b"])
+        else:
+            parquet.add_filters(copy, copy, ["b"])
+        return texts(*args)
+
+    monkeypatch.setattr(parquet, "stored_values", second_run)
+    if has_locks:
+        parquet.add_filters(copy, copy, ["plain"])
+        parquet.add_filters(copy, copy, ["b"])
+    else:
+        monkeypatch.setattr("fcntl.flock", lambda *_: os.stat("/none"))
+        with pytest.raises(ValueError, match="must not change"):
+            parquet.add_filters(copy, copy, ["plain"])
+    assert {name for _, name in parquet.filters(copy)} == ({"plain", "b"} if has_locks else {"b"})
+
+
+def test_what_others_put_in_place_of_the_new_file_is_not_touched(copy, tmp_path, monkeypatch):
+    secret = tmp_path / "secret"
+    secret.write_bytes(b"key")
+    secret.chmod(0o600)
+
+    def put_a_link(*args):
+        new, = tmp_path.glob(".sketch_hash-*")
+        new.unlink()
+        new.symlink_to(secret)
+        return texts(*args)
+
+    monkeypatch.setattr(parquet, "stored_values", put_a_link)
+    with pytest.raises(ValueError, match="^the file to replace must not change"):
+        parquet.add_filters(copy, copy, ["plain"])
+    assert secret.read_bytes() == b"key" and stat.S_IMODE(secret.stat().st_mode) == 0o600
+    assert copy.read_bytes() == ODD.read_bytes() and not copy.is_symlink()
+
+
+def test_a_folder_that_cannot_be_synced_is_an_error_at_once(copy, tmp_path, monkeypatch):
+    def open_in_such_a_folder(path, *args, open=os.open, **kwargs):
+        if os.path.isdir(path):
+            raise PermissionError(13, "Permission denied", path)
+        return open(path, *args, **kwargs)
+
+    monkeypatch.setattr(os, "open", open_in_such_a_folder)
+    with pytest.raises(PermissionError):
+        parquet.add_filters(copy, copy, ["plain"])
+    assert copy.read_bytes() == ODD.read_bytes() and os.listdir(tmp_path) == ["a.parquet"]
+
+
+@pytest.mark.parametrize("make", [os.mkdir, os.mkfifo, lambda path: socket.socket(socket.AF_UNIX).bind(str(path))],
+                         ids=["folder", "FIFO", "socket"])
+def test_only_a_regular_file_is_read_or_replaced(make, copy, tmp_path):
+    special = tmp_path / "b"
+    make(special)
+    kind = stat.S_IFMT(special.stat().st_mode)
+    with pytest.raises(ValueError, match="^the file to replace must be a regular file$"):
+        parquet.add_filters(copy, special, ["plain"])
+    for call in (lambda: parquet.add_filters(special, copy, ["plain"]), lambda: parquet.filters(special)):
+        with pytest.raises((OSError, ValueError)):
+            call()
+    assert stat.S_IFMT(special.stat().st_mode) == kind and set(os.listdir(tmp_path)) == {"a.parquet", "b"}
+
+
 def test_a_killed_run_leaves_the_target(copy, tmp_path):
     code = f"""import os, test_parquet; from sketch_hash import parquet
-parquet.stored_values, parquet.Footer.with_filters = test_parquet.texts, lambda *_: os.kill(os.getpid(), 9)
+parquet.stored_values, parquet.check_unchanged = test_parquet.texts, lambda *_: os.kill(os.getpid(), 9)
 parquet.add_filters({str(copy)!r}, {str(copy)!r}, ["plain"])"""
     done = subprocess.run([sys.executable, "-c", code], env={**os.environ, "PYTHONPATH": os.pathsep.join(sys.path)})
     assert done.returncode == -signal.SIGKILL and copy.read_bytes() == ODD.read_bytes()
@@ -462,6 +545,21 @@ def test_nested_columns_have_filters_of_their_values(pa, tmp_path):
             values = [i, str(i), *[i] * (i % 3 == 0)]
             found = [parquet.may_contain(tmp_path / "a", name, value) for name, value in zip(names, values)]
             assert all(i // 40 in groups for groups in found)
+
+
+@pytest.mark.parametrize("is_list", [False, True])
+def test_long_texts_are_read_a_few_at_a_time(is_list, pa, tmp_path):
+    """A dictionary page has each once, so the file does not show how much memory they take."""
+    rows = pa.array(["x"] * 2000 + ["x" * 40_000] * 5000)
+    rows = pa.ListArray.from_arrays(range(len(rows) + 1), rows) if is_list else rows
+    pa.parquet.write_table(pa.table({"x": rows}), tmp_path / "a", compression="zstd")
+    with open(tmp_path / "a", "rb") as file:
+        footer = Footer(Source(file))
+        column, = footer.columns()
+        sizes = [batch.nbytes for batches in parquet.stored_values(file, footer, column) for batch in batches]
+    assert max(sizes) < 1 << 26 and sum(sizes) > 5000 * 40_000
+    parquet.add_filters(tmp_path / "a", tmp_path / "a", [column.name])
+    assert parquet.may_contain(tmp_path / "a", column.name, "x" * 40_000) == [0]
 
 
 def test_the_command_adds_and_checks(pa, tmp_path):

@@ -7,7 +7,7 @@ import os
 
 from .. import BloomFilter, xxh64_intdigest
 from .._bloom import HEADER_MAX, parquet_header
-from .files import Source, open_file, opened, replaced, version_of
+from .files import Source, check_unchanged, open_file, opened, replaced
 from .footer import I64, VALUES, Footer
 from .keys import keys_of
 from .values import stored_values
@@ -34,13 +34,15 @@ def add_filters(source, target, columns, *, error_rate=0.01, replace=False, prog
         if progress:
             steps = progress(steps, total=len(chosen) * footer.groups)
         place, places = footer.start, []
-        with replaced(source, target, footer.start, version_of(status)) as output:
+        with replaced(target, status.st_mode & 0o777) as output:
+            copy(Source(file), output, footer.start)
             for column, group, filter in steps:
                 data = filter.to_parquet()
                 output.write(data)
                 places.append((column, group, place, len(data)))
                 place += len(data)
             output.write(footer.with_filters(places))
+            check_unchanged(file, source, status)
     return place - footer.start
 
 
@@ -55,6 +57,14 @@ def check_columns(footer, names, columns, replace):
             raise ValueError(f"the column {column.name} must not be {reason}")
         if column.has_filters() and not replace:
             raise ValueError(f"the column {column.name} has filters: replace=True, or --replace, replaces them")
+
+
+def copy(source, output, length):
+    begin = 0
+    while begin < length:
+        piece = source.read(begin, min(length - begin, 1 << 20))
+        output.write(piece)
+        begin += len(piece)
 
 
 def new_filters(file, footer, columns, error_rate):

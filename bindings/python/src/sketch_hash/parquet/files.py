@@ -1,11 +1,15 @@
-"""Files: read at any place by many threads, and replaced."""
+"""Files: read at any place by many threads, and replaced in folders that others may write to."""
 import contextlib
 import io
 import os
-import shutil
+import secrets
 import stat
-import tempfile
 import threading
+
+try:
+    import fcntl
+except ImportError:  # not a POSIX system
+    fcntl = None
 
 LOCKS = [threading.Lock() for _ in range(61)]
 
@@ -64,32 +68,66 @@ def opened(file):
 
 
 def version_of(status):
-    return status.st_dev, status.st_ino, status.st_size, status.st_mtime_ns
+    return status and (status.st_dev, status.st_ino, status.st_size, status.st_mtime_ns)
+
+
+def check_unchanged(file, path, status):
+    """Raises ValueError unless an open file and its path are still what they were."""
+    if not version_of(os.fstat(file.fileno())) == version_of(os.stat(path)) == version_of(status):
+        raise ValueError("the file must not change while it is read")
+
+
+def status_of(name, folder):
+    try:
+        return os.stat(name, dir_fd=folder, follow_symlinks=False)
+    except FileNotFoundError:
+        return None
+
+
+def lock(number):
+    """Keeps other runs from replacing the same file. Where there are no locks, the later of two runs fails at its end."""
+    try:
+        fcntl.flock(number, fcntl.LOCK_EX | fcntl.LOCK_NB)
+    except BlockingIOError:
+        raise ValueError("another run is replacing the file") from None
+    except OSError:
+        pass
 
 
 @contextlib.contextmanager
-def replaced(source, target, length, version):
-    """A copy of so many bytes of the source, which replaces the target once more is written, and synced. It gets the
-    source's mode. Nothing is replaced if the source has become another file since its footer was read."""
-    target = os.path.realpath(target)
-    folder = os.path.dirname(target)
-    number, path = tempfile.mkstemp(prefix=".sketch_hash-", dir=folder)
-    try:
-        with open(number, "r+b") as output:
-            shutil.copyfile(source, path)  # by the system's own call, where there is one
-            output.truncate(length)
-            output.seek(length)
+def replaced(target, mode):
+    """A new file, which replaces the target once it is written and synced.
+
+    Others may write to the folder, so what a name leads to may change at any time. The folder and each file are opened
+    once, and used by their descriptors. Just before the target is replaced, both names must lead to what they led to.
+    """
+    if fcntl is None:
+        raise NotImplementedError("only POSIX systems can replace a file")
+    path = os.path.realpath(target)
+    name, temporary = os.path.basename(path) or os.curdir, f".sketch_hash-{secrets.token_hex(8)}"
+    with contextlib.ExitStack() as stack:
+        folder = os.open(os.path.dirname(path), os.O_RDONLY | os.O_DIRECTORY)
+        stack.callback(os.close, folder)
+        before = status_of(name, folder)
+        if before and not stat.S_ISREG(before.st_mode):
+            raise ValueError("the file to replace must be a regular file")
+        if before:
+            old = os.open(name, os.O_RDONLY | os.O_NOFOLLOW | os.O_NONBLOCK, dir_fd=folder)
+            stack.callback(os.close, old)
+            lock(old)
+        flags = os.O_RDWR | os.O_CREAT | os.O_EXCL | os.O_NOFOLLOW
+        output = stack.enter_context(open(os.open(temporary, flags, 0o600, dir_fd=folder), "wb"))
+        try:
             yield output
             output.flush()
+            os.fchmod(output.fileno(), mode)
             os.fsync(output.fileno())
-        shutil.copymode(source, path)
-        if version_of(os.stat(source)) != version:
-            raise ValueError("the file must not change while it is read")
-        os.replace(path, target)
-    except BaseException:
-        os.unlink(path)
-        raise
-    if os.name == "posix":
-        folder = os.open(folder, os.O_RDONLY)
+            expected = {name: before, temporary: os.fstat(output.fileno())}
+            if any(version_of(status_of(it, folder)) != version_of(status) for it, status in expected.items()):
+                raise ValueError("the file to replace must not change while its successor is written")
+            os.replace(temporary, name, src_dir_fd=folder, dst_dir_fd=folder)
+        except BaseException:
+            with contextlib.suppress(OSError):
+                os.unlink(temporary, dir_fd=folder)
+            raise
         os.fsync(folder)
-        os.close(folder)
