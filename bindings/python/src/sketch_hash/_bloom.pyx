@@ -364,6 +364,12 @@ cdef class BloomFilter:
             self.add(key)
 
     cdef int insert(self, Column keys) except -1:
+        self.insert_rows(keys)
+        while keys.has_rest():
+            self.insert_rows(keys)
+        return 0
+
+    cdef int insert_rows(self, Column keys) except -1:
         cdef size_t wrong = 0
         cdef int status
         cdef bint is_long = keys.size() >= LONG
@@ -383,21 +389,25 @@ cdef class BloomFilter:
         return self.check(status)
 
     cdef object contains(self, Column keys):
+        found = bytearray(keys.count)
+        self.contains_rows(keys, <unsigned char *>PyByteArray_AS_STRING(found))
+        while keys.has_rest():
+            self.contains_rows(keys, <unsigned char *>PyByteArray_AS_STRING(found))
+        return memoryview(found).cast("?")
+
+    cdef int contains_rows(self, Column keys, unsigned char *found) except -1:
         cdef size_t wrong = 0
         cdef int status
-        found = bytearray(keys.count)
-        cdef unsigned char *to = <unsigned char *>PyByteArray_AS_STRING(found)
         cdef bint is_long = keys.size() >= LONG
         self.begin(is_long)
         if is_long:
             with nogil:
-                status = contains_column(self.bits.buf, self.bits.len, keys, to, &wrong)
+                status = contains_column(self.bits.buf, self.bits.len, keys, found, &wrong)
             release(self.lock)
         else:
-            status = contains_column(self.bits.buf, self.bits.len, keys, to, &wrong)
+            status = contains_column(self.bits.buf, self.bits.len, keys, found, &wrong)
         check_offsets(status, wrong)
-        self.check(status)
-        return memoryview(found).cast("?")
+        return self.check(status)
 
     def add_each(self, keys):
         """add_each($self, keys, /)\n--\n\nAdds each key of a column.

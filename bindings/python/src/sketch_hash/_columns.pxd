@@ -91,6 +91,7 @@ cdef class Column:
 
     cdef size_t get_numbers(self, object numbers, str what) except 0
     cdef Py_ssize_t size(self) noexcept
+    cdef bint has_rest(self) except -1
     cdef bint overlaps(self, const void *memory, size_t length) noexcept
 
 

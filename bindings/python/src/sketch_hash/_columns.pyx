@@ -2,6 +2,7 @@
 cimport cython
 from cpython.buffer cimport PyBUF_C_CONTIGUOUS, PyBUF_FORMAT, PyBUF_ND
 from cpython.bytearray cimport PyByteArray_AS_STRING
+from cpython.exc cimport PyErr_CheckSignals
 from libc.stdint cimport INT32_MAX, uint64_t, uintptr_t
 from libc.string cimport strchr, strlen, strpbrk, strspn
 
@@ -187,6 +188,14 @@ cdef class Column:
     cdef Py_ssize_t size(self) noexcept:
         return self.arrow.num_bytes if self.kind == ARROW else self.data.len + self.numbers.len
 
+    cdef bint has_rest(self) except -1:
+        """Whether a call has left rows for another one, between which it looks for signals. Their handlers may call the
+        object whose lock the call held, so it releases the lock before."""
+        if self.kind != ARROW or self.arrow.chunk is NULL:
+            return False
+        PyErr_CheckSignals()
+        return True
+
     cdef bint overlaps(self, const void *memory, size_t length) noexcept:
         if self.kind == ARROW:
             return self.arrow.overlaps(memory, length)
@@ -218,12 +227,15 @@ cdef object hashes_of(Column keys, int words, object seed):
         keys.arrow.refuse_nulls()
     hashes = bytearray(8 * words * keys.count)
     cdef void *out = PyByteArray_AS_STRING(hashes)
-    if keys.size() < LONG:
-        status = hash_column(keys, words, number, out, &wrong)
-    else:
-        with nogil:
+    while True:
+        if keys.size() < LONG:
             status = hash_column(keys, words, number, out, &wrong)
-    check_offsets(status, wrong)
+        else:
+            with nogil:
+                status = hash_column(keys, words, number, out, &wrong)
+        check_offsets(status, wrong)
+        if not keys.has_rest():
+            break
     return memoryview(hashes).cast("Q")
 
 
