@@ -2,7 +2,9 @@
 cimport cython
 from cpython.buffer cimport PyBUF_C_CONTIGUOUS, PyBUF_FORMAT, PyBUF_ND
 from cpython.bytearray cimport PyByteArray_AS_STRING
+from cpython.bytes cimport PyBytes_FromStringAndSize
 from cpython.exc cimport PyErr_CheckSignals
+from cpython.unicode cimport PyUnicode_AsUTF8String
 from libc.stdint cimport INT32_MAX, uint64_t, uintptr_t
 from libc.string cimport strchr, strlen, strpbrk, strspn
 
@@ -106,6 +108,21 @@ cdef bint is_arrow(object keys) except -1:
     return False
 
 
+cdef type no_mask = bytes  # the last type of numbers that has no mask
+
+
+cdef int refuse_mask(object numbers) except -1:
+    """The buffer of a masked array of numpy has the masked values too."""
+    global no_mask
+    if type(numbers) is no_mask:
+        return 0
+    if hasattr(type(numbers), "mask"):
+        raise TypeError("a column must not be a masked array: pass pyarrow.array(keys), or keys.compressed() "
+                        "if you need no result for the masked values")
+    no_mask = type(numbers)
+    return 0
+
+
 cdef int refuse_nan(cython.floating *numbers, size_t items) except -1:
     """numpy has NaN for a missing value, and then makes whole numbers floats, which are other keys."""
     cdef size_t i = 0
@@ -159,6 +176,7 @@ cdef class Column:
         cdef const char *format = ""
         cdef char letter = 0  # of the numbers, if they are one row
         narrowest, formats, text, cure = NUMBER_KINDS[what]
+        refuse_mask(numbers)
         try:
             PyObject_GetBuffer(numbers, &self.numbers, PyBUF_C_CONTIGUOUS | PyBUF_FORMAT)
         except TypeError:
@@ -278,8 +296,9 @@ def column(texts):
 
 
 cdef bytes text_bytes(i, text):
+    """The bytes of the text itself, whatever methods a subclass has."""
     if isinstance(text, str):
-        return text.encode()
+        return PyUnicode_AsUTF8String(text)
     if isinstance(text, bytes):
-        return bytes(text)
+        return PyBytes_FromStringAndSize(PyBytes_AS_STRING(text), PyBytes_GET_SIZE(text))
     raise TypeError(f"the key at {i} must be str or bytes, not {type(text).__name__}")
