@@ -309,13 +309,22 @@ def test_a_copy_of_a_filter_that_is_released_meanwhile_raises(call):
         call(seen[0])
 
 
-@pytest.mark.parametrize("made", [None, 5, b""], ids=repr)
-def test_a_new_filter_of_another_type_is_an_error(made):
-    strange = type("Strange", (BloomFilter,), {})(32)
-    type(strange).__new__ = lambda _: made
-    for call in (strange.copy, lambda: strange | strange, lambda: strange.from_bytes(strange),
-                 lambda: strange.view(bytes(32)), lambda: strange.from_parquet(BloomFilter(32).to_parquet())):
-        with pytest.raises(TypeError, match=r"^Strange.__new__ must return a BloomFilter, not "):
+def test_a_subclass_may_have_an_init_of_its_own():
+    class Seen(BloomFilter):
+        def __init__(self, bits):
+            super().__init__(bits // 8)
+
+    made = Seen.for_keys(1000, one_in=100)
+    made.update(KEYS)
+    assert made.num_bytes == 2048
+    for filter in (made, made.copy(), made | made, Seen.from_bytes(made), Seen.from_parquet(made.to_parquet())):
+        assert type(filter) is Seen and filter == filled(KEYS, 2048)
+
+
+def test_a_new_filter_of_another_type_is_an_error():
+    strange = type("Strange", (BloomFilter,), {"__new__": lambda *_: None})
+    for call in (lambda: strange.for_keys(5, one_in=9), lambda: strange.view(bytes(32)), lambda: strange.from_bytes(bytes(32))):
+        with pytest.raises(TypeError, match="^Strange.__new__ must return a BloomFilter, not NoneType$"):
             call()
 
 

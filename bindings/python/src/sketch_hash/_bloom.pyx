@@ -251,7 +251,7 @@ cdef class BloomFilter:
     def for_keys(cls, keys, *, error_rate=None, one_in=None):
         """for_keys($type, keys, *, error_rate=None, one_in=None)\n--\n\nReturns the smallest filter whose
         false positive rate is at most this, error_rate=0.01 or one_in=100, once it has so many keys. Its size is a
-        power of two. Raises ValueError if it would need more than 128 MiB."""
+        power of two. Raises ValueError if it would need more than 128 MiB. A subclass's __init__ is not called."""
         if (error_rate is None) == (one_in is None):
             raise TypeError("for_keys takes one of error_rate, as 0.01, and one_in, as 100")
         if one_in is None:
@@ -262,7 +262,9 @@ cdef class BloomFilter:
         if num_bytes == 0:
             raise ValueError(f"no filter of up to 128 MiB has {keys} keys and reports one in {one_in} others: "
                              "allow more, or split the keys over several filters")
-        return cls(num_bytes)
+        cdef BloomFilter filter = empty(cls)
+        filter.adopt(bytearray(num_bytes), False)
+        return filter
 
     @classmethod
     def from_bytes(cls, data):
