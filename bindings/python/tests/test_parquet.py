@@ -230,7 +230,7 @@ BYTES = {  # of an unknown field, and what is wrong with it
     "deep lists": (b"\x99" + b"\x19" * 100_000, "lists and structs must be at most 64 deep"),
     "a long list": (b"\x99\xfc" + b"\xff" * 8 + b"\x7f", "a list is truncated"),
     "a long text": (b"\x98" + b"\xff" * 8 + b"\x7f", "a value is truncated"),
-    "a large field number": (b"\x05\x80\xf1\x04\x00", "a number must have 16 bits"),
+    "a large field number": (b"\x05\x80\xf1\x04\x00", "a number must have at most 16 bits"),
     "a negative field number": (b"\x05\x01\x00", "the number of a field must be from 1 to 32767"),
     "a map": (b"\x9b\x00", "no value of a footer is a map, a set or of another kind"),
 }

@@ -19,9 +19,12 @@ def add_filters(source, target, columns, *, error_rate=0.01, replace=False, prog
     """Writes the Parquet file `source` to `target`, which may be the same, with filters for each row group.
 
     columns is a list of names; that of a nested column is "a.b". All before the footer is copied as it is; in the
-    footer only the places of the filters change. Returns how many bytes the filters have. Raises ValueError if a column
-    has filters, unless they are to be replaced, and if the footer is encrypted or signed. A target is whole at any
-    time: it is written beside, as .sketch_hash-.., and then renamed. progress, as tqdm.tqdm, draws a bar.
+    footer only the places of the filters change. Returns how many bytes the filters have. progress, as tqdm.tqdm, draws
+    a bar. A target is whole at any time: it is written to its folder as .sketch_hash-.., and then renamed.
+
+    Raises ValueError if a column has filters, unless they are to be replaced; if the footer is encrypted or signed, or a
+    file is not a regular one; if another call replaces the target at the same time, or a file changes meanwhile. Then
+    the target stays as it is. Raises NotImplementedError if the system is not POSIX.
     """
     if isinstance(columns, str):
         raise TypeError("columns must be a list of names, not one name")
@@ -112,7 +115,7 @@ def read_filter(file, row_group, column):
 def may_contain(file, column, value):
     """The row groups that may have a value in a column, so also those without a filter.
 
-    A header and one block of each filter are read. The value is that of pyarrow: a str, bytes, a number, a date, time
+    A header and one block of each filter are read. Threads may share an open file. The value is that of pyarrow: a str, bytes, a number, a date, time
     or datetime, a Decimal, a UUID. A value that the column cannot have, such as 2**40 in INT32, is in no row group.
     """
     with opened(file) as source:
@@ -120,7 +123,7 @@ def may_contain(file, column, value):
         column, = footer.find([column])
         hashes = [xxh64_intdigest(key) for key in keys_of(value, column)]
         places = (header_at(source, footer, column, group) for group in range(footer.groups))
-        return [group for group, place in enumerate(places) if any(may_have(source, place, it) for it in hashes)]
+        return [group for group, place in enumerate(places) if any(may_have(source, place, hash) for hash in hashes)]
 
 
 def may_have(source, place, hash):
@@ -143,14 +146,14 @@ def check_filters(source, *, progress=None):
         steps = ((column, group, batches) for column in footer.columns() if column.has_filters()
                  for group, batches in enumerate(stored_values(file, footer, column)))
         if progress:
-            steps = progress(steps, total=footer.groups * sum(it.has_filters() for it in footer.columns()))
+            steps = progress(steps, total=footer.groups * sum(column.has_filters() for column in footer.columns()))
         count = 0
         for column, group, batches in steps:
             place = header_at(source, footer, column, group)
             if place:
                 filter = BloomFilter.from_bytes(source.read(*place))
                 for batch in batches:
-                    if sum(filter.contains_each(batch)) != len(batch) - batch.null_count:
+                    if filter.contains_each(batch).tobytes().count(1) != len(batch) - batch.null_count:
                         raise ValueError(f"the filter of {column.name} in row group {group} must have all values")
                 count += 1
     return count

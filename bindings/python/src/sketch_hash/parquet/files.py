@@ -11,6 +11,7 @@ try:
 except ImportError:  # not a POSIX system
     fcntl = None
 
+# Of open files, by their addresses.
 LOCKS = [threading.Lock() for _ in range(61)]
 
 
@@ -26,8 +27,8 @@ def open_file(path):
 class Source:
     """Reads an open file at any place, also if several threads do so.
 
-    A file that open() has opened keeps its position. For others a seek and a read must not be mixed with those of another
-    thread, so calls on one file take turns. Their own fileno(), as that of a GzipFile, may be of another file.
+    A file that open() opened to be read keeps its position. For another one a seek and a read must not be mixed with
+    those of other threads, so calls on one file take turns. Its fileno(), as that of a GzipFile, may be of another file.
     """
 
     def __init__(self, file):
@@ -123,7 +124,7 @@ def replaced(target, mode):
             os.fchmod(output.fileno(), mode)
             os.fsync(output.fileno())
             expected = {name: before, temporary: os.fstat(output.fileno())}
-            if any(version_of(status_of(it, folder)) != version_of(status) for it, status in expected.items()):
+            if any(version_of(status_of(path, folder)) != version_of(status) for path, status in expected.items()):
                 raise ValueError("the file to replace must not change while its successor is written")
             os.replace(temporary, name, src_dir_fd=folder, dst_dir_fd=folder)
         except BaseException:

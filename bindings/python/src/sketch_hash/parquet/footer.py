@@ -7,6 +7,7 @@ https://github.com/apache/thrift/blob/master/doc/specs/thrift-compact-protocol.m
 import array
 import collections
 import contextlib
+import functools
 import itertools
 
 # The kinds of values. A field that is a bool has its value in its kind.
@@ -42,7 +43,7 @@ class Reader:
     def integer(self, bits):
         number = self.varint()
         if number >> bits:
-            raise ValueError(f"a number must have {bits} bits")
+            raise ValueError(f"a number must have at most {bits} bits")
         return number >> 1 ^ -(number & 1)
 
     def fields(self):
@@ -153,9 +154,7 @@ def zigzag(number):
 
 
 def list_of(structs):
-    count = len(structs)
-    head = bytes([count << 4 | STRUCT]) if count < 15 else bytes([15 << 4 | STRUCT]) + varint(count)
-    return head + b"".join(it.end() for it in structs)
+    return b"".join([bytes([15 << 4 | STRUCT]), varint(len(structs)), *(struct.end() for struct in structs)])
 
 
 class Writer:
@@ -240,7 +239,10 @@ class Column:
 
     def __init__(self, footer, index, name, path):
         self.footer, self.index, self.name, self.path = footer, index, name, path
-        self.kind = Kind(Reader(footer.data, path[-1]))
+
+    @functools.cached_property
+    def kind(self):
+        return Kind(Reader(self.footer.data, self.path[-1]))
 
     def metadata(self, group):
         """A reader of the ColumnMetaData of a row group."""
@@ -323,7 +325,7 @@ class Footer:
         return len(self.chunks) - before
 
     def leaves(self):
-        """The name and the path of each column."""
+        """The name and the path of each column. The names of all have at most 20 times the bytes of the footer."""
         if self.schema is None:
             raise ValueError("the schema is missing")
         reader = Reader(self.data, self.schema)
@@ -344,7 +346,7 @@ class Footer:
             if length > 20 * len(self.data) or len(above) > MOST_DEPTH:
                 raise ValueError("the names of the columns are too long")
             if TYPE in fields:
-                yield name, [*(it[0] for it in above), begin]
+                yield name, [*(place for place, _, _ in above), begin]
             elif children:
                 above.append([begin, name, children])
             while above and above[-1][2] <= 0:
@@ -360,8 +362,8 @@ class Footer:
             columns[column.name] = column
         for name in columns:
             if not counts[name]:
-                some = [it for it, _ in itertools.islice(self.leaves(), 11)]
-                raise ValueError(f"the column must be one of {', '.join(some[:10])}{', ..' * (len(some) > 10)}, not {name}")
+                some = [leaf for leaf, _ in itertools.islice(self.leaves(), 10)]
+                raise ValueError(f"the column must be one of {', '.join(some)}{', ..' * (self.width > 10)}, not {name}")
             if counts[name] > 1:
                 raise ValueError(f"the name of a column must be that of one alone: {name} is of {counts[name]}")
         return list(columns.values())
@@ -384,19 +386,19 @@ class Footer:
         return end_of_file(b"".join([*pieces, self.data[end:]]))
 
     def of_column(self, column):
-        """The end of the file for a reader that shall convert nothing: it has one column, and that its physical type."""
+        """The end of the file for a reader that shall convert nothing: it has one column, with its physical type alone."""
         elements = [Writer().copy(Reader(self.data, at), (TYPE, TYPE_LENGTH, REPETITION, NAME)) for at in column.path]
         for group in elements[:-1]:
             group.field(CHILDREN, I32, zigzag(1))
-        lists = {SCHEMA: elements, ROW_GROUPS: [self.group_of_column(column, it) for it in range(self.groups)]}
-        fields = {number: (LIST, list_of(structs)) for number, structs in lists.items()}
+        groups = [self.group_of_column(column, group) for group in range(self.groups)]
+        fields = {**self.copied, SCHEMA: (LIST, list_of(elements)), ROW_GROUPS: (LIST, list_of(groups))}
         root = Writer()
-        for number, (kind, value) in sorted({**self.copied, **fields}.items()):
+        for number, (kind, value) in sorted(fields.items()):
             root.field(number, kind, value)
         return end_of_file(root.end())
 
     def group_of_column(self, column, group):
-        metadata = Writer().copy(column.metadata(group), [it for it in range(1, OFFSET) if it != STATISTICS])
+        metadata = Writer().copy(column.metadata(group), {*range(OFFSET)} - {STATISTICS})
         chunk = Writer().field(FILE_OFFSET, I64, zigzag(0)).field(METADATA, STRUCT, metadata.end())
         return (Writer().field(COLUMNS, LIST, list_of([chunk])).field(BYTE_SIZE, I64, zigzag(0))
                 .field(ROWS, I64, zigzag(self.rows[group])))
