@@ -136,16 +136,6 @@ def test_an_array_without_objects_is_data(data):
 
 
 @pytest.mark.parametrize("call", [*EACH, BLOOM.add_each, BLOOM.contains_each])
-def test_a_pair_is_the_items_of_a_tuple(call):
-    """A subclass may return items that nothing else refers to."""
-    class Pair(tuple):
-        __len__ = lambda _: 3
-        __getitem__ = lambda _, i: pytest.fail("called")
-
-    assert call(Pair(PAIR)) == call(PAIR)
-
-
-@pytest.mark.parametrize("call", [*EACH, BLOOM.add_each, BLOOM.contains_each])
 def test_a_negative_offset_is_an_error_beyond_2_gib(call):
     first = -2**31  # 2**31 without a sign
     for offsets, index in (([first, first + 3], 0), ([5, first], 1), ([0, 5, -1], 2)):
