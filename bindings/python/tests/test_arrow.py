@@ -233,6 +233,21 @@ def test_long_columns(producer):
         check(lambda: producer.exported(producer.schema("u"), producer.array(len(kept), *buffers_of("u", kept))), kept)
 
 
+def test_a_column_of_more_rows_than_a_call_takes_at_a_time(producer):
+    rows, seven = bytes(1 << 24) + b"\7\0\0", struct.pack("<i", 7)
+    make = lambda: producer.streamed(producer.schema("C"), producer.array(len(rows), None, rows),
+                                     producer.array(2, None, b"\0\7"))
+    bloom, one = BloomFilter(1024), BloomFilter(1024)
+    bloom.add_each(make())
+    one.add(seven)
+    assert seven in bloom and bytes(4) in bloom
+    at = [i for i, is_found in enumerate(one.contains_each(make()).tobytes()[1 << 24 :]) if is_found]
+    assert at == [0, 4] and one.contains_each(make()).tobytes().count(1) == 2
+    hashes = xxh64_each(make())
+    assert {*hashes[(1 << 24) - 2 :: 2]} == {xxh64_intdigest(bytes(4)), xxh64_intdigest(seven)}
+    assert hashes[-1] == hashes[1 << 24] == xxh64_intdigest(seven)
+
+
 @pytest.mark.parametrize("is_coded", [False, True], ids=["values", "dictionary"])
 def test_nulls_without_memory_take_no_time(is_coded, producer):
     bloom = BloomFilter(32)
