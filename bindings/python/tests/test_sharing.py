@@ -2,7 +2,6 @@
 import array
 import copy
 import fractions
-import pickle
 import signal
 import threading
 

@@ -217,6 +217,7 @@ cdef size_t check_values(const Values *values) except? 0:
     cdef size_t num_bytes = values.length * (8 + values.width), begin, end
     cdef const char *first
     cdef bint is_wrong
+    what = "have views within its texts" if values.layout == VIEWS else "have offsets from 0 on that do not fall"
     for begin in range(0, values.length if values.layout in (OFFSETS, VIEWS) else 0, STEP):
         end = min(begin + STEP, values.length)
         first = values.memory + (values.offset + begin) * values.width
@@ -227,7 +228,7 @@ cdef size_t check_values(const Values *values) except? 0:
                 is_wrong = fall[int32_t](first, end - begin + 1, 0)
             else:
                 is_wrong = fall[int64_t](first, end - begin + 1, 0)
-        must(not is_wrong, "have views within its texts" if values.layout == VIEWS else "have offsets from 0 on that do not fall")
+        must(not is_wrong, what)
         PyErr_CheckSignals()
     if values.layout == OFFSETS and values.length:
         length = number_at(values, values.length) - number_at(values, 0)

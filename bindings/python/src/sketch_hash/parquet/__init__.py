@@ -115,8 +115,9 @@ def read_filter(file, row_group, column):
 def may_contain(file, column, value):
     """The row groups that may have a value in a column, so also those without a filter.
 
-    A header and one block of each filter are read. Threads may share an open file. The value is that of pyarrow: a str, bytes, a number, a date, time
-    or datetime, a Decimal, a UUID. A value that the column cannot have, such as 2**40 in INT32, is in no row group.
+    A header and one block of each filter are read. Threads may share an open file. The value is that of pyarrow: a str,
+    bytes, a number, a date, time or datetime, a Decimal, a UUID. A value that the column cannot have, such as 2**40 in
+    INT32, is in no row group.
     """
     with opened(file) as source:
         footer = Footer(source)

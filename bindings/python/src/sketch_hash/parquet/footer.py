@@ -7,7 +7,6 @@ https://github.com/apache/thrift/blob/master/doc/specs/thrift-compact-protocol.m
 import array
 import collections
 import contextlib
-import functools
 import itertools
 
 # The kinds of values. A field that is a bool has its value in its kind.
@@ -240,7 +239,7 @@ class Column:
     def __init__(self, footer, index, name, path):
         self.footer, self.index, self.name, self.path = footer, index, name, path
 
-    @functools.cached_property
+    @property
     def kind(self):
         return Kind(Reader(self.footer.data, self.path[-1]))
 
