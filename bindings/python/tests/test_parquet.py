@@ -3,6 +3,7 @@ import datetime
 import decimal
 import gzip
 import io
+import mmap
 import os
 import pathlib
 import random
@@ -61,7 +62,9 @@ def test_a_value_is_in_its_row_group(name, value):
 
 
 def test_a_file_may_be_open_or_in_memory():
-    for file in (io.BytesIO(FILTERS.read_bytes()), open(FILTERS, "rb"), str(FILTERS)):
+    memory = mmap.mmap(-1, FILTERS.stat().st_size)
+    memory[:] = FILTERS.read_bytes()
+    for file in (io.BytesIO(memory), memory, open(FILTERS, "rb"), open(FILTERS, "rb", buffering=0), str(FILTERS)):
         assert 1 in parquet.may_contain(file, "string", "fox 8") and len(parquet.filters(file)) == 3 * len(VALUES)
         assert "fox 8" in parquet.read_filter(file, 1, "string")
 
@@ -201,6 +204,12 @@ def set_path(fields, group, column):
     fields = {1: (TType.STRING, b"b.parquet"), **chunk}
     chunk.clear()
     chunk.update(fields)
+
+
+def test_an_encrypted_column_has_no_filter_to_read():
+    file = changed(FILTERS, lambda fields: chunk_of(fields, 1, 0).pop(3))
+    assert parquet.may_contain(file, "int8", 100) == [1] and (1, "int8") not in parquet.filters(file)
+    assert parquet.read_filter(file, 1, "int8") is None
 
 
 def structs(*items):
@@ -350,12 +359,13 @@ def sign(fields):
 
 @pytest.mark.parametrize("names, change, text", [
     (["plain"], sign, "the footer must not be signed: each change"),
+    (["plain"], lambda fields: chunk_of(fields, 1, 5).pop(3), "the column plain must not be encrypted"),
     (["plain"], lambda fields: set_path(fields, 1, 5), "the column plain must be in this file alone, not in those"),
     (["bool"], None, "must not be BOOLEAN"), (["half"], None, "must not be FLOAT16: DuckDB"),
     (["int96"], None, "must not be INT96"), (["x.y"], None, "the name of a column must be that of one alone"),
     (["none"], None, "the column must be one of"), ([], None, "one or more, each once"),
     (["plain", "plain"], None, "one or more, each once"), ("plain", None, "columns must be a list of names"),
-], ids=range(10))
+], ids=range(11))
 def test_what_cannot_have_filters_is_an_error_and_the_target_stays(names, change, text, copy, tmp_path):
     if change:
         copy.write_bytes(changed(ODD, change).read())

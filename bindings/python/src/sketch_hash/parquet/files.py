@@ -39,7 +39,8 @@ class Source:
         else:
             self.lock = LOCKS[id(file) % len(LOCKS)]
             with self.lock:
-                self.size = file.seek(0, os.SEEK_END)
+                file.seek(0, os.SEEK_END)  # which returns nothing for an mmap
+                self.size = file.tell()
 
     def read_some(self, begin, length):
         if self.number is not None:

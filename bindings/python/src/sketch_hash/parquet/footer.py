@@ -243,19 +243,25 @@ class Column:
     def kind(self):
         return Kind(Reader(self.footer.data, self.path[-1]))
 
-    def metadata(self, group):
-        """A reader of the ColumnMetaData of a row group."""
+    def chunk(self, group):
+        """Where the ColumnMetaData of a row group begins, or None if it is encrypted."""
         reader = Reader(self.footer.data, self.footer.chunks[group * self.footer.width + self.index])
         fields = reader.struct({FILE_PATH: BINARY, METADATA: STRUCT})
         if FILE_PATH in fields:
             raise ValueError(f"the column {self.name} must be in this file alone, not in those that the footer names")
-        if METADATA not in fields:
-            raise ValueError(f"the column {self.name} must have metadata that is not encrypted")
-        return Reader(reader.data, fields[METADATA])
+        return fields.get(METADATA)
+
+    def metadata(self, group):
+        """A reader of the ColumnMetaData of a row group."""
+        begin = self.chunk(group)
+        if begin is None:
+            raise ValueError(f"the column {self.name} must not be encrypted")
+        return Reader(self.footer.data, begin)
 
     def place(self, group):
         """Where the filter of a row group begins, or None, and how long it is with its header, or None."""
-        fields = self.metadata(group).struct({OFFSET: I64, LENGTH: I32})
+        begin = self.chunk(group)
+        fields = {} if begin is None else Reader(self.footer.data, begin).struct({OFFSET: I64, LENGTH: I32})
         return fields.get(OFFSET), fields.get(LENGTH)
 
     def has_filters(self):
