@@ -8,7 +8,7 @@ import os
 from .. import BloomFilter, xxh64_intdigest
 from .._bloom import HEADER_MAX, parquet_header
 from .files import Source, check_unchanged, open_file, opened, replaced
-from .footer import I64, VALUES, Footer
+from .footer import Footer
 from .keys import keys_of
 from .values import stored_values
 
@@ -73,8 +73,7 @@ def copy(source, output, length):
 def new_filters(file, footer, columns, error_rate):
     for column in columns:
         for group, batches in enumerate(stored_values(file, footer, column)):
-            values = column.metadata(group).struct({VALUES: I64}).get(VALUES, 1)
-            filter = BloomFilter.for_keys(max(values, 1), error_rate=error_rate)
+            filter = BloomFilter.for_keys(max(column.values(group), 1), error_rate=error_rate)
             for batch in batches:
                 filter.add_each(batch)
             filter.fold(error_rate)

@@ -264,6 +264,10 @@ class Column:
         fields = {} if begin is None else Reader(self.footer.data, begin).struct({OFFSET: I64, LENGTH: I32})
         return fields.get(OFFSET), fields.get(LENGTH)
 
+    def values(self, group):
+        """How many values a row group has, with nulls."""
+        return self.metadata(group).struct({VALUES: I64}).get(VALUES, 1)
+
     def has_filters(self):
         return any(self.place(group)[0] is not None for group in range(self.footer.groups))
 

@@ -17,8 +17,8 @@ def stored_values(file, footer, column):
         raise ValueError(f"a value of {column.name} must have 1 to {BATCH} bytes, not {width}")
     metadata = pyarrow.parquet.read_metadata(pyarrow.BufferReader(b"PAR1" + footer.of_column(column)))
     with pyarrow.parquet.ParquetFile(file, metadata=metadata, buffer_size=1 << 20, pre_buffer=False) as parquet:
-        for group in range(footer.groups):
-            yield batches_of(parquet, group, max(1, min(64, BATCH // width)))
+        for group, count in enumerate(footer.rows):
+            yield batches_of(parquet, group, max(1, min(64, BATCH // width, 64 * count // max(column.values(group), 1))))
 
 
 def batches_of(parquet, group, rows):
