@@ -111,6 +111,7 @@ def test_a_key_is_a_text_or_bytes(key, data):
     5, None, ["fox"], array.array("d", [1]), numpy.int64(5), numpy.zeros(2, object), memoryview(bytes(8)).cast("I"),
     numpy.int8(5), numpy.uint8(5), numpy.bool_(True), numpy.datetime64("2026-11-29"), numpy.timedelta64(3, "s"),
     numpy.void(b"fox"), numpy.array(5, "u1"), numpy.zeros(2, "datetime64[D]"), BloomFilter(32),
+    numpy.ma.array([5], "u1", mask=[1]),
 ], ids=lambda key: type(key).__name__)
 def test_another_type_of_key_is_an_error(key):
     bloom = filled()

@@ -14,6 +14,7 @@ import socket
 import stat
 import subprocess
 import sys
+import time
 import tracemalloc
 import uuid
 
@@ -69,21 +70,27 @@ def test_a_file_may_be_open_or_in_memory():
         assert "fox 8" in parquet.read_filter(file, 1, "string")
 
 
-@pytest.mark.parametrize("mode", ["rb", "r+b", None], ids=str)
-def test_threads_may_ask_one_open_file(mode, tmp_path):
-    """A seek must not come between the seek and the read of another thread."""
-    path, wrong, interval = shutil.copy(FILTERS, tmp_path), [], sys.getswitchinterval()
-    with open(path, mode) if mode else io.BytesIO(FILTERS.read_bytes()) as file:
-        def ask(number):
-            try:
-                for i in [number, number + 8, number + 16] * 5:
-                    wrong.extend([i] * (i // 8 not in parquet.may_contain(file, "int32", i * 1000)))
-            except ValueError as error:
-                wrong.append(error)
+class Slow(io.BytesIO):
+    """Another thread runs after each seek."""
+    def seek(self, *args):
+        place = super().seek(*args)
+        time.sleep(0.001)
+        return place
 
-        sys.setswitchinterval(1e-6)
+
+@pytest.mark.parametrize("make", [lambda: open(FILTERS, "rb"), lambda: Slow(FILTERS.read_bytes())], ids=["file", "memory"])
+def test_threads_may_ask_one_open_file(make):
+    wrong = []
+
+    def ask(first):
+        try:
+            for i in [first, first + 8, first + 16] * 5:
+                wrong.extend([i] * (i // 8 not in parquet.may_contain(file, "int32", i * 1000)))
+        except ValueError as error:
+            wrong.append(error)
+
+    with make() as file:
         in_threads(ask)
-    sys.setswitchinterval(interval)
     assert wrong == []
 
 

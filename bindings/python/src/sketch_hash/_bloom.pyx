@@ -56,9 +56,9 @@ cdef type bytes_like = bytearray  # the type of the last key that was bytes: to 
 
 cdef bint is_key(object key) except -1:
     """Whether it is neither a scalar of numpy (a number or date, whose bytes in a Parquet file may be others; the buffer of
-    a date has one dimension, but not the date) nor a filter, whose bits would be one key."""
+    a date has one dimension, but not the date), nor a masked array, nor a filter, whose bits would be one key."""
     global bytes_like
-    if getattr(key, "ndim", 1) == 0 or isinstance(key, BloomFilter):
+    if getattr(key, "ndim", 1) == 0 or hasattr(type(key), "mask") or isinstance(key, BloomFilter):
         return False
     bytes_like = type(key)
     return True
