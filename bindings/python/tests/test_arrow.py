@@ -445,9 +445,9 @@ def stored(pa, values, path):
     pa.parquet.write_table(pa.table({"x": values}), path)
     with open(path, "rb") as file:
         footer = Footer(Source(file))
-        arrays = [it for batches in parquet.stored_values(file, footer, *footer.columns()) for it in batches]
-    return [value if value is None or isinstance(value, bytes) else struct.pack(formats[str(it.type)], value)
-            for it in arrays for value in it.to_pylist()]
+        arrays = [batch for batches in parquet.stored_values(file, footer, *footer.columns()) for batch in batches]
+    return [value if value is None or isinstance(value, bytes) else struct.pack(formats[str(values.type)], value)
+            for values in arrays for value in values.to_pylist()]
 
 
 @pytest.mark.parametrize("name", [*TYPES, "float16", "string_view", "binary_view"])

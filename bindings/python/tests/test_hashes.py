@@ -93,7 +93,7 @@ def test_methods_take_their_argument_by_position_only():
 
 
 @pytest.mark.parametrize("call, args", [
-    *((it, []) for it in (*FORMS, "copy", "reset", "__init__", "__reduce__", "__repr__")),
+    *((name, []) for name in (*FORMS, "copy", "reset", "__init__", "__reduce__", "__repr__")),
     ("update", [b"fox"]), ("__getattribute__", ["seed"]),
 ])
 @pytest.mark.parametrize("kind", KINDS)

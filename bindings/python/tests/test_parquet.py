@@ -1,4 +1,5 @@
 """Filters of Parquet files. data/ has two files of pyarrow 25; it is needed by the last tests alone."""
+import contextlib
 import datetime
 import decimal
 import gzip
@@ -255,12 +256,12 @@ BYTES = {  # of an unknown field, and what is wrong with it
 @pytest.mark.parametrize("fields", BOMBS.values(), ids=BOMBS)
 def test_a_footer_takes_memory_by_its_length(fields):
     footer = join(b"", fields)
+    file = io.BytesIO(b"PAR1" + footer)
     tracemalloc.start()
-    for call in (parquet.filters, lambda it: parquet.may_contain(it, "a", 5), lambda it: parquet.read_filter(it, 0, "a")):
-        try:
-            call(io.BytesIO(b"PAR1" + footer))
-        except (IndexError, ValueError):
-            pass
+    for call in (lambda: parquet.filters(file), lambda: parquet.may_contain(file, "a", 5),
+                 lambda: parquet.read_filter(file, 0, "a")):
+        with contextlib.suppress(IndexError, ValueError):
+            call()
     peak = tracemalloc.get_traced_memory()[1]
     tracemalloc.stop()
     assert peak < 20 * len(footer) + 50_000
@@ -271,15 +272,16 @@ def test_a_field_that_no_footer_has_is_an_error(data, text):
     before, fields = split(FILTERS)
     footer = join(b"", fields)[:-9] + data + b"\0" * 8  # after the last field that it has
     file = io.BytesIO(before + footer + len(footer).to_bytes(4, "little") + b"PAR1")
-    for call in (parquet.filters, lambda it: parquet.may_contain(it, "int8", 5)):
+    for call in (lambda: parquet.filters(file), lambda: parquet.may_contain(file, "int8", 5)):
         with pytest.raises(ValueError, match=f"^the footer is damaged: {text}$"):
-            call(file)
+            call()
 
 
 @pytest.mark.parametrize("length", [-1, 0, 2**31 - 1])
 def test_a_decimal_has_at_most_1024_bytes(length):
     def change(fields):
-        next(it for it in fields[2][1][1] if it[4][1] == b"decimal30")[2] = TType.I32, length
+        element, = (element for element in fields[2][1][1] if element[4][1] == b"decimal30")
+        element[2] = TType.I32, length
 
     with pytest.raises(ValueError, match=f"^whole numbers must have 1 to 1024 bytes in the file, not {length}$"):
         parquet.may_contain(changed(FILTERS, change), "decimal30", decimal.Decimal(1))
@@ -319,9 +321,9 @@ def test_all_but_the_places_of_the_filters_stays_as_it_is(copy, tmp_path):
     assert copy.read_bytes() == ODD.read_bytes()
     (before, old), (after, new) = split(ODD), split(target)
     assert after[: len(before)] == before
-    for index, its_column in enumerate(footer_of(target).columns()):
+    for index, leaf in enumerate(footer_of(target).columns()):
         for group in range(3):
-            metadata, has_filter = metadata_of(new, group, index), its_column.name in ("plain", "b")
+            metadata, has_filter = metadata_of(new, group, index), leaf.name in ("plain", "b")
             assert (metadata.pop(OFFSET, None) is not None) == (metadata.pop(LENGTH, None) is not None) == has_filter
     assert new == old
     assert [parquet.may_contain(target, "plain", f"fox {i}") for i in (3, 9, 20)] == [[0], [1], [2]]
@@ -554,7 +556,7 @@ def test_nested_columns_have_filters_of_their_values(pa, tmp_path):
     type = pa.list_(pa.struct([("a", pa.int32()), ("m", pa.map_(pa.string(), pa.int64()))]))
     table = pa.table({"x": pa.array(rows, type)})
     pa.parquet.write_table(table, tmp_path / "a", row_group_size=40)
-    names = [it.name for it in footer_of(tmp_path / "a").columns()]
+    names = [column.name for column in footer_of(tmp_path / "a").columns()]
     parquet.add_filters(tmp_path / "a", tmp_path / "a", names)
     assert parquet.check_filters(tmp_path / "a") == 9 and pa.parquet.read_table(tmp_path / "a").equals(table)
     for i in range(100):
