@@ -267,6 +267,12 @@ def test_a_footer_takes_memory_by_its_length(fields):
     assert peak < 20 * len(footer) + 50_000
 
 
+def test_a_long_text_is_not_copied_for_each_column():
+    data = join(b"PAR1", {2: structs(ROOT, LEAF), 6: (TType.STRING, b"x" * 50_000)})
+    footer = Footer(Source(io.BytesIO(data)))
+    assert [len(footer.of_column(column)) < 100 for column in footer.columns()] == [True]
+
+
 @pytest.mark.parametrize("data, text", BYTES.values(), ids=BYTES)
 def test_a_field_that_no_footer_has_is_an_error(data, text):
     before, fields = split(FILTERS)

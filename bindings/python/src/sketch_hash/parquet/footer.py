@@ -286,7 +286,7 @@ class Footer:
         # Numbers in arrays: an object for each takes ten times as much as a part of a damaged footer may.
         self.rows, self.chunks = array.array("q"), array.array("Q")
         self.is_signed, self.schema = False, None  # where the list of the schema's elements begins
-        self.copied = {}  # the kind and the bytes of some fields
+        self.copied = {}  # the kind and the bytes of some fields, if they are short: they are copied for each column
         with damage():
             self.read_root()
             self.width = sum(1 for _ in self.leaves())
@@ -298,23 +298,20 @@ class Footer:
         return len(self.rows)
 
     def read_root(self):
-        reader, seen = Reader(self.data, 0), set()
+        reader, kinds = Reader(self.data, 0), {SCHEMA: LIST, ROW_GROUPS: LIST, ENCRYPTION: STRUCT}
         for number, kind in reader.fields():
             if number in (VERSION, ALL_ROWS, CREATED_BY):
-                self.copied[number] = kind, reader.bytes_of(kind)
-            if number not in (SCHEMA, ROW_GROUPS, ENCRYPTION):
-                continue
-            if number in seen or kind != (STRUCT if number == ENCRYPTION else LIST):
-                raise ValueError(f"field {number} is there twice, or has another type than in parquet.thrift")
-            seen.add(number)
-            if number == SCHEMA:
-                self.schema = reader.at
-            elif number == ROW_GROUPS:
-                widths = {self.read_group(reader) for _ in reader.structs()}
-                if len(widths) > 1:
+                value = reader.bytes_of(kind)
+                if len(value) < 1000:
+                    self.copied[number] = kind, value
+            elif number in kinds:
+                if kind != kinds[number]:
+                    raise ValueError(f"field {number} is there twice, or has another type than in parquet.thrift")
+                kinds[number] = None
+                self.schema = reader.at if number == SCHEMA else self.schema
+                self.is_signed |= number == ENCRYPTION
+                if number == ROW_GROUPS and len({self.read_group(reader) for _ in reader.structs()}) > 1:
                     raise ValueError("a row group must have all columns")
-            else:
-                self.is_signed = True
 
     def read_group(self, reader):
         """Notes where the chunks of a row group begin, and how many rows it has. Returns how many chunks there are."""
