@@ -260,17 +260,26 @@ def test_nulls_without_memory_take_no_time(is_coded, producer):
     assert bloom == BloomFilter(32)
 
 
+MANY_ROWS = {
+    "rows without bytes": "producer.schema('w:0'), producer.array(2**28 if is_short else 2**50, None, b'')",
+    "one long text": "producer.schema('c', producer.inner.schema('u')), producer.array(2**20, None, bytes(2**20), "
+                     "dictionary=producer.inner.array(1, None, struct.pack('<2i', 0, 2**24), bytes(2**24)))",
+}
+
+
 @pytest.mark.parametrize("call", ["bloom.add_each", "bloom.contains_each", "xxh64_each"])
-def test_a_signal_ends_a_call_on_many_rows(call):
-    """Its handler may call the filter. In a process of its own, since rows without bytes have no end."""
+@pytest.mark.parametrize("rows", MANY_ROWS.values(), ids=MANY_ROWS)
+def test_a_signal_ends_a_call_on_many_rows(rows, call):
+    """Its handler may call the filter. In a process of its own, since such a call may have no end."""
     code = f"""if True:
-        import signal, test_arrow
+        import signal, struct, test_arrow
         from sketch_hash import BloomFilter, xxh64_each
         def stop(*_):
             b"fox" in bloom
             raise KeyboardInterrupt
-        producer, bloom, rows = test_arrow.Producer(), BloomFilter(32), 2**50 if "add" in {call!r} else 2**28
-        column = producer.exported(producer.schema("w:0"), producer.array(rows, None, b""))
+        producer, bloom, is_short = test_arrow.Producer(), BloomFilter(32), "add" not in {call!r}
+        producer.inner = test_arrow.Producer()
+        column = producer.exported({rows})
         signal.signal(signal.SIGALRM, stop)
         signal.setitimer(signal.ITIMER_REAL, 0.05)
         try:

@@ -91,6 +91,7 @@ cdef class Arrow:
     cdef int append(self, ArrowArray *array) except -1
     cdef int refuse_nulls(self) except -1
     cdef bint overlaps(self, const void *memory, size_t length) noexcept nogil
+    cdef size_t block(self) noexcept nogil
     cdef void advance(self, size_t count) noexcept nogil
     cdef void hash(self, int words, uint64_t seed, uint64_t *out) noexcept nogil
     cdef int insert(self, void *bits, size_t length) noexcept nogil

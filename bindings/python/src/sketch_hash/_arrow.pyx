@@ -11,8 +11,11 @@ from ._library cimport *
 import os
 import re
 
+# A call looks for signals, as of Ctrl-C, after so many rows, or bytes of keys: a column may claim 2**59 rows without memory.
 cdef enum:
-    STEP = 1 << 24  # rows after which a call looks for signals, as of Ctrl-C: of nulls there may be 2**59 without memory
+    BLOCK = 1024
+    MANY = 1 << 24
+    MANY_BYTES = 1 << 30
 
 MOST_ROWS = 2**59
 TYPES = {  # by their formats: the layout of values, their width, and whether they have a sign
@@ -104,35 +107,41 @@ cdef inline size_t key_at(const Values *values, size_t i, const char **key, int3
     return length
 
 
-cdef void hash_rows(
-    const Chunk *chunk, size_t start, size_t count, int words, uint64_t seed, uint64_t *out
+cdef size_t hash_rows(
+    const Chunk *chunk, size_t start, size_t *count, int words, uint64_t seed, uint64_t *out
 ) noexcept nogil:
-    """Writes a word of XXH64 or two of Murmur for each row, and 0 for a null."""
+    """Writes a word of XXH64 or two of Murmur for each of `count` rows, and 0 for a null. It may stop at fewer rows, since
+    each may be the same long text. Returns about how many bytes they have."""
     cdef const char *key
     cdef int32_t widened
     cdef const Values *rows = &chunk.rows
-    cdef size_t i, length, wrong
+    cdef size_t i, length, wrong, num_bytes = (MANY_BYTES // MANY) * count[0]
     cdef const char *place = rows.memory + (rows.offset + start) * rows.width
     cdef bint is_coded = chunk.keys is not rows, is_aligned = <uintptr_t>place & (rows.width - 1) == 0
     # One call for many texts takes a fifth less time, and for many numbers a third.
-    if count and is_aligned and not is_coded and not chunk.has_nulls:
+    if count[0] and is_aligned and not is_coded and not chunk.has_nulls:
         if rows.layout == OFFSETS:
             length = number_at(rows, rows.length)
-            hash_texts(words, rows.width, rows.text, length, place, count + 1, seed, out, count, &wrong)
-            return
+            hash_texts(words, rows.width, rows.text, length, place, count[0] + 1, seed, out, count[0], &wrong)
+            return num_bytes + number_at(rows, start + count[0]) - number_at(rows, start)
         if rows.layout == FIXED and rows.width == 8 and words == 1:
-            sketch_xxh64_each_u64(<uint64_t *>place, count, seed, out, count)
-            return
-    for i in range(start, start + count):
+            sketch_xxh64_each_u64(<uint64_t *>place, count[0], seed, out, count[0])
+            return num_bytes
+    for i in range(start, start + count[0]):
+        if num_bytes >= MANY_BYTES:
+            count[0] = i - start
+            break
         if chunk.has_nulls and is_null(chunk, i):
             out[0] = 0
         else:
             length = key_at(chunk.keys, number_at(&chunk.rows, i) if is_coded else i, &key, &widened)
+            num_bytes += length
             if words == 1:
                 out[0] = sketch_xxh64(key, length, seed)
             else:
                 sketch_murmur3_x64_128(key, length, seed, out)
         out += words
+    return num_bytes
 
 
 ctypedef fused Offset:
@@ -218,8 +227,8 @@ cdef size_t check_values(const Values *values) except? 0:
     cdef const char *first
     cdef bint is_wrong
     what = "have views within its texts" if values.layout == VIEWS else "have offsets from 0 on that do not fall"
-    for begin in range(0, values.length if values.layout in (OFFSETS, VIEWS) else 0, STEP):
-        end = min(begin + STEP, values.length)
+    for begin in range(0, values.length if values.layout in (OFFSETS, VIEWS) else 0, MANY):
+        end = min(begin + MANY, values.length)
         first = values.memory + (values.offset + begin) * values.width
         with nogil:
             if values.layout == VIEWS:
@@ -240,9 +249,9 @@ cdef size_t check_values(const Values *values) except? 0:
 cdef int check_codes(const Values *rows, size_t length) except -1:
     cdef size_t begin
     cdef bint is_wrong
-    for begin in range(0, rows.length, STEP):
+    for begin in range(0, rows.length, MANY):
         with nogil:
-            is_wrong = codes_leave(rows, begin, min(begin + STEP, rows.length), length)
+            is_wrong = codes_leave(rows, begin, min(begin + MANY, rows.length), length)
         must(not is_wrong, "have codes within its dictionary")
         PyErr_CheckSignals()
     return 0
@@ -380,7 +389,7 @@ cdef class Arrow:
             for i in range(chunk.rows.length if chunk.has_nulls else 0):
                 if is_null(chunk, i):
                     raise ValueError(f"the key at {before + i} must not be null: a null has no hash")
-                if i % STEP == STEP - 1:
+                if i % MANY == MANY - 1:
                     PyErr_CheckSignals()
             before += chunk.rows.length
             chunk = chunk.next
@@ -394,6 +403,11 @@ cdef class Arrow:
             chunk = chunk.next
         return False
 
+    cdef size_t block(self) noexcept nogil:
+        """How many rows a loop takes next: few enough for their hashes to stay in the cache. Of nulls it is all."""
+        cdef size_t count = self.chunk.rows.length - self.row
+        return count if self.chunk.keys.layout == NOTHING else min(<size_t>BLOCK, count)
+
     cdef void advance(self, size_t count) noexcept nogil:
         self.row += count
         self.done += count
@@ -401,22 +415,22 @@ cdef class Arrow:
             self.chunk, self.row = self.chunk.next, 0
 
     cdef void hash(self, int words, uint64_t seed, uint64_t *out) noexcept nogil:
-        """Writes the hashes of the next rows, up to STEP."""
-        cdef size_t stop = self.done + STEP, count
-        while self.chunk is not NULL and self.done < stop:
-            count = min(<size_t>STEP, self.chunk.rows.length - self.row)
-            hash_rows(self.chunk, self.row, count, words, seed, out + words * self.done)
+        """Writes the hashes of the next rows."""
+        cdef size_t num_bytes = 0, count
+        while self.chunk is not NULL and num_bytes < MANY_BYTES:
+            count = self.block()
+            num_bytes += hash_rows(self.chunk, self.row, &count, words, seed, out + words * self.done)
             self.advance(count)
 
     cdef int insert(self, void *bits, size_t length) noexcept nogil:
-        """Inserts the keys of the next rows, up to STEP. What is only null is skipped at once."""
-        cdef uint64_t hashes[1024]
-        cdef size_t stop = self.done + STEP, count, kept, i
-        while self.chunk is not NULL and self.done < stop:
-            count = self.chunk.rows.length - self.row
+        """Inserts the keys of the next rows. What is only null is skipped at once."""
+        cdef uint64_t hashes[BLOCK]
+        cdef size_t num_bytes = 0, count, kept, i
+        while self.chunk is not NULL and num_bytes < MANY_BYTES:
+            count = self.block()
             if self.chunk.keys.layout != NOTHING:
-                count = kept = min(<size_t>1024, count)
-                hash_rows(self.chunk, self.row, count, 1, 0, hashes)
+                num_bytes += hash_rows(self.chunk, self.row, &count, 1, 0, hashes)
+                kept = count
                 if self.chunk.has_nulls:
                     kept = 0
                     for i in range(count):
@@ -429,15 +443,14 @@ cdef class Arrow:
         return 0
 
     cdef int contains(self, const void *bits, size_t length, unsigned char *found) noexcept nogil:
-        """Writes 1 for each key of the next rows, up to STEP, that the filter may contain. All bytes are 0 before."""
-        cdef uint64_t hashes[1024]
-        cdef size_t stop = self.done + STEP, count, i
+        """Writes 1 for each key of the next rows that the filter may contain. All bytes are 0 before."""
+        cdef uint64_t hashes[BLOCK]
+        cdef size_t num_bytes = 0, count, i
         cdef unsigned char *to
-        while self.chunk is not NULL and self.done < stop:
-            count = self.chunk.rows.length - self.row
+        while self.chunk is not NULL and num_bytes < MANY_BYTES:
+            count, to = self.block(), found + self.done
             if self.chunk.keys.layout != NOTHING:
-                count, to = min(<size_t>1024, count), found + self.done
-                hash_rows(self.chunk, self.row, count, 1, 0, hashes)
+                num_bytes += hash_rows(self.chunk, self.row, &count, 1, 0, hashes)
                 status = sketch_bloom_contains_each_hash(bits, length, hashes, count, to, count)
                 if status:
                     return status
