@@ -33,7 +33,7 @@
 #if !defined __cplusplus
 #define SKETCH_HASH_U64(number) ((uint64_t)(number))
 #elif __cplusplus < 201103L
-#define SKETCH_HASH_U64(number) static_cast<uint64_t>(number)
+#define SKETCH_HASH_U64(number) ::uint64_t(number)
 #else
 /* In a template no compiler warns of a cast that changes nothing. */
 extern "C++" {
@@ -43,7 +43,7 @@ template <typename Number> constexpr uint64_t u64(Number number) {
 }
 } // namespace sketch_hash
 }
-#define SKETCH_HASH_U64(number) sketch_hash::u64(number)
+#define SKETCH_HASH_U64(number) ::sketch_hash::u64(number)
 #endif
 
 /* What each call is declared with. SKETCH_HASH_INLINE makes it static, for a program that includes

@@ -104,6 +104,7 @@ export interface BloomFilter {
     toParquet(): Uint8Array;
 }
 
+/** forKeys, fromBytes and fromParquet of a subclass return an object of it, and do not call its constructor. */
 export interface BloomFilterConstructor {
     /** A filter of so many bytes without keys. @throws {RangeError} if `length` is not a positive multiple of 32 */
     new (length: Whole): BloomFilter;

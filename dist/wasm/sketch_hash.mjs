@@ -220,9 +220,18 @@ function libraryOf(calls) {
     const OFFSETS = ['Uint32Array', 'Int32Array', ...WIDE];
     const NUMBERS = [...OFFSETS, 'Float32Array', 'Float64Array'];
 
-    function checkedColumn(column, types, name) {
-        if (ArrayBuffer.isView(column) && types.includes(typeOf(column))) return column;
-        throw new TypeError(`${name} must be of type ${types.join(', ')}`);
+    // The name of a typed array's type, whatever a subclass or a property says.
+    const { get: nameOfType } =
+        Object.getOwnPropertyDescriptor(Object.getPrototypeOf(Uint8Array.prototype), Symbol.toStringTag);
+
+    // The bytes of a column, how many values it has, and their width. Its length is read once: if its buffer is shared,
+    // another thread may let it grow at any time.
+    function columnOf(values, types, name) {
+        const type = nameOfType.call(values);
+        if (!types.includes(type)) throw new TypeError(`${name} must be of type ${types.join(', ')}`);
+        const bytes = view(values);
+        const width = type.includes('64') ? 8 : 4;
+        return { bytes, count: Math.floor(bytes.length / width), width, type };
     }
 
     const ERROR_OFFSET = -2;
@@ -276,25 +285,29 @@ function libraryOf(calls) {
     }
 
     // The call for offsets or numbers of this width: its name ends with 32 or 64.
-    const callFor = (name, column) => calls[`${name}${8 * column.BYTES_PER_ELEMENT}`];
-    const callForOffsets = (name, offsets) => callFor(name, checkedColumn(offsets, OFFSETS, 'offsets'));
-    const callForNumbers = (name, numbers) => callFor(name, checkedColumn(numbers, NUMBERS, 'numbers'));
-    // The bytes that an offset can reach. The library reads a negative one as a number that is past their end.
-    const reachable = (bytes, offsets) =>
-        view(bytes).subarray(0, typeOf(offsets) === 'Int32Array' ? 2 ** 31 - 1 : undefined);
+    const callFor = (name, { width }) => calls[`${name}${8 * width}`];
+
+    // The columns of texts, with how many keys they are. The library reads a negative offset as a number that is past
+    // the end of the bytes.
+    function textsOf(bytes, offsets) {
+        const ends = columnOf(offsets, OFFSETS, 'offsets');
+        const reached = view(bytes).subarray(0, ends.type === 'Int32Array' ? 2 ** 31 - 1 : undefined);
+        return { ends, columns: [ends, { bytes: reached, count: reached.length }], count: Math.max(ends.count - 1, 0) };
+    }
+
     const resultWord = () => new BigUint64Array(memory.buffer, result, 1)[0];
 
     // Runs a call over columns, and returns the results. A block holds the results, then offsets or numbers, then
     // bytes, so that each array is aligned.
     function overColumns(columns, resultBytes, call) {
-        const block = allocate(columns.reduce((sum, { byteLength }) => sum + byteLength, resultBytes + 8));
+        const block = allocate(columns.reduce((sum, { bytes }) => sum + bytes.length, resultBytes + 8));
         const at = block.start;
         try {
             let next = at + 8 * Math.ceil(resultBytes / 8);
-            const args = columns.map((column) => {
-                const [address] = put(view(column), next);
-                next += column.byteLength;
-                return [address, BigInt(column.length)];
+            const args = columns.map(({ bytes, count }) => {
+                const [address] = put(bytes, next);
+                next += bytes.length;
+                return [address, BigInt(count)];
             });
             check(call(BigInt(at), ...args), resultWord());
             return memory.slice(at, at + resultBytes);
@@ -306,18 +319,17 @@ function libraryOf(calls) {
     function hashEachKey(name, width) {
         return (bytes, offsets, seed = 0n) => {
             const seedWord = checked(seed, 'a seed');
-            const call = callForOffsets(name, offsets);
-            const count = Math.max(offsets.length - 1, 0);
-            return new BigUint64Array(overColumns([offsets, reachable(bytes, offsets)], count * width, (out, ofOffsets, ofBytes) =>
-                call(...ofBytes, ...ofOffsets, seedWord, out, BigInt(count), BigInt(result))).buffer);
+            const { ends, columns, count } = textsOf(bytes, offsets);
+            return new BigUint64Array(overColumns(columns, count * width, (out, ofOffsets, ofBytes) =>
+                callFor(name, ends)(...ofBytes, ...ofOffsets, seedWord, out, BigInt(count), BigInt(result))).buffer);
         };
     }
 
     function xxh64EachU64(values, seed = 0n) {
         const seedWord = checked(seed, 'a seed');
-        const count = checkedColumn(values, WIDE, 'numbers').length;
-        return new BigUint64Array(overColumns([values], 8 * count, (out, ofValues) =>
-            calls.sketch_xxh64_each_u64(...ofValues, seedWord, out, BigInt(count))).buffer);
+        const numbers = columnOf(values, WIDE, 'numbers');
+        return new BigUint64Array(overColumns([numbers], 8 * numbers.count, (out, ofNumbers) =>
+            calls.sketch_xxh64_each_u64(...ofNumbers, seedWord, out, BigInt(numbers.count))).buffer);
     }
 
     const encoder = new TextEncoder();
@@ -356,11 +368,12 @@ function libraryOf(calls) {
             throw new RangeError('no Bloom filter of at most 128 MiB keeps this rate for so many keys, or oneIn is 0');
         }
 
-        static forKeys(keys, oneIn) { return new this(this.bytesFor(keys, oneIn)); }
+        // A subclass's constructor may take other arguments, so it is not called.
+        static forKeys(keys, oneIn) { return Reflect.construct(BloomFilter, [BloomFilter.bytesFor(keys, oneIn)], this); }
 
         static fromBytes(bytes) {
             const all = view(bytes);
-            const filter = new this(all.length);
+            const filter = Reflect.construct(BloomFilter, [all.length], this);
             filter.#bytes().set(all);
             return filter;
         }
@@ -371,7 +384,7 @@ function libraryOf(calls) {
             if (!header) throw new RangeError('the input does not begin with the whole header of a Bloom filter');
             const last = Number(header + resultWord());
             if (last > all.length) throw new RangeError('the input ends before the Bloom filter does');
-            return this.fromBytes(all.subarray(Number(header), last));
+            return BloomFilter.fromBytes.call(this, all.subarray(Number(header), last));
         }
 
         get #bits() {
@@ -407,16 +420,16 @@ function libraryOf(calls) {
         }
 
         addEach(bytes, offsets) {
-            const call = callForOffsets('sketch_bloom_insert_each', offsets);
-            overColumns([offsets, reachable(bytes, offsets)], 0, (_, ofOffsets, ofBytes) =>
-                call(...this.#bits, ...ofBytes, ...ofOffsets, BigInt(result)));
+            const { ends, columns } = textsOf(bytes, offsets);
+            overColumns(columns, 0, (_, ofOffsets, ofBytes) =>
+                callFor('sketch_bloom_insert_each', ends)(...this.#bits, ...ofBytes, ...ofOffsets, BigInt(result)));
             return this;
         }
 
         hasEach(bytes, offsets) {
-            const call = callForOffsets('sketch_bloom_contains_each', offsets);
-            const count = Math.max(offsets.length - 1, 0);
-            return overColumns([offsets, reachable(bytes, offsets)], count, (found, ofOffsets, ofBytes) =>
+            const { ends, columns, count } = textsOf(bytes, offsets);
+            const call = callFor('sketch_bloom_contains_each', ends);
+            return overColumns(columns, count, (found, ofOffsets, ofBytes) =>
                 call(...this.#bits, ...ofBytes, ...ofOffsets, found, BigInt(count), BigInt(result)));
         }
 
@@ -426,24 +439,26 @@ function libraryOf(calls) {
         }
 
         #hasValues(call, values) {
-            return overColumns([values], values.length, (found, ofValues) =>
-                call(...this.#bits, ...ofValues, found, BigInt(values.length)));
+            return overColumns([values], values.count, (found, ofValues) =>
+                call(...this.#bits, ...ofValues, found, BigInt(values.count)));
         }
 
         addEachNumber(numbers) {
-            return this.#addValues(callForNumbers('sketch_bloom_insert_each_u', numbers), numbers);
+            const column = columnOf(numbers, NUMBERS, 'numbers');
+            return this.#addValues(callFor('sketch_bloom_insert_each_u', column), column);
         }
 
         hasEachNumber(numbers) {
-            return this.#hasValues(callForNumbers('sketch_bloom_contains_each_u', numbers), numbers);
+            const column = columnOf(numbers, NUMBERS, 'numbers');
+            return this.#hasValues(callFor('sketch_bloom_contains_each_u', column), column);
         }
 
         addEachHash(hashes) {
-            return this.#addValues(calls.sketch_bloom_insert_each_hash, checkedColumn(hashes, HASHES, 'hashes'));
+            return this.#addValues(calls.sketch_bloom_insert_each_hash, columnOf(hashes, HASHES, 'hashes'));
         }
 
         hasEachHash(hashes) {
-            return this.#hasValues(calls.sketch_bloom_contains_each_hash, checkedColumn(hashes, HASHES, 'hashes'));
+            return this.#hasValues(calls.sketch_bloom_contains_each_hash, columnOf(hashes, HASHES, 'hashes'));
         }
 
         merge(other) {

@@ -1,8 +1,10 @@
 """Arrow arrays as columns: made by ctypes, with all that a producer may do, and by pyarrow where it is packaged."""
 import ctypes
 import errno
+import os
 import struct
 import subprocess
+import sys
 
 import pytest
 from conftest import assert_releases_the_gil
@@ -231,6 +233,64 @@ def test_long_columns(producer):
         check(lambda: producer.exported(producer.schema("u"), producer.array(len(kept), *buffers_of("u", kept))), kept)
 
 
+def test_a_column_of_more_rows_than_a_call_takes_at_a_time(producer):
+    rows, seven = bytes(1 << 24) + b"\7\0\0", struct.pack("<i", 7)
+    make = lambda: producer.streamed(producer.schema("C"), producer.array(len(rows), None, rows),
+                                     producer.array(2, None, b"\0\7"))
+    bloom, one = BloomFilter(1024), BloomFilter(1024)
+    bloom.add_each(make())
+    one.add(seven)
+    assert seven in bloom and bytes(4) in bloom
+    at = [i for i, is_found in enumerate(one.contains_each(make()).tobytes()[1 << 24 :]) if is_found]
+    assert at == [0, 4] and one.contains_each(make()).tobytes().count(1) == 2
+    hashes = xxh64_each(make())
+    assert {*hashes[(1 << 24) - 2 :: 2]} == {xxh64_intdigest(bytes(4)), xxh64_intdigest(seven)}
+    assert hashes[-1] == hashes[1 << 24] == xxh64_intdigest(seven)
+
+
+@pytest.mark.parametrize("is_coded", [False, True], ids=["values", "dictionary"])
+def test_nulls_without_memory_take_no_time(is_coded, producer):
+    bloom = BloomFilter(32)
+    if is_coded:
+        array = producer.array(3, None, bytes(3), dictionary=producer.inner.array(2**50))
+        column = producer.exported(producer.schema("c", producer.inner.schema("n")), array)
+    else:
+        column = producer.streamed(producer.schema("n"), producer.array(2**50), producer.array(2**50))
+    bloom.add_each(column)
+    assert bloom == BloomFilter(32)
+
+
+MANY_ROWS = {
+    "rows without bytes": "producer.schema('w:0'), producer.array(2**28 if is_short else 2**50, None, b'')",
+    "one long text": "producer.schema('c', producer.inner.schema('u')), producer.array(2**20, None, bytes(2**20), "
+                     "dictionary=producer.inner.array(1, None, struct.pack('<2i', 0, 2**24), bytes(2**24)))",
+}
+
+
+@pytest.mark.parametrize("call", ["bloom.add_each", "bloom.contains_each", "xxh64_each"])
+@pytest.mark.parametrize("rows", MANY_ROWS.values(), ids=MANY_ROWS)
+def test_a_signal_ends_a_call_on_many_rows(rows, call):
+    """Its handler may call the filter. In a process of its own, since such a call may have no end."""
+    code = f"""if True:
+        import signal, struct, test_arrow
+        from sketch_hash import BloomFilter, xxh64_each
+        def stop(*_):
+            b"fox" in bloom
+            raise KeyboardInterrupt
+        producer, bloom, is_short = test_arrow.Producer(), BloomFilter(32), "add" not in {call!r}
+        producer.inner = test_arrow.Producer()
+        column = producer.exported({rows})
+        signal.signal(signal.SIGALRM, stop)
+        signal.setitimer(signal.ITIMER_REAL, 0.05)
+        try:
+            {call}(column)
+        except KeyboardInterrupt:
+            print("stopped")"""
+    environment = {**os.environ, "PYTHONPATH": os.pathsep.join(sys.path)}
+    done = subprocess.run([sys.executable, "-c", code], env=environment, capture_output=True, text=True, timeout=60)
+    assert done.stdout == "stopped\n", done.stderr
+
+
 CALLS = [xxh64_each, murmur3_x64_128_each, BloomFilter(32).add_each, BloomFilter(32).contains_each]
 
 
@@ -241,7 +301,7 @@ CALLS = [xxh64_each, murmur3_x64_128_each, BloomFilter(32).add_each, BloomFilter
     ("d:9,2", "decimals.* sketch_hash.parquet.add_filters reads them as they are stored"),
     ("+s", "structs.* pass one column of a table"), ("+l", "lists, maps or unions.* array.flatten"),
     ("+r", "runs.* pyarrow.compute.run_end_decode"),
-    *((it, "another type") for it in ("tiM", "", "w:-1", "w:9999999999")),
+    *((it, "another type") for it in ("tiM", "", "w:-1", "w:9999999999", "w: 5", "w:5_0", "w:")),
 ])
 @pytest.mark.parametrize("is_coded", [False, True], ids=["values", "dictionary"])
 def test_another_type_is_an_error_with_the_cure(format, text, is_coded, producer):
@@ -254,7 +314,7 @@ def test_another_type_is_an_error_with_the_cure(format, text, is_coded, producer
 
 OFFSETS = struct.pack("<4i", 0, 3, 6, 9)
 VIEW = struct.Struct("<i4sii")
-BROKEN = {  # a format, a length, buffers, other fields, what must be
+BROKEN = {  # a format, a length, buffers, other fields, what it must have
     "length": ("i", -1, [None, OFFSETS], {}, "a length"),
     "long length": ("w:2147483647", 2**58, [None, OFFSETS], {}, "less than"),
     "offset": ("i", 1, [None, OFFSETS], {"offset": -1}, "a length"),
@@ -278,7 +338,7 @@ BROKEN = {  # a format, a length, buffers, other fields, what must be
     "view NULL": ("vu", 1, [None, VIEW.pack(13, b"", 0, 0), None, struct.pack("<q", 20)], {}, "views"),
     "view sizes": ("vu", 1, [None, VIEW.pack(13, b"", 0, 0), bytes(20), None], {}, "the sizes"),
     "dictionary": ("i", 3, [None, OFFSETS], {"dictionary": Array(n_buffers=2)}, "a dictionary if"),
-    "released": ("i", 3, [None, OFFSETS], {"release": None}, "not been released"),
+    "released": ("i", 3, [None, OFFSETS], {"release": None}, "not be released"),
 }
 
 
@@ -293,7 +353,7 @@ def test_a_broken_array_is_an_error_and_nothing_added(format, length, buffers, f
                 if chunks:
                     continue  # such an array is the end of a stream
                 array.release, producer.releases[-1] = None, 1
-            with pytest.raises(ValueError, match=f"^an Arrow array must have (been )?({text})"):
+            with pytest.raises(ValueError, match=f"^an Arrow array must (have )?({text})"):
                 call(make(producer.schema(format), *chunks, array))
     assert bloom == BloomFilter(32)
 
@@ -388,13 +448,15 @@ def test_a_stream_may_wait_for_a_thread_that_needs_the_gil(need, tmp_path, ticks
 def stored(pa, values, path):
     """The bytes of values in a Parquet file, as pyarrow reads them if it knows nothing of their types."""
     from sketch_hash import parquet
+    from sketch_hash.parquet.files import Source
     from sketch_hash.parquet.footer import Footer
     formats = {"int32": "<i", "int64": "<q", "float": "<f", "double": "<d"}
     pa.parquet.write_table(pa.table({"x": values}), path)
-    footer = Footer(open(path, "rb"))
-    arrays = [it for batches in parquet.stored_values(path, footer, footer.columns[0]) for it in batches]
-    return [value if value is None or isinstance(value, bytes) else struct.pack(formats[str(it.type)], value)
-            for it in arrays for value in it.to_pylist()]
+    with open(path, "rb") as file:
+        footer = Footer(Source(file))
+        arrays = [batch for batches in parquet.stored_values(file, footer, *footer.columns()) for batch in batches]
+    return [value if value is None or isinstance(value, bytes) else struct.pack(formats[str(values.type)], value)
+            for values in arrays for value in values.to_pylist()]
 
 
 @pytest.mark.parametrize("name", [*TYPES, "float16", "string_view", "binary_view"])

@@ -136,16 +136,6 @@ def test_an_array_without_objects_is_data(data):
 
 
 @pytest.mark.parametrize("call", [*EACH, BLOOM.add_each, BLOOM.contains_each])
-def test_a_pair_is_the_items_of_a_tuple(call):
-    """A subclass may return items that nothing else refers to."""
-    class Pair(tuple):
-        __len__ = lambda _: 3
-        __getitem__ = lambda _, i: pytest.fail("called")
-
-    assert call(Pair(PAIR)) == call(PAIR)
-
-
-@pytest.mark.parametrize("call", [*EACH, BLOOM.add_each, BLOOM.contains_each])
 def test_a_negative_offset_is_an_error_beyond_2_gib(call):
     first = -2**31  # 2**31 without a sign
     for offsets, index in (([first, first + 3], 0), ([5, first], 1), ([0, 5, -1], 2)):
@@ -166,12 +156,37 @@ def test_a_column_of_texts_is_their_bytes_and_offsets():
     assert xxh64_each(sketch_hash.column([])).tolist() == []
 
 
+def test_a_text_is_itself_and_not_what_its_methods_return():
+    class Text(str):
+        encode = lambda *_: b"other"
+
+    class Bytes(bytes):
+        __bytes__ = __buffer__ = lambda *_: b"other"
+
+    assert sketch_hash.column([Text("fox"), Bytes(b"dog")]) == sketch_hash.column(["fox", "dog"])
+    bloom = BloomFilter(32)
+    bloom.update([Text("fox"), Bytes(b"dog")])
+    assert "fox" in bloom and "dog" in bloom and "other" not in bloom
+
+
 @pytest.mark.parametrize("dtype", ["f4", "f8"])
 def test_a_nan_of_numpy_is_an_error(dtype):
     """It may be a missing value of whole numbers, which would be other keys."""
     for call in FILTER:
         with pytest.raises(ValueError, match="^the key at 1 must not be NaN, .*: pass the Arrow array that it"):
             call(numpy.array([1, numpy.nan, 3], dtype))
+
+
+@pytest.mark.parametrize("keys", [
+    numpy.ma.array([1, 2], mask=[0, 1]), (b"foxdog", numpy.ma.array([0, 3, 6], mask=[0, 1, 0])),
+], ids=["numbers", "offsets"])
+def test_a_masked_array_is_an_error(keys):
+    """Its buffer has the masked values too."""
+    for call in (*FILTER, xxh64_each):
+        with pytest.raises(TypeError, match=r"^a column must not be a masked array: pass pyarrow.array\(keys\), or keys"):
+            call(keys)
+    with pytest.raises(TypeError, match="^a column must not be a masked array"):
+        BLOOM.add_hashes(numpy.ma.array([1, 2], "u8"))
 
 
 class Series:

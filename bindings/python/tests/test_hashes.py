@@ -92,11 +92,14 @@ def test_methods_take_their_argument_by_position_only():
             call(**{name: value})
 
 
-@pytest.mark.parametrize("call", [*FORMS, "copy", "reset", "__init__", "__reduce__", "__repr__", "update"])
+@pytest.mark.parametrize("call, args", [
+    *((name, []) for name in (*FORMS, "copy", "reset", "__init__", "__reduce__", "__repr__")),
+    ("update", [b"fox"]), ("__getattribute__", ["seed"]),
+])
 @pytest.mark.parametrize("kind", KINDS)
-def test_each_call_waits_for_a_long_one(kind, call):
+def test_each_call_waits_for_a_long_one(kind, call, args):
     hasher = kind()
-    assert waits(lambda: hasher.update(ZEROS), lambda: getattr(hasher, call)(*[b"fox"] * (call == "update")))
+    assert waits(lambda: hasher.update(ZEROS), lambda: getattr(hasher, call)(*args))
 
 
 @pytest.mark.parametrize("kind", KINDS)

@@ -11,7 +11,7 @@ from conftest import DIST
 
 HERE = pathlib.Path(__file__).resolve().parent
 PIP = [sys.executable, "-m", "pip", "install", "--quiet", "--no-index", "--no-deps", "--root-user-action=ignore"]
-PRIVATE = "__main__", "parquet.__main__", "parquet.footer", "parquet.keys"
+PRIVATE = "__main__", *(f"parquet.{name}" for name in ("__main__", "files", "footer", "keys", "values"))
 FOX = "import sketch_hash; print(sketch_hash.xxh64_hexdigest(b'The quick brown fox jumps over the lazy dog'))"
 
 
@@ -65,7 +65,7 @@ def test_stubs_fit_the_module(need, tmp_path):
     """Each name, argument and default of the stubs is that of the module, by mypy's own comparison."""
     need("python:mypy", "python:sketch_hash")
     import sketch_hash
-    # Programs and private modules have no stubs, nor has the library of Thrift.
+    # Programs and private modules have no stubs, nor has pyarrow.
     private = ",".join(f"sketch_hash.{it}" for it in PRIVATE)
     settings = f"[mypy]\nignore_missing_imports = True\n[mypy-{private}]\nignore_errors = True\n"
     (tmp_path / "mypy.ini").write_text(settings)

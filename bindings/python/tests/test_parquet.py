@@ -1,25 +1,33 @@
 """Filters of Parquet files. data/ has two files of pyarrow 25; it is needed by the last tests alone."""
+import contextlib
 import datetime
 import decimal
+import gzip
 import io
+import mmap
 import os
 import pathlib
 import random
 import re
 import shutil
 import signal
+import socket
 import stat
 import subprocess
 import sys
+import time
+import tracemalloc
 import uuid
 
 import pytest
-from helpers import TYPES, column_of
-from sketch_hash import column
+from helpers import TYPES, column_of, in_threads
+from sketch_hash import column, parquet
+from sketch_hash.parquet import values as parquet_values
+from sketch_hash.parquet.files import Source
+from sketch_hash.parquet.footer import LENGTH, OFFSET, Footer
+from thrift_tree import TType, chunk_of, join, metadata_of, split
 
-thrift = pytest.importorskip("thrift")
-from sketch_hash import parquet
-from sketch_hash.parquet.footer import LENGTH, OFFSET, Footer, TType, end_of, serialize
+numpy = pytest.importorskip("numpy")
 
 DATA = pathlib.Path(__file__).parent / "data"
 FILTERS, ODD = DATA / "filters.parquet", DATA / "odd.parquet"  # 24 rows in 3 row groups; those at 5 modulo 8 are null
@@ -56,9 +64,42 @@ def test_a_value_is_in_its_row_group(name, value):
 
 
 def test_a_file_may_be_open_or_in_memory():
-    for file in (io.BytesIO(FILTERS.read_bytes()), open(FILTERS, "rb"), str(FILTERS)):
+    memory = mmap.mmap(-1, FILTERS.stat().st_size)
+    memory[:] = FILTERS.read_bytes()
+    for file in (io.BytesIO(memory), memory, open(FILTERS, "rb"), open(FILTERS, "rb", buffering=0), str(FILTERS)):
         assert 1 in parquet.may_contain(file, "string", "fox 8") and len(parquet.filters(file)) == 3 * len(VALUES)
         assert "fox 8" in parquet.read_filter(file, 1, "string")
+
+
+class Slow(io.BytesIO):
+    """Another thread runs after each seek."""
+    def seek(self, *args):
+        place = super().seek(*args)
+        time.sleep(0.001)
+        return place
+
+
+@pytest.mark.parametrize("make", [lambda: open(FILTERS, "rb"), lambda: Slow(FILTERS.read_bytes())], ids=["file", "memory"])
+def test_threads_may_ask_one_open_file(make):
+    wrong = []
+
+    def ask(first):
+        try:
+            for i in [first, first + 8, first + 16] * 5:
+                wrong.extend([i] * (i // 8 not in parquet.may_contain(file, "int32", i * 1000)))
+        except ValueError as error:
+            wrong.append(error)
+
+    with make() as file:
+        in_threads(ask)
+    assert wrong == []
+
+
+def test_a_file_that_decompresses_is_asked_for_its_own_bytes(tmp_path):
+    with gzip.open(tmp_path / "a.gz", "wb") as file:
+        file.write(FILTERS.read_bytes())
+    with gzip.open(tmp_path / "a.gz") as file:
+        assert parquet.filters(file) == parquet.filters(FILTERS)
 
 
 def test_a_row_group_without_a_filter_may_have_each_value():
@@ -70,6 +111,7 @@ def test_a_row_group_without_a_filter_may_have_each_value():
     ("int8", 2**40), ("uint32", -1), ("uint64", 2**64), ("float", 0.1), ("float", 1e300), ("fixed", b"12345"),
     ("ms", moment(microsecond=1)), ("decimal9", decimal.Decimal("0.001")), ("decimal9", decimal.Decimal("1e999999")),
     ("decimal9", decimal.Decimal("Infinity")), ("decimal9", decimal.Decimal("1e-999999999")), ("decimal30", 10**40),
+    ("decimal30", decimal.Decimal("1" * 5000)),
     ("time_ms", datetime.time(1, 2, 3, 1)),
 ])
 def test_a_value_that_the_column_cannot_have_is_in_no_row_group(name, value):
@@ -80,11 +122,18 @@ def test_a_value_that_the_column_cannot_have_is_in_no_row_group(name, value):
     ("int8", 5.0), ("int8", "5"), ("int8", None), ("int8", True), ("double", float("nan")), ("double", "1"),
     ("string", 5), ("fixed", "0000"), ("date", moment()), ("date", 20000), ("ms", DAY), ("ms", moment(tzinfo=UTC)),
     ("us_utc", moment()), ("time_us", moment()), ("uuid", "00"), ("decimal9", 0.5),
-    ("decimal9", decimal.Decimal("nan")),
+    ("decimal9", decimal.Decimal("nan")), ("decimal9", decimal.Decimal("snan")), ("double", numpy.timedelta64(3, "s")),
+    ("double", numpy.zeros(2)),
 ])
 def test_a_value_of_another_type_is_an_error(name, value):
     with pytest.raises(TypeError):
         parquet.may_contain(FILTERS, name, value)
+
+
+def test_digits_of_a_decimal_that_change_nothing_are_ignored():
+    zeros = "0" * 5000
+    for value in (f"0.04{zeros}", f"4{zeros}E-5002", f"0{zeros}.04"):
+        assert 0 in parquet.may_contain(FILTERS, "decimal9", decimal.Decimal(value))
 
 
 def test_each_form_of_zero_is_looked_for():
@@ -116,21 +165,16 @@ def test_another_question_is_an_error(call, error, text):
         call()
 
 
-@pytest.mark.parametrize("file", [FILTERS, ODD], ids=["filters", "odd"])
-def test_a_footer_is_written_as_it_was_read(file):
+def footer_of(file):
     with open(file, "rb") as opened:
-        footer = Footer(opened)
-    assert serialize(footer.fields) == footer.data
+        return Footer(Source(opened))
 
 
 def changed(file, change):
-    """A file in memory, after a change of its footer."""
-    with open(file, "rb") as opened:
-        footer = Footer(opened)
-        opened.seek(0)
-        start = opened.read(footer.start)
-    change(footer)
-    return io.BytesIO(start + end_of(footer.fields))
+    """A file in memory, after a change of the tree of its footer."""
+    before, fields = split(file)
+    change(fields)
+    return io.BytesIO(join(before, fields))
 
 
 @pytest.mark.parametrize("change", [
@@ -139,7 +183,7 @@ def changed(file, change):
     lambda it: it.update({OFFSET: (TType.I32, 4)}),
 ], ids=["negative", "past the end", "no filter", "length", "type"])
 def test_a_wrong_place_of_a_filter_is_an_error(change):
-    file = changed(FILTERS, lambda footer: change(footer.columns[2].metadata[1]))
+    file = changed(FILTERS, lambda fields: change(metadata_of(fields, 1, 2)))
     for call in (lambda: parquet.may_contain(file, "int32", 1), lambda: parquet.read_filter(file, 1, "int32"),
                  lambda: parquet.filters(file)):
         with pytest.raises(ValueError):
@@ -148,14 +192,110 @@ def test_a_wrong_place_of_a_filter_is_an_error(change):
 
 
 def test_a_length_may_be_missing():
-    file = changed(FILTERS, lambda footer: footer.columns[2].metadata[1].pop(LENGTH))
+    file = changed(FILTERS, lambda fields: metadata_of(fields, 1, 2).pop(LENGTH))
     assert parquet.may_contain(file, "int32", 8000) == [1] and parquet.filters(file) == parquet.filters(FILTERS)
+
+
+def test_a_row_group_in_another_file_is_an_error(tmp_path):
+    """Its offsets are those of that file, and the same bytes of this file are other filters."""
+    file = tmp_path / "a.parquet"
+    file.write_bytes(changed(FILTERS, lambda fields: set_path(fields, 0, 0)).read())
+    for call in (lambda: parquet.may_contain(file, "int8", -12), lambda: parquet.read_filter(file, 0, "int8"),
+                 lambda: parquet.filters(file), lambda: parquet.check_filters(file)):
+        with pytest.raises(ValueError, match="^the column int8 must be in this file alone, not in those that the footer"):
+            call()
+    assert parquet.may_contain(file, "int32", 8000) == [1]
+
+
+def set_path(fields, group, column):
+    chunk = chunk_of(fields, group, column)
+    fields = {1: (TType.STRING, b"b.parquet"), **chunk}
+    chunk.clear()
+    chunk.update(fields)
+
+
+def test_an_encrypted_column_has_no_filter_to_read():
+    file = changed(FILTERS, lambda fields: chunk_of(fields, 1, 0).pop(3))
+    assert parquet.may_contain(file, "int8", 100) == [1] and (1, "int8") not in parquet.filters(file)
+    assert parquet.read_filter(file, 1, "int8") is None
+
+
+def structs(*items):
+    return TType.LIST, (TType.STRUCT, items)
+
+
+def element(name, **fields):
+    numbers = {"type": 1, "length": 2, "children": 5}
+    return {4: (TType.STRING, name), **{numbers[key]: (TType.I32, it) for key, it in fields.items()}}
+
+
+ROOT, LEAF = element(b"root", children=1), element(b"a", type=1)
+BOMBS = {
+    "empty structs": {2: structs(ROOT, LEAF), 99: structs(*[{}] * 50_000)},
+    "bools": {2: structs(ROOT, LEAF), 99: structs(*[{1: (TType.BOOL, True), 2: (TType.BOOL, True)}] * 20_000)},
+    "elements": {2: structs(*[{}] * 50_000)},
+    "columns": {2: structs(element(b"root", children=9000), *[LEAF] * 9000),
+                4: structs({1: structs(*[{}] * 9000), 3: (TType.I64, 1)})},
+    "row groups": {2: structs(ROOT, LEAF), 4: structs(*[{1: structs({}), 3: (TType.I64, 1)}] * 9000)},
+    "a long name above many columns": {
+        2: structs(ROOT, element(b"x" * 50_000, children=9000), *[LEAF] * 9000)},
+    "a deep schema": {2: structs(*[ROOT] * 9000)},
+}
+BYTES = {  # of an unknown field, and what is wrong with it
+    "a long number": (b"\x96" + b"\xff" * 100_000 + b"\x01", "a number must have at most 10 bytes"),
+    "deep structs": (b"\x9c" + b"\x1c" * 100_000, "lists and structs must be at most 64 deep"),
+    "deep lists": (b"\x99" + b"\x19" * 100_000, "lists and structs must be at most 64 deep"),
+    "a long list": (b"\x99\xfc" + b"\xff" * 8 + b"\x7f", "a list is truncated"),
+    "a long text": (b"\x98" + b"\xff" * 8 + b"\x7f", "a value is truncated"),
+    "a large field number": (b"\x05\x80\xf1\x04\x00", "a number must have at most 16 bits"),
+    "a negative field number": (b"\x05\x01\x00", "the number of a field must be from 1 to 32767"),
+    "a map": (b"\x9b\x00", "no value of a footer is a map, a set or of another kind"),
+}
+
+
+@pytest.mark.parametrize("fields", BOMBS.values(), ids=BOMBS)
+def test_a_footer_takes_memory_by_its_length(fields):
+    footer = join(b"", fields)
+    file = io.BytesIO(b"PAR1" + footer)
+    tracemalloc.start()
+    for call in (lambda: parquet.filters(file), lambda: parquet.may_contain(file, "a", 5),
+                 lambda: parquet.read_filter(file, 0, "a")):
+        with contextlib.suppress(IndexError, ValueError):
+            call()
+    peak = tracemalloc.get_traced_memory()[1]
+    tracemalloc.stop()
+    assert peak < 20 * len(footer) + 50_000
+
+
+def test_a_long_text_is_not_copied_for_each_column():
+    data = join(b"PAR1", {2: structs(ROOT, LEAF), 6: (TType.STRING, b"x" * 50_000)})
+    footer = Footer(Source(io.BytesIO(data)))
+    assert [len(footer.of_column(column)) < 100 for column in footer.columns()] == [True]
+
+
+@pytest.mark.parametrize("data, text", BYTES.values(), ids=BYTES)
+def test_a_field_that_no_footer_has_is_an_error(data, text):
+    before, fields = split(FILTERS)
+    footer = join(b"", fields)[:-9] + data + b"\0" * 8  # after the last field that it has
+    file = io.BytesIO(before + footer + len(footer).to_bytes(4, "little") + b"PAR1")
+    for call in (lambda: parquet.filters(file), lambda: parquet.may_contain(file, "int8", 5)):
+        with pytest.raises(ValueError, match=f"^the footer is damaged: {text}$"):
+            call()
+
+
+@pytest.mark.parametrize("length", [-1, 0, 2**31 - 1])
+def test_a_decimal_has_at_most_1024_bytes(length):
+    def change(fields):
+        element, = (element for element in fields[2][1][1] if element[4][1] == b"decimal30")
+        element[2] = TType.I32, length
+
+    with pytest.raises(ValueError, match=f"^whole numbers must have 1 to 1024 bytes in the file, not {length}$"):
+        parquet.may_contain(changed(FILTERS, change), "decimal30", decimal.Decimal(1))
 
 
 def test_a_damaged_footer_raises_value_and_type_errors_alone():
     rng, data = random.Random(5), bytearray(FILTERS.read_bytes())
-    with open(FILTERS, "rb") as opened:
-        start = Footer(opened).start
+    start = footer_of(FILTERS).start
     for _ in range(300):
         wrong = data.copy()
         for _ in range(rng.randint(1, 3)):
@@ -169,9 +309,9 @@ def test_a_damaged_footer_raises_value_and_type_errors_alone():
 
 # ---- Files that are written: the values come from here, and not from pyarrow
 
-def texts(source, footer, its_column):
+def texts(file, footer, any_column):
     """As stored_values, for any column."""
-    for group in range(len(footer.groups)):
+    for group in range(footer.groups):
         yield [column([f"fox {i}"]) for i in range(8 * group, 8 * group + 8)]
 
 
@@ -184,15 +324,14 @@ def copy(tmp_path, monkeypatch):
 def test_all_but_the_places_of_the_filters_stays_as_it_is(copy, tmp_path):
     target = tmp_path / "b.parquet"
     assert parquet.add_filters(copy, target, ["plain", "b"]) == sum(parquet.filters(target).values()) + 15 * 6
-    before, after = ODD.read_bytes(), target.read_bytes()
-    with open(ODD, "rb") as one, open(target, "rb") as two:
-        one, two = Footer(one), Footer(two)
-    assert after[: one.start] == before[: one.start] and copy.read_bytes() == before
-    for its_column in two.columns:
-        for metadata in its_column.metadata:
-            has_filter = its_column.name in ("plain", "b")
+    assert copy.read_bytes() == ODD.read_bytes()
+    (before, old), (after, new) = split(ODD), split(target)
+    assert after[: len(before)] == before
+    for index, leaf in enumerate(footer_of(target).columns()):
+        for group in range(3):
+            metadata, has_filter = metadata_of(new, group, index), leaf.name in ("plain", "b")
             assert (metadata.pop(OFFSET, None) is not None) == (metadata.pop(LENGTH, None) is not None) == has_filter
-    assert serialize(two.fields) == one.data
+    assert new == old
     assert [parquet.may_contain(target, "plain", f"fox {i}") for i in (3, 9, 20)] == [[0], [1], [2]]
 
 
@@ -229,25 +368,19 @@ def test_a_file_is_replaced_with_its_mode_and_behind_its_link(copy, tmp_path):
     assert len(parquet.filters(copy)) == 6
 
 
-def set_encryption(footer):
-    footer.fields[8] = TType.STRUCT, {1: (TType.STRUCT, {})}
-
-
-def set_path(footer):
-    chunk = footer.columns[5].chunks[1]
-    fields = {1: (TType.STRING, b"b.parquet"), **chunk}
-    chunk.clear()
-    chunk.update(fields)
+def sign(fields):
+    fields[8] = TType.STRUCT, {1: (TType.STRUCT, {})}
 
 
 @pytest.mark.parametrize("names, change, text", [
-    (["plain"], lambda footer: set_encryption(footer), "the footer must not be signed: each change"),
-    (["plain"], set_path, "the column plain must be in this file alone, not in those"),
+    (["plain"], sign, "the footer must not be signed: each change"),
+    (["plain"], lambda fields: chunk_of(fields, 1, 5).pop(3), "the column plain must not be encrypted"),
+    (["plain"], lambda fields: set_path(fields, 1, 5), "the column plain must be in this file alone, not in those"),
     (["bool"], None, "must not be BOOLEAN"), (["half"], None, "must not be FLOAT16: DuckDB"),
     (["int96"], None, "must not be INT96"), (["x.y"], None, "the name of a column must be that of one alone"),
     (["none"], None, "the column must be one of"), ([], None, "one or more, each once"),
     (["plain", "plain"], None, "one or more, each once"), ("plain", None, "columns must be a list of names"),
-], ids=range(10))
+], ids=range(11))
 def test_what_cannot_have_filters_is_an_error_and_the_target_stays(names, change, text, copy, tmp_path):
     if change:
         copy.write_bytes(changed(ODD, change).read())
@@ -255,14 +388,6 @@ def test_what_cannot_have_filters_is_an_error_and_the_target_stays(names, change
     with pytest.raises((TypeError, ValueError), match=text):
         parquet.add_filters(copy, copy, names)
     assert copy.read_bytes() == before and os.listdir(tmp_path) == ["a.parquet"]
-
-
-def test_a_footer_of_another_form_is_an_error(copy):
-    with open(copy, "rb") as opened:
-        footer = Footer(opened)
-    copy.write_bytes(ODD.read_bytes()[:-8] + b"more" + (len(footer.data) + 4).to_bytes(4, "little") + b"PAR1")
-    with pytest.raises(ValueError, match="^the footer must be as Thrift writes it, so that all else"):
-        parquet.add_filters(copy, copy, ["plain"])
 
 
 def test_an_encrypted_footer_is_an_error(copy):
@@ -290,25 +415,103 @@ def test_a_file_that_changes_meanwhile_is_an_error(copy, tmp_path, monkeypatch):
     assert copy.read_bytes() == FILTERS.read_bytes() and os.listdir(tmp_path) == ["a.parquet"]
 
 
+@pytest.mark.parametrize("old", [b"old", None])
+def test_a_target_that_changes_meanwhile_is_not_overwritten(old, copy, tmp_path, monkeypatch):
+    target = tmp_path / "b.parquet"
+    if old:
+        target.write_bytes(old)
+
+    def write_to_target(*args):
+        target.write_bytes(b"other data")
+        return texts(*args)
+
+    monkeypatch.setattr(parquet, "stored_values", write_to_target)
+    with pytest.raises(ValueError, match="^the file to replace must not change while its successor is written$"):
+        parquet.add_filters(copy, target, ["plain"])
+    assert target.read_bytes() == b"other data" and set(os.listdir(tmp_path)) == {"a.parquet", "b.parquet"}
+
+
+@pytest.mark.parametrize("has_locks", [True, False])
+def test_of_two_runs_on_one_file_one_fails(has_locks, copy, monkeypatch):
+    def second_run(*args):
+        monkeypatch.setattr(parquet, "stored_values", texts)
+        if has_locks:
+            with pytest.raises(ValueError, match="^another run is replacing the file$"):
+                parquet.add_filters(copy, copy, ["b"])
+        else:
+            parquet.add_filters(copy, copy, ["b"])
+        return texts(*args)
+
+    monkeypatch.setattr(parquet, "stored_values", second_run)
+    if has_locks:
+        parquet.add_filters(copy, copy, ["plain"])
+        parquet.add_filters(copy, copy, ["b"])
+    else:
+        monkeypatch.setattr("fcntl.flock", lambda *_: os.stat("/none"))
+        with pytest.raises(ValueError, match="must not change"):
+            parquet.add_filters(copy, copy, ["plain"])
+    assert {name for _, name in parquet.filters(copy)} == ({"plain", "b"} if has_locks else {"b"})
+
+
+def test_what_others_put_in_place_of_the_new_file_is_not_touched(copy, tmp_path, monkeypatch):
+    secret = tmp_path / "secret"
+    secret.write_bytes(b"key")
+    secret.chmod(0o600)
+
+    def put_a_link(*args):
+        new, = tmp_path.glob(".sketch_hash-*")
+        new.unlink()
+        new.symlink_to(secret)
+        return texts(*args)
+
+    monkeypatch.setattr(parquet, "stored_values", put_a_link)
+    with pytest.raises(ValueError, match="^the file to replace must not change"):
+        parquet.add_filters(copy, copy, ["plain"])
+    assert secret.read_bytes() == b"key" and stat.S_IMODE(secret.stat().st_mode) == 0o600
+    assert copy.read_bytes() == ODD.read_bytes() and not copy.is_symlink()
+
+
+def test_a_folder_that_cannot_be_synced_is_an_error_at_once(copy, tmp_path, monkeypatch):
+    def open_in_such_a_folder(path, *args, open=os.open, **kwargs):
+        if os.path.isdir(path):
+            raise PermissionError(13, "Permission denied", path)
+        return open(path, *args, **kwargs)
+
+    monkeypatch.setattr(os, "open", open_in_such_a_folder)
+    with pytest.raises(PermissionError):
+        parquet.add_filters(copy, copy, ["plain"])
+    assert copy.read_bytes() == ODD.read_bytes() and os.listdir(tmp_path) == ["a.parquet"]
+
+
+@pytest.mark.parametrize("make", [os.mkdir, os.mkfifo, lambda path: socket.socket(socket.AF_UNIX).bind(str(path))],
+                         ids=["folder", "FIFO", "socket"])
+def test_only_a_regular_file_is_read_or_replaced(make, copy, tmp_path):
+    special = tmp_path / "b"
+    make(special)
+    kind = stat.S_IFMT(special.stat().st_mode)
+    with pytest.raises(ValueError, match="^the file to replace must be a regular file$"):
+        parquet.add_filters(copy, special, ["plain"])
+    for call in (lambda: parquet.add_filters(special, copy, ["plain"]), lambda: parquet.filters(special)):
+        with pytest.raises((OSError, ValueError)):
+            call()
+    assert stat.S_IFMT(special.stat().st_mode) == kind and set(os.listdir(tmp_path)) == {"a.parquet", "b"}
+
+
 def test_a_killed_run_leaves_the_target(copy, tmp_path):
     code = f"""import os, test_parquet; from sketch_hash import parquet
-parquet.stored_values, parquet.set_place = test_parquet.texts, lambda *_: os.kill(os.getpid(), 9)
+parquet.stored_values, parquet.check_unchanged = test_parquet.texts, lambda *_: os.kill(os.getpid(), 9)
 parquet.add_filters({str(copy)!r}, {str(copy)!r}, ["plain"])"""
     done = subprocess.run([sys.executable, "-c", code], env={**os.environ, "PYTHONPATH": os.pathsep.join(sys.path)})
     assert done.returncode == -signal.SIGKILL and copy.read_bytes() == ODD.read_bytes()
     assert sorted(it[:13] for it in os.listdir(tmp_path)) == [".sketch_hash-", "a.parquet"]
 
 
-@pytest.mark.parametrize("module, code, text", [
-    ("pyarrow", f"import sketch_hash.parquet as it; it.add_filters({str(ODD)!r}, '/dev/null/x', ['plain'])", "pyarrow"),
-    ("thrift", "import sketch_hash.parquet", "Apache Thrift's library: pip install thrift"),
-])
-def test_a_missing_library_is_named(module, code, text, tmp_path):
-    code = code.replace("/dev/null/x", str(tmp_path / "b"))
-    done = subprocess.run([sys.executable, "-c", f"import sys; sys.modules[{module!r}] = None; {code}"],
-                          capture_output=True, text=True)
-    assert done.returncode and done.stderr.splitlines()[-1].startswith("ImportError") and text in done.stderr
-    assert not os.listdir(tmp_path)
+def test_a_missing_pyarrow_is_named(copy, tmp_path, monkeypatch):
+    monkeypatch.setattr(parquet, "stored_values", parquet_values.stored_values)
+    monkeypatch.setitem(sys.modules, "pyarrow", None)
+    with pytest.raises(ImportError, match="^this call needs pyarrow: pip install pyarrow$"):
+        parquet.add_filters(copy, tmp_path / "b.parquet", ["plain"])
+    assert os.listdir(tmp_path) == ["a.parquet"]
 
 
 def run(*args):
@@ -359,8 +562,7 @@ def test_nested_columns_have_filters_of_their_values(pa, tmp_path):
     type = pa.list_(pa.struct([("a", pa.int32()), ("m", pa.map_(pa.string(), pa.int64()))]))
     table = pa.table({"x": pa.array(rows, type)})
     pa.parquet.write_table(table, tmp_path / "a", row_group_size=40)
-    with open(tmp_path / "a", "rb") as file:
-        names = [it.name for it in Footer(file).columns]
+    names = [column.name for column in footer_of(tmp_path / "a").columns()]
     parquet.add_filters(tmp_path / "a", tmp_path / "a", names)
     assert parquet.check_filters(tmp_path / "a") == 9 and pa.parquet.read_table(tmp_path / "a").equals(table)
     for i in range(100):
@@ -370,12 +572,27 @@ def test_nested_columns_have_filters_of_their_values(pa, tmp_path):
             assert all(i // 40 in groups for groups in found)
 
 
+@pytest.mark.parametrize("is_list", [False, True])
+def test_long_texts_are_read_a_few_at_a_time(is_list, pa, tmp_path):
+    """A dictionary page has each once, so the file does not show how much memory they take."""
+    rows = pa.array(["x"] * 2000 + ["x" * 40_000] * 5000)
+    rows = pa.ListArray.from_arrays(range(len(rows) + 1), rows) if is_list else rows
+    pa.parquet.write_table(pa.table({"x": rows}), tmp_path / "a", compression="zstd")
+    with open(tmp_path / "a", "rb") as file:
+        footer = Footer(Source(file))
+        column, = footer.columns()
+        sizes = [batch.nbytes for batches in parquet.stored_values(file, footer, column) for batch in batches]
+    assert max(sizes) < 1 << 26 and sum(sizes) > 5000 * 40_000
+    parquet.add_filters(tmp_path / "a", tmp_path / "a", [column.name])
+    assert parquet.may_contain(tmp_path / "a", column.name, "x" * 40_000) == [0]
+
+
 def test_the_command_adds_and_checks(pa, tmp_path):
     file = str(shutil.copy(ODD, tmp_path / "a"))
     assert run("add", "-c", "plain", "-c", "b", "-e", "0.1", file).stdout == f"{file}: 282 bytes of filters\n"
     assert run("check", file).stdout == f"{file}: 6 filters have all values\n"
+    place = footer_of(file).find(["b"])[0].place(1)[0] + 15
     with open(file, "r+b") as opened:  # an empty filter
-        place = Footer(opened).columns[6].place(1)[0] + 15
         opened.seek(place)
         opened.write(bytes(32))
     done = run("check", file, str(FILTERS))

@@ -166,6 +166,48 @@ test('a wrong offset changes nothing', () => {
     assert.deepEqual(filter.toBytes(), filled().toBytes());
 });
 
+test('a subclass may have a constructor of its own', () => {
+    class Seen extends BloomFilter { constructor(count) { super(BloomFilter.bytesFor(count, 100)); } }
+    const filter = new Seen(1000).add('fox');
+    const copies = [Seen.fromBytes(filter.toBytes()), Seen.fromParquet(filter.toParquet()), Seen.forKeys(1000, 100).add('fox')];
+    for (const copy of copies) {
+        assert.ok(copy instanceof Seen);
+        assert.deepEqual(copy.toBytes(), filter.toBytes());
+    }
+});
+
+// As another thread may let it grow: whenever its length is read.
+test('a column may grow during a call', () => {
+    const buffer = new SharedArrayBuffer(4096, { maxByteLength: 2 ** 20 });
+    const column = (type, name) => Object.defineProperty(new type(buffer), name, {
+        get() {
+            const length = Reflect.get(type.prototype, name, this);
+            buffer.grow(Math.min(buffer.byteLength + 4096, 2 ** 20));
+            return length;
+        },
+    });
+    for (const name of ['length', 'byteLength']) {
+        for (const call of [
+            () => xxh64EachU64(column(BigUint64Array, name)), () => xxh64Each(bytes('fox'), column(Uint32Array, name)),
+            () => xxh64Each(column(Uint8Array, name), Uint32Array.of(0, 3)), () => filled().hasEachNumber(column(Float64Array, name)),
+        ]) {
+            const free = new BloomFilter(buffer.byteLength * 2 + 64);
+            const neighbour = filled(2 ** 14);
+            free.free();
+            call();
+            assert.deepEqual(neighbour.toBytes(), filled(2 ** 14).toBytes());
+        }
+    }
+});
+
+test('a column is of its own type, whatever it says', () => {
+    const numbers = Object.defineProperties(Uint32Array.of(1, 2), {
+        [Symbol.toStringTag]: { value: 'BigUint64Array' }, BYTES_PER_ELEMENT: { value: 8 }, length: { value: 1000 },
+    });
+    assert.throws(() => xxh64EachU64(numbers), TypeError);
+    assert.deepEqual([...new BloomFilter(64).addEachNumber(numbers).hasEachNumber(Uint32Array.of(1, 2, 3))], [1, 1, 0]);
+});
+
 test('a key or a column of another type is a type error', () => {
     const filter = new BloomFilter(64);
     for (const key of [5, null, ['fox'], ...detachedViews(Uint8Array)]) assert.throws(() => filter.has(key), TypeError);

@@ -31,10 +31,3 @@ __all__ = [
 ]
 
 algorithms_available = {"xxh64", "murmur3_x64_128"}
-
-
-def _take_up(kind, seed, checkpoint):
-    """Returns the hash object of a pickle of versions 1, which names this function."""
-    hasher = kind()
-    hasher.__setstate__((seed, checkpoint))
-    return hasher

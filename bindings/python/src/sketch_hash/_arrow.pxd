@@ -74,13 +74,15 @@ cdef bint exports_arrow(object keys) except -1
 
 
 cdef class Arrow:
-    """A column of keys in chunks."""
+    """A column of keys in chunks. A call works on the next rows of it, until there is no next chunk."""
     cdef ArrowSchema schema
     cdef ArrowArrayStream stream
     cdef Chunk *first
     cdef Chunk *last
     cdef tuple rows, keys  # their types; that of the keys is None without a dictionary
     cdef size_t count, num_bytes  # how many keys, and about how many bytes to read
+    cdef const Chunk *chunk  # of the next rows
+    cdef size_t row, done  # which of its rows is next, and how many rows are before it in all chunks
 
     cdef int import_array(self, object schema, object array) except -1
     cdef int import_stream(self, object capsule) except -1
@@ -89,6 +91,8 @@ cdef class Arrow:
     cdef int append(self, ArrowArray *array) except -1
     cdef int refuse_nulls(self) except -1
     cdef bint overlaps(self, const void *memory, size_t length) noexcept nogil
+    cdef size_t block(self) noexcept nogil
+    cdef void advance(self, size_t count) noexcept nogil
     cdef void hash(self, int words, uint64_t seed, uint64_t *out) noexcept nogil
     cdef int insert(self, void *bits, size_t length) noexcept nogil
     cdef int contains(self, const void *bits, size_t length, unsigned char *found) noexcept nogil

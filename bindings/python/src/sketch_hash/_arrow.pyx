@@ -9,6 +9,13 @@ from libc.string cimport memcpy, memset
 from ._library cimport *
 
 import os
+import re
+
+# A call looks for signals, as of Ctrl-C, after so many rows, or bytes of keys: a column may claim 2**59 rows without memory.
+cdef enum:
+    BLOCK = 1024
+    MANY = 1 << 24
+    MANY_BYTES = 1 << 30
 
 MOST_ROWS = 2**59
 TYPES = {  # by their formats: the layout of values, their width, and whether they have a sign
@@ -38,7 +45,7 @@ cdef tuple type_of(str format):
         return TYPES[format]
     if format[:2] == "ts" and format[:3] in TYPES:  # a time zone follows
         return TYPES[format[:3]]
-    if format.startswith("w:") and 0 <= int(format[2:]) < 2**31:
+    if re.fullmatch("w:[0-9]+", format) and int(format[2:]) < 2**31:
         return FIXED, int(format[2:]), False
     what, cure = next(rest for start, *rest in REFUSED if format.startswith(start))
     raise TypeError(f"an Arrow column must not have {what}, here {format!r}: {cure}")
@@ -100,35 +107,41 @@ cdef inline size_t key_at(const Values *values, size_t i, const char **key, int3
     return length
 
 
-cdef void hash_rows(
-    const Chunk *chunk, size_t start, size_t count, int words, uint64_t seed, uint64_t *out
+cdef size_t hash_rows(
+    const Chunk *chunk, size_t start, size_t *count, int words, uint64_t seed, uint64_t *out
 ) noexcept nogil:
-    """Writes a word of XXH64 or two of Murmur for each row, and 0 for a null."""
+    """Writes a word of XXH64 or two of Murmur for each of `count` rows, and 0 for a null. It may stop at fewer rows, since
+    each may be the same long text. Returns about how many bytes they have."""
     cdef const char *key
     cdef int32_t widened
     cdef const Values *rows = &chunk.rows
-    cdef size_t i, length, wrong
+    cdef size_t i, length, wrong, num_bytes = (MANY_BYTES // MANY) * count[0]
     cdef const char *place = rows.memory + (rows.offset + start) * rows.width
     cdef bint is_coded = chunk.keys is not rows, is_aligned = <uintptr_t>place & (rows.width - 1) == 0
     # One call for many texts takes a fifth less time, and for many numbers a third.
-    if count and is_aligned and not is_coded and not chunk.has_nulls:
+    if count[0] and is_aligned and not is_coded and not chunk.has_nulls:
         if rows.layout == OFFSETS:
             length = number_at(rows, rows.length)
-            hash_texts(words, rows.width, rows.text, length, place, count + 1, seed, out, count, &wrong)
-            return
+            hash_texts(words, rows.width, rows.text, length, place, count[0] + 1, seed, out, count[0], &wrong)
+            return num_bytes + number_at(rows, start + count[0]) - number_at(rows, start)
         if rows.layout == FIXED and rows.width == 8 and words == 1:
-            sketch_xxh64_each_u64(<uint64_t *>place, count, seed, out, count)
-            return
-    for i in range(start, start + count):
+            sketch_xxh64_each_u64(<uint64_t *>place, count[0], seed, out, count[0])
+            return num_bytes
+    for i in range(start, start + count[0]):
+        if num_bytes >= MANY_BYTES:
+            count[0] = i - start
+            break
         if chunk.has_nulls and is_null(chunk, i):
             out[0] = 0
         else:
             length = key_at(chunk.keys, number_at(&chunk.rows, i) if is_coded else i, &key, &widened)
+            num_bytes += length
             if words == 1:
                 out[0] = sketch_xxh64(key, length, seed)
             else:
                 sketch_murmur3_x64_128(key, length, seed, out)
         out += words
+    return num_bytes
 
 
 ctypedef fused Offset:
@@ -149,29 +162,29 @@ cdef bint fall(const char *offsets, size_t count, Offset before) noexcept nogil:
     return False
 
 
-cdef bint views_leave(const Values *values, size_t *num_bytes) noexcept nogil:
+cdef bint views_leave(const Values *values, size_t begin, size_t end, size_t *num_bytes) noexcept nogil:
     """Whether a view is not within its text. Adds the bytes of all."""
     cdef const char *view
-    cdef int64_t length, text, begin
+    cdef int64_t length, text, start
     cdef size_t i
-    for i in range(values.length):
+    for i in range(begin, end):
         if not is_missing(values, i):
             view = values.memory + (values.offset + i) * 16
-            length, text, begin = load(view, 4, True), load(view + 8, 4, True), load(view + 12, 4, True)
+            length, text, start = load(view, 4, True), load(view + 8, 4, True), load(view + 12, 4, True)
             if length < 0:
                 return True
             if length > 12:
-                if not 0 <= text < <int64_t>values.text_count or begin < 0:
+                if not 0 <= text < <int64_t>values.text_count or start < 0:
                     return True
-                if values.texts[text] is NULL or length > load(values.sizes + 8 * text, 8, True) - begin:
+                if values.texts[text] is NULL or length > load(values.sizes + 8 * text, 8, True) - start:
                     return True
             num_bytes[0] += length
     return False
 
 
-cdef bint codes_leave(const Values *rows, size_t length) noexcept nogil:
+cdef bint codes_leave(const Values *rows, size_t begin, size_t end, size_t length) noexcept nogil:
     cdef size_t i
-    for i in range(rows.length):
+    for i in range(begin, end):
         if not is_missing(rows, i) and not 0 <= number_at(rows, i) < <int64_t>length:
             return True
     return False
@@ -179,7 +192,7 @@ cdef bint codes_leave(const Values *rows, size_t length) noexcept nogil:
 
 cdef int must(bint holds, str what) except -1:
     if not holds:
-        raise ValueError(f"an Arrow array must have {what}")
+        raise ValueError(f"an Arrow array must {what}")
     return 0
 
 
@@ -187,47 +200,61 @@ cdef int read_values(const ArrowArray *array, tuple type, Values *values) except
     """Checks all but the values themselves."""
     values.layout, values.width, values.is_signed = type
     cdef size_t most = 3 if values.layout == OFFSETS else 2
-    must(0 <= array.length < MOST_ROWS and 0 <= array.offset < MOST_ROWS, "a length and an offset from 0 to 2**59 - 1")
-    must((<object>array.length + array.offset) * values.width < 2**62, "less than 2**62 bytes")
+    must(0 <= array.length < MOST_ROWS and 0 <= array.offset < MOST_ROWS, "have a length and an offset from 0 to 2**59 - 1")
+    must((<object>array.length + array.offset) * values.width < 2**62, "have less than 2**62 bytes")
     values.offset, values.length = array.offset, array.length
     if values.layout == NOTHING:
         return 0
-    must(array.n_buffers >= 3 if values.layout == VIEWS else array.n_buffers == most, "the buffers of its type")
-    must(array.buffers is not NULL and array.n_children == 0, "buffers, and no children")
+    must(array.n_buffers >= 3 if values.layout == VIEWS else array.n_buffers == most, "have the buffers of its type")
+    must(array.buffers is not NULL and array.n_children == 0, "have buffers, and no children")
     values.valid = <unsigned char *>array.buffers[0] if array.null_count else NULL
-    must(array.null_count <= 0 or values.valid is not NULL, "a bitmap if it has nulls")
+    must(array.null_count <= 0 or values.valid is not NULL, "have a bitmap if it has nulls")
     values.memory = <char *>array.buffers[1]
-    must(values.memory is not NULL or not values.length or not values.width, "memory for its values")
+    must(values.memory is not NULL or not values.length or not values.width, "have memory for its values")
     if values.layout == OFFSETS:
         values.text = <char *>array.buffers[2]
     elif values.layout == VIEWS:
         values.texts = array.buffers + 2
         values.text_count = array.n_buffers - 3
         values.sizes = <char *>array.buffers[array.n_buffers - 1]
-        must(values.sizes is not NULL or not values.text_count, "the sizes of its texts")
+        must(values.sizes is not NULL or not values.text_count, "have the sizes of its texts")
     return 0
 
 
 cdef size_t check_values(const Values *values) except? 0:
     """Returns about how many bytes there are to read."""
-    cdef size_t num_bytes = values.length * (8 + values.width)
-    cdef const char *first = values.memory + values.offset * values.width
+    cdef size_t num_bytes = values.length * (8 + values.width), begin, end
+    cdef const char *first
     cdef bint is_wrong
-    if values.layout == OFFSETS and values.length:
+    what = "have views within its texts" if values.layout == VIEWS else "have offsets from 0 on that do not fall"
+    for begin in range(0, values.length if values.layout in (OFFSETS, VIEWS) else 0, MANY):
+        end = min(begin + MANY, values.length)
+        first = values.memory + (values.offset + begin) * values.width
         with nogil:
-            if values.width == 4:
-                is_wrong = fall[int32_t](first, values.length + 1, 0)
+            if values.layout == VIEWS:
+                is_wrong = views_leave(values, begin, end, &num_bytes)
+            elif values.width == 4:
+                is_wrong = fall[int32_t](first, end - begin + 1, 0)
             else:
-                is_wrong = fall[int64_t](first, values.length + 1, 0)
-        must(not is_wrong, "offsets from 0 on that do not fall")
+                is_wrong = fall[int64_t](first, end - begin + 1, 0)
+        must(not is_wrong, what)
+        PyErr_CheckSignals()
+    if values.layout == OFFSETS and values.length:
         length = number_at(values, values.length) - number_at(values, 0)
-        must(values.text is not NULL or length == 0, "memory for its texts")
+        must(values.text is not NULL or length == 0, "have memory for its texts")
         num_bytes += length
-    elif values.layout == VIEWS:
-        with nogil:
-            is_wrong = views_leave(values, &num_bytes)
-        must(not is_wrong, "views within its texts")
     return num_bytes
+
+
+cdef int check_codes(const Values *rows, size_t length) except -1:
+    cdef size_t begin
+    cdef bint is_wrong
+    for begin in range(0, rows.length, MANY):
+        with nogil:
+            is_wrong = codes_leave(rows, begin, min(begin + MANY, rows.length), length)
+        must(not is_wrong, "have codes within its dictionary")
+        PyErr_CheckSignals()
+    return 0
 
 
 cdef bint values_meet(const Values *values, const void *memory, size_t length) noexcept nogil:
@@ -282,7 +309,7 @@ cdef class Arrow:
         self.schema = its_schema[0]
         its_schema.release = NULL
         self.read_schema()
-        must(its_array.release is not NULL, "not been released")
+        must(its_array.release is not NULL, "not be released")
         return self.append(its_array)
 
     cdef int import_stream(self, object capsule) except -1:
@@ -291,7 +318,7 @@ cdef class Arrow:
         cdef ArrowArray array
         self.stream = stream[0]
         stream.release = NULL
-        must(self.stream.release is not NULL, "not been released")
+        must(self.stream.release is not NULL, "not be released")
         with nogil:
             status = self.stream.get_schema(&self.stream, &self.schema)
         if status:
@@ -317,11 +344,11 @@ cdef class Arrow:
 
     cdef int read_schema(self) except -1:
         cdef ArrowSchema *of_keys = self.schema.dictionary
-        must(self.schema.release is not NULL and self.schema.format is not NULL, "a schema with a format")
+        must(self.schema.release is not NULL and self.schema.format is not NULL, "have a schema with a format")
         self.rows = type_of(self.schema.format.decode())
         if of_keys is not NULL:
             is_coded = self.schema.format.decode() in CODES and of_keys.format is not NULL
-            must(is_coded, "whole numbers as codes of a dictionary")
+            must(is_coded, "have whole numbers as codes of a dictionary")
             if of_keys.dictionary is not NULL:
                 raise TypeError("an Arrow column must not have a dictionary of dictionaries: cast it to its values")
             self.keys = type_of(of_keys.format.decode())
@@ -330,7 +357,6 @@ cdef class Arrow:
     cdef int append(self, ArrowArray *array) except -1:
         """Takes an array, and checks it."""
         cdef Chunk *chunk = <Chunk *>calloc(1, sizeof(Chunk))
-        cdef bint is_wrong
         if chunk is NULL:
             with nogil:  # what is released may wait for a thread that needs the GIL
                 array.release(array)
@@ -339,22 +365,20 @@ cdef class Arrow:
         array.release = NULL
         chunk.keys = &chunk.rows
         if self.last is NULL:
-            self.first = chunk
+            self.first = self.chunk = chunk
         else:
             self.last.next = chunk
         self.last = chunk
         read_values(&chunk.array, self.rows, &chunk.rows)
-        must((chunk.array.dictionary is NULL) == (self.keys is None), "a dictionary if its type has one")
+        must((chunk.array.dictionary is NULL) == (self.keys is None), "have a dictionary if its type has one")
         if self.keys is not None:
             chunk.keys = &chunk.dictionary
             read_values(chunk.array.dictionary, self.keys, &chunk.dictionary)
-            with nogil:
-                is_wrong = codes_leave(&chunk.rows, chunk.dictionary.length)
-            must(not is_wrong, "codes within its dictionary")
+            check_codes(&chunk.rows, chunk.dictionary.length)
         chunk.has_nulls = (chunk.rows.valid is not NULL or chunk.keys.valid is not NULL
                            or chunk.keys.layout == NOTHING)
         self.count += chunk.rows.length
-        must(self.count < MOST_ROWS, "less than 2**59 values")
+        must(self.count < MOST_ROWS, "have less than 2**59 values")
         self.num_bytes += chunk.rows.length * 8 + check_values(chunk.keys)
         return 0
 
@@ -362,9 +386,11 @@ cdef class Arrow:
         cdef const Chunk *chunk = self.first
         cdef size_t i, before = 0
         while chunk is not NULL:
-            for i in range(chunk.rows.length):
-                if chunk.has_nulls and is_null(chunk, i):
+            for i in range(chunk.rows.length if chunk.has_nulls else 0):
+                if is_null(chunk, i):
                     raise ValueError(f"the key at {before + i} must not be null: a null has no hash")
+                if i % MANY == MANY - 1:
+                    PyErr_CheckSignals()
             before += chunk.rows.length
             chunk = chunk.next
         return 0
@@ -377,45 +403,58 @@ cdef class Arrow:
             chunk = chunk.next
         return False
 
+    cdef size_t block(self) noexcept nogil:
+        """How many rows a loop takes next: few enough for their hashes to stay in the cache. Of nulls it is all."""
+        cdef size_t count = self.chunk.rows.length - self.row
+        return count if self.chunk.keys.layout == NOTHING else min(<size_t>BLOCK, count)
+
+    cdef void advance(self, size_t count) noexcept nogil:
+        self.row += count
+        self.done += count
+        while self.chunk is not NULL and self.row == self.chunk.rows.length:
+            self.chunk, self.row = self.chunk.next, 0
+
     cdef void hash(self, int words, uint64_t seed, uint64_t *out) noexcept nogil:
-        cdef const Chunk *chunk = self.first
-        while chunk is not NULL:
-            hash_rows(chunk, 0, chunk.rows.length, words, seed, out)
-            out += words * chunk.rows.length
-            chunk = chunk.next
+        """Writes the hashes of the next rows."""
+        cdef size_t num_bytes = 0, count
+        while self.chunk is not NULL and num_bytes < MANY_BYTES:
+            count = self.block()
+            num_bytes += hash_rows(self.chunk, self.row, &count, words, seed, out + words * self.done)
+            self.advance(count)
 
     cdef int insert(self, void *bits, size_t length) noexcept nogil:
-        cdef const Chunk *chunk = self.first
-        cdef uint64_t hashes[1024]
-        cdef size_t start, count, kept, i
-        while chunk is not NULL:
-            for start in range(0, chunk.rows.length, 1024):
-                count = kept = min(<size_t>1024, chunk.rows.length - start)
-                hash_rows(chunk, start, count, 1, 0, hashes)
-                if chunk.has_nulls:
+        """Inserts the keys of the next rows. What is only null is skipped at once."""
+        cdef uint64_t hashes[BLOCK]
+        cdef size_t num_bytes = 0, count, kept, i
+        while self.chunk is not NULL and num_bytes < MANY_BYTES:
+            count = self.block()
+            if self.chunk.keys.layout != NOTHING:
+                num_bytes += hash_rows(self.chunk, self.row, &count, 1, 0, hashes)
+                kept = count
+                if self.chunk.has_nulls:
                     kept = 0
                     for i in range(count):
                         hashes[kept] = hashes[i]
-                        kept += not is_null(chunk, start + i)
+                        kept += not is_null(self.chunk, self.row + i)
                 status = sketch_bloom_insert_each_hash(bits, length, hashes, kept)
                 if status:
                     return status
-            chunk = chunk.next
+            self.advance(count)
         return 0
 
     cdef int contains(self, const void *bits, size_t length, unsigned char *found) noexcept nogil:
-        cdef const Chunk *chunk = self.first
-        cdef uint64_t hashes[1024]
-        cdef size_t start, count, i
-        while chunk is not NULL:
-            for start in range(0, chunk.rows.length, 1024):
-                count = min(<size_t>1024, chunk.rows.length - start)
-                hash_rows(chunk, start, count, 1, 0, hashes)
-                status = sketch_bloom_contains_each_hash(bits, length, hashes, count, found, count)
+        """Writes 1 for each key of the next rows that the filter may contain. All bytes are 0 before."""
+        cdef uint64_t hashes[BLOCK]
+        cdef size_t num_bytes = 0, count, i
+        cdef unsigned char *to
+        while self.chunk is not NULL and num_bytes < MANY_BYTES:
+            count, to = self.block(), found + self.done
+            if self.chunk.keys.layout != NOTHING:
+                num_bytes += hash_rows(self.chunk, self.row, &count, 1, 0, hashes)
+                status = sketch_bloom_contains_each_hash(bits, length, hashes, count, to, count)
                 if status:
                     return status
-                for i in range(count if chunk.has_nulls else 0):
-                    found[i] &= not is_null(chunk, start + i)
-                found += count
-            chunk = chunk.next
+                for i in range(count if self.chunk.has_nulls else 0):
+                    to[i] &= not is_null(self.chunk, self.row + i)
+            self.advance(count)
         return 0

@@ -1,11 +1,11 @@
 """The Bloom filter of Apache Parquet."""
+cimport cython
 from cpython.buffer cimport PyBUF_C_CONTIGUOUS, PyBUF_SIMPLE, PyBUF_WRITABLE, PyBuffer_FillInfo
 from cpython.bytearray cimport PyByteArray_AS_STRING, PyByteArray_FromStringAndSize
 from cpython.bytes cimport PyBytes_AS_STRING, PyBytes_FromStringAndSize
-from cpython.object cimport PyObject
 from cpython.ref cimport Py_DECREF
 from libc.stdint cimport uint32_t, uint64_t, uintptr_t
-from libc.string cimport memcpy, memset
+from libc.string cimport memcpy
 
 from ._arrow cimport meet
 from ._columns cimport (
@@ -23,9 +23,6 @@ cdef extern from "Python.h":
     int __builtin_popcountll(uint64_t) nogil
     View *PyMemoryView_GET_BUFFER(object)
     bint PyBuffer_IsContiguous(const View *, char)
-    ctypedef int (*inquiry)(PyObject *) noexcept
-    ctypedef struct Type "PyTypeObject":
-        inquiry tp_clear
 
 cdef enum:
     READ_ONLY = -100  # not a status of the library
@@ -59,9 +56,9 @@ cdef type bytes_like = bytearray  # the type of the last key that was bytes: to 
 
 cdef bint is_key(object key) except -1:
     """Whether it is neither a scalar of numpy (a number or date, whose bytes in a Parquet file may be others; the buffer of
-    a date has one dimension, but not the date) nor a filter, whose bits would be one key."""
+    a date has one dimension, but not the date), nor a masked array, nor a filter, whose bits would be one key."""
     global bytes_like
-    if getattr(key, "ndim", 1) == 0 or isinstance(key, BloomFilter):
+    if getattr(key, "ndim", 1) == 0 or hasattr(type(key), "mask") or isinstance(key, BloomFilter):
         return False
     bytes_like = type(key)
     return True
@@ -169,6 +166,8 @@ cdef BloomFilter empty(object kind):
     return filter
 
 
+# The garbage collector breaks a cycle at another object, so the memory of the bits lives as long as the filter.
+@cython.no_gc_clear
 cdef class BloomFilter:
     """BloomFilter(num_bytes)\n--\n\nThe split block Bloom filter of Apache Parquet, without keys: it tells whether a
     key was added. It has no false negatives, and may have false positives.
@@ -200,8 +199,8 @@ cdef class BloomFilter:
             check_length(bits.len)
             self.swap_memory(&bits)
             self.is_view = is_view
-            if self.memory is not None:
-                self.memory = None
+            # Cython drops the old object before it stores the new one. Dropped later, it cannot find itself in here.
+            before, self.memory = self.memory, None
         finally:
             PyBuffer_Release(&bits)
         return 0
@@ -212,8 +211,8 @@ cdef class BloomFilter:
         bits.obj = NULL
         check_length(bits.len)
         self.swap_memory(&bits)
-        memory, self.memory = self.memory, memory
         self.is_view = True
+        memory, self.memory = self.memory, memory
         PyBuffer_Release(&bits)
         return 0
 
@@ -252,7 +251,7 @@ cdef class BloomFilter:
     def for_keys(cls, keys, *, error_rate=None, one_in=None):
         """for_keys($type, keys, *, error_rate=None, one_in=None)\n--\n\nReturns the smallest filter whose
         false positive rate is at most this, error_rate=0.01 or one_in=100, once it has so many keys. Its size is a
-        power of two. Raises ValueError if it would need more than 128 MiB."""
+        power of two. Raises ValueError if it would need more than 128 MiB. A subclass's __init__ is not called."""
         if (error_rate is None) == (one_in is None):
             raise TypeError("for_keys takes one of error_rate, as 0.01, and one_in, as 100")
         if one_in is None:
@@ -263,7 +262,9 @@ cdef class BloomFilter:
         if num_bytes == 0:
             raise ValueError(f"no filter of up to 128 MiB has {keys} keys and reports one in {one_in} others: "
                              "allow more, or split the keys over several filters")
-        return cls(num_bytes)
+        cdef BloomFilter filter = empty(cls)
+        filter.adopt(bytearray(num_bytes), False)
+        return filter
 
     @classmethod
     def from_bytes(cls, data):
@@ -333,6 +334,7 @@ cdef class BloomFilter:
     @property
     def num_bytes(self):
         """How many bytes the bits have."""
+        wait(<void *>self.lock)
         self.check(0)
         return self.bits.len
 
@@ -364,6 +366,12 @@ cdef class BloomFilter:
             self.add(key)
 
     cdef int insert(self, Column keys) except -1:
+        self.insert_rows(keys)
+        while keys.has_rest():
+            self.insert_rows(keys)
+        return 0
+
+    cdef int insert_rows(self, Column keys) except -1:
         cdef size_t wrong = 0
         cdef int status
         cdef bint is_long = keys.size() >= LONG
@@ -383,21 +391,25 @@ cdef class BloomFilter:
         return self.check(status)
 
     cdef object contains(self, Column keys):
+        found = bytearray(keys.count)
+        self.contains_rows(keys, <unsigned char *>PyByteArray_AS_STRING(found))
+        while keys.has_rest():
+            self.contains_rows(keys, <unsigned char *>PyByteArray_AS_STRING(found))
+        return memoryview(found).cast("?")
+
+    cdef int contains_rows(self, Column keys, unsigned char *found) except -1:
         cdef size_t wrong = 0
         cdef int status
-        found = bytearray(keys.count)
-        cdef unsigned char *to = <unsigned char *>PyByteArray_AS_STRING(found)
         cdef bint is_long = keys.size() >= LONG
         self.begin(is_long)
         if is_long:
             with nogil:
-                status = contains_column(self.bits.buf, self.bits.len, keys, to, &wrong)
+                status = contains_column(self.bits.buf, self.bits.len, keys, found, &wrong)
             release(self.lock)
         else:
-            status = contains_column(self.bits.buf, self.bits.len, keys, to, &wrong)
+            status = contains_column(self.bits.buf, self.bits.len, keys, found, &wrong)
         check_offsets(status, wrong)
-        self.check(status)
-        return memoryview(found).cast("?")
+        return self.check(status)
 
     def add_each(self, keys):
         """add_each($self, keys, /)\n--\n\nAdds each key of a column.
@@ -552,11 +564,11 @@ cdef class BloomFilter:
 
     def __reduce_ex__(self, protocol):
         attributes = None if type(self) is BloomFilter else attributes_of(self)
-        wait(<void *>self.lock)
         bits = self.to_bytes() if protocol < 5 else pickle.PickleBuffer(self)
         return type(self).from_bytes, (bits,), attributes
 
     def __getbuffer__(self, Py_buffer *buffer, int flags):
+        wait(<void *>self.lock)
         self.check(0)
         if self.bits.readonly and flags & PyBUF_WRITABLE:
             raise BufferError("the filter is a view of read-only memory")
@@ -589,21 +601,6 @@ cdef BloomFilter duplicate(object kind, BloomFilter source):
         else:
             set_attributes(filter, attributes)
     return filter
-
-
-cdef inquiry clear_rest = (<Type *>BloomFilter).tp_clear
-
-
-cdef int clear(PyObject *filter) noexcept:
-    """Releases a filter that is garbage. What still has its memory is garbage too, and is cleared first."""
-    if (<BloomFilter>filter).exports:
-        return 0
-    if (<BloomFilter>filter).bits.obj is NULL:  # the bits are of a memoryview
-        memset(&(<BloomFilter>filter).bits, 0, sizeof(View))
-    return clear_rest(filter)
-
-
-(<Type *>BloomFilter).tp_clear = clear
 
 
 cdef void sum_rates(const uint64_t *words, size_t pairs, uint64_t *high, uint64_t *low) noexcept nogil:

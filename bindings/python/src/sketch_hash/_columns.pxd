@@ -3,7 +3,7 @@
 Calls of several threads on one object take turns. A short call keeps Python's lock, the GIL. A call on 64 KiB or more
 releases the GIL, and holds a lock of the object until it is done. Every other call on that object waits for it.
 """
-from cpython.bytes cimport PyBytes_AS_STRING, PyBytes_CheckExact, PyBytes_GET_SIZE
+from cpython.bytes cimport PyBytes_AS_STRING, PyBytes_Check, PyBytes_GET_SIZE
 from cpython.object cimport PyObject
 from cpython.pythread cimport (
     NOWAIT_LOCK, WAIT_LOCK, PyThread_acquire_lock, PyThread_allocate_lock, PyThread_free_lock,
@@ -69,7 +69,7 @@ cdef uint64_t word_of(object number, str name) except? -1
 
 cdef inline int get_bytes(object data, View *memory) except -1:
     """The memory of a bytes-like object, until it is released."""
-    if not PyBytes_CheckExact(data):
+    if not PyBytes_Check(data):
         return get_buffer(data, memory)
     memory.buf = PyBytes_AS_STRING(data)
     memory.len = PyBytes_GET_SIZE(data)
@@ -82,7 +82,7 @@ cdef enum Kind:
 
 
 cdef class Column:
-    cdef object texts  # what data is of: exact bytes are no buffer that could keep them
+    cdef object texts  # what data is of: of bytes it is no buffer that could keep them
     cdef View data, numbers  # the bytes of texts; their offsets, or else the numbers
     cdef Arrow arrow
     cdef Kind kind
@@ -91,6 +91,7 @@ cdef class Column:
 
     cdef size_t get_numbers(self, object numbers, str what) except 0
     cdef Py_ssize_t size(self) noexcept
+    cdef bint has_rest(self) except -1
     cdef bint overlaps(self, const void *memory, size_t length) noexcept
 
 

@@ -2,6 +2,9 @@
 cimport cython
 from cpython.buffer cimport PyBUF_C_CONTIGUOUS, PyBUF_FORMAT, PyBUF_ND
 from cpython.bytearray cimport PyByteArray_AS_STRING
+from cpython.bytes cimport PyBytes_FromStringAndSize
+from cpython.exc cimport PyErr_CheckSignals
+from cpython.unicode cimport PyUnicode_AsUTF8String
 from libc.stdint cimport INT32_MAX, uint64_t, uintptr_t
 from libc.string cimport strchr, strlen, strpbrk, strspn
 
@@ -105,6 +108,21 @@ cdef bint is_arrow(object keys) except -1:
     return False
 
 
+cdef type no_mask = bytes  # the last type of numbers that has no mask
+
+
+cdef int refuse_mask(object numbers) except -1:
+    """The buffer of a masked array of numpy has the masked values too."""
+    global no_mask
+    if type(numbers) is no_mask:
+        return 0
+    if hasattr(type(numbers), "mask"):
+        raise TypeError("a column must not be a masked array: pass pyarrow.array(keys), or keys.compressed() "
+                        "if you need no result for the masked values")
+    no_mask = type(numbers)
+    return 0
+
+
 cdef int refuse_nan(cython.floating *numbers, size_t items) except -1:
     """numpy has NaN for a missing value, and then makes whole numbers floats, which are other keys."""
     cdef size_t i = 0
@@ -158,6 +176,7 @@ cdef class Column:
         cdef const char *format = ""
         cdef char letter = 0  # of the numbers, if they are one row
         narrowest, formats, text, cure = NUMBER_KINDS[what]
+        refuse_mask(numbers)
         try:
             PyObject_GetBuffer(numbers, &self.numbers, PyBUF_C_CONTIGUOUS | PyBUF_FORMAT)
         except TypeError:
@@ -186,6 +205,14 @@ cdef class Column:
 
     cdef Py_ssize_t size(self) noexcept:
         return self.arrow.num_bytes if self.kind == ARROW else self.data.len + self.numbers.len
+
+    cdef bint has_rest(self) except -1:
+        """Whether a call has left rows for another one, between which it looks for signals. Their handlers may call the
+        object whose lock the call held, so it releases the lock before."""
+        if self.kind != ARROW or self.arrow.chunk is NULL:
+            return False
+        PyErr_CheckSignals()
+        return True
 
     cdef bint overlaps(self, const void *memory, size_t length) noexcept:
         if self.kind == ARROW:
@@ -218,12 +245,15 @@ cdef object hashes_of(Column keys, int words, object seed):
         keys.arrow.refuse_nulls()
     hashes = bytearray(8 * words * keys.count)
     cdef void *out = PyByteArray_AS_STRING(hashes)
-    if keys.size() < LONG:
-        status = hash_column(keys, words, number, out, &wrong)
-    else:
-        with nogil:
+    while True:
+        if keys.size() < LONG:
             status = hash_column(keys, words, number, out, &wrong)
-    check_offsets(status, wrong)
+        else:
+            with nogil:
+                status = hash_column(keys, words, number, out, &wrong)
+        check_offsets(status, wrong)
+        if not keys.has_rest():
+            break
     return memoryview(hashes).cast("Q")
 
 
@@ -266,8 +296,9 @@ def column(texts):
 
 
 cdef bytes text_bytes(i, text):
+    """The bytes of the text itself, whatever methods a subclass has."""
     if isinstance(text, str):
-        return text.encode()
+        return PyUnicode_AsUTF8String(text)
     if isinstance(text, bytes):
-        return bytes(text)
+        return PyBytes_FromStringAndSize(PyBytes_AS_STRING(text), PyBytes_GET_SIZE(text))
     raise TypeError(f"the key at {i} must be str or bytes, not {type(text).__name__}")

@@ -127,6 +127,7 @@ cdef class xxh64:
     @property
     def seed(self):
         """The seed."""
+        wait(<void *>self.lock)
         return self.state.seed
 
     def copy(self):
@@ -248,6 +249,7 @@ cdef class murmur3_x64_128:
     @property
     def seed(self):
         """The seed."""
+        wait(<void *>self.lock)
         return self.start_seed
 
     def copy(self):

@@ -15,8 +15,8 @@ def main():
     adds.add_argument("-o", "--output", help="the file to write, if there is one FILE")
     adds.add_argument("--replace", action="store_true", help="replaces filters that a file has")
     checks = commands.add_parser("check", help="reads all values, and asks the filters for them")
-    for it in (adds, checks):
-        it.add_argument("files", nargs="+", metavar="FILE")
+    for command in (adds, checks):
+        command.add_argument("files", nargs="+", metavar="FILE")
     args = parser.parse_args()
     if args.command == "add" and args.output and len(args.files) > 1:
         parser.error("--output must come with one FILE")
@@ -31,7 +31,7 @@ def run(args, file):
             print(f"{file}: {add_filters(file, args.output or file, args.column, **options)} bytes of filters")
         else:
             print(f"{file}: {check_filters(file, progress=bar_of(file))} filters have all values")
-    except (ImportError, MemoryError, NotImplementedError, OSError, TypeError, ValueError) as error:
+    except Exception as error:
         print(f"sketch_hash.parquet: {file}: {error or type(error).__name__}", file=sys.stderr)
         return 1
     return 0

@@ -8,6 +8,8 @@ import uuid
 
 from .footer import BYTE_ARRAY, DOUBLE, FLOAT, INT32, INT64
 
+MOST_BYTES = 1024  # of a decimal. Arrow's have up to 32.
+
 
 def keys_of(value, column):
     """The keys of a value: two for zero as a float, none if the column cannot have the value."""
@@ -15,7 +17,7 @@ def keys_of(value, column):
     reason = kind.why_no_filter()
     if reason:
         raise TypeError(f"the column {column.name} must not be {reason}")
-    if value is None or isinstance(value, bool) or value != value:
+    if isinstance(value, bool) or is_missing(value):
         raise TypeError(f"a value must not be a null, a NaN or a bool, as {value!r}")
     try:
         if kind.type in (FLOAT, DOUBLE):
@@ -31,6 +33,13 @@ def keys_of(value, column):
         raise TypeError(f"a value of {type(value).__name__} cannot be in {column.name}: {error}") from None
 
 
+def is_missing(value):
+    try:
+        return value is None or bool(value != value)
+    except (ArithmeticError, ValueError):  # a signaling NaN, or an array
+        return True
+
+
 def of_float(value, format):
     if not isinstance(value, numbers.Real):
         raise TypeError("it must be a number")
@@ -38,6 +47,8 @@ def of_float(value, format):
         key = struct.pack(format, value)
     except OverflowError:
         return []
+    except struct.error:  # a duration of numpy says that it is a number
+        raise TypeError("it must be a number") from None
     if struct.unpack(format, key)[0] != value:
         return []
     return [key] if value else [struct.pack(format, 0.0), struct.pack(format, -0.0)]
@@ -47,6 +58,8 @@ def of_integer(number, kind):
     if kind.type == BYTE_ARRAY:
         raise TypeError("decimals in BYTE_ARRAY have several forms")
     width, order = {INT32: (4, "little"), INT64: (8, "little")}.get(kind.type, (kind.length, "big"))
+    if not 0 < width <= MOST_BYTES:
+        raise ValueError(f"whole numbers must have 1 to {MOST_BYTES} bytes in the file, not {width}")
     try:
         return [] if number is None else [number.to_bytes(width, order, signed=not kind.is_unsigned)]
     except OverflowError:
@@ -57,7 +70,7 @@ def of_bytes(value, kind):
     if kind.name == "uuid" and isinstance(value, uuid.UUID):
         value = value.bytes
     elif isinstance(value, str) and kind.type == BYTE_ARRAY:
-        value = value.encode()
+        value = str.encode(value)
     if not isinstance(value, bytes):
         raise TypeError("it must be bytes" + (" or a str" if kind.type == BYTE_ARRAY else
                                               " or a uuid.UUID" if kind.name == "uuid" else ""))
@@ -68,13 +81,17 @@ def unscaled(value, scale):
     """The whole number that is stored for a decimal, or None. Arithmetic of decimals would round."""
     if not isinstance(value, decimal.Decimal):
         value = decimal.Decimal(operator.index(value))
+    if not value.is_finite():
+        return None
     sign, digits, exponent = value.as_tuple()
-    if not value or not isinstance(exponent, int) or abs(exponent + scale) > 4000:
-        return None if value else 0
-    number, shift = int("".join(map(str, digits))) * (-1 if sign else 1), exponent + scale
-    if shift >= 0:
-        return number * 10**shift
-    return None if number % 10**-shift else number // 10**-shift
+    text = "".join(map(str, digits))
+    shown = text.rstrip("0")
+    shift = exponent + len(text) - len(shown) + scale
+    if not shown:
+        return 0
+    if shift < 0 or len(shown) + shift > 3 * MOST_BYTES:  # a byte has less than three digits
+        return None
+    return int(shown) * 10**shift * (-1 if sign else 1)
 
 
 def days(value, kind):

@@ -1,0 +1,38 @@
+"""The values of a column as a Parquet file stores them, by pyarrow."""
+from .footer import FIXED
+
+BATCH = 1 << 24  # bytes of values that are in memory at a time, about
+MOST_ROWS = 1024  # of a batch; longer ones are not faster
+
+
+def stored_values(file, footer, column):
+    """For each row group the values of a column in batches."""
+    try:
+        import pyarrow
+        import pyarrow.parquet
+    except ImportError as error:
+        raise ImportError("this call needs pyarrow: pip install pyarrow") from error
+    width = column.kind.length if column.kind.type == FIXED else 1
+    if not 0 < width <= BATCH:
+        raise ValueError(f"a value of {column.name} must have 1 to {BATCH} bytes, not {width}")
+    metadata = pyarrow.parquet.read_metadata(pyarrow.BufferReader(b"PAR1" + footer.of_column(column)))
+    with pyarrow.parquet.ParquetFile(file, metadata=metadata, buffer_size=1 << 20, pre_buffer=False) as parquet:
+        for group, count in enumerate(footer.rows):
+            yield batches_of(parquet, group, max(1, min(64, BATCH // width, 64 * count // max(column.values(group), 1))))
+
+
+def batches_of(parquet, group, rows):
+    """Each batch tells how many rows the next one may have: the footer does not tell how long a text is in memory."""
+    for batch in parquet.iter_batches(rows, row_groups=[group], use_threads=False):
+        yield leaf_values(batch)
+        rows = max(1, min(MOST_ROWS, 2 * rows, rows * BATCH // max(batch.nbytes, 1)))
+        parquet.reader.set_batch_size(rows)
+
+
+def leaf_values(batch):
+    values = batch.column(0)
+    while values.type.num_fields:
+        values = values.flatten()
+        if isinstance(values, list):  # of a struct
+            values = values[0]
+    return values
