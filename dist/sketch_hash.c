@@ -28,8 +28,8 @@
 #define SKH_INLINE static inline
 #endif
 
-/* A function with a body of its own for processors with AVX2, where the compiler may use it and the program was not
- * compiled for them anyway. Before the constructor has run, and where there is none, all take the other one. */
+/* A function of which there is a second one for processors with AVX2, where the compiler can make it and the program was not
+ * compiled for these processors alone. Before the constructor has run, the first one is called. */
 #if defined __GNUC__ && defined __x86_64__ && !defined __AVX2__
 #include <cpuid.h>
 static bool skh_has_avx2;
@@ -40,19 +40,21 @@ __attribute__((constructor)) static void skh_find_avx2(void) {
     if ((a & 6) != 6 || !__get_cpuid_count(7, 0, &a, &b, &c, &d)) return;
     skh_has_avx2 = (b & bit_AVX2) != 0;
 }
+#define SKH_GIVEN(...) __VA_ARGS__
 #define SKH_CHOOSE(STORAGE, TYPE, GIVE, NAME, PARAMETERS, ARGUMENTS)                               \
     __attribute__((target("avx2"))) static TYPE NAME##_avx2 PARAMETERS {                           \
-        GIVE NAME##_any ARGUMENTS;                                                                 \
+        GIVE NAME##_any(true, SKH_GIVEN ARGUMENTS);                                                \
     }                                                                                              \
     STORAGE TYPE NAME PARAMETERS {                                                                 \
         if (skh_has_avx2)                                                                          \
             GIVE NAME##_avx2 ARGUMENTS;                                                            \
         else                                                                                       \
-            GIVE NAME##_any ARGUMENTS;                                                             \
+            GIVE NAME##_any(false, SKH_GIVEN ARGUMENTS);                                           \
     }
 #else
+#define SKH_GIVEN(...) __VA_ARGS__
 #define SKH_CHOOSE(STORAGE, TYPE, GIVE, NAME, PARAMETERS, ARGUMENTS)                               \
-    STORAGE TYPE NAME PARAMETERS { GIVE NAME##_any ARGUMENTS; }
+    STORAGE TYPE NAME PARAMETERS { GIVE NAME##_any(true, SKH_GIVEN ARGUMENTS); }
 #endif
 
 /* As XXH64's specification and MurmurHash3's code name them. */
@@ -97,17 +99,33 @@ SKH_INLINE uint64_t skh_rotate64(uint64_t x, uint64_t n) { return __builtin_rota
 #else
 SKH_INLINE uint64_t skh_rotate64(uint64_t x, uint64_t n) { return x << n | x >> (64 - n); }
 #endif
-/* Whether any bit is set. gcc makes a vector only of the array, and clang only of the sum. */
-SKH_INLINE bool skh_any(uint32_t a, uint32_t b, uint32_t c, uint32_t d, uint32_t e, uint32_t f,
-                        uint32_t g, uint32_t h) {
-#ifdef __clang__
-    return (a | b | c | d | e | f | g | h) != 0;
-#else
-    const uint32_t words[8] = {a, b, c, d, e, f, g, h};
-    uint64_t pairs[4];
-    memcpy(pairs, words, sizeof pairs);
-    return (pairs[0] | pairs[1] | pairs[2] | pairs[3]) != 0;
+/* Bit n. Without AVX2 gcc makes no vector of shifts, and a look-up takes two thirds of the time of a shift. */
+SKH_INLINE uint32_t skh_bit(bool has_vectors, uint32_t n) {
+#ifndef __clang__
+    static const uint32_t bits[32] = {
+        1u << 0,  1u << 1,  1u << 2,  1u << 3,  1u << 4,  1u << 5,  1u << 6,  1u << 7,
+        1u << 8,  1u << 9,  1u << 10, 1u << 11, 1u << 12, 1u << 13, 1u << 14, 1u << 15,
+        1u << 16, 1u << 17, 1u << 18, 1u << 19, 1u << 20, 1u << 21, 1u << 22, 1u << 23,
+        1u << 24, 1u << 25, 1u << 26, 1u << 27, 1u << 28, 1u << 29, 1u << 30, 1u << 31};
+    if (!has_vectors) return bits[n];
 #endif
+    (void)has_vectors;
+    return (uint32_t)1 << n;
+}
+
+/* Whether any bit is set. gcc makes a vector only of the array, and clang only of the sum. */
+SKH_INLINE bool skh_any(bool has_vectors, uint32_t a, uint32_t b, uint32_t c, uint32_t d,
+                        uint32_t e, uint32_t f, uint32_t g, uint32_t h) {
+#ifndef __clang__
+    if (has_vectors) {
+        const uint32_t words[8] = {a, b, c, d, e, f, g, h};
+        uint64_t pairs[4];
+        memcpy(pairs, words, sizeof pairs);
+        return (pairs[0] | pairs[1] | pairs[2] | pairs[3]) != 0;
+    }
+#endif
+    (void)has_vectors;
+    return (a | b | c | d | e | f | g | h) != 0;
 }
 
 SKH_INLINE uint64_t skh_least64(uint64_t x, uint64_t y) { return x < y ? x : y; }
@@ -990,8 +1008,8 @@ static SKH_NOINLINE void skh_hash_run(const unsigned char *p1, const unsigned ch
 }
 
 /* sketch_bloom::columns::find_hashes */
-SKH_INLINE void skh_find_hashes_any(const unsigned char *p1, uint64_t x1, const unsigned char *p2,
-    uint64_t x2, unsigned char *p3, uint64_t x3) {
+SKH_INLINE void skh_find_hashes_any(bool has_vectors, const unsigned char *p1, uint64_t x1,
+    const unsigned char *p2, uint64_t x2, unsigned char *p3, uint64_t x3) {
     if (x2 != 0) {
         const uint64_t x5 = x1 >> 5;
         unsigned char *const p4 = p3 + x3;
@@ -1000,15 +1018,15 @@ SKH_INLINE void skh_find_hashes_any(const unsigned char *p1, uint64_t x1, const 
             const uint64_t x6 = skh_load64(p2 + (x4 << 3));
             const unsigned char *const p5 = p1 + ((((x6 >> 32) * x5) >> 27) & 0x1fffffffe0u);
             const uint32_t w1 = (uint32_t)x6;
-            const uint8_t b1 = skh_any(((uint32_t)1 << ((w1 * 0x47b6137bu) >> 27))
-                & ~skh_load32(p5), ((uint32_t)1 << ((w1 * 0x44974d91u) >> 27))
-                & ~skh_load32(p5 + 4), ((uint32_t)1 << ((w1 * 0x8824ad5bu) >> 27))
-                & ~skh_load32(p5 + 8), ((uint32_t)1 << ((w1 * 0xa2b7289du) >> 27))
-                & ~skh_load32(p5 + 12), ((uint32_t)1 << ((w1 * 0x705495c7u) >> 27))
-                & ~skh_load32(p5 + 16), ((uint32_t)1 << ((w1 * 0x2df1424bu) >> 27))
-                & ~skh_load32(p5 + 20), ((uint32_t)1 << ((w1 * 0x9efc4947u) >> 27))
-                & ~skh_load32(p5 + 24), ((uint32_t)1 << ((w1 * 0x5c6bfb31u) >> 27))
-                & ~skh_load32(p5 + 28));
+            const uint8_t b1 = skh_any(has_vectors,
+                skh_bit(has_vectors, (w1 * 0x47b6137bu) >> 27) & ~skh_load32(p5),
+                skh_bit(has_vectors, (w1 * 0x44974d91u) >> 27) & ~skh_load32(p5 + 4),
+                skh_bit(has_vectors, (w1 * 0x8824ad5bu) >> 27) & ~skh_load32(p5 + 8),
+                skh_bit(has_vectors, (w1 * 0xa2b7289du) >> 27) & ~skh_load32(p5 + 12),
+                skh_bit(has_vectors, (w1 * 0x705495c7u) >> 27) & ~skh_load32(p5 + 16),
+                skh_bit(has_vectors, (w1 * 0x2df1424bu) >> 27) & ~skh_load32(p5 + 20),
+                skh_bit(has_vectors, (w1 * 0x9efc4947u) >> 27) & ~skh_load32(p5 + 24),
+                skh_bit(has_vectors, (w1 * 0x5c6bfb31u) >> 27) & ~skh_load32(p5 + 28));
             p4[x4] = (uint8_t)(b1 == 0);
             x4 += 1;
         } while (x4 != x2);
@@ -1183,8 +1201,8 @@ static SKH_NOINLINE void skh_hash_run_2(const unsigned char *p1, const unsigned 
 }
 
 /* sketch_bloom::columns::insert_hashes */
-SKH_INLINE void skh_insert_hashes_any(unsigned char *p1, uint64_t x1, const unsigned char *p2,
-    uint64_t x2) {
+SKH_INLINE void skh_insert_hashes_any(bool has_vectors, unsigned char *p1, uint64_t x1,
+    const unsigned char *p2, uint64_t x2) {
     if (x2 != 0) {
         const uint64_t x4 = x1 >> 5;
         uint64_t x3 = 0;
@@ -1192,14 +1210,19 @@ SKH_INLINE void skh_insert_hashes_any(unsigned char *p1, uint64_t x1, const unsi
             const uint64_t x5 = skh_load64(p2 + (x3 << 3));
             unsigned char *const p3 = p1 + ((((x5 >> 32) * x4) >> 27) & 0x1fffffffe0u);
             const uint32_t w1 = (uint32_t)x5;
-            const uint32_t w2 = skh_load32(p3) | ((uint32_t)1 << ((w1 * 0x47b6137bu) >> 27));
-            const uint32_t w3 = skh_load32(p3 + 4) | ((uint32_t)1 << ((w1 * 0x44974d91u) >> 27));
-            const uint32_t w4 = skh_load32(p3 + 8) | ((uint32_t)1 << ((w1 * 0x8824ad5bu) >> 27));
-            const uint32_t w5 = skh_load32(p3 + 12) | ((uint32_t)1 << ((w1 * 0xa2b7289du) >> 27));
-            const uint32_t w6 = skh_load32(p3 + 16) | ((uint32_t)1 << ((w1 * 0x705495c7u) >> 27));
-            const uint32_t w7 = skh_load32(p3 + 20) | ((uint32_t)1 << ((w1 * 0x2df1424bu) >> 27));
-            const uint32_t w8 = skh_load32(p3 + 24) | ((uint32_t)1 << ((w1 * 0x9efc4947u) >> 27));
-            const uint32_t w9 = skh_load32(p3 + 28) | ((uint32_t)1 << ((w1 * 0x5c6bfb31u) >> 27));
+            const uint32_t w2 = skh_load32(p3) | skh_bit(has_vectors, (w1 * 0x47b6137bu) >> 27);
+            const uint32_t w3 = skh_load32(p3 + 4) | skh_bit(has_vectors, (w1 * 0x44974d91u) >> 27);
+            const uint32_t w4 = skh_load32(p3 + 8) | skh_bit(has_vectors, (w1 * 0x8824ad5bu) >> 27);
+            const uint32_t w5 = skh_load32(p3 + 12)
+                | skh_bit(has_vectors, (w1 * 0xa2b7289du) >> 27);
+            const uint32_t w6 = skh_load32(p3 + 16)
+                | skh_bit(has_vectors, (w1 * 0x705495c7u) >> 27);
+            const uint32_t w7 = skh_load32(p3 + 20)
+                | skh_bit(has_vectors, (w1 * 0x2df1424bu) >> 27);
+            const uint32_t w8 = skh_load32(p3 + 24)
+                | skh_bit(has_vectors, (w1 * 0x9efc4947u) >> 27);
+            const uint32_t w9 = skh_load32(p3 + 28)
+                | skh_bit(has_vectors, (w1 * 0x5c6bfb31u) >> 27);
             skh_store32(p3, w2);
             skh_store32(p3 + 4, w3);
             skh_store32(p3 + 8, w4);
@@ -1243,8 +1266,8 @@ SKETCH_HASH_API size_t sketch_bloom_bytes_for(uint64_t keys, uint64_t one_in) {
                         skh_wide(0, keys)), x1)) / x5;
                     const uint64_t x8 = (x4 >> 5) * 31;
                     const uint64_t x9 = x7 + x3;
-                    const skh_uint128 y2 = skh_wide_right(skh_wide_mul(skh_wide(0, 0x4000000000000u
-                        - x8), skh_wide(0, 0x4000000000000u - x8)), 50);
+                    const skh_uint128 y2 = skh_wide_right(skh_wide_mul(skh_wide(0,
+                        0x4000000000000u - x8), skh_wide(0, 0x4000000000000u - x8)), 50);
                     const skh_uint128 y3 = skh_wide_right(skh_wide_mul(y2, y2), 50);
                     const skh_uint128 y4 = skh_wide_add(skh_wide_mul(skh_wide_and(skh_wide_right(skh_wide_mul(y3, y3), 40), skh_wide(0, 0xffffffffffffffffu)), skh_wide(0, x7)), y1);
                     const bool c1 = x7 < 0x1000000000000u;
@@ -1282,8 +1305,8 @@ SKETCH_HASH_API int sketch_bloom_check(size_t length) {
     return (int)-(uint32_t)(skh_rotate64(length, 59) + 0xffffffff00000000u < 0xffffffff00000001u);
 }
 
-SKH_INLINE int sketch_bloom_contains_any(const void *bits, size_t length, const void *key,
-    size_t key_length) {
+SKH_INLINE int sketch_bloom_contains_any(bool has_vectors, const void *bits, size_t length,
+    const void *key, size_t key_length) {
     uint64_t x11;
     uint32_t w1;
     const unsigned char *const p1 = bits;
@@ -1438,14 +1461,15 @@ SKH_INLINE int sketch_bloom_contains_any(const void *bits, size_t length, const 
         const unsigned char *const p6 = ((p1 == NULL) ? (const unsigned char *)4096 : p1)
             + ((((x11 >> 32) * (length >> 5)) >> 27) & 0x1fffffffe0u);
         const uint32_t w2 = (uint32_t)x11;
-        const uint8_t b1 = skh_any(~skh_load32(p6) & ((uint32_t)1 << ((w2 * 0x47b6137bu) >> 27)),
-            ~skh_load32(p6 + 4) & ((uint32_t)1 << ((w2 * 0x44974d91u) >> 27)), ~skh_load32(p6 + 8)
-            & ((uint32_t)1 << ((w2 * 0x8824ad5bu) >> 27)), ~skh_load32(p6 + 12)
-            & ((uint32_t)1 << ((w2 * 0xa2b7289du) >> 27)), ~skh_load32(p6 + 16)
-            & ((uint32_t)1 << ((w2 * 0x705495c7u) >> 27)), ~skh_load32(p6 + 20)
-            & ((uint32_t)1 << ((w2 * 0x2df1424bu) >> 27)), ~skh_load32(p6 + 24)
-            & ((uint32_t)1 << ((w2 * 0x9efc4947u) >> 27)), ~skh_load32(p6 + 28)
-            & ((uint32_t)1 << ((w2 * 0x5c6bfb31u) >> 27)));
+        const uint8_t b1 = skh_any(has_vectors,
+            ~skh_load32(p6) & skh_bit(has_vectors, (w2 * 0x47b6137bu) >> 27),
+            ~skh_load32(p6 + 4) & skh_bit(has_vectors, (w2 * 0x44974d91u) >> 27),
+            ~skh_load32(p6 + 8) & skh_bit(has_vectors, (w2 * 0x8824ad5bu) >> 27),
+            ~skh_load32(p6 + 12) & skh_bit(has_vectors, (w2 * 0xa2b7289du) >> 27),
+            ~skh_load32(p6 + 16) & skh_bit(has_vectors, (w2 * 0x705495c7u) >> 27),
+            ~skh_load32(p6 + 20) & skh_bit(has_vectors, (w2 * 0x2df1424bu) >> 27),
+            ~skh_load32(p6 + 24) & skh_bit(has_vectors, (w2 * 0x9efc4947u) >> 27),
+            ~skh_load32(p6 + 28) & skh_bit(has_vectors, (w2 * 0x5c6bfb31u) >> 27));
         w1 = (uint32_t)(b1 == 0);
     } else {
         w1 = 1;
@@ -1457,21 +1481,23 @@ SKH_CHOOSE(SKETCH_HASH_API, int, return, sketch_bloom_contains,
     (const void *bits, size_t length, const void *key, size_t key_length),
     (bits, length, key, key_length))
 
-SKH_INLINE int sketch_bloom_contains_hash_any(const void *bits, size_t length, uint64_t hash) {
+SKH_INLINE int sketch_bloom_contains_hash_any(bool has_vectors, const void *bits, size_t length,
+    uint64_t hash) {
     uint32_t w1;
     const unsigned char *const p1 = bits;
     if (skh_rotate64(length, 59) - 1 < 0xffffffffu) {
         const unsigned char *const p2 = ((p1 == NULL) ? (const unsigned char *)4096 : p1)
             + ((((hash >> 32) * (length >> 5)) >> 27) & 0x1fffffffe0u);
         const uint32_t w2 = (uint32_t)hash;
-        const uint8_t b1 = skh_any(~skh_load32(p2) & ((uint32_t)1 << ((w2 * 0x47b6137bu) >> 27)),
-            ~skh_load32(p2 + 4) & ((uint32_t)1 << ((w2 * 0x44974d91u) >> 27)), ~skh_load32(p2 + 8)
-            & ((uint32_t)1 << ((w2 * 0x8824ad5bu) >> 27)), ~skh_load32(p2 + 12)
-            & ((uint32_t)1 << ((w2 * 0xa2b7289du) >> 27)), ~skh_load32(p2 + 16)
-            & ((uint32_t)1 << ((w2 * 0x705495c7u) >> 27)), ~skh_load32(p2 + 20)
-            & ((uint32_t)1 << ((w2 * 0x2df1424bu) >> 27)), ~skh_load32(p2 + 24)
-            & ((uint32_t)1 << ((w2 * 0x9efc4947u) >> 27)), ~skh_load32(p2 + 28)
-            & ((uint32_t)1 << ((w2 * 0x5c6bfb31u) >> 27)));
+        const uint8_t b1 = skh_any(has_vectors,
+            ~skh_load32(p2) & skh_bit(has_vectors, (w2 * 0x47b6137bu) >> 27),
+            ~skh_load32(p2 + 4) & skh_bit(has_vectors, (w2 * 0x44974d91u) >> 27),
+            ~skh_load32(p2 + 8) & skh_bit(has_vectors, (w2 * 0x8824ad5bu) >> 27),
+            ~skh_load32(p2 + 12) & skh_bit(has_vectors, (w2 * 0xa2b7289du) >> 27),
+            ~skh_load32(p2 + 16) & skh_bit(has_vectors, (w2 * 0x705495c7u) >> 27),
+            ~skh_load32(p2 + 20) & skh_bit(has_vectors, (w2 * 0x2df1424bu) >> 27),
+            ~skh_load32(p2 + 24) & skh_bit(has_vectors, (w2 * 0x9efc4947u) >> 27),
+            ~skh_load32(p2 + 28) & skh_bit(has_vectors, (w2 * 0x5c6bfb31u) >> 27));
         w1 = (uint32_t)(b1 == 0);
     } else {
         w1 = 1;
@@ -1551,8 +1577,8 @@ L15:;
 SKETCH_HASH_API size_t sketch_bloom_header_write(uint64_t bytes, unsigned char *header,
     size_t room) {
     unsigned char *const p1 = (unsigned char *)header;
-    const struct skh_uint8_uint64 r1 = skh_write_header(bytes, (p1 == NULL) ? (unsigned char *)4096
-        : p1, room);
+    const struct skh_uint8_uint64 r1 = skh_write_header(bytes,
+        (p1 == NULL) ? (unsigned char *)4096 : p1, room);
     return ((r1.f0 & 1) != 0) ? r1.f1 : 0;
 }
 
@@ -3186,9 +3212,9 @@ SKETCH_HASH_API int sketch_bloom_contains_each_hash(const void *bits, size_t len
         if (hash_count < count) {
             w1 = 0xfffffffdu;
         } else {
-            skh_find_hashes((p1 == NULL) ? (const unsigned char *)4096 : p1, length, (p2 == NULL)
-                ? (const unsigned char *)4096 : p2, count, (p3 == NULL) ? (unsigned char *)4096
-                : p3, 0);
+            skh_find_hashes((p1 == NULL) ? (const unsigned char *)4096 : p1, length,
+                (p2 == NULL) ? (const unsigned char *)4096 : p2, count,
+                (p3 == NULL) ? (unsigned char *)4096 : p3, 0);
             w1 = 0;
         }
     } else {
@@ -3197,7 +3223,7 @@ SKETCH_HASH_API int sketch_bloom_contains_each_hash(const void *bits, size_t len
     return (int)w1;
 }
 
-SKH_INLINE int sketch_bloom_contains_each_u32_any(const void *bits, size_t length,
+SKH_INLINE int sketch_bloom_contains_each_u32_any(bool has_vectors, const void *bits, size_t length,
     const uint32_t *values, size_t value_count, unsigned char *found, size_t count) {
     uint32_t w1;
     const unsigned char *const p1 = bits;
@@ -3222,15 +3248,15 @@ SKH_INLINE int sketch_bloom_contains_each_u32_any(const void *bits, size_t lengt
                 const uint64_t x6 = x5 >> 32;
                 const unsigned char *const p7 = p4 + (((x6 * x2) >> 27) & 0x1fffffffe0u);
                 const uint32_t w2 = (uint32_t)(x6 ^ x5);
-                const uint8_t b1 = skh_any(((uint32_t)1 << ((w2 * 0x47b6137bu) >> 27))
-                    & ~skh_load32(p7), ((uint32_t)1 << ((w2 * 0x44974d91u) >> 27))
-                    & ~skh_load32(p7 + 4), ((uint32_t)1 << ((w2 * 0x8824ad5bu) >> 27))
-                    & ~skh_load32(p7 + 8), ((uint32_t)1 << ((w2 * 0xa2b7289du) >> 27))
-                    & ~skh_load32(p7 + 12), ((uint32_t)1 << ((w2 * 0x705495c7u) >> 27))
-                    & ~skh_load32(p7 + 16), ((uint32_t)1 << ((w2 * 0x2df1424bu) >> 27))
-                    & ~skh_load32(p7 + 20), ((uint32_t)1 << ((w2 * 0x9efc4947u) >> 27))
-                    & ~skh_load32(p7 + 24), ((uint32_t)1 << ((w2 * 0x5c6bfb31u) >> 27))
-                    & ~skh_load32(p7 + 28));
+                const uint8_t b1 = skh_any(has_vectors,
+                    skh_bit(has_vectors, (w2 * 0x47b6137bu) >> 27) & ~skh_load32(p7),
+                    skh_bit(has_vectors, (w2 * 0x44974d91u) >> 27) & ~skh_load32(p7 + 4),
+                    skh_bit(has_vectors, (w2 * 0x8824ad5bu) >> 27) & ~skh_load32(p7 + 8),
+                    skh_bit(has_vectors, (w2 * 0xa2b7289du) >> 27) & ~skh_load32(p7 + 12),
+                    skh_bit(has_vectors, (w2 * 0x705495c7u) >> 27) & ~skh_load32(p7 + 16),
+                    skh_bit(has_vectors, (w2 * 0x2df1424bu) >> 27) & ~skh_load32(p7 + 20),
+                    skh_bit(has_vectors, (w2 * 0x9efc4947u) >> 27) & ~skh_load32(p7 + 24),
+                    skh_bit(has_vectors, (w2 * 0x5c6bfb31u) >> 27) & ~skh_load32(p7 + 28));
                 p6[x1] = (uint8_t)(b1 == 0);
                 const uint64_t x7 = x1 + 1;
                 if (x7 == count) {
@@ -3250,7 +3276,7 @@ SKH_CHOOSE(SKETCH_HASH_API, int, return, sketch_bloom_contains_each_u32,
     (const void *bits, size_t length, const uint32_t *values, size_t value_count,
     unsigned char *found, size_t count), (bits, length, values, value_count, found, count))
 
-SKH_INLINE int sketch_bloom_contains_each_u64_any(const void *bits, size_t length,
+SKH_INLINE int sketch_bloom_contains_each_u64_any(bool has_vectors, const void *bits, size_t length,
     const uint64_t *values, size_t value_count, unsigned char *found, size_t count) {
     uint32_t w1;
     const unsigned char *const p1 = bits;
@@ -3277,15 +3303,15 @@ SKH_INLINE int sketch_bloom_contains_each_u64_any(const void *bits, size_t lengt
                 const uint64_t x7 = x6 >> 32;
                 const unsigned char *const p7 = p4 + (((x7 * x2) >> 27) & 0x1fffffffe0u);
                 const uint32_t w2 = (uint32_t)(x7 ^ x6);
-                const uint8_t b1 = skh_any(((uint32_t)1 << ((w2 * 0x47b6137bu) >> 27))
-                    & ~skh_load32(p7), ((uint32_t)1 << ((w2 * 0x44974d91u) >> 27))
-                    & ~skh_load32(p7 + 4), ((uint32_t)1 << ((w2 * 0x8824ad5bu) >> 27))
-                    & ~skh_load32(p7 + 8), ((uint32_t)1 << ((w2 * 0xa2b7289du) >> 27))
-                    & ~skh_load32(p7 + 12), ((uint32_t)1 << ((w2 * 0x705495c7u) >> 27))
-                    & ~skh_load32(p7 + 16), ((uint32_t)1 << ((w2 * 0x2df1424bu) >> 27))
-                    & ~skh_load32(p7 + 20), ((uint32_t)1 << ((w2 * 0x9efc4947u) >> 27))
-                    & ~skh_load32(p7 + 24), ((uint32_t)1 << ((w2 * 0x5c6bfb31u) >> 27))
-                    & ~skh_load32(p7 + 28));
+                const uint8_t b1 = skh_any(has_vectors,
+                    skh_bit(has_vectors, (w2 * 0x47b6137bu) >> 27) & ~skh_load32(p7),
+                    skh_bit(has_vectors, (w2 * 0x44974d91u) >> 27) & ~skh_load32(p7 + 4),
+                    skh_bit(has_vectors, (w2 * 0x8824ad5bu) >> 27) & ~skh_load32(p7 + 8),
+                    skh_bit(has_vectors, (w2 * 0xa2b7289du) >> 27) & ~skh_load32(p7 + 12),
+                    skh_bit(has_vectors, (w2 * 0x705495c7u) >> 27) & ~skh_load32(p7 + 16),
+                    skh_bit(has_vectors, (w2 * 0x2df1424bu) >> 27) & ~skh_load32(p7 + 20),
+                    skh_bit(has_vectors, (w2 * 0x9efc4947u) >> 27) & ~skh_load32(p7 + 24),
+                    skh_bit(has_vectors, (w2 * 0x5c6bfb31u) >> 27) & ~skh_load32(p7 + 28));
                 p6[x1] = (uint8_t)(b1 == 0);
                 const uint64_t x8 = x1 + 1;
                 if (x8 == count) {
@@ -3348,7 +3374,7 @@ SKETCH_HASH_API int sketch_bloom_fold(void *bits, size_t length) {
     return (int)w1;
 }
 
-SKH_INLINE int sketch_bloom_insert_any(void *bits, size_t length, const void *key,
+SKH_INLINE int sketch_bloom_insert_any(bool has_vectors, void *bits, size_t length, const void *key,
     size_t key_length) {
     uint64_t x11;
     uint32_t w1;
@@ -3504,14 +3530,14 @@ SKH_INLINE int sketch_bloom_insert_any(void *bits, size_t length, const void *ke
         unsigned char *const p6 = ((p1 == NULL) ? (unsigned char *)4096 : p1)
             + ((((x11 >> 32) * (length >> 5)) >> 27) & 0x1fffffffe0u);
         const uint32_t w2 = (uint32_t)x11;
-        const uint32_t w3 = skh_load32(p6) | ((uint32_t)1 << ((w2 * 0x47b6137bu) >> 27));
-        const uint32_t w4 = skh_load32(p6 + 4) | ((uint32_t)1 << ((w2 * 0x44974d91u) >> 27));
-        const uint32_t w5 = skh_load32(p6 + 8) | ((uint32_t)1 << ((w2 * 0x8824ad5bu) >> 27));
-        const uint32_t w6 = skh_load32(p6 + 12) | ((uint32_t)1 << ((w2 * 0xa2b7289du) >> 27));
-        const uint32_t w7 = skh_load32(p6 + 16) | ((uint32_t)1 << ((w2 * 0x705495c7u) >> 27));
-        const uint32_t w8 = skh_load32(p6 + 20) | ((uint32_t)1 << ((w2 * 0x2df1424bu) >> 27));
-        const uint32_t w9 = skh_load32(p6 + 24) | ((uint32_t)1 << ((w2 * 0x9efc4947u) >> 27));
-        const uint32_t w10 = skh_load32(p6 + 28) | ((uint32_t)1 << ((w2 * 0x5c6bfb31u) >> 27));
+        const uint32_t w3 = skh_load32(p6) | skh_bit(has_vectors, (w2 * 0x47b6137bu) >> 27);
+        const uint32_t w4 = skh_load32(p6 + 4) | skh_bit(has_vectors, (w2 * 0x44974d91u) >> 27);
+        const uint32_t w5 = skh_load32(p6 + 8) | skh_bit(has_vectors, (w2 * 0x8824ad5bu) >> 27);
+        const uint32_t w6 = skh_load32(p6 + 12) | skh_bit(has_vectors, (w2 * 0xa2b7289du) >> 27);
+        const uint32_t w7 = skh_load32(p6 + 16) | skh_bit(has_vectors, (w2 * 0x705495c7u) >> 27);
+        const uint32_t w8 = skh_load32(p6 + 20) | skh_bit(has_vectors, (w2 * 0x2df1424bu) >> 27);
+        const uint32_t w9 = skh_load32(p6 + 24) | skh_bit(has_vectors, (w2 * 0x9efc4947u) >> 27);
+        const uint32_t w10 = skh_load32(p6 + 28) | skh_bit(has_vectors, (w2 * 0x5c6bfb31u) >> 27);
         skh_store32(p6, w3);
         skh_store32(p6 + 4, w4);
         skh_store32(p6 + 8, w5);
@@ -3701,8 +3727,8 @@ SKETCH_HASH_API int sketch_bloom_insert_each_hash(void *bits, size_t length, con
     unsigned char *const p1 = bits;
     const unsigned char *const p2 = (const unsigned char *)hashes;
     if (skh_rotate64(length, 59) - 1 < 0xffffffffu) {
-        skh_insert_hashes((p1 == NULL) ? (unsigned char *)4096 : p1, length, (p2 == NULL)
-            ? (const unsigned char *)4096 : p2, count);
+        skh_insert_hashes((p1 == NULL) ? (unsigned char *)4096 : p1, length,
+            (p2 == NULL) ? (const unsigned char *)4096 : p2, count);
         w1 = 0;
     } else {
         w1 = 0xffffffffu;
@@ -3710,8 +3736,8 @@ SKETCH_HASH_API int sketch_bloom_insert_each_hash(void *bits, size_t length, con
     return (int)w1;
 }
 
-SKH_INLINE int sketch_bloom_insert_each_u32_any(void *bits, size_t length, const uint32_t *values,
-    size_t count) {
+SKH_INLINE int sketch_bloom_insert_each_u32_any(bool has_vectors, void *bits, size_t length,
+    const uint32_t *values, size_t count) {
     uint32_t w1;
     unsigned char *const p1 = bits;
     const unsigned char *const p2 = (const unsigned char *)values;
@@ -3731,21 +3757,21 @@ SKH_INLINE int sketch_bloom_insert_each_u32_any(void *bits, size_t length, const
                 const uint64_t x6 = x5 >> 32;
                 unsigned char *const p5 = p3 + (((x6 * x2) >> 27) & 0x1fffffffe0u);
                 const uint32_t w2 = (uint32_t)(x6 ^ x5);
-                const uint32_t w3 = skh_load32(p5) | ((uint32_t)1 << ((w2 * 0x47b6137bu) >> 27));
+                const uint32_t w3 = skh_load32(p5) | skh_bit(has_vectors, (w2 * 0x47b6137bu) >> 27);
                 const uint32_t w4 = skh_load32(p5 + 4)
-                    | ((uint32_t)1 << ((w2 * 0x44974d91u) >> 27));
+                    | skh_bit(has_vectors, (w2 * 0x44974d91u) >> 27);
                 const uint32_t w5 = skh_load32(p5 + 8)
-                    | ((uint32_t)1 << ((w2 * 0x8824ad5bu) >> 27));
+                    | skh_bit(has_vectors, (w2 * 0x8824ad5bu) >> 27);
                 const uint32_t w6 = skh_load32(p5 + 12)
-                    | ((uint32_t)1 << ((w2 * 0xa2b7289du) >> 27));
+                    | skh_bit(has_vectors, (w2 * 0xa2b7289du) >> 27);
                 const uint32_t w7 = skh_load32(p5 + 16)
-                    | ((uint32_t)1 << ((w2 * 0x705495c7u) >> 27));
+                    | skh_bit(has_vectors, (w2 * 0x705495c7u) >> 27);
                 const uint32_t w8 = skh_load32(p5 + 20)
-                    | ((uint32_t)1 << ((w2 * 0x2df1424bu) >> 27));
+                    | skh_bit(has_vectors, (w2 * 0x2df1424bu) >> 27);
                 const uint32_t w9 = skh_load32(p5 + 24)
-                    | ((uint32_t)1 << ((w2 * 0x9efc4947u) >> 27));
+                    | skh_bit(has_vectors, (w2 * 0x9efc4947u) >> 27);
                 const uint32_t w10 = skh_load32(p5 + 28)
-                    | ((uint32_t)1 << ((w2 * 0x5c6bfb31u) >> 27));
+                    | skh_bit(has_vectors, (w2 * 0x5c6bfb31u) >> 27);
                 skh_store32(p5, w3);
                 skh_store32(p5 + 4, w4);
                 skh_store32(p5 + 8, w5);
@@ -3772,8 +3798,8 @@ SKH_CHOOSE(SKETCH_HASH_API, int, return, sketch_bloom_insert_each_u32,
     (void *bits, size_t length, const uint32_t *values, size_t count),
     (bits, length, values, count))
 
-SKH_INLINE int sketch_bloom_insert_each_u64_any(void *bits, size_t length, const uint64_t *values,
-    size_t count) {
+SKH_INLINE int sketch_bloom_insert_each_u64_any(bool has_vectors, void *bits, size_t length,
+    const uint64_t *values, size_t count) {
     uint32_t w1;
     unsigned char *const p1 = bits;
     const unsigned char *const p2 = (const unsigned char *)values;
@@ -3795,21 +3821,21 @@ SKH_INLINE int sketch_bloom_insert_each_u64_any(void *bits, size_t length, const
                 const uint64_t x7 = x6 >> 32;
                 unsigned char *const p5 = p3 + (((x7 * x2) >> 27) & 0x1fffffffe0u);
                 const uint32_t w2 = (uint32_t)(x7 ^ x6);
-                const uint32_t w3 = skh_load32(p5) | ((uint32_t)1 << ((w2 * 0x47b6137bu) >> 27));
+                const uint32_t w3 = skh_load32(p5) | skh_bit(has_vectors, (w2 * 0x47b6137bu) >> 27);
                 const uint32_t w4 = skh_load32(p5 + 4)
-                    | ((uint32_t)1 << ((w2 * 0x44974d91u) >> 27));
+                    | skh_bit(has_vectors, (w2 * 0x44974d91u) >> 27);
                 const uint32_t w5 = skh_load32(p5 + 8)
-                    | ((uint32_t)1 << ((w2 * 0x8824ad5bu) >> 27));
+                    | skh_bit(has_vectors, (w2 * 0x8824ad5bu) >> 27);
                 const uint32_t w6 = skh_load32(p5 + 12)
-                    | ((uint32_t)1 << ((w2 * 0xa2b7289du) >> 27));
+                    | skh_bit(has_vectors, (w2 * 0xa2b7289du) >> 27);
                 const uint32_t w7 = skh_load32(p5 + 16)
-                    | ((uint32_t)1 << ((w2 * 0x705495c7u) >> 27));
+                    | skh_bit(has_vectors, (w2 * 0x705495c7u) >> 27);
                 const uint32_t w8 = skh_load32(p5 + 20)
-                    | ((uint32_t)1 << ((w2 * 0x2df1424bu) >> 27));
+                    | skh_bit(has_vectors, (w2 * 0x2df1424bu) >> 27);
                 const uint32_t w9 = skh_load32(p5 + 24)
-                    | ((uint32_t)1 << ((w2 * 0x9efc4947u) >> 27));
+                    | skh_bit(has_vectors, (w2 * 0x9efc4947u) >> 27);
                 const uint32_t w10 = skh_load32(p5 + 28)
-                    | ((uint32_t)1 << ((w2 * 0x5c6bfb31u) >> 27));
+                    | skh_bit(has_vectors, (w2 * 0x5c6bfb31u) >> 27);
                 skh_store32(p5, w3);
                 skh_store32(p5 + 4, w4);
                 skh_store32(p5 + 8, w5);
@@ -3836,21 +3862,22 @@ SKH_CHOOSE(SKETCH_HASH_API, int, return, sketch_bloom_insert_each_u64,
     (void *bits, size_t length, const uint64_t *values, size_t count),
     (bits, length, values, count))
 
-SKH_INLINE int sketch_bloom_insert_hash_any(void *bits, size_t length, uint64_t hash) {
+SKH_INLINE int sketch_bloom_insert_hash_any(bool has_vectors, void *bits, size_t length,
+    uint64_t hash) {
     uint32_t w1;
     unsigned char *const p1 = bits;
     if (skh_rotate64(length, 59) - 1 < 0xffffffffu) {
         unsigned char *const p2 = ((p1 == NULL) ? (unsigned char *)4096 : p1)
             + ((((hash >> 32) * (length >> 5)) >> 27) & 0x1fffffffe0u);
         const uint32_t w2 = (uint32_t)hash;
-        const uint32_t w3 = skh_load32(p2) | ((uint32_t)1 << ((w2 * 0x47b6137bu) >> 27));
-        const uint32_t w4 = skh_load32(p2 + 4) | ((uint32_t)1 << ((w2 * 0x44974d91u) >> 27));
-        const uint32_t w5 = skh_load32(p2 + 8) | ((uint32_t)1 << ((w2 * 0x8824ad5bu) >> 27));
-        const uint32_t w6 = skh_load32(p2 + 12) | ((uint32_t)1 << ((w2 * 0xa2b7289du) >> 27));
-        const uint32_t w7 = skh_load32(p2 + 16) | ((uint32_t)1 << ((w2 * 0x705495c7u) >> 27));
-        const uint32_t w8 = skh_load32(p2 + 20) | ((uint32_t)1 << ((w2 * 0x2df1424bu) >> 27));
-        const uint32_t w9 = skh_load32(p2 + 24) | ((uint32_t)1 << ((w2 * 0x9efc4947u) >> 27));
-        const uint32_t w10 = skh_load32(p2 + 28) | ((uint32_t)1 << ((w2 * 0x5c6bfb31u) >> 27));
+        const uint32_t w3 = skh_load32(p2) | skh_bit(has_vectors, (w2 * 0x47b6137bu) >> 27);
+        const uint32_t w4 = skh_load32(p2 + 4) | skh_bit(has_vectors, (w2 * 0x44974d91u) >> 27);
+        const uint32_t w5 = skh_load32(p2 + 8) | skh_bit(has_vectors, (w2 * 0x8824ad5bu) >> 27);
+        const uint32_t w6 = skh_load32(p2 + 12) | skh_bit(has_vectors, (w2 * 0xa2b7289du) >> 27);
+        const uint32_t w7 = skh_load32(p2 + 16) | skh_bit(has_vectors, (w2 * 0x705495c7u) >> 27);
+        const uint32_t w8 = skh_load32(p2 + 20) | skh_bit(has_vectors, (w2 * 0x2df1424bu) >> 27);
+        const uint32_t w9 = skh_load32(p2 + 24) | skh_bit(has_vectors, (w2 * 0x9efc4947u) >> 27);
+        const uint32_t w10 = skh_load32(p2 + 28) | skh_bit(has_vectors, (w2 * 0x5c6bfb31u) >> 27);
         skh_store32(p2, w3);
         skh_store32(p2 + 4, w4);
         skh_store32(p2 + 8, w5);

@@ -43,7 +43,7 @@ setup(
     ],
     python_requires=">=3.9",
     packages=["sketch_hash", "sketch_hash.parquet"],
-    extras_require={"parquet": ["pyarrow", "thrift"]},
+    extras_require={"parquet": ["pyarrow"]},
     package_dir={"": "src"},
     package_data={"sketch_hash": ["py.typed", "*.pyi"], "sketch_hash.parquet": ["*.pyi"]},
     entry_points={"console_scripts": ["sketch-hash = sketch_hash.__main__:command"]},

@@ -6,18 +6,9 @@ HEADER declares the functions that others call. The instructions and calls that 
 any other stops it. Memory is read and written by memcpy, so alignment and aliasing are as in the module.
 """
 import pathlib
-import re
 import sys
 
-import body
-import declare
+from declare import print_module
 from module import Module
 
-
-def main():
-    module = Module(pathlib.Path(sys.argv[1]).read_text())
-    header = pathlib.Path(sys.argv[2]).read_text()
-    sys.stdout.write(declare.print_module(module, header))
-
-
-main()
+sys.stdout.write(print_module(Module(pathlib.Path(sys.argv[1]).read_text()), pathlib.Path(sys.argv[2]).read_text()))

@@ -46,7 +46,8 @@ def number(value, width):
         return atom(NAMED[value])
     if width == 1:
         return atom("true" if value else "false")
-    return atom(str(value) if value < 1 << 16 and value & (value + 1) and value & (value - 1) or value <= 1024 else f"0x{value:x}u")
+    is_of_bits = value & (value + 1) == 0 or value & (value - 1) == 0  # one bit, or all below one
+    return atom(str(value) if value <= 1024 or value < 1 << 16 and not is_of_bits else f"0x{value:x}u")
 
 
 def binary(operator, one, other):

@@ -5,7 +5,7 @@ import re
 # A value that an instruction takes: its type, and a token, or a list of tokens for a vector's or an array's elements.
 Operand = collections.namedtuple("Operand", "type token")
 # `result` is its name or None; `type` that of the result, or of what a store writes; `more` depends on the operation.
-Instruction = collections.namedtuple("Instruction", "result operation type operands more flags")
+Instruction = collections.namedtuple("Instruction", "result operation type operands more")
 # A vector has a count and an element; a struct a tuple of types.
 Vector = collections.namedtuple("Vector", "count element")
 Struct = collections.namedtuple("Struct", "fields")
@@ -17,6 +17,7 @@ TYPE = re.compile(r"i\d+|ptr|void")
 FLAGS = {"nuw", "nsw", "exact", "disjoint", "samesign", "nneg", "inbounds", "nusw", "volatile"}
 BINARY = {"add", "sub", "mul", "and", "or", "xor", "shl", "lshr", "ashr", "udiv", "urem"}
 CASTS = {"zext", "sext", "trunc", "ptrtoint", "ptrtoaddr", "inttoptr", "bitcast"}
+OTHERS = {"select", "store", "freeze", "insertelement", "extractelement", "shufflevector", "insertvalue", "extractvalue"}
 CONSTANTS = {"true", "false", "null", "poison", "undef", "zeroinitializer", "splat", "ptrtoaddr", "getelementptr"}
 
 
@@ -48,10 +49,8 @@ class Line:
         return True
 
     def words(self, known):
-        taken = set()
         while self.peek() in known:
-            taken.add(self.take())
-        return taken
+            self.take()
 
     def stop(self):
         raise Unknown(f"print_c does not know: {self.text}")
@@ -138,7 +137,8 @@ def instruction(text):
         line.take("=")
     line.words({"tail", "musttail", "notail"})
     operation = line.take()
-    flags, type, operands, more = line.words(FLAGS), "void", [], None
+    line.words(FLAGS)
+    type, operands, more = "void", [], None
     if operation in BINARY:
         operands = line.pair()
         type = operands[0].type
@@ -195,12 +195,12 @@ def instruction(text):
             line.has(",")
     elif operation == "ret":
         if line.has("void"):
-            return Instruction(None, "ret", "void", [], None, flags)
+            return Instruction(None, "ret", "void", [], None)
         operands = [line.typed()]
         type = operands[0].type
     elif operation == "unreachable":
         pass
-    elif operation in ("select", "store", "insertelement", "shufflevector", "insertvalue", "freeze", "extractvalue", "extractelement"):
+    elif operation in OTHERS:
         operands.append(line.typed())
         while line.has(",") and line.peek() not in ("align", "") and line.peek()[0] != "!":
             operands.append(Operand("i32", line.take()) if "value" in operation and line.peek().isdigit() else line.typed())
@@ -214,13 +214,13 @@ def instruction(text):
             type = Vector(operands[2].type.count, operands[0].type.element)
     else:
         line.stop()
-    return Instruction(result, operation, type, operands, more, flags)
+    return Instruction(result, operation, type, operands, more)
 
 
 class Function:
     """`blocks` maps a label to instructions, in the order of the text; the first is the entry."""
 
-    def __init__(self, head, lines, attributes):
+    def __init__(self, head, lines):
         line = Line(head)
         line.take("define")
         self.is_internal = line.has("internal")
@@ -232,8 +232,6 @@ class Function:
         while not line.has(")"):
             self.parameters.append(line.typed())
             line.has(",")
-        numbers = [token[1:] for token in line.tokens if token[0] == "#"]
-        self.attributes = set().union(*(attributes.get(number, set()) for number in numbers))
         self.blocks, label = collections.OrderedDict(), None
         for text in lines:
             found = re.match(r'\s*("[^"]*"|[-\w.$]+):', text)
@@ -248,16 +246,14 @@ class Function:
 
 
 class Module:
-    """`constants` maps the name of an array of bytes to them; `declared` is what the module takes from elsewhere."""
+    """`constants` maps the name of an array of bytes to them."""
 
     def __init__(self, text):
         text = re.sub(r"\[\n((?: +i\d+ -?\d+, label %.*\n)*) *\]", lambda found: "[" + found[1].replace("\n", " ") + "]", text)
-        attributes = {number: set(re.findall(r"\b(noinline|alwaysinline|cold|noreturn)\b", words))
-                      for number, words in re.findall(r"^attributes #(\d+) = \{(.*)\}", text, re.M)}
         self.constants = {}
-        for name, data in re.findall(r'^@("[^"]*"|[\w.]+) = private unnamed_addr constant \[\d+ x i8\] c"(.*)", align', text, re.M):
+        constant = r'^@("[^"]*"|[\w.]+) = private unnamed_addr constant \[\d+ x i8\] c"(.*)", align'
+        for name, data in re.findall(constant, text, re.M):
             pieces = re.findall(r"\\([0-9A-F]{2})|(.)", data)
             self.constants[name.strip('"')] = [int(code, 16) if code else ord(character) for code, character in pieces]
-        self.functions = [Function(found[1], found[2].split("\n"), attributes)
+        self.functions = [Function(found[1], found[2].split("\n"))
                           for found in re.finditer(r"^(define .*?)\{\n(.*?)^\}$", text, re.M | re.S)]
-        self.declared = re.findall(r"^declare .*@([\w.]+)\(", text, re.M)
