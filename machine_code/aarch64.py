@@ -3,10 +3,10 @@ import functools
 import re
 
 from machine import CALLER, Machine, logic, plain, shift_one
-from values import (Stop, add, bitwise, complement, cut, extend, join, known, lanes, mul, number, rotate_right, shift_left,
-                    shift_right, sub, unknown, width_of)
+from values import (Stop, add, bitwise, complement, cut, extend, is_zero, join, known, lanes, mul, number, number_in,
+                    rotate_right, shift_left, shift_right, sub, unknown, width_of)
 
-CONDITIONS = {"eq": "e", "ne": "ne", "cc": "b", "cs": "ae", "hi": "a", "ls": "be"}
+CONDITIONS = {"eq": "e", "ne": "ne", "cc": "b", "cs": "ae", "hi": "a", "ls": "be", "mi": "s", "pl": "ns", "lt": "l", "ge": "ge"}
 WIDTHS = {"b": 8, "h": 16, "s": 32, "d": 64, "q": 128, "w": 32, "x": 64}
 
 
@@ -18,6 +18,41 @@ def split(text):
 
 def shift(function):
     return lambda m, x, n: function(x, known(cut(n, 0, 6 if width_of(x) == 64 else 5), "a shift"))
+
+
+def shift_by_any(function):
+    """An unknown number shifts 1 alone."""
+    def run(m, x, n):
+        if number_in(n) is None and function is shift_left and width_of(x) == 32:
+            return shift_one(x, extend(cut(n, 0, 5), 32))
+        return function(x, known(cut(n, 0, 6 if width_of(x) == 64 else 5), "a shift"))
+
+    return run
+
+
+def shift_lane(x, n):
+    """To the left, or to the right by a negative number: the lowest byte of the other lane."""
+    count = number_in(cut(n, 0, 8))
+    if count is None:
+        return shift_one(x, n)
+    count = count - 256 if count > 127 else count
+    if abs(count) >= width_of(x):
+        return number(0, width_of(x))
+    return shift_left(x, count) if count >= 0 else shift_right(x, -count)
+
+
+def signed_byte(x):
+    return join(cut(x, 0, 8), *[cut(x, 7, 1)] * (width_of(x) - 8))
+
+
+def field(x, y, at, width):
+    """x with so many bits of y at a place."""
+    return join(cut(x, 0, at), cut(y, 0, width), cut(x, at + width, width_of(x) - at - width))
+
+
+def in_zeros(function):
+    """Of a field of y, x being 0: `function` gives it."""
+    return lambda m, y, at, width: function(y, known(at, "a place"), known(width, "a width"))
 
 
 def plus_one(x):
@@ -35,12 +70,20 @@ OPERATIONS = {
     "adds": Machine.sum, "subs": Machine.subtract, "cmp": Machine.subtract, "adc": add_with_carry,
     "neg": plain(lambda x: sub(number(0, width_of(x)), x)), "mvn": plain(complement),
     "bic": lambda m, x, y: bitwise("and", x, complement(y)),
-    "ands": logic("and"), "tst": logic("and"), "lsl": shift(shift_left), "lsr": shift(shift_right), "ror": shift(rotate_right),
+    "orn": plain(lambda x, y: bitwise("or", x, complement(y))), "eon": plain(lambda x, y: bitwise("xor", x, complement(y))),
+    "ubfx": in_zeros(lambda y, at, width: extend(cut(y, at, width), width_of(y))),
+    "sbfx": in_zeros(lambda y, at, width: join(cut(y, at, width), *[cut(y, at + width - 1, 1)] * (width_of(y) - width))),
+    "ubfiz": in_zeros(lambda y, at, width: field(number(0, width_of(y)), y, at, width)),
+    "extr": plain(lambda x, y, n: cut(join(y, x), known(n, "a place"), width_of(x))),
+    "cinc": lambda m, x, holds: plus_one(x) if holds else x, "sxtb": plain(lambda x: signed_byte(x)),
+    "cneg": lambda m, x, holds: sub(number(0, width_of(x)), x) if holds else x,
+    "ands": logic("and"), "tst": logic("and"), "lsl": shift_by_any(shift_left), "lsr": shift_by_any(shift_right), "ror": shift(rotate_right),
     "csel": lambda m, x, y, holds: x if holds else y, "csinc": lambda m, x, y, holds: x if holds else plus_one(y),
     "cset": plain(lambda bit: bit), "csetm": lambda m, holds: number(-holds),
-    "ushl": plain(shift_one), "ushr": shift(shift_right),
+    "ushl": plain(shift_lane), "sshl": plain(shift_lane), "ushr": shift(shift_right), "shl": shift(shift_left),
+    "cmeq": plain(lambda x, y: join(*[is_zero(bitwise("xor", x, y))] * width_of(x))),
 }
-OPERATIONS |= dict.fromkeys(("mov", "fmov", "adrp"), plain(lambda x: x))
+OPERATIONS |= dict.fromkeys(("mov", "fmov", "adrp", "adr", "umov"), plain(lambda x: x))
 OPERATIONS |= {name: plain(functools.partial(bitwise, op)) for name, op in (("and", "and"), ("orr", "or"), ("eor", "xor"))}
 
 
@@ -49,7 +92,8 @@ class Aarch64(Machine):
 
     def set_up(self):
         self.red_zone = 128 if self.library.format == "macho" else 0
-        self.kept = dict.fromkeys([f"x{n}" for n in range(18, 30)], 64) | dict.fromkeys([f"v{n}" for n in range(8, 16)], 64)
+        own = 18 if self.library.format == "macho" else 19  # Apple's systems own x18
+        self.kept = dict.fromkeys([f"x{n}" for n in range(own, 30)], 64) | dict.fromkeys([f"v{n}" for n in range(8, 16)], 64)
         self.registers = {f"x{n}": unknown(("before", n), 64) for n in range(31)}
         self.registers |= {f"v{n}": unknown(("before", "v", n), 128) for n in range(32)}
         self.registers |= {"x30": CALLER, "sp": self.stack}
@@ -108,7 +152,7 @@ class Aarch64(Machine):
 
     def condition(self, name):
         """Those of a carry have x86-64's names only after a subtraction."""
-        if name in ("b", "be", "a", "ae") and (not self.flags or self.flags[0] != "sub"):
+        if name in ("b", "be", "a", "ae") and (not self.flags or self.flags[0] not in ("sub", "bits")):
             raise Stop("a carry that is not understood")
         return super().condition(name)
 
@@ -118,8 +162,12 @@ class Aarch64(Machine):
         operands = split(text)
         if op == "nop":
             return
-        if op in ("b", "bl", "ret", "cbz", "cbnz") or op[:2] == "b.":
+        if op in ("b", "bl", "ret", "cbz", "cbnz", "tbz", "tbnz") or op[:2] == "b.":
             self.jump(op, operands)
+        elif op in ("bfi", "bfxil"):
+            self.insert_field(op, *operands)
+        elif op == "ccmp":
+            self.compare_if(*operands)
         elif op[:2] in ("ld", "st"):
             self.access(op, operands)
         elif op == "movk":
@@ -147,12 +195,27 @@ class Aarch64(Machine):
             self.registers["x30"] = number(self.next)
         elif op[:2] == "b.":
             taken = self.holds(CONDITIONS[op[2:]])
-        elif op[:2] == "cb":
+        elif op[:2] in ("cb", "tb"):
             value = self.read(operands[0])
+            if op[0] == "t":
+                value = cut(value, int(operands[1].strip("#"), 0), 1)
             self.compare("logic", value, value, value)
-            taken, self.flags = self.holds("e" if op == "cbz" else "ne"), before
+            taken, self.flags = self.holds("e" if op in ("cbz", "tbz") else "ne"), before
         if taken:
             self.next = int(operands[-1], 16)
+
+    def insert_field(self, op, to, source, at, width):
+        x, y, at, width = self.read(to), self.read(source), int(at.strip("#"), 0), int(width.strip("#"), 0)
+        self.write(to, field(x, y, at, width) if op == "bfi" else field(x, cut(y, at, width), 0, width))
+
+    def compare_if(self, x, y, flags, name):
+        """Compares if a condition holds; else the flags N, Z, C, V are these. Of them Z and C are understood."""
+        if self.holds(CONDITIONS[name]):
+            first = self.read(x)
+            self.subtract(first, self.read(y, width_of(first)))
+        else:
+            bits = int(flags.strip("#"), 0)
+            self.flags = "bits", number(bits >> 2 & 1, 1), number(1 - (bits >> 1 & 1), 1), None
 
     def access(self, op, operands):
         count = {"ldr": 1, "ldur": 1, "ldp": 2, "str": 1, "stur": 1, "stp": 2}[op.rstrip("bh")]
@@ -174,10 +237,17 @@ class Aarch64(Machine):
         values = [self.read(it, size if it[0] == "#" else 64) for it in operands[1:]]
         if op in ("dup", "movi"):
             return join(*[cut(values[0], 0, size)] * count)
+        if op in ("uxtl", "uxtl2", "shll", "shll2"):
+            half = cut(values[0], width_of(values[0]) // 2 if op[-1] == "2" else 0, 64)
+            n = 0 if op[0] == "u" else known(values[1], "a shift")
+            return lanes(size // 2, lambda lane: shift_left(extend(lane, size), n), half)
+        if op == "bsl":
+            choice = self.read(operands[0])
+            return bitwise("or", bitwise("and", choice, values[0]), bitwise("and", complement(choice), values[1]))
         if op == "ext":
             return cut(join(*values[:2]), 8 * known(values[2], "a place"), count * size)
-        if op == "ushr" and known(values[1], "a shift") < size:
+        if op in ("ushr", "shl") and known(values[1], "a shift") < size:
             return lanes(size, lambda it: OPERATIONS[op](self, it, values[1]), values[0])
-        if op in ("add", "mul", "ushl"):
+        if op in ("add", "sub", "mul", "ushl", "sshl", "cmeq"):
             return lanes(size, functools.partial(OPERATIONS[op], self), *values)
-        return {it: OPERATIONS[it] for it in ("and", "orr", "eor", "bic", "mvn")}[op](self, *values)
+        return {it: OPERATIONS[it] for it in ("and", "orr", "eor", "bic", "mvn", "orn")}[op](self, *values)

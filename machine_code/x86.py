@@ -3,8 +3,8 @@ import functools
 import re
 
 from machine import CALLER, Machine, logic, plain, shift_one
-from values import (Stop, add, bitwise, complement, cut, extend, is_zero, join, known, lanes, mul, number, power_of_two,
-                    rotate_right, shift_left, shift_right, sub, unknown, width_of)
+from values import (Stop, add, bitwise, complement, cut, extend, is_zero, join, known, lanes, mul, number, number_in,
+                    power_of_two, rotate_right, shift_left, shift_right, sub, unknown, width_of)
 
 REGISTERS = {f"r{n}{end}": (f"r{n}", width) for n in range(8, 16) for end, width in (("", 64), ("d", 32), ("w", 16), ("b", 8))}
 for it in "abcd":
@@ -25,6 +25,8 @@ def decode(text):
             terms = re.findall(r"([+-]?)(\w+)(?:\*(\d))?", memory[2])
             terms = tuple((name, (-1 if sign == "-" else 1) * int(factor or 1)) for sign, name, factor in terms)
             found.append(("memory", terms, SIZES.get(memory[1])))
+        elif re.fullmatch("[abcd]h", it):
+            found.append(("high", f"r{it[0]}x", 8))  # bits 8 to 15, which are only read
         else:
             found.append(("register", *REGISTERS[it]) if it in REGISTERS else ("number", int(it, 16), None))
     return found
@@ -54,16 +56,44 @@ def count_of(value, width):
 
 def shift(function):
     def run(m, x, count=number(1, 8)):
+        if function is shift_left and width_of(x) == 32 and number_in(cut(count, 0, 5)) is None:
+            return m.compare(None, x, None, shift_one(x, extend(cut(count, 0, 5), 32)))  # it may set no condition
         n = count_of(count, width_of(x))
         return m.compare("other", x, None, function(x, n)) if n else x
 
     return run
 
 
-def rotate_left(m, x, count):
-    """It changes the carry alone."""
-    m.flags = ("other", *m.flags[1:]) if m.flags and m.flags[0] not in (None, "bits") else None
-    return rotate_right(x, width_of(x) - count_of(count, width_of(x)))
+def shift_by_any(function):
+    """Without conditions. An unknown number shifts 1 alone."""
+    def run(x, count):
+        width = width_of(x)
+        n = number_in(cut(count, 0, 6 if width == 64 else 5))
+        if n is None and function is shift_left:
+            return shift_one(x, extend(cut(count, 0, 5), 32))
+        return function(x, count_of(count, width))
+
+    return run
+
+
+def shift_lane(function):
+    """By a number of the other lane, which is not taken modulo 32."""
+    def run(x, count):
+        n = number_in(count)
+        if n is None:
+            return shift_one(x, count)
+        return function(x, n) if n < width_of(x) else number(0, width_of(x))
+
+    return run if function is shift_left else lambda x, count: run(x, number(known(count, "a shift"), width_of(x)))
+
+
+def rotate(sign):
+    """It changes the carry alone, and with a count of 0 not even that."""
+    def run(m, x, count=number(1, 8)):
+        m.flags = ("other", *m.flags[1:]) if m.flags and m.flags[0] not in (None, "bits") else None
+        return rotate_right(x, sign * count_of(count, width_of(x)) % width_of(x))
+
+    return run
 
 
 def plus_one(sign):
@@ -80,9 +110,59 @@ def of_128_bits(x):
         raise Stop("a vector of 256 bits")
 
 
-def interleaved(x, y):
+def interleaved(size, half):
+    """The lanes of the lower halves, or of the higher ones, in turn."""
+    def run(x, y):
+        of_128_bits(x)
+        return join(*(cut(value, at, size) for at in range(64 * half, 64 * half + 64, size) for value in (x, y)))
+
+    return run
+
+
+def shuffled_bytes(x, order):
     of_128_bits(x)
-    return join(*(cut(it, at, 32) for at in (0, 32) for it in (x, y)))
+    places = [known(cut(order, at, 8), "an order") for at in range(0, 128, 8)]
+    return join(*(number(0, 8) if place & 128 else cut(x, 8 * (place & 15), 8) for place in places))
+
+
+def shifted_bytes(x, n):
+    of_128_bits(x)
+    return shift_right(x, 8 * min(known(n, "a shift"), 16))
+
+
+def blended(x, y, choice):
+    """Of each 32 bits y, if the choice has this bit, else x."""
+    bits = known(choice, "a choice")
+    return join(*(cut(y if bits >> i & 1 else x, 32 * i, 32) for i in range(width_of(x) // 32)))
+
+
+def chosen(size):
+    """Of each lane y, if the choice's lane has its highest bit, else x."""
+    def run(x, y, choice):
+        wide = lanes(size, lambda lane: join(*[cut(lane, size - 1, 1)] * size), choice)
+        return bitwise("or", bitwise("and", y, wide), bitwise("and", x, complement(wide)))
+
+    return run
+
+
+def inserted(size):
+    def run(x, y, n):
+        at = size * known(n, "a place")
+        return join(cut(x, 0, at), cut(y, 0, size), cut(x, at + size, width_of(x) - at - size))
+
+    return run
+
+
+def extended_lanes(size, to, is_signed=False):
+    def run(x):
+        return lanes(size, lambda lane: join(lane, *[cut(lane, size - 1, 1) if is_signed else number(0, 1)] * (to - size)), x)
+
+    return run
+
+
+def arithmetic(x, n):
+    n = min(known(n, "a shift"), width_of(x) - 1)
+    return join(cut(x, n, width_of(x) - n), *[cut(x, width_of(x) - 1, 1)] * n)
 
 
 def lanewise(size, function):
@@ -112,30 +192,44 @@ OPERATIONS = {
     "add": Machine.sum, "sub": Machine.subtract, "cmp": Machine.subtract, "adc": with_carry(1), "sbb": with_carry(-1),
     "neg": lambda m, x: m.subtract(number(0, width_of(x)), x), "inc": plus_one(1), "dec": plus_one(-1),
     "imul": lambda m, x, y: m.compare(None, x, y, mul(x, y)), "not": plain(complement),
-    "shl": shift(shift_left), "shr": shift(shift_right), "rol": rotate_left,
+    "shl": shift(shift_left), "shr": shift(shift_right), "rol": rotate(-1), "ror": rotate(1),
     "shld": lambda m, x, y, n: m.compare(None, x, y, cut(join(y, x), width_of(x) - count_of(n, width_of(x)), width_of(x))),
     "shrd": lambda m, x, y, n: m.compare(None, x, y, cut(join(x, y), count_of(n, width_of(x)), width_of(x))),
     "cvttps2dq": plain(lambda x: lanes(32, from_float, x)), "pshufd": reordered,
-    "punpckldq": plain(interleaved),
+    "punpcklbw": plain(interleaved(8, 0)), "punpcklwd": plain(interleaved(16, 0)), "punpckldq": plain(interleaved(32, 0)),
+    "punpckhdq": plain(interleaved(32, 1)), "punpcklqdq": plain(interleaved(64, 0)), "punpckhqdq": plain(interleaved(64, 1)),
+    "movhlps": plain(lambda x, y: join(cut(y, 64, 64), cut(x, 64, 64))), "pshufb": plain(shuffled_bytes),
+    "movlhps": plain(lambda x, y: join(cut(x, 0, 64), cut(y, 0, 64))), "psrldq": plain(shifted_bytes),
+    "pblendd": plain(blended), "pblendvb": plain(chosen(8)), "blendvps": plain(chosen(32)), "pinsrb": plain(inserted(8)),
+    "pinsrd": plain(inserted(32)), "pinsrq": plain(inserted(64)), "pmovzxdq": plain(extended_lanes(32, 64)),
+    "pmovzxbd": plain(extended_lanes(8, 32)), "pmovsxbd": plain(extended_lanes(8, 32, True)),
+    "psrad": plain(lambda x, n: lanes(32, lambda lane: arithmetic(lane, n), x)), "psubb": lanewise(8, sub),
+    "movmskps": plain(lambda x: lanes(32, lambda lane: cut(lane, 31, 1), x)),
     "pmovmskb": plain(lambda x: lanes(8, lambda it: cut(it, 7, 1), x)),
     "pandn": plain(lambda x, y: bitwise("and", complement(x), y)),
     "paddd": lanewise(32, add), "paddq": lanewise(64, add), "pmulld": lanewise(32, mul),
-    "pmuludq": lanewise(64, half_product), "psllvd": lanewise(32, shift_one),
-    "pcmpeqb": lanewise(8, is_equal),
+    "pmuludq": lanewise(64, half_product), "psllvd": lanewise(32, shift_lane(shift_left)),
+    "psrlvd": lanewise(32, shift_lane(shift_right)),
+    "pcmpeqb": lanewise(8, is_equal), "pcmpeqd": lanewise(32, is_equal),
     "psrld": shifted_lanes(32, shift_right), "pslld": shifted_lanes(32, shift_left), "psrlq": shifted_lanes(64, shift_right),
     "psllq": shifted_lanes(64, shift_left),
     # of x86-64-v3
     "rorx": plain(lambda x, n: rotate_right(x, known(n, "a shift"))), "andn": lambda m, x, y: logic("and")(m, complement(x), y),
-    "shlx": plain(lambda x, n: shift_left(x, count_of(n, width_of(x)))), "pbroadcastd": broadcast(32),
-    "shrx": plain(lambda x, n: shift_right(x, count_of(n, width_of(x)))), "pbroadcastq": broadcast(64), "ptest": is_covered,
+    "shlx": plain(shift_by_any(shift_left)), "pbroadcastd": broadcast(32),
+    "shrx": plain(shift_by_any(shift_right)), "pbroadcastq": broadcast(64), "ptest": is_covered, "pbroadcastb": broadcast(8),
+    "pextrb": plain(lambda x, n: cut(x, 8 * known(n, "a place"), 8)), "pextrd": plain(lambda x, n: cut(x, 32 * known(n, "a place"), 32)),
     "pextrq": plain(lambda x, n: cut(x, 64 * known(n, "a place"), 64)),
     "extracti128": plain(lambda x, n: cut(x, 128 * known(n, "a place"), 128)),
 }
 OPERATIONS |= {name: logic(op) for name, op in (("and", "and"), ("test", "and"), ("or", "or"), ("xor", "xor"))}
-OPERATIONS |= {name: plain(functools.partial(bitwise, op)) for op in ("or", "xor") for name in (f"p{op}", f"{op}ps")}
-OPERATIONS |= dict.fromkeys("mov movabs movzx movd movq movups movdqu movaps movdqa".split(), SOURCE)
+OPERATIONS |= {name: plain(functools.partial(bitwise, op)) for op in ("and", "or", "xor")
+               for name in (f"p{op}", f"{op}ps")}
+OPERATIONS |= {name: plain(lambda x, width=width: cut(x, 0, min(width, width_of(x)))) for name, width in (("movd", 32), ("movq", 64))}
+OPERATIONS |= dict.fromkeys("mov movabs movzx movups movdqu movaps movdqa".split(), SOURCE)
 READ_ONLY = "cmp", "test", "ptest", "vptest"  # the first operand is not written
-WRITTEN = "cvttps2dq", "pmovmskb", "lea"  # and moves: it is not read
+# The first operand is not read.
+WRITTEN = set("mov movabs movzx movd movq movups movdqu movaps movdqa cvttps2dq pmovmskb movmskps lea pmovzxdq pmovzxbd pmovsxbd".split())
+BY_PLACE = "shld", "shrd", "pinsrb", "pinsrd", "pinsrq"  # three operands, of which the first is read
 UNALIGNED = "movups", "movdqu"
 
 
@@ -169,6 +263,8 @@ class X86(Machine):
 
     def read(self, operand, width):
         kind, what, own = operand
+        if kind == "high":
+            return cut(self.registers[what], 8, 8)
         if kind == "memory":
             return self.load(self.address(what), (own or width) // 8)
         return number(what, width) if kind == "number" else cut(self.registers[what], 0, own)
@@ -176,6 +272,8 @@ class X86(Machine):
     def write(self, operand, value, clears):
         """A write of 32 or 64 bits clears the higher ones; one of 8 or 16 keeps them, and SSE's of 128, but not AVX's."""
         kind, what, width = operand
+        if kind == "high":
+            raise Stop("a write of bits 8 to 15")
         value = cut(extend(value, max(width, width_of(value))), 0, width)
         if kind == "memory":
             self.store(self.address(what), value)
@@ -190,6 +288,8 @@ class X86(Machine):
         if op == "vzeroupper":
             self.registers |= {name: extend(cut(it, 0, 128), 256) for name, it in self.registers.items() if name[0] == "y"}
             return
+        if (op, text) == ("rep", "stos QWORD PTR es:[rdi],rax"):
+            return self.fill()
         if op == "call" or op[0] == "j":
             return self.jump(op, int(text, 16))
         operands = decode(text)
@@ -198,7 +298,7 @@ class X86(Machine):
         is_avx = op[0] == "v" and op[1:] in OPERATIONS
         name = op[1:] if is_avx else op
         width = max(it[2] or 0 for it in operands)
-        skips = is_avx or name[:3] == "mov" or name in WRITTEN or len(operands) == 3 and name not in ("shld", "shrd")
+        skips = is_avx or name in WRITTEN or len(operands) == 3 and name not in BY_PLACE
         skips &= op not in READ_ONLY
         if name not in UNALIGNED and (not is_avx or name in ("movaps", "movdqa")):
             self.must_be_aligned_vectors(operands)
@@ -209,6 +309,8 @@ class X86(Machine):
             result = self.address(operands[1][1])
         else:
             result = OPERATIONS[name](self, *(self.read(it, width) for it in operands[skips:]))
+        if name == "and" and operands[0][1] == "rsp":
+            self.must_know_alignment()
         if op not in READ_ONLY:
             self.write(operands[0], result, is_avx)
 
@@ -216,6 +318,13 @@ class X86(Machine):
         for kind, what, size in operands:
             if kind == "memory" and size and size > 64:
                 self.must_be_aligned(self.address(what), size // 8)
+
+    def fill(self):
+        """So many words of memory; the caller has cleared the flag of direction."""
+        for _ in range(known(self.registers["rcx"], "a number of words")):
+            self.store(self.registers["rdi"], self.registers["rax"])
+            self.registers["rdi"] = add(self.registers["rdi"], number(8))
+        self.registers["rcx"] = number(0)
 
     def jump(self, op, target):
         if op == "call":

@@ -12,7 +12,7 @@ import sys
 
 from values import add, bitwise, cut, extend, is_below, join, mul, number, number_in, shift_right, sub
 
-CRATES = pathlib.Path(__file__).parents[2] / "crates"
+CRATES = pathlib.Path(__file__).parents[1] / "crates"
 TOKEN = re.compile(r'\s*(0x[0-9A-Fa-f]+|\d+|"[^"]*"|[^\W\d]\w*|\.\w+|\[\]|\+\+|==|\S)')
 sys.setrecursionlimit(10_000)  # definitions call themselves for each of 256 inputs
 LEVELS = [["≡"], ["=="], ["∷", "++"], ["+", "-"], ["*", "/", "%"], ["^"]]

@@ -1,4 +1,5 @@
 """A shared library as it ships, ELF, PE or Mach-O: its functions, its instructions, and its memory that nobody can write."""
+import pathlib
 import re
 import struct
 import subprocess
@@ -9,6 +10,11 @@ DISASSEMBLE = {
     "x86-64": ["objdump", "-m", "i386:x86-64", "-M", "intel"],
     "aarch64": ["aarch64-linux-gnu-objdump", "-m", "aarch64"],
 }
+
+
+# By the bytes with which their object files begin.
+LINKERS = {b"\x7fELF\2\1\1" + bytes(9) + b"\1\0\x3e\0": "ld", b"\x7fELF\2\1\1" + bytes(9) + b"\1\0\xb7\0": "aarch64-linux-gnu-ld",
+           b"\x64\x86": "x86_64-w64-mingw32-ld"}
 
 
 class Library:
@@ -99,3 +105,16 @@ class Library:
     def offset_of(self, address):
         """Where a byte of read-only memory is in the file, or None."""
         return next((offset + address - at for at, offset, size in self.read_only if at <= address < at + size), None)
+
+
+def read(path):
+    """A shared library; or an archive or an object file, as a linker makes one of it."""
+    data = path.read_bytes()
+    is_object = data.startswith(b"\x7fELF") and data[16:18] == b"\1\0"
+    if not is_object and not data.startswith(b"!<arch>"):
+        return Library(data)
+    linker = next(name for magic, name in LINKERS.items() if magic in data)
+    with tempfile.TemporaryDirectory() as tmp:
+        command = [linker, "-shared", "-o", f"{tmp}/linked", "--whole-archive", path]
+        subprocess.run(command, check=True)
+        return Library(pathlib.Path(tmp, "linked").read_bytes())
