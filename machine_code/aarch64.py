@@ -88,6 +88,7 @@ OPERATIONS |= {name: plain(functools.partial(bitwise, op)) for name, op in (("an
 
 
 class Aarch64(Machine):
+    operations, comparisons, name_of = OPERATIONS, ("cmp", "tst"), staticmethod(str)
     pointer, popped, entry = "sp", 0, 0
 
     def set_up(self):
@@ -182,6 +183,8 @@ class Aarch64(Machine):
             values = [self.read(it, width) for it in operands[op not in ("cmp", "tst") :]]
             if values[-1] in CONDITIONS.values():
                 values[-1] = self.condition(values[-1]) if op == "cset" else self.holds(values[-1])
+            if op not in OPERATIONS:
+                raise Stop("the instruction is not known")
             result = OPERATIONS[op](self, *values)
             if op not in ("cmp", "tst"):
                 self.write(operands[0], result)
@@ -235,6 +238,8 @@ class Aarch64(Machine):
         count, size = re.fullmatch(r"v\d+\.(\d+)(\w)", operands[0]).groups()
         count, size = int(count), WIDTHS[size]
         values = [self.read(it, size if it[0] == "#" else 64) for it in operands[1:]]
+        if op == "mul" and "[" in operands[2]:  # by one lane
+            values[1] = join(*[values[1]] * count)
         if op in ("dup", "movi"):
             return join(*[cut(values[0], 0, size)] * count)
         if op in ("uxtl", "uxtl2", "shll", "shll2"):

@@ -216,7 +216,7 @@ class Machine:
         if not self.flags or not self.flags[0] or name not in ("e", "b", "be", "s", "l"):
             raise Stop(f"the condition {name} is not known here")
         what, x, y, result = self.flags
-        if name == "l" and what == "logic":
+        if name == "l" and (what == "logic" or what == "sub" and number_in(y) == 0):
             name = "s"  # there is no overflow
         if name == "s" and what in ("sub", "add", "logic", "other") and result is not None:
             sign = cut(result, width_of(result) - 1, 1)

@@ -146,6 +146,8 @@ def lanes(size, function, *values):
     """A function of each lane of some values, or of a value and numbers."""
     split = [itertools.repeat(it) if isinstance(it, int) else [cut(it, at, size) for at in range(0, width_of(it), size)]
              for it in values]
+    if len({len(lane) for lane in split if isinstance(lane, list)}) != 1:
+        raise Stop("vectors of different lengths")
     return join(*map(function, *split))
 
 

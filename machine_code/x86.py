@@ -234,7 +234,13 @@ UNALIGNED = "movups", "movdqu"
 
 
 class X86(Machine):
+    operations, comparisons = OPERATIONS, READ_ONLY
     pointer, popped, entry = "rsp", 8, 8  # the caller pushed where to return to: rsp is 16 * n + 8
+
+    @staticmethod
+    def name_of(op):
+        """AVX's are called as SSE's are."""
+        return op[1:] if op[0] == "v" and op[1:] in OPERATIONS else op
 
     def set_up(self):
         is_windows = self.library.format == "pe"
@@ -292,11 +298,13 @@ class X86(Machine):
             return self.fill()
         if op == "call" or op[0] == "j":
             return self.jump(op, int(text, 16))
-        operands = decode(text)
         if op in ("push", "pop", "ret"):
-            return self.use_stack(op, *operands)
-        is_avx = op[0] == "v" and op[1:] in OPERATIONS
-        name = op[1:] if is_avx else op
+            return self.use_stack(op, *decode(text))
+        name = self.name_of(op)
+        is_avx = name != op
+        if name not in OPERATIONS and name != "lea" and op[:3] != "set" and op[:4] != "cmov":
+            raise Stop("the instruction is not known")
+        operands = decode(text)
         width = max(it[2] or 0 for it in operands)
         skips = is_avx or name in WRITTEN or len(operands) == 3 and name not in BY_PLACE
         skips &= op not in READ_ONLY
