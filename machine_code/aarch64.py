@@ -67,7 +67,7 @@ def add_with_carry(m, x, y):
 # What an instruction computes from its operands but the first, which it writes. Those of vectors do it for each lane.
 OPERATIONS = {
     "add": plain(add), "sub": plain(sub), "mul": plain(mul), "madd": plain(lambda x, y, z: add(mul(x, y), z)),
-    "adds": Machine.sum, "subs": Machine.subtract, "cmp": Machine.subtract, "adc": add_with_carry,
+    "adcs": lambda m, x, y: m.compare(None, x, y, add_with_carry(m, x, y)), "adds": Machine.sum, "subs": Machine.subtract, "cmp": Machine.subtract, "adc": add_with_carry,
     "neg": plain(lambda x: sub(number(0, width_of(x)), x)), "mvn": plain(complement),
     "bic": lambda m, x, y: bitwise("and", x, complement(y)),
     "orn": plain(lambda x, y: bitwise("or", x, complement(y))), "eon": plain(lambda x, y: bitwise("xor", x, complement(y))),
@@ -110,7 +110,7 @@ class Aarch64(Machine):
 
     def register(self, name):
         """The register, and how many bits of it a name is for: v0.8b has 64 bits, v0.d[1] too."""
-        kind, index, lane, letter = re.fullmatch(r"([a-z])(\d+)(?:\.(\d*)([bhsd])(?:\[\d\])?)?", name).groups()
+        kind, index, lane, letter = re.fullmatch(r"([a-z])(\d+)(?:\.(\d*)([bhsd])(?:\[\d+\])?)?", name).groups()
         return ("x" if kind in "wx" else "v") + index, int(lane or 1) * WIDTHS[letter or kind]
 
     def read(self, text, width=64):
@@ -124,7 +124,7 @@ class Aarch64(Machine):
             value = self.registers["sp"] if name == "sp" else number(0, WIDTHS[name[0]])
         else:
             register, size = self.register(name)
-            place = re.search(r"\[(\d)\]", name)
+            place = re.search(r"\[(\d+)\]", name)
             value = cut(self.registers[register], size * int(place[1]) if place else 0, size)
         how, _, n = change.partition(" #")
         return OPERATIONS[how](self, value, number(int(n, 0))) if how else value
@@ -176,6 +176,10 @@ class Aarch64(Machine):
             value, place = self.read(operands[0]), int(place or 0)
             part = self.read(operands[1].partition(",")[0], 16)
             self.write(operands[0], join(cut(value, 0, place), part, cut(value, place + 16, width_of(value) - place - 16)))
+        elif op in ("mov", "ins") and "[" in operands[0] and operands[0][0] == "v":
+            register, size = self.register(operands[0])
+            at = size * int(re.search(r"\[(\d+)\]", operands[0])[1])
+            self.registers[register] = field(self.registers[register], self.read(operands[1]), at, size)
         elif operands[0][0] == "v":
             self.write(operands[0], self.vector(op, operands))
         else:
@@ -221,6 +225,8 @@ class Aarch64(Machine):
             self.flags = "bits", number(bits >> 2 & 1, 1), number(1 - (bits >> 1 & 1), 1), None
 
     def access(self, op, operands):
+        is_signed = op in ("ldrsb", "ldursb")
+        op = op.replace("sb", "b") if is_signed else op
         count = {"ldr": 1, "ldur": 1, "ldp": 2, "str": 1, "stur": 1, "stp": 2}[op.rstrip("bh")]
         names = operands[:count]
         size = WIDTHS[op[-1]] if op[-1] in "bh" else WIDTHS[names[0][0]]
@@ -230,7 +236,8 @@ class Aarch64(Machine):
             self.store(at, join(*values))
         else:
             for i, name in enumerate(names):
-                self.write(name, self.load(add(at, number(size // 8 * i)), size // 8))
+                value = self.load(add(at, number(size // 8 * i)), size // 8)
+                self.write(name, signed_byte(extend(value, WIDTHS[name[0]])) if is_signed else value)
         if later:
             self.write(*later)
 
@@ -246,6 +253,8 @@ class Aarch64(Machine):
             half = cut(values[0], width_of(values[0]) // 2 if op[-1] == "2" else 0, 64)
             n = 0 if op[0] == "u" else known(values[1], "a shift")
             return lanes(size // 2, lambda lane: shift_left(extend(lane, size), n), half)
+        if op == "mov":
+            return values[0]
         if op == "bsl":
             choice = self.read(operands[0])
             return bitwise("or", bitwise("and", choice, values[0]), bitwise("and", complement(choice), values[1]))

@@ -21,7 +21,7 @@ class Library:
     """`functions` are addresses by name. `instructions` are, by address, a mnemonic, operands, and the next address."""
 
     def __init__(self, data):
-        self.data, self.functions, self.read_only, self.code = data, {}, [], []
+        self.data, self.functions, self.read_only, self.code, self.statics = data, {}, [], [], []
         magics = {b"\x7fELF": self.read_elf, b"MZ": self.read_pe, b"\xcf\xfa\xed\xfe": self.read_macho}
         (read,) = (it for magic, it in magics.items() if data.startswith(magic))
         self.format = read.__name__.partition("_")[2]
@@ -49,6 +49,8 @@ class Library:
             kind, flags, offset, address, _, length = self.unpack("IIQQQQ", at)
             if kind == 1 and not flags & 2:  # loaded, and not writable
                 self.add(flags & 1, (address, offset, length))
+            elif kind == 1:
+                self.statics.append(range(address, address + self.unpack("Q", at + 40)[0]))
         headers = [self.unpack("IIQQQQI", sections + 64 * i) for i in range(section_count)]
         for _, kind, _, _, offset, length, link in headers:
             if kind == 11:  # the symbols that a program can name

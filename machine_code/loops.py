@@ -12,7 +12,7 @@ of the definitions' state; or anything. Two turns suggest which. The three runs 
 make a check fail, and not pass. In a turn the number of turns that are left becomes smaller by one, so the loop ends.
 """
 import values
-from machine import Unaligned
+from machine import Setting
 from values import Stop, Undecided, add, cut, extend, join, mul, number, number_in, sub, unknown, width_of
 
 SIZE = 60  # an array has fewer than 2^60 bytes
@@ -153,7 +153,7 @@ class Loop:
         begin = len(run.executed)
         try:
             run.go()
-        except Unaligned:
+        except Setting:
             raise
         except Undecided as choice:
             self.choice = choice
@@ -259,7 +259,7 @@ def prove(make, pers, like=None):
             loop = Loop(make(per), least, last, like)
             loop.subject.finish(loop)
             return loop
-        except Unaligned:
+        except Setting:
             raise
         except Stop as stop:
             faults.append(str(stop))

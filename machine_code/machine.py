@@ -2,7 +2,7 @@
 import functools
 
 from values import (Stop, Undecided, add, are_equal, bitwise, complement, cut, extend, facts, gap_of, greatest, is_below,
-                    is_not_negative, is_zero, join, known, linear, number, number_in, power_of_two, signed, sub, total,
+                    is_not_negative, is_zero, join, kinds, known, linear, number, number_in, power_of_two, signed, sub, total,
                     unknown, width_of)
 
 CALLER = number(0xCA11E4)  # where a call returns to
@@ -34,8 +34,14 @@ def place_of(address):
     return tuple(sorted(factors.items())), signed(n)
 
 
-class Unaligned(Undecided):
-    """It matters what the stack pointer is modulo 64."""
+class Setting(Undecided):
+    """A choice by what is the same in all of a call: the stack pointer modulo 64, or a static flag of the library."""
+
+
+def depends_on_static(zero):
+    """Whether this says of a static flag if it is 0."""
+    what, value = kinds[zero[0][0]]
+    return what == "is zero" and all(kinds[a][0] == "unknown" and kinds[a][1][0] == "static" for a, _, _ in value)
 
 
 class Array:
@@ -148,6 +154,8 @@ class Machine:
         if base:
             array, offset = self.in_array(of_place(base, at), 1)
             return array.load(offset, 1)[0]
+        if any(at in addresses for addresses in self.library.statics):
+            return extend(unknown(("static", at), 1), 8), 0  # a flag of the library, which no call writes
         offset = self.library.offset_of(at)
         if offset is None:
             raise Stop("a read outside of what the call is given")
@@ -192,7 +200,7 @@ class Machine:
     def must_know_alignment(self):
         """The stack pointer is a multiple of 16 before a call, and modulo 64 any of these."""
         if "alignment" not in facts:
-            raise Unaligned("the alignment of the stack", *(({"alignment": 16 * k + self.entry}, []) for k in range(4)))
+            raise Setting("the alignment of the stack", *(({"alignment": 16 * k + self.entry}, []) for k in range(4)))
 
     def must_be_aligned(self, address, size=16):
         base, at = place_of(address)
@@ -239,7 +247,8 @@ class Machine:
             raise Undecided("a sign", *(({self.condition("s"): number(n, 1)}, []) for n in (0, 1)))
         if number_in(bit) is None and name in ("e", "ne"):
             zero, value = self.condition("e"), self.flags[3]
-            raise Undecided("whether a value is 0", ({zero: number(1, 1), value: number(0)}, []), ({zero: number(0, 1)}, []))
+            kind = Setting if depends_on_static(zero) else Undecided
+            raise kind("whether a value is 0", ({zero: number(1, 1), value: number(0)}, []), ({zero: number(0, 1)}, []))
         return known(bit, "a branch")
 
     def subtract(self, x, y):

@@ -298,6 +298,8 @@ class X86(Machine):
             return self.fill()
         if op == "call" or op[0] == "j":
             return self.jump(op, int(text, 16))
+        if op == "leave":
+            self.registers["rsp"], op, text = self.registers["rbp"], "pop", "rbp"
         if op in ("push", "pop", "ret"):
             return self.use_stack(op, *decode(text))
         name = self.name_of(op)
