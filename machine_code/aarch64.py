@@ -67,7 +67,8 @@ def add_with_carry(m, x, y):
 # What an instruction computes from its operands but the first, which it writes. Those of vectors do it for each lane.
 OPERATIONS = {
     "add": plain(add), "sub": plain(sub), "mul": plain(mul), "madd": plain(lambda x, y, z: add(mul(x, y), z)),
-    "adcs": lambda m, x, y: m.compare(None, x, y, add_with_carry(m, x, y)), "adds": Machine.sum, "subs": Machine.subtract, "cmp": Machine.subtract, "adc": add_with_carry,
+    "adcs": lambda m, x, y: m.compare(None, x, y, add_with_carry(m, x, y)), "adc": add_with_carry,
+    "adds": Machine.sum, "subs": Machine.subtract, "cmp": Machine.subtract,
     "neg": plain(lambda x: sub(number(0, width_of(x)), x)), "mvn": plain(complement),
     "bic": lambda m, x, y: bitwise("and", x, complement(y)),
     "orn": plain(lambda x, y: bitwise("or", x, complement(y))), "eon": plain(lambda x, y: bitwise("xor", x, complement(y))),
@@ -77,7 +78,8 @@ OPERATIONS = {
     "extr": plain(lambda x, y, n: cut(join(y, x), known(n, "a place"), width_of(x))),
     "cinc": lambda m, x, holds: plus_one(x) if holds else x, "sxtb": plain(lambda x: signed_byte(x)),
     "cneg": lambda m, x, holds: sub(number(0, width_of(x)), x) if holds else x,
-    "ands": logic("and"), "tst": logic("and"), "lsl": shift_by_any(shift_left), "lsr": shift_by_any(shift_right), "ror": shift(rotate_right),
+    "ands": logic("and"), "tst": logic("and"), "lsl": shift_by_any(shift_left),
+    "lsr": shift_by_any(shift_right), "ror": shift(rotate_right),
     "csel": lambda m, x, y, holds: x if holds else y, "csinc": lambda m, x, y, holds: x if holds else plus_one(y),
     "cset": plain(lambda bit: bit), "csetm": lambda m, holds: number(-holds),
     "ushl": plain(shift_lane), "sshl": plain(shift_lane), "ushr": shift(shift_right), "shl": shift(shift_left),
@@ -184,7 +186,7 @@ class Aarch64(Machine):
             self.write(operands[0], self.vector(op, operands))
         else:
             width = width_of(self.read(operands[0]))
-            values = [self.read(it, width) for it in operands[op not in ("cmp", "tst") :]]
+            values = [self.read(item, width) for item in operands[op not in ("cmp", "tst") :]]
             if values[-1] in CONDITIONS.values():
                 values[-1] = self.condition(values[-1]) if op == "cset" else self.holds(values[-1])
             if op not in OPERATIONS:
@@ -230,7 +232,7 @@ class Aarch64(Machine):
         count = {"ldr": 1, "ldur": 1, "ldp": 2, "str": 1, "stur": 1, "stp": 2}[op.rstrip("bh")]
         names = operands[:count]
         size = WIDTHS[op[-1]] if op[-1] in "bh" else WIDTHS[names[0][0]]
-        values = [cut(self.read(it), 0, size) for it in names] if op[0] == "s" else []
+        values = [cut(self.read(item), 0, size) for item in names] if op[0] == "s" else []
         at, later = self.address(operands[count:])
         if values:
             self.store(at, join(*values))
@@ -244,7 +246,7 @@ class Aarch64(Machine):
     def vector(self, op, operands):
         count, size = re.fullmatch(r"v\d+\.(\d+)(\w)", operands[0]).groups()
         count, size = int(count), WIDTHS[size]
-        values = [self.read(it, size if it[0] == "#" else 64) for it in operands[1:]]
+        values = [self.read(item, size if item[0] == "#" else 64) for item in operands[1:]]
         if op == "mul" and "[" in operands[2]:  # by one lane
             values[1] = join(*[values[1]] * count)
         if op in ("dup", "movi"):
@@ -261,7 +263,7 @@ class Aarch64(Machine):
         if op == "ext":
             return cut(join(*values[:2]), 8 * known(values[2], "a place"), count * size)
         if op in ("ushr", "shl") and known(values[1], "a shift") < size:
-            return lanes(size, lambda it: OPERATIONS[op](self, it, values[1]), values[0])
+            return lanes(size, lambda item: OPERATIONS[op](self, item, values[1]), values[0])
         if op in ("add", "sub", "mul", "ushl", "sshl", "cmeq"):
             return lanes(size, functools.partial(OPERATIONS[op], self), *values)
-        return {it: OPERATIONS[it] for it in ("and", "orr", "eor", "bic", "mvn", "orn")}[op](self, *values)
+        return {item: OPERATIONS[item] for item in ("and", "orr", "eor", "bic", "mvn", "orn")}[op](self, *values)

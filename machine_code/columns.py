@@ -92,5 +92,6 @@ def too_few_numbers():
 
 def checks(machine):
     yield "xxh64_each_u64", [
-        *(functools.partial(loops.prove_each_rest, functools.partial(Numbers, machine, is_first)) for is_first in (True, False)),
+        *(functools.partial(loops.prove_each_rest, functools.partial(Numbers, machine, is_first))
+          for is_first in (True, False)),
         functools.partial(check_call, machine, "xxh64_each_u64", too_few_numbers)]

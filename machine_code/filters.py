@@ -9,8 +9,8 @@ from columns import Elements, behind
 from hashes import OneCall, Pieces
 from definitions import FILTER, as_value
 from machine import Array, place_of
-from values import (Stop, add, assume_at_most, bitwise, complement, cut, extend, is_zero, join, mul, number, number_in, power_of_two,
-                    shift_right, sub, unknown, width_of)
+from values import (Stop, add, assume_at_most, bitwise, complement, cut, extend, is_zero, join, mul, number, number_in,
+                    power_of_two, shift_right, sub, unknown, width_of)
 
 
 def union(array, other, offset, other_offset):
@@ -159,7 +159,7 @@ class Values(Elements):
         self.source, self.target = source, run.give(Array("old", found, n, not self.is_insert))
         self.filter = run.give(Bits(cut(any_length, 5, 32), self.hash, self.is_insert))
         arguments = [n] if self.is_insert else [add(n, more), found, n]
-        run.begin(f"sketch_bloom_{'insert' if self.is_insert else 'contains'}_each_{self.kind}", [bits, any_length, values, *arguments])
+        run.begin(f"sketch_{name_of(self.is_insert)}_each_{self.kind}", [bits, any_length, values, *arguments])
         return run
 
     def hash(self, index):
@@ -286,7 +286,8 @@ def too_few_values(machine, function):
 def checks(machine):
     any_arguments = [unknown(("argument", i), 64) for i in range(8)]
     yield "bloom_check", [functools.partial(check_call, machine, "bloom_check", Call, [any_length], [], OK),
-                          *(functools.partial(check_call, machine, "bloom_check", Call, [length], [], LENGTH) for length in WRONG_LENGTHS)]
+                          *(functools.partial(check_call, machine, "bloom_check", Call, [length], [], LENGTH)
+                            for length in WRONG_LENGTHS)]
     yield "bloom_merge", [*(functools.partial(loops.prove_each_rest, functools.partial(Merge, machine, is_first))
                             for is_first in (True, False)), functools.partial(merges_of_two_lengths, machine)]
     yield "bloom_fold", [functools.partial(loops.prove_each_rest, functools.partial(Fold, machine)),
@@ -294,7 +295,8 @@ def checks(machine):
     for is_insert in (True, False):
         name, wrong = name_of(is_insert), wrong_result(is_insert)
         yield name, [functools.partial(loops.prove_each_rest, functools.partial(Key, machine, is_insert), 32),
-                     functools.partial(null_key, machine, is_insert), functools.partial(keys_of_wrong_lengths, machine, is_insert)]
+                     functools.partial(null_key, machine, is_insert),
+                     functools.partial(keys_of_wrong_lengths, machine, is_insert)]
         yield f"{name}_hash", [functools.partial(one_hash, machine, is_insert),
                                functools.partial(wrong_lengths, machine, f"{name}_hash", wrong, *any_arguments)]
         for kind in ("hash", "u32", "u64"):

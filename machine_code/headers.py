@@ -54,7 +54,8 @@ def read_call(machine, data, length):
     """An input that begins with the header of a length, or with none if that is None, after which there is anything."""
     n, old, after = len(data), unknown("old length", 64), some("after", 8)
     header = header_of(number(length)) if length else []
-    memory = [Memory(input, [*(number(byte, 8) for byte in data), *after]), Memory(out, [old], [number(length) if length else old])]
+    memory = [Memory(input, [*(number(byte, 8) for byte in data), *after])]
+    memory.append(Memory(out, [old], [number(length) if length else old]))
     for size in (n, n + 8) if length else (n,):
         check_call(machine, "bloom_header_read", Call, [input, number(size), out], memory, number(len(header)))
 

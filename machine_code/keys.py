@@ -37,8 +37,10 @@ class ColumnCall:
         for count, offset_count, is_right in (zero, zero, True), (some, zero, False), (zero, some, True), (zero, some, False):
             def run():
                 run = self.begin(count, offset_count)
-                if count == zero != offset_count:
-                    (assume_at_most(self.offset(zero), self.length) if is_right else assume_at_most(self.length, self.offset(zero), 1))
+                if count == zero != offset_count and is_right:
+                    assume_at_most(self.offset(zero), self.length)
+                elif count == zero != offset_count:
+                    assume_at_most(self.length, self.offset(zero), 1)
                 run.go()
                 (self.must_succeed(run) if is_right else self.must_fail(run, zero))
 

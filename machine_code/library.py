@@ -13,8 +13,8 @@ DISASSEMBLE = {
 
 
 # By the bytes with which their object files begin.
-LINKERS = {b"\x7fELF\2\1\1" + bytes(9) + b"\1\0\x3e\0": "ld", b"\x7fELF\2\1\1" + bytes(9) + b"\1\0\xb7\0": "aarch64-linux-gnu-ld",
-           b"\x64\x86": "x86_64-w64-mingw32-ld"}
+ELF = b"\x7fELF\2\1\1" + bytes(9) + b"\1\0"
+LINKERS = {ELF + b"\x3e\0": "ld", ELF + b"\xb7\0": "aarch64-linux-gnu-ld", b"\x64\x86": "x86_64-w64-mingw32-ld"}
 
 
 class Library:
@@ -23,7 +23,7 @@ class Library:
     def __init__(self, data):
         self.data, self.functions, self.read_only, self.code, self.statics = data, {}, [], [], []
         magics = {b"\x7fELF": self.read_elf, b"MZ": self.read_pe, b"\xcf\xfa\xed\xfe": self.read_macho}
-        (read,) = (it for magic, it in magics.items() if data.startswith(magic))
+        (read,) = (item for magic, item in magics.items() if data.startswith(magic))
         self.format = read.__name__.partition("_")[2]
         self.processor = "aarch64" if read() in ARM else "x86-64"
         self.instructions = {}

@@ -131,8 +131,8 @@ class Loop:
         self.check_turns()
 
     def find_head(self):
-        """A choice that depends on how many turns are left is made once a turn. From it to the next time is a turn, and the head
-        is what the first one begins with."""
+        """A choice that depends on how many turns are left is made once a turn. From it to the next time is a turn, and the
+        head is what the first one begins with."""
         arrivals = []
         for least in (4, 8):
             with values.assuming():
@@ -188,8 +188,10 @@ class Loop:
                 return "word", i
         if seen[0] == seen[1] == seen[2]:
             return "by", 0
-        changes = [number_in(sub(after, before)) for before, after in zip(seen, seen[1:])] if width_of(seen[0]) == 64 else [None]
-        return ("by", changes[0]) if changes[0] is not None and changes[0] == changes[-1] else None
+        if width_of(seen[0]) < 64:
+            return None
+        first, second = (number_in(sub(after, before)) for before, after in zip(seen, seen[1:]))
+        return ("by", first) if first is not None and first == second else None
 
     def enter(self):
         run = self.subject.start(self.subject.some("total", self.least))

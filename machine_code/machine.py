@@ -2,7 +2,7 @@
 import functools
 
 from values import (Stop, Undecided, add, are_equal, bitwise, complement, cut, extend, facts, gap_of, greatest, is_below,
-                    is_not_negative, is_zero, join, kinds, known, linear, number, number_in, power_of_two, signed, sub, total,
+                    is_not_negative, join, kinds, known, linear, number, number_in, power_of_two, signed, sub, total,
                     unknown, width_of)
 
 CALLER = number(0xCA11E4)  # where a call returns to
@@ -117,7 +117,8 @@ class Machine:
         self.library, self.registers, self.bytes, self.writable, self.arrays = library, {}, {}, set(), []
         self.flags, self.at, self.next, self.executed = None, None, None, []
         rest = facts.get("alignment")  # of the stack pointer modulo 64, if a path has chosen it
-        self.stack = extend(unknown("stack", 62, 1 << 20) if rest is None else join(number(rest, 6), unknown("stack", 56, 1 << 14)))
+        stack = unknown("stack", 62, 1 << 20) if rest is None else join(number(rest, 6), unknown("stack", 56, 1 << 14))
+        self.stack = extend(stack)
         self.top = place_of(self.stack)[1]
         self.set_up()
 

@@ -1,4 +1,4 @@
-"""The machine code of libraries beside the definitions; and whether a wrong definition, or a function without a check, is noticed."""
+"""The machine code of libraries; and whether a wrong definition, or a function without a check, is noticed."""
 import functools
 import re
 import subprocess

@@ -13,12 +13,13 @@ import loops
 import pytest
 import texts
 from test_checks import COMPILERS, SHIPPED, TEXT, library_of, tools  # noqa: F401 (fixtures)
-from values import Stop, bitwise, complement, number
+from values import Stop, complement, cut, number, number_in
 
 ASSEMBLERS = {
     "x86-64": ["as"], "aarch64": ["aarch64-linux-gnu-as"], "Windows": ["x86_64-w64-mingw32-as"],
 }
-LINKERS = {"x86-64": ["ld"], "aarch64": ["aarch64-linux-gnu-ld"], "Windows": ["x86_64-w64-mingw32-ld", "--export-all-symbols", "-e", "0"]}
+LINKERS = {"x86-64": ["ld"], "aarch64": ["aarch64-linux-gnu-ld"],
+           "Windows": ["x86_64-w64-mingw32-ld", "--export-all-symbols", "-e", "0"]}
 VERSION = f"mov eax, {calls.VERSION}; ret"
 ARM = f"mov w0, #{calls.VERSION & 0xFFFF}; movk w0, #{calls.VERSION >> 16}, lsl #16; ret"
 
@@ -50,14 +51,19 @@ WRONG = [
     ("x86-64", f"mov rcx, [rsp]; push rcx; {VERSION}", "the stack pointer is not restored"),
     ("x86-64", f"sub rsp, 16; movaps [rsp], xmm0; add rsp, 16; {VERSION}", "not aligned"),
     ("x86-64", f"movaps xmm0, [rsp]; {VERSION}", "not aligned"), ("x86-64", f"paddd xmm0, [rsp-16]; {VERSION}", ""),
-    ("x86-64", f"mov rcx, [rsp-136]; {VERSION}", "a read below the stack"), ("x86-64", f"mov [rsp-136], rcx; {VERSION}", "outside"),
-    ("x86-64", f"push rcx; pop rcx; sub rsp, 8192; {VERSION}", ""), ("x86-64", f"sub rsp, 8192; push rcx; {VERSION}", "leaves the stack"),
+    ("x86-64", f"mov rcx, [rsp-136]; {VERSION}", "a read below the stack"),
+    ("x86-64", f"mov [rsp-136], rcx; {VERSION}", "outside"),
+    ("x86-64", f"push rcx; pop rcx; sub rsp, 8192; {VERSION}", ""),
+    ("x86-64", f"sub rsp, 8192; push rcx; {VERSION}", "leaves the stack"),
     ("x86-64", f"mov rcx, [rsp-8]; {VERSION}", "outside"), ("x86-64", f"mov [rsp], rcx; {VERSION}", ""),
     ("x86-64", f"mov [rsp+8], rcx; {VERSION}", "outside"), ("x86-64", f"mov rcx, [rdi]; {VERSION}", "outside"),
-    ("x86-64", f"lea rcx, [rip]; mov byte ptr [rcx], 1; {VERSION}", "outside"), ("Windows", f"mov [rsp-8], rcx; {VERSION}", "outside"),
-    ("Windows", f"mov rsi, rcx; {VERSION}", "rsi is not restored"), ("Windows", f"movaps xmm6, xmm0; {VERSION}", "ymm6 is not restored"),
+    ("x86-64", f"lea rcx, [rip]; mov byte ptr [rcx], 1; {VERSION}", "outside"),
+    ("Windows", f"mov [rsp-8], rcx; {VERSION}", "outside"),
+    ("Windows", f"mov rsi, rcx; {VERSION}", "rsi is not restored"),
+    ("Windows", f"movaps xmm6, xmm0; {VERSION}", "ymm6 is not restored"),
     *(("x86-64", f"{before}; jc 1f; 1: {VERSION}", "carry|not known") for before in (
-        "imul rcx, rdx", "cmp rcx, rdx; inc rcx", "shl rcx, 3", "cmp rcx, rcx; rol rcx, 3", "ror rcx, 3", "add rcx, rdx", "mov rax, rdx",
+        "imul rcx, rdx", "cmp rcx, rdx; inc rcx", "shl rcx, 3", "cmp rcx, rcx; rol rcx, 3", "ror rcx, 3", "add rcx, rdx",
+        "mov rax, rdx",
         "neg rcx; dec rcx", "shld rcx, rdx, 3", "shrd rcx, rdx, 3", "test rcx, rcx; sar rcx, 1")),
     *(("x86-64", f"{before}; je 1f; 1: {VERSION}", "not known|understood") for before in ("imul rcx, rdx", "shld rcx, rdx, 3")),
     ("x86-64", f"cmp rcx, rdx; jo 1f; 1: {VERSION}", "not known"), ("x86-64", f"cmp rcx, rdx; jl 1f; 1: {VERSION}", "signed"),
@@ -66,8 +72,10 @@ WRONG = [
     ("x86-64", f"std; {VERSION}", "not known"), ("x86-64", f"mov ah, 1; {VERSION}", ""),
     ("x86-64", f"push rbp; mov rbp, rsp; and rsp, -32; movaps [rsp-8], xmm0; mov rsp, rbp; pop rbp; {VERSION}", "not aligned"),
     ("aarch64", f"mov x19, x0; {ARM}", "x19 is not restored"), ("aarch64", f"fmov d8, d0; {ARM}", "v8 is not restored"),
-    ("aarch64", f"sub sp, sp, #16; {ARM}", "the stack pointer is not restored"), ("aarch64", f"str x0, [sp, #-16]; {ARM}", "outside"),
-    ("aarch64", f"sub sp, sp, #8; str x0, [sp]; add sp, sp, #8; {ARM}", "not aligned"), ("aarch64", f"ldr x1, [sp, #-16]; {ARM}", "below"),
+    ("aarch64", f"sub sp, sp, #16; {ARM}", "the stack pointer is not restored"),
+    ("aarch64", f"str x0, [sp, #-16]; {ARM}", "outside"),
+    ("aarch64", f"sub sp, sp, #8; str x0, [sp]; add sp, sp, #8; {ARM}", "not aligned"),
+    ("aarch64", f"ldr x1, [sp, #-16]; {ARM}", "below"),
     ("aarch64", f"mov x30, x0; {ARM}", "the end of a call"), ("aarch64", f"adds x1, x1, x2; b.cs 1f; 1: {ARM}", "carry"),
     ("aarch64", f"tst x1, x2; b.hi 1f; 1: {ARM}", "carry"), ("aarch64", f"cmp x1, x2; b.vs 1f; 1: {ARM}", "not understood"),
 ]
@@ -92,7 +100,8 @@ def test_a_move_of_64_bits_clears_the_rest_of_a_vector(need, tmp_path):
     run = machine_of("x86-64", f"movq xmm1, xmm0; {VERSION}", tmp_path)()
     run.begin("sketch_hash_version", [])
     run.go()
-    assert run.registers["ymm1"][0][2] == 64 and bitwise("and", run.registers["ymm1"], number(-1 << 64, 256)) != run.registers["ymm0"]
+    before, after = run.registers["ymm0"], run.registers["ymm1"]
+    assert cut(after, 0, 64) == cut(before, 0, 64) and number_in(cut(after, 64, 64)) == 0
 
 
 # ---- each operation with another result

@@ -5,8 +5,8 @@ import random
 
 import pytest
 import values
-from values import (WORD, Stop, Undecided, add, are_equal, bitwise, complement, cut, extend, is_below, is_zero, join, mul, number,
-                    number_in, power_of_two, rotate_right, shift_left, shift_right, sub, unknown)
+from values import (WORD, Stop, Undecided, add, are_equal, bitwise, complement, cut, extend, is_below, is_zero, join, mul,
+                    number, number_in, power_of_two, rotate_right, shift_left, shift_right, sub, unknown)
 
 WORLDS = 4  # in each, an unknown is another number
 
@@ -27,7 +27,7 @@ def number_of_atom(a, known, pick):
         return pick.choice([least, most, pick.randint(least, most), pick.randint(least, most)])
     if kind == "sum":
         return (parts[0] + sum(number_of((piece,), known, pick) * factor for piece, factor in parts[1])) % WORD
-    numbers = [number_of(it, known, pick) for it in (parts[2] if kind in values.BITS else parts)]
+    numbers = [number_of(item, known, pick) for item in (parts[2] if kind in values.BITS else parts)]
     if kind in values.BITS:
         return functools.reduce(values.BITS[kind], [parts[1]] * (kind == "xor") + numbers)
     return numbers[0] * numbers[1] % WORD if kind == "product" else 1 << numbers[0] if kind == "power" else int(numbers[0] == 0)
@@ -69,7 +69,8 @@ def operations_of_pieces(pick, n, width):
     yield lambda x, y: extend(join(cut(x, 0, n // 2), cut(x, n, 64 - n))), lambda x, y: x % (1 << n // 2) | x >> n << n // 2
     yield (lambda x, y: extend(cut(add(x, mul(y, number(1 << at))), min(n, 20), at)),
            lambda x, y: x + (y << at) >> min(n, 20) & (1 << at) - 1)
-    yield lambda x, y: mul(extend(cut(add(x, number(5)), 0, n)), number(other << 64 - n)), lambda x, y: (x + 5) % (1 << n) * (other << 64 - n)
+    yield (lambda x, y: mul(extend(cut(add(x, number(5)), 0, n)), number(other << 64 - n)),
+           lambda x, y: (x + 5) % (1 << n) * (other << 64 - n))
 
 
 def test_a_rule_gives_an_equal_value():
@@ -89,7 +90,8 @@ def test_a_rule_gives_an_equal_value():
             assert {n < m for n, m in zip(numbers, xs)} == {is_below(value, x)}
         except Stop:
             pass
-        assert number_in(equal := are_equal(value, x)) is None or {n == m for n, m in zip(numbers, xs)} == {bool(number_in(equal))}
+        equal = number_in(are_equal(value, x))
+        assert equal is None or {n == m for n, m in zip(numbers, xs)} == {bool(equal)}
         pool.append((value, numbers))
 
 
@@ -99,7 +101,8 @@ def test_what_bounds_imply_is_so():
     all_numbers, decided = list(itertools.product(range(8), repeat=3)), 0
     for _ in range(1500):
         factors = [[pick.choice([0, 1, 1, 2, 3]) for _ in range(3)] for _ in range(6)]
-        sums = [functools.reduce(add, (mul(x, number(k)) for x, k in zip(small, row)), number(pick.randrange(3))) for row in factors]
+        sums = [functools.reduce(add, (mul(x, number(k)) for x, k in zip(small, row)), number(pick.randrange(3)))
+                for row in factors]
         less = pick.randrange(3)
         with values.assuming():
             values.assume_at_most(sums[0], sums[1], less)
@@ -141,9 +144,9 @@ def test_a_path_leaves_no_trace():
 
 
 def test_a_rotation_by_each_number_of_bits():
-    x = unknown("rotated", 64)
+    x, word = unknown("rotated", 64), 0x123456789ABCDEF1
     for n in range(64):
-        assert number_of(rotate_right(x, n), {x[0][0]: 0x123456789ABCDEF1}, None) == (0x123456789ABCDEF1 << 64 | 0x123456789ABCDEF1) >> n & WORD - 1
+        assert number_of(rotate_right(x, n), {x[0][0]: word}, None) == (word << 64 | word) >> n & WORD - 1
 
 
 def test_vectors_of_different_lengths_have_no_lanes():

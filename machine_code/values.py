@@ -144,8 +144,8 @@ def rotate_right(value, n):
 
 def lanes(size, function, *values):
     """A function of each lane of some values, or of a value and numbers."""
-    split = [itertools.repeat(it) if isinstance(it, int) else [cut(it, at, size) for at in range(0, width_of(it), size)]
-             for it in values]
+    split = [itertools.repeat(item) if isinstance(item, int) else [cut(item, at, size) for at in range(0, width_of(item), size)]
+             for item in values]
     if len({len(lane) for lane in split if isinstance(lane, list)}) != 1:
         raise Stop("vectors of different lengths")
     return join(*map(function, *split))
@@ -271,7 +271,7 @@ def total(n, factors):
 def side_by_side(n, factors):
     """The pieces as bits of one value, if no two of them, and no bit of the number, overlap; else None."""
     out, at = [], 0
-    for piece, factor in sorted(factors.items(), key=lambda it: it[1]):
+    for piece, factor in sorted(factors.items(), key=lambda item: item[1]):
         place = factor.bit_length() - 1
         if factor != 1 << place or place < at:
             return None
@@ -323,8 +323,8 @@ def is_below(x, y):
     for answer, bound in ((True, above), (False, below)):
         if facts.get(question) == answer or bound and is_not_negative(*bound):
             return answer
-    ways = [({question: answer}, [in_lowest_terms(*bound)] if bound else []) for answer, bound in ((True, above), (False, below))]
-    raise Undecided("which of two numbers is the smaller one", *ways)
+    raise Undecided("which of two numbers is the smaller one", *(
+        ({question: answer}, [in_lowest_terms(*bound)] if bound else []) for answer, bound in ((True, above), (False, below))))
 
 
 def assume_at_most(x, y, less=0):
@@ -342,7 +342,8 @@ def gap_of(x, y):
 def are_equal(x, y):
     """One bit. It is 0 if y - x or x - y is never 0 as an integer."""
     bit, gap = is_zero(sub(x, y)), gap_of(x, y)
-    if number_in(bit) is None and gap and any(is_not_negative(n - 1, factors) for n, factors in (gap, difference((0, {}), gap))):
+    gaps = (gap, difference((0, {}), gap)) if gap and number_in(bit) is None else ()
+    if any(is_not_negative(n - 1, factors) for n, factors in gaps):
         return number(0, 1)
     return bit if number_in(bit) is not None else is_zero(bitwise("xor", x, y))
 
@@ -389,7 +390,7 @@ def operation(op, operands, width):
             n ^= kinds[a][2]
             todo += kinds[a][3]
         elif kinds[a][0] == op:  # some of its bits
-            parts = [cut(it, low, width) for it in kinds[a][3]] + [number(kinds[a][2] >> low, width)] * (op == "xor")
+            parts = [cut(item, low, width) for item in kinds[a][3]] + [number(kinds[a][2] >> low, width)] * (op == "xor")
             rest = [number(n, width)] * (op == "xor") + [*members, *todo]
             return functools.reduce(functools.partial(bitwise, op), parts + rest)
         else:
@@ -412,12 +413,12 @@ def is_zero(value):
                 return number(0, 1)
             kind = kinds[a] if a != NUMBER else (None,)
             if kind[0] == "or":
-                todo += [cut(it, low, width) for it in kind[3]]
+                todo += [cut(item, low, width) for item in kind[3]]
             elif kind[:3] == ("xor", 1, 1) and len(kind[3]) == 1 and kinds[kind[3][0][0][0]][0] == "is zero":
                 todo.append(kinds[kind[3][0][0][0]][1])  # "it is not 0" is 0 if it is 0
             elif a != NUMBER:
                 pieces.add((a, low, width))
     if not pieces:
         return number(1, 1)
-    result = atom(("is zero", join(*((it,) for it in sorted(pieces)))), 1)
+    result = atom(("is zero", join(*((item,) for item in sorted(pieces)))), 1)
     return facts.get(result, result)

@@ -7,10 +7,12 @@ from values import (Stop, add, bitwise, complement, cut, extend, is_zero, join, 
                     power_of_two, rotate_right, shift_left, shift_right, sub, unknown, width_of)
 
 REGISTERS = {f"r{n}{end}": (f"r{n}", width) for n in range(8, 16) for end, width in (("", 64), ("d", 32), ("w", 16), ("b", 8))}
-for it in "abcd":
-    REGISTERS |= {f"r{it}x": (f"r{it}x", 64), f"e{it}x": (f"r{it}x", 32), f"{it}x": (f"r{it}x", 16), f"{it}l": (f"r{it}x", 8)}
-for it in ("si", "di", "bp", "sp"):
-    REGISTERS |= {f"r{it}": (f"r{it}", 64), f"e{it}": (f"r{it}", 32), it: (f"r{it}", 16), f"{it}l": (f"r{it}", 8)}
+for item in "abcd":
+    REGISTERS |= {name: (f"r{item}x", width)
+                  for name, width in ((f"r{item}x", 64), (f"e{item}x", 32), (f"{item}x", 16), (f"{item}l", 8))}
+for item in ("si", "di", "bp", "sp"):
+    REGISTERS |= {name: (f"r{item}", width)
+                  for name, width in ((f"r{item}", 64), (f"e{item}", 32), (item, 16), (f"{item}l", 8))}
 REGISTERS |= {f"{kind}mm{n}": (f"ymm{n}", width) for n in range(16) for kind, width in (("x", 128), ("y", 256))}
 SIZES = {"BYTE": 8, "WORD": 16, "DWORD": 32, "QWORD": 64, "XMMWORD": 128, "YMMWORD": 256}
 
@@ -19,16 +21,16 @@ SIZES = {"BYTE": 8, "WORD": 16, "DWORD": 32, "QWORD": 64, "XMMWORD": 128, "YMMWO
 def decode(text):
     """The operands: registers and memory, each with its width, and numbers."""
     found = []
-    for it in text.split(",") if text else []:
-        memory = re.fullmatch(r"(?:(\w+) PTR )?\[(.*)\]", it)
+    for item in text.split(",") if text else []:
+        memory = re.fullmatch(r"(?:(\w+) PTR )?\[(.*)\]", item)
         if memory:
             terms = re.findall(r"([+-]?)(\w+)(?:\*(\d))?", memory[2])
             terms = tuple((name, (-1 if sign == "-" else 1) * int(factor or 1)) for sign, name, factor in terms)
             found.append(("memory", terms, SIZES.get(memory[1])))
-        elif re.fullmatch("[abcd]h", it):
-            found.append(("high", f"r{it[0]}x", 8))  # bits 8 to 15, which are only read
+        elif re.fullmatch("[abcd]h", item):
+            found.append(("high", f"r{item[0]}x", 8))  # bits 8 to 15, which are only read
         else:
-            found.append(("register", *REGISTERS[it]) if it in REGISTERS else ("number", int(it, 16), None))
+            found.append(("register", *REGISTERS[item]) if item in REGISTERS else ("number", int(item, 16), None))
     return found
 
 
@@ -205,7 +207,7 @@ OPERATIONS = {
     "pmovzxbd": plain(extended_lanes(8, 32)), "pmovsxbd": plain(extended_lanes(8, 32, True)),
     "psrad": plain(lambda x, n: lanes(32, lambda lane: arithmetic(lane, n), x)), "psubb": lanewise(8, sub),
     "movmskps": plain(lambda x: lanes(32, lambda lane: cut(lane, 31, 1), x)),
-    "pmovmskb": plain(lambda x: lanes(8, lambda it: cut(it, 7, 1), x)),
+    "pmovmskb": plain(lambda x: lanes(8, lambda item: cut(item, 7, 1), x)),
     "pandn": plain(lambda x, y: bitwise("and", complement(x), y)),
     "paddd": lanewise(32, add), "paddq": lanewise(64, add), "pmulld": lanewise(32, mul),
     "pmuludq": lanewise(64, half_product), "psllvd": lanewise(32, shift_lane(shift_left)),
@@ -217,19 +219,24 @@ OPERATIONS = {
     "rorx": plain(lambda x, n: rotate_right(x, known(n, "a shift"))), "andn": lambda m, x, y: logic("and")(m, complement(x), y),
     "shlx": plain(shift_by_any(shift_left)), "pbroadcastd": broadcast(32),
     "shrx": plain(shift_by_any(shift_right)), "pbroadcastq": broadcast(64), "ptest": is_covered, "pbroadcastb": broadcast(8),
-    "pextrb": plain(lambda x, n: cut(x, 8 * known(n, "a place"), 8)), "pextrd": plain(lambda x, n: cut(x, 32 * known(n, "a place"), 32)),
+    "pextrb": plain(lambda x, n: cut(x, 8 * known(n, "a place"), 8)),
+    "pextrd": plain(lambda x, n: cut(x, 32 * known(n, "a place"), 32)),
     "pextrq": plain(lambda x, n: cut(x, 64 * known(n, "a place"), 64)),
     "extracti128": plain(lambda x, n: cut(x, 128 * known(n, "a place"), 128)),
 }
 OPERATIONS |= {name: logic(op) for name, op in (("and", "and"), ("test", "and"), ("or", "or"), ("xor", "xor"))}
 OPERATIONS |= {name: plain(functools.partial(bitwise, op)) for op in ("and", "or", "xor")
                for name in (f"p{op}", f"{op}ps")}
-OPERATIONS |= {name: plain(lambda x, width=width: cut(x, 0, min(width, width_of(x)))) for name, width in (("movd", 32), ("movq", 64))}
+OPERATIONS |= {name: plain(lambda x, width=width: cut(x, 0, min(width, width_of(x))))
+               for name, width in (("movd", 32), ("movq", 64))}
 OPERATIONS |= dict.fromkeys("mov movabs movzx movups movdqu movaps movdqa".split(), SOURCE)
 READ_ONLY = "cmp", "test", "ptest", "vptest"  # the first operand is not written
 # The first operand is not read.
-WRITTEN = set("mov movabs movzx movd movq movups movdqu movaps movdqa cvttps2dq pmovmskb movmskps lea pmovzxdq pmovzxbd pmovsxbd".split())
+WRITTEN = {*"mov movabs movzx movd movq movups movdqu movaps movdqa cvttps2dq pmovmskb movmskps lea".split(),
+           "pmovzxdq", "pmovzxbd", "pmovsxbd"}
 BY_PLACE = "shld", "shrd", "pinsrb", "pinsrd", "pinsrq"  # three operands, of which the first is read
+FILLS = {f"stos {name} PTR es:[rdi],{register}": size
+         for name, register, size in (("BYTE", "al", 1), ("DWORD", "eax", 4), ("QWORD", "rax", 8))}
 UNALIGNED = "movups", "movdqu"
 
 
@@ -292,10 +299,10 @@ class X86(Machine):
         if re.match(r"((data16|cs) )*nop( |$)|xchg ax,ax$", f"{op} {text}"):
             return
         if op == "vzeroupper":
-            self.registers |= {name: extend(cut(it, 0, 128), 256) for name, it in self.registers.items() if name[0] == "y"}
+            self.registers |= {name: extend(cut(item, 0, 128), 256) for name, item in self.registers.items() if name[0] == "y"}
             return
-        if (op, text) == ("rep", "stos QWORD PTR es:[rdi],rax"):
-            return self.fill()
+        if op == "rep" and text in FILLS:
+            return self.fill(FILLS[text])
         if op == "call" or op[0] == "j":
             return self.jump(op, int(text, 16))
         if op == "leave":
@@ -307,18 +314,18 @@ class X86(Machine):
         if name not in OPERATIONS and name != "lea" and op[:3] != "set" and op[:4] != "cmov":
             raise Stop("the instruction is not known")
         operands = decode(text)
-        width = max(it[2] or 0 for it in operands)
+        width = max(item[2] or 0 for item in operands)
         skips = is_avx or name in WRITTEN or len(operands) == 3 and name not in BY_PLACE
         skips &= op not in READ_ONLY
         if name not in UNALIGNED and (not is_avx or name in ("movaps", "movdqa")):
             self.must_be_aligned_vectors(operands)
         if op[:3] == "set" or op[:4] == "cmov":
-            values = [self.read(it, width) for it in operands[op[0] == "s" :]]
+            values = [self.read(item, width) for item in operands[op[0] == "s" :]]
             result = self.condition(op[3:]) if op[0] == "s" else values[self.holds(op[4:])]
         elif op == "lea":
             result = self.address(operands[1][1])
         else:
-            result = OPERATIONS[name](self, *(self.read(it, width) for it in operands[skips:]))
+            result = OPERATIONS[name](self, *(self.read(item, width) for item in operands[skips:]))
         if name == "and" and operands[0][1] == "rsp":
             self.must_know_alignment()
         if op not in READ_ONLY:
@@ -329,11 +336,11 @@ class X86(Machine):
             if kind == "memory" and size and size > 64:
                 self.must_be_aligned(self.address(what), size // 8)
 
-    def fill(self):
-        """So many words of memory; the caller has cleared the flag of direction."""
+    def fill(self, size):
+        """So many numbers in memory; the caller has cleared the flag of direction."""
         for _ in range(known(self.registers["rcx"], "a number of words")):
-            self.store(self.registers["rdi"], self.registers["rax"])
-            self.registers["rdi"] = add(self.registers["rdi"], number(8))
+            self.store(self.registers["rdi"], cut(self.registers["rax"], 0, 8 * size))
+            self.registers["rdi"] = add(self.registers["rdi"], number(size))
         self.registers["rcx"] = number(0)
 
     def jump(self, op, target):
