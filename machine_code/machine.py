@@ -66,8 +66,10 @@ class Array:
         if not set(linear(self.at)[1]) <= set(linear(address)[1]):
             return None
         offset = sub(address, self.at)
-        before, behind = gap_of(self.first, offset), gap_of(add(offset, number(size)), self.length)
-        return offset if before and behind and is_not_negative(*before) and is_not_negative(*behind) else None
+        before, behind = gap_of(self.first, offset), gap_of(offset, self.length)
+        if before and behind and is_not_negative(*before) and is_not_negative(behind[0] - size, behind[1]):
+            return offset
+        return None
 
     def must_not_overlap(self, offset, size):
         """What is written at offsets that are made of other unknowns is elsewhere."""

@@ -12,8 +12,9 @@ import library
 import loops
 import pytest
 import texts
+from machine import Array
 from test_checks import COMPILERS, SHIPPED, TEXT, library_of, tools  # noqa: F401 (fixtures)
-from values import Stop, complement, cut, number, number_in
+from values import Stop, add, complement, cut, extend, mul, number, number_in, sub, unknown
 
 ASSEMBLERS = {
     "x86-64": ["as"], "aarch64": ["aarch64-linux-gnu-as"], "Windows": ["x86_64-w64-mingw32-as"],
@@ -102,6 +103,63 @@ def test_a_move_of_64_bits_clears_the_rest_of_a_vector(need, tmp_path):
     run.go()
     before, after = run.registers["ymm0"], run.registers["ymm1"]
     assert cut(after, 0, 64) == cut(before, 0, 64) and number_in(cut(after, 64, 64)) == 0
+
+
+# ---- arrays, of which a call gets so many bytes as an unknown says
+
+N = extend(unknown("bytes", 40, 64))
+
+
+def array(is_writable=True):
+    return Array("array", calls.out, N, is_writable)
+
+
+@pytest.mark.parametrize("offset, size, is_within", [
+    (number(0), 64, True), (number(1), 64, False), (number(-1), 2, False), (sub(N, number(8)), 8, True), (sub(N, number(8)), 9, False),
+    (N, 1, False), (extend(unknown("any", 41)), 1, False),
+])
+def test_an_access_is_within_an_array(offset, size, is_within):
+    assert (array().offset_of(add(calls.out, offset), size) is not None) == is_within
+    assert array().offset_of(add(calls.input, offset), size) is None
+
+
+@pytest.mark.parametrize("values, reason", [
+    ([1, 2, 4], "not what the definitions"), ([1, 2, 3, 4], "not all"), ([1, 2], "more"), ([], "more"), ([1, 2, 3], None)])
+def test_what_a_loop_writes_is_compared(values, reason):
+    written = array()
+    for i in range(3):
+        written.store(number(i), number(i + 1, 8))
+    if not reason:
+        return written.must_have_written([number(n, 8) for n in values])
+    with pytest.raises(Stop, match=reason):
+        written.must_have_written([number(n, 8) for n in values])
+
+
+def test_accesses_that_perhaps_overlap_are_refused():
+    written, far = array(), extend(unknown("far", 30))
+    written.store(add(far, number(8)), unknown("two", 16))
+    for offset in add(far, number(6)), add(far, number(10)), add(mul(far, number(2)), number(10)):
+        assert [bit for _, bit in written.load(offset, 2)] == [0, 0]
+    assert [bit for _, bit in written.load(add(far, number(8)), 2)] == [0, 8]
+    for offset in number(8), add(mul(far, number(2)), number(9)):
+        with pytest.raises(Stop, match="overlaps"):
+            written.load(offset, 2)
+
+
+def test_an_array_that_is_only_read_is_not_written(need, tmp_path):
+    need("as")
+    machine = machine_of("x86-64", f"mov [rdi], rcx; {VERSION}", tmp_path)
+    for is_writable in (True, False):
+        run = machine()
+        run.give(array(is_writable))
+        run.begin("sketch_hash_version", [calls.out])
+        if is_writable:
+            run.go()
+        else:
+            with pytest.raises(Stop, match="may only read"):
+                run.go()
+    with pytest.raises(Stop, match="does not have"):
+        machine().begin("sketch_other", [])
 
 
 # ---- each operation with another result
