@@ -2,8 +2,8 @@
 import functools
 
 from values import (Stop, Undecided, add, are_equal, bitwise, complement, cut, extend, facts, gap_of, greatest, is_below,
-                    is_not_negative, join, kinds, known, linear, number, number_in, power_of_two, signed, sub, total,
-                    unknown, width_of)
+                    is_not_negative, join, known, linear, number, number_in, power_of_two, signed, sub, total,
+                    unknown, unknowns_in, width_of)
 
 CALLER = number(0xCA11E4)  # where a call returns to
 STACK = 4096  # how much of it a call may use
@@ -36,12 +36,6 @@ def place_of(address):
 
 class Setting(Undecided):
     """A choice by what is the same in all of a call: the stack pointer modulo 64, or a static flag of the library."""
-
-
-def depends_on_static(zero):
-    """Whether this says of a static flag if it is 0."""
-    what, value = kinds[zero[0][0]]
-    return what == "is zero" and all(kinds[a][0] == "unknown" and kinds[a][1][0] == "static" for a, _, _ in value)
 
 
 class Array:
@@ -250,7 +244,7 @@ class Machine:
             raise Undecided("a sign", *(({self.condition("s"): number(n, 1)}, []) for n in (0, 1)))
         if number_in(bit) is None and name in ("e", "ne"):
             zero, value = self.condition("e"), self.flags[3]
-            kind = Setting if depends_on_static(zero) else Undecided
+            kind = Setting if all(name[0] == "static" for name in unknowns_in(zero)) else Undecided
             raise kind("whether a value is 0", ({zero: number(1, 1), value: number(0)}, []), ({zero: number(0, 1)}, []))
         return known(bit, "a branch")
 

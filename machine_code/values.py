@@ -67,6 +67,18 @@ def unknown(name, width, least=0):
     return atom(("unknown", name, width, least), width, least)
 
 
+def unknowns_in(value):
+    """The names of the unknowns that a value is made of."""
+    found = set()
+    for kind, *parts in [kinds[a] for a, _, _ in value if a != NUMBER]:
+        if kind == "unknown":
+            found.add(parts[0])
+        else:
+            operands = [(piece,) for piece, _ in parts[1]] if kind == "sum" else parts[2] if kind in BITS else parts
+            found = found.union(*map(unknowns_in, operands))
+    return found
+
+
 def number(n, width=64):
     return ((NUMBER, n % (1 << width), width),) if width else ()
 

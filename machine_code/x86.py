@@ -121,6 +121,13 @@ def interleaved(size, half):
     return run
 
 
+def shuffled(x, y, order):
+    """Two lanes of x, and then two of y."""
+    of_128_bits(x)
+    lane = [known(order, "an order") >> 2 * i & 3 for i in range(4)]
+    return join(*(cut(x if i < 2 else y, 32 * lane[i], 32) for i in range(4)))
+
+
 def shuffled_bytes(x, order):
     of_128_bits(x)
     places = [known(cut(order, at, 8), "an order") for at in range(0, 128, 8)]
@@ -202,7 +209,8 @@ OPERATIONS = {
     "punpckhdq": plain(interleaved(32, 1)), "punpcklqdq": plain(interleaved(64, 0)), "punpckhqdq": plain(interleaved(64, 1)),
     "movhlps": plain(lambda x, y: join(cut(y, 64, 64), cut(x, 64, 64))), "pshufb": plain(shuffled_bytes),
     "movlhps": plain(lambda x, y: join(cut(x, 0, 64), cut(y, 0, 64))), "psrldq": plain(shifted_bytes),
-    "pblendd": plain(blended), "pblendvb": plain(chosen(8)), "blendvps": plain(chosen(32)), "pinsrb": plain(inserted(8)),
+    "movss": plain(lambda x, y: join(cut(y, 0, 32), cut(x, 32, width_of(x) - 32))), "shufps": plain(shuffled),
+    "movsd": plain(lambda x, y: join(cut(y, 0, 64), cut(x, 64, width_of(x) - 64))), "pblendd": plain(blended), "pblendvb": plain(chosen(8)), "blendvps": plain(chosen(32)), "pinsrb": plain(inserted(8)),
     "pinsrd": plain(inserted(32)), "pinsrq": plain(inserted(64)), "pmovzxdq": plain(extended_lanes(32, 64)),
     "pmovzxbd": plain(extended_lanes(8, 32)), "pmovsxbd": plain(extended_lanes(8, 32, True)),
     "psrad": plain(lambda x, n: lanes(32, lambda lane: arithmetic(lane, n), x)), "psubb": lanewise(8, sub),
@@ -234,7 +242,7 @@ READ_ONLY = "cmp", "test", "ptest", "vptest"  # the first operand is not written
 # The first operand is not read.
 WRITTEN = {*"mov movabs movzx movd movq movups movdqu movaps movdqa cvttps2dq pmovmskb movmskps lea".split(),
            "pmovzxdq", "pmovzxbd", "pmovsxbd"}
-BY_PLACE = "shld", "shrd", "pinsrb", "pinsrd", "pinsrq"  # three operands, of which the first is read
+BY_PLACE = "shld", "shrd", "pinsrb", "pinsrd", "pinsrq", "shufps"  # three operands, of which the first is read
 FILLS = {f"stos {name} PTR es:[rdi],{register}": size
          for name, register, size in (("BYTE", "al", 1), ("DWORD", "eax", 4), ("QWORD", "rax", 8))}
 UNALIGNED = "movups", "movdqu"
@@ -315,6 +323,8 @@ class X86(Machine):
             raise Stop("the instruction is not known")
         operands = decode(text)
         width = max(item[2] or 0 for item in operands)
+        if name in ("movss", "movsd") and "PTR" in text:  # to memory or from there it is a move
+            name = {"movss": "movd", "movsd": "movq"}[name]
         skips = is_avx or name in WRITTEN or len(operands) == 3 and name not in BY_PLACE
         skips &= op not in READ_ONLY
         if name not in UNALIGNED and (not is_avx or name in ("movaps", "movdqa")):
