@@ -6,6 +6,7 @@ import subprocess
 import tempfile
 
 ARM = 183, 0x100000C  # the numbers of aarch64 in ELF and Mach-O; each PE here is for x86-64
+BASE = 1 << 40  # where a loader maps the file: so that a number that is near 0 is no address of it
 DISASSEMBLE = {
     "x86-64": ["objdump", "-m", "i386:x86-64", "-M", "intel"],
     "aarch64": ["aarch64-linux-gnu-objdump", "-m", "aarch64"],
@@ -48,15 +49,15 @@ class Library:
         for at in range(programs, programs + size * count, size):
             kind, flags, offset, address, _, length = self.unpack("IIQQQQ", at)
             if kind == 1 and not flags & 2:  # loaded, and not writable
-                self.add(flags & 1, (address, offset, length))
+                self.add(flags & 1, (BASE + address, offset, length))
             elif kind == 1:
-                self.statics.append(range(address, address + self.unpack("Q", at + 40)[0]))
+                self.statics.append(range(BASE + address, BASE + address + self.unpack("Q", at + 40)[0]))
         headers = [self.unpack("IIQQQQI", sections + 64 * i) for i in range(section_count)]
         for _, kind, _, _, offset, length, link in headers:
             if kind == 11:  # the symbols that a program can name
                 for name, _, _, section, value, _ in struct.iter_unpack("<IBBHQQ", self.data[offset : offset + length]):
                     if section:
-                        self.functions[self.text(headers[link][4] + name)] = value
+                        self.functions[self.text(headers[link][4] + name)] = BASE + value
         return self.unpack("H", 18)[0]
 
     def read_pe(self):
@@ -85,12 +86,12 @@ class Library:
             if command == 0x19 and not self.unpack("I", at + 60)[0] & 2:  # a segment that is not writable
                 for section in range(at + 72, at + size, 80):
                     place = self.unpack("QQI", section + 32)
-                    self.add(self.unpack("I", section + 64)[0] >> 31, (place[0], place[2], place[1]))
+                    self.add(self.unpack("I", section + 64)[0] >> 31, (BASE + place[0], place[2], place[1]))
             if command == 2:  # symbols
                 symbols, count, names = self.unpack("3I", at + 8)
                 for name, kind, _, _, value in struct.iter_unpack("<IBBHQ", self.data[symbols : symbols + 16 * count]):
                     if kind & 0xF == 0xF:
-                        self.functions[self.text(names + name + 1)] = value
+                        self.functions[self.text(names + name + 1)] = BASE + value
             at += size
         return self.unpack("I", 4)[0]
 

@@ -72,6 +72,12 @@ WRONG = [
     ("x86-64", f"1: jmp 1b; {VERSION}", "no end"), ("x86-64", f"jmp rcx; {VERSION}", ""), ("x86-64", "ud2", "not known"),
     ("x86-64", f"std; {VERSION}", "not known"), ("x86-64", f"mov ah, 1; {VERSION}", ""),
     ("x86-64", f"push rbp; mov rbp, rsp; and rsp, -32; movaps [rsp-8], xmm0; mov rsp, rbp; pop rbp; {VERSION}", "not aligned"),
+    ("x86-64", f"mov rcx, ds:16; {VERSION}", ""), ("x86-64", f"xor ecx, ecx; mov rcx, [rcx+16]; {VERSION}", "outside"),
+    ("x86-64", f"mov edx, 2; mov ecx, edi; shl edx, cl; {VERSION}", "a shift"),
+    ("x86-64", f"cvttps2dq xmm0, xmm1; {VERSION}", "power of two"), ("x86-64", f"vpshufd ymm0, ymm1, 1; {VERSION}", "256 bits"),
+    ("x86-64", f"mov eax, {calls.VERSION}; ret 8", "takes more"),
+    ("x86-64", f"vpsllvd xmm0, xmm1, xmm2; {VERSION}", "a shift that"),
+    ("aarch64", f"rbit x1, x0; {ARM}", "is not known"),
     ("aarch64", f"mov x19, x0; {ARM}", "x19 is not restored"), ("aarch64", f"fmov d8, d0; {ARM}", "v8 is not restored"),
     ("aarch64", f"sub sp, sp, #16; {ARM}", "the stack pointer is not restored"),
     ("aarch64", f"str x0, [sp, #-16]; {ARM}", "outside"),
@@ -115,8 +121,8 @@ def array(is_writable=True):
 
 
 @pytest.mark.parametrize("offset, size, is_within", [
-    (number(0), 64, True), (number(1), 64, False), (number(-1), 2, False), (sub(N, number(8)), 8, True), (sub(N, number(8)), 9, False),
-    (N, 1, False), (extend(unknown("any", 41)), 1, False),
+    (number(0), 64, True), (number(1), 64, False), (number(-1), 2, False), (sub(N, number(8)), 8, True),
+    (sub(N, number(8)), 9, False), (N, 1, False), (extend(unknown("any", 41)), 1, False),
 ])
 def test_an_access_is_within_an_array(offset, size, is_within):
     assert (array().offset_of(add(calls.out, offset), size) is not None) == is_within
