@@ -3,10 +3,10 @@ import functools
 import re
 
 from machine import CALLER, Machine, logic, plain, shift_one
-from values import (Stop, add, bitwise, complement, cut, extend, join, known, lanes, mul, number, rotate_right, shift_left,
-                    shift_right, sub, unknown, width_of)
+from values import (Stop, add, bitwise, complement, cut, extend, is_zero, join, known, lanes, mul, number, number_in,
+                    rotate_right, shift_left, shift_right, sub, unknown, width_of)
 
-CONDITIONS = {"eq": "e", "ne": "ne", "cc": "b", "cs": "ae", "hi": "a", "ls": "be"}
+CONDITIONS = {"eq": "e", "ne": "ne", "cc": "b", "cs": "ae", "hi": "a", "ls": "be", "mi": "s", "pl": "ns", "lt": "l", "ge": "ge"}
 WIDTHS = {"b": 8, "h": 16, "s": 32, "d": 64, "q": 128, "w": 32, "x": 64}
 
 
@@ -18,6 +18,41 @@ def split(text):
 
 def shift(function):
     return lambda m, x, n: function(x, known(cut(n, 0, 6 if width_of(x) == 64 else 5), "a shift"))
+
+
+def shift_by_any(function):
+    """An unknown number shifts 1 alone."""
+    def run(m, x, n):
+        if number_in(n) is None and function is shift_left and width_of(x) == 32:
+            return shift_one(x, extend(cut(n, 0, 5), 32))
+        return function(x, known(cut(n, 0, 6 if width_of(x) == 64 else 5), "a shift"))
+
+    return run
+
+
+def shift_lane(x, n):
+    """To the left, or to the right by a negative number: the lowest byte of the other lane."""
+    count = number_in(cut(n, 0, 8))
+    if count is None:
+        return shift_one(x, n)
+    count = count - 256 if count > 127 else count
+    if abs(count) >= width_of(x):
+        return number(0, width_of(x))
+    return shift_left(x, count) if count >= 0 else shift_right(x, -count)
+
+
+def signed_byte(x):
+    return join(cut(x, 0, 8), *[cut(x, 7, 1)] * (width_of(x) - 8))
+
+
+def field(x, y, at, width):
+    """x with so many bits of y at a place."""
+    return join(cut(x, 0, at), cut(y, 0, width), cut(x, at + width, width_of(x) - at - width))
+
+
+def in_zeros(function):
+    """Of a field of y, x being 0: `function` gives it."""
+    return lambda m, y, at, width: function(y, known(at, "a place"), known(width, "a width"))
 
 
 def plus_one(x):
@@ -32,24 +67,36 @@ def add_with_carry(m, x, y):
 # What an instruction computes from its operands but the first, which it writes. Those of vectors do it for each lane.
 OPERATIONS = {
     "add": plain(add), "sub": plain(sub), "mul": plain(mul), "madd": plain(lambda x, y, z: add(mul(x, y), z)),
-    "adds": Machine.sum, "subs": Machine.subtract, "cmp": Machine.subtract, "adc": add_with_carry,
+    "adcs": lambda m, x, y: m.compare(None, x, y, add_with_carry(m, x, y)), "adc": add_with_carry,
+    "adds": Machine.sum, "subs": Machine.subtract, "cmp": Machine.subtract,
     "neg": plain(lambda x: sub(number(0, width_of(x)), x)), "mvn": plain(complement),
     "bic": lambda m, x, y: bitwise("and", x, complement(y)),
-    "ands": logic("and"), "tst": logic("and"), "lsl": shift(shift_left), "lsr": shift(shift_right), "ror": shift(rotate_right),
+    "orn": plain(lambda x, y: bitwise("or", x, complement(y))), "eon": plain(lambda x, y: bitwise("xor", x, complement(y))),
+    "ubfx": in_zeros(lambda y, at, width: extend(cut(y, at, width), width_of(y))),
+    "sbfx": in_zeros(lambda y, at, width: join(cut(y, at, width), *[cut(y, at + width - 1, 1)] * (width_of(y) - width))),
+    "ubfiz": in_zeros(lambda y, at, width: field(number(0, width_of(y)), y, at, width)),
+    "extr": plain(lambda x, y, n: cut(join(y, x), known(n, "a place"), width_of(x))),
+    "cinc": lambda m, x, holds: plus_one(x) if holds else x, "sxtb": plain(lambda x: signed_byte(x)),
+    "cneg": lambda m, x, holds: sub(number(0, width_of(x)), x) if holds else x,
+    "ands": logic("and"), "tst": logic("and"), "lsl": shift_by_any(shift_left),
+    "lsr": shift_by_any(shift_right), "ror": shift(rotate_right),
     "csel": lambda m, x, y, holds: x if holds else y, "csinc": lambda m, x, y, holds: x if holds else plus_one(y),
     "cset": plain(lambda bit: bit), "csetm": lambda m, holds: number(-holds),
-    "ushl": plain(shift_one), "ushr": shift(shift_right),
+    "ushl": plain(shift_lane), "sshl": plain(shift_lane), "ushr": shift(shift_right), "shl": shift(shift_left),
+    "cmeq": plain(lambda x, y: join(*[is_zero(bitwise("xor", x, y))] * width_of(x))),
 }
-OPERATIONS |= dict.fromkeys(("mov", "fmov", "adrp"), plain(lambda x: x))
+OPERATIONS |= dict.fromkeys(("mov", "fmov", "adrp", "adr", "umov"), plain(lambda x: x))
 OPERATIONS |= {name: plain(functools.partial(bitwise, op)) for name, op in (("and", "and"), ("orr", "or"), ("eor", "xor"))}
 
 
 class Aarch64(Machine):
+    operations, comparisons, name_of = OPERATIONS, ("cmp", "tst"), staticmethod(str)
     pointer, popped, entry = "sp", 0, 0
 
     def set_up(self):
         self.red_zone = 128 if self.library.format == "macho" else 0
-        self.kept = dict.fromkeys([f"x{n}" for n in range(18, 30)], 64) | dict.fromkeys([f"v{n}" for n in range(8, 16)], 64)
+        own = 18 if self.library.format == "macho" else 19  # Apple's systems own x18
+        self.kept = dict.fromkeys([f"x{n}" for n in range(own, 30)], 64) | dict.fromkeys([f"v{n}" for n in range(8, 16)], 64)
         self.registers = {f"x{n}": unknown(("before", n), 64) for n in range(31)}
         self.registers |= {f"v{n}": unknown(("before", "v", n), 128) for n in range(32)}
         self.registers |= {"x30": CALLER, "sp": self.stack}
@@ -65,7 +112,7 @@ class Aarch64(Machine):
 
     def register(self, name):
         """The register, and how many bits of it a name is for: v0.8b has 64 bits, v0.d[1] too."""
-        kind, index, lane, letter = re.fullmatch(r"([a-z])(\d+)(?:\.(\d*)([bhsd])(?:\[\d\])?)?", name).groups()
+        kind, index, lane, letter = re.fullmatch(r"([a-z])(\d+)(?:\.(\d*)([bhsd])(?:\[\d+\])?)?", name).groups()
         return ("x" if kind in "wx" else "v") + index, int(lane or 1) * WIDTHS[letter or kind]
 
     def read(self, text, width=64):
@@ -79,7 +126,7 @@ class Aarch64(Machine):
             value = self.registers["sp"] if name == "sp" else number(0, WIDTHS[name[0]])
         else:
             register, size = self.register(name)
-            place = re.search(r"\[(\d)\]", name)
+            place = re.search(r"\[(\d+)\]", name)
             value = cut(self.registers[register], size * int(place[1]) if place else 0, size)
         how, _, n = change.partition(" #")
         return OPERATIONS[how](self, value, number(int(n, 0))) if how else value
@@ -108,7 +155,7 @@ class Aarch64(Machine):
 
     def condition(self, name):
         """Those of a carry have x86-64's names only after a subtraction."""
-        if name in ("b", "be", "a", "ae") and (not self.flags or self.flags[0] != "sub"):
+        if name in ("b", "be", "a", "ae") and (not self.flags or self.flags[0] not in ("sub", "bits")):
             raise Stop("a carry that is not understood")
         return super().condition(name)
 
@@ -118,8 +165,12 @@ class Aarch64(Machine):
         operands = split(text)
         if op == "nop":
             return
-        if op in ("b", "bl", "ret", "cbz", "cbnz") or op[:2] == "b.":
+        if op in ("b", "bl", "ret", "cbz", "cbnz", "tbz", "tbnz") or op[:2] == "b.":
             self.jump(op, operands)
+        elif op in ("bfi", "bfxil"):
+            self.insert_field(op, *operands)
+        elif op == "ccmp":
+            self.compare_if(*operands)
         elif op[:2] in ("ld", "st"):
             self.access(op, operands)
         elif op == "movk":
@@ -127,13 +178,19 @@ class Aarch64(Machine):
             value, place = self.read(operands[0]), int(place or 0)
             part = self.read(operands[1].partition(",")[0], 16)
             self.write(operands[0], join(cut(value, 0, place), part, cut(value, place + 16, width_of(value) - place - 16)))
+        elif op in ("mov", "ins") and "[" in operands[0] and operands[0][0] == "v":
+            register, size = self.register(operands[0])
+            at = size * int(re.search(r"\[(\d+)\]", operands[0])[1])
+            self.registers[register] = field(self.registers[register], self.read(operands[1]), at, size)
         elif operands[0][0] == "v":
             self.write(operands[0], self.vector(op, operands))
         else:
             width = width_of(self.read(operands[0]))
-            values = [self.read(it, width) for it in operands[op not in ("cmp", "tst") :]]
+            values = [self.read(item, width) for item in operands[op not in ("cmp", "tst") :]]
             if values[-1] in CONDITIONS.values():
                 values[-1] = self.condition(values[-1]) if op == "cset" else self.holds(values[-1])
+            if op not in OPERATIONS:
+                raise Stop("the instruction is not known")
             result = OPERATIONS[op](self, *values)
             if op not in ("cmp", "tst"):
                 self.write(operands[0], result)
@@ -147,37 +204,66 @@ class Aarch64(Machine):
             self.registers["x30"] = number(self.next)
         elif op[:2] == "b.":
             taken = self.holds(CONDITIONS[op[2:]])
-        elif op[:2] == "cb":
+        elif op[:2] in ("cb", "tb"):
             value = self.read(operands[0])
+            if op[0] == "t":
+                value = cut(value, int(operands[1].strip("#"), 0), 1)
             self.compare("logic", value, value, value)
-            taken, self.flags = self.holds("e" if op == "cbz" else "ne"), before
+            taken, self.flags = self.holds("e" if op in ("cbz", "tbz") else "ne"), before
         if taken:
             self.next = int(operands[-1], 16)
 
+    def insert_field(self, op, to, source, at, width):
+        x, y, at, width = self.read(to), self.read(source), int(at.strip("#"), 0), int(width.strip("#"), 0)
+        self.write(to, field(x, y, at, width) if op == "bfi" else field(x, cut(y, at, width), 0, width))
+
+    def compare_if(self, x, y, flags, name):
+        """Compares if a condition holds; else the flags N, Z, C, V are these. Of them Z and C are understood."""
+        if self.holds(CONDITIONS[name]):
+            first = self.read(x)
+            self.subtract(first, self.read(y, width_of(first)))
+        else:
+            bits = int(flags.strip("#"), 0)
+            self.flags = "bits", number(bits >> 2 & 1, 1), number(1 - (bits >> 1 & 1), 1), None
+
     def access(self, op, operands):
+        is_signed = op in ("ldrsb", "ldursb")
+        op = op.replace("sb", "b") if is_signed else op
         count = {"ldr": 1, "ldur": 1, "ldp": 2, "str": 1, "stur": 1, "stp": 2}[op.rstrip("bh")]
         names = operands[:count]
         size = WIDTHS[op[-1]] if op[-1] in "bh" else WIDTHS[names[0][0]]
-        values = [cut(self.read(it), 0, size) for it in names] if op[0] == "s" else []
+        values = [cut(self.read(item), 0, size) for item in names] if op[0] == "s" else []
         at, later = self.address(operands[count:])
         if values:
             self.store(at, join(*values))
         else:
             for i, name in enumerate(names):
-                self.write(name, self.load(add(at, number(size // 8 * i)), size // 8))
+                value = self.load(add(at, number(size // 8 * i)), size // 8)
+                self.write(name, signed_byte(extend(value, WIDTHS[name[0]])) if is_signed else value)
         if later:
             self.write(*later)
 
     def vector(self, op, operands):
         count, size = re.fullmatch(r"v\d+\.(\d+)(\w)", operands[0]).groups()
         count, size = int(count), WIDTHS[size]
-        values = [self.read(it, size if it[0] == "#" else 64) for it in operands[1:]]
+        values = [self.read(item, size if item[0] == "#" else 64) for item in operands[1:]]
+        if op == "mul" and "[" in operands[2]:  # by one lane
+            values[1] = join(*[values[1]] * count)
         if op in ("dup", "movi"):
             return join(*[cut(values[0], 0, size)] * count)
+        if op in ("uxtl", "uxtl2", "shll", "shll2"):
+            half = cut(values[0], width_of(values[0]) // 2 if op[-1] == "2" else 0, 64)
+            n = 0 if op[0] == "u" else known(values[1], "a shift")
+            return lanes(size // 2, lambda lane: shift_left(extend(lane, size), n), half)
+        if op == "mov":
+            return values[0]
+        if op == "bsl":
+            choice = self.read(operands[0])
+            return bitwise("or", bitwise("and", choice, values[0]), bitwise("and", complement(choice), values[1]))
         if op == "ext":
             return cut(join(*values[:2]), 8 * known(values[2], "a place"), count * size)
-        if op == "ushr" and known(values[1], "a shift") < size:
-            return lanes(size, lambda it: OPERATIONS[op](self, it, values[1]), values[0])
-        if op in ("add", "mul", "ushl"):
+        if op in ("ushr", "shl") and known(values[1], "a shift") < size:
+            return lanes(size, lambda item: OPERATIONS[op](self, item, values[1]), values[0])
+        if op in ("add", "sub", "mul", "ushl", "sshl", "cmeq"):
             return lanes(size, functools.partial(OPERATIONS[op], self), *values)
-        return {it: OPERATIONS[it] for it in ("and", "orr", "eor", "bic", "mvn")}[op](self, *values)
+        return {item: OPERATIONS[item] for item in ("and", "orr", "eor", "bic", "mvn", "orn")}[op](self, *values)

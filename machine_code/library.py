@@ -1,23 +1,30 @@
 """A shared library as it ships, ELF, PE or Mach-O: its functions, its instructions, and its memory that nobody can write."""
+import pathlib
 import re
 import struct
 import subprocess
 import tempfile
 
 ARM = 183, 0x100000C  # the numbers of aarch64 in ELF and Mach-O; each PE here is for x86-64
+BASE = 1 << 40  # where a loader maps the file: so that a number that is near 0 is no address of it
 DISASSEMBLE = {
     "x86-64": ["objdump", "-m", "i386:x86-64", "-M", "intel"],
     "aarch64": ["aarch64-linux-gnu-objdump", "-m", "aarch64"],
 }
 
 
+# By the bytes with which their object files begin.
+ELF = b"\x7fELF\2\1\1" + bytes(9) + b"\1\0"
+LINKERS = {ELF + b"\x3e\0": "ld", ELF + b"\xb7\0": "aarch64-linux-gnu-ld", b"\x64\x86": "x86_64-w64-mingw32-ld"}
+
+
 class Library:
     """`functions` are addresses by name. `instructions` are, by address, a mnemonic, operands, and the next address."""
 
     def __init__(self, data):
-        self.data, self.functions, self.read_only, self.code = data, {}, [], []
+        self.data, self.functions, self.read_only, self.code, self.statics = data, {}, [], [], []
         magics = {b"\x7fELF": self.read_elf, b"MZ": self.read_pe, b"\xcf\xfa\xed\xfe": self.read_macho}
-        (read,) = (it for magic, it in magics.items() if data.startswith(magic))
+        (read,) = (item for magic, item in magics.items() if data.startswith(magic))
         self.format = read.__name__.partition("_")[2]
         self.processor = "aarch64" if read() in ARM else "x86-64"
         self.instructions = {}
@@ -42,13 +49,15 @@ class Library:
         for at in range(programs, programs + size * count, size):
             kind, flags, offset, address, _, length = self.unpack("IIQQQQ", at)
             if kind == 1 and not flags & 2:  # loaded, and not writable
-                self.add(flags & 1, (address, offset, length))
+                self.add(flags & 1, (BASE + address, offset, length))
+            elif kind == 1:
+                self.statics.append(range(BASE + address, BASE + address + self.unpack("Q", at + 40)[0]))
         headers = [self.unpack("IIQQQQI", sections + 64 * i) for i in range(section_count)]
         for _, kind, _, _, offset, length, link in headers:
             if kind == 11:  # the symbols that a program can name
                 for name, _, _, section, value, _ in struct.iter_unpack("<IBBHQQ", self.data[offset : offset + length]):
                     if section:
-                        self.functions[self.text(headers[link][4] + name)] = value
+                        self.functions[self.text(headers[link][4] + name)] = BASE + value
         return self.unpack("H", 18)[0]
 
     def read_pe(self):
@@ -77,12 +86,12 @@ class Library:
             if command == 0x19 and not self.unpack("I", at + 60)[0] & 2:  # a segment that is not writable
                 for section in range(at + 72, at + size, 80):
                     place = self.unpack("QQI", section + 32)
-                    self.add(self.unpack("I", section + 64)[0] >> 31, (place[0], place[2], place[1]))
+                    self.add(self.unpack("I", section + 64)[0] >> 31, (BASE + place[0], place[2], place[1]))
             if command == 2:  # symbols
                 symbols, count, names = self.unpack("3I", at + 8)
                 for name, kind, _, _, value in struct.iter_unpack("<IBBHQ", self.data[symbols : symbols + 16 * count]):
                     if kind & 0xF == 0xF:
-                        self.functions[self.text(names + name + 1)] = value
+                        self.functions[self.text(names + name + 1)] = BASE + value
             at += size
         return self.unpack("I", 4)[0]
 
@@ -99,3 +108,16 @@ class Library:
     def offset_of(self, address):
         """Where a byte of read-only memory is in the file, or None."""
         return next((offset + address - at for at, offset, size in self.read_only if at <= address < at + size), None)
+
+
+def read(path):
+    """A shared library; or an archive or an object file, as a linker makes one of it."""
+    data = path.read_bytes()
+    is_object = data.startswith(b"\x7fELF") and data[16:18] == b"\1\0"
+    if not is_object and not data.startswith(b"!<arch>"):
+        return Library(data)
+    linker = next(name for magic, name in LINKERS.items() if magic in data)
+    with tempfile.TemporaryDirectory() as tmp:
+        command = [linker, "-shared", "-o", f"{tmp}/linked", "--whole-archive", path]
+        subprocess.run(command, check=True)
+        return Library(pathlib.Path(tmp, "linked").read_bytes())

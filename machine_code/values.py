@@ -5,26 +5,54 @@ bit `low` on, and (NUMBER, n, width) is the number n. An atom is an unknown, or 
 simpler; it is known by what it is made of. Each rule gives a value that is equal to what it was made from. Equal values
 may keep different forms: then a comparison fails that should not. Different values never get one form.
 """
+import contextlib
 import functools
 import itertools
+import math
 
 NUMBER = -1
 WORD = 1 << 64
 BITS = {"and": lambda x, y: x & y, "or": lambda x, y: x | y, "xor": lambda x, y: x ^ y}
 kinds, ranges, indices = [], [], {}  # of each atom: what it is made of, its least and greatest value; and its index
-facts = {}  # what the present path assumes: values, and what they equal
+assumed = []  # what the present path assumes, as pairs of the next two
+facts = {}  # values, and what they equal
+bounds = []  # sums, each as a number and factors of pieces, that are not negative as integers
 remember = functools.lru_cache(1 << 16)
-
-
-def assume(equalities):
-    facts.clear()
-    facts.update(equalities)
-    for it in (part_of, linear, add, mul):
-        it.cache_clear()
 
 
 class Stop(Exception):
     """The code does what is not allowed, or what is not understood."""
+
+
+class Undecided(Stop):
+    """A choice that depends on unknowns. `ways` are the facts of either path: pairs of equalities and of bounds."""
+
+    def __init__(self, what, *ways):
+        super().__init__(f"a choice depends on an unknown: {what}")
+        self.ways = ways
+
+
+@contextlib.contextmanager
+def assuming(ways=()):
+    """Within it these facts hold too. What `assume` adds there is forgotten at its end."""
+    before = list(assumed)
+    try:
+        assume([*before, *ways])
+        yield
+    finally:
+        assume(before)
+
+
+def assume(ways):
+    """From now on these facts hold, and no others."""
+    assumed[:] = ways
+    equalities = dict(pair for way in ways for pair in way[0].items())
+    bounds[:] = [bound for way in ways for bound in way[1]]
+    if equalities != facts:
+        facts.clear()
+        facts.update(equalities)
+        for function in (part_of, linear, add, mul):
+            function.cache_clear()
 
 
 def atom(kind, width, least=0, most=None):
@@ -37,6 +65,18 @@ def atom(kind, width, least=0, most=None):
 
 def unknown(name, width, least=0):
     return atom(("unknown", name, width, least), width, least)
+
+
+def unknowns_in(value):
+    """The names of the unknowns that a value is made of."""
+    found = set()
+    for kind, *parts in [kinds[a] for a, _, _ in value if a != NUMBER]:
+        if kind == "unknown":
+            found.add(parts[0])
+        else:
+            operands = [(piece,) for piece, _ in parts[1]] if kind == "sum" else parts[2] if kind in BITS else parts
+            found = found.union(*map(unknowns_in, operands))
+    return found
 
 
 def number(n, width=64):
@@ -116,8 +156,10 @@ def rotate_right(value, n):
 
 def lanes(size, function, *values):
     """A function of each lane of some values, or of a value and numbers."""
-    split = [itertools.repeat(it) if isinstance(it, int) else [cut(it, at, size) for at in range(0, width_of(it), size)]
-             for it in values]
+    split = [itertools.repeat(item) if isinstance(item, int) else [cut(item, at, size) for at in range(0, width_of(item), size)]
+             for item in values]
+    if len({len(lane) for lane in split if isinstance(lane, list)}) != 1:
+        raise Stop("vectors of different lengths")
     return join(*map(function, *split))
 
 
@@ -159,15 +201,43 @@ def signed(n):
     return (n + WORD // 2) % WORD - WORD // 2
 
 
-def exact(n, factors):
+def exact(n, factors, uses_bounds=False):
     """The same number and factors as integers whose sum is from 0 to 2^64 - 1, so that nothing is lost modulo 2^64; and its
-    least and greatest value. None if there are none."""
+    least and greatest value. None if there are none. What an atom is made of must not depend on bounds, which a path has."""
     for reading, more in ((lambda k: k % WORD, 0), (signed, 0), (signed, WORD)):
         own = {piece: reading(factor) for piece, factor in factors.items()}
         least, most = limits(reading(n) + more, own)
-        if 0 <= least and most < WORD:
+        if most < WORD and (least >= 0 or uses_bounds and is_not_negative(reading(n) + more, own)):
             return reading(n) + more, own, least, most
     return None
+
+
+def is_not_negative(n, factors, depth=2):
+    """Whether this sum of integers is not negative: by the ranges of its pieces, or since it exceeds sums that are not."""
+    n, factors = in_lowest_terms(n, factors)
+    if limits(n, factors)[0] >= 0:
+        return True
+    if depth == 0:
+        return False
+    for m, others in bounds:
+        for times in {factors[piece] // factor for piece, factor in others.items() if factors.get(piece, 0) * factor > 0}:
+            multiple = times * m, {piece: times * factor for piece, factor in others.items()}
+            if times > 0 and is_not_negative(*difference((n, factors), multiple), depth - 1):
+                return True
+    return False
+
+
+def in_lowest_terms(n, factors):
+    """A sum that is negative exactly where this one is."""
+    common = math.gcd(*factors.values()) or 1
+    return n // common, {piece: factor // common for piece, factor in factors.items()}
+
+
+def difference(one, other):
+    """Of two sums of integers."""
+    (n, factors), (m, others) = one, other
+    gap = {piece: factors.get(piece, 0) - others.get(piece, 0) for piece in {**factors, **others}}
+    return n - m, {piece: factor for piece, factor in gap.items() if factor}
 
 
 def limits(n, factors):
@@ -202,17 +272,18 @@ def total(n, factors):
             del factors[other]
             collect(factors, one[0], one[1], one[2] + other[2], factors.pop(one))
             return total(n + factors.pop(None, 0), factors)
-    bits = functools.reduce(lambda x, y: x | y, factors.values(), n)
+    bits = functools.reduce(lambda x, y: x | y, factors.values())
     common = (bits & -bits).bit_length() - 1
-    if common:
-        return shift_left(total(signed(n) >> common, {it: signed(factor) >> common for it, factor in factors.items()}), common)
+    if common:  # no piece reaches the lowest bits: they are the number's
+        above = total(signed(n) >> common, {piece: signed(factor) >> common for piece, factor in factors.items()})
+        return join(number(n, common), cut(above, 0, 64 - common))
     return side_by_side(n, factors) or sum_atom(n, factors)
 
 
 def side_by_side(n, factors):
     """The pieces as bits of one value, if no two of them, and no bit of the number, overlap; else None."""
     out, at = [], 0
-    for piece, factor in sorted(factors.items(), key=lambda it: it[1]):
+    for piece, factor in sorted(factors.items(), key=lambda item: item[1]):
         place = factor.bit_length() - 1
         if factor != 1 << place or place < at:
             return None
@@ -258,14 +329,35 @@ def mul(x, y):
 
 
 def is_below(x, y):
-    """Whether x is the smaller one, if that depends on no unknown."""
-    x, y = exact(*linear(extend(x))), exact(*linear(extend(y)))
-    if x and y:
-        gap = {piece: y[1].get(piece, 0) - x[1].get(piece, 0) for piece in {**x[1], **y[1]}}
-        least, most = limits(y[0] - x[0], gap)
-        if least > 0 or most <= 0:
-            return least > 0
-    raise Stop("which of two numbers is the smaller one depends on an unknown")
+    """Whether x is the smaller one."""
+    question, gap = ("is below", x, y), gap_of(x, y)
+    above, below = ((gap[0] - 1, gap[1]), difference((0, {}), gap)) if gap else (None, None)
+    for answer, bound in ((True, above), (False, below)):
+        if facts.get(question) == answer or bound and is_not_negative(*bound):
+            return answer
+    raise Undecided("which of two numbers is the smaller one", *(
+        ({question: answer}, [in_lowest_terms(*bound)] if bound else []) for answer, bound in ((True, above), (False, below))))
+
+
+def assume_at_most(x, y, less=0):
+    """From now on x is at most y, less a number."""
+    n, factors = gap_of(x, y)
+    assume([*assumed, ({}, [in_lowest_terms(n - less, factors)])])
+
+
+def gap_of(x, y):
+    """y - x as a sum of integers, or None if it is not known whether one of them wraps."""
+    x, y = exact(*linear(extend(x)), True), exact(*linear(extend(y)), True)
+    return difference(y[:2], x[:2]) if x and y else None
+
+
+def are_equal(x, y):
+    """One bit. It is 0 if y - x or x - y is never 0 as an integer."""
+    bit, gap = is_zero(sub(x, y)), gap_of(x, y)
+    gaps = (gap, difference((0, {}), gap)) if gap and number_in(bit) is None else ()
+    if any(is_not_negative(n - 1, factors) for n, factors in gaps):
+        return number(0, 1)
+    return bit if number_in(bit) is not None else is_zero(bitwise("xor", x, y))
 
 
 # ---- bit by bit
@@ -310,7 +402,7 @@ def operation(op, operands, width):
             n ^= kinds[a][2]
             todo += kinds[a][3]
         elif kinds[a][0] == op:  # some of its bits
-            parts = [cut(it, low, width) for it in kinds[a][3]] + [number(kinds[a][2] >> low, width)] * (op == "xor")
+            parts = [cut(item, low, width) for item in kinds[a][3]] + [number(kinds[a][2] >> low, width)] * (op == "xor")
             rest = [number(n, width)] * (op == "xor") + [*members, *todo]
             return functools.reduce(functools.partial(bitwise, op), parts + rest)
         else:
@@ -333,12 +425,12 @@ def is_zero(value):
                 return number(0, 1)
             kind = kinds[a] if a != NUMBER else (None,)
             if kind[0] == "or":
-                todo += [cut(it, low, width) for it in kind[3]]
+                todo += [cut(item, low, width) for item in kind[3]]
             elif kind[:3] == ("xor", 1, 1) and len(kind[3]) == 1 and kinds[kind[3][0][0][0]][0] == "is zero":
                 todo.append(kinds[kind[3][0][0][0]][1])  # "it is not 0" is 0 if it is 0
             elif a != NUMBER:
                 pieces.add((a, low, width))
     if not pieces:
         return number(1, 1)
-    result = atom(("is zero", join(*((it,) for it in sorted(pieces)))), 1)
+    result = atom(("is zero", join(*((item,) for item in sorted(pieces)))), 1)
     return facts.get(result, result)

@@ -12,7 +12,7 @@ import sys
 
 from values import add, bitwise, cut, extend, is_below, join, mul, number, number_in, shift_right, sub
 
-CRATES = pathlib.Path(__file__).parents[2] / "crates"
+CRATES = pathlib.Path(__file__).parents[1] / "crates"
 TOKEN = re.compile(r'\s*(0x[0-9A-Fa-f]+|\d+|"[^"]*"|[^\W\d]\w*|\.\w+|\[\]|\+\+|==|\S)')
 sys.setrecursionlimit(10_000)  # definitions call themselves for each of 256 inputs
 LEVELS = [["≡"], ["=="], ["∷", "++"], ["+", "-"], ["*", "/", "%"], ["^"]]
@@ -39,13 +39,13 @@ def of_words(on_numbers, on_values):
     return Function(2, run)
 
 
-def as_value(it, width=64):
-    return number(it, width) if isinstance(it, int) else it
+def as_value(item, width=64):
+    return number(item, width) if isinstance(item, int) else item
 
 
-def as_number(it):
-    n = it if isinstance(it, bool) else number_in(it)
-    return extend(it) if n is None else n
+def as_number(item):
+    n = item if isinstance(item, bool) else number_in(item)
+    return extend(item) if n is None else n
 
 
 def by_power(on_numbers, on_values):
@@ -67,11 +67,11 @@ OPERATORS = {
 }
 GIVEN = {
     "xor": of_words(operator.xor, functools.partial(bitwise, "xor")), "nat_lt": of_words(operator.lt, is_below),
-    "le": Function(1, lambda data: as_number(join(*(as_value(it, 8) for it in data)))),
-    "map": Function(2, lambda f, items: [f(it) for it in items]),
+    "le": Function(1, lambda data: as_number(join(*(as_value(item, 8) for item in data)))),
+    "map": Function(2, lambda f, items: [f(item) for item in items]),
     "fold": Function(3, lambda f, start, items: functools.reduce(f, items, start)),
     "take": Function(2, lambda n, items: items[:n]), "drop": Function(2, lambda n, items: items[n:]),
-    "slice_index": Function(2, lambda items, i: items[i]), "replicate": Function(2, lambda n, it: [it] * n),
+    "slice_index": Function(2, lambda items, i: items[i]), "replicate": Function(2, lambda n, item: [item] * n),
     "length": Function(1, len), "codes": Function(1, lambda text: [*text.encode()]),
     "range_with_len": Function(2, lambda start, n: [*range(start, start + n)]),
 }
@@ -112,12 +112,13 @@ class Definitions:
 
     def forget(self):
         """Everything is read anew."""
-        for it in self.used():
-            delattr(self, it)
+        for item in self.used():
+            delattr(self, item)
 
     def claims(self, record):
         """The fields of a record that say of two things that they are equal: the name of each, and whether they are."""
-        (fields,) = (it for text in self.texts for it in re.findall(rf"^pub record {record} :.*\n((?:  .*\n)*)", text, re.M))
+        pattern = rf"^pub record {record} :.*\n((?:  .*\n)*)"
+        (fields,) = (found for text in self.texts for found in re.findall(pattern, text, re.M))
         for name, claim in re.findall(r"^  pub (\w+) :((?:.*\n)+?)(?=  pub|\Z)", fields, re.M):
             yield name, Reader(self, claim).expression()({})
 
@@ -142,17 +143,17 @@ class Reader:
     def pattern(self):
         first = self.next()
         if first == "[]":
-            return lambda it, bound: it == []
+            return lambda item, bound: item == []
         if first == "zero":
-            return lambda it, bound: it == 0
+            return lambda item, bound: item == 0
         if first != "(":
-            return lambda it, bound: bound.update({first: it}) or True
+            return lambda item, bound: bound.update({first: item}) or True
         one, two = self.next(), self.next()
         name = self.next() if two == "∷" else two
         self.next(")")
         if two == "∷":
-            return lambda it, bound: it != [] and (bound.update({one: it[0], name: it[1:]}) or True)
-        return lambda it, bound: it > 0 and (bound.update({name: it - 1}) or True)
+            return lambda item, bound: item != [] and (bound.update({one: item[0], name: item[1:]}) or True)
+        return lambda item, bound: item > 0 and (bound.update({name: item - 1}) or True)
 
     def expression(self, level=0):
         if self.words[0] in ("let", "if", "λ"):
@@ -176,13 +177,13 @@ class Reader:
 
     def function(self):
         name, _, body = self.next(), self.next("."), self.expression()
-        return lambda bound: Function(1, lambda it: body({**bound, name: it}))
+        return lambda bound: Function(1, lambda item: body({**bound, name: item}))
 
     def application(self):
         function, arguments = self.atom(), []
         while self.words and re.match(r"[\w(\"]|\[\]", self.words[0]) and self.words[0] not in ("in", "then", "else"):
             arguments.append(self.atom())
-        return (lambda bound: function(bound)(*(it(bound) for it in arguments))) if arguments else function
+        return (lambda bound: function(bound)(*(item(bound) for item in arguments))) if arguments else function
 
     def atom(self):
         first = self.next()
@@ -192,14 +193,14 @@ class Reader:
                 self.next(",")
                 parts.append(self.expression())
             self.next(")")
-            it = parts[0] if len(parts) == 1 else lambda bound: tuple(part(bound) for part in parts)
+            item = parts[0] if len(parts) == 1 else lambda bound: tuple(part(bound) for part in parts)
         elif first == "record":
-            it = self.record()
+            item = self.record()
         else:
-            it = self.plain(first)
+            item = self.plain(first)
         while self.words and self.words[0][0] == "." and self.words[0] != ".":
-            it = (lambda it, key: lambda bound: it(bound)[int(key) if key.isdigit() else key])(it, self.next()[1:])
-        return it
+            item = (lambda item, key: lambda bound: item(bound)[int(key) if key.isdigit() else key])(item, self.next()[1:])
+        return item
 
     def record(self):
         fields = {}
@@ -209,7 +210,7 @@ class Reader:
             if self.words[0] == ";":
                 self.next()
         self.next("}")
-        return lambda bound: {name: it(bound) for name, it in fields.items()}
+        return lambda bound: {name: item(bound) for name, item in fields.items()}
 
     def plain(self, text):
         if text[0].isdigit():

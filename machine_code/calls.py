@@ -1,0 +1,84 @@
+"""What the calls of the library have in common: the unknowns that they are given, and what a call must leave."""
+import collections
+import pathlib
+import re
+
+import loops
+from definitions import MURMUR, XXH64, as_value
+from values import cut, extend, join, number, unknown, width_of
+
+# The arguments of a call have 64 bits each. A call that returns nothing has the result None.
+Call = collections.namedtuple("Call", "arguments memory result", defaults=[None])
+# Values at an address before a call and after it. None is any value. Where there is none after it, it may not write.
+Memory = collections.namedtuple("Memory", "at before after", defaults=[()])
+
+OK, LENGTH, OFFSET, COUNT = (number(n, 32) for n in (0, -1, -2, -3))
+NAMES = {"xxh64": "xxh64", "murmur": "murmur3_x64_128"}
+DEFINITIONS = {"xxh64": XXH64, "murmur": MURMUR}
+PIECE = {"xxh64": 32, "murmur": 16}
+WORDS = {"xxh64": ["seed", "v1", "v2", "v3", "v4"], "murmur": ["h1", "h2"]}
+HEADER = (pathlib.Path(__file__).parents[1] / "dist/include/sketch_hash.h").read_text()
+VERSION = int(re.search(r"SKETCH_HASH_VERSION (\d+)", HEADER)[1])
+seed = unknown("seed", 64)
+
+
+def pointer(name):
+    return extend(unknown(name, 62, 1))
+
+
+bits, fault, found, input, out, state, values = map(pointer, "bits fault found input out state values".split())
+old_fault = unknown("old fault", 64)
+
+
+def some(name, n, width=8):
+    return [unknown((name, i), width) for i in range(n)]
+
+
+def bytes_of(value):
+    return [cut(value, at, 8) for at in range(0, width_of(value), 8)]
+
+
+def of(hash, name):
+    return getattr(DEFINITIONS[hash], f"{hash}_{name}")
+
+
+def any_state(hash, total):
+    return {**{name: unknown(name, 64) for name in WORDS[hash]}, "total": total, "waiting": some("waiting", PIECE[hash])}
+
+
+def total(hash, fill, least=0):
+    size = PIECE[hash].bit_length() - 1
+    return join(number(fill, size), unknown("pieces", 64 - size, least))
+
+
+def saved(fields):
+    """A state as it is in memory."""
+    return [*(value for name, value in fields.items() if name != "waiting"), *fields["waiting"]]
+
+
+def fields(hash, state):
+    """A state of the definitions. What is behind the waiting bytes may be anything."""
+    seed_or_h1, lanes_or_h2 = state["folded"]
+    words = [seed_or_h1, *lanes_or_h2.values()] if hash == "xxh64" else [seed_or_h1, lanes_or_h2]
+    waiting = state["waiting"]
+    return [*map(as_value, words), as_value(state["total"]), *waiting, *[None] * (PIECE[hash] - len(waiting))]
+
+
+def answer_of(hash, state):
+    return [as_value(word) for word in ([of(hash, "answer")(state)] if hash == "xxh64" else of(hash, "answer")(state))]
+
+
+def check_call(machine, function, build, *arguments, may_choose=()):
+    """Checks a call of a known size on each path. `build` gives it anew, since what a path assumes may change it."""
+    def run():
+        call = build(*arguments)
+        run = machine()
+        for memory in call.memory:
+            run.map(memory.at, memory.before, writable=bool(memory.after))
+        run.begin(f"sketch_{function}", call.arguments)
+        run.go()
+        run.must_return(call.result)
+        for memory in call.memory:
+            run.must_have(memory.at, memory.after)
+
+    loops.on_each_path(run)

@@ -1,0 +1,45 @@
+"""All checks of a library, by function of its header."""
+import re
+
+import calls
+import columns
+import filters
+import hashes
+import headers
+import keys
+import texts
+from aarch64 import Aarch64
+from loops import on_each_path
+from values import Stop
+from x86 import X86
+
+MACHINES = {"x86-64": X86, "aarch64": Aarch64}
+# Its sums have divisions, and comparisons that depend on both arguments.
+NOT_CHECKED = {"bloom_bytes_for"}
+
+
+def checks_of(library):
+    """By function what runs its checks, each of which raises Stop if something is wrong."""
+    def machine():
+        return MACHINES[library.processor](library)
+
+    found = {}
+    for module in hashes, columns, keys, filters, texts, headers:
+        found |= dict(module.checks(machine))
+    in_header = set(re.findall(r"\bsketch_(\w+)\(", re.sub(r"/\*.*?\*/", "", calls.HEADER, flags=re.S)))
+    if found.keys() | NOT_CHECKED != in_header or found.keys() & NOT_CHECKED:
+        raise Stop(f"the header has other functions: {(found.keys() | NOT_CHECKED) ^ in_header}")
+    if not all(found.values()):
+        raise Stop("a function has no check")
+    return found
+
+
+def faults_of(runs):
+    """What is wrong, once for each reason."""
+    faults = {}
+    for run in runs:
+        try:
+            on_each_path(run)
+        except Stop as stop:
+            faults[str(stop)] = faults.get(str(stop), 0) + 1
+    return faults

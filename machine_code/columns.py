@@ -1,0 +1,97 @@
+"""Columns of any number of elements: what each element of the result is; and columns of numbers."""
+import functools
+
+import loops
+from calls import COUNT, OK, XXH64, Call, check_call, out, seed, values
+from definitions import as_value
+from loops import Subject
+from machine import Array
+from values import Stop, add, extend, mul, number, unknown
+
+
+def behind(array, name="gap"):
+    """A pointer to what is behind an array in memory."""
+    return add(add(array.at, array.length), extend(unknown(name, 61)))
+
+
+class Elements(Subject):
+    """A result of `size` bytes for each of per * count + rest elements, which are written to `self.target` in their order."""
+
+    def __init__(self, machine, rest, per):
+        self.machine, self.rest, self.per = machine, rest, per
+
+    def number_of(self, count):
+        return add(mul(extend(count), number(self.per)), number(self.rest))
+
+    def elements_written(self, run):
+        n, rest = divmod(len(self.target.written), self.size)
+        if rest:
+            raise Stop("the loop begins within an element")
+        return n
+
+    def index(self, turns, done):
+        return add(mul(extend(turns), number(self.per)), number(done))
+
+    def assume(self, run, words, turns, done, way):
+        self.target.first, self.target.written = mul(self.index(turns, done), number(self.size)), {}
+
+    def must_have_written(self, first, n):
+        self.target.must_have_written([self.element(add(first, number(i))) for i in range(n)])
+
+    def entered(self, run, done):
+        self.must_have_written(number(0), done)
+
+    def turned(self, run, words, turns, done, way):
+        self.must_have_written(self.index(turns, done), self.per)
+
+    def finish(self, loop):
+        turns = loop.turns_at_end()
+        run, _, _ = loop.at(turns, number(loop.last), None)
+        run.go()
+        run.must_return(OK)
+        self.must_have_written(self.index(turns, loop.done), loop.last * self.per + self.rest - loop.done)
+
+    def few(self):
+        """A call of so few elements that they are known one by one."""
+        run = self.start(number(0))
+        run.go()
+        run.must_return(OK)
+        self.must_have_written(number(0), self.rest)
+
+
+class Numbers(Elements):
+    """The hash of each number, of which there may be more. The results are in memory before the numbers, or behind."""
+
+    size = 8
+
+    def __init__(self, machine, is_first, rest, per):
+        super().__init__(machine, rest, per)
+        self.is_first = is_first
+
+    def start(self, count):
+        run, n = self.machine(), self.number_of(count)
+        all_numbers = add(n, extend(unknown("more", 55)))
+        if self.is_first:
+            self.target = run.give(Array("old", out, mul(n, number(8)), True))
+            self.source = run.give(Array("numbers", behind(self.target), mul(all_numbers, number(8))))
+        else:
+            self.source = run.give(Array("numbers", values, mul(all_numbers, number(8))))
+            self.target = run.give(Array("old", behind(self.source), mul(n, number(8)), True))
+        run.begin("sketch_xxh64_each_u64", [self.source.at, all_numbers, seed, self.target.at, n])
+        return run
+
+    def element(self, index):
+        return as_value(XXH64.xxh64(seed, self.source.bytes(mul(index, number(8)), 8)))
+
+
+def too_few_numbers():
+    """Fewer numbers than places: nothing is read or written."""
+    n = extend(unknown("n", 57))
+    return Call([values, n, seed, out, add(add(n, number(1)), extend(unknown("more", 57)))], [], COUNT)
+
+
+def checks(machine):
+    yield "xxh64_each_u64", [
+        *(functools.partial(loops.prove_each_rest, functools.partial(Numbers, machine, is_first))
+          for is_first in (True, False)),
+        functools.partial(check_call, machine, "xxh64_each_u64", too_few_numbers)]

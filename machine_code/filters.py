@@ -1,0 +1,306 @@
+"""Bloom filters of any length: merges, folds, and columns of any number of values."""
+import functools
+import itertools
+
+import calls
+import loops
+from calls import COUNT, LENGTH, OK, Call, bits, check_call, found, input, of, values
+from columns import Elements, behind
+from hashes import OneCall, Pieces
+from definitions import FILTER, as_value
+from machine import Array, place_of
+from values import (Stop, add, assume_at_most, bitwise, complement, cut, extend, is_zero, join, mul, number, number_in,
+                    power_of_two, shift_right, sub, unknown, width_of)
+
+
+def union(array, other, offset, other_offset):
+    """32 bytes of each."""
+    return join(*(bitwise("or", *pair) for pair in zip(array.bytes(offset, 32), other.bytes(other_offset, 32))))
+
+
+class Blocks(Elements):
+    """A filter has fewer than 2^32 blocks."""
+
+    size = 32
+
+    def some(self, what, least=0):
+        return extend(unknown((what, self.name), 32, least))
+
+    def few(self):
+        if self.rest:
+            super().few()
+
+    def length(self, count, size):
+        """So many bytes for each element: a filter's length."""
+        n = mul(self.number_of(count), number(size))
+        assume_at_most(n, number((1 << 37) - 32))
+        return n
+
+
+class Merge(Blocks):
+    """Each block becomes its union with that of another filter, which is in memory before it, or behind."""
+
+    def __init__(self, machine, is_first, rest, per):
+        super().__init__(machine, rest, per)
+        self.is_first = is_first
+
+    def start(self, count):
+        run, n = self.machine(), self.length(count, 32)
+        if self.is_first:
+            self.target = run.give(Array("bits", bits, n, True))
+            self.source = run.give(Array("other", behind(self.target), n))
+        else:
+            self.source = run.give(Array("other", bits, n))
+            self.target = run.give(Array("bits", behind(self.source), n, True))
+        run.begin("sketch_bloom_merge", [self.target.at, n, self.source.at, n])
+        return run
+
+    def element(self, index):
+        offset = mul(index, number(32))
+        return union(self.target, self.source, offset, offset)
+
+
+class Fold(Blocks):
+    """Block k becomes the union of blocks 2 * k and 2 * k + 1. The second half is unchanged."""
+
+    def start(self, count):
+        run, n = self.machine(), self.length(count, 64)
+        self.target = run.give(Array("bits", bits, n, True))
+        run.begin("sketch_bloom_fold", [bits, n])
+        return run
+
+    def element(self, index):
+        offset = mul(index, number(64))
+        return union(self.target, self.target, offset, add(offset, number(32)))
+
+
+def mask_of(hash):
+    """IsMaskBit: a block with the eight bits of a hash."""
+    places = [as_value(FILTER.mask_bit(hash, w)) for w in range(8)]
+    assert all(number_in(shift_right(place, 5)) == 0 for place in places)
+    return join(*(power_of_two(cut(place, 0, 5), 32) for place in places))
+
+
+class Bits:
+    """A filter, of which a call reaches the blocks of its keys. An insert is done with one before it reaches the next: so it
+    does not matter which of them are the same block. `hash` gives that of the key with an index."""
+
+    def __init__(self, count, hash, is_writable):
+        self.count, self.hash, self.is_writable = count, hash, is_writable
+        self.begin(number(0))
+
+    def begin(self, first):
+        """The next key has this index."""
+        self.first, self.reached, self.blocks = first, 0, {}
+
+    def block(self, i):
+        """Of key first + i: its address, what is in it, and what must be."""
+        if i not in self.blocks:
+            index = add(self.first, number(i))
+            hash, before = self.hash(index), join(*(unknown(("block", place_of(index), w), 32) for w in range(8)))
+            place = as_value(FILTER.block_of(extend(self.count), hash))
+            at = add(bits, join(number(0, 5), cut(place, 0, 59)))
+            self.blocks[i] = at, before, bitwise("or", before, mask_of(hash)), {}
+        return self.blocks[i]
+
+    def contains(self, index):
+        i = number_in(sub(index, self.first))
+        return extend(is_zero(bitwise("and", complement(self.block(i)[1]), mask_of(self.hash(index)))), 8)
+
+    def must_be_inserted(self, i):
+        _, before, after, written = self.block(i)
+        for k in range(32):
+            value, bit = written.get(k, (before, 8 * k))
+            if cut(value, bit, 8) != cut(after, 8 * k, 8):
+                raise Stop("what is inserted is not what the definitions say")
+
+    def must_have_reached(self, n):
+        if self.is_writable and self.reached != n:
+            raise Stop("not as many keys are inserted as must be")
+        for i in range(n if self.is_writable else 0):
+            self.must_be_inserted(i)
+
+    def offset_of(self, address, size):
+        if self.hash(self.first) is None:
+            return None  # the key is not known yet
+        for i in range(max(self.reached - 1, 0) if self.is_writable else 0, self.reached + (1 if self.is_writable else 4)):
+            n = number_in(sub(address, self.block(i)[0]))
+            if n is not None and n + size <= 32:
+                return i, n
+
+    def reach(self, i):
+        if self.is_writable and i == self.reached and i:
+            self.must_be_inserted(i - 1)
+        self.reached = max(self.reached, i + 1)
+
+    def load(self, place, size):
+        (i, n), (_, before, _, written) = place, self.block(place[0])
+        self.reach(i)
+        return [written.get(n + k, (before, 8 * (n + k))) for k in range(size)]
+
+    def store(self, place, value):
+        self.reach(place[0])
+        self.block(place[0])[3].update({place[1] + k: (value, 8 * k) for k in range(width_of(value) // 8)})
+
+
+any_length = extend(join(number(0, 5), unknown("blocks", 32, 1)))
+
+
+class Values(Elements):
+    """Inserts each number, or each hash, or looks it up. `kind` is the end of the call's name: u32, u64 or hash."""
+
+    def __init__(self, machine, is_insert, kind, rest, per):
+        super().__init__(machine, rest, per)
+        self.is_insert, self.kind, self.width, self.size = is_insert, kind, 32 if kind == "u32" else 64, 1
+
+    def start(self, count):
+        run, n, more = self.machine(), self.number_of(count), extend(unknown("more", 50))
+        source = run.give(Array("values", values, mul(add(n, more) if not self.is_insert else n, number(self.width // 8))))
+        self.source, self.target = source, run.give(Array("old", found, n, not self.is_insert))
+        self.filter = run.give(Bits(cut(any_length, 5, 32), self.hash, self.is_insert))
+        arguments = [n] if self.is_insert else [add(n, more), found, n]
+        run.begin(f"sketch_{name_of(self.is_insert)}_each_{self.kind}", [bits, any_length, values, *arguments])
+        return run
+
+    def hash(self, index):
+        data = self.source.bytes(mul(index, number(self.width // 8)), self.width // 8)
+        return join(*data) if self.kind == "hash" else FILTER.hash_of(data)
+
+    def elements_written(self, run):
+        return self.filter.reached if self.is_insert else super().elements_written(run)
+
+    def assume(self, run, words, turns, done, way):
+        super().assume(run, words, turns, done, way)
+        self.filter.begin(self.index(turns, done))
+
+    def must_have_written(self, first, n):
+        self.filter.must_have_reached(n)
+        self.target.must_have_written([self.filter.contains(add(first, number(i))) for i in range(n * (not self.is_insert))])
+
+
+class Key(OneCall):
+    """A key of any length that is inserted or looked up, in a filter of any length."""
+
+    def __init__(self, machine, is_insert, rest, per):
+        Pieces.__init__(self, "xxh64", of("xxh64", "start")(0), self.bytes_of_input, rest, per)
+        self.machine, self.is_insert, self.answer = machine, is_insert, None
+
+    def begin_call(self, run, n):
+        self.filter = run.give(Bits(cut(any_length, 5, 32), lambda index: self.answer, self.is_insert))
+        run.begin(f"sketch_{name_of(self.is_insert)}", [bits, any_length, input, n])
+        return run
+
+    def go_to_end(self, run, after):
+        (self.answer,) = calls.answer_of("xxh64", after)
+        run.go()
+        must_have_used(run, self.filter, self.is_insert)
+
+
+class KeyOfWrongLength(Key):
+    """The same with a length that no filter has: the key may be read, and the filter not."""
+
+    def __init__(self, machine, is_insert, length, rest, per):
+        super().__init__(machine, is_insert, rest, per)
+        self.wrong_length = length
+
+    def begin_call(self, run, n):
+        run.begin(f"sketch_{name_of(self.is_insert)}", [bits, self.wrong_length, input, n])
+        return run
+
+    def go_to_end(self, run, after):
+        run.go()
+        run.must_return(wrong_result(self.is_insert))
+
+
+def must_have_used(run, filter, is_insert):
+    filter.must_have_reached(1)
+    run.must_return(OK if is_insert else extend(filter.contains(number(0)), 32))
+
+
+def name_of(is_insert):
+    return "bloom_insert" if is_insert else "bloom_contains"
+
+
+def wrong_result(is_insert):
+    return LENGTH if is_insert else number(1, 32)
+
+
+def keys_of_wrong_lengths(machine, is_insert):
+    loops.prove_each_rest(functools.partial(KeyOfWrongLength, machine, is_insert, number(33)), 32)
+    for length, n in itertools.product(WRONG_LENGTHS, (0, 7, 40)):
+        KeyOfWrongLength(machine, is_insert, length, n, 1).few()
+
+
+def null_key(machine, is_insert):
+    filter = Bits(cut(any_length, 5, 32), lambda index: FILTER.hash_of([]), is_insert)
+    run = machine()
+    run.give(filter)
+    run.begin(f"sketch_{name_of(is_insert)}", [bits, any_length, number(0), number(0)])
+    run.go()
+    must_have_used(run, filter, is_insert)
+
+
+def one_hash(machine, is_insert):
+    run, hash = machine(), unknown("hash", 64)
+    filter = run.give(Bits(cut(any_length, 5, 32), lambda index: hash, is_insert))
+    run.begin(f"sketch_{name_of(is_insert)}_hash", [bits, any_length, hash])
+    run.go()
+    must_have_used(run, filter, is_insert)
+
+
+# ---- lengths that no filter has: none, too many blocks, and no multiple of 32. Then nothing is read or written.
+
+WRONG_LENGTHS = [number(0), join(number(0, 5), unknown("too many blocks", 59, 1 << 32))]
+WRONG_LENGTHS += [join(number(n, 5), unknown("any blocks", 59)) for n in range(1, 32)]
+
+
+def wrong_lengths(machine, function, result, *arguments):
+    for length in WRONG_LENGTHS:
+        check_call(machine, function, lambda: Call([bits, length, *arguments], [], result))
+
+
+def merges_of_two_lengths(machine):
+    """Also of a right one with a wrong one."""
+    wrong_lengths(machine, "bloom_merge", LENGTH, values, any_length)
+    more = add(any_length, join(number(0, 5), unknown("more", 58, 1), number(0, 1)))
+    odd = [join(number(n, 5), unknown("any blocks", 58), number(0, 1)) for n in range(1, 32)]
+    for other in [number(0), more, *odd]:
+        check_call(machine, "bloom_merge", lambda: Call([bits, any_length, values, other], [], LENGTH))
+        check_call(machine, "bloom_merge", lambda: Call([bits, other, values, any_length], [], LENGTH))
+
+
+def wrong_folds(machine):
+    """By pairs of blocks: a rest, or too many."""
+    for rest in range(64):
+        length = join(number(rest, 6), unknown("pairs", 58, 0 if rest else 1 << 31))
+        check_call(machine, "bloom_fold", lambda: Call([bits, length], [], LENGTH))
+    check_call(machine, "bloom_fold", lambda: Call([bits, number(0)], [], LENGTH))
+
+
+def too_few_values(machine, function):
+    n = extend(unknown("n", 57))
+    places = add(add(n, number(1)), extend(unknown("more", 57)))
+    check_call(machine, function, lambda: Call([bits, any_length, values, n, found, places], [], COUNT))
+
+
+def checks(machine):
+    any_arguments = [unknown(("argument", i), 64) for i in range(8)]
+    yield "bloom_check", [functools.partial(check_call, machine, "bloom_check", Call, [any_length], [], OK),
+                          *(functools.partial(check_call, machine, "bloom_check", Call, [length], [], LENGTH)
+                            for length in WRONG_LENGTHS)]
+    yield "bloom_merge", [*(functools.partial(loops.prove_each_rest, functools.partial(Merge, machine, is_first))
+                            for is_first in (True, False)), functools.partial(merges_of_two_lengths, machine)]
+    yield "bloom_fold", [functools.partial(loops.prove_each_rest, functools.partial(Fold, machine)),
+                         functools.partial(wrong_folds, machine)]
+    for is_insert in (True, False):
+        name, wrong = name_of(is_insert), wrong_result(is_insert)
+        yield name, [functools.partial(loops.prove_each_rest, functools.partial(Key, machine, is_insert), 32),
+                     functools.partial(null_key, machine, is_insert),
+                     functools.partial(keys_of_wrong_lengths, machine, is_insert)]
+        yield f"{name}_hash", [functools.partial(one_hash, machine, is_insert),
+                               functools.partial(wrong_lengths, machine, f"{name}_hash", wrong, *any_arguments)]
+        for kind in ("hash", "u32", "u64"):
+            function = f"{name}_each_{kind}"
+            yield function, [functools.partial(loops.prove_each_rest, functools.partial(Values, machine, is_insert, kind)),
+                             functools.partial(wrong_lengths, machine, function, LENGTH, *any_arguments),
+                             *([] if is_insert else [functools.partial(too_few_values, machine, function)])]

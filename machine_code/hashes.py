@@ -1,0 +1,176 @@
+"""The hashes: one call and updates of any length, and the calls that have no loop."""
+import functools
+
+import calls
+import loops
+from calls import PIECE, WORDS, Call, Memory, bytes_of, check_call, input, of, out, saved, seed, some, state, values
+from definitions import XXH64, as_value
+from loops import Subject
+from machine import Array
+from values import add, extend, join, mul, number, unknown
+
+
+class Pieces(Subject):
+    """Full pieces of an input that a hash reads in a loop: `self.begin` is the definitions' state before them, with `fill`
+    waiting bytes, and `rest` bytes of `self.data` come after the last turn."""
+
+    def __init__(self, hash, begin, data, rest, per, fill=0):
+        self.hash, self.begin, self.data, self.rest, self.per, self.fill = hash, begin, data, rest, per, fill
+        self.name, self.piece = hash, PIECE[hash]
+        self.bytes = self.piece
+        self.unit, self.lead = per * self.piece, -fill % self.piece
+
+    def length(self, count):
+        return add(mul(extend(count), number(self.unit)), number(self.lead + self.rest))
+
+    def words_of(self, folded):
+        return [as_value(word) for word in (folded[1].values() if self.hash == "xxh64" else folded)]
+
+    def after(self, state, offset, size):
+        return of(self.hash, "after")(state, self.data(offset, size))
+
+    def words_after(self, n):
+        size = n * self.piece - self.fill
+        return None if size < 0 else self.words_of(self.after(self.begin, number(0), size)["folded"])
+
+    def any_words(self):
+        return [unknown(("folded", name), 64) for name in WORDS[self.hash] if name != "seed"]
+
+    def consumed(self, turns, done):
+        return add(mul(extend(turns), number(self.unit)), number(done * self.piece - self.fill))
+
+    def at(self, words, turns, done):
+        """The definitions' state with these words, when no bytes wait."""
+        folded = (self.begin["folded"][0], dict(zip(WORDS["xxh64"][1:], words))) if self.hash == "xxh64" else tuple(words)
+        total = add(as_value(self.begin["total"]), self.consumed(turns, done))
+        return {"folded": folded, "total": total, "waiting": []}
+
+    def step(self, words, turns, done, way):
+        return self.words_of(self.after(self.at(words, turns, done), self.consumed(turns, done), self.unit)["folded"])
+
+    def at_end(self, words, turns, done, last):
+        """The definitions' state after all bytes, from that with the last turns to do."""
+        left = last * self.unit + self.lead + self.rest - (done * self.piece - self.fill)
+        return self.after(self.at(words, turns, done), self.consumed(turns, done), left)
+
+
+class OneCall(Pieces):
+    def __init__(self, machine, hash, rest, per):
+        super().__init__(hash, of(hash, "start")(seed), self.bytes_of_input, rest, per)
+        self.machine = machine
+
+    def bytes_of_input(self, offset, size):
+        return self.array.bytes(offset, size)
+
+    def start(self, count):
+        run, n = self.machine(), self.length(count)
+        self.array = run.give(Array("input", input, n))
+        return self.begin_call(run, n)
+
+    def begin_call(self, run, n):
+        if self.hash == "murmur":
+            run.map(out, some("old", 2, 64), writable=True)
+        run.begin(f"sketch_{calls.NAMES[self.hash]}", [input, n, seed, out])
+        return run
+
+    def must_leave(self, run, after):
+        answer = calls.answer_of(self.hash, after)
+        if self.hash == "xxh64":
+            run.must_return(*answer)
+        else:
+            run.must_have(out, answer)
+
+    def finish(self, loop):
+        turns = loop.turns_at_end()
+        run, words, _ = loop.at(turns, number(loop.last), None)
+        after = self.at_end(words, turns, loop.done, loop.last)
+        self.go_to_end(run, after)
+
+    def go_to_end(self, run, after):
+        run.go()
+        self.must_leave(run, after)
+
+    def few(self):
+        """A call of so few bytes that they are known one by one."""
+        run = self.start(number(0))
+        self.go_to_end(run, self.after(self.begin, number(0), self.lead + self.rest))
+
+
+class Update(OneCall):
+    """An update of a state with so many waiting bytes, whatever the state."""
+
+    def __init__(self, machine, hash, fill, rest, per):
+        self.before = calls.any_state(hash, calls.total(hash, fill))
+        Pieces.__init__(self, hash, of(hash, "state_of")(self.before), self.bytes_of_input, rest, per, fill)
+        self.machine = machine
+
+    def begin_call(self, run, n):
+        run.map(state, saved(self.before), writable=True)
+        run.begin(f"sketch_{calls.NAMES[self.hash]}_update", [state, input, n])
+        return run
+
+    def must_leave(self, run, after):
+        run.must_have(state, calls.fields(self.hash, after))
+
+
+# ---- calls without a loop
+
+def number_call():
+    any_number = unknown("number", 64)
+    return Call([any_number, seed], [], as_value(XXH64.xxh64(seed, bytes_of(any_number))))
+
+
+def bytes_call():
+    words = some("hash", 2, 64)
+    return Call([values, out], [Memory(values, words), Memory(out, some("old", 16), bytes_of(join(*words)))])
+
+
+def reset(hash):
+    """The waiting bytes become zeros too, so that the state equals one that the header initializes."""
+    before, after = saved(calls.any_state(hash, unknown("total", 64))), calls.fields(hash, of(hash, "start")(seed))
+    return Call([state, seed], [Memory(state, before, [value or number(0, 8) for value in after])])
+
+
+def digest(hash, fill, least=None):
+    """With no full piece before, if `least` is None; else with so many of them or more."""
+    before = calls.any_state(hash, number(fill) if least is None else calls.total(hash, fill, least))
+    answer = calls.answer_of(hash, of(hash, "state_of")(before))
+    if hash == "xxh64":
+        return Call([state], [Memory(state, saved(before))], *answer)
+    return Call([state, out], [Memory(state, saved(before)), Memory(out, some("old", 2, 64), answer)])
+
+
+def null_call(hash):
+    """No bytes at NULL."""
+    answer = calls.answer_of(hash, of(hash, "start")(seed))
+    if hash == "xxh64":
+        return Call([number(0), number(0), seed], [], *answer)
+    return Call([number(0), number(0), seed, out], [Memory(out, some("old", 2, 64), answer)])
+
+
+def null_update(hash, fill):
+    before = calls.any_state(hash, calls.total(hash, fill))
+    return Call([state, number(0), number(0)], [Memory(state, saved(before), saved(before))])
+
+
+def checks(machine):
+    """Pairs of a function and what runs its checks, one for each fill."""
+    yield "hash_version", [lambda: check_call(machine, "hash_version", Call, [], [], number(calls.VERSION, 32))]
+    yield "xxh64_u64", [lambda: check_call(machine, "xxh64_u64", number_call)]
+    yield "murmur3_x64_128_bytes", [lambda: check_call(machine, "murmur3_x64_128_bytes", bytes_call)]
+    for hash, name in calls.NAMES.items():
+        yield name, [functools.partial(one_call, machine, hash, name)]
+        yield f"{name}_reset", [functools.partial(check_call, machine, f"{name}_reset", reset, hash)]
+        yield f"{name}_update", [functools.partial(update, machine, hash, name, fill) for fill in range(PIECE[hash])]
+        yield f"{name}_digest", [functools.partial(check_call, machine, f"{name}_digest", digest, hash, fill, least)
+                                 for fill in range(PIECE[hash]) for least in ((None, 1) if hash == "xxh64" else (0,))]
+
+
+def one_call(machine, hash, name):
+    loops.prove_each_rest(functools.partial(OneCall, machine, hash), PIECE[hash])
+    check_call(machine, name, null_call, hash)
+
+
+def update(machine, hash, name, fill):
+    loops.prove_each_rest(functools.partial(Update, machine, hash, fill), PIECE[hash], -fill % PIECE[hash])
+    check_call(machine, f"{name}_update", null_update, hash, fill)

@@ -1,0 +1,290 @@
+"""Columns of any number of keys, each of any length: their offsets, which are checked first, and then the hash of each key."""
+import functools
+
+import calls
+import loops
+from calls import OFFSET, OK, PIECE, fault, input, of, old_fault, out, seed, values
+from columns import Elements
+from definitions import as_value
+from hashes import Pieces
+from loops import Subject
+from machine import Array
+from values import Stop, add, assume_at_most, cut, extend, join, mul, number, number_in, sub, unknown
+
+MOST = {32: 31, 64: 60}  # how many bits the length of the input has, by the width of an offset
+
+
+class ColumnCall:
+    """The call of a hash with a column: so many places for results, and so many offsets."""
+
+    def __init__(self, machine, hash, width):
+        self.machine, self.hash, self.width = machine, hash, width
+        self.function = f"sketch_{calls.NAMES[hash]}_each{width}"
+        self.length, self.size = extend(unknown("length", MOST[width])), 8 if hash == "xxh64" else 16
+
+    def begin(self, count, offset_count):
+        run = self.machine()
+        self.input = run.give(Array("input", input, self.length))
+        self.offsets = run.give(Array("offsets", values, mul(offset_count, number(self.width // 8))))
+        self.target = run.give(Array("old", out, mul(count, number(self.size)), True))
+        run.map(fault, [old_fault], writable=True)
+        run.begin(self.function, [input, self.length, values, offset_count, seed, out, count, fault])
+        return run
+
+    def few(self):
+        """No keys; or some, and no offset."""
+        zero, some = number(0), extend(unknown("some", 58, 1))
+        for count, offset_count, is_right in (zero, zero, True), (some, zero, False), (zero, some, True), (zero, some, False):
+            def run():
+                run = self.begin(count, offset_count)
+                if count == zero != offset_count and is_right:
+                    assume_at_most(self.offset(zero), self.length)
+                elif count == zero != offset_count:
+                    assume_at_most(self.length, self.offset(zero), 1)
+                run.go()
+                (self.must_succeed(run) if is_right else self.must_fail(run, zero))
+
+            loops.on_each_path(run)
+
+    def place(self, index):
+        return mul(index, number(self.width // 8))
+
+    def offset(self, index):
+        return extend(join(*self.offsets.bytes(self.place(index), self.width // 8)))
+
+    def set_offset(self, run, index, value):
+        run.map(add(values, self.place(index)), [cut(value, 0, self.width)])
+
+    def must_fail(self, run, index):
+        """Nothing else is written."""
+        run.must_return(OFFSET)
+        run.must_have(fault, [index])
+        self.target.must_have_written([])
+
+    def must_succeed(self, run):
+        run.must_return(OK)
+        run.must_have(fault, [old_fault])
+
+
+class Offsets(Subject):
+    """The loop that checks offsets: IsFirstWrongOffset. After the last so many are missing, or any number more, or none."""
+
+    name, optional = "offsets", 1
+
+    def __init__(self, call, missing=None):
+        self.call, self.missing = call, missing
+
+    def start(self, count):
+        if self.missing:
+            return self.call.begin(add(count, sub(self.missing, number(1))), count)
+        return self.call.begin(count, add(add(count, number(1)), extend(unknown("more", 59))))
+
+    def suggestion(self, count):
+        run, before = self.start(count), number(0)
+        for i in range(12):
+            before = self.suppose("right", number(i), before)
+        return run
+
+    def suppose(self, way, index, before):
+        """Assumes of an offset that it is right, or below the one before, or above the length. Returns it."""
+        offset = self.call.offset(index)
+        if way == "below":
+            assume_at_most(offset, before, 1)
+        elif way == "above":
+            assume_at_most(self.call.length, offset, 1)
+        else:
+            assume_at_most(before, offset)
+            assume_at_most(offset, self.call.length)
+        return offset
+
+    def words_after(self, n):
+        return [self.call.offset(number(n - 1)) if n else number(0)]
+
+    def any_words(self):
+        return [extend(unknown("offset before", MOST[self.call.width]))]
+
+    def ways(self):
+        return "right", "below", "above"
+
+    def index(self, turns, done):
+        return add(turns, number(done))
+
+    def assume(self, run, words, turns, done, way):
+        assume_at_most(words[0], self.call.length)
+        if done:
+            self.call.set_offset(run, self.index(turns, done - 1), words[0])
+        if way:
+            self.suppose(way, self.index(turns, done), words[0])
+
+    def step(self, words, turns, done, way):
+        if way != "right":
+            raise Stop("a wrong offset does not end the call")
+        return [self.call.offset(self.index(turns, done))]
+
+    def entered(self, run, done):
+        if done:
+            raise Stop("an offset is read before the loop")
+
+    def leave(self, run, words, turns, done, way):
+        if way == "right":
+            raise Stop("a right offset ends the call")
+        self.call.must_fail(run, self.index(turns, done))
+
+    def at_end(self, loop, turns, ways):
+        """At the head with the last turns to do, and what is supposed of the offsets that are left."""
+        run, words, _ = loop.at(turns, number(loop.last), None)
+        before = words[0]
+        for i, way in enumerate(ways):
+            before = self.suppose(way, self.index(turns, loop.done + i), before)
+        return run
+
+    def finish(self, loop):
+        """With a wrong offset among those that are left; the keys' own loop is reached if there is none."""
+        left, turns = loop.last - loop.done + (not self.missing), loop.turns_at_end()
+
+        def fails(ways, at):
+            run = self.at_end(loop, turns, ways)
+            run.go()
+            self.call.must_fail(run, self.index(turns, loop.done + at))
+
+        for i in range(left):
+            for way in ("below", "above"):
+                loops.on_each_path(functools.partial(fails, ["right"] * i + [way], i))
+        if self.missing:
+            loops.on_each_path(functools.partial(fails, ["right"] * left, left))
+        self.loop = loop
+
+    def after(self, count):
+        """A machine that goes on to the keys: all offsets are right."""
+        return self.at_end(self.loop, sub(count, number(self.loop.last)), ["right"] * (self.loop.last - self.loop.done + 1))
+
+
+class Keys(Elements):
+    """The loop over keys: a turn hashes one, of a few bytes, or of any number of pieces and a rest."""
+
+    name, optional = "keys", 1
+
+    def __init__(self, offsets, per_key):
+        super().__init__(offsets.call.machine, 0, 1)
+        self.call, self.checked, self.hash = offsets.call, offsets, offsets.call.hash
+        self.size = self.bytes = self.call.size
+        self.per_key, self.unit, self.inner = per_key, per_key * PIECE[self.hash], None
+
+    def start(self, count):
+        run = self.checked.after(count)
+        self.target = self.call.target
+        return run
+
+    def suggestion(self, count):
+        """Some keys of one byte."""
+        run, self.first = self.start(count), extend(unknown("start", MOST[self.call.width]))
+        for i in range(12):
+            self.call.set_offset(run, number(i), add(self.first, number(i)))
+        assume_at_most(add(self.first, number(12)), self.call.length)
+        return run
+
+    def words_after(self, n):
+        return [add(self.first, number(n))]
+
+    def words_at_entry(self, done):
+        return [self.call.offset(number(done))]
+
+    def any_words(self):
+        return [extend(unknown("start", MOST[self.call.width]))]
+
+    def step(self, words, turns, done, way):
+        return [add(words[0], self.size_of(way))]
+
+    def size_of(self, way):
+        rest, count = way
+        return add(mul(extend(count), number(self.unit)), number(rest))
+
+    def assume(self, run, words, turns, done, way):
+        super().assume(run, words, turns, done, way)
+        index, end = self.index(turns, done), add(words[0], self.size_of(way))
+        assume_at_most(end, self.call.length)
+        self.call.set_offset(run, index, words[0])
+        self.call.set_offset(run, add(index, number(1)), end)
+
+    def ways(self):
+        """A rest and any number of turns, and what is shorter."""
+        self.fewest, count = 0, extend(unknown("pieces", MOST[self.call.width] - (self.unit - 1).bit_length()))
+        yield from ((rest, count) for rest in range(self.unit))
+        yield from ((n, number(0)) for n in range(self.fewest * self.unit))
+
+    def travel(self, loop, turns, left, way, *target):
+        rest, count = way
+        if number_in(count) is not None:
+            run, words, before = loop.at(turns, left, way)
+            self.answer = self.hash_of(self.after(self.start_of_key(), words, number(0), rest))
+            return run, words, before, run.go(*target)
+        inner = self.inner = loops.prove(lambda per: Key(self, loop, turns, left, rest, per), [self.per_key], self.inner)
+        self.fewest = max(self.fewest, inner.least)
+        count, key = inner.turns_at_end(), inner.subject
+        run, words, _ = inner.at(count, number(inner.last), None)
+        self.answer = self.hash_of(key.at_end(words, count, inner.done, inner.last))
+        self.pieces = add(count, number(inner.last))
+        return run, key.outer_words, key.before, run.go(*target)
+
+    def start_of_key(self):
+        return of(self.hash, "start")(seed)
+
+    def after(self, state, words, offset, size):
+        return of(self.hash, "after")(state, self.call.input.bytes(add(words[0], offset), size))
+
+    def hash_of(self, state):
+        answer = of(self.hash, "answer")(state)
+        return as_value(answer) if self.hash == "xxh64" else join(*map(as_value, answer))
+
+    def element(self, index):
+        return self.answer
+
+    def finish(self, loop):
+        if (loop.least, loop.last, loop.done, self.checked.loop.least) != (1, 1, 0, 1):
+            raise Stop("the loops are not reached with one key")
+        turns = loop.turns_at_end()
+
+        def ends(way):
+            run, _, _, _ = self.travel(loop, turns, number(1), way)
+            self.call.must_succeed(run)
+            self.must_have_written(self.index(turns, loop.done), 1)
+
+        for way in self.ways():
+            loops.on_each_path(lambda: ends(way))
+
+
+def prove_columns(machine, hash, width):
+    """Any number of keys, of any length."""
+    call = ColumnCall(machine, hash, width)
+    for missing in number(1), extend(unknown("missing", 58, 2)), None:
+        checked = loops.prove(lambda per: Offsets(call, missing), [1]).subject
+    loops.prove(lambda per: Keys(checked, per), (1, 2))
+    call.few()
+
+
+def checks(machine):
+    for hash, name in calls.NAMES.items():
+        for width in MOST:
+            yield f"{name}_each{width}", [functools.partial(prove_columns, machine, hash, width)]
+
+
+class Key(Pieces):
+    """The loop over the pieces of one key, within a turn of the loop over keys."""
+
+    def __init__(self, keys, loop, turns, left, rest, per):
+        super().__init__(keys.hash, keys.start_of_key(), self.bytes_of_key, rest, per)
+        self.keys, self.at_keys = keys, lambda count: loop.at(turns, left, (rest, count))
+
+    def some(self, what, least=0):
+        width = MOST[self.keys.call.width] - (self.unit - 1).bit_length()
+        return extend(unknown((what, self.name), width, least))
+
+    def start(self, count):
+        run, self.outer_words, self.before = self.at_keys(count)
+        return run
+
+    def finish(self, loop):
+        """It goes on in the loop over keys."""
+
+    def bytes_of_key(self, offset, size):
+        return self.keys.call.input.bytes(add(self.outer_words[0], offset), size)

@@ -1,0 +1,278 @@
+"""Loops whose number of turns is unknown: what holds after any number of turns, by induction.
+
+A subject makes a call with so many turns to do, and says what the definitions have after each. The head of its loop is an
+instruction that each turn executes. Three kinds of runs show that the loop computes what the definitions say:
+
+- the entry: from the beginning to the head;
+- a turn: from the head after any number of turns, with any number left, back to the head;
+- the end: from the head with the last turns to do, to the end of the call or up to another loop.
+
+At the head each place, of a register or of memory, is what it is at the entry plus the turns done times a number; or a word
+of the definitions' state; or anything. Two turns suggest which. The three runs then show it: a suggestion that is wrong can
+make a check fail, and not pass. In a turn the number of turns that are left becomes smaller by one, so the loop ends.
+"""
+import values
+from machine import Setting
+from values import Stop, Undecided, add, cut, extend, join, mul, number, number_in, sub, unknown, width_of
+
+SIZE = 60  # an array has fewer than 2^60 bytes
+
+
+def on_each_path(run):
+    """Runs anew for either outcome of a choice that depends on unknowns, until all are decided."""
+    paths = [[]]
+    while paths:
+        ways = paths.pop()
+        try:
+            with values.assuming(ways):
+                run()
+        except Undecided as choice:
+            if len(ways) == 12:
+                raise
+            paths += [[*ways, way] for way in choice.ways]
+
+
+# ---- places: 64 bits of a register, or eight bytes of memory or one
+
+def places_of(run):
+    found = {}
+    for name, value in run.registers.items():
+        found |= {(name, at): cut(value, at, min(64, width_of(value) - at)) for at in range(0, width_of(value), 64)}
+    changing = [place for place in run.bytes if place in run.writable or run.is_in_stack(place[0])]
+    for base, at in changing:
+        if at % 8 == 0 and all((base, at + i) in run.bytes for i in range(8)):
+            found["word", base, at] = join(*(cut(*run.bytes[base, at + i], 8) for i in range(8)))
+        elif not all((base, at - at % 8 + i) in run.bytes for i in range(8)):
+            found["byte", base, at] = cut(*run.bytes[base, at], 8)
+    return found
+
+
+def set_places(run, new):
+    registers = {}
+    for place, value in new.items():
+        if place[0] in ("word", "byte"):
+            run.bytes |= {(place[1], place[2] + i): (value, 8 * i) for i in range(width_of(value) // 8)}
+        else:
+            registers.setdefault(place[0], {})[place[1]] = value
+    for name, parts in registers.items():
+        run.registers[name] = join(*(parts[at] for at in sorted(parts)))
+    run.flags = None
+
+
+class Subject:
+    """A call with a loop of so many turns. A turn has `per` elements: pieces of an input, numbers or keys.
+
+    `start(count)` gives a machine at the beginning of a call with `count` turns to do. The words are the state of the
+    definitions, of which `optional` ones need not be in the loop. A way is one of the cases that a turn is split into.
+    """
+
+    name, per, optional = "loop", 1, 0
+    bytes = 8  # of the largest array, for each element
+
+    def some(self, what, least=0):
+        """A number of turns."""
+        return extend(unknown((what, self.name), SIZE - (self.per * self.bytes - 1).bit_length(), least))
+
+    def elements_written(self, run):
+        """How many are written at the first arrival, if the loop writes any; else None."""
+        return None
+
+    def suggestion(self, count):
+        """As `start`, for the two turns that suggest what each does."""
+        return self.start(count)
+
+    def words_after(self, n):
+        return []
+
+    def words_at_entry(self, n):
+        return self.words_after(n)
+
+    def any_words(self):
+        return []
+
+    def step(self, words, turns, done, way):
+        return []
+
+    def assume(self, run, words, turns, done, way):
+        """What is so at the head, and what a way assumes."""
+
+    def entered(self, run, done):
+        """What must be so at the first arrival: so many elements are done."""
+
+    def turned(self, run, words, turns, done, way):
+        """What must be so after a turn."""
+
+    def ways(self):
+        return [None]
+
+    def travel(self, loop, turns, left, way, *target):
+        """A machine that has gone on from the head to a target, the words at the head, what was there, and whether it came."""
+        run, words, before = loop.at(turns, left, way)
+        return run, words, before, run.go(*target)
+
+    def leave(self, run, words, turns, done, way):
+        """What must be so if a turn ends the call."""
+        raise Stop("the loop ends before its last turn")
+
+
+class Loop:
+    """A loop of a subject. `least` is the fewest turns of the calls that reach it; with `last` turns left it ends."""
+
+    def __init__(self, subject, least=2, last=1, like=None):
+        """What a turn does may be suggested by another loop."""
+        self.subject, self.least, self.last = subject, least, last
+        if like:
+            self.head, self.arrivals, self.done, self.roles = like.head, like.arrivals, like.done, dict(like.roles)
+        else:
+            self.find_head()
+            with values.assuming():
+                self.suggest()
+        on_each_path(self.enter)
+        self.check_turns()
+
+    def find_head(self):
+        """A choice that depends on how many turns are left is made once a turn. From it to the next time is a turn, and the
+        head is what the first one begins with."""
+        arrivals = []
+        for least in (4, 8):
+            with values.assuming():
+                trace = self.trace(least)
+            found = [i for i, at in enumerate(trace[:-1]) if at == trace[-1]]
+            if not found:
+                raise self.choice
+            turn = trace[found[-1] + 1 :]
+            self.head = min((at for at in turn if turn.count(at) == 1), key=trace.index)
+            arrivals.append(trace.count(self.head))
+        self.arrivals, rest = divmod(arrivals[1] - arrivals[0], 4)
+        if rest or not self.arrivals:
+            raise Stop("a turn of the loop is none of the subject")
+
+    def trace(self, least):
+        """The instructions up to the first choice that is open."""
+        run = self.subject.suggestion(self.subject.some("total", least))
+        begin = len(run.executed)
+        try:
+            run.go()
+        except Setting:
+            raise
+        except Undecided as choice:
+            self.choice = choice
+            return run.executed[begin:]
+        raise Stop("there is no loop")
+
+    def suggest(self):
+        """What each place becomes in a turn, as the first two show: pairs of "by" and a number, or "word" and an index."""
+        run, seen = self.subject.suggestion(self.subject.some("total", 8)), []
+        for arrivals in (1, self.arrivals, self.arrivals):
+            if not run.go(self.head, arrivals):
+                raise Stop("the head of the loop is not reached")
+            if not seen:
+                written = self.subject.elements_written(run)
+            seen.append(places_of(run))
+        for done in [written] if written is not None else range(4):
+            words = [self.subject.words_after(done + k * self.subject.per) for k in range(3)]
+            if None in words:
+                continue
+            self.roles = {place: self.role([here.get(place) for here in seen], words) for place in seen[0]}
+            found = {role[1] for role in self.roles.values() if role and role[0] == "word"}
+            if len(found) + self.subject.optional >= len(words[0]):
+                self.done = done
+                return
+        raise Stop("the words of the definition are not found in the loop")
+
+    def role(self, seen, words):
+        if None in seen or len({width_of(value) for value in seen}) > 1:
+            return None
+        for i in range(len(words[0])):
+            if seen == [here[i] for here in words] and seen[0] != seen[1]:
+                return "word", i
+        if seen[0] == seen[1] == seen[2]:
+            return "by", 0
+        if width_of(seen[0]) < 64:
+            return None
+        first, second = (number_in(sub(after, before)) for before, after in zip(seen, seen[1:]))
+        return ("by", first) if first is not None and first == second else None
+
+    def enter(self):
+        run = self.subject.start(self.subject.some("total", self.least))
+        if not run.go(self.head):
+            raise Stop("the loop is not reached")
+        words, now = self.subject.words_at_entry(self.done), places_of(run)
+        for place, role in self.roles.items():
+            if role and role[0] == "word" and now[place] != words[role[1]]:
+                raise Stop(f"at the entry of the loop {place} is not what the definitions say")
+        self.subject.entered(run, self.done)
+
+    def at(self, turns, left, way):
+        """A machine at the head after so many turns, the words of the definitions' state, and what each place is."""
+        run = self.subject.start(add(turns, left))
+        if not run.go(self.head):
+            raise Stop("the loop is not reached")
+        words = self.subject.any_words()
+        for place, value in (here := places_of(run)).items():
+            role = self.roles.get(place)
+            if role and role[0] == "word":
+                here[place] = words[role[1]]
+            elif role:
+                here[place] = add(value, mul(turns, number(role[1]))) if role[1] else value
+            else:
+                here[place] = unknown(("anything", self.subject.name, place), width_of(value))
+        set_places(run, here)
+        self.subject.assume(run, words, turns, self.done, way)
+        return run, words, here
+
+    def turn(self, turns, left, way):
+        run, words, before, came = self.subject.travel(self, turns, left, way, self.head, self.arrivals)
+        if not came:
+            return self.subject.leave(run, words, turns, self.done, way)
+        new, now = self.subject.step(words, turns, self.done, way), places_of(run)
+        for place, role in self.roles.items():
+            if role and place in before:
+                expected = new[role[1]] if role[0] == "word" else add(before[place], number(role[1], width_of(before[place])))
+            if role and (place not in before or now.get(place) != expected):
+                self.wrong.add(place)
+        if not self.wrong:
+            self.subject.turned(run, words, turns, self.done, way)
+
+    def check_turns(self):
+        """With more turns left than the last ones. A place that is not as suggested is anything."""
+        self.wrong = set()
+        total, turns = self.subject.some("total", max(self.least, self.last + 1)), self.subject.some("turns")
+        for way in self.subject.ways():
+            with values.assuming():
+                values.assume_at_most(turns, total, self.last + 1)
+                on_each_path(lambda: self.turn(turns, sub(total, turns), way))
+            if self.wrong:
+                self.roles |= dict.fromkeys(self.wrong)
+                return self.check_turns()
+
+    def turns_at_end(self):
+        return sub(self.subject.some("total", max(self.least, self.last)), number(self.last))
+
+
+def prove(make, pers, like=None):
+    """Makes a subject whose turn has as many elements as the code's, and shows its loop: from the entry to the end. `like` is
+    a loop that perhaps does the same."""
+    faults = []
+    ways = [(pers[0], like.least, like.last, like)] if like else []
+    ways += [(per, least, last, None) for per in pers for least, last in ((1, 1), (2, 1), (3, 2), (4, 1))]
+    for per, least, last, like in ways:
+        try:
+            loop = Loop(make(per), least, last, like)
+            loop.subject.finish(loop)
+            return loop
+        except Setting:
+            raise
+        except Stop as stop:
+            faults.append(str(stop))
+    raise Stop(" | ".join(dict.fromkeys(faults)))
+
+
+def prove_each_rest(make, rests=1, lead=0, pers=(1, 2, 4, 8, 16)):
+    """For calls of any number of elements, each of which can have so many rests; then the few that reach no loop."""
+    loops = [prove(lambda per: make(0, per), pers)]
+    per = loops[0].subject.per
+    for rest in range(1, rests * per):
+        loops.append(prove(lambda per: make(rest, per), [per], loops[-1]))
+    for n in range(lead + max(loop.least for loop in loops) * per * rests):
+        make(n - lead, 1).few()

@@ -1,0 +1,309 @@
+"""What the two processors have in common: memory, conditions, and a run from a call to its return."""
+import functools
+
+from values import (Stop, Undecided, add, are_equal, bitwise, complement, cut, extend, facts, gap_of, greatest, is_below,
+                    is_not_negative, join, known, linear, number, number_in, power_of_two, signed, sub, total,
+                    unknown, unknowns_in, width_of)
+
+CALLER = number(0xCA11E4)  # where a call returns to
+STACK = 4096  # how much of it a call may use
+LIMIT = 40000  # how many instructions a run may execute
+OPPOSITE = {"ne": "e", "ae": "b", "a": "be", "ns": "s", "ge": "l"}
+
+
+def shift_one(x, n):
+    """1 shifted to the left by a number that may be an unknown."""
+    if x != number(1, 32) or number_in(cut(n, 5, 27)) != 0:
+        raise Stop("a shift that is not understood")
+    return power_of_two(cut(n, 0, 5), 32)
+
+
+def plain(function):
+    """An operation that sets no condition."""
+    return lambda machine, *values: function(*values)
+
+
+def logic(op):
+    return lambda machine, x, y: machine.compare("logic", x, y, bitwise(op, x, y))
+
+
+@functools.lru_cache(1 << 16)
+def place_of(address):
+    """An address as what it is relative to, and an offset."""
+    n, factors = linear(address)
+    return tuple(sorted(factors.items())), signed(n)
+
+
+class Setting(Undecided):
+    """A choice by what is the same in all of a call: the stack pointer modulo 64, or a static flag of the library."""
+
+
+class Array:
+    """Bytes in memory, as many as an unknown says. What is in them is unknown too, until they are written.
+
+    A call reads and writes at or after `first` alone, an offset: what is before it is finished."""
+
+    def __init__(self, name, at, length, is_writable=False):
+        self.name, self.at, self.length, self.is_writable = name, at, extend(length), is_writable
+        self.first, self.written = number(0), {}
+
+    def byte(self, offset, i):
+        """What the byte at offset + i is before the call."""
+        base, at = place_of(offset)
+        return unknown((self.name, base, at + i), 8)
+
+    def bytes(self, offset, count):
+        return [self.byte(offset, i) for i in range(count)]
+
+    def offset_of(self, address, size):
+        """The offset of an access that is within the array, or None."""
+        if not set(linear(self.at)[1]) <= set(linear(address)[1]):
+            return None
+        offset = sub(address, self.at)
+        before, behind = gap_of(self.first, offset), gap_of(offset, self.length)
+        if before and behind and is_not_negative(*before) and is_not_negative(behind[0] - size, behind[1]):
+            return offset
+        return None
+
+    def must_not_overlap(self, offset, size):
+        """What is written at offsets that are made of other unknowns is elsewhere."""
+        own = place_of(offset)[0]
+        others = {base: [at for other, at in self.written if other == base] for base, _ in self.written if base != own}
+        for base, places in others.items():
+            start = add(of_place(base, min(places)), number(0))
+            after = gap_of(add(start, number(max(places) - min(places) + 1)), offset)
+            before = gap_of(add(offset, number(size)), start)
+            if not (after and is_not_negative(*after) or before and is_not_negative(*before)):
+                raise Stop("an access that perhaps overlaps what the call has written")
+
+    def load(self, offset, size):
+        self.must_not_overlap(offset, size)
+        base, at = place_of(offset)
+        return [self.written.get((base, at + i)) or (self.byte(offset, i), 0) for i in range(size)]
+
+    def store(self, offset, value):
+        self.must_not_overlap(offset, width_of(value) // 8)
+        base, at = place_of(offset)
+        self.written |= {(base, at + i): (value, 8 * i) for i in range(width_of(value) // 8)}
+
+    def must_have_written(self, values):
+        """All that is written since `first` are these values, one behind the other."""
+        (base, at), count = place_of(self.first), 0
+        for value in values:
+            for i in range(width_of(value) // 8):
+                if (base, at + count) not in self.written:
+                    raise Stop("not all that must be written is")
+                found, bit = self.written[base, at + count]
+                if cut(found, bit, 8) != cut(value, 8 * i, 8):
+                    raise Stop("what is written is not what the definitions say")
+                count += 1
+        if len(self.written) > count:
+            raise Stop("more is written than must be")
+
+
+def of_place(base, n):
+    """The inverse of `place_of`."""
+    return total(n, dict(base))
+
+
+class Machine:
+    """One call. A subclass has the registers and the instructions of a processor."""
+
+    def __init__(self, library):
+        self.library, self.registers, self.bytes, self.writable, self.arrays = library, {}, {}, set(), []
+        self.flags, self.at, self.next, self.executed = None, None, None, []
+        rest = facts.get("alignment")  # of the stack pointer modulo 64, if a path has chosen it
+        stack = unknown("stack", 62, 1 << 20) if rest is None else join(number(rest, 6), unknown("stack", 56, 1 << 14))
+        self.stack = extend(stack)
+        self.top = place_of(self.stack)[1]
+        self.set_up()
+
+    def map(self, address, values, writable=False):
+        """Memory with these values, each of some bytes."""
+        base, at = place_of(address)
+        for value in values:
+            for i in range(width_of(value) // 8):
+                self.bytes[base, at] = value, 8 * i
+                if writable:
+                    self.writable.add((base, at))
+                at += 1
+
+    def give(self, array):
+        self.arrays.append(array)
+        return array
+
+    def is_in_stack(self, base):
+        return base == place_of(self.stack)[0]
+
+    def in_array(self, address, size):
+        for array in self.arrays:
+            offset = array.offset_of(address, size)
+            if offset is not None:
+                return array, offset
+        raise Stop("an access outside of what the call is given")
+
+    def byte(self, base, at):
+        """A value and the bit of it from which on it has this byte."""
+        if self.is_in_stack(base) and at < self.end_of_stack():
+            raise Stop("a read below the stack")
+        if (base, at) in self.bytes:
+            return self.bytes[base, at]
+        if base:
+            array, offset = self.in_array(of_place(base, at), 1)
+            return array.load(offset, 1)[0]
+        if any(at in addresses for addresses in self.library.statics):
+            return extend(unknown(("static", at), 1), 8), 0  # a flag of the library, which no call writes
+        offset = self.library.offset_of(at)
+        if offset is None:
+            raise Stop("a read outside of what the call is given")
+        return number(self.library.data[offset], 8), 0
+
+    def load(self, address, size):
+        (base, start), parts = place_of(address), []
+        if not base or self.is_in_stack(base) or any((base, start + i) in self.bytes for i in range(size)):
+            found = [self.byte(base, start + i) for i in range(size)]
+        else:
+            array, offset = self.in_array(address, size)
+            found = array.load(offset, size)
+        for value, bit in found:
+            if parts and parts[-1][0] is value and parts[-1][1] + parts[-1][2] == bit:
+                parts[-1][2] += 8
+            else:
+                parts.append([value, bit, 8])
+        return join(*(cut(*part) for part in parts))
+
+    def store(self, address, value):
+        (base, start), size = place_of(address), width_of(value) // 8
+        places = [(base, start + i) for i in range(size)]
+        if self.is_in_stack(base):
+            end = self.end_of_stack()
+            is_allowed = all(end <= at < self.top or (base, at) in self.writable for _, at in places)
+        else:
+            is_allowed = all(place in self.writable for place in places)
+        if is_allowed:
+            self.bytes |= {place: (value, 8 * i) for i, place in enumerate(places)}
+            return
+        array, offset = self.in_array(address, size)
+        if not array.is_writable:
+            raise Stop("a write to what the call may only read")
+        array.store(offset, value)
+
+    def end_of_stack(self):
+        base, at = place_of(self.registers[self.pointer])
+        if not self.is_in_stack(base) or not -STACK <= at - self.top <= 0:
+            raise Stop("the stack pointer leaves the stack")
+        return at - self.red_zone
+
+    def must_know_alignment(self):
+        """The stack pointer is a multiple of 16 before a call, and modulo 64 any of these."""
+        if "alignment" not in facts:
+            raise Setting("the alignment of the stack", *(({"alignment": 16 * k + self.entry}, []) for k in range(4)))
+
+    def must_be_aligned(self, address, size=16):
+        base, at = place_of(address)
+        if base and self.is_in_stack(base) and size > 16:
+            self.must_know_alignment()
+        rest = at if not base or "alignment" in facts else at - self.top + self.entry
+        if base and not self.is_in_stack(base) or rest % size:
+            raise Stop("an access that is perhaps not aligned")
+
+    # ---- conditions, by the names that x86-64 has for them
+
+    def compare(self, what, x, y, result):
+        self.flags = what, x, y, result
+        return result
+
+    def condition(self, name):
+        """One bit. The last comparison was a "sub", an "add", something "logic"al, an "other" that sets no carry, or one that
+        sets these "bits"."""
+        if name in OPPOSITE:
+            return complement(self.condition(OPPOSITE[name]))
+        if not self.flags or not self.flags[0] or name not in ("e", "b", "be", "s", "l"):
+            raise Stop(f"the condition {name} is not known here")
+        what, x, y, result = self.flags
+        if name == "l" and (what == "logic" or what == "sub" and number_in(y) == 0):
+            name = "s"  # there is no overflow
+        if name == "s" and what in ("sub", "add", "logic", "other") and result is not None:
+            sign = cut(result, width_of(result) - 1, 1)
+            return facts.get(sign, sign)
+        if name == "l":
+            raise Stop("a signed comparison that is not understood")
+        if what == "bits":
+            return {"e": x, "b": y, "be": bitwise("or", x, y)}[name]
+        if name == "e":
+            return are_equal(x, y) if what == "sub" else are_equal(result, number(0, width_of(result)))
+        if what == "sub":
+            return number(is_below(x, y) if name == "b" else not is_below(y, x), 1)
+        if what == "other" or what == "add" and (greatest(x) + greatest(y)) >> width_of(x):
+            raise Stop("a carry that is not known")
+        return number(0, 1) if name == "b" else self.condition("e")
+
+    def holds(self, name):
+        bit = self.condition(name)
+        if number_in(bit) is None and name in ("s", "ns", "l", "ge"):
+            raise Undecided("a sign", *(({self.condition("s"): number(n, 1)}, []) for n in (0, 1)))
+        if number_in(bit) is None and name in ("e", "ne"):
+            zero, value = self.condition("e"), self.flags[3]
+            kind = Setting if all(name[0] == "static" for name in unknowns_in(zero)) else Undecided
+            raise kind("whether a value is 0", ({zero: number(1, 1), value: number(0)}, []), ({zero: number(0, 1)}, []))
+        return known(bit, "a branch")
+
+    def subtract(self, x, y):
+        return self.compare("sub", x, y, sub(x, y))
+
+    def sum(self, x, y):
+        return self.compare("add", x, y, add(x, y))
+
+    # ---- a run
+
+    def begin(self, function, arguments):
+        if function not in self.library.functions:
+            raise Stop("the library does not have it")
+        self.pass_arguments(arguments)
+        self.before, self.at = dict(self.registers), self.library.functions[function]
+
+    def go(self, head=None, arrivals=1):
+        """Runs to the end of the call, or up to an instruction, arriving there so often. Returns whether it did."""
+        while self.at != number_in(CALLER):
+            if self.at not in self.library.instructions or len(self.executed) > LIMIT:
+                raise Stop("a jump to where no instruction is" if len(self.executed) <= LIMIT else "no end")
+            self.execute(*self.library.instructions[self.at])
+            self.at = self.next
+            if self.at == head:
+                arrivals -= 1
+                if not arrivals:
+                    return True
+        self.must_have_restored()
+        return False
+
+    def execute(self, op, operands, following):
+        self.next = following
+        self.executed.append(self.at)
+        try:
+            self.step(op, operands)
+        except Stop as stop:
+            stop.args = (f"{self.at:x}: {op} {operands}: {stop}",)
+            raise
+        except (KeyError, ValueError, IndexError, TypeError, AttributeError) as error:
+            raise Stop(f"{self.at:x}: {op} {operands}: not understood: {error!r}") from None
+
+    def must_have_restored(self):
+        for name, width in self.kept.items():
+            if cut(self.registers[name], 0, width) != cut(self.before[name], 0, width):
+                raise Stop(f"{name} is not restored")
+        if self.registers[self.pointer] != add(self.before[self.pointer], number(self.popped)):
+            raise Stop("the stack pointer is not restored")
+
+    # ---- what it must leave
+
+    def must_return(self, value):
+        if value is not None and cut(self.result(), 0, width_of(value)) != value:
+            raise Stop("the result is not what the definitions say")
+
+    def must_have(self, address, values):
+        """These values in memory, one behind the other. None is any byte."""
+        for value in values:
+            size = width_of(value) // 8 if value is not None else 1
+            if value is not None and self.load(address, size) != value:
+                raise Stop("what is written is not what the definitions say")
+            address = add(address, number(size))

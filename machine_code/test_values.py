@@ -1,0 +1,154 @@
+"""The rules of the normal form: random values, each beside whole numbers."""
+import functools
+import itertools
+import random
+
+import pytest
+import values
+from values import (WORD, Stop, Undecided, add, are_equal, bitwise, complement, cut, extend, is_below, is_zero, join, mul,
+                    number, number_in, power_of_two, rotate_right, shift_left, shift_right, sub, unknown)
+
+WORLDS = 4  # in each, an unknown is another number
+
+
+def number_of(value, known, pick):
+    result = at = 0
+    for a, low, width in value:
+        if a != values.NUMBER and a not in known:
+            known[a] = number_of_atom(a, known, pick)
+        result |= (low if a == values.NUMBER else known[a] >> low & (1 << width) - 1) << at
+        at += width
+    return result
+
+
+def number_of_atom(a, known, pick):
+    (kind, *parts), (least, most) = values.kinds[a], values.ranges[a]
+    if kind == "unknown":
+        return pick.choice([least, most, pick.randint(least, most), pick.randint(least, most)])
+    if kind == "sum":
+        return (parts[0] + sum(number_of((piece,), known, pick) * factor for piece, factor in parts[1])) % WORD
+    numbers = [number_of(item, known, pick) for item in (parts[2] if kind in values.BITS else parts)]
+    if kind in values.BITS:
+        return functools.reduce(values.BITS[kind], [parts[1]] * (kind == "xor") + numbers)
+    return numbers[0] * numbers[1] % WORD if kind == "product" else 1 << numbers[0] if kind == "power" else int(numbers[0] == 0)
+
+
+def random_operation(pick):
+    """A function of two values of 64 bits, and the same of two numbers."""
+    n = pick.choice([1, 8, 16, 31, 32, 33, pick.randrange(1, 63)])
+    width = min(pick.choice([1, 8, 16, 32, 33, pick.randrange(1, 63)]), 64 - n)
+    ones, factor = (1 << width) - 1, pick.choice([1 << n, pick.getrandbits(64), WORD - 1])
+    return pick.choice([
+        (add, lambda x, y: x + y), (sub, lambda x, y: x - y), (mul, lambda x, y: x * y),
+        (lambda x, y: mul(x, number(factor)), lambda x, y: x * factor),
+        *((functools.partial(bitwise, op), on_numbers) for op, on_numbers in values.BITS.items()),
+        (lambda x, y: bitwise("and", x, number(factor)), lambda x, y: x & factor),
+        (lambda x, y: complement(x), lambda x, y: ~x), (lambda x, y: extend(is_zero(x)), lambda x, y: x == 0),
+        (lambda x, y: extend(is_zero(complement(is_zero(x)))), lambda x, y: x == 0),
+        (lambda x, y: extend(is_zero(cut(bitwise("or", x, y), n, width))), lambda x, y: (x | y) >> n & ones == 0),
+        (lambda x, y: extend(cut(x, n, width)), lambda x, y: x >> n & ones),
+        (lambda x, y: shift_left(x, n), lambda x, y: x << n), (lambda x, y: shift_right(x, n), lambda x, y: x >> n),
+        (lambda x, y: rotate_right(x, n), lambda x, y: x >> n | x << 64 - n),
+        (lambda x, y: join(cut(x, 0, n), cut(y, n, 64 - n)), lambda x, y: x % (1 << n) | y >> n << n),
+        (lambda x, y: power_of_two(cut(x, 0, 5), 64), lambda x, y: 1 << x % 32),
+        (lambda x, y: extend(add(cut(x, 0, n), cut(y, 0, n))), lambda x, y: (x + y) % (1 << n)),
+        *operations_of_pieces(pick, n, width),
+    ])
+
+
+def operations_of_pieces(pick, n, width):
+    """Values whose pieces are neighbours, overlap, occur twice, or have factors that are alike up to their highest bits."""
+    low, other = (pick.choice([1, 1 << pick.randrange(60)]) for _ in range(2))
+    high = (low << n) + pick.choice([0, 0, 1 << 62, 1 << 63, -1 << 61]) & WORD - 1
+    at = pick.randrange(1, 30)
+    yield (lambda x, y: add(mul(extend(cut(x, 0, n)), number(low)), mul(extend(cut(x, n, 64 - n)), number(high))),
+           lambda x, y: x % (1 << n) * low + (x >> n) * high)
+    yield (lambda x, y: bitwise("or", bitwise("or", x, y), bitwise("or", x, rotate_right(y, n))),
+           lambda x, y: x | y | y >> n | y << 64 - n)
+    yield lambda x, y: join(cut(x, 0, n), cut(x, n // 2, 64 - n)), lambda x, y: x % (1 << n) | x >> n // 2 << n
+    yield lambda x, y: extend(join(cut(x, 0, n // 2), cut(x, n, 64 - n))), lambda x, y: x % (1 << n // 2) | x >> n << n // 2
+    yield (lambda x, y: extend(cut(add(x, mul(y, number(1 << at))), min(n, 20), at)),
+           lambda x, y: x + (y << at) >> min(n, 20) & (1 << at) - 1)
+    yield (lambda x, y: mul(extend(cut(add(x, number(5)), 0, n)), number(other << 64 - n)),
+           lambda x, y: (x + 5) % (1 << n) * (other << 64 - n))
+
+
+def test_a_rule_gives_an_equal_value():
+    pick, known, pool = random.Random(1), [{} for _ in range(WORLDS)], []
+    for i in range(60):
+        width = pick.choice([1, 5, 8, 8, 16, 32, 62, 64])
+        value = extend(unknown(("any", i), width, pick.choice([0, 1])))
+        pool.append((value, [number_of(value, world, pick) for world in known]))
+    for _ in range(10_000):
+        (x, xs), (y, ys) = (pick.choice(pool[-80:]) for _ in range(2))
+        on_values, on_numbers = random_operation(pick)
+        value, numbers = on_values(x, y), [int(on_numbers(*pair)) % WORD for pair in zip(xs, ys)]
+        assert [number_of(value, world, pick) for world in known] == numbers
+        exact = values.exact(*values.linear(value))
+        assert not exact or all(exact[2] <= n <= exact[3] for n in numbers)
+        try:
+            assert {n < m for n, m in zip(numbers, xs)} == {is_below(value, x)}
+        except Stop:
+            pass
+        equal = number_in(are_equal(value, x))
+        assert equal is None or {n == m for n, m in zip(numbers, xs)} == {bool(equal)}
+        pool.append((value, numbers))
+
+
+def test_what_bounds_imply_is_so():
+    """Of three small numbers: whatever is decided holds for all of them that keep the bounds."""
+    pick, small = random.Random(2), [extend(unknown(("small", i), 3)) for i in range(3)]
+    all_numbers, decided = list(itertools.product(range(8), repeat=3)), 0
+    for _ in range(1500):
+        factors = [[pick.choice([0, 1, 1, 2, 3]) for _ in range(3)] for _ in range(6)]
+        sums = [functools.reduce(add, (mul(x, number(k)) for x, k in zip(small, row)), number(pick.randrange(3)))
+                for row in factors]
+        less = pick.randrange(3)
+        with values.assuming():
+            values.assume_at_most(sums[0], sums[1], less)
+            values.assume_at_most(sums[2], sums[3])
+            holding = [known for known in all_numbers if evaluate(sums[0], known) <= evaluate(sums[1], known) - less
+                       and evaluate(sums[2], known) <= evaluate(sums[3], known)]
+            try:
+                answer = is_below(sums[4], sums[5])
+                decided += 1
+                assert all((evaluate(sums[4], known) < evaluate(sums[5], known)) == answer for known in holding)
+            except Undecided:
+                pass
+            if number_in(are_equal(sums[4], sums[5])) == 0:
+                assert all(evaluate(sums[4], known) != evaluate(sums[5], known) for known in holding)
+    assert decided > 300
+
+
+def evaluate(value, known):
+    """With numbers for the small unknowns."""
+    world = {extend(unknown(("small", i), 3))[0][0]: n for i, n in enumerate(known)}
+    return number_of(value, world, None)
+
+
+def test_a_path_leaves_no_trace():
+    """What is assumed holds on its path alone, and not for values that are made there."""
+    x, y = (extend(unknown(name, 62)) for name in ("x", "y"))
+    with values.assuming():
+        values.assume_at_most(y, x)
+        gap = sub(x, y)
+        assert not is_below(x, y) and is_below(gap, number(1 << 62))
+    assert values.ranges[gap[0][0]] == (0, WORD - 1)
+    with pytest.raises(Undecided) as choice:
+        is_below(x, y)
+    for way, answer in zip(choice.value.ways, (True, False)):
+        with values.assuming([way]):
+            assert is_below(x, y) == answer
+    with pytest.raises(Undecided):
+        is_below(x, y)
+
+
+def test_a_rotation_by_each_number_of_bits():
+    x, word = unknown("rotated", 64), 0x123456789ABCDEF1
+    for n in range(64):
+        assert number_of(rotate_right(x, n), {x[0][0]: word}, None) == (word << 64 | word) >> n & WORD - 1
+
+
+def test_vectors_of_different_lengths_have_no_lanes():
+    with pytest.raises(Stop):
+        values.lanes(32, add, unknown("long", 64), unknown("short", 32))
