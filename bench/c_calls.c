@@ -1,6 +1,16 @@
-/* The C calls compared with xxHash, inlined or called, and with Debian's libmurmurhash, a C port of the reference. */
+/* The C calls compared with xxHash, inlined or called, and with Debian's libmurmurhash, a C port of the reference. If INCLUDED
+ * is defined, the text of the calls is here, so that they can be inlined too. */
 #define XXH_INLINE_ALL
+#ifdef INCLUDED
+#define SKETCH_HASH_INLINE
+#include "../dist/sketch_hash.c"
+#define C "included"
+#define COLUMN "included_column"
+#else
 #include "../dist/include/sketch_hash.h"
+#define C "c"
+#define COLUMN "column"
+#endif
 #include "measure.h"
 #include <murmurhash.h>
 #include <xxhash.h>
@@ -88,15 +98,15 @@ FLAT their_numbers(size_t total, size_t length) {
 static void column(const char *name, unsigned least, unsigned most) {
     for (size_t i = 0; i < KEYS; i++)
         offsets[i + 1] = offsets[i] + least + i * 2654435761u / 65536 % (most - least + 1);
-    compare("column", name, "XXH64 in a loop, inlined", ours_column, their_column, offsets[KEYS], 0,
+    compare(COLUMN, name, "XXH64 in a loop, inlined", ours_column, their_column, offsets[KEYS], 0,
             KEYS);
 }
 
 static void keys(const char *name, size_t total, size_t length) {
     const size_t items = length ? total / length : KEYS;
-    compare("c", name, "XXH64, inlined", ours_xxh64, inlined_xxh64, total, length, items);
-    compare("c", name, "XXH64, called", ours_xxh64, their_xxh64, total, length, items);
-    compare("c", name, "reference Murmur, called", ours_murmur, their_murmur, total, length, items);
+    compare(C, name, "XXH64, inlined", ours_xxh64, inlined_xxh64, total, length, items);
+    compare(C, name, "XXH64, called", ours_xxh64, their_xxh64, total, length, items);
+    compare(C, name, "reference Murmur, called", ours_murmur, their_murmur, total, length, items);
 }
 
 int main(void) {
@@ -108,7 +118,7 @@ int main(void) {
         keys(name_of("keys of %zu byte%s", lengths[i]), KEYS * lengths[i], lengths[i]);
     keys("keys of 1 to 64 bytes", KEYS * 64, 0);
     for (size_t i = 0; i < sizeof writes / sizeof *writes; i++)
-        compare("c", name_of("writes of %zu byte%s", writes[i]), "XXH64_update, inlined",
+        compare(C, name_of("writes of %zu byte%s", writes[i]), "XXH64_update, inlined",
                 ours_stream, their_stream, STREAM, writes[i], STREAM / writes[i]);
     column("keys of 1 to 16 bytes", 1, 16);
     column("keys of 1 to 64 bytes", 1, 64);
@@ -118,7 +128,7 @@ int main(void) {
     column("keys of 31 bytes", 31, 31);
     column("keys of 64 bytes", 64, 64);
     for (size_t i = 0; i < KEYS; i++) numbers[i] = i * 0x9e3779b97f4a7c15;
-    compare("column", "numbers of 64 bits", "XXH64 in a loop, inlined", ours_numbers, their_numbers,
+    compare(COLUMN, "numbers of 64 bits", "XXH64 in a loop, inlined", ours_numbers, their_numbers,
             0, 0, KEYS);
     keys("64 KiB at once", 1 << 16, 1 << 16);
     keys("1 MiB at once", LARGEST, LARGEST);

@@ -46,7 +46,6 @@ setup(
     extras_require={"parquet": ["pyarrow"]},
     package_dir={"": "src"},
     package_data={"sketch_hash": ["py.typed", "*.pyi"], "sketch_hash.parquet": ["*.pyi"]},
-    entry_points={"console_scripts": ["sketch-hash = sketch_hash.__main__:command"]},
     libraries=[library],
     ext_modules=cythonize(modules, build_dir="build", compiler_directives=directives),
 )
