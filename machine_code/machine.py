@@ -158,7 +158,21 @@ class Machine:
             raise Stop("a read outside of what the call is given")
         return number(self.library.data[offset], 8), 0
 
+    def bit_of_table(self, address, size):
+        """A word of a table of the library that has 2^i at index i, at an unknown index of five bits; else None."""
+        start, factors = linear(address)
+        pieces = [piece for piece, factor in factors.items() if piece[2] == 5 and factor == size == 4]
+        if len(factors) != 1 or not pieces:
+            return None
+        places = [self.library.offset_of(start + 4 * i) for i in range(32)]
+        if None in places or any(self.library.unpack("I", place) != (1 << i,) for i, place in enumerate(places)):
+            return None
+        return power_of_two((pieces[0],), 32)
+
     def load(self, address, size):
+        bit = self.bit_of_table(address, size)
+        if bit is not None:
+            return bit
         (base, start), parts = place_of(address), []
         if not base or self.is_in_stack(base) or any((base, start + i) in self.bytes for i in range(size)):
             found = [self.byte(base, start + i) for i in range(size)]

@@ -17,19 +17,15 @@ from values import Stop
 
 TEXT = DIST / "sketch_hash.c"
 COMPILERS = {
-    "gcc": ["gcc", "-O2"], "clang": ["clang", "-O3"], "aarch64": ["aarch64-linux-gnu-gcc", "-O2"],
-    "gcc with AVX2": ["gcc", "-O3", "-march=x86-64-v3"],
+    "gcc": ["gcc", "-O2"], "clang": ["clang", "-O2"], "aarch64": ["aarch64-linux-gnu-gcc", "-O2"],
 }
-SHIPPED = {path.parent.name: path for path in sorted(DIST.glob("linux-x86_64/*.so.2"))}
 
 
 @pytest.fixture(scope="session")
 def library_of(tmp_path_factory, need):
-    """Of what a compiler makes of the text, or of one that is shipped; with the reader's cache."""
+    """Of what a compiler makes of the text."""
     @functools.cache
     def run(name):
-        if name in SHIPPED:
-            return library.read(SHIPPED[name])
         need(COMPILERS[name][0])
         path = tmp_path_factory.mktemp("library") / "library.so"
         subprocess.run([*COMPILERS[name], "-fPIC", "-shared", "-I", DIST / "include", TEXT, "-o", path], check=True)
@@ -43,7 +39,7 @@ def tools(need):
     need("linux-x86_64", "objdump", "aarch64-linux-gnu-objdump")
 
 
-@pytest.mark.parametrize("name", COMPILERS if TEXT.exists() else SHIPPED)
+@pytest.mark.parametrize("name", COMPILERS)
 def test_the_machine_code_is_as_defined(name, library_of):
     faults = {function: checks.faults_of(runs) for function, runs in checks.checks_of(library_of(name)).items()}
     assert {function: found for function, found in faults.items() if found} == {}
@@ -54,7 +50,7 @@ def test_a_function_without_a_check_is_noticed(header, library_of, monkeypatch):
     text = calls.HEADER + header if header else calls.HEADER.replace("sketch_xxh64_update(", "(")
     monkeypatch.setattr(calls, "HEADER", text)
     with pytest.raises(Stop, match="other functions"):
-        checks.checks_of(library_of(next(iter(COMPILERS if TEXT.exists() else SHIPPED))))
+        checks.checks_of(library_of("gcc"))
 
 
 @pytest.mark.parametrize("hash", ["Xxh64", "Murmur"])
@@ -92,7 +88,7 @@ def few_calls(machine, hash):
     (headers.HEADER, lambda machine: [functools.partial(headers.write, machine)]),
 ], ids=["XXH64", "Murmur", "filter", "header"])
 def test_a_changed_number_of_a_definition_is_noticed(definitions, runs, library_of):
-    used = library_of(next(iter(COMPILERS if TEXT.exists() else SHIPPED)))
+    used = library_of("gcc")
     runs = runs(lambda: checks.MACHINES[used.processor](used))
     definitions.forget()
     assert checks.faults_of(runs) == {}

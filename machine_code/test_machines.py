@@ -13,7 +13,7 @@ import loops
 import pytest
 import texts
 from machine import Array
-from test_checks import COMPILERS, SHIPPED, TEXT, library_of, tools  # noqa: F401 (fixtures)
+from test_checks import library_of, tools  # noqa: F401 (fixtures)
 from values import Stop, add, complement, cut, extend, mul, number, number_in, sub, unknown
 
 ASSEMBLERS = {
@@ -39,7 +39,12 @@ def check_version(machine):
     calls.check_call(machine, "hash_version", calls.Call, [], [], number(calls.VERSION, 32))
 
 
+# An unknown bit, by a table of all.
+BITS = [1 << i for i in range(32)]
+LOOKED_UP = f"lea rcx, [rip+1f]; mov eax, edi; shr eax, 27; mov eax, [rcx+rax*4]; {VERSION}; 1: .long "
+
 RIGHT = [
+    ("x86-64", LOOKED_UP + ", ".join(map(str, BITS))),
     ("x86-64", f"push rbx; mov rbx, rdi; pop rbx; {VERSION}"), ("x86-64", f"mov [rsp-128], rax; mov rcx, [rsp-128]; {VERSION}"),
     ("x86-64", f"sub rsp, 24; movaps [rsp], xmm0; add rsp, 24; {VERSION}"), ("Windows", f"mov [rsp+8], rcx; {VERSION}"),
     ("x86-64", f"add rax, rcx; inc rax; cmp rax, rax; jne 1f; {VERSION}; 1: ud2"), ("aarch64", ARM),
@@ -47,6 +52,8 @@ RIGHT = [
     ("x86-64", f"mov rax, rsp; and rsp, -64; sub rsp, 64; movaps [rsp], xmm1; mov rsp, rax; {VERSION}"),
 ]
 WRONG = [
+    ("x86-64", LOOKED_UP + ", ".join(map(str, [*BITS[:31], 5])), "outside"),
+    ("x86-64", LOOKED_UP.replace("27", "26") + ", ".join(map(str, BITS * 2)), "outside"),
     ("x86-64", f"push rbx; {VERSION}", "the end of a call"), ("x86-64", f"mov rbx, rdi; {VERSION}", "rbx is not restored"),
     ("x86-64", f"mov r12d, r12d; {VERSION}", "r12 is not restored"), ("x86-64", f"pop rcx; add rsp, 8; jmp rcx; {VERSION}", ""),
     ("x86-64", f"mov rcx, [rsp]; push rcx; {VERSION}", "the stack pointer is not restored"),
@@ -191,7 +198,7 @@ def some_runs(machine):
                 yield from runs
 
 
-@pytest.mark.parametrize("name", ["gcc", "aarch64"] if TEXT.exists() else SHIPPED)
+@pytest.mark.parametrize("name", ["gcc", "aarch64"])
 def test_each_operation_that_is_changed_is_noticed(name, library_of, monkeypatch):  # noqa: F811
     """Its result is the complement; of a comparison the conditions are."""
     used = library_of(name)
