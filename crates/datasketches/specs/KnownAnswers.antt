@@ -64,8 +64,8 @@ pub record Xxh64Answers : Type 0 where
   pub six_stripes : xxh64 0 (test_bytes 222) ≡ 0xb641ae8cb691c174
   pub six_stripes_seeded : xxh64 0x9E3779B1 (test_bytes 222) ≡ 0x20cb8ab7ae10c14a
   pub verification : verification_value xxh64_bytes ≡ 0x024b7cf4
-  pub no_bytes_64_bits : xxh64 0x9E3779B185EBCA8D [] ≡ 0x0b303d920ec349df
-  pub three_bytes_64_bits : xxh64 0x9E3779B185EBCA8D (test_bytes 3) ≡ 0x281b7cbb86cc6a05
-  pub no_stripe_64_bits : xxh64 0x9E3779B185EBCA8D (test_bytes 14) ≡ 0x12dcd5db160cc92b
-  pub one_stripe_64_bits : xxh64 0x9E3779B185EBCA8D (test_bytes 32) ≡ 0x21d817283f4b6283
-  pub six_stripes_64_bits : xxh64 0x9E3779B185EBCA8D (test_bytes 222) ≡ 0xccb064ac93ebb562
+  pub no_bytes_64_bits : xxh64 0x85EBCA77C2B2AE63 [] ≡ 0x9fb0856a37adfc13
+  pub three_bytes_64_bits : xxh64 0x85EBCA77C2B2AE63 (test_bytes 3) ≡ 0xe1232e58f6337337
+  pub no_stripe_64_bits : xxh64 0x85EBCA77C2B2AE63 (test_bytes 14) ≡ 0xc68f1dcab094c3fe
+  pub one_stripe_64_bits : xxh64 0x85EBCA77C2B2AE63 (test_bytes 32) ≡ 0xd784ef6c40614611
+  pub six_stripes_64_bits : xxh64 0x85EBCA77C2B2AE63 (test_bytes 222) ≡ 0x0626e8dbc3e498aa
