@@ -1,4 +1,4 @@
-use Rattle.std.proofs.Common.{ℕ, ◌^◌, ◌≤◌, refl, arith}
+use Rattle.std.proofs.Common.{◌^◌, ◌≤◌, refl, arith}
 use Rattle.std.proofs.Math.Nat.{pow-le-pow_right}
 use Rattle.sketch_bloom.proofs.size.bytes_for.Goals as goal
 
