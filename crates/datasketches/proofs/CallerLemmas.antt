@@ -3,7 +3,7 @@ use Rattle.std.proofs.Common.{◌≡◌, ℕ, zero, suc, ◌≤◌, List, [], �
 use Rattle.std.specs.List.{All}
 use Rattle.sketch_base.specs.declared.codec.item.Item.{Item}
 use Rattle.sketch_base.specs.declared.codec.item.Kind.{Kind}
-use Rattle.sketch_base.specs.Items.{InType, item_kind, spell_all, widths}
+use Rattle.sketch_base.specs.Items.{InType, item_kind, spell, spell_all, widths}
 use Rattle.sketch_base.proofs.ItemLemmas.{item_law}
 use Rattle.sketch_hash.specs.Pieces.{State}
 use Rattle.sketch_hash.specs.Murmur.{murmur, murmur_after, murmur_answer, MurmurStands}
@@ -16,6 +16,18 @@ pub murmur_of_one_write : (seed : ℕ) (bytes : List ℕ) (start state : State (
 murmur_of_one_write seed bytes start state answer begun written answered =
     answered ∙ murmur_answer-stands seed bytes state
     (murmur_stands_after start state bytes written seed [] begun)
+
+-- the first items have no more bytes than all
+pub length-spell_all-take : (n : ℕ) (items : List Item) →
+    length (spell_all (take n items)) ≤ length (spell_all items)
+length-spell_all-take zero items = omega arith
+length-spell_all-take (suc n) [] = omega arith
+length-spell_all-take (suc n) (item ∷ items) = omega (
+  arith,
+  length-append (spell item) (spell_all (take n items)),
+  length-append (spell item) (spell_all items),
+  length-spell_all-take n items,
+)
 
 widths-take-le : (n : ℕ) (kinds : List Kind) → widths (take n kinds) ≤ widths kinds
 widths-take-le zero kinds = omega arith

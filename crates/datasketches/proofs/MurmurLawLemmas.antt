@@ -1,5 +1,5 @@
 -- Murmur's pairs do not collide if one block alone differs, or the seed alone.
-use Rattle.std.proofs.Common.{◌≡◌, ℕ, ◌+◌, ◌-◌, ◌<◌, ◌≤◌, inl, inr, List, ◌∷◌, ◌++◌, length, take, drop, sym, ap, ◌∙◌, arith, length-drop, ◌≢◌, ◌*◌, ◌/◌, ◌%◌, ◌^◌, [], map, refl, length-append}
+use Rattle.std.proofs.Common.{◌≡◌, ℕ, ◌+◌, ◌<◌, ◌≤◌, inl, inr, List, ◌∷◌, ◌++◌, length, take, drop, sym, ap, ◌∙◌, arith, length-drop, ◌≢◌, ◌*◌, ◌/◌, ◌%◌, ◌^◌, [], map, refl, length-append}
 use Rattle.std.proofs.lemmas.List.{take-append-drop, map-append, length-take-le}
 use Rattle.datasketches.specs.Laws.{AgreeOutside, DifferInOneBlock, MurmurSeedLaw}
 use Rattle.std.specs.List.{fold}

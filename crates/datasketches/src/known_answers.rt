@@ -1,9 +1,9 @@
-//! Published answers of both hashes, which the definitions give.
+//! Known answers of both hashes, most of them published, which the definitions give.
 //!
 //! Each function here does nothing: its contract is computed from the definitions. So a definition
 //! that answers otherwise is refused.
 
-ghost use Rattle.datasketches.specs.KnownAnswers.{MurmurAnswers, Xxh64Answers};
+ghost use Rattle.datasketches.specs.KnownAnswers.{MurmurAnswers, SeedHashAnswers, Xxh64Answers};
 
 /// The first bytes of the buffer that [xxHash's own tests](https://github.com/Cyan4973/xxHash) use.
 pub const TEST_BUFFER: [u8; 100] = [
@@ -16,13 +16,21 @@ pub const TEST_BUFFER: [u8; 100] = [
     0x9d, 0x32, 0x73, 0x09,
 ];
 
-/// The definition of MurmurHash3 gives a published answer and SMHasher's verification value.
+/// The definition of MurmurHash3 gives a published answer and SMHasher's verification value, and
+/// what DataSketches answers under its own seed and under longer ones.
 #[tactic(auto, using(crate::proofs::KnownAnswers::murmur_answers))]
 pub fn murmur_answers()
     ensures { MurmurAnswers }
 {}
 
-/// The definition of XXH64 gives the answers in xxHash's tests and SMHasher's verification value.
+/// The definition of the seed hash gives those of DataSketches.
+#[tactic(auto, using(crate::proofs::KnownAnswers::seed_hash_answers))]
+pub fn seed_hash_answers()
+    ensures { SeedHashAnswers }
+{}
+
+/// The definition of XXH64 gives the answers in xxHash's tests and SMHasher's verification value,
+/// and what libxxhash answers under a seed of 64 bits.
 #[tactic(auto, using(crate::proofs::KnownAnswers::xxh64_answers))]
 pub fn xxh64_answers()
     ensures { Xxh64Answers }

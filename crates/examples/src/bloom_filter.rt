@@ -1,13 +1,14 @@
 //! A Bloom filter of Apache Parquet that is filled, saved with its header, read, and merged.
 
-ghost use Rattle.std.specs.Prelude.{ℕ, List, ◌≡◌, ◌↔◌, ◌+◌, ◌*◌, ◌++◌, ◌∷◌, [], Contains, IfOk, IfSome, IsTrue, length, map, take};
-ghost use Rattle.sketch_bloom.specs.Filter.{Inserts, hash_of};
+ghost use Rattle.std.specs.Prelude.{ℕ, List, ◌≡◌, ◌⊎◌, ◌↔◌, ◌+◌, ◌*◌, ◌^◌, ◌<◌, ◌≤◌, ◌++◌, ◌∷◌, [], Contains, IfOk, IsTrue, MatchOption, MatchResult, length, map, take};
+ghost use Rattle.sketch_bloom.specs.Filter.{Folds, Inserts, IsFoldFault, IsLengthFault, IsMember, IsMergeFault, Merges, hash_of};
 ghost use Rattle.sketch_bloom.specs.Header.{IsHeaderLength, header};
 ghost use Rattle.sketch_bloom.specs.Laws.{StandsFor};
+ghost use Rattle.sketch_bloom.specs.Size.{IsLeastSize, NoneKeepsRate};
 
 use datasketches::hash::Hash;
 use datasketches::hash::value::raw_bytes;
-use sketch_bloom::laws::{fold_law, insert_law, merge_law};
+use sketch_bloom::laws::{fold_law, header_law, insert_law, merge_law};
 use sketch_bloom::{
     BloomFilter, Fault, MAX_BYTES, bytes_for, contains, insert, insert_each_value, merge,
     read_header, write_header,
@@ -21,8 +22,14 @@ use std::alloc::Global;
 ///
 /// Returns [`Fault::OutOfMemory`] if there is no memory.
 pub fn fill<T: Hash>(alloc: Global, values: &[T], one_in: u64) -> Result<BloomFilter, Fault>
-    ensures { IfOk result (λ filter.
+    ensures stands { IfOk result (λ filter.
         StandsFor filter (map (λ value. hash_of (T.fed value)) values.now)) }
+    ensures size { let keys = length values.now in
+        MatchResult result (λ filter.
+        ((length filter ≡ MAX_BYTES) × NoneKeepsRate keys one_in)
+        ⊎ ((log2_blocks : ℕ) × (length filter ≡ 32 * 2 ^ log2_blocks)
+        × IsLeastSize keys one_in log2_blocks))
+        (λ fault. fault ≡ Fault.OutOfMemory) }
 {
     insert_law();
     let bytes = bytes_for(values.len() as u64, one_in).unwrap_or(MAX_BYTES);
@@ -37,8 +44,11 @@ pub fn fill<T: Hash>(alloc: Global, values: &[T], one_in: u64) -> Result<BloomFi
 ///
 /// Returns [`Fault::Length`] if no filter has this length.
 pub fn contains_inserted(filter: &[u8], key: &[u8]) -> Result<bool, Fault>
-    ensures { (hashes : List ℕ) → StandsFor filter.now hashes →
+    ensures always { (hashes : List ℕ) → StandsFor filter.now hashes →
         Contains hashes (hash_of key.now) → IfOk result (λ found. IsTrue found) }
+    ensures found { MatchResult result
+        (λ found. IsTrue found ↔ IsMember filter.now (hash_of key.now))
+        (IsLengthFault (length filter.now)) }
 {
     insert_law();
     contains(filter, &raw_bytes::from_slice(key))
@@ -47,9 +57,10 @@ pub fn contains_inserted(filter: &[u8], key: &[u8]) -> Result<bool, Fault>
 /// Whether two workers have the same filter. They do if they inserted the same values, in any order
 /// and however often.
 pub fn is_same_filter(one: &[u8], other: &[u8]) -> bool
-    ensures { (hashes others : List ℕ) → length one.now ≡ length other.now →
+    ensures always { (hashes others : List ℕ) → length one.now ≡ length other.now →
         StandsFor one.now hashes → StandsFor other.now others →
         ((hash : ℕ) → Contains hashes hash ↔ Contains others hash) → IsTrue result }
+    ensures same { IsTrue result ↔ (one.now ≡ other.now) }
 {
     insert_law();
     let (left, right) = (one, other);
@@ -61,11 +72,16 @@ pub fn is_same_filter(one: &[u8], other: &[u8]) -> bool
 ///
 /// # Errors
 ///
-/// Returns [`Fault::Length`] or [`Fault::OtherLength`] as [`merge`] does.
+/// Returns [`Fault::Length`] or [`Fault::OtherLength`] as [`merge`] does. The filter is then
+/// unchanged.
 pub fn merge_in_place(into: &mut [u8], worker: &[u8], whole: &[u8]) -> Result<bool, Fault>
-    ensures { (hashes others : List ℕ) → length whole.now ≡ length into.old →
+    ensures always { (hashes others : List ℕ) → length whole.now ≡ length into.old →
         StandsFor into.old hashes → StandsFor worker.now others →
         StandsFor whole.now (hashes ++ others) → IfOk result (λ same. IsTrue same) }
+    ensures merges { MatchResult result
+        (λ same. Merges worker.now into.old into.new × (IsTrue same ↔ (into.new ≡ whole.now)))
+        (λ fault. (into.new ≡ into.old)
+        × IsMergeFault (length into.old) (length worker.now) fault) }
 {
     merge_law();
     merge(into, worker)?;
@@ -82,9 +98,12 @@ pub fn merge_in_place(into: &mut [u8], worker: &[u8], whole: &[u8]) -> Result<bo
 pub fn shrink(filter: &mut BloomFilter, half: &[u8]) -> Result<bool, Fault>
     ensures stands { (hashes : List ℕ) → StandsFor filter.old hashes →
         IfOk result (λ _. StandsFor filter.new hashes) }
-    ensures same { (hashes : List ℕ) → length filter.old ≡ 2 * length half.now →
+    ensures always { (hashes : List ℕ) → length filter.old ≡ 2 * length half.now →
         StandsFor filter.old hashes → StandsFor half.now hashes →
         IfOk result (λ same. IsTrue same) }
+    ensures folds { MatchResult result
+        (λ same. Folds filter.old filter.new × (IsTrue same ↔ (filter.new ≡ half.now)))
+        (λ fault. (filter.new ≡ filter.old) × IsFoldFault (length filter.old) fault) }
 {
     fold_law();
     filter.fold()?;
@@ -92,11 +111,13 @@ pub fn shrink(filter: &mut BloomFilter, half: &[u8]) -> Result<bool, Fault>
 }
 
 /// Writes the header and the filter, as in a Parquet file, and returns their number of bytes.
-/// Returns `None` if `out` is too short, or the filter has 2^31 bytes or more.
+/// Returns `None` only if `out` is too short, or the filter has 2^31 bytes or more.
 #[tactic(auto, using(std::proofs::lemmas::Slice::overwrites))]
 pub fn save(filter: &BloomFilter, out: &mut [u8]) -> Option<usize>
-    ensures { IfSome result (λ count.
-        take count out.new ≡ header (length filter.now) ++ filter.now) }
+    ensures { let saved = header (length filter.now) ++ filter.now in
+        MatchOption result
+        ((2 ^ 31 ≤ length filter.now) ⊎ (length out.old < length saved))
+        (λ count. take count out.new ≡ saved) }
 {
     let bytes = filter.as_bytes();
     let start = write_header(bytes.len(), out)?;
@@ -111,9 +132,13 @@ pub fn save(filter: &BloomFilter, out: &mut [u8]) -> Option<usize>
 /// The filter in bytes that start with its header. Returns `None` if there is no header, or fewer
 /// bytes than it says.
 pub fn load(input: &[u8]) -> Option<&[u8]>
-    ensures { IfSome result (λ filter. IsHeaderLength (length filter.now)
+    ensures { MatchOption result
+        ((filter rest : List ℕ) → IsHeaderLength (length filter) →
+        input.now ≡ header (length filter) ++ (filter ++ rest) → ⊥)
+        (λ filter. IsHeaderLength (length filter.now)
         × ((rest : List ℕ) × (input.now ≡ header (length filter.now) ++ (filter.now ++ rest)))) }
 {
+    header_law();
     let (bytes, start) = read_header(input)?;
     let (_, rest) = input.split_at(start);
     if rest.len() < bytes {
@@ -129,7 +154,10 @@ pub fn load(input: &[u8]) -> Option<&[u8]>
 ///
 /// Returns [`Fault::Length`] if no filter has this length. The bytes are then unchanged.
 pub fn see_in_place(filter: &mut [u8], key: &[u8]) -> Result<bool, Fault>
-    ensures inserts { IfOk result (λ _. Inserts (hash_of key.now) filter.old filter.new) }
+    ensures inserts { MatchResult result
+        (λ seen. (IsTrue seen ↔ IsMember filter.old (hash_of key.now))
+        × Inserts (hash_of key.now) filter.old filter.new)
+        (λ fault. (filter.new ≡ filter.old) × IsLengthFault (length filter.old) fault) }
     ensures stands { (hashes : List ℕ) → StandsFor filter.old hashes →
         IfOk result (λ _. StandsFor filter.new (hashes ++ hash_of key.now ∷ [])) }
 {

@@ -1,51 +1,59 @@
 //! Items that are written, and read back as a list.
 
-ghost use Rattle.std.specs.Prelude.{◌≡◌, ◌++◌, map, length, IfOk};
+ghost use Rattle.std.specs.Prelude.{◌≡◌, ◌≤◌, ◌++◌, [], map, length, IfOk, IsOk, IsTrue};
 ghost use Rattle.std.specs.List.{All};
 ghost use Rattle.datasketches.specs.Items.{InType, item_kind, spell_all};
 
 use datasketches::codec::{Item, Kind, Short, SketchBytes, SketchSlice, Stopped};
 use datasketches::laws;
-use std::alloc::{AllocError, Global};
+use std::alloc::AllocError;
 
-/// Writes items and the rest after them, reads the items back into the places, and returns what
-/// remains: the rest.
+/// Writes items and the rest after them to an empty writer, reads the items back into the places,
+/// and returns whether the rest remains. It always does.
 ///
 /// # Errors
 ///
-/// Returns `AllocError` if there is no memory.
+/// Returns `AllocError` if they do not fit the writer's capacity and there is no memory.
 #[tactic(auto, using(datasketches::proofs::CallerLemmas::items_fit))]
 pub fn round_trip(
-    alloc: Global,
+    writer: SketchBytes,
     items: &[Item],
     kinds: &[Kind],
     rest: &[u8],
     places: &mut [Item],
-) -> Result<Vec<u8>, AllocError>
+) -> Result<bool, AllocError>
+    requires empty { writer.bytes ≡ [] }
     requires kinds { kinds.now ≡ map item_kind items.now }
     requires places { length places.old ≡ length items.now }
-    ensures { IfOk result (λ remaining.
-        (places.new ≡ items.now) × (remaining.items ≡ rest.now)) }
+    ensures back { IfOk result (λ is_rest. IsTrue is_rest × (places.new ≡ items.now)) }
+    ensures room { length (spell_all items.now ++ rest.now) ≤ writer.room → IsOk result }
 {
     laws::items_law();
-    let bytes = write_all(alloc, items, rest)?;
+    let bytes = write_all(writer, items, rest)?;
     let mut reader = SketchSlice::new(&bytes);
     if let Err(Short { .. }) = reader.read_items(kinds, places) {
         unreachable!();
     }
-    Vec::from_slice(alloc, reader.remaining())
+    Ok(reader.remaining() == rest)
 }
 
 // The bytes of items, and the rest after them.
-fn write_all(alloc: Global, items: &[Item], rest: &[u8]) -> Result<Vec<u8>, AllocError>
-    ensures { IfOk result (λ bytes. All InType items.now
+fn write_all(mut writer: SketchBytes, items: &[Item], rest: &[u8]) -> Result<Vec<u8>, AllocError>
+    requires { writer.bytes ≡ [] }
+    ensures bytes { IfOk result (λ bytes. All InType items.now
         × (bytes.items ≡ spell_all items.now ++ rest.now)) }
+    ensures room { length (spell_all items.now ++ rest.now) ≤ writer.room → IsOk result }
 {
-    let mut writer = SketchBytes::with_capacity(alloc, 0)?;
     if let Err(Stopped { .. }) = writer.write_items(items) {
         return Err(AllocError);
     }
-    let mut bytes = writer.into_bytes();
-    bytes.extend_from_slice(rest)?;
-    Ok(bytes)
+    writer.write(rest)?;
+    Ok(writer.into_bytes())
+}
+
+/// Writes no bytes, which never fails.
+pub fn write_nothing(writer: &mut SketchBytes) -> Result<(), AllocError>
+    ensures { IsOk result }
+{
+    writer.write(&[])
 }

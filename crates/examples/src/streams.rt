@@ -46,6 +46,7 @@ pub fn xxh64_from(state: &XxHash64State, rest: &[u8]) -> u64
 pub fn has_same_pair(seed: u64, before: &[u8], after: &[u8]) -> bool
     ensures same { before.now ≡ after.now → IsTrue result }
     ensures changed { DifferInOneBlock before.now after.now → IsTrue result → ⊥ }
+    ensures pairs { IsTrue result ↔ (murmur seed before.now ≡ murmur seed after.now) }
 {
     let (old, new) = murmur_both(seed, before, seed, after);
     old == new
@@ -64,6 +65,7 @@ pub fn is_same_seed(one: u64, other: u64, bytes: &[u8]) -> bool
 pub fn has_same_xxh64(seed: u64, before: &[u8], after: &[u8]) -> bool
     ensures same { before.now ≡ after.now → IsTrue result }
     ensures changed { DifferInOneTailStep before.now after.now → IsTrue result → ⊥ }
+    ensures hashes { IsTrue result ↔ (xxh64 seed before.now ≡ xxh64 seed after.now) }
 {
     let (old, new) = xx_both(seed, before, seed, after);
     old == new

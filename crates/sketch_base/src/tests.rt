@@ -24,21 +24,12 @@ fn assert_line(rt: &impl Abort, error: Error, line: &str) {
     assert!(rt; prints(&error, line), "not {line}");
 }
 
-/// Asserts that an error displays this line. Returns it if there was no memory for its text.
-fn expect_line(rt: &impl Abort, error: Error, line: &str) -> Result<(), Error> {
-    if error.kind() == ErrorKind::OutOfMemory {
-        return Err(error);
-    }
-    assert_line(rt, error, line);
-    Ok(())
-}
-
-/// Asserts that a trial passed, or that there was no memory, which it prints.
-fn assert_done_or_no_memory<R: Abort + Eprint>(rt: &R, tried: Result<(), Error>) {
-    if let Err(error) = tried {
-        print_out_of_memory(rt);
-        assert_line(rt, error, "OutOfMemory");
-    }
+/// Asserts that an error displays this line or, if there was no memory for its text, that it
+/// displays `OutOfMemory`. Returns whether there was memory.
+fn has_line(rt: &impl Abort, error: Error, line: &str) -> bool {
+    let is_built = error.kind() != ErrorKind::OutOfMemory;
+    assert_line(rt, error, if is_built { line } else { "OutOfMemory" });
+    is_built
 }
 
 /// Prints the line by which the tests of failures know of a refused request for memory.

@@ -5,6 +5,7 @@ use Rattle.std.proofs.lemmas.Bool.{cases_lt}
 use Rattle.std.proofs.lemmas.Bool.Decides.{nat_tests}
 use Rattle.std.proofs.lemmas.List.{ext_get_or, get_or_past}
 use Rattle.std.proofs.Common.{get_or-drop, get_or-take, length-drop, length-take}
+use Rattle.std.proofs.lemmas.Nat.{or_comm}
 use Rattle.std.proofs.lemmas.Nat.Bits.{bit_at-zero, bit_at_or}
 use Rattle.std.proofs.lemmas.Simd.{get_or-chunk, get_or-put_chunk_above, get_or-put_chunk_at, get_or-put_chunk_below, get_or-zip2, length-chunk, length-zip2}
 use Rattle.sketch_bloom.proofs.LawLemmas.{same}
@@ -17,34 +18,62 @@ pub record AreFolded (before after : List ℕ) (n : ℕ) : Type 0 where
       ≡ bit_or (get_or before (64 * k + j) 0) (get_or before (64 * k + 32 + j) 0)
   pub others : (i : ℕ) → 32 * n ≤ i → get_or after i 0 ≡ get_or before i 0
 
-abbrev union_of_two : ℕ → List ℕ → List ℕ
-union_of_two n filter = zip2 bit_or (chunk (64 * n) 32 filter) (chunk (64 * n + 32) 32 filter)
+-- A block is the union of blocks 2 n and 2 n + 1.
+pub record IsUnion (filter : List ℕ) (n : ℕ) (block : List ℕ) : Type 0 where
+  pub long : length block ≡ 32
+  pub bytes : (j : ℕ) → j < 32 → get_or block j 0
+      ≡ bit_or (get_or filter (64 * n + j) 0) (get_or filter (64 * n + 32 + j) 0)
 
-module _ (before filter : List ℕ) (n : ℕ) (inside : 64 * n + 64 ≤ length filter) where
-  joined_byte : (j : ℕ) → j < 32 → get_or (put_chunk (32 * n) filter (union_of_two n filter)) (32 * n + j) 0
+module _ (filter : List ℕ) (n : ℕ) (inside : 64 * n + 64 ≤ length filter) where
+  abbrev left : List ℕ
+  left = chunk (64 * n) 32 filter
+
+  abbrev right : List ℕ
+  right = chunk (64 * n + 32) 32 filter
+
+  -- both blocks joined by or, in either order
+  pub left_right : IsUnion filter n (zip2 bit_or left right)
+  left_right =
+      let left_long = length-chunk (64 * n) 32 filter (omega arith) in
+      let right_long = length-chunk (64 * n + 32) 32 filter (omega arith) in
+      record {
+        long = length-zip2 bit_or left right (left_long ∙ sym right_long) ∙ left_long;
+        bytes = λ j low. grind (
+          arith,
+          left_long,
+          right_long,
+          get_or-zip2 bit_or left right j 0 0 0,
+          get_or-chunk (64 * n) 32 filter j 0,
+          get_or-chunk (64 * n + 32) 32 filter j 0,
+        );
+      }
+
+  pub right_left : IsUnion filter n (zip2 bit_or right left)
+  right_left =
+      let left_long = length-chunk (64 * n) 32 filter (omega arith) in
+      let right_long = length-chunk (64 * n + 32) 32 filter (omega arith) in
+      record {
+        long = length-zip2 bit_or right left (right_long ∙ sym left_long) ∙ right_long;
+        bytes = λ j low. grind (
+          arith,
+          left_long,
+          right_long,
+          get_or-zip2 bit_or right left j 0 0 0,
+          get_or-chunk (64 * n) 32 filter j 0,
+          get_or-chunk (64 * n + 32) 32 filter j 0,
+          or_comm (get_or right j 0) (get_or left j 0),
+        );
+      }
+
+module _ (before filter block : List ℕ) (n : ℕ) (inside : 64 * n + 64 ≤ length filter)
+    (union : IsUnion filter n block) where
+  joined_byte : (j : ℕ) → j < 32 → get_or (put_chunk (32 * n) filter block) (32 * n + j) 0
       ≡ bit_or (get_or filter (64 * n + j) 0) (get_or filter (64 * n + 32 + j) 0)
   joined_byte j low =
-      let left = chunk (64 * n) 32 filter in
-      let right = chunk (64 * n + 32) 32 filter in
-      grind (
-        arith,
-        length-chunk (64 * n) 32 filter (omega arith),
-        length-chunk (64 * n + 32) 32 filter (omega arith),
-        length-zip2 bit_or left right,
-        get_or-put_chunk_at (32 * n) filter (union_of_two n filter) j 0,
-        get_or-zip2 bit_or left right j 0 0 0,
-        get_or-chunk (64 * n) 32 filter j 0,
-        get_or-chunk (64 * n + 32) 32 filter j 0,
-      )
-
-  union_length : length (union_of_two n filter) ≡ 32
-  union_length =
-      let left = length-chunk (64 * n) 32 filter (omega arith) in
-      let right = length-chunk (64 * n + 32) 32 filter (omega arith) in
-      length-zip2 bit_or (chunk (64 * n) 32 filter) (chunk (64 * n + 32) 32 filter) (left ∙ sym right) ∙ left
+      grind (arith, union.long, union.bytes j low, get_or-put_chunk_at (32 * n) filter block j 0)
 
   pub one_more : AreFolded before filter n →
-      AreFolded before (put_chunk (32 * n) filter (union_of_two n filter)) (n + 1)
+      AreFolded before (put_chunk (32 * n) filter block) (n + 1)
   one_more first = record {
     joined = λ k j few low. grind (
       arith,
@@ -53,13 +82,13 @@ module _ (before filter : List ℕ) (n : ℕ) (inside : 64 * n + 64 ≤ length f
       first.others (64 * n + j),
       first.others (64 * n + 32 + j),
       joined_byte j low,
-      get_or-put_chunk_below (32 * n) filter (union_of_two n filter) (32 * k + j) 0,
+      get_or-put_chunk_below (32 * n) filter block (32 * k + j) 0,
     );
     others = λ i late. grind (
       arith,
       first.others i,
-      union_length,
-      get_or-put_chunk_above (32 * n) filter (union_of_two n filter) i 0,
+      union.long,
+      get_or-put_chunk_above (32 * n) filter block i 0,
     );
   }
 

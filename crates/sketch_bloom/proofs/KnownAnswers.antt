@@ -1,4 +1,4 @@
--- Published answers, computed over the definitions.
+-- Known answers, computed over the definitions.
 use Rattle.std.proofs.Common.{◌≡◌, ℕ, ◌*◌, ◌/◌, ◌<◌, List, [], ◌∷◌, ◌++◌, codes, length, refl, arith}
 use Rattle.datasketches.specs.Pieces.{pieces, rest}
 use Rattle.datasketches.specs.Words.{xor_below, xor, rotate}
@@ -8,7 +8,7 @@ use Rattle.sketch_bloom.proofs.BlockLemmas.{bytes_of, inserted, joined_in, mask_
 use Rattle.sketch_bloom.proofs.LawLemmas.{insert_law}
 use Rattle.sketch_bloom.specs.Filter.{block_of, hash_of}
 use Rattle.sketch_bloom.specs.Header.{varint}
-use Rattle.sketch_bloom.specs.KnownAnswers.{FilterAnswer, HeaderAnswers}
+use Rattle.sketch_bloom.specs.KnownAnswers.{BlockAnswers, FilterAnswer, HeaderAnswers}
 use Rattle.sketch_bloom.specs.Laws.{StandsFor, empty_filter}
 
 -- a filter of 32 blocks into which a value is inserted
@@ -41,12 +41,30 @@ filter_answer =
     (one_more filter one (hello ∷ []) refl (omega arith)
     (one_more hello none [] refl (omega arith) (insert_law.none 1024))))
 
+pub block_answers : BlockAnswers
+unfolding xor_below xor rotate pieces rest round steps eight_step four_step byte_step tail_step avalanche
+    the_xxh64.finalize xxh64
+block_answers = record {
+  of_1 = refl;
+  first_of_3 = refl;
+  second_of_3 = refl;
+  third_of_3 = refl;
+  hello_of_65537 = refl;
+  last_of_65537 = refl;
+}
+
 pub header_answers : HeaderAnswers
 unfolding varint
 header_answers = record {
   of_15_bytes = refl;
+  first_of_16_bytes = refl;
   of_16_bytes = refl;
+  last_of_16_bytes = refl;
+  first_of_17_bytes = refl;
   of_17_bytes = refl;
+  last_of_17_bytes = refl;
   of_18_bytes = refl;
+  last_of_18_bytes = refl;
+  first_of_19_bytes = refl;
   of_19_bytes = refl;
 }

@@ -1,6 +1,7 @@
--- What the definitions give for a filter and headers that are published.
+-- What the definitions give for a filter and headers that are published, and for other numbers of
+-- blocks.
 use Rattle.std.specs.Prelude.{◌≡◌, ℕ, ◌-◌, ◌*◌, ◌^◌, List, [], ◌∷◌, ◌++◌, codes, map, replicate}
-use Rattle.sketch_bloom.specs.Filter.{hash_of}
+use Rattle.sketch_bloom.specs.Filter.{block_of, hash_of}
 use Rattle.sketch_bloom.specs.Header.{header}
 use Rattle.sketch_bloom.specs.Laws.{StandsFor}
 
@@ -29,14 +30,32 @@ abbrev pub FilterAnswer : Type 0
 FilterAnswer = StandsFor of_parquet_mr
     (map hash_of (codes "hello" ∷ codes "filter" ∷ codes "parquet" ∷ codes "bloom" ∷ []))
 
+-- The block of a hash, of one block, of three and of 2 ^ 16 + 1: at the ends, and on both sides of a
+-- limit. Writers take powers of two of blocks: a program in C and one in Python answer so.
+pub record BlockAnswers : Type 0 where
+  pub of_1 : block_of 1 (2 ^ 64 - 1) ≡ 0
+  pub first_of_3 : block_of 3 0x55555555ffffffff ≡ 0
+  pub second_of_3 : block_of 3 0x5555555600000000 ≡ 1
+  pub third_of_3 : block_of 3 0xaaaaaaab00000000 ≡ 2
+  pub hello_of_65537 : block_of 65537 (hash_of (codes "hello")) ≡ 9927
+  pub last_of_65537 : block_of 65537 (2 ^ 64 - 1) ≡ 65536
+
 -- the fields after the number, as parquet-mr, Arrow and DuckDB write them
 abbrev pub last_fields : List ℕ
 last_fields = 0x1c ∷ 0x1c ∷ 0 ∷ 0 ∷ 0x1c ∷ 0x1c ∷ 0 ∷ 0 ∷ 0x1c ∷ 0x1c ∷ 0 ∷ 0 ∷ 0 ∷ []
 
--- a header of each length
+-- a header of each length, and the first and last of a length, as Apache Thrift's library and a model
+-- in Python write them
 pub record HeaderAnswers : Type 0 where
   pub of_15_bytes : header 32 ≡ 0x15 ∷ 0x40 ∷ last_fields
+  pub first_of_16_bytes : header 64 ≡ 0x15 ∷ 0x80 ∷ 0x01 ∷ last_fields
   pub of_16_bytes : header 1024 ≡ 0x15 ∷ 0x80 ∷ 0x10 ∷ last_fields
+  pub last_of_16_bytes : header 8160 ≡ 0x15 ∷ 0xc0 ∷ 0x7f ∷ last_fields
+  pub first_of_17_bytes : header 8192 ≡ 0x15 ∷ 0x80 ∷ 0x80 ∷ 0x01 ∷ last_fields
   pub of_17_bytes : header (2 ^ 19) ≡ 0x15 ∷ 0x80 ∷ 0x80 ∷ 0x40 ∷ last_fields
+  pub last_of_17_bytes : header (2 ^ 20 - 32) ≡ 0x15 ∷ 0xc0 ∷ 0xff ∷ 0x7f ∷ last_fields
   pub of_18_bytes : header (2 ^ 20) ≡ 0x15 ∷ 0x80 ∷ 0x80 ∷ 0x80 ∷ 0x01 ∷ last_fields
+  pub last_of_18_bytes : header (2 ^ 27 - 32) ≡ 0x15 ∷ 0xc0 ∷ 0xff ∷ 0xff ∷ 0x7f ∷ last_fields
+  pub first_of_19_bytes :
+      header (2 ^ 27) ≡ 0x15 ∷ 0x80 ∷ 0x80 ∷ 0x80 ∷ 0x80 ∷ 0x01 ∷ last_fields
   pub of_19_bytes : header (2 ^ 31 - 32) ≡ 0x15 ∷ 0xc0 ∷ 0xff ∷ 0xff ∷ 0xff ∷ 0x0f ∷ last_fields

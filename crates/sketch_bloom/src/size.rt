@@ -35,6 +35,8 @@ pub fn bytes_for(keys: u64, one_in: u64) -> Option<usize>
         × (bytes ≡ 32 * 2 ^ log2_blocks) × IsLeastSize keys one_in log2_blocks) }
     ensures size { IfSome result (λ bytes. (log2_blocks : ℕ) × (log2_blocks ≤ max_log2_blocks)
         × (bytes ≡ 32 * 2 ^ log2_blocks)) }
+    ensures most { (MAX_BYTES ≡ 32 * 2 ^ max_log2_blocks)
+        × IfSome result (λ bytes. bytes ≤ MAX_BYTES) }
     ensures some { one_in ≡ 1 → result ≡ Some 32 }
     ensures load { 1 < one_in → IfSome result (λ bytes. keys ≤ 4 * bytes) }
     ensures none { one_in ≡ 0 → result ≡ None }

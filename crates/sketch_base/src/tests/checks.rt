@@ -1,23 +1,22 @@
 //! Checks of preambles: their errors, and that accepting takes no memory.
 
-use super::{assert_done_or_no_memory, assert_line, expect_line};
+use super::{assert_line, has_line, print_out_of_memory};
 use crate::codec::SketchSlice;
 use crate::codec::assert::*;
 use crate::codec::family::Family;
 use crate::error::Error;
-use std::alloc::Global;
+use std::alloc::{AllocError, Global};
 use std::ops::Bound::{self, Excluded, Included, Unbounded};
 use std::process::Abort;
-use std::test::Fail;
 
-// Asserts that a check fails with this line. Returns an error for lack of memory.
-fn refuse(rt: &impl Abort, answer: Result<(), Error>, line: &str) -> Result<(), Error> {
+// Asserts that a check fails with this line. Returns whether there was memory for it.
+fn refuses(rt: &impl Abort, answer: Result<(), Error>, line: &str) -> bool {
     match answer {
         Ok(()) => {
             assert_eq!(rt; "accepted", line);
-            Ok(())
+            false
         }
-        Err(error) => expect_line(rt, error, line),
+        Err(error) => has_line(rt, error, line),
     }
 }
 
@@ -34,34 +33,44 @@ const RANGES: [(Bound<u8>, Bound<u8>, u8, &'static str); 9] = [
     (Excluded(5), Unbounded, 5, "greater than 5, got 5"),
 ];
 
-fn try_ranges(rt: &impl Abort, alloc: Global) -> Result<(), Error> {
+#[test]
+fn ranges_fail_with_their_lines(rt: HostRuntime) -> Result<(), AllocError> {
+    let alloc = rt.alloc();
     for (start, end, actual, range) in &RANGES {
         let answer = ensure_preamble_longs_in_range(alloc, *start, *end, *actual);
         let line = format!(in alloc; "InvalidData => invalid preamble longs: expected {range}")?;
-        refuse(rt, answer, &line)?;
+        assert!(rt; refuses(&rt, answer, &line), "{range}");
     }
     Ok(())
 }
 
-fn try_numbers_and_lists(rt: &impl Abort, alloc: Global) -> Result<(), Error> {
-    let line = "InvalidData => invalid family: expected 7 (HLL), got 8";
-    refuse(rt, Family::HLL.validate_id(alloc, 8), line)?;
-    let line = "InvalidData => unsupported serial version: expected 3, got 2";
-    refuse(rt, ensure_serial_version_is(alloc, 3, 2), line)?;
+// Whether there was memory for the text of each check. After a refused request the next check is
+// asked all the same.
+fn try_checks(rt: &impl Abort, alloc: Global) -> bool {
+    let family = Family::HLL.validate_id(alloc, 8);
+    let version = ensure_serial_version_is(alloc, 3, 2);
+    let range = ensure_preamble_longs_in_range(alloc, Included(5), Included(3), 4);
+    let list = ensure_preamble_longs_in(alloc, &[], 1);
+    let line = "InvalidData => invalid preamble longs: expected [5, 3], got 4";
+    let has_range = refuses(rt, range, line);
     let line = "InvalidData => invalid preamble longs: expected one of [], got 1";
-    refuse(rt, ensure_preamble_longs_in(alloc, &[], 1), line)
+    let has_list = refuses(rt, list, line);
+    let line = "InvalidData => unsupported serial version: expected 3, got 2";
+    let has_version = refuses(rt, version, line);
+    let line = "InvalidData => invalid family: expected 7 (HLL), got 8";
+    refuses(rt, family, line) && has_version && has_range && has_list
 }
 
 #[test]
-fn checks_fail_with_their_lines(rt: HostRuntime) -> Result<(), Fail> {
-    try_ranges(&rt, rt.alloc())?;
-    Ok(try_numbers_and_lists(&rt, rt.alloc())?)
+fn checks_fail_with_their_lines(rt: HostRuntime) {
+    assert!(rt; try_checks(&rt, rt.alloc()));
 }
 
 #[test]
 fn checks_fail_without_memory(rt: HostRuntime) {
-    assert_done_or_no_memory(&rt, try_ranges(&rt, rt.alloc()));
-    assert_done_or_no_memory(&rt, try_numbers_and_lists(&rt, rt.alloc()));
+    if !try_checks(&rt, rt.alloc()) {
+        print_out_of_memory(&rt);
+    }
 }
 
 #[test]

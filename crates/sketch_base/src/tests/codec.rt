@@ -91,10 +91,14 @@ const BYTES: &[u8] = &[1, 0, 0, 0, 2, 3, 0, 0, 0, 0, 0, 0, 0, 4, 5];
 
 #[test]
 fn lists_are_written_into_memory_that_grows(rt: HostRuntime) -> Result<(), AllocError> {
+    for capacity in [0, 5] {
+        let mut writer = SketchBytes::with_capacity(rt.alloc(), capacity)?;
+        assert_eq!(rt; writer.write_items(&LIST), Ok(()));
+        assert_eq!(rt; writer.into_bytes().as_slice(), BYTES);
+    }
     let mut writer = SketchBytes::with_capacity(rt.alloc(), 0)?;
-    let answers = [writer.write_items(&[]), writer.write_items(&LIST)];
-    assert_eq!(rt; answers, [Ok(()); 2]);
-    assert_eq!(rt; writer.into_bytes().as_slice(), BYTES);
+    assert_eq!(rt; writer.write_items(&[]), Ok(()));
+    assert!(rt; writer.into_bytes().is_empty());
     Ok(())
 }
 
@@ -129,6 +133,15 @@ fn write_pieces(rt: &impl Abort, mut writer: SketchBytes) -> bool {
     }
     assert_eq!(rt; rest, Some([].as_slice()));
     accepted == [true; 3]
+}
+
+#[test]
+fn writes_are_accepted_within_room_and_past_it(rt: HostRuntime) -> Result<(), AllocError> {
+    for capacity in [0, 13] {
+        let writer = SketchBytes::with_capacity(rt.alloc(), capacity)?;
+        assert!(rt; write_pieces(&rt, writer), "with a capacity of {capacity}");
+    }
+    Ok(())
 }
 
 #[test]

@@ -1,7 +1,7 @@
 //! Sizes: the sum for the rate to six digits, Arrow's sizes beside ours, and a rate as measured.
 
 use crate::size::keeps_rate;
-use crate::{BloomFilter, bytes_for};
+use crate::{BloomFilter, MAX_BYTES, bytes_for};
 use std::process::Abort;
 use std::test::Fail;
 
@@ -44,7 +44,7 @@ const SIZES: [(u64, u64, usize, usize); 7] = [
     (100_000, 100, 262_144, 131_072),
     (1_000_000, 1_000, 4_194_304, 2_097_152),
     (10_000_000, 10_000, 33_554_432, 33_554_432),
-    (100_000_000, 100, 134_217_728, 134_217_728),
+    (100_000_000, 100, MAX_BYTES, 134_217_728),
 ];
 
 #[test]

@@ -6,7 +6,6 @@ use sketch_base::error::{Error, ErrorKind};
 use std::alloc::Global;
 use std::io::Write;
 use std::process::Abort;
-use std::test::Fail;
 
 #[test]
 fn accepted_seeds_take_no_memory(rt: HostRuntime) {
@@ -25,37 +24,38 @@ fn displays(error: &Error, line: &str) -> bool {
     is_whole && printed.get(..count) == Some(line.as_bytes())
 }
 
-// Asserts that a call fails with this line. Returns the error if there was no memory for its text.
-fn refuse<T: Drop>(rt: &impl Abort, answer: Result<T, Error>, line: &str) -> Result<(), Error> {
+// Asserts that a call fails with this line or, if there was no memory for its text, with
+// `OutOfMemory`. Returns whether there was memory.
+fn refuses<T: Drop>(rt: &impl Abort, answer: Result<T, Error>, line: &str) -> bool {
     let Some(error) = answer.err() else {
-        return Ok(assert!(rt; false, "accepted, not {line}"));
+        assert!(rt; false, "accepted, not {line}");
+        return false;
     };
-    if error.kind() == ErrorKind::OutOfMemory {
-        return Err(error);
-    }
+    let is_built = error.kind() != ErrorKind::OutOfMemory;
+    let line = if is_built { line } else { "OutOfMemory" };
     assert!(rt; displays(&error, line), "not {line}");
-    Ok(())
+    is_built
 }
 
-fn try_refusals(rt: &impl Abort, alloc: Global) -> Result<(), Error> {
+// Whether there was memory for both texts. The second is asked for even if the first was refused.
+fn try_refusals(rt: &impl Abort, alloc: Global) -> bool {
     let answer = compute_seed_hash(alloc, 50541, ErrorKind::InvalidArgument);
     let line =
         "InvalidArgument => seed 50541 produces a seed hash of zero; choose a different seed";
-    refuse(rt, answer, line)?;
+    let is_built = refuses(rt, answer, line);
     let answer = check_seed_hash(alloc, 37836, 1, "theta", ErrorKind::InvalidData);
     let line = "InvalidData => incompatible seed hash of theta: expected 37836, got 1";
-    refuse(rt, answer, line)
+    refuses(rt, answer, line) && is_built
 }
 
 #[test]
-fn seeds_are_refused_with_their_lines(rt: HostRuntime) -> Result<(), Fail> {
-    Ok(try_refusals(&rt, rt.alloc())?)
+fn seeds_are_refused_with_their_lines(rt: HostRuntime) {
+    assert!(rt; try_refusals(&rt, rt.alloc()));
 }
 
 #[test]
 fn seeds_are_refused_without_memory(rt: HostRuntime) {
-    if let Err(error) = try_refusals(&rt, rt.alloc()) {
+    if !try_refusals(&rt, rt.alloc()) {
         print_out_of_memory(&rt);
-        assert!(rt; displays(&error, "OutOfMemory"));
     }
 }

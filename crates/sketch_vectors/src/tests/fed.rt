@@ -131,9 +131,11 @@ fn bytes_and_texts(rt: HostRuntime) -> Result<(), AllocError> {
 fn try_clone(rt: &impl Abort, alloc: Global) -> Result<(), AllocError> {
     let original = raw_bytes::from_vec(Vec::from_slice(alloc, &[1, 2, 3])?);
     let cloned: Result<_, AllocError> = original.clone();
+    let is_same = cloned.as_ref().is_ok_and(|clone| *clone == original);
     let expected = [1, 2, 3].as_slice();
     assert_eq!(rt; feed(original).bytes(), expected);
     assert_eq!(rt; feed(cloned?).bytes(), expected);
+    assert!(rt; is_same);
     Ok(())
 }
 

@@ -3,8 +3,8 @@ use Rattle.std.proofs.lemmas.Slice.Eq.{slice_eq-Decides}
 use Rattle.datasketches.proofs.BytesLemmas.{bytes_known}
 use Rattle.examples.proofs.bloom_filter.is_same_filter.Goals as goal
 
-pub returns : goal.returns
-returns c = λ hashes others size stands stands_other same.
+pub returns-clause-always : goal.returns-clause-always
+returns-clause-always c = λ hashes others size stands stands_other same.
     let one = c.args.one.now in
     let other = c.args.other.now in
     (slice_eq-Decides Decides-eqb one other c.eq.result c.eq.ensures).1

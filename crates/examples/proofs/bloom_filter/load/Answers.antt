@@ -1,7 +1,22 @@
-use Rattle.std.proofs.Common.{◌≡◌, ◌++◌, ◌∙◌, length, drop, take, ap, sym, subst}
+use Rattle.std.proofs.Common.{◌≡◌, ◌++◌, ◌∙◌, length, length-append, drop, take, ap, sym, subst, arith}
 use Rattle.std.proofs.lemmas.List.{length-take-le, take-append-drop}
 use Rattle.sketch_bloom.specs.Header.{IsHeaderLength, header}
 use Rattle.examples.proofs.bloom_filter.load.Goals as goal
+
+pub returns-then-rest-bytes : goal.returns-then-rest-bytes
+returns-then-rest-bytes c = λ filter others is starts.
+    let read = c.in_ok-bytes.ensures in
+    let rest = c.split_at.result.1.now in
+    let after = drop c.in_ok-bytes.start c.args.input.now in
+    let once = c.header_law.ensures.once c.in_ok-bytes.bytes (length filter) after (filter ++ others) read.0 is
+    (sym read.2 ∙ starts) in
+    omega (
+      arith,
+      c.if-rest-bytes.true,
+      once.0,
+      ap length (c.split_at.ensures.back ∙ once.1),
+      length-append filter others,
+    )
 
 pub returns : goal.returns
 returns c =
