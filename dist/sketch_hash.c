@@ -1,7 +1,7 @@
 /* sketch_hash.c 3.0.0: printed from proved text. Do not edit it: tools/print_c prints it.
  *
  * crate     sketch_c, and those that it depends on, of which PROVED says more
- * text      3d60576ba3874341c0e9f209341b0f7d25039d35e083ff473c4c39fecc9976fc
+ * text      1bd876313858083bd7bf7543a12548d02ffef707474dd8673d8adffe020bc65b
  * prover    rattle-kit-13f logic dac8208d650f15bf
  * compiler  clang version 22.1.8, of the kit: its module, optimized, is what is printed
  * licence   Apache-2.0
