@@ -118,8 +118,8 @@ int main(void) {
         keys(name_of("keys of %zu byte%s", lengths[i]), KEYS * lengths[i], lengths[i]);
     keys("keys of 1 to 64 bytes", KEYS * 64, 0);
     for (size_t i = 0; i < sizeof writes / sizeof *writes; i++)
-        compare(C, name_of("writes of %zu byte%s", writes[i]), "XXH64_update, inlined",
-                ours_stream, their_stream, STREAM, writes[i], STREAM / writes[i]);
+        compare(C, name_of("writes of %zu byte%s", writes[i]), "XXH64_update, inlined", ours_stream,
+                their_stream, STREAM, writes[i], STREAM / writes[i]);
     column("keys of 1 to 16 bytes", 1, 16);
     column("keys of 1 to 64 bytes", 1, 64);
     column("keys of 32 to 64 bytes", 32, 64);
