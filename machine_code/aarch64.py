@@ -6,7 +6,8 @@ from machine import CALLER, Machine, logic, plain, shift_one
 from values import (Stop, add, bitwise, complement, cut, extend, is_zero, join, known, lanes, mul, number, number_in,
                     rotate_right, shift_left, shift_right, sub, unknown, width_of)
 
-CONDITIONS = {"eq": "e", "ne": "ne", "cc": "b", "cs": "ae", "hi": "a", "ls": "be", "mi": "s", "pl": "ns", "lt": "l", "ge": "ge"}
+CONDITIONS = {"eq": "e", "ne": "ne", "cc": "b", "cs": "ae", "hi": "a", "ls": "be", "mi": "s", "pl": "ns", "lt": "l", "ge": "ge",
+              "le": "le", "gt": "g"}
 WIDTHS = {"b": 8, "h": 16, "s": 32, "d": 64, "q": 128, "w": 32, "x": 64}
 
 

@@ -253,6 +253,8 @@ class Machine:
         return number(0, 1) if name == "b" else self.condition("e")
 
     def holds(self, name):
+        if name in ("le", "g"):
+            return (self.holds("l") or self.holds("e")) == (name == "le")
         bit = self.condition(name)
         if number_in(bit) is None and name in ("s", "ns", "l", "ge"):
             raise Undecided("a sign", *(({self.condition("s"): number(n, 1)}, []) for n in (0, 1)))

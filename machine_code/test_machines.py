@@ -44,6 +44,7 @@ BITS = [1 << i for i in range(32)]
 LOOKED_UP = f"lea rcx, [rip+1f]; mov eax, edi; shr eax, 27; mov eax, [rcx+rax*4]; {VERSION}; 1: .long "
 
 RIGHT = [
+    ("x86-64", f"test edi, edi; jle 1f; 1: {VERSION}"),
     ("x86-64", LOOKED_UP + ", ".join(map(str, BITS))),
     ("x86-64", f"push rbx; mov rbx, rdi; pop rbx; {VERSION}"), ("x86-64", f"mov [rsp-128], rax; mov rcx, [rsp-128]; {VERSION}"),
     ("x86-64", f"sub rsp, 24; movaps [rsp], xmm0; add rsp, 24; {VERSION}"), ("Windows", f"mov [rsp+8], rcx; {VERSION}"),
@@ -75,6 +76,7 @@ WRONG = [
         "neg rcx; dec rcx", "shld rcx, rdx, 3", "shrd rcx, rdx, 3", "test rcx, rcx; sar rcx, 1")),
     *(("x86-64", f"{before}; je 1f; 1: {VERSION}", "not known|understood") for before in ("imul rcx, rdx", "shld rcx, rdx, 3")),
     ("x86-64", f"cmp rcx, rdx; jo 1f; 1: {VERSION}", "not known"), ("x86-64", f"cmp rcx, rdx; jl 1f; 1: {VERSION}", "signed"),
+    ("x86-64", f"cmp rcx, rdx; jle 1f; 1: {VERSION}", "signed"), ("x86-64", f"test edi, edi; jg 1f; ud2; 1: {VERSION}", "ud2"),
     ("x86-64", f"mov ecx, {calls.VERSION}; mov rax, rdi; mov al, cl; ret", "the result"), ("x86-64", "ret", "the result"),
     ("x86-64", f"1: jmp 1b; {VERSION}", "no end"), ("x86-64", f"jmp rcx; {VERSION}", ""), ("x86-64", "ud2", "not known"),
     ("x86-64", f"std; {VERSION}", "not known"), ("x86-64", f"mov ah, 1; {VERSION}", ""),
