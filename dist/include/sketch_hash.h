@@ -1,10 +1,13 @@
 /* sketch_hash 3.0.0: XXH64, MurmurHash3_x64_128 and the Bloom filter of Apache Parquet, from
  * functions that are proved. Licence: Apache-2.0.
  *
- * Proved: for every seed, a digest is the hash of all bytes since the reset, however they were
- * split into updates; a Bloom filter contains each key that was inserted; no call reads or writes
- * outside of what it is given, for any content of it. The library imports nothing, so no call
- * allocates. Tests, and no proof, show that the definitions are the published algorithms.
+ * Proved, of the source that sketch_hash.c is printed from: for every seed, a digest is the hash
+ * of all bytes since the reset, however they were split into updates; a Bloom filter contains each
+ * key that was inserted; no call reads or writes outside of what it is given, for any content of
+ * it. The printing has no proof; what a compiler made of the text can be checked. Tests, and no
+ * proof, show that the definitions are the published algorithms.
+ *
+ * The library calls memcpy, memmove and memset alone, so no call allocates.
  *
  * What a call returns:
  *   - An `int` is 0 if all is done, or a negative `enum sketch_status`. After an error, nothing
@@ -21,8 +24,8 @@
  *     writes it during the call. Nobody else writes what a call reads.
  *   - A state starts with its _INIT or its _reset.
  *
- * A state or a filter is plain data: copy it, save it, forget it. There is nothing to free. Every
- * 2.x reads a saved state. Threads may share what they only read.
+ * A state or a filter is plain data: copy it, save it, forget it. There is nothing to free. 2.x
+ * and 3.x read each other's states. Threads may share what they only read.
  */
 #ifndef SKETCH_HASH_H
 #define SKETCH_HASH_H
