@@ -250,8 +250,12 @@ def one_hash(machine, is_insert):
 
 # ---- lengths that no filter has: none, too many blocks, and no multiple of 32. Then nothing is read or written.
 
-WRONG_LENGTHS = [number(0), join(number(0, 5), unknown("too many blocks", 59, 1 << 32))]
-WRONG_LENGTHS += [join(number(n, 5), unknown("any blocks", 59)) for n in range(1, 32)]
+def lengths_of_none(name):
+    return [number(0), join(number(0, 5), unknown(f"too many {name}", 59, 1 << 32)),
+            *(join(number(n, 5), unknown(f"any {name}", 59)) for n in range(1, 32))]
+
+
+WRONG_LENGTHS = lengths_of_none("blocks")
 
 
 def wrong_lengths(machine, function, result, *arguments):
@@ -260,8 +264,10 @@ def wrong_lengths(machine, function, result, *arguments):
 
 
 def merges_of_two_lengths(machine):
-    """Also of a right one with a wrong one."""
-    wrong_lengths(machine, "bloom_merge", LENGTH, values, any_length)
+    """Of a wrong one with itself, with another wrong one, and with a right one."""
+    for length, other in itertools.product(WRONG_LENGTHS, [*lengths_of_none("other blocks"), any_length]):
+        check_call(machine, "bloom_merge", lambda: Call([bits, length, values, length], [], LENGTH))
+        check_call(machine, "bloom_merge", lambda: Call([bits, length, values, other], [], LENGTH))
     more = add(any_length, join(number(0, 5), unknown("more", 58, 1), number(0, 1)))
     odd = [join(number(n, 5), unknown("any blocks", 58), number(0, 1)) for n in range(1, 32)]
     for other in [number(0), more, *odd]:
