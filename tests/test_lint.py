@@ -5,7 +5,7 @@ import pytest
 from conftest import ROOT
 
 
-@pytest.mark.parametrize("tool", ["clang-format-14", "ruff", "rustfmt", "shellcheck"])
+@pytest.mark.parametrize("tool", ["awk", "clang-format-14", "flake8", "rustfmt", "shellcheck"])
 def test_a_linter_finds_nothing(tool, need):
     need(tool)
     subprocess.run(["bash", ROOT / ".ci/lint", tool], check=True)

@@ -137,7 +137,8 @@ def test_a_program_may_include_the_text(compiler, name, built, need, tmp_path):
     source = (DIST if name == "check" else HERE) / f"{name}.c"
     inlined = '#define SKETCH_HASH_INLINE\n#include "sketch_hash.c"\n'
     (tmp_path / "one.c").write_text(f'{inlined}#include "{source}"\n')
-    (tmp_path / "other.c").write_text(f"{inlined}uint64_t other(void);\nuint64_t other(void) {{ return sketch_xxh64_u64(1, 2); }}\n")
+    other = "uint64_t other(void);\nuint64_t other(void) { return sketch_xxh64_u64(1, 2); }\n"
+    (tmp_path / "other.c").write_text(inlined + other)
     folders = ["-I", INCLUDE, "-I", DIST, "-I", HERE]
     output(compiler, "-O2", *STD, *folders, "-o", tmp_path / "program", tmp_path / "one.c", tmp_path / "other.c")
     assert output(tmp_path / "program") == output(*built(name))
@@ -145,13 +146,14 @@ def test_a_program_may_include_the_text(compiler, name, built, need, tmp_path):
 
 
 TARGETS = ["x86_64-apple-macosx11", "arm64-apple-macosx11", "x86_64-pc-windows-msvc", "aarch64-pc-windows-msvc"]
-REFUSED = {"s390x-linux-gnu": "little-endian", "powerpc64-linux-gnu": "little-endian", "i386-linux-gnu": "64 bits", "arm-linux-gnueabi": "64 bits"}
+REFUSED = {"s390x-linux-gnu": "little-endian", "powerpc64-linux-gnu": "little-endian", "i386-linux-gnu": "64 bits",
+           "arm-linux-gnueabi": "64 bits"}
 
 
 def compiled_for(target, folder):
     """As far as clang needs no headers of that system."""
-    (folder / "string.h").write_text("#include <stddef.h>\nvoid *memcpy(void *, const void *, size_t), *memmove(void *, const void *, size_t), "
-                                     "*memset(void *, int, size_t);\n")
+    (folder / "string.h").write_text("#include <stddef.h>\nvoid *memcpy(void *, const void *, size_t), "
+                                     "*memmove(void *, const void *, size_t), *memset(void *, int, size_t);\n")
     command = ["clang", f"--target={target}", "-ffreestanding", "-nostdlibinc", *STD, "-I", INCLUDE, "-isystem", folder]
     return subprocess.run([*command, "-c", TEXT, "-o", folder / "out.o"], stderr=subprocess.PIPE, text=True)
 

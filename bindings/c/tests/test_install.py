@@ -33,7 +33,8 @@ def files_in(folder):
 @pytest.fixture(scope="session")
 def dist(tmp_path_factory):
     """A copy of dist/, since make writes beside the text."""
-    return shutil.copytree(DIST, tmp_path_factory.mktemp("a copy") / "dist", ignore=shutil.ignore_patterns("*.a", "*.o", "wasm"))
+    copy = tmp_path_factory.mktemp("a copy") / "dist"
+    return shutil.copytree(DIST, copy, ignore=shutil.ignore_patterns("*.a", "*.o", "wasm"))
 
 
 @pytest.fixture
@@ -183,7 +184,8 @@ def test_cmake_builds_with_both_libraries(way, need, tmp_path):
         cmake(DIST, tmp_path / "build", f"-DCMAKE_INSTALL_PREFIX={prefix}", "-DCMAKE_INSTALL_LIBDIR=lib")
         subprocess.run(["cmake", "--install", tmp_path / "build"], check=True, stdout=subprocess.DEVNULL)
         args = [f"-DCMAKE_PREFIX_PATH={prefix}", "-DCMAKE_FIND_USE_CMAKE_SYSTEM_PATH=OFF"]
-        assert {f"lib/{SHARED}", "lib/libsketch_hash.a", "include/sketch_hash.h", "share/man/man3/sketch_hash.3"} < files_in(prefix)
+        expected = {f"lib/{SHARED}", "lib/libsketch_hash.a", "include/sketch_hash.h", "share/man/man3/sketch_hash.3"}
+        assert expected < files_in(prefix)
     cmake(project, project / "build", *args)
     for name in ("sum", "sum_static"):
         fox = subprocess.check_output(project / "build" / name, input=b"The quick brown fox jumps over the lazy dog")

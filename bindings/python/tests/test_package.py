@@ -28,7 +28,8 @@ def source(need, tmp_path):
 
 
 def run(command, cwd=None, **environment):
-    return subprocess.run(command, cwd=cwd, env={**os.environ, **environment}, stdout=subprocess.PIPE, stderr=subprocess.STDOUT, text=True)
+    return subprocess.run(command, cwd=cwd, env={**os.environ, **environment}, stdout=subprocess.PIPE,
+                          stderr=subprocess.STDOUT, text=True)
 
 
 def install(source, to, **environment):

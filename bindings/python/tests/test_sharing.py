@@ -12,6 +12,7 @@ from sketch_hash import BloomFilter, murmur3_x64_128, murmur3_x64_128_each, xxh6
 
 numpy = pytest.importorskip("numpy")
 
+
 @pytest.mark.parametrize("kind", KINDS)
 @pytest.mark.parametrize("way", WAYS)
 def test_a_copy_is_independent(kind, way):

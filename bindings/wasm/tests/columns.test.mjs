@@ -189,7 +189,8 @@ test('a column may grow during a call', () => {
     for (const name of ['length', 'byteLength']) {
         for (const call of [
             () => xxh64EachU64(column(BigUint64Array, name)), () => xxh64Each(bytes('fox'), column(Uint32Array, name)),
-            () => xxh64Each(column(Uint8Array, name), Uint32Array.of(0, 3)), () => filled().hasEachNumber(column(Float64Array, name)),
+            () => xxh64Each(column(Uint8Array, name), Uint32Array.of(0, 3)),
+            () => filled().hasEachNumber(column(Float64Array, name)),
         ]) {
             const free = new BloomFilter(buffer.byteLength * 2 + 64);
             const neighbour = filled(2 ** 14);

@@ -26,12 +26,13 @@ FOX = b"The quick brown fox jumps over the lazy dog"
 FOX_HASHES = ("0b242d361fda71bc", "e34bbc7bbc071b6c7a433ca9c49a9347", "6c1b07bc7bbc4be347939ac4a93c437a")
 NONE = ("", "", "")
 
+
 @functools.cache
 def library():
     """The library for C. Linux keeps it after its file is gone."""
     with tempfile.TemporaryDirectory() as folder:
-        command = ["gcc", "-O1", "-fPIC", "-shared", "-I", DIST / "include", "-o", f"{folder}/library.so", DIST / "sketch_hash.c"]
-        subprocess.run(command, check=True)
+        command = ["gcc", "-O1", "-fPIC", "-shared", "-I", DIST / "include", "-o", f"{folder}/library.so"]
+        subprocess.run([*command, DIST / "sketch_hash.c"], check=True)
         found = ctypes.CDLL(f"{folder}/library.so")
     words = ctypes.POINTER(ctypes.c_uint64)
     found.sketch_murmur3_x64_128.argtypes = ctypes.c_char_p, ctypes.c_size_t, ctypes.c_uint64, words
