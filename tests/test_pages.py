@@ -69,7 +69,7 @@ def test_files_that_a_page_names_are_there(page):
 
 
 VERSION = re.search(r"^## \[?(\d+\.\d+\.\d+)", text_of("CHANGELOG.md"), re.M)[1]
-VERSIONED = [it for it in FILES if re.search(r"sketch_hash\.(3|h|pc\.in|mjs)$", it) or it.endswith(
+VERSIONED = [it for it in FILES if re.search(r"sketch_hash\.(3|h|pc\.in)$|/hashes\.mjs$", it) or it.endswith(
     ("python/setup.py", "rust/Cargo.toml", "wasm/package.json", "dist/CMakeLists.txt", "dist/Makefile"))]
 
 

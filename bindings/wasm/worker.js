@@ -1,4 +1,5 @@
-// The page's worker: hashes files and texts, and reports progress. `load` is that of sketch_hash.mjs.
+// The page's worker: hashes files and texts, and reports progress. `moduleFrom` and `hashesOf` are those of
+// hashes.mjs.
 //
 // It receives {wasm}, once; {id, file, seed} or {id, text, seed}; and {stop: id}. It posts {ready, version} or
 // {unable}; and with an id the bytes that are {done}, {xxh64, murmur3, memory}, {fault} or {stopped}.
@@ -22,7 +23,7 @@ onmessage = async ({ data }) => {
 
 async function begin(wasm) {
     try {
-        loaded = await load(wasm);
+        loaded = hashesOf(await moduleFrom(wasm));
         postMessage({ ready: true, version: loaded.version });
         next();
     } catch (error) {

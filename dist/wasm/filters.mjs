@@ -1,0 +1,303 @@
+// Columns of keys, and the Bloom filter of Apache Parquet. Licence: Apache-2.0. Programs import sketch_hash.mjs.
+
+import { PIECE, checked, disposable, view } from './hashes.mjs';
+
+const HASHES = ['BigUint64Array'];
+const WIDE = [...HASHES, 'BigInt64Array'];
+const OFFSETS = ['Uint32Array', 'Int32Array', ...WIDE];
+const NUMBERS = [...OFFSETS, 'Float32Array', 'Float64Array'];
+
+// The name of a typed array's type, whatever a subclass or a property says.
+const { get: nameOfType } =
+    Object.getOwnPropertyDescriptor(Object.getPrototypeOf(Uint8Array.prototype), Symbol.toStringTag);
+
+// The bytes of a column, how many values it has, and their width. Its length is read once: if its buffer is shared,
+// another thread may let it grow at any time.
+function columnOf(values, types, name) {
+    const type = nameOfType.call(values);
+    if (!types.includes(type)) throw new TypeError(`${name} must be of type ${types.join(', ')}`);
+    const bytes = view(values);
+    const width = type.includes('64') ? 8 : 4;
+    return { bytes, count: Math.floor(bytes.length / width), width, type };
+}
+
+// The columns of texts, with how many keys they are. As sketch_hash.h says, a negative offset is past the end of bytes
+// that are at most 2^31 - 1.
+function textsOf(bytes, offsets) {
+    const ends = columnOf(offsets, OFFSETS, 'offsets');
+    const reached = view(bytes).subarray(0, ends.type === 'Int32Array' ? 2 ** 31 - 1 : undefined);
+    return { ends, columns: [ends, { bytes: reached, count: reached.length }], count: Math.max(ends.count - 1, 0) };
+}
+
+const ERROR_OFFSET = -2;
+
+// Throws the error that a status of the library stands for.
+function check(status, wrongOffset) {
+    if (status === 0) return;
+    throw new RangeError(status === ERROR_OFFSET
+        ? `the offset at ${wrongOffset} is missing, past the end or below the one before`
+        : 'a Bloom filter must have a positive multiple of 32 bytes, below 2^37');
+}
+
+const encoder = new TextEncoder();
+const keyView = (key) => typeof key === 'string' ? encoder.encode(key) : view(key, ', or a string');
+
+// The memory after the input, in blocks that begin and end at multiples of 64.
+class Blocks {
+    #module; #end;
+    #ranges = []; // those that are free, by their addresses; no two of them touch
+
+    constructor(module) {
+        this.#module = module;
+        this.#end = 64 * Math.ceil(module.end / 64);
+    }
+
+    // Takes the first range that is long enough.
+    allocate(length) {
+        const size = 64 * Math.max(1, Math.ceil(length / 64));
+        const range = this.#ranges.find(({ start, stop }) => stop - start >= size) ?? this.#grow(size);
+        const { start } = range;
+        range.start += size;
+        if (range.start === range.stop) this.#ranges.splice(this.#ranges.indexOf(range), 1);
+        return { start, stop: start + size };
+    }
+
+    // Makes the last range this long at least.
+    #grow(size) {
+        const last = this.#ranges.at(-1);
+        const stop = size + (last?.stop === this.#end ? last.start : this.#end);
+        this.#module.reserve(stop);
+        this.release({ start: this.#end, stop });
+        this.#end = stop;
+        return this.#ranges.at(-1);
+    }
+
+    // Frees a block, and joins it with the ranges that it touches.
+    release({ start, stop }) {
+        const ranges = this.#ranges;
+        const after = ranges.findIndex((range) => range.start >= stop);
+        const at = after < 0 ? ranges.length : after;
+        const [previous, next] = [ranges[at - 1], ranges[at]];
+        const isBefore = next?.start === stop;
+        if (previous?.stop === start) {
+            previous.stop = isBefore ? next.stop : stop;
+            if (isBefore) ranges.splice(at, 1);
+        } else if (isBefore) {
+            next.start = start;
+        } else {
+            ranges.splice(at, 0, { start, stop });
+        }
+    }
+}
+
+/** The calls of a module on columns, and its Bloom filter. A long key of a filter is hashed by `xxh64`. */
+export function filtersOf(module, { xxh64 }) {
+    const { calls, result, input } = module;
+    const blocks = new Blocks(module);
+    const unreachable = new FinalizationRegistry((block) => blocks.release(block));
+
+    // The call for offsets or numbers of this width: its name ends with 32 or 64.
+    const callFor = (name, { width }) => calls[`${name}${8 * width}`];
+
+    // Runs a call over columns, and returns the results. A block holds the results, then offsets or numbers, then
+    // bytes, so that each array is aligned.
+    function overColumns(columns, resultBytes, call) {
+        const block = blocks.allocate(columns.reduce((sum, { bytes }) => sum + bytes.length, resultBytes + 8));
+        const at = block.start;
+        try {
+            let next = at + 8 * Math.ceil(resultBytes / 8);
+            const args = columns.map(({ bytes, count }) => {
+                const [address] = module.put(bytes, next);
+                next += bytes.length;
+                return [address, BigInt(count)];
+            });
+            check(call(BigInt(at), ...args), module.words(1)[0]);
+            return module.memory.slice(at, at + resultBytes);
+        } finally {
+            blocks.release(block);
+        }
+    }
+
+    function hashEachKey(name, width) {
+        return (bytes, offsets, seed = 0n) => {
+            const seedWord = checked(seed, 'a seed');
+            const { ends, columns, count } = textsOf(bytes, offsets);
+            return new BigUint64Array(overColumns(columns, count * width, (out, ofOffsets, ofBytes) =>
+                callFor(name, ends)(...ofBytes, ...ofOffsets, seedWord, out, BigInt(count), BigInt(result))).buffer);
+        };
+    }
+
+    function xxh64EachU64(values, seed = 0n) {
+        const seedWord = checked(seed, 'a seed');
+        const numbers = columnOf(values, WIDE, 'numbers');
+        return new BigUint64Array(overColumns([numbers], 8 * numbers.count, (out, ofNumbers) =>
+            calls.sketch_xxh64_each_u64(...ofNumbers, seedWord, out, BigInt(numbers.count))).buffer);
+    }
+
+    // The bits are at the start of a block of the module's memory. It is free again when the filter was freed, or
+    // collected as garbage.
+    class BloomFilter {
+        #block; #length;
+
+        constructor(length) {
+            const bytes = checked(length, 'a length');
+            check(calls.sketch_bloom_check(bytes));
+            this.#length = Number(bytes);
+            this.#block = blocks.allocate(this.#length);
+            unreachable.register(this, this.#block, this);
+            this.#bytes().fill(0);
+        }
+
+        free() {
+            if (!this.#block) return;
+            unreachable.unregister(this);
+            blocks.release(this.#block);
+            this.#block = undefined;
+        }
+
+        // A view that a later call may detach.
+        #bytes() {
+            const start = Number(this.#bits[0]);
+            return module.memory.subarray(start, start + this.#length);
+        }
+
+        static bytesFor(keys, oneIn) {
+            const length = calls.sketch_bloom_bytes_for(checked(keys, 'keys'), checked(oneIn, 'oneIn, as 100 for 1 %,'));
+            if (length) return Number(length);
+            throw new RangeError('no Bloom filter of at most 128 MiB keeps this rate for so many keys, or oneIn is 0');
+        }
+
+        // A subclass's constructor may take other arguments, so it is not called.
+        static forKeys(keys, oneIn) { return Reflect.construct(BloomFilter, [BloomFilter.bytesFor(keys, oneIn)], this); }
+
+        static fromBytes(bytes) {
+            const all = view(bytes);
+            const filter = Reflect.construct(BloomFilter, [all.length], this);
+            filter.#bytes().set(all);
+            return filter;
+        }
+
+        static fromParquet(bytes) {
+            const all = view(bytes);
+            const header = calls.sketch_bloom_header_read(...module.put(all.subarray(0, PIECE), input), BigInt(result));
+            if (!header) throw new RangeError('the input does not begin with the whole header of a Bloom filter');
+            const last = Number(header + module.words(1)[0]);
+            if (last > all.length) throw new RangeError('the input ends before the Bloom filter does');
+            return BloomFilter.fromBytes.call(this, all.subarray(Number(header), last));
+        }
+
+        get #bits() {
+            if (!this.#block) throw new TypeError('the filter was freed');
+            return [BigInt(this.#block.start), BigInt(this.#length)];
+        }
+
+        get length() { return this.#length; }
+
+        // One call, or that of the hash if the key is long.
+        #callOnKey(ofKey, ofHash, key) {
+            const bytes = keyView(key);
+            if (bytes.length > PIECE) return ofHash(...this.#bits, xxh64(bytes));
+            return ofKey(...this.#bits, ...module.put(bytes, input));
+        }
+
+        add(key) {
+            check(this.#callOnKey(calls.sketch_bloom_insert, calls.sketch_bloom_insert_hash, key));
+            return this;
+        }
+
+        has(key) {
+            return this.#callOnKey(calls.sketch_bloom_contains, calls.sketch_bloom_contains_hash, key) !== 0;
+        }
+
+        addHash(hash) {
+            check(calls.sketch_bloom_insert_hash(...this.#bits, checked(hash, 'a hash')));
+            return this;
+        }
+
+        hasHash(hash) {
+            return calls.sketch_bloom_contains_hash(...this.#bits, checked(hash, 'a hash')) !== 0;
+        }
+
+        addEach(bytes, offsets) {
+            const { ends, columns } = textsOf(bytes, offsets);
+            overColumns(columns, 0, (_, ofOffsets, ofBytes) =>
+                callFor('sketch_bloom_insert_each', ends)(...this.#bits, ...ofBytes, ...ofOffsets, BigInt(result)));
+            return this;
+        }
+
+        hasEach(bytes, offsets) {
+            const { ends, columns, count } = textsOf(bytes, offsets);
+            const call = callFor('sketch_bloom_contains_each', ends);
+            return overColumns(columns, count, (found, ofOffsets, ofBytes) =>
+                call(...this.#bits, ...ofBytes, ...ofOffsets, found, BigInt(count), BigInt(result)));
+        }
+
+        #addValues(call, values) {
+            overColumns([values], 0, (_, ofValues) => call(...this.#bits, ...ofValues));
+            return this;
+        }
+
+        #hasValues(call, values) {
+            return overColumns([values], values.count, (found, ofValues) =>
+                call(...this.#bits, ...ofValues, found, BigInt(values.count)));
+        }
+
+        addEachNumber(numbers) {
+            const column = columnOf(numbers, NUMBERS, 'numbers');
+            return this.#addValues(callFor('sketch_bloom_insert_each_u', column), column);
+        }
+
+        hasEachNumber(numbers) {
+            const column = columnOf(numbers, NUMBERS, 'numbers');
+            return this.#hasValues(callFor('sketch_bloom_contains_each_u', column), column);
+        }
+
+        addEachHash(hashes) {
+            return this.#addValues(calls.sketch_bloom_insert_each_hash, columnOf(hashes, HASHES, 'hashes'));
+        }
+
+        hasEachHash(hashes) {
+            return this.#hasValues(calls.sketch_bloom_contains_each_hash, columnOf(hashes, HASHES, 'hashes'));
+        }
+
+        merge(other) {
+            if (!(#block in Object(other))) throw new TypeError('only a Bloom filter of this module can be merged');
+            const args = [...this.#bits, ...other.#bits];
+            if (other !== this && calls.sketch_bloom_merge(...args)) {
+                throw new RangeError(`filters of ${this.#length} and ${other.#length} bytes cannot be merged`);
+            }
+            return this;
+        }
+
+        // The second half of the bits is free then.
+        fold() {
+            if (calls.sketch_bloom_fold(...this.#bits)) {
+                throw new RangeError(`a filter to fold must have an even number of blocks, not ${this.#length / 32}`);
+            }
+            this.#length /= 2;
+            const start = this.#block.start + 64 * Math.ceil(this.#length / 64);
+            if (start < this.#block.stop) blocks.release({ start, stop: this.#block.stop });
+            this.#block.stop = start;
+            return this;
+        }
+
+        toBytes() { return this.#bytes().slice(); }
+
+        toParquet() {
+            const header = Number(calls.sketch_bloom_header_write(BigInt(this.#length), BigInt(input), BigInt(PIECE)));
+            if (!header) throw new RangeError('the filter is too long for a header of Parquet');
+            const bytes = new Uint8Array(header + this.#length);
+            bytes.set(module.memory.subarray(input, input + header));
+            bytes.set(this.#bytes(), header);
+            return bytes;
+        }
+    }
+    disposable(BloomFilter);
+
+    return {
+        xxh64Each: hashEachKey('sketch_xxh64_each', 8),
+        xxh64EachU64,
+        murmur128Each: hashEachKey('sketch_murmur3_x64_128_each', 16),
+        BloomFilter,
+    };
+}
