@@ -1,5 +1,5 @@
 """The Arrow C data interface: https://arrow.apache.org/docs/format/CDataInterface.html"""
-from libc.stdint cimport int64_t, uint32_t, uint64_t, uintptr_t
+from libc.stdint cimport int64_t, uint32_t, uint64_t
 
 from ._library cimport *
 
@@ -50,10 +50,6 @@ cdef struct Chunk:
     Values *keys  # the rows, or the dictionary whose codes they are
     bint has_nulls
     Chunk *next
-
-
-cdef inline bint meet(const void *one, size_t size, const void *other, size_t length) noexcept nogil:
-    return <uintptr_t>one < <uintptr_t>other + length and <uintptr_t>other < <uintptr_t>one + size
 
 
 cdef inline int hash_texts(

@@ -6,6 +6,7 @@ from libc.stdint cimport int32_t, int64_t, uint64_t, uintptr_t
 from libc.stdlib cimport calloc, free
 from libc.string cimport memcpy, memset
 
+from ._arguments cimport overlap
 from ._library cimport *
 
 import os
@@ -47,8 +48,8 @@ cdef tuple type_of(str format):
         return TYPES[format[:3]]
     if re.fullmatch("w:[0-9]+", format) and int(format[2:]) < 2**31:
         return FIXED, int(format[2:]), False
-    what, cure = next(rest for start, *rest in REFUSED if format.startswith(start))
-    raise TypeError(f"an Arrow column must not have {what}, here {format!r}: {cure}")
+    what, advice = next(rest for start, *rest in REFUSED if format.startswith(start))
+    raise TypeError(f"an Arrow column must not have {what}, here {format!r}: {advice}")
 
 
 cdef inline int64_t load(const char *memory, size_t width, bint is_signed) noexcept nogil:
@@ -149,8 +150,8 @@ ctypedef fused Offset:
     int64_t
 
 
-cdef bint fall(const char *offsets, size_t count, Offset before) noexcept nogil:
-    """Whether a number is below the one before it. All chunks are checked before the first is used, so that a call that
+cdef bint has_wrong_offset(const char *offsets, size_t count, Offset before) noexcept nogil:
+    """Whether an offset is below the one before it. All chunks are checked before the first is used, so that a call that
     raises changes nothing."""
     cdef Offset offset
     cdef size_t i
@@ -162,7 +163,7 @@ cdef bint fall(const char *offsets, size_t count, Offset before) noexcept nogil:
     return False
 
 
-cdef bint views_leave(const Values *values, size_t begin, size_t end, size_t *num_bytes) noexcept nogil:
+cdef bint has_wrong_view(const Values *values, size_t begin, size_t end, size_t *num_bytes) noexcept nogil:
     """Whether a view is not within its text. Adds the bytes of all."""
     cdef const char *view
     cdef int64_t length, text, start
@@ -182,7 +183,8 @@ cdef bint views_leave(const Values *values, size_t begin, size_t end, size_t *nu
     return False
 
 
-cdef bint codes_leave(const Values *rows, size_t begin, size_t end, size_t length) noexcept nogil:
+cdef bint has_wrong_code(const Values *rows, size_t begin, size_t end, size_t length) noexcept nogil:
+    """Whether a code is not within a dictionary of this length."""
     cdef size_t i
     for i in range(begin, end):
         if not is_missing(rows, i) and not 0 <= number_at(rows, i) < <int64_t>length:
@@ -190,7 +192,7 @@ cdef bint codes_leave(const Values *rows, size_t begin, size_t end, size_t lengt
     return False
 
 
-cdef int must(bint holds, str what) except -1:
+cdef int require(bint holds, str what) except -1:
     if not holds:
         raise ValueError(f"an Arrow array must {what}")
     return 0
@@ -200,24 +202,24 @@ cdef int read_values(const ArrowArray *array, tuple type, Values *values) except
     """Checks all but the values themselves."""
     values.layout, values.width, values.is_signed = type
     cdef size_t most = 3 if values.layout == OFFSETS else 2
-    must(0 <= array.length < MOST_ROWS and 0 <= array.offset < MOST_ROWS, "have a length and an offset from 0 to 2**59 - 1")
-    must((<object>array.length + array.offset) * values.width < 2**62, "have less than 2**62 bytes")
+    require(0 <= array.length < MOST_ROWS and 0 <= array.offset < MOST_ROWS, "have a length and an offset from 0 to 2**59 - 1")
+    require((<object>array.length + array.offset) * values.width < 2**62, "have less than 2**62 bytes")
     values.offset, values.length = array.offset, array.length
     if values.layout == NOTHING:
         return 0
-    must(array.n_buffers >= 3 if values.layout == VIEWS else array.n_buffers == most, "have the buffers of its type")
-    must(array.buffers is not NULL and array.n_children == 0, "have buffers, and no children")
+    require(array.n_buffers >= 3 if values.layout == VIEWS else array.n_buffers == most, "have the buffers of its type")
+    require(array.buffers is not NULL and array.n_children == 0, "have buffers, and no children")
     values.valid = <unsigned char *>array.buffers[0] if array.null_count else NULL
-    must(array.null_count <= 0 or values.valid is not NULL, "have a bitmap if it has nulls")
+    require(array.null_count <= 0 or values.valid is not NULL, "have a bitmap if it has nulls")
     values.memory = <char *>array.buffers[1]
-    must(values.memory is not NULL or not values.length or not values.width, "have memory for its values")
+    require(values.memory is not NULL or not values.length or not values.width, "have memory for its values")
     if values.layout == OFFSETS:
         values.text = <char *>array.buffers[2]
     elif values.layout == VIEWS:
         values.texts = array.buffers + 2
         values.text_count = array.n_buffers - 3
         values.sizes = <char *>array.buffers[array.n_buffers - 1]
-        must(values.sizes is not NULL or not values.text_count, "have the sizes of its texts")
+        require(values.sizes is not NULL or not values.text_count, "have the sizes of its texts")
     return 0
 
 
@@ -232,16 +234,16 @@ cdef size_t check_values(const Values *values) except? 0:
         first = values.memory + (values.offset + begin) * values.width
         with nogil:
             if values.layout == VIEWS:
-                is_wrong = views_leave(values, begin, end, &num_bytes)
+                is_wrong = has_wrong_view(values, begin, end, &num_bytes)
             elif values.width == 4:
-                is_wrong = fall[int32_t](first, end - begin + 1, 0)
+                is_wrong = has_wrong_offset[int32_t](first, end - begin + 1, 0)
             else:
-                is_wrong = fall[int64_t](first, end - begin + 1, 0)
-        must(not is_wrong, what)
+                is_wrong = has_wrong_offset[int64_t](first, end - begin + 1, 0)
+        require(not is_wrong, what)
         PyErr_CheckSignals()
     if values.layout == OFFSETS and values.length:
         length = number_at(values, values.length) - number_at(values, 0)
-        must(values.text is not NULL or length == 0, "have memory for its texts")
+        require(values.text is not NULL or length == 0, "have memory for its texts")
         num_bytes += length
     return num_bytes
 
@@ -251,27 +253,27 @@ cdef int check_codes(const Values *rows, size_t length) except -1:
     cdef bint is_wrong
     for begin in range(0, rows.length, MANY):
         with nogil:
-            is_wrong = codes_leave(rows, begin, min(begin + MANY, rows.length), length)
-        must(not is_wrong, "have codes within its dictionary")
+            is_wrong = has_wrong_code(rows, begin, min(begin + MANY, rows.length), length)
+        require(not is_wrong, "have codes within its dictionary")
         PyErr_CheckSignals()
     return 0
 
 
-cdef bint values_meet(const Values *values, const void *memory, size_t length) noexcept nogil:
+cdef bint values_overlap(const Values *values, const void *memory, size_t length) noexcept nogil:
     cdef bint is_text = values.layout == OFFSETS
     cdef size_t i, begin, size = (values.length + is_text) * values.width
     if not values.length or values.layout == NOTHING:
         return False
-    if values.valid is not NULL and meet(values.valid + values.offset // 8, values.length // 8 + 2, memory, length):
+    if values.valid is not NULL and overlap(values.valid + values.offset // 8, values.length // 8 + 2, memory, length):
         return True
     if is_text:
         begin = number_at(values, 0)
-        if meet(values.text + begin, number_at(values, values.length) - begin, memory, length):
+        if overlap(values.text + begin, number_at(values, values.length) - begin, memory, length):
             return True
     for i in range(values.text_count):
-        if meet(values.texts[i], load(values.sizes + 8 * i, 8, True), memory, length):
+        if overlap(values.texts[i], load(values.sizes + 8 * i, 8, True), memory, length):
             return True
-    return meet(values.memory + values.offset * values.width, size, memory, length)
+    return overlap(values.memory + values.offset * values.width, size, memory, length)
 
 
 cdef bint exports_arrow(object keys) except -1:
@@ -304,13 +306,13 @@ cdef class Arrow:
                 self.stream.release(&self.stream)
 
     cdef int import_array(self, object schema, object array) except -1:
-        cdef ArrowSchema *its_schema = <ArrowSchema *>PyCapsule_GetPointer(schema, "arrow_schema")
-        cdef ArrowArray *its_array = <ArrowArray *>PyCapsule_GetPointer(array, "arrow_array")
-        self.schema = its_schema[0]
-        its_schema.release = NULL
+        cdef ArrowSchema *exported_schema = <ArrowSchema *>PyCapsule_GetPointer(schema, "arrow_schema")
+        cdef ArrowArray *exported_array = <ArrowArray *>PyCapsule_GetPointer(array, "arrow_array")
+        self.schema = exported_schema[0]
+        exported_schema.release = NULL
         self.read_schema()
-        must(its_array.release is not NULL, "not be released")
-        return self.append(its_array)
+        require(exported_array.release is not NULL, "not be released")
+        return self.append(exported_array)
 
     cdef int import_stream(self, object capsule) except -1:
         """Imports all arrays of a stream, which may wait for a thread that needs the GIL."""
@@ -318,7 +320,7 @@ cdef class Arrow:
         cdef ArrowArray array
         self.stream = stream[0]
         stream.release = NULL
-        must(self.stream.release is not NULL, "not be released")
+        require(self.stream.release is not NULL, "not be released")
         with nogil:
             status = self.stream.get_schema(&self.stream, &self.schema)
         if status:
@@ -344,11 +346,11 @@ cdef class Arrow:
 
     cdef int read_schema(self) except -1:
         cdef ArrowSchema *of_keys = self.schema.dictionary
-        must(self.schema.release is not NULL and self.schema.format is not NULL, "have a schema with a format")
+        require(self.schema.release is not NULL and self.schema.format is not NULL, "have a schema with a format")
         self.rows = type_of(self.schema.format.decode())
         if of_keys is not NULL:
             is_coded = self.schema.format.decode() in CODES and of_keys.format is not NULL
-            must(is_coded, "have whole numbers as codes of a dictionary")
+            require(is_coded, "have whole numbers as codes of a dictionary")
             if of_keys.dictionary is not NULL:
                 raise TypeError("an Arrow column must not have a dictionary of dictionaries: cast it to its values")
             self.keys = type_of(of_keys.format.decode())
@@ -370,7 +372,7 @@ cdef class Arrow:
             self.last.next = chunk
         self.last = chunk
         read_values(&chunk.array, self.rows, &chunk.rows)
-        must((chunk.array.dictionary is NULL) == (self.keys is None), "have a dictionary if its type has one")
+        require((chunk.array.dictionary is NULL) == (self.keys is None), "have a dictionary if its type has one")
         if self.keys is not None:
             chunk.keys = &chunk.dictionary
             read_values(chunk.array.dictionary, self.keys, &chunk.dictionary)
@@ -378,7 +380,7 @@ cdef class Arrow:
         chunk.has_nulls = (chunk.rows.valid is not NULL or chunk.keys.valid is not NULL
                            or chunk.keys.layout == NOTHING)
         self.count += chunk.rows.length
-        must(self.count < MOST_ROWS, "have less than 2**59 values")
+        require(self.count < MOST_ROWS, "have less than 2**59 values")
         self.num_bytes += chunk.rows.length * 8 + check_values(chunk.keys)
         return 0
 
@@ -398,7 +400,7 @@ cdef class Arrow:
     cdef bint overlaps(self, const void *memory, size_t length) noexcept nogil:
         cdef const Chunk *chunk = self.first
         while chunk is not NULL:
-            if values_meet(&chunk.rows, memory, length) or values_meet(chunk.keys, memory, length):
+            if values_overlap(&chunk.rows, memory, length) or values_overlap(chunk.keys, memory, length):
                 return True
             chunk = chunk.next
         return False

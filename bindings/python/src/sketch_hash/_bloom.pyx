@@ -7,16 +7,19 @@ from cpython.ref cimport Py_DECREF
 from libc.stdint cimport uint32_t, uint64_t, uintptr_t
 from libc.string cimport memcpy
 
-from ._arrow cimport meet
+from ._arguments cimport (
+    PyBuffer_Release, PyObject_GetBuffer, View, get_bytes, overlap, refuse_addresses, word_of,
+)
 from ._columns cimport (
-    ARROW, HASHES, LONG, NUMBERS32, NUMBERS64, OFFSETS32, OFFSETS64, Column, Lock, PyBuffer_Release,
-    PyObject_GetBuffer, View, acquire, attributes_of, check_offsets, get_bytes, refuse_addresses, release,
-    set_attributes, wait, word_of,
+    ARROW, NUMBERS32, NUMBERS64, OFFSETS32, OFFSETS64, Column, check_offsets, hashes_of, keys_of,
 )
 from ._library cimport *
+from ._locks cimport LONG, Lock, acquire, release, wait
 
 import operator
 import pickle
+
+from ._attributes import attributes_of, set_attributes
 
 cdef extern from "Python.h":
     const char *PyUnicode_AsUTF8AndSize(object, Py_ssize_t *) except NULL
@@ -419,21 +422,21 @@ cdef class BloomFilter:
         that width; so ask with numbers of the same width. Or they are an Arrow array or stream, of whose values each
         counts as Parquet stores it; a null is not added. If ValueError is raised, nothing was added.
         """
-        self.insert(Column(keys, "keys"))
+        self.insert(keys_of(keys))
 
     def contains_each(self, keys):
         """contains_each($self, keys, /)\n--\n\nReturns whether the filter may have each key of a column, as for
         add_each: a memoryview of bools. A null of Arrow is not found."""
-        return self.contains(Column(keys, "keys"))
+        return self.contains(keys_of(keys))
 
     def add_hashes(self, hashes):
         """add_hashes($self, hashes, /)\n--\n\nAdds the keys with these XXH64 of the seed 0, as of xxh64_each."""
-        self.insert(Column(hashes, "hashes"))
+        self.insert(hashes_of(hashes))
 
     def contains_hashes(self, hashes):
         """contains_hashes($self, hashes, /)\n--\n\nReturns whether the filter may have each key with these XXH64 of the
         seed 0: a memoryview of bools."""
-        return self.contains(Column(hashes, "hashes"))
+        return self.contains(hashes_of(hashes))
 
     def __ior__(self, other):
         if not isinstance(other, BloomFilter):
@@ -454,7 +457,7 @@ cdef class BloomFilter:
         acquire(second.lock)
         if self.bits.readonly:
             status = READ_ONLY
-        elif meet(self.bits.buf, self.bits.len, source.bits.buf, source.bits.len):
+        elif overlap(self.bits.buf, self.bits.len, source.bits.buf, source.bits.len):
             status = OVERLAP
         elif self.bits.len < LONG:
             status = sketch_bloom_merge(self.bits.buf, self.bits.len, source.bits.buf, source.bits.len)

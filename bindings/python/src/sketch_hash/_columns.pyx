@@ -1,98 +1,106 @@
-"""Many keys in a call; and the locks, buffers and numbers of all calls."""
+"""Columns: many keys in a call. They are texts, numbers, or of Arrow."""
 cimport cython
-from cpython.buffer cimport PyBUF_C_CONTIGUOUS, PyBUF_FORMAT, PyBUF_ND
+from cpython.buffer cimport PyBUF_C_CONTIGUOUS, PyBUF_FORMAT
 from cpython.bytearray cimport PyByteArray_AS_STRING
-from cpython.bytes cimport PyBytes_FromStringAndSize
+from cpython.bytes cimport PyBytes_AS_STRING, PyBytes_FromStringAndSize, PyBytes_GET_SIZE
 from cpython.exc cimport PyErr_CheckSignals
 from cpython.unicode cimport PyUnicode_AsUTF8String
-from libc.stdint cimport INT32_MAX, uint64_t, uintptr_t
-from libc.string cimport strchr, strlen, strpbrk, strspn
+from libc.stdint cimport INT32_MAX, uint32_t, uint64_t, uintptr_t
+from libc.string cimport strchr, strlen, strspn
 
-from ._arrow cimport Arrow, exports_arrow, hash_texts, meet
+from ._arguments cimport PyBuffer_Release, PyObject_GetBuffer, View, get_bytes, overlap, word_of
+from ._arrow cimport Arrow, exports_arrow, hash_texts
 from ._library cimport *
+from ._locks cimport LONG
 
 import array
-import copyreg
 import itertools
-import re
-
-cdef extern from "Python.h":
-    object PyNumber_Index(object)
-    uint64_t PyLong_AsUnsignedLongLong(object) except? -1
 
 
-cdef class Lock:
-    def __cinit__(self):
-        self.handle = PyThread_allocate_lock()
-        if self.handle is NULL:
-            raise MemoryError("no memory for a lock")
+@cython.no_gc
+cdef class Column:
+    """The keys of a call: texts with the offsets where they begin and end, or numbers, or of Arrow."""
 
     def __dealloc__(self):
-        if self.handle is not NULL:
-            PyThread_free_lock(self.handle)
+        PyBuffer_Release(&self.data)
+        PyBuffer_Release(&self.numbers)
+
+    cdef Py_ssize_t size(self) noexcept:
+        return self.arrow.num_bytes if self.kind == ARROW else self.data.len + self.numbers.len
+
+    cdef bint has_rest(self) except -1:
+        """Whether a call has left rows for another one, between which it looks for signals. Their handlers may call the
+        object whose lock the call held, so it releases the lock before."""
+        if self.kind != ARROW or self.arrow.chunk is NULL:
+            return False
+        PyErr_CheckSignals()
+        return True
+
+    cdef bint overlaps(self, const void *memory, size_t length) noexcept:
+        if self.kind == ARROW:
+            return self.arrow.overlaps(memory, length)
+        return (overlap(self.data.buf, self.data.len, memory, length)
+                or overlap(self.numbers.buf, self.numbers.len, memory, length))
 
 
-cdef int get_buffer(object data, View *memory) except -1:
-    if isinstance(data, str):
-        raise TypeError("a str has no bytes until it is encoded: pass data.encode()")
-    try:
-        PyObject_GetBuffer(data, memory, PyBUF_ND | PyBUF_FORMAT)
-    except ValueError:  # numpy has no format for dates
-        refuse_addresses("O" if getattr(getattr(data, "dtype", None), "hasobject", False) else "")
-        PyObject_GetBuffer(data, memory, PyBUF_ND)
-    if memory.format is not NULL and strpbrk(memory.format, "OPXZz&") is not NULL:
-        try:
-            refuse_addresses(memory.format.decode("latin-1"))
-        except:
-            PyBuffer_Release(memory)
-            raise
-    return 0
+# ---- What an argument may be
 
-
-cdef int refuse_addresses(str format) except -1:
-    """Z with d, f or g is a complex number. Names of fields are between colons."""
-    if re.search("[OPXz&]|Z(?![dfg])", "".join(format.split(":")[::2])):
-        raise TypeError("data must be bytes, not addresses of objects: encode each object, and pass its bytes")
-    return 0
-
-
-cdef object attributes_of(object it):
-    """What a subclass has added to an object, as pickle takes it; or None."""
-    if hasattr(it, "__getstate__"):
-        return it.__getstate__()
-    # Python 3.9 and 3.10 have no __getstate__.
-    slots = {name: getattr(it, name) for name in copyreg._slotnames(type(it)) if hasattr(it, name)}
-    own = getattr(it, "__dict__", None) or None
-    return (own, slots) if slots else own
-
-
-cdef int set_attributes(object it, object attributes) except -1:
-    own, slots = attributes if isinstance(attributes, tuple) and len(attributes) == 2 else (attributes, None)
-    if own:
-        it.__dict__.update(own)
-    for name, value in (slots or {}).items():
-        setattr(it, name, value)
-    return 0
-
-
-cdef uint64_t word_of(object number, str name) except? -1:
-    number = PyNumber_Index(number)
-    try:
-        return PyLong_AsUnsignedLongLong(number)
-    except OverflowError:
-        raise OverflowError(f"{name} must be from 0 to 2**64 - 1") from None
-
-
-ROW = "in the machine's byte order, as array.array has"
 PAIR = "a pair of bytes and offsets, as column(texts) makes it,"
-NUMBER_KINDS = {
-    "offsets": (4, b"iIlLqQ", f"offsets must be one row of whole numbers of 32 or 64 bits {ROW}", ""),
-    "hashes": (8, b"lLqQ", f"hashes must be one row of whole numbers of 64 bits {ROW}", ""),
-    "wide keys": (8, b"lLqQ", f"a column must be {PAIR} an Arrow array or one row of whole numbers of 64 bits {ROW}",
-                  ': numbers.astype("uint64") makes it'),
-    "keys": (4, b"iIlLqQfd", f"a column must be {PAIR} an Arrow array or one row of numbers of 32 or 64 bits {ROW}",
-             ': numbers.astype("int32") makes it, as Parquet stores smaller ones'),
-}
+
+
+cdef class NumberRule:
+    """Which numbers an argument may be, and what the error says if it is something else."""
+    cdef bytes letters  # their formats, as in the module struct
+    cdef Py_ssize_t narrowest  # bytes
+    cdef bint may_be_arrow
+    cdef str text, cast  # of the error, and of small numbers how to make wider ones
+
+    def __init__(self, letters, narrowest, text, *, may_be_arrow=False, cast=""):
+        self.letters, self.narrowest, self.may_be_arrow, self.cast = letters, narrowest, may_be_arrow, cast
+        self.text = f"{text} in the machine's byte order, as array.array has"
+
+    cdef str error_of(self, object numbers):
+        return self.text + advice_for(numbers) if self.may_be_arrow else self.text
+
+
+cdef NumberRule offset_rule = NumberRule(b"iIlLqQ", 4, "offsets must be one row of whole numbers of 32 or 64 bits")
+cdef NumberRule hash_rule = NumberRule(b"lLqQ", 8, "hashes must be one row of whole numbers of 64 bits")
+cdef NumberRule word_rule = NumberRule(
+    b"lLqQ", 8, f"a column must be {PAIR} an Arrow array or one row of whole numbers of 64 bits",
+    may_be_arrow=True, cast=': numbers.astype("uint64") makes it')
+cdef NumberRule key_rule = NumberRule(
+    b"iIlLqQfd", 4, f"a column must be {PAIR} an Arrow array or one row of numbers of 32 or 64 bits",
+    may_be_arrow=True, cast=': numbers.astype("int32") makes it, as Parquet stores smaller ones')
+
+
+cdef str advice_for(object keys):
+    """For a Series of pandas 2, and for dates of numpy."""
+    return ": pyarrow.array(keys) makes an Arrow array" if hasattr(type(keys), "__array__") else ""
+
+
+cdef Column keys_of(object keys):
+    """The keys of a filter."""
+    return texts_or_numbers(keys, key_rule)
+
+
+cdef Column hashes_of(object hashes):
+    """The hashes of keys of a filter."""
+    column = numbers_of(hashes, hash_rule)
+    column.kind = HASHES
+    return column
+
+
+cdef Column texts_or_numbers(object keys, NumberRule rule):
+    return texts_of(keys) if isinstance(keys, tuple) or is_arrow(keys) else numbers_of(keys, rule)
+
+
+cdef Column texts_of(object keys):
+    """Keys that are a pair, or of Arrow."""
+    if isinstance(keys, tuple) and len(<tuple>keys) == 2:
+        return pair_of(keys)
+    if is_arrow(keys):
+        return arrow_of(keys)
+    raise TypeError(f"a column here must be {PAIR} or an Arrow array{advice_for(keys)}")
 
 
 cdef type no_arrow = bytes  # the last type of keys that export no Arrow: to look again takes a tenth of a short call
@@ -106,6 +114,73 @@ cdef bint is_arrow(object keys) except -1:
         return True
     no_arrow = type(keys)
     return False
+
+
+# ---- Columns of each kind
+
+cdef Column arrow_of(object keys):
+    cdef Column column = Column.__new__(Column)
+    column.arrow = Arrow(keys)
+    column.kind = ARROW
+    column.count = column.arrow.count
+    return column
+
+
+cdef Column pair_of(object pair):
+    """Texts, by their bytes and offsets: the items themselves, whatever a subclass of tuple returns for them."""
+    cdef Column column = Column.__new__(Column)
+    column.texts = (<tuple>pair)[0]
+    get_bytes(column.texts, &column.data)
+    letter = get_numbers(column, (<tuple>pair)[1], offset_rule)
+    column.kind = OFFSETS32 if column.numbers.itemsize == 4 else OFFSETS64
+    column.count = column.items - 1 if column.items else 0
+    column.reach = column.data.len
+    if column.reach > INT32_MAX and column.kind == OFFSETS32 and (letter == c"i" or letter == c"l"):
+        column.reach = INT32_MAX  # as sketch_hash.h says: a negative offset is then past the end
+    return column
+
+
+cdef Column numbers_of(object numbers, NumberRule rule):
+    cdef Column column = Column.__new__(Column)
+    get_numbers(column, numbers, rule)
+    column.kind = NUMBERS32 if column.numbers.itemsize == 4 else NUMBERS64
+    column.count = column.items
+    return column
+
+
+cdef char get_numbers(Column column, object numbers, NumberRule rule) except 0:
+    """Gets the buffer, and returns the letter of its format."""
+    refuse_mask(numbers)
+    try:
+        PyObject_GetBuffer(numbers, &column.numbers, PyBUF_C_CONTIGUOUS | PyBUF_FORMAT)
+    except TypeError:
+        raise TypeError(rule.error_of(numbers)) from None
+    except ValueError:  # numpy has no format for dates
+        if getattr(getattr(numbers, "dtype", None), "kind", None) not in ("M", "m"):
+            raise
+        raise TypeError(rule.error_of(numbers)) from None
+    cdef View *memory = &column.numbers
+    cdef char letter = letter_of(memory)
+    if letter == 0 or strchr(rule.letters, letter) is NULL or memory.itemsize < rule.narrowest:
+        is_small = letter and strchr("bBhHiI", letter) is not NULL and not isinstance(numbers, (bytes, bytearray))
+        raise TypeError(rule.text + rule.cast if is_small else rule.text)
+    if memory.len and <uintptr_t>memory.buf % memory.itemsize:
+        raise ValueError("a column of numbers must be aligned to their width: pass a copy")
+    column.items = memory.len // memory.itemsize
+    if letter == c"d":
+        refuse_nan(<double *>memory.buf, column.items)
+    elif letter == c"f":
+        refuse_nan(<float *>memory.buf, column.items)
+    return letter
+
+
+cdef char letter_of(const View *memory) noexcept:
+    """The format of one row of numbers, or 0."""
+    cdef const char *format = memory.format
+    if format is NULL:
+        format = "B"
+    format += strspn(format, "@=<")
+    return format[0] if strlen(format) == 1 and memory.ndim == 1 else 0
 
 
 cdef type no_mask = bytes  # the last type of numbers that has no mask
@@ -134,92 +209,7 @@ cdef int refuse_nan(cython.floating *numbers, size_t items) except -1:
     return 0
 
 
-cdef str cure_of(object keys, str what):
-    is_series = hasattr(type(keys), "__array__") and what not in ("offsets", "hashes")
-    return ": pyarrow.array(keys) makes an Arrow array" if is_series else ""
-
-
-@cython.no_gc
-cdef class Column:
-    """The keys of a call: texts with the offsets where they begin and end, or numbers.
-
-    `what` is the kind of numbers that may be keys, by its name in NUMBER_KINDS, or None if only texts may be keys.
-    """
-
-    def __cinit__(self, object keys, str what):
-        if isinstance(keys, tuple) and len(<tuple>keys) == 2 and what != "hashes":
-            self.texts = (<tuple>keys)[0]  # the item itself, whatever a subclass of tuple returns for it
-            get_bytes(self.texts, &self.data)
-            self.kind = OFFSETS32 if self.get_numbers((<tuple>keys)[1], "offsets") == 4 else OFFSETS64
-            self.count = self.items - 1 if self.items else 0
-            self.reach = self.data.len
-            if self.reach > INT32_MAX and self.kind == OFFSETS32 and (<bytes>self.numbers.format).islower():
-                self.reach = INT32_MAX  # for the library a negative one (of i or l, not of I or L) is past this end
-        elif what != "hashes" and is_arrow(keys):
-            self.arrow = Arrow(keys)
-            self.kind = ARROW
-            self.count = self.arrow.count
-        elif what and not isinstance(keys, tuple):
-            self.kind = NUMBERS32 if self.get_numbers(keys, what) == 4 else HASHES if what == "hashes" else NUMBERS64
-            self.count = self.items
-        else:
-            raise TypeError(NUMBER_KINDS["hashes"][2] if what == "hashes" else
-                            f"a column here must be {PAIR} or an Arrow array{cure_of(keys, what)}")
-
-    def __dealloc__(self):
-        PyBuffer_Release(&self.data)
-        PyBuffer_Release(&self.numbers)
-
-    cdef size_t get_numbers(self, object numbers, str what) except 0:
-        """Returns the width of each number."""
-        cdef bytes formats
-        cdef const char *format = ""
-        cdef char letter = 0  # of the numbers, if they are one row
-        narrowest, formats, text, cure = NUMBER_KINDS[what]
-        refuse_mask(numbers)
-        try:
-            PyObject_GetBuffer(numbers, &self.numbers, PyBUF_C_CONTIGUOUS | PyBUF_FORMAT)
-        except TypeError:
-            text += cure_of(numbers, what)
-        except ValueError:
-            if getattr(getattr(numbers, "dtype", None), "kind", None) not in ("M", "m"):
-                raise
-            text += cure_of(numbers, what)
-        else:
-            format = self.numbers.format
-            if format is NULL:
-                format = "B"
-            format += strspn(format, "@=<")
-            letter = format[0] if strlen(format) == 1 and self.numbers.ndim == 1 else 0
-        if letter == 0 or strchr(formats, letter) is NULL or self.numbers.itemsize < narrowest:
-            is_small = letter and strchr("bBhHiI", letter) is not NULL and not isinstance(numbers, (bytes, bytearray))
-            raise TypeError(text + cure if is_small else text)
-        if self.numbers.len and <uintptr_t>self.numbers.buf % self.numbers.itemsize:
-            raise ValueError("a column of numbers must be aligned to their width: pass a copy")
-        self.items = self.numbers.len // self.numbers.itemsize
-        if letter == c"d":
-            refuse_nan(<double *>self.numbers.buf, self.items)
-        elif letter == c"f":
-            refuse_nan(<float *>self.numbers.buf, self.items)
-        return self.numbers.itemsize
-
-    cdef Py_ssize_t size(self) noexcept:
-        return self.arrow.num_bytes if self.kind == ARROW else self.data.len + self.numbers.len
-
-    cdef bint has_rest(self) except -1:
-        """Whether a call has left rows for another one, between which it looks for signals. Their handlers may call the
-        object whose lock the call held, so it releases the lock before."""
-        if self.kind != ARROW or self.arrow.chunk is NULL:
-            return False
-        PyErr_CheckSignals()
-        return True
-
-    cdef bint overlaps(self, const void *memory, size_t length) noexcept:
-        if self.kind == ARROW:
-            return self.arrow.overlaps(memory, length)
-        return (meet(self.data.buf, self.data.len, memory, length)
-                or meet(self.numbers.buf, self.numbers.len, memory, length))
-
+# ---- The hashes of each key
 
 cdef int check_offsets(int status, size_t wrong) except -1:
     if status == SKETCH_ERROR_OFFSET:
@@ -227,7 +217,7 @@ cdef int check_offsets(int status, size_t wrong) except -1:
     return 0
 
 
-cdef int hash_column(Column keys, int words, uint64_t seed, void *out, size_t *wrong) noexcept nogil:
+cdef int hash_keys(Column keys, int words, uint64_t seed, void *out, size_t *wrong) noexcept nogil:
     """Writes a word of XXH64 or two of Murmur for each key."""
     if keys.kind == ARROW:
         keys.arrow.hash(words, seed, <uint64_t *>out)
@@ -238,7 +228,7 @@ cdef int hash_column(Column keys, int words, uint64_t seed, void *out, size_t *w
                       keys.items, seed, out, keys.count, wrong)
 
 
-cdef object hashes_of(Column keys, int words, object seed):
+cdef object hash_each(Column keys, int words, object seed):
     cdef uint64_t number = word_of(seed, "a seed")
     cdef size_t wrong = 0
     if keys.kind == ARROW:
@@ -247,10 +237,10 @@ cdef object hashes_of(Column keys, int words, object seed):
     cdef void *out = PyByteArray_AS_STRING(hashes)
     while True:
         if keys.size() < LONG:
-            status = hash_column(keys, words, number, out, &wrong)
+            status = hash_keys(keys, words, number, out, &wrong)
         else:
             with nogil:
-                status = hash_column(keys, words, number, out, &wrong)
+                status = hash_keys(keys, words, number, out, &wrong)
         check_offsets(status, wrong)
         if not keys.has_rest():
             break
@@ -266,7 +256,7 @@ def xxh64_each(keys, seed=0):
     column(texts) returns such a pair. Or they are an Arrow array or stream, of whose values each counts as Parquet
     stores it. Raises ValueError if one is null.
     """
-    return hashes_of(Column(keys, "wide keys"), 1, seed)
+    return hash_each(texts_or_numbers(keys, word_rule), 1, seed)
 
 
 def murmur3_x64_128_each(keys, seed=0):
@@ -276,7 +266,7 @@ def murmur3_x64_128_each(keys, seed=0):
     The keys are a pair of bytes and offsets, or of Arrow, as xxh64_each takes them. The words of key i are at 2 * i and
     2 * i + 1: numpy.asarray(hashes).reshape(-1, 2) has a row for a key.
     """
-    return hashes_of(Column(keys, None), 2, seed)
+    return hash_each(texts_of(keys), 2, seed)
 
 
 def column(texts):

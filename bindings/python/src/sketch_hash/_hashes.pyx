@@ -4,12 +4,13 @@ from cpython.bytes cimport PyBytes_AS_STRING, PyBytes_FromStringAndSize
 from libc.stdint cimport uint32_t, uint64_t
 from libc.string cimport memcpy
 
-from ._columns cimport (
-    LONG, Lock, PyBuffer_Release, View, acquire, attributes_of, get_bytes, release, set_attributes, wait, word_of,
-)
+from ._arguments cimport PyBuffer_Release, View, get_bytes, word_of
 from ._library cimport *
+from ._locks cimport LONG, Lock, acquire, release, wait
 
 from copyreg import __newobj__
+
+from ._attributes import attributes_of, set_attributes
 
 cdef extern from "Python.h":
     object PyUnicode_FromStringAndSize(const char *, Py_ssize_t)
