@@ -1,5 +1,4 @@
-"""What the tests share: `need`, by which each names the tools that it needs, the folders, the calls of the library, pyarrow,
-and what shows that a call releases the GIL."""
+"""What tests need: `need`, by which each names its tools; the folders; the calls of the library."""
 import functools
 import importlib
 import importlib.util
@@ -9,10 +8,7 @@ import platform
 import re
 import shutil
 import subprocess
-import sys
 import sysconfig
-import threading
-import time
 
 import pytest
 
@@ -21,18 +17,16 @@ DIST = ROOT / "dist"
 CALLS = sorted(set(re.findall(r"\b(sketch_\w+)\(", (DIST / "include/sketch_hash.h").read_text())))
 # The folder of what `rt ci` has just proved and built, as .ci/run names it, or None.
 PROVED = pathlib.Path(os.environ["PROVED"]) if os.environ.get("PROVED") else None
+pytest_plugins = ["bindings.python.tests.plugin"]
 IS_CI = bool(os.environ.get("CI"))
 if IS_CI:
     pytest.importorskip = importlib.import_module  # a module that is missing fails
-PYTHON_TESTS = ROOT / "bindings/python/tests"
-BUILD_PYTHON = "gcc", "Python.h", "python:Cython", "python:pip", "python:setuptools", "python:wheel"
-BUILD_LOG = ROOT / "out/python.log"  # which .ci/test leaves if the Python package cannot be built
 # The folder of Debian's crates, and the settings by which cargo takes them in place of those of crates.io.
 DEBIAN_CRATES = pathlib.Path("/usr/share/cargo/registry")
 CARGO_CONFIG = f'[source]\ncrates-io = {{ replace-with = "debian" }}\ndebian = {{ directory = "{DEBIAN_CRATES}" }}\n'
 PLATFORM = sysconfig.get_platform()
 if PLATFORM != "linux-x86_64":  # these run its library or its program
-    collect_ignore = [*(f"tests/test_{it}.py" for it in ("crates", "faults")), "bindings/c",
+    collect_ignore = ["tests/test_crates.py", "tests/test_faults.py", "bindings/c",
                       "bindings/python/tests/test_package.py", "bindings/wasm/tests/test_page.py"]
 
     def pytest_report_header():
@@ -61,7 +55,7 @@ def is_there(tool):
     return not oldest or version_of(name) >= tuple(map(int, oldest.split(".")))
 
 
-# Tools that one release of Debian has, or none. In others their tests are skipped, also if CI is set.
+# Tools that one release of Debian has. In others their tests are skipped, also if CI is set.
 ONLY_IN = {"clang-format-14": "12", "duckdb": "sid", "python:pyarrow": "sid"}
 try:
     RELEASE = platform.freedesktop_os_release().get("VERSION_ID", "sid")
@@ -94,57 +88,3 @@ def proved():
     if not PROVED:
         pytest.skip("needs what rt ci proves and builds: bash .ci/run")
     return PROVED
-
-
-@pytest.fixture
-def pa(need):
-    need("python:pyarrow")
-    import pyarrow.compute
-    import pyarrow.parquet
-    return pyarrow
-
-
-@pytest.fixture
-def ticks():
-    """A list that another thread appends to whenever the GIL is released."""
-    found, is_over, interval = [], threading.Event(), sys.getswitchinterval()
-
-    def tick():
-        while not is_over.is_set():
-            found.append(1)
-            time.sleep(0.001)
-
-    sys.setswitchinterval(1000)
-    worker = threading.Thread(target=tick)
-    worker.start()
-    while not found:
-        time.sleep(0.001)
-    yield found
-    sys.setswitchinterval(interval)
-    is_over.set()
-    worker.join()
-
-
-def assert_releases_the_gil(call, data, ticks):
-    """The other thread may be late on a busy machine, so it has ten seconds."""
-    before, end = len(ticks), time.monotonic() + 10
-    while len(ticks) == before and time.monotonic() < end:
-        call(data)
-    assert len(ticks) > before
-
-
-class NotBuilt(pytest.Module):
-    """A file of tests of the Python package, which is not built. The tests are skipped if something to build it with is
-    missing. Else, or if CI is set, they fail with pip's output. A fixture would come too late for their imports."""
-
-    def collect(self):
-        name, missing = self.path.relative_to(ROOT), [it for it in BUILD_PYTHON if not is_there(it)]
-        if missing and not IS_CI:
-            pytest.skip(f"{name} needs {', '.join(missing)}", allow_module_level=True)
-        output = BUILD_LOG.read_text() if BUILD_LOG.exists() else "bash .ci/test builds it"
-        raise self.CollectError(f"{name} needs the Python package, which is not built:\n{output}")
-
-
-def pytest_pycollect_makemodule(module_path, parent):
-    if module_path.parent == PYTHON_TESTS and (BUILD_LOG.exists() or not is_there("python:sketch_hash")):
-        return NotBuilt.from_parent(parent, path=module_path)

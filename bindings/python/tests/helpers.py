@@ -46,6 +46,14 @@ def waits(long_call, call):
     return False
 
 
+def assert_releases_the_gil(call, data, ticks):
+    """The other thread may be late on a busy machine, so it has ten seconds."""
+    before, end = len(ticks), time.monotonic() + 10
+    while len(ticks) == before and time.monotonic() < end:
+        call(data)
+    assert len(ticks) > before
+
+
 TYPES = [
     "int8", "uint8", "int16", "uint16", "int32", "uint32", "int64", "uint64", "float32", "float64", "date32",
     "time32('ms')", "time64('us')", "time64('ns')", "timestamp('ms')", "timestamp('us', 'UTC')", "timestamp('ns')",

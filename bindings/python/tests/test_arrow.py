@@ -7,8 +7,7 @@ import subprocess
 import sys
 
 import pytest
-from conftest import assert_releases_the_gil
-from helpers import TYPES, column_of
+from helpers import TYPES, assert_releases_the_gil, column_of
 from sketch_hash import BloomFilter, murmur3_x64_128_each, murmur3_x64_128_intdigest, xxh64_each, xxh64_intdigest
 
 P, I64 = ctypes.c_void_p, ctypes.c_int64

@@ -6,8 +6,7 @@ import signal
 import threading
 
 import pytest
-from conftest import assert_releases_the_gil
-from helpers import KINDS, ONE_CALL, WAYS, in_threads
+from helpers import KINDS, ONE_CALL, WAYS, assert_releases_the_gil, in_threads
 from sketch_hash import BloomFilter, murmur3_x64_128, murmur3_x64_128_each, xxh64, xxh64_each
 
 numpy = pytest.importorskip("numpy")
