@@ -9,8 +9,8 @@ from conftest import DIST, PROVED, ROOT
 pytestmark = pytest.mark.xdist_group("rt")  # so that dist/ is built once for all
 
 if not PROVED:  # else rt ci has run them, as it has proved them
-    TESTED = sorted({it.relative_to(ROOT / "crates").parts[0] for it in ROOT.glob("crates/*/src/**/*.rt")
-                     if "#[cfg(test)]" in it.read_text()})
+    TESTED = sorted({path.relative_to(ROOT / "crates").parts[0] for path in ROOT.glob("crates/*/src/**/*.rt")
+                     if "#[cfg(test)]" in path.read_text()})
 
     @pytest.mark.parametrize("crate", TESTED)
     def test_crate(crate, need):
@@ -24,7 +24,7 @@ if not PROVED:  # else rt ci has run them, as it has proved them
 def test_dist_is_what_the_proved_text_gives(need, proved, tmp_path):
     need("rt")
     subprocess.run([ROOT / "tools/make_dist", tmp_path / "a folder"], check=True)
-    names = [str(it.relative_to(tmp_path / "a folder")) for it in (tmp_path / "a folder").rglob("*") if not it.is_dir()]
+    names = [str(path.relative_to(tmp_path / "a folder")) for path in (tmp_path / "a folder").rglob("*") if not path.is_dir()]
     assert "sketch_hash.c" in names
     assert filecmp.cmpfiles(DIST, tmp_path / "a folder", names, shallow=False) == (names, [], [])
 

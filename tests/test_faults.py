@@ -52,7 +52,7 @@ def built_tests(ending):
     """The tests whose names end so. Without `rt ci` there are none to run, and one is skipped for all."""
     if not PROVED:
         return [pytest.param(None, None, marks=pytest.mark.skip("needs the tests that rt ci builds: bash .ci/run"))]
-    return [it for it in TESTS if re.search(rf"{ending}$", it.values[1])]
+    return [test for test in TESTS if re.search(rf"{ending}$", test.values[1])]
 
 
 def passes_or_reports(result):
@@ -118,13 +118,13 @@ CASES = {
 
 
 @pytest.mark.parametrize("case", CASES)
-@pytest.mark.parametrize("program", PROGRAMS, ids=lambda it: it.name)
+@pytest.mark.parametrize("program", PROGRAMS, ids=lambda path: path.name)
 def test_program(program, case, tmp_path):
     line, *wanted = CASES[case]
     assert answer(["bash", "-c", line, program], cwd=tmp_path) == tuple(wanted)
 
 
-@pytest.mark.parametrize("program", PROGRAMS, ids=lambda it: it.name)
+@pytest.mark.parametrize("program", PROGRAMS, ids=lambda path: path.name)
 def test_program_gives_back_its_memory(program, need):
     need("valgrind")
     checks = ["--leak-check=full", "--show-leak-kinds=all", "--error-exitcode=9"]
@@ -134,7 +134,7 @@ def test_program_gives_back_its_memory(program, need):
 
 @pytest.mark.parametrize("args", ["murmur 0", "xx 0", "xx"])
 @pytest.mark.parametrize("fault, and_all_after", [("memory", False), ("memory", True), ("fail", False), ("short", False)])
-@pytest.mark.parametrize("program", PROGRAMS, ids=lambda it: it.name)
+@pytest.mark.parametrize("program", PROGRAMS, ids=lambda path: path.name)
 def test_program_reports_each_failing_call(program, fault, and_all_after, args, under):
     command = [program, *args.split()]
     expected, calls = under(command, fault)

@@ -10,8 +10,8 @@ import pytest
 from conftest import CARGO_CONFIG, DEBIAN_CRATES, ROOT
 
 FILES = subprocess.check_output(["git", "-C", ROOT, "ls-files"], text=True).splitlines()
-FILES = [it for it in FILES if (ROOT / it).exists()]
-PAGES = [it for it in FILES if it.endswith(".md")]
+FILES = [name for name in FILES if (ROOT / name).exists()]
+PAGES = [name for name in FILES if name.endswith(".md")]
 
 
 def text_of(name):
@@ -44,7 +44,7 @@ def test_links_lead_somewhere(page):
 def paragraphs(code):
     """The paragraphs of a code, however far it is indented."""
     lines = "\n".join(line.strip() for line in code.splitlines())
-    return [it.strip() for it in re.split(r"\n\n+", lines) if it.strip()]
+    return [part.strip() for part in re.split(r"\n\n+", lines) if part.strip()]
 
 
 BLOCKS = {
@@ -52,24 +52,24 @@ BLOCKS = {
     for page in PAGES if not page.startswith(("bindings/", "dist/"))
     for code in re.findall(r"^```rust\n(.*?)^```", text_of(page), re.M | re.S)
 }
-PROVED_CODE = ["\n".join(it.strip() for it in text_of(name).splitlines()) for name in FILES
+PROVED_CODE = ["\n".join(line.strip() for line in text_of(name).splitlines()) for name in FILES
                if re.match(r"crates/\w+/src/.*\.rt$", name)]
 
 
 @pytest.mark.parametrize("block", BLOCKS)
 def test_code_of_pages_stands_in_a_proved_source(block):
-    assert any(all(it in code for it in BLOCKS[block]) for code in PROVED_CODE)
+    assert any(all(part in code for part in BLOCKS[block]) for code in PROVED_CODE)
 
 
-@pytest.mark.parametrize("page", [it for it in PAGES if not it.startswith(("bindings/", "dist/"))])
+@pytest.mark.parametrize("page", [page for page in PAGES if not page.startswith(("bindings/", "dist/"))])
 def test_files_that_a_page_names_are_there(page):
-    ends = tuple(f"/{it}" for it in FILES)
+    ends = tuple(f"/{file}" for file in FILES)
     named = re.findall(r"`([\w./-]+\.(?:antt|c|edit|h|md|mjs|py|rs|rt|toml|tsv|txt))`", without_code(page))
-    assert [it for it in named if "PATH/" not in it and not any(end.endswith(f"/{it}") for end in ends)] == []
+    assert [name for name in named if "PATH/" not in name and not any(end.endswith(f"/{name}") for end in ends)] == []
 
 
 VERSION = re.search(r"^## \[?(\d+\.\d+\.\d+)", text_of("CHANGELOG.md"), re.M)[1]
-VERSIONED = [it for it in FILES if re.search(r"sketch_hash\.(3|h|pc\.in)$|/hashes\.mjs$", it) or it.endswith(
+VERSIONED = [name for name in FILES if re.search(r"sketch_hash\.(3|h|pc\.in)$|/hashes\.mjs$", name) or name.endswith(
     ("python/setup.py", "rust/Cargo.toml", "wasm/package.json", "dist/CMakeLists.txt", "dist/Makefile"))]
 
 
@@ -81,7 +81,7 @@ def test_the_version_is_that_of_the_changelog(name):
 
 def test_the_definitions_to_read_have_as_many_lines_as_the_page_says():
     page = text_of("docs/trust.md")
-    lines = sum(text_of(it).count("\n") for it in re.findall(r"^- `(crates/\S+\.antt)`:", page, re.M))
+    lines = sum(text_of(file).count("\n") for file in re.findall(r"^- `(crates/\S+\.antt)`:", page, re.M))
     assert re.findall(r"(\d+)\s(?:> )?lines of definitions", page) == [str(lines)] * 2
 
 
@@ -93,7 +93,7 @@ def test_packages_have_the_licence(package, name):
 
 # ---- The programs and commands of each README, run as they stand there
 
-PAGE, OF_C, OF_PYTHON = (text_of(f"{it}README.md") for it in ("", "dist/", "bindings/python/"))
+PAGE, OF_C, OF_PYTHON = (text_of(f"{folder}README.md") for folder in ("", "dist/", "bindings/python/"))
 ANSWER = "0b242d361fda71bc\n"  # XXH64 of the fox under seed 0
 
 
@@ -180,7 +180,7 @@ def test_python_page(need, tmp_path):
     (tmp_path / "all.py").write_text(code)
     expected = re.findall(r"^ *print\(.*\)(?:  # ([^;\n]+?)(?:;.*)?)?$", code, re.M)
     printed = output_of(f"{shlex.quote(sys.executable)} all.py", tmp_path).splitlines()
-    assert expected and [line if it else "" for line, it in zip(printed, expected, strict=True)] == expected
+    assert expected and [line if comment else "" for line, comment in zip(printed, expected, strict=True)] == expected
 
 
 def test_node(need, tmp_path):

@@ -55,7 +55,7 @@ function add(file) {
     const job = { file, card, id: 0 };
     card.querySelector('.size').textContent = size(file.size);
     card.querySelector('progress').setAttribute('aria-label', `How far ${file.name} is read`);
-    const [stop, remove] = ['.stop', '.remove'].map((it) => card.querySelector(it));
+    const [stop, remove] = ['.stop', '.remove'].map((selector) => card.querySelector(selector));
     stop.setAttribute('aria-label', `Stop ${file.name}`);
     stop.onclick = () => worker.postMessage({ stop: job.id });
     remove.setAttribute('aria-label', `Remove ${file.name}`);
@@ -102,7 +102,7 @@ function show(job, data) {
 }
 
 function end(job, what) {
-    const [stop, name, bar] = ['.stop', 'h3', 'progress'].map((it) => job.card.querySelector(it));
+    const [stop, name, bar] = ['.stop', 'h3', 'progress'].map((selector) => job.card.querySelector(selector));
     if (document.activeElement === stop) name.focus();
     stop.hidden = bar.hidden = true;
     job.card.querySelector('.status').textContent = what;
@@ -131,7 +131,7 @@ function compare() {
     at('verdict').className = equal.length > 0 ? 'good' : '';
     if (!expected) at('verdict').textContent = '';
     else if (equal.length === 0) at('verdict').textContent = 'No hash on this page is equal.';
-    else at('verdict').textContent = `Equal: ${equal.map((it) => it.closest('article').dataset.name).join(', ')}`;
+    else at('verdict').textContent = `Equal: ${equal.map((code) => code.closest('article').dataset.name).join(', ')}`;
 }
 
 async function copyHash(code, button) {

@@ -35,8 +35,8 @@ def archive(tmp_path_factory):
 # ---- the header
 
 STANDARDS = [
-    *((compiler, it) for compiler in ("gcc", "clang") for it in ("c90", "c99", "c11", "c17", "c2x")),
-    *((compiler, it) for compiler in ("g++", "clang++") for it in ("c++98", "c++11", "c++17", "c++20", "c++2b")),
+    *((compiler, standard) for compiler in ("gcc", "clang") for standard in ("c90", "c99", "c11", "c17", "c2x")),
+    *((compiler, standard) for compiler in ("g++", "clang++") for standard in ("c++98", "c++11", "c++17", "c++20", "c++2b")),
 ]
 
 
@@ -104,9 +104,9 @@ def built(need, archive, tmp_path, request):
     def built(name, build=None):
         (compiler, *options), runner = BUILDS[build] if build else (["gcc", "-O2"], [])
         peers = ["xxhash", "murmurhash"] if name == "compare" else []
-        need(compiler, *runner[:1], *(f"{it}.h" for it in peers))
+        need(compiler, *runner[:1], *(f"{peer}.h" for peer in peers))
         source, program = (DIST if name == "check" else HERE) / f"{name}.c", tmp_path / f"{name}.exe"
-        linked = [archive(compiler, *options), *(f"-l{it}" for it in peers)]
+        linked = [archive(compiler, *options), *(f"-l{peer}" for peer in peers)]
         output(compiler, "-o", program, source, *options, *STRICT, "-I", INCLUDE, *linked)
         return [*(request.getfixturevalue("wine") if runner == ["wine"] else runner), program]
 
@@ -116,7 +116,7 @@ def built(need, archive, tmp_path, request):
 PROGRAMS = ["check", "states", "columns"]
 
 
-@pytest.mark.parametrize("name, args", [*((it, []) for it in [*PROGRAMS, "compare"]), ("compare", ["past 32 bits"])])
+@pytest.mark.parametrize("name, args", [*((name, []) for name in [*PROGRAMS, "compare"]), ("compare", ["past 32 bits"])])
 def test_calls_return_what_is_expected(name, args, built):
     assert output(*built(name), *args)
 

@@ -17,8 +17,8 @@ SHARED = "libsketch_hash.so.3"
 INSTALLED = {
     "include/sketch_hash.h", "lib/libsketch_hash.a", "lib/libsketch_hash.so", f"lib/{SHARED}",
     "lib/pkgconfig/sketch_hash.pc", "share/man/man3/sketch_hash.3",
-    *(f"share/man/man3/{it}.3" for it in CALLS),
-    *(f"share/doc/sketch_hash/{it}" for it in ("LICENSE", "NOTICE", "PROVED", "README.md")),
+    *(f"share/man/man3/{call}.3" for call in CALLS),
+    *(f"share/doc/sketch_hash/{name}" for name in ("LICENSE", "NOTICE", "PROVED", "README.md")),
 }
 
 
@@ -27,7 +27,7 @@ def output(*command):
 
 
 def files_in(folder):
-    return {str(it.relative_to(folder)) for it in folder.rglob("*") if not it.is_dir()}
+    return {str(path.relative_to(folder)) for path in folder.rglob("*") if not path.is_dir()}
 
 
 @pytest.fixture(scope="session")
@@ -64,23 +64,24 @@ pytestmark = pytest.mark.xdist_group("make")  # so that one process writes into 
 def test_install_writes_below_destdir(args, place, make, tmp_path):
     stage = tmp_path / "a stage"
     assert make("install", f"DESTDIR={stage}", *args).returncode == 0
-    assert files_in(stage) == {f"{place}/{it}" for it in INSTALLED}
+    assert files_in(stage) == {f"{place}/{name}" for name in INSTALLED}
 
 
 def test_install_takes_its_variables_from_the_environment(make, tmp_path, monkeypatch):
     """Debian's folder of libraries too."""
-    for name, value in {"DESTDIR": tmp_path, "PREFIX": "/usr", "LIBDIR": "/usr/lib/it"}.items():
+    for name, value in {"DESTDIR": tmp_path, "PREFIX": "/usr", "LIBDIR": "/usr/lib/triple"}.items():
         monkeypatch.setenv(name, str(value))
     assert make("install").returncode == 0
-    assert files_in(tmp_path) == {f"usr/{it}".replace("usr/lib/", "usr/lib/it/", 1) for it in INSTALLED}
+    assert files_in(tmp_path) == {f"usr/{name}".replace("usr/lib/", "usr/lib/triple/", 1) for name in INSTALLED}
     assert make("uninstall").returncode == 0 and files_in(tmp_path) == set()
 
 
 def test_installed_files_are_readable(make, tmp_path):
     prefix = tmp_path / "prefix"
     assert make("install", f"PREFIX={prefix}", umask=0o077).returncode == 0
-    assert {(prefix / it).stat().st_mode & 0o777 for it in INSTALLED - {"lib/libsketch_hash.so", f"lib/{SHARED}"}} == {0o644}
-    assert {it.stat().st_mode & 0o777 for it in prefix.rglob("*") if it.is_dir()} == {0o755}
+    files = INSTALLED - {"lib/libsketch_hash.so", f"lib/{SHARED}"}
+    assert {(prefix / name).stat().st_mode & 0o777 for name in files} == {0o644}
+    assert {path.stat().st_mode & 0o777 for path in prefix.rglob("*") if path.is_dir()} == {0o755}
 
 
 def test_an_upgrade_replaces_the_library_in_use(prefix, make, tmp_path):
@@ -131,7 +132,7 @@ def test_shared_library_has_a_version_for_each_call_and_a_name(compiler, make, d
     need(compiler, "nm", "readelf")
     assert make("clean").returncode == 0 and make(f"CC={compiler}").returncode == 0
     names = re.findall(r" [B-Zb-z] (\S+)$", output("nm", "-D", "--defined-only", dist / SHARED), re.M)
-    assert sorted(name for name in names if "@@" in name) == [f"{it}@@SKETCH_HASH_3.0" for it in CALLS]
+    assert sorted(name for name in names if "@@" in name) == [f"{call}@@SKETCH_HASH_3.0" for call in CALLS]
     assert {name for name in names if "@@" not in name} <= {"SKETCH_HASH_3.0"}
     headers = output("readelf", "-Wld", dist / SHARED)
     assert f"[{SHARED}]" in headers and re.search(r"GNU_STACK .* RW +0", headers)
@@ -146,9 +147,9 @@ def section(name):
 
 def test_man_page_has_the_declarations_of_the_header():
     header = re.sub(r"/\*.*?\*/|\s", "", (DIST / "include/sketch_hash.h").read_text(), flags=re.S)
-    shown = [re.sub(r'["\s]', "", it) for it in re.findall(r"^\.BI? (.*\).*;\"?)$", section("SYNOPSIS"), re.M)]
-    assert sorted(re.search(r"(sketch_\w+)\(", it)[1] for it in shown if "_INIT(" not in it) == CALLS
-    assert [it for it in shown if it not in header and "_INIT(" not in it] == []
+    shown = [re.sub(r'["\s]', "", line) for line in re.findall(r"^\.BI? (.*\).*;\"?)$", section("SYNOPSIS"), re.M)]
+    assert sorted(re.search(r"(sketch_\w+)\(", line)[1] for line in shown if "_INIT(" not in line) == CALLS
+    assert [line for line in shown if line not in header and "_INIT(" not in line] == []
     assert sorted(re.findall(r"\bsketch_\w+", section("NAME"))) == CALLS
 
 

@@ -13,8 +13,8 @@ from sketch_hash import murmur3_x64_128, xxh64
 KINDS = [xxh64, murmur3_x64_128]
 FORMS = ["digest", "hexdigest", "intdigest"]
 ONE_CALL = [getattr(sketch_hash, f"{kind.__name__}_{form}") for kind in KINDS for form in FORMS]
-PICKLES = [lambda it, n=n: pickle.loads(pickle.dumps(it, n)) for n in range(6)]
-WAYS = [copy.copy, copy.deepcopy, lambda it: it.copy(), *PICKLES]
+PICKLES = [lambda subject, n=n: pickle.loads(pickle.dumps(subject, n)) for n in range(6)]
+WAYS = [copy.copy, copy.deepcopy, lambda subject: subject.copy(), *PICKLES]
 
 MAP_NORESERVE = 0x4000 if sys.platform == "linux" else 0
 # They take no memory, since they are never written. A call on them takes a tenth of a second or more.
@@ -68,11 +68,11 @@ def column_of(pa, name, count=4000):
         return column_of(pa, "string", count).dictionary_encode()
     type = eval(f"pa.{name}" + "()" * ("(" not in name))
     if "int" in name:
-        return pa.array([None if it is None else it % 2 ** (type.bit_width - 1) for it in rows], type)
+        return pa.array([None if row is None else row % 2 ** (type.bit_width - 1) for row in rows], type)
     if "string" in name or "binary" in name:
-        return pa.array([None if it is None else f"{it:04}" for it in rows]).cast("binary").cast(type)
+        return pa.array([None if row is None else f"{row:04}" for row in rows]).cast("binary").cast(type)
     if "decimal" in name:
-        return pa.array([None if it is None else decimal.Decimal(it) / 100 for it in rows], type)
+        return pa.array([None if row is None else decimal.Decimal(row) / 100 for row in rows], type)
     if name == "date64":
-        return pa.array([None if it is None else it * 86_400_000 for it in rows], type)
+        return pa.array([None if row is None else row * 86_400_000 for row in rows], type)
     return pa.array(rows, "int32" if type.bit_width == 32 and "float" not in name else "int64").cast(type)

@@ -90,7 +90,7 @@ class Producer:
                  ctypes.CFUNCTYPE(P, P)(lambda _: self.place(text))]
         self.kept += calls
         stream = self.make(Stream, **dict(zip(("get_schema", "get_next", "get_last_error"),
-                                              (ctypes.cast(it, P) for it in calls))))
+                                              (ctypes.cast(call, P) for call in calls))))
         return type("Streamed", (), {"__arrow_c_stream__": lambda _, requested=None: capsule(stream)})()
 
 
@@ -203,8 +203,8 @@ def test_memory_may_not_be_aligned(format, producer):
 def test_dictionaries(code, format, producer):
     keys = values_of(format)[:4] if format != "n" else [None] * 4
     codes, formats = [3, 0, None, 2, 1, 0, 3], dict(zip("bBhHiIqQ", "cCsSiIlL"))
-    rows = [None if it is None else keys[it] for it in codes]
-    wild = struct.pack("<7" + code, *(111 if it is None else it for it in codes))
+    rows = [None if code is None else keys[code] for code in codes]
+    wild = struct.pack("<7" + code, *(111 if code is None else code for code in codes))
 
     def make(keys=keys, begin=0):
         values = buffers_of(format, keys) if format != "n" else ()
@@ -216,7 +216,7 @@ def test_dictionaries(code, format, producer):
     check(lambda: make(begin=3), rows[3:])
     if format != "n":
         some = [keys[0], None, keys[2], keys[3]]
-        check(lambda: make(some), [None if it is None else some[it] for it in codes])
+        check(lambda: make(some), [None if code is None else some[code] for code in codes])
 
 
 def test_a_column_of_nulls_or_without_chunks(producer):
@@ -300,7 +300,7 @@ CALLS = [xxh64_each, murmur3_x64_128_each, BloomFilter(32).add_each, BloomFilter
     ("d:9,2", "decimals.* sketch_hash.parquet.add_filters reads them as they are stored"),
     ("+s", "structs.* pass one column of a table"), ("+l", "lists, maps or unions.* array.flatten"),
     ("+r", "runs.* pyarrow.compute.run_end_decode"),
-    *((it, "another type") for it in ("tiM", "", "w:-1", "w:9999999999", "w: 5", "w:5_0", "w:")),
+    *((format, "another type") for format in ("tiM", "", "w:-1", "w:9999999999", "w: 5", "w:5_0", "w:")),
 ])
 @pytest.mark.parametrize("is_coded", [False, True], ids=["values", "dictionary"])
 def test_another_type_is_an_error_with_the_cure(format, text, is_coded, producer):
@@ -461,11 +461,11 @@ def stored(pa, values, path):
 @pytest.mark.parametrize("name", [*TYPES, "float16", "string_view", "binary_view"])
 def test_a_value_of_pyarrow_is_a_key_as_parquet_stores_it(name, pa, tmp_path):
     whole = column_of(pa, name, 40)
-    for it in (whole, whole[4:10]):  # the slice has no nulls
-        keys = stored(pa, it, tmp_path / "a")
-        check(lambda: it, keys)
-        check(lambda: it[3:9], keys[3:9])
-        check(lambda: pa.chunked_array([it[:5], it[7:]]), keys[:5] + keys[7:])
+    for column in (whole, whole[4:10]):  # the slice has no nulls
+        keys = stored(pa, column, tmp_path / "a")
+        check(lambda: column, keys)
+        check(lambda: column[3:9], keys[3:9])
+        check(lambda: pa.chunked_array([column[:5], column[7:]]), keys[:5] + keys[7:])
 
 
 def test_batches_of_pyarrow_are_slices(pa):

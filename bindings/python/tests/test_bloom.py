@@ -296,12 +296,12 @@ def test_another_fold_is_an_error(make, args, error, text):
 
 # ---- Memory
 
-@pytest.mark.parametrize("call", [BloomFilter.copy, lambda it: it | BloomFilter(32)], ids=["copy", "|"])
+@pytest.mark.parametrize("call", [BloomFilter.copy, lambda bloom: bloom | BloomFilter(32)], ids=["copy", "|"])
 def test_a_copy_of_a_filter_that_is_released_meanwhile_raises(call):
     class Releases(BloomFilter):
         def __new__(cls, *args):
-            for it in seen:
-                it.release()
+            for bloom in seen:
+                bloom.release()
             return super().__new__(cls)
 
     seen = []
@@ -329,7 +329,7 @@ def test_a_new_filter_of_another_type_is_an_error():
             call()
 
 
-@pytest.mark.parametrize("copy", [lambda it: it, lambda it: None], ids=["itself", "None"])
+@pytest.mark.parametrize("copy", [lambda bloom: bloom, lambda bloom: None], ids=["itself", "None"])
 def test_a_merge_does_not_call_the_copy_of_a_subclass(copy):
     buffer = bytearray(bits())
     strange = type("Strange", (BloomFilter,), {"copy": copy}).view(buffer)
@@ -340,7 +340,8 @@ def test_a_merge_does_not_call_the_copy_of_a_subclass(copy):
 
 
 @pytest.mark.parametrize("way", [
-    "view(it)", "view(memoryview(it))", "view(memoryview(view(it)))", "memoryview(view(it))", "Kind.view(it)",
+    "view(buffer)", "view(memoryview(buffer))", "view(memoryview(view(buffer)))", "memoryview(view(buffer))",
+    "Kind.view(buffer)",
 ])
 def test_a_cycle_through_a_view_is_collected(way):
     """In a process of its own, since the order in which the collector clears objects depends on all others."""
@@ -349,12 +350,12 @@ def test_a_cycle_through_a_view_is_collected(way):
         view, Kind = sketch_hash.BloomFilter.view, type("Kind", (sketch_hash.BloomFilter,), {{}})
         class Buffer(bytearray): pass
         def cycle():
-            it = Buffer(1024)
-            it.view = {way}
-            return weakref.ref(it)
+            buffer = Buffer(1024)
+            buffer.view = {way}
+            return weakref.ref(buffer)
         references = [cycle() for _ in range(50)]
         gc.collect()
-        assert [it() for it in references] == [None] * 50"""
+        assert [reference() for reference in references] == [None] * 50"""
     subprocess.run([sys.executable, "-c", code], check=True)
 
 
@@ -428,12 +429,13 @@ def test_a_view_keeps_the_length_of_its_buffer_until_it_is_released():
 
 
 CALLS = {
-    "add": lambda it: it.add(b"fox"), "in": lambda it: b"fox" in it, "add_each": lambda it: it.add_each(PAIR),
-    "contains_each": lambda it: it.contains_each(PAIR), "add_hashes": lambda it: it.add_hashes(array.array("Q", [1])),
-    "|=": lambda it: it.__ior__(filled()), "source of |=": lambda it: filled().__ior__(it),
-    "|": lambda it: it | filled(), "==": lambda it: it == filled(), "copy": BloomFilter.copy,
-    "to_bytes": BloomFilter.to_bytes, "to_parquet": BloomFilter.to_parquet, "fold": lambda it: it.fold(0.5),
-    "num_bytes": lambda it: it.num_bytes, "memoryview": memoryview,
+    "add": lambda bloom: bloom.add(b"fox"), "in": lambda bloom: b"fox" in bloom,
+    "add_each": lambda bloom: bloom.add_each(PAIR), "contains_each": lambda bloom: bloom.contains_each(PAIR),
+    "add_hashes": lambda bloom: bloom.add_hashes(array.array("Q", [1])),
+    "|=": lambda bloom: bloom.__ior__(filled()), "source of |=": lambda bloom: filled().__ior__(bloom),
+    "|": lambda bloom: bloom | filled(), "==": lambda bloom: bloom == filled(), "copy": BloomFilter.copy,
+    "to_bytes": BloomFilter.to_bytes, "to_parquet": BloomFilter.to_parquet, "fold": lambda bloom: bloom.fold(0.5),
+    "num_bytes": lambda bloom: bloom.num_bytes, "memoryview": memoryview,
 }
 
 

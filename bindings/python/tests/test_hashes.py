@@ -56,9 +56,9 @@ def test_attributes():
         assert getattr(ours, name) == getattr(theirs, name)
     assert (murmur.name, murmur.digest_size, murmur.digestsize, murmur.block_size) == ("MURMUR3_X64_128", 16, 16, 16)
     assert repr(ours) == f"<sketch_hash.xxh64 with seed 7, now {ours.hexdigest()}>"
-    for it, name in ((murmur, "seed"), *((it, "other") for it in (ours, murmur, sketch_hash.BloomFilter(32)))):
+    for subject, name in ((murmur, "seed"), *((subject, "other") for subject in (ours, murmur, sketch_hash.BloomFilter(32)))):
         with pytest.raises(AttributeError):
-            setattr(it, name, 8)
+            setattr(subject, name, 8)
 
 
 def test_metadata_of_the_package():
@@ -182,11 +182,11 @@ def test_a_contiguous_buffer_is_an_input(kind, data):
 @pytest.mark.parametrize("data", REJECTED.values(), ids=REJECTED)
 def test_another_input_is_an_error(data):
     hashers = [kind(b"a") for kind in KINDS]
-    for call in (*KINDS, *ONE_CALL, *[it.update for it in hashers], sketch_hash.BloomFilter.from_bytes):
+    for call in (*KINDS, *ONE_CALL, *[hasher.update for hasher in hashers], sketch_hash.BloomFilter.from_bytes):
         with pytest.raises((TypeError, ValueError, BufferError)) as error:
             call(data)
         assert "encode" not in str(error.value)
-    assert [it.digest() for it in hashers] == [kind(b"a").digest() for kind in KINDS]
+    assert [hasher.digest() for hasher in hashers] == [kind(b"a").digest() for kind in KINDS]
 
 
 @pytest.mark.parametrize("call", [*KINDS, *ONE_CALL, xxh64().update])

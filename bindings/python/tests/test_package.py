@@ -67,7 +67,7 @@ def test_stubs_fit_the_module(need, tmp_path):
     need("python:mypy", "python:sketch_hash")
     import sketch_hash
     # Programs and private modules have no stubs, nor has pyarrow.
-    private = ",".join(f"sketch_hash.{it}" for it in PRIVATE)
+    private = ",".join(f"sketch_hash.{name}" for name in PRIVATE)
     settings = f"[mypy]\nignore_missing_imports = True\n[mypy-{private}]\nignore_errors = True\n"
     (tmp_path / "mypy.ini").write_text(settings)
     folder = str(pathlib.Path(sketch_hash.__file__).parents[1])
@@ -88,7 +88,7 @@ def test_glue_under_sanitizers(source, tmp_path):
     flags = "-fsanitize=address,undefined -fno-sanitize-recover=all -fno-omit-frame-pointer -g"
     assert install(source, installed, CFLAGS=flags, LDFLAGS=flags).returncode == 0
     asan = subprocess.check_output(["gcc", "-print-file-name=libasan.so"], text=True).strip()
-    tests = [HERE / f"test_{it}.py" for it in ("arrow", "bloom", "columns", "hashes", "sharing")]
+    tests = [HERE / f"test_{name}.py" for name in ("arrow", "bloom", "columns", "hashes", "sharing")]
     options = ["-q", "-x", "-p", "no:cacheprovider", "-p", "no:xdist", "-k", "not longer_than_4"]
     done = run([sys.executable, "-m", "pytest", *options, *tests], PYTHONPATH=str(installed), LD_PRELOAD=asan,
                ASAN_OPTIONS="detect_leaks=0:allocator_may_return_null=1", PYTHONMALLOC="malloc")
@@ -98,14 +98,15 @@ def test_glue_under_sanitizers(source, tmp_path):
 def test_objects_free_their_memory():
     """An object that leaks in each round would take more than a million bytes."""
     code = """if True:
-        import array, pickle, resource, sketch_hash as it
+        import array, pickle, resource
+        from sketch_hash import BloomFilter, murmur3_x64_128, xxh64, xxh64_each
         column = b"foxdog", array.array("I", [0, 3, 6])
         def turn():
-            bloom = it.BloomFilter(1024)
+            bloom = BloomFilter(1024)
             bloom.add_each(column); bloom.contains_each(column); bloom |= bloom.copy()
             memoryview(bloom).tobytes(); bloom.copy().fold(0.5)
-            it.BloomFilter.from_parquet(bloom.to_parquet()); it.xxh64_each(column); it.xxh64(b"fox").copy().hexdigest()
-            bloom.add_hashes(it.xxh64_each(column)); pickle.loads(pickle.dumps([bloom, it.murmur3_x64_128(b"fox")]))
+            BloomFilter.from_parquet(bloom.to_parquet()); xxh64_each(column); xxh64(b"fox").copy().hexdigest()
+            bloom.add_hashes(xxh64_each(column)); pickle.loads(pickle.dumps([bloom, murmur3_x64_128(b"fox")]))
             for wrong in (5, memoryview(b"foxdog").cast("H")):
                 try: bloom.add(wrong)
                 except TypeError: pass

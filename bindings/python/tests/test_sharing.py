@@ -57,9 +57,9 @@ class Locked(BloomFilter):
 
 @pytest.mark.parametrize("way", WAYS)
 def test_a_copy_takes_the_state_that_a_subclass_gives(way):
-    it = Locked(32)
-    it.path, it.lock = "seen.bloom", threading.Lock()
-    assert way(it).path == "seen.bloom" and way(it).lock is not it.lock
+    subject = Locked(32)
+    subject.path, subject.lock = "seen.bloom", threading.Lock()
+    assert way(subject).path == "seen.bloom" and way(subject).lock is not subject.lock
 
 
 @pytest.mark.parametrize("kind, size", [(xxh64, 80), (murmur3_x64_128, 40)])
@@ -114,7 +114,7 @@ def test_short_calls_keep_the_gil(ticks):
     data, hashers = bytes(65535), [kind() for kind in KINDS]
     before = len(ticks)
     for _ in range(1000):
-        for call in (*ONE_CALL, *[it.update for it in hashers]):
+        for call in (*ONE_CALL, *[hasher.update for hasher in hashers]):
             call(data)
     assert len(ticks) == before
 

@@ -9,7 +9,7 @@ use std::fmt::Debug;
 const SEED: u64 = u64::MAX - 4;
 
 fn offsets<O: TryFrom<i32, Error: Debug>>(offsets: &[i32]) -> Vec<O> {
-    offsets.iter().map(|it| O::try_from(*it).unwrap()).collect()
+    offsets.iter().map(|offset| O::try_from(*offset).unwrap()).collect()
 }
 
 fn each_key_is_hashed<O: Offset + TryFrom<i32, Error: Debug>>() {
@@ -17,7 +17,10 @@ fn each_key_is_hashed<O: Offset + TryFrom<i32, Error: Debug>>() {
     xxh64_each(b"foxesdog", &offsets::<O>(&[0, 3, 3, 8]), SEED, &mut x).unwrap();
     murmur3_x64_128_each(b"foxesdog", &offsets::<O>(&[0, 3, 3, 8]), SEED, &mut m).unwrap();
     let keys = [&b"fox"[..], b"", b"esdog"];
-    assert_eq!((x, m), (keys.map(|it| xxh64(it, SEED)), keys.map(|it| murmur3_x64_128(it, SEED))));
+    assert_eq!(
+        (x, m),
+        (keys.map(|key| xxh64(key, SEED)), keys.map(|key| murmur3_x64_128(key, SEED)))
+    );
 }
 
 #[test]

@@ -114,7 +114,8 @@ test('a key may be longer than the copied pieces', () => {
 });
 
 test('a hash may be added in place of its key', () => {
-    const filter = keys.reduce((it, key) => it.addHash(xxh64(bytes(key))), new BloomFilter(1024));
+    const filter = new BloomFilter(1024);
+    for (const key of keys) filter.addHash(xxh64(bytes(key)));
     assert.deepEqual(filter.toBytes(), filled().toBytes());
     assert.deepEqual([filter.hasHash(xxh64(bytes('a0'))), filter.hasHash(last)], [true, false]);
 });
@@ -283,7 +284,7 @@ test('every call of a filter that was freed is a type error', () => {
 
 test('using frees an object, where the engine has it', { skip: !Symbol.dispose && 'this engine has no Symbol.dispose' }, () => {
     const [filter, stream] = [filled(), new library.Xxh64()];
-    for (const it of [filter, stream]) it[Symbol.dispose]();
+    for (const subject of [filter, stream]) subject[Symbol.dispose]();
     assert.throws(() => filter.has('fox'), TypeError);
     assert.throws(() => stream.digest(), TypeError);
 });
@@ -311,7 +312,7 @@ test('10,000 filters of random sizes need little more memory than what was alive
             const expected = new Filter(filter.length).add(key);
             assert.deepEqual(filter.toBytes(), expected.toBytes());
             now -= filter.length;
-            for (const it of [filter, expected]) it.free();
+            for (const each of [filter, expected]) each.free();
             alive.delete(key);
         }
     }

@@ -135,7 +135,7 @@ test('lengths past 2^31', () => {
 
 const url = new URL('../../../dist/wasm/sketch_hash.wasm', import.meta.url);
 const module = readFileSync(url);
-const works = (it) => it.xxh64(fox) === library.xxh64(fox);
+const works = (loaded) => loaded.xxh64(fox) === library.xxh64(fox);
 
 for (const source of [module, url, url.href, 'sketch_hash.wasm']) {
     const name = source === module ? 'bytes' : `${typeof source} ${source}`;
@@ -182,7 +182,7 @@ test('a browser fetches a file: URL too', async (t) => {
 });
 
 test('an engine without 64-bit memories is an error that names those with them', async (t) => {
-    t.mock.method(WebAssembly, 'validate', (it) => it.length > 20);
+    t.mock.method(WebAssembly, 'validate', (module) => module.length > 20);
     await assert.rejects(load(module), /64-bit memories.*Firefox from 134/);
 });
 
@@ -203,9 +203,9 @@ for (const type of ['bigint', 'number']) {
 
 // The positions of the arguments that point to words.
 for (const [name, positions, run] of [
-    ['sketch_murmur3_x64_128_each64', [2, 5], (it) => it.murmur128Each(fox, BigUint64Array.of(0n, 3n))],
-    ['sketch_murmur3_x64_128_digest', [0, 1], (it) => new it.Murmur128().digest()],
-    ['sketch_bloom_contains_each_u64', [2], (it) => new it.BloomFilter(32).hasEachNumber(BigUint64Array.of(5n))],
+    ['sketch_murmur3_x64_128_each64', [2, 5], (loaded) => loaded.murmur128Each(fox, BigUint64Array.of(0n, 3n))],
+    ['sketch_murmur3_x64_128_digest', [0, 1], (loaded) => new loaded.Murmur128().digest()],
+    ['sketch_bloom_contains_each_u64', [2], (loaded) => new loaded.BloomFilter(32).hasEachNumber(BigUint64Array.of(5n))],
 ]) {
     test(`${name} gets aligned addresses after the data of the module`, async (t) => {
         const { instantiate } = WebAssembly;

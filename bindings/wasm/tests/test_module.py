@@ -10,7 +10,7 @@ from conftest import DIST, ROOT
 HERE = pathlib.Path(__file__).resolve().parent
 
 
-@pytest.mark.parametrize("name", sorted(it.name for it in HERE.glob("*.test.mjs")))
+@pytest.mark.parametrize("name", sorted(path.name for path in HERE.glob("*.test.mjs")))
 def test_module_under_node(name, need):
     need("node 20")
     done = subprocess.run(["node", "--test", HERE / name], capture_output=True, text=True)
@@ -53,14 +53,14 @@ def test_program_of_the_page_prints_what_its_comments_say(project):
     (project / "page.mjs").write_text(program)
     major = int(re.match(r"v(\d+)", subprocess.check_output(["node", "--version"], text=True))[1])
     flags = ["--experimental-wasm-memory64"] if major < 24 else []
-    expected = [it.split(":")[0] for it in re.findall(r"^console\.log\(.*\); // (.*)$", program, re.M)]
+    expected = [comment.split(":")[0] for comment in re.findall(r"^console\.log\(.*\); // (.*)$", program, re.M)]
     assert subprocess.check_output(["node", *flags, "page.mjs"], cwd=project, text=True).splitlines() == expected
 
 
 def test_the_page_explains_the_definitions_in_its_contracts():
     page = (DIST / "wasm/index.html").read_text()
     legend, contracts = re.search(r"<table>(.*?)</table>\n<pre>(.*?)</pre>", page, re.S).groups()
-    specs = "".join(it.read_text() for it in sorted(ROOT.glob("crates/*/specs/*.antt")))
+    specs = "".join(path.read_text() for path in sorted(ROOT.glob("crates/*/specs/*.antt")))
     defined = set(re.findall(r"^(?:abbrev|unfoldable) pub (\w+) :", specs, re.M))
     explained = set(re.findall(r"\w+", "".join(re.findall(r"<th>(.*?)</th>", legend))))
     assert set(re.findall(r"\w+", contracts)) & defined == explained & defined != set()

@@ -56,10 +56,10 @@ class Quiet(http.server.SimpleHTTPRequestHandler):
 @pytest.fixture(scope="module")
 def server():
     serve = functools.partial(Quiet, directory=DIST / "wasm")
-    with http.server.ThreadingHTTPServer(("127.0.0.1", 0), serve) as it:
-        threading.Thread(target=it.serve_forever, daemon=True).start()
-        yield f"http://127.0.0.1:{it.server_port}"
-        it.shutdown()
+    with http.server.ThreadingHTTPServer(("127.0.0.1", 0), serve) as server:
+        threading.Thread(target=server.serve_forever, daemon=True).start()
+        yield f"http://127.0.0.1:{server.server_port}"
+        server.shutdown()
 
 
 @pytest.fixture(scope="module")
@@ -70,8 +70,8 @@ def chromium(need):
         options.add_argument(argument)
     options.set_capability("goog:loggingPrefs", {"browser": "ALL"})
     # Without its path, newer versions of Selenium ask the network for a driver.
-    with webdriver.Chrome(options=options, service=Service(shutil.which("chromedriver"))) as it:
-        yield it
+    with webdriver.Chrome(options=options, service=Service(shutil.which("chromedriver"))) as driver:
+        yield driver
 
 
 class Page:
@@ -100,7 +100,7 @@ class Page:
         self.run(typed, self.one(f"#{field}"), text)
 
     def hashes(self, name):
-        return tuple(self.in_card(name, f"code.{it}").text for it in ("xxh64", "murmur3", "memory"))
+        return tuple(self.in_card(name, f"code.{kind}").text for kind in ("xxh64", "murmur3", "memory"))
 
     def wait(self, condition):
         WebDriverWait(self.chromium, TIMEOUT, 0.02).until(lambda _: condition())
@@ -182,7 +182,7 @@ def test_a_wrong_seed_gives_no_hash_and_no_bar(text, page):
     page.wait(lambda: "0 to 18446744073709551615" in page.one("#seed-fault").text)
     assert page.hashes("fox") == page.hashes("Text") == NONE
     assert page.one("#seed").get_attribute("aria-invalid") == "true"
-    assert not any(page.in_card("fox", it).is_displayed() for it in ("progress", "dl button", ".stop"))
+    assert not any(page.in_card("fox", part).is_displayed() for part in ("progress", "dl button", ".stop"))
 
 
 @pytest.mark.parametrize("text", [
@@ -200,7 +200,7 @@ def test_an_expected_hash_is_found(expected, page):
     assert page.one("#verdict").text == "No hash on this page is equal."
     page.choose(fox=FOX)
     page.wait(lambda: page.one("#verdict").text == "Equal: fox")
-    assert [it.text for it in page.all("code.good")] == [expected.strip().lower()]
+    assert [code.text for code in page.all("code.good")] == [expected.strip().lower()]
     page.type("expected", "")
     assert page.one("#verdict").text == "" and page.all("code.good") == []
 
@@ -272,12 +272,12 @@ def test_a_name_that_looks_like_html_is_a_text(page):
 def test_the_page_sends_nothing(page):
     """Its policy forbids requests, and it was loaded with none."""
     page.wait_for_hashes("Text", hashes(b""))
-    loaded = page.run("return performance.getEntriesByType('resource').map((it) => it.name)")
-    assert [it for it in loaded if not it.startswith("blob:")] == []
+    loaded = page.run("return performance.getEntriesByType('resource').map((entry) => entry.name)")
+    assert [name for name in loaded if not name.startswith("blob:")] == []
     fetch = "fetch(location.href).then(() => arguments[0]('sent'), () => arguments[0]('forbidden'))"
     assert page.chromium.execute_async_script(fetch) == "forbidden"
     policy = page.one("meta[http-equiv=Content-Security-Policy]").get_attribute("content").split(";")
-    assert {"default-src 'none'", "base-uri 'none'", "form-action 'none'"} <= {it.strip() for it in policy}
+    assert {"default-src 'none'", "base-uri 'none'", "form-action 'none'"} <= {rule.strip() for rule in policy}
     page.chromium.get_log("browser")  # drops the message about the request
 
 
