@@ -1,4 +1,5 @@
-"""What tests need: `need`, by which each names its tools; the folders; the calls of the library."""
+"""What tests need: `need`, by which each names its tools; the folders; the calls of the library and its
+version."""
 import functools
 import importlib
 import importlib.util
@@ -15,6 +16,7 @@ import pytest
 ROOT = pathlib.Path(__file__).parent
 DIST = ROOT / "dist"
 CALLS = sorted(set(re.findall(r"\b(sketch_\w+)\(", (DIST / "include/sketch_hash.h").read_text())))
+VERSION = re.search(r"^## \[?(\d+\.\d+\.\d+)", (ROOT / "CHANGELOG.md").read_text(encoding="utf-8"), re.M)[1]
 # The folder of what `rt ci` has just proved and built, as .ci/run names it, or None.
 PROVED = pathlib.Path(os.environ["PROVED"]) if os.environ.get("PROVED") else None
 pytest_plugins = ["bindings.python.tests.plugin"]

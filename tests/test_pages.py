@@ -68,27 +68,10 @@ def test_files_that_a_page_names_are_there(page):
     assert [name for name in named if "PATH/" not in name and not any(end.endswith(f"/{name}") for end in ends)] == []
 
 
-VERSION = re.search(r"^## \[?(\d+\.\d+\.\d+)", text_of("CHANGELOG.md"), re.M)[1]
-VERSIONED = [name for name in FILES if re.search(r"sketch_hash\.(3|h|pc\.in)$|/hashes\.mjs$", name) or name.endswith(
-    ("python/setup.py", "rust/Cargo.toml", "wasm/package.json", "dist/CMakeLists.txt", "dist/Makefile"))]
-
-
-@pytest.mark.parametrize("name", [*VERSIONED, "README.md"])
-def test_the_version_is_that_of_the_changelog(name):
-    found = set(re.findall(r"(?<![\w.])\d+\.\d+\.\d+(?![\w.])", text_of(name)))
-    assert found - {"0.6.0"} <= {VERSION} and (VERSION in found or name == "README.md")
-
-
 def test_the_definitions_to_read_have_as_many_lines_as_the_page_says():
     page = text_of("docs/trust.md")
     lines = sum(text_of(file).count("\n") for file in re.findall(r"^- `(crates/\S+\.antt)`:", page, re.M))
     assert re.findall(r"(\d+)\s(?:> )?lines of definitions", page) == [str(lines)] * 2
-
-
-@pytest.mark.parametrize("package", ["bindings/python", "bindings/rust", "dist"])
-@pytest.mark.parametrize("name", ["LICENSE", "NOTICE"])
-def test_packages_have_the_licence(package, name):
-    assert text_of(f"{package}/{name}") == text_of(name)
 
 
 # ---- The programs and commands of each README, run as they stand there

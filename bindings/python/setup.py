@@ -1,5 +1,6 @@
 """Builds the calls over the library for C, whose text is in `c`: of this folder, or in the repository made from `dist`."""
 import pathlib
+import re
 import shutil
 import sys
 import sysconfig
@@ -30,7 +31,7 @@ directives = {"language_level": 3, "binding": False, "auto_pickle": False, "alwa
 setup(
     options={"build_clib": {"force": True}, "build_ext": {"force": True}},  # the text may have another version
     name="sketch-hash",
-    version="3.0.0",
+    version=re.search('^__version__ = "(.*)"$', (here / "src/sketch_hash/__init__.py").read_text(), re.M)[1],
     description="XXH64, MurmurHash3 x64 128 and the Bloom filter of Apache Parquet, from functions that are proved",
     long_description=(here / "README.md").read_text(encoding="utf-8"),
     long_description_content_type="text/markdown",

@@ -7,12 +7,12 @@ import shutil
 import subprocess
 
 import pytest
-from conftest import CALLS, DIST
+from conftest import CALLS, DIST, VERSION
 
 HERE = pathlib.Path(__file__).resolve().parent
 CC = ["gcc", "-Wall", "-Wextra", "-Werror"]
 MAN_PAGE = (DIST / "sketch_hash.3").read_text()
-SHARED = "libsketch_hash.so.3"
+SHARED = f"libsketch_hash.so.{VERSION.partition('.')[0]}"
 
 INSTALLED = {
     "include/sketch_hash.h", "lib/libsketch_hash.a", "lib/libsketch_hash.so", f"lib/{SHARED}",

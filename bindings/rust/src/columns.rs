@@ -28,8 +28,8 @@ macro_rules! offsets {
 }
 offsets! { u32 i32 u64 i64 }
 
-/// The bytes that an offset can reach. The library reads a negative offset as a number without a
-/// sign, which is past their end.
+/// The bytes that an offset can reach. As `sketch_hash.h` says, a negative offset is then past
+/// their end, since the library reads it as a number without a sign.
 pub(crate) fn reachable<O: Offset>(bytes: &[u8]) -> &[u8] {
     &bytes[..bytes.len().min(O::GREATEST)]
 }

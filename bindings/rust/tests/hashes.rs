@@ -29,7 +29,8 @@ impl Rng {
 
 #[test]
 fn the_library_is_of_this_version() {
-    assert_eq!(sketch_hash::version(), 30_000);
+    let parts = env!("CARGO_PKG_VERSION").split('.').map(|part| part.parse::<u32>().unwrap());
+    assert_eq!(sketch_hash::version(), parts.fold(0, |version, part| 100 * version + part));
 }
 
 #[test]

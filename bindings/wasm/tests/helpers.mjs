@@ -1,4 +1,5 @@
 // What the tests share: the module, as it is loaded by default, and inputs.
+import { readFileSync } from 'node:fs';
 import v8 from 'node:v8';
 import { load } from '../../../dist/wasm/sketch_hash.mjs';
 
@@ -6,6 +7,7 @@ const memory64 = Uint8Array.of(0, 0x61, 0x73, 0x6d, 1, 0, 0, 0, 5, 3, 1, 4, 0);
 if (!WebAssembly.validate(memory64)) v8.setFlagsFromString('--experimental-wasm-memory64'); // Node 20 and 22
 
 export const library = await load();
+export const { version } = JSON.parse(readFileSync(new URL('../../../dist/wasm/package.json', import.meta.url)));
 export const fox = new TextEncoder().encode('The quick brown fox jumps over the lazy dog');
 export const last = 2n ** 64n - 1n;
 /** Longer than what the module's memory takes at a time. */

@@ -1,0 +1,44 @@
+"""What several languages must write out: it is the same in each, and that of the file that sets it."""
+import re
+
+import pytest
+from conftest import ROOT, VERSION
+
+
+def text_of(name):
+    return (ROOT / name).read_text(encoding="utf-8")
+
+
+@pytest.mark.parametrize("name", [
+    "README.md", "bindings/python/src/sketch_hash/__init__.py", "bindings/rust/Cargo.toml", "dist/CMakeLists.txt",
+    "dist/Makefile", "dist/include/sketch_hash.h", "dist/sketch_hash.3", "dist/sketch_hash.pc.in", "dist/wasm/hashes.mjs",
+    "dist/wasm/package.json",
+])
+def test_the_version_is_that_of_the_changelog(name):
+    """The README names that of the original too."""
+    assert {*re.findall(r"(?<![\w.])\d+\.\d+\.\d+(?![\w.])", text_of(name))} - {"0.6.0"} == {VERSION}
+
+
+@pytest.mark.parametrize("package", ["bindings/python", "bindings/rust", "dist"])
+@pytest.mark.parametrize("name", ["LICENSE", "NOTICE"])
+def test_packages_have_the_licence(package, name):
+    assert text_of(f"{package}/{name}") == text_of(name)
+
+
+PYTHON, RUST, JAVASCRIPT = "bindings/python/src/sketch_hash", "bindings/rust/src", "dist/wasm"
+
+
+def test_packages_say_of_a_wrong_offset_what_the_header_says():
+    """With its index, and by fewer commas."""
+    header = re.search(r"An offset (is missing, .*) it\.", text_of("dist/include/sketch_hash.h"))[1].replace("end, or", "end or")
+    for name in (f"{PYTHON}/_columns.pyx", f"{RUST}/error.rs", f"{JAVASCRIPT}/filters.mjs"):
+        assert re.findall(r"the offset at \S+ (is missing, [\w, ]*)", text_of(name)) == [header]
+
+
+@pytest.mark.parametrize("name", [
+    "bindings/python/README.md", f"{PYTHON}/_bloom.pyx", f"{RUST}/bloom.rs", f"{RUST}/error.rs",
+    f"{JAVASCRIPT}/filters.mjs", f"{JAVASCRIPT}/sketch_hash.d.mts", "dist/include/sketch_hash.h", "dist/sketch_hash.3",
+])
+def test_the_largest_filter_for_keys_is_that_of_the_core(name):
+    log2_blocks = int(re.search(r"MAX_LOG2_BLOCKS: u32 = (\d+);", text_of("crates/sketch_bloom/src/size.rt"))[1])
+    assert {*re.findall(r"(?:to|most|than) (\d+) MiB", text_of(name))} == {str((32 << log2_blocks) >> 20)}
