@@ -387,7 +387,7 @@ RELEASED = Schema(), Array(), Stream()
     ("__arrow_c_array__", None), ("__arrow_c_array__", (1, 2)), ("__arrow_c_array__", (1, 2, 3)),
     ("__arrow_c_array__", (capsule(RELEASED[0]), capsule(RELEASED[2]))), ("__arrow_c_stream__", None),
     ("__arrow_c_array__", (capsule(RELEASED[0]), capsule(RELEASED[1]))), ("__arrow_c_stream__", capsule(RELEASED[2])),
-], ids=range(7))
+], ids=["None", "numbers", "three", "a stream", "no stream", "a released array", "a released stream"])
 def test_other_results_of_the_methods_are_errors(method, value):
     for call in CALLS:
         with pytest.raises((TypeError, ValueError)):

@@ -100,7 +100,7 @@ def test_another_length_is_an_error(length):
     ("dög", "dög".encode()), (numpy.str_("fox"), b"fox"), (bytearray(b"fox"), b"fox"),
     (memoryview(b"-fox")[1:], b"fox"), (numpy.frombuffer(b"fox", "u1"), b"fox"), (numpy.bytes_(b"fox"), b"fox"),
     (bytes(70_000), bytes(70_000)), ("x" * 70_000, b"x" * 70_000),
-], ids=range(8))
+], ids=["text", "text of numpy", "bytearray", "memoryview", "array of numpy", "bytes of numpy", "long bytes", "long text"])
 def test_a_key_is_a_text_or_bytes(key, data):
     bloom = BloomFilter(1024)
     bloom.add(key)
@@ -119,18 +119,6 @@ def test_another_type_of_key_is_an_error(key):
         with pytest.raises(TypeError, match="^a key must be str or bytes, not .*: add_each and contains_each take"):
             call(key)
     assert bloom == filled()
-
-
-def test_the_memory_of_a_key_that_is_an_error_is_released():
-    class Broken(array.array):
-        @property
-        def ndim(self):
-            raise LookupError("this array has no dimensions")
-
-    key = Broken("B", b"fox")
-    with pytest.raises(LookupError):
-        filled().add(key)
-    key.append(1)
 
 
 @pytest.mark.parametrize("key, error", [
@@ -284,7 +272,7 @@ def test_the_rate_of_a_fold_is_exact():
     (lambda: BloomFilter(64), (1,), ValueError, "error_rate must be above 0 and below 1"),
     (lambda: BloomFilter(64), (math.nan,), ValueError, "error_rate must be above 0 and below 1"),
     (lambda: BloomFilter.__new__(BloomFilter), (), ValueError, "the filter was released"),
-], ids=range(8))
+], ids=["odd number of blocks", "one block", "view", "view to a rate", "text as a rate", "rate of 1", "NaN", "no memory"])
 def test_another_fold_is_an_error(make, args, error, text):
     bloom = make()
     with pytest.raises(error, match=text):
@@ -327,16 +315,6 @@ def test_a_new_filter_of_another_type_is_an_error():
     for call in (lambda: strange.for_keys(5, one_in=9), lambda: strange.view(bytes(32)), lambda: strange.from_bytes(bytes(32))):
         with pytest.raises(TypeError, match="^Strange.__new__ must return a BloomFilter, not NoneType$"):
             call()
-
-
-@pytest.mark.parametrize("copy", [lambda bloom: bloom, lambda bloom: None], ids=["itself", "None"])
-def test_a_merge_does_not_call_the_copy_of_a_subclass(copy):
-    buffer = bytearray(bits())
-    strange = type("Strange", (BloomFilter,), {"copy": copy}).view(buffer)
-    strange |= strange
-    strange |= type(strange).view(buffer)
-    assert buffer == bits()
-    assert (strange | filled([b"fox"])).to_bytes() == bits([*KEYS, b"fox"]) and buffer == bits()
 
 
 @pytest.mark.parametrize("way", [

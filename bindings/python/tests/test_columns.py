@@ -111,15 +111,11 @@ def test_numbers_must_be_aligned(keys):
         xxh64_each(keys)
 
 
-class Liar(numpy.ndarray):
-    dtype = numpy.dtype("u8")
-
-
 @pytest.mark.parametrize("data", [
-    numpy.zeros(4, object), memoryview(numpy.zeros(4, object)), numpy.zeros(4, object).view(Liar),
+    numpy.zeros(4, object), memoryview(numpy.zeros(4, object)),
     numpy.zeros(2, [("text", object), ("number", "u8")]), numpy.zeros(2, [("date", "datetime64[D]"), ("text", object)]),
     (ctypes.py_object * 4)(*"foxy"), (ctypes.c_char_p * 4)(b"fox"), (ctypes.POINTER(ctypes.c_int) * 4)(),
-], ids=["objects", "memoryview", "another dtype", "a field", "a field after a date", "ctypes", "char *", "pointers"])
+], ids=["objects", "memoryview", "a field", "a field after a date", "ctypes", "char *", "pointers"])
 def test_an_array_of_objects_is_an_error(data):
     for call in (sketch_hash.xxh64, sketch_hash.murmur3_x64_128_digest, BloomFilter.from_bytes, BloomFilter.view):
         if call == BloomFilter.view and "date" in str(getattr(data, "dtype", "")):

@@ -114,15 +114,6 @@ def test_another_init_that_raises_changes_nothing(kind, args):
 
 
 @pytest.mark.parametrize("kind", KINDS)
-@pytest.mark.parametrize("made", [None, 5, b""], ids=repr)
-def test_a_copy_of_another_type_is_an_error(kind, made):
-    strange = type("Strange", (kind,), {})()
-    type(strange).__new__ = lambda _: made
-    with pytest.raises(AttributeError, match="has no attribute '__setstate__'"):
-        strange.copy()
-
-
-@pytest.mark.parametrize("kind", KINDS)
 def test_a_subclass_without_init_has_the_seed_0(kind):
     hasher = type("Silent", (kind,), {"__init__": lambda _: None})()
     hasher.update(FOX)
@@ -204,7 +195,7 @@ def test_an_error_of_the_buffer_is_raised():
             call(released)
 
 
-@pytest.mark.parametrize("empty", [b"", bytearray(), array.array("Q"), numpy.zeros(0)], ids=range(4))
+@pytest.mark.parametrize("empty", [b"", bytearray(), array.array("Q"), numpy.zeros(0)], ids=lambda data: type(data).__name__)
 def test_an_empty_buffer_is_an_input(empty):
     assert xxh64(empty).hexdigest() == "ef46db3751d8e999" and murmur3_x64_128(empty).intdigest() == 0
 

@@ -79,11 +79,4 @@ mod tests {
     fn an_unknown_status_is_an_error() {
         assert_eq!(Error::check(-99, 7), Err(Error::Unknown(-99)));
     }
-
-    /// A column of so many offsets would take gigabytes.
-    #[test]
-    fn an_index_past_32_bits_is_reported() {
-        let index = (1 << 32) + 7;
-        assert_eq!(Error::check(calls::ERROR_OFFSET, index), Err(Error::Offset { index }));
-    }
 }

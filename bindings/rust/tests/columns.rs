@@ -32,30 +32,28 @@ fn each_key_is_hashed_with_offsets_of_each_type() {
 }
 
 fn a_wrong_offset_has_its_index<O: Offset + Debug + TryFrom<i32, Error: Debug>>() {
+    let (mut filter, before) = (filter_of_keys(), filter_of_keys());
     for (wrong, index) in [(&[][..], 0), (&[0], 1), (&[0, 3], 2), (&[0, 7, 7], 1), (&[3, 2, 6], 1)]
     {
-        let (mut x, mut m) = ([5; 2], [[5; 2]; 2]);
+        let (mut x, mut m, mut found) = ([5; 2], [[5; 2]; 2], [true, false]);
         let wrong = offsets::<O>(wrong);
         let error = Err(Error::Offset { index });
         assert_eq!(xxh64_each(b"foxdog", &wrong, SEED, &mut x), error, "{wrong:?}");
         assert_eq!(murmur3_x64_128_each(b"foxdog", &wrong, SEED, &mut m), error, "{wrong:?}");
-        assert_eq!((x, m), ([5; 2], [[5; 2]; 2]));
+        assert_eq!(filter.contains_each(b"foxdog", &wrong, &mut found), error, "{wrong:?}");
+        if wrong.len() == 3 {
+            assert_eq!(filter.insert_each(b"foxdog", &wrong), error, "{wrong:?}");
+        }
+        assert_eq!((&filter, x, m, found), (&before, [5; 2], [[5; 2]; 2], [true, false]));
     }
 }
 
 #[test]
-fn a_wrong_offset_of_each_type_has_its_index() {
+fn a_wrong_offset_of_each_type_has_its_index_and_changes_nothing() {
     a_wrong_offset_has_its_index::<u32>();
     a_wrong_offset_has_its_index::<i32>();
     a_wrong_offset_has_its_index::<u64>();
     a_wrong_offset_has_its_index::<i64>();
-}
-
-#[test]
-fn a_negative_offset_is_past_the_end() {
-    let error = Err(Error::Offset { index: 1 });
-    assert_eq!(xxh64_each(b"fox", &[0_i32, -1], SEED, &mut [0]), error);
-    assert_eq!(xxh64_each(b"fox", &[0_i64, -1], SEED, &mut [0]), error);
 }
 
 #[test]
@@ -69,6 +67,8 @@ fn a_negative_offset_is_an_error_in_keys_past_32_bits() {
         assert_eq!(filter.insert_each(&zeros, &offsets), error);
         assert_eq!(filter.contains_each(&zeros, &offsets, &mut found), error);
     }
+    let error = Err(Error::Offset { index: 1 });
+    assert_eq!(xxh64_each(&zeros, &[0_i64, -1], SEED, &mut [0]), error);
     let last = [i32::MAX - 1, i32::MAX];
     assert_eq!(xxh64_each(&zeros, &last, SEED, &mut [0]), Ok(()));
 }
@@ -235,18 +235,6 @@ fn a_number_of_each_type_is_its_plain_bytes() {
     is_its_plain_bytes(u64::MAX, &[255; 8], 5);
     is_its_plain_bytes(-5_i64, &(-5_i64).to_le_bytes(), 5);
     is_its_plain_bytes(-0.0_f64, &[0, 0, 0, 0, 0, 0, 0, 128], 0.0);
-}
-
-#[test]
-fn a_wrong_offset_changes_nothing() {
-    let mut filter = filter_of_keys();
-    for (offsets, index) in [(&[0_u32, 7][..], 1), (&[3, 2], 1), (&[9, 9], 0)] {
-        let mut found = [true, false];
-        let error = Err(Error::Offset { index });
-        assert_eq!(filter.insert_each(b"foxdog", offsets), error);
-        assert_eq!(filter.contains_each(b"foxdog", offsets, &mut found[..1]), error);
-        assert_eq!((&filter, found), (&filter_of_keys(), [true, false]));
-    }
 }
 
 #[test]

@@ -18,14 +18,16 @@ for (const type of offsetTypes) {
         assert.deepEqual([...murmur128Each(column, offsets, 7)], keys.flatMap((key) => words(murmur128(key, 7))));
     });
 
-    test(`a wrong offset of ${type.name} is reported with its index`, () => {
-        for (const each of [xxh64Each, murmur128Each]) {
+    test(`a wrong offset of ${type.name} is reported with its index, and changes nothing`, () => {
+        const filter = filled();
+        for (const each of [xxh64Each, murmur128Each, filter.addEach.bind(filter), filter.hasEach.bind(filter)]) {
             for (const [offsets, index] of [[[0, 9], 1], [[3, 2], 1], [[9, 9], 0], [[0, 3, 2], 2]]) {
                 const message = `the offset at ${index} is missing, past the end or below the one before`;
                 const call = () => each(bytes('foxesdog'), offsetsOf(type, ...offsets));
                 assert.throws(call, { name: 'RangeError', message });
             }
         }
+        assert.deepEqual(filter.toBytes(), filled().toBytes());
     });
 
     test(`a column of no keys has one or no offset of ${type.name}`, () => {
@@ -157,14 +159,6 @@ test('a column of hashes equals single calls', () => {
     const filter = new BloomFilter(1024).addEachHash(BigUint64Array.from(keys, (key) => xxh64(bytes(key))));
     assert.deepEqual(filter.toBytes(), filled().toBytes());
     assert.deepEqual([...filter.hasEachHash(BigUint64Array.of(last, xxh64(bytes('a9'))))], [0, 1]);
-});
-
-test('a wrong offset changes nothing', () => {
-    const filter = filled();
-    for (const call of ['addEach', 'hasEach']) {
-        assert.throws(() => filter[call](bytes('foxdog'), Uint32Array.of(0, 3, 7)), /the offset at 2 is/);
-    }
-    assert.deepEqual(filter.toBytes(), filled().toBytes());
 });
 
 test('a subclass may have a constructor of its own', () => {
