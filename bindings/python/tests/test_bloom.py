@@ -39,6 +39,7 @@ def test_a_filter_for_parquet_is_that_of_duckdb_and_is_read_back():
     assert bloom.to_parquet() == stored
     for data in (stored, stored + b"more of the file", bytearray(stored), memoryview(b"-" + stored)[1:]):
         assert BloomFilter.from_parquet(data) == bloom
+        assert BloomFilter.parquet_bits(data) == BloomFilter.parquet_bits(data[: bloom.PARQUET_HEADER_MAX]) == range(15, 47)
 
 
 @pytest.mark.parametrize("data, text", [
@@ -50,6 +51,9 @@ def test_a_filter_for_parquet_is_that_of_duckdb_and_is_read_back():
 def test_from_parquet_rejects_other_bytes(data, text):
     with pytest.raises(ValueError, match=text):
         BloomFilter.from_parquet(data)
+    if "does not begin" in text:
+        with pytest.raises(ValueError, match=text):
+            BloomFilter.parquet_bits(data)
 
 
 # ---- Sizes

@@ -85,6 +85,7 @@ def test_methods_take_their_argument_by_position_only():
         (bloom.add_each, "keys", pair), (bloom.contains_each, "keys", pair), (bloom.from_bytes, "data", bytes(32)),
         (bloom.add_hashes, "hashes", hashes), (bloom.contains_hashes, "hashes", hashes),
         (bloom.view, "buffer", bytes(32)), (bloom.from_parquet, "data", bloom.to_parquet()),
+        (bloom.parquet_bits, "data", bloom.to_parquet()),
         (sketch_hash.column, "texts", [FOX]),
     ]:
         call(value)

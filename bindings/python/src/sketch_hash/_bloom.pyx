@@ -132,14 +132,8 @@ cdef int check_length(object length) except -1:
 
 def parquet_header(data):
     """How many bytes the header at the beginning of data has, and the filter after it."""
-    cdef View memory
-    cdef uint64_t num_bytes = 0
-    get_bytes(data, &memory)
-    try:
-        header = header_of(&memory, &num_bytes)
-        return header, num_bytes
-    finally:
-        PyBuffer_Release(&memory)
+    bits = BloomFilter.parquet_bits(data)
+    return bits.start, len(bits)
 
 
 cdef size_t header_of(const View *memory, uint64_t *num_bytes) except 0:
@@ -185,6 +179,8 @@ cdef class BloomFilter:
     cdef Lock lock  # created by the first long call or merge
     cdef Py_ssize_t exports  # how many memoryviews of the bits there are
     cdef bint is_view
+
+    PARQUET_HEADER_MAX = SKETCH_BLOOM_HEADER_MAX
 
     def __init__(self, num_bytes):
         num_bytes = operator.index(num_bytes)
@@ -297,6 +293,20 @@ cdef class BloomFilter:
             return copy_of(cls, <char *>memory.buf + header, num_bytes)
         finally:
             PyBuffer_Release(&memory)
+
+    @classmethod
+    def parquet_bits(cls, data):
+        """parquet_bits($type, data, /)\n--\n\nReturns where the bits of the filter at the beginning of data are: a range,
+        which may end after data does. data is as for from_parquet; PARQUET_HEADER_MAX bytes of it are enough for the
+        headers that writers write. Raises ValueError as from_parquet does, but not if bits are missing."""
+        cdef View memory
+        cdef uint64_t num_bytes = 0
+        get_bytes(data, &memory)
+        try:
+            header = header_of(&memory, &num_bytes)
+        finally:
+            PyBuffer_Release(&memory)
+        return range(header, header + num_bytes)
 
     @classmethod
     def view(cls, buffer):
