@@ -119,13 +119,13 @@ CASES = {
 
 @pytest.mark.parametrize("case", CASES)
 @pytest.mark.parametrize("program", PROGRAMS, ids=lambda path: path.name)
-def test_program(program, case, tmp_path):
+def test_the_program_has_this_status_and_output(program, case, tmp_path):
     line, *wanted = CASES[case]
     assert answer(["bash", "-c", line, program], cwd=tmp_path) == tuple(wanted)
 
 
 @pytest.mark.parametrize("program", PROGRAMS, ids=lambda path: path.name)
-def test_program_gives_back_its_memory(program, need):
+def test_the_program_frees_its_memory(program, need):
     need("valgrind")
     checks = ["--leak-check=full", "--show-leak-kinds=all", "--error-exitcode=9"]
     result = answer(["valgrind", "-q", *checks, program, "murmur", "0"])
@@ -135,7 +135,7 @@ def test_program_gives_back_its_memory(program, need):
 @pytest.mark.parametrize("args", ["murmur 0", "xx 0", "xx"])
 @pytest.mark.parametrize("fault, and_all_after", [("memory", False), ("memory", True), ("fail", False), ("short", False)])
 @pytest.mark.parametrize("program", PROGRAMS, ids=lambda path: path.name)
-def test_program_reports_each_failing_call(program, fault, and_all_after, args, under):
+def test_the_program_reports_each_failing_call(program, fault, and_all_after, args, under):
     command = [program, *args.split()]
     expected, calls = under(command, fault)
     assert expected == (2, b"", USAGE) if args == "xx" else expected == (0, MURMUR if "murmur" in args else XXH64, b"")

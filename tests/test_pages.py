@@ -95,7 +95,7 @@ def output_of(command, folder, **environment):
                           stdout=subprocess.PIPE, text=True).stdout
 
 
-def test_the_program(need):
+def test_the_program_prints_the_hash(need):
     need("linux-x86_64")
     command, answer = re.search(r"^    (printf .*sketchsum murmur 0)\n    (\w{32})$", PAGE, re.M).groups()
     assert output_of(command, ROOT) == f"{answer}\n"
@@ -111,14 +111,14 @@ def installed(need, tmp_path):
     return {"PKG_CONFIG_PATH": str(lib / "pkgconfig"), "LD_LIBRARY_PATH": str(lib)}
 
 
-def test_c(installed, tmp_path):
+def test_the_program_in_c_prints_the_hash(installed, tmp_path):
     (tmp_path / "fox.c").write_text(the_block(PAGE, "c"))
     output_of(re.search(r"`(cc fox\.c [^`]+)`", PAGE)[1], tmp_path, **installed)
     assert output_of("./a.out", tmp_path, **installed) == ANSWER
 
 
 @pytest.mark.parametrize("command", re.findall(r"^    (cc .*)$", OF_C, re.M))
-def test_c_page(command, installed, tmp_path):
+def test_each_command_of_the_page_of_c_builds_it(command, installed, tmp_path):
     (tmp_path / "fox.c").write_text(the_block(OF_C, "c"))
     output_of(command.replace("FOLDER", shlex.quote(str(ROOT / "dist"))), tmp_path, **installed)
     assert output_of("./fox", tmp_path, **installed) == ANSWER
@@ -130,7 +130,7 @@ def test_check_runs_both_libraries(need, tmp_path):
     assert len(re.findall(r"^\S+: OK: ", output_of("make -s check", copy), re.M)) == 2
 
 
-def test_rust(need, tmp_path):
+def test_the_program_in_rust_prints_the_hash(need, tmp_path):
     need("cargo", "rustc 1.82", "gcc", DEBIAN_CRATES)
     (tmp_path / ".cargo").mkdir()
     (tmp_path / ".cargo/config.toml").write_text(CARGO_CONFIG)
@@ -141,7 +141,7 @@ def test_rust(need, tmp_path):
     assert output_of("cargo run --offline --quiet", tmp_path / "fox") == ANSWER
 
 
-def test_python(need, tmp_path):
+def test_the_program_in_python_prints_the_hash(need, tmp_path):
     """By the commands of its page, in a copy, next to which they create the environment."""
     need("gcc", "Python.h", "python:Cython", "python:setuptools", "python:ensurepip", "python:wheel")
     copy = tmp_path / "repository"
@@ -156,7 +156,7 @@ def test_python(need, tmp_path):
     assert output_of(f"unset PYTHONPATH; ../venv/bin/{command}", copy) == ANSWER
 
 
-def test_python_page(need, tmp_path):
+def test_the_program_of_the_page_of_python_prints_what_its_comments_say(need, tmp_path):
     """Its blocks are one program, which prints what the comment after each print says."""
     need("python:sketch_hash")
     code = "".join(blocks(OF_PYTHON, "python"))
@@ -166,7 +166,7 @@ def test_python_page(need, tmp_path):
     assert expected and [line if comment else "" for line, comment in zip(printed, expected, strict=True)] == expected
 
 
-def test_node(need, tmp_path):
+def test_the_program_in_javascript_prints_the_hash(need, tmp_path):
     """In a folder whose name a URL writes otherwise."""
     need("node 20")
     folder = tmp_path / "a folder, 100%"

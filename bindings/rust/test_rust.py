@@ -37,7 +37,7 @@ def try_cargo(*args, folder, **environment):
 
 
 @pytest.mark.parametrize("args", [[], ["--release", "--no-default-features"]], ids=["debug", "release without std"])
-def test_tests_of_the_crate(args):
+def test_the_tests_of_the_crate_pass(args):
     cargo("test", *args)
 
 

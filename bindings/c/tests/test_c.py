@@ -41,7 +41,7 @@ STANDARDS = [
 
 
 @pytest.mark.parametrize("compiler, standard", STANDARDS)
-def test_header_compiles(compiler, standard, archive, need, tmp_path):
+def test_header_compiles_under_each_standard(compiler, standard, archive, need, tmp_path):
     need(compiler, "gcc")
     language = ["-xc++", "-Wold-style-cast"] if "++" in compiler else ["-xc"]
     if compiler == "g++" and standard != "c++98":
@@ -124,7 +124,7 @@ def test_calls_return_what_is_expected(name, args, built):
 @pytest.mark.xdist_group("builds")  # wine sets up its folder once
 @pytest.mark.parametrize("name", PROGRAMS)
 @pytest.mark.parametrize("build", BUILDS)
-def test_answers_are_the_same(name, build, built):
+def test_each_build_gives_the_same_answers(name, build, built):
     """The outputs are compared, since a crash under wine can have the status 0."""
     assert output(*built(name, build)) == output(*built(name))
 

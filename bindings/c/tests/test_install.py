@@ -155,7 +155,7 @@ def test_man_page_has_the_declarations_of_the_header():
 
 # ---- pkg-config and CMake
 
-def test_pkg_config(prefix, need, tmp_path, monkeypatch):
+def test_pkg_config_finds_the_library(prefix, need, tmp_path, monkeypatch):
     need("pkg-config")
     monkeypatch.setenv("PKG_CONFIG_LIBDIR", str(prefix / "lib/pkgconfig"))
     monkeypatch.setenv("LD_LIBRARY_PATH", str(prefix / "lib"))

@@ -171,7 +171,7 @@ def producer():
 
 @pytest.mark.parametrize("has_nulls", [False, True], ids=["no nulls", "nulls"])
 @pytest.mark.parametrize("format", [*NUMBERS, *TEXTS])
-def test_each_key_of_each_type(format, has_nulls, producer):
+def test_a_key_of_each_type_is_as_parquet_stores_it(format, has_nulls, producer):
     keys = [None if has_nulls and i % 3 == 1 else key for i, key in enumerate(values_of(format))]
     buffers = buffers_of(format, keys)
     whole = lambda **fields: producer.array(20, *buffers, **fields)
@@ -185,7 +185,7 @@ def test_each_key_of_each_type(format, has_nulls, producer):
 
 
 @pytest.mark.parametrize("format", ["u", "U", "l", "s", "vu"])
-def test_memory_may_not_be_aligned(format, producer):
+def test_memory_need_not_be_aligned(format, producer):
     keys = values_of(format)
     buffers = [b"-" + buffer for buffer in buffers_of(format, keys)]
 
@@ -200,7 +200,7 @@ def test_memory_may_not_be_aligned(format, producer):
 
 @pytest.mark.parametrize("code", "bBhHiIqQ")
 @pytest.mark.parametrize("format", ["u", "vz", "s", "w:3", "n"])
-def test_dictionaries(code, format, producer):
+def test_a_code_of_a_dictionary_is_its_key(code, format, producer):
     keys = values_of(format)[:4] if format != "n" else [None] * 4
     codes, formats = [3, 0, None, 2, 1, 0, 3], dict(zip("bBhHiIqQ", "cCsSiIlL"))
     rows = [None if code is None else keys[code] for code in codes]
@@ -219,13 +219,13 @@ def test_dictionaries(code, format, producer):
         check(lambda: make(some), [None if code is None else some[code] for code in codes])
 
 
-def test_a_column_of_nulls_or_without_chunks(producer):
+def test_a_column_may_be_of_nulls_or_without_chunks(producer):
     check(lambda: producer.exported(producer.schema("n"), producer.array(3)), [None] * 3)
     check(lambda: producer.streamed(producer.schema("u")), [])
     check(lambda: producer.exported(producer.schema("u"), producer.array(0, None, None, None)), [])
 
 
-def test_long_columns(producer):
+def test_a_column_may_be_longer_than_a_block(producer):
     """Longer than a block, and long enough for the GIL to be released."""
     keys = [None if n % 7 == 3 else b"key %d" % n for n in range(10_000)]
     for kept in (keys, [key for key in keys if key]):
@@ -394,7 +394,7 @@ def test_other_results_of_the_methods_are_errors(method, value):
             call(type("Strange", (), {method: lambda _: value})())
 
 
-def test_the_methods_are_those_of_the_class():
+def test_the_methods_of_the_class_are_called():
     strange = type("Strange", (), {})()
     strange.__arrow_c_array__ = lambda: pytest.fail("called")
     for keys in (strange, type("Kind", (), {"__arrow_c_array__": lambda _: pytest.fail("called")})):
@@ -468,7 +468,7 @@ def test_a_value_of_pyarrow_is_a_key_as_parquet_stores_it(name, pa, tmp_path):
         check(lambda: pa.chunked_array([column[:5], column[7:]]), keys[:5] + keys[7:])
 
 
-def test_batches_of_pyarrow_are_slices(pa):
+def test_each_batch_of_a_table_of_pyarrow_is_added(pa):
     table = pa.table({"name": [f"fox{i}" for i in range(20)]})
     bloom = BloomFilter(1024)
     for batch in table.to_batches(max_chunksize=6):

@@ -144,7 +144,7 @@ def test_update_rejects_a_single_key(keys):
 # ---- Columns
 
 @pytest.mark.parametrize("dtype", ["int32", "uint32", "int64", "uint64"])
-def test_a_column_of_texts(dtype):
+def test_a_column_of_texts_has_the_keys_of_single_calls(dtype):
     offsets = numpy.array(OFFSETS, dtype)
     for data in (PAIR[0], numpy.frombuffer(PAIR[0], "u1")):
         bloom = BloomFilter(1024)
@@ -155,7 +155,7 @@ def test_a_column_of_texts(dtype):
 
 
 @pytest.mark.parametrize("dtype", ["int32", "uint32", "float32", "int64", "uint64", "float64"])
-def test_a_column_of_numbers(dtype):
+def test_a_number_of_a_column_is_its_bytes(dtype):
     numbers = numpy.arange(100).astype(dtype) - numpy.array(3, dtype)
     bloom = BloomFilter(1024)
     bloom.add_each(numbers)
@@ -163,7 +163,7 @@ def test_a_column_of_numbers(dtype):
     assert all(bloom.contains_each(numbers)) and not any(BloomFilter(32).contains_each(numbers))
 
 
-def test_a_column_of_hashes():
+def test_a_hash_may_be_added_in_place_of_its_key():
     bloom = BloomFilter(1024)
     bloom.add_hashes(xxh64_each(PAIR))
     assert bloom == filled() and all(bloom.contains_hashes(xxh64_each(PAIR)))
@@ -478,7 +478,7 @@ def test_a_column_in_the_memory_of_the_filter_is_an_error(keys):
 
 # ---- Threads
 
-def test_threads_that_share_filters():
+def test_threads_may_share_filters():
     """The keys, the columns and the filters are long enough for a call to release the GIL."""
     keys, numbers = [bytes([n]) * 70_000 for n in range(20)], numpy.arange(40_000, dtype="u8")
     bloom, other = BloomFilter(1 << 20), BloomFilter(1 << 20)

@@ -34,7 +34,7 @@ def expected(each, keys, seed):
 
 @pytest.mark.parametrize("each", EACH)
 @WIDTHS
-def test_each_key(each, dtype):
+def test_each_key_has_the_hash_of_a_single_call(each, dtype):
     offsets = numpy.array(OFFSETS, dtype)
     for data in (DATA, bytearray(DATA), numpy.frombuffer(DATA, "uint8")):
         assert each((data, offsets), 2**64 - 1).tolist() == expected(each, KEYS, 2**64 - 1)
@@ -44,7 +44,7 @@ def test_each_key(each, dtype):
 
 
 @pytest.mark.parametrize("dtype", ["int64", "uint64"])
-def test_each_number(dtype):
+def test_each_number_has_the_hash_of_its_bytes(dtype):
     numbers = numpy.array([0, 1, 2**40, 2**62, *range(1000)], dtype)
     hashes = [xxh64_each(numbers, seed) for seed in (2**64 - 1, 0)]  # each has its own memory
     for seed, found in zip((2**64 - 1, 0), hashes):

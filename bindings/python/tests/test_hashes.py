@@ -21,12 +21,12 @@ DATA = bytes(range(240))
     (FOX, 0, "0b242d361fda71bc", "e34bbc7bbc071b6c7a433ca9c49a9347"),
     (b"\xa1\xd8\x2b", 0xCDDE8D516301BBFC, "937800ca51e4a6d8", "72d4dcbfd199ad6f5170f4d9e50bb254"),
 ], ids=["fox", "wide seed"])
-def test_published_answers(data, seed, of_xxh64, of_murmur):
+def test_hashes_are_the_published_ones(data, seed, of_xxh64, of_murmur):
     assert xxh64(data, seed).hexdigest() == of_xxh64
     assert murmur3_x64_128(data, seed).hexdigest() == of_murmur
 
 
-def test_the_examples_of_the_module():
+def test_the_examples_of_the_module_are_right():
     assert doctest.testmod(sketch_hash).failed == 0
 
 
@@ -50,7 +50,7 @@ def test_each_form_of_murmur_is_of_the_same_words():
         assert hasher.digest_bytes() == sketch_hash.murmur3_x64_128_bytes(data, seed) == words
 
 
-def test_attributes():
+def test_attributes_are_those_of_xxhash():
     ours, theirs, murmur = xxh64(seed=7), xxhash.xxh64(seed=7), murmur3_x64_128(seed=7)
     for name in ("name", "digest_size", "digestsize", "block_size", "seed"):
         assert getattr(ours, name) == getattr(theirs, name)
@@ -61,7 +61,7 @@ def test_attributes():
             setattr(subject, name, 8)
 
 
-def test_metadata_of_the_package():
+def test_the_package_has_its_version_and_licence():
     assert sketch_hash.algorithms_available == {"xxh64", "murmur3_x64_128"}
     metadata = importlib.metadata.metadata("sketch-hash")
     assert metadata["Version"] == sketch_hash.__version__

@@ -83,7 +83,7 @@ def test_stubs_fit_the_module(need, tmp_path):
     assert done.returncode == 0 and "Success: no issues found" in done.stdout, done.stdout
 
 
-def test_glue_under_sanitizers(source, tmp_path):
+def test_sanitizers_find_nothing_in_the_glue(source, tmp_path):
     """The short tests again, with AddressSanitizer and UndefinedBehaviorSanitizer in the glue."""
     installed = tmp_path / "installed"
     flags = "-fsanitize=address,undefined -fno-sanitize-recover=all -fno-omit-frame-pointer -g"

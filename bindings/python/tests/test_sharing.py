@@ -72,7 +72,7 @@ def test_a_checkpoint_of_another_length_is_an_error(kind, size):
 
 
 @pytest.mark.parametrize("kind", KINDS)
-def test_threads_that_share_an_object(kind):
+def test_threads_may_share_an_object(kind):
     """Each update has whole periods of 256 bytes, so every order of the updates gives the same hash."""
     piece, hasher = bytes(range(256)) * 4096, kind()
 

@@ -34,7 +34,7 @@ fn the_library_is_of_this_version() {
 }
 
 #[test]
-fn published_answers() {
+fn hashes_are_the_published_ones() {
     let short: &[u8] = &[0xa1, 0xd8, 0x2b];
     for (name, input, seed, of_xxh64, of_murmur) in [
         ("empty", &b""[..], 0, 0xef46_db37_51d8_e999, [0, 0]),
@@ -181,7 +181,7 @@ fn a_stream_is_written_to() {
 
 /// The zeros are never written, so they take no memory.
 #[test]
-fn lengths_past_32_bits() {
+fn a_length_may_be_past_32_bits() {
     let zeros = vec![0; (1 << 32) + 37];
     let (mut x, mut m) = (Xxh64::new(u64::MAX), Murmur3X64_128::new(u64::MAX));
     x.update(&zeros);

@@ -125,7 +125,7 @@ test('a view of a detached buffer is a type error', () => {
     }
 });
 
-test('lengths past 2^31', () => {
+test('an input may be longer than 2^31 bytes', () => {
     const zeros = new Uint8Array(2 ** 32); // takes no memory, since it is never written
     assert.equal(xxh64(zeros, last), 0x883c7d38001fe1ebn);
     assert.equal(murmur128(zeros.subarray(0, 2 ** 31 + 5), last), 0x01cfde68872ce8d84a9cf110ff9205c1n);

@@ -11,7 +11,7 @@ HERE = pathlib.Path(__file__).resolve().parent
 
 
 @pytest.mark.parametrize("name", sorted(path.name for path in HERE.glob("*.test.mjs")))
-def test_module_under_node(name, need):
+def test_module_works_under_node(name, need):
     need("node 20")
     done = subprocess.run(["node", "--test", HERE / name], capture_output=True, text=True)
     assert done.returncode == 0, done.stdout

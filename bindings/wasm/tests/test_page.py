@@ -152,7 +152,7 @@ def test_many_files_are_hashed(page):
         page.wait_for_hashes(name, hashes(data))
 
 
-def test_a_file_past_4_gibibytes(chromium, tmp_path):
+def test_a_file_may_have_more_than_4_gibibytes(chromium, tmp_path):
     """It is not zero at its ends and its middle. Its hashes were computed by other programs."""
     page = Page(chromium, (DIST / "wasm/index.html").as_uri(), tmp_path)
     page.type("seed", str(2**64 - 1))
@@ -304,7 +304,7 @@ def test_a_worker_that_does_not_start_is_an_error(chromium, tmp_path):
     chromium.get_log("browser")
 
 
-def test_the_module_in_a_page(chromium, server):
+def test_a_page_may_import_the_module(chromium, server):
     chromium.get(f"{server}/sketch_hash.mjs")
     script = """
         const run = ({ xxh64Hex, murmur128Hex, BloomFilter }) => {
