@@ -5,7 +5,7 @@ from cpython.bytearray cimport PyByteArray_AS_STRING
 from cpython.bytes cimport PyBytes_AS_STRING, PyBytes_FromStringAndSize, PyBytes_GET_SIZE
 from cpython.exc cimport PyErr_CheckSignals
 from cpython.unicode cimport PyUnicode_AsUTF8String
-from libc.stdint cimport INT32_MAX, uint32_t, uint64_t, uintptr_t
+from libc.stdint cimport INT32_MAX, uint64_t, uintptr_t
 from libc.string cimport strchr, strlen, strspn
 
 from ._arguments cimport PyBuffer_Release, PyObject_GetBuffer, View, get_bytes, overlap, word_of

@@ -108,11 +108,6 @@ cdef class _Hasher:
             PyBuffer_Release(&memory)
         return 0
 
-    @cython.final
-    cdef inline int result(self, uint64_t *words) noexcept:
-        wait(<void *>self.lock)
-        return self.answer(words)
-
     def reset(self):
         """reset($self)\n--\n\nDrops all data, and keeps the seed."""
         wait(<void *>self.lock)
@@ -123,12 +118,6 @@ cdef class _Hasher:
         """The seed."""
         wait(<void *>self.lock)
         return self.start_seed
-
-    @cython.final
-    cdef inline _Hasher with_state(self, _Hasher other):
-        wait(<void *>self.lock)
-        other.state, other.start_seed = self.state, self.start_seed
-        return other
 
     def __reduce__(self):
         attributes = attributes_of(self)
@@ -175,6 +164,7 @@ cdef class xxh64(_Hasher):
     cdef void feed(self, const void *data, size_t length) noexcept nogil:
         sketch_xxh64_update(&self.state.xxh64, data, length)
 
+    @cython.final
     cdef int answer(self, uint64_t *words) noexcept nogil:
         words[0] = sketch_xxh64_digest(&self.state.xxh64)
         return 1
@@ -189,21 +179,29 @@ cdef class xxh64(_Hasher):
     def digest(self):
         """digest($self)\n--\n\nReturns the hash of all data so far as 8 bytes, the highest first."""
         cdef uint64_t words[2]
-        return digest_of(words, self.result(words))
+        wait(<void *>self.lock)
+        return digest_of(words, self.answer(words))
 
     def hexdigest(self):
         """hexdigest($self)\n--\n\nReturns the digest in lower-case hexadecimal."""
         cdef uint64_t words[2]
-        return hex_of(words, self.result(words))
+        wait(<void *>self.lock)
+        return hex_of(words, self.answer(words))
 
     def intdigest(self):
         """intdigest($self)\n--\n\nReturns the digest as a whole number."""
         cdef uint64_t words[2]
-        return int_of(words, self.result(words))
+        wait(<void *>self.lock)
+        return int_of(words, self.answer(words))
 
     def copy(self):
         """copy($self)\n--\n\nReturns an independent object of the same class with the same seed and data."""
-        return self.with_state(xxh64.__new__(xxh64)) if type(self) is xxh64 else rebuilt(self)
+        if type(self) is not xxh64:
+            return rebuilt(self)
+        cdef xxh64 other = xxh64.__new__(xxh64)
+        wait(<void *>self.lock)
+        other.state.xxh64, other.start_seed = self.state.xxh64, self.start_seed
+        return other
 
 
 @cython.no_gc
@@ -228,6 +226,7 @@ cdef class murmur3_x64_128(_Hasher):
     cdef void feed(self, const void *data, size_t length) noexcept nogil:
         sketch_murmur3_x64_128_update(&self.state.murmur, data, length)
 
+    @cython.final
     cdef int answer(self, uint64_t *words) noexcept nogil:
         sketch_murmur3_x64_128_digest(&self.state.murmur, words)
         return 2
@@ -242,29 +241,35 @@ cdef class murmur3_x64_128(_Hasher):
     def digest(self):
         """digest($self)\n--\n\nReturns the hash of all data so far as 16 bytes, each word with the highest first."""
         cdef uint64_t words[2]
-        return digest_of(words, self.result(words))
+        wait(<void *>self.lock)
+        return digest_of(words, self.answer(words))
 
     def hexdigest(self):
         """hexdigest($self)\n--\n\nReturns the digest in lower-case hexadecimal."""
         cdef uint64_t words[2]
-        return hex_of(words, self.result(words))
+        wait(<void *>self.lock)
+        return hex_of(words, self.answer(words))
 
     def intdigest(self):
         """intdigest($self)\n--\n\nReturns the digest as a whole number: the first word is above the second."""
         cdef uint64_t words[2]
-        return int_of(words, self.result(words))
+        wait(<void *>self.lock)
+        return int_of(words, self.answer(words))
 
     def copy(self):
         """copy($self)\n--\n\nReturns an independent object of the same class with the same seed and data."""
         if type(self) is not murmur3_x64_128:
             return rebuilt(self)
-        return self.with_state(murmur3_x64_128.__new__(murmur3_x64_128))
+        cdef murmur3_x64_128 other = murmur3_x64_128.__new__(murmur3_x64_128)
+        wait(<void *>self.lock)
+        other.state.murmur, other.start_seed = self.state.murmur, self.start_seed
+        return other
 
     def digest_bytes(self):
         """digest_bytes($self)\n--\n\nReturns the 16 bytes that most tools print: each word with the lowest first."""
         cdef uint64_t words[2]
-        words[1] = 0
-        self.result(words)
+        wait(<void *>self.lock)
+        self.answer(words)
         return lowest_first(words)
 
 

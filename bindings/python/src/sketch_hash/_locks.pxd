@@ -4,8 +4,7 @@ Calls of several threads on one object take turns. A short call keeps Python's l
 releases the GIL, and holds a lock of the object until it is done. Every other call on that object waits for it.
 """
 from cpython.pythread cimport (
-    NOWAIT_LOCK, WAIT_LOCK, PyThread_acquire_lock, PyThread_allocate_lock, PyThread_free_lock,
-    PyThread_release_lock, PyThread_type_lock,
+    NOWAIT_LOCK, WAIT_LOCK, PyThread_acquire_lock, PyThread_release_lock, PyThread_type_lock,
 )
 
 cdef enum:

@@ -1,4 +1,5 @@
 """Locks of objects that threads share."""
+from cpython.pythread cimport PyThread_allocate_lock, PyThread_free_lock
 
 
 cdef class Lock:
