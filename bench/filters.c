@@ -1,5 +1,4 @@
-/* The Bloom filter compared with the same in plain C, with AVX2 in C, and with libbloom, in cache and in memory. GROUP is
- * the first word of each line, which names the library. */
+/* The Bloom filter compared with the same in plain C, with AVX2 in C, and with libbloom, in cache and in memory. */
 #define XXH_INLINE_ALL
 #include "../dist/include/sketch_hash.h"
 #include "measure.h"
@@ -146,7 +145,7 @@ static void rows(const char *where) {
         if (!strcmp(cells[i].peer, "AVX2 in C") && !__builtin_cpu_supports("avx2")) continue;
         snprintf(name, sizeof name, "%s, %s", cells[i].name, where);
         ours = renewed(ours), theirs = renewed(theirs);
-        compare(GROUP, name, cells[i].peer, cells[i].ours, cells[i].theirs, 104729 * KEYS,
+        compare("filter", name, cells[i].peer, cells[i].ours, cells[i].theirs, 104729 * KEYS,
                 cells[i].other, KEYS);
     }
 }
