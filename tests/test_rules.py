@@ -42,3 +42,10 @@ def test_packages_say_of_a_wrong_offset_what_the_header_says():
 def test_the_largest_filter_for_keys_is_that_of_the_core(name):
     log2_blocks = int(re.search(r"MAX_LOG2_BLOCKS: u32 = (\d+);", text_of("crates/sketch_bloom/src/size.rt"))[1])
     assert {*re.findall(r"(?:to|most|than) (\d+) MiB", text_of(name))} == {str((32 << log2_blocks) >> 20)}
+
+
+@pytest.mark.parametrize("name", [f"{RUST}/calls.rs", f"{JAVASCRIPT}/filters.mjs"])
+def test_the_numbers_of_the_header_are_those_of_a_package(name):
+    header = re.findall(r"SKETCH_(\w+)(?: =)? (-?\d+)", text_of("dist/include/sketch_hash.h"))
+    numbers = re.findall(r"const ([A-Z_]+)(?:: \w+)? = (-?\d+);", text_of(name))
+    assert numbers and {*numbers} <= {*header}
