@@ -16,7 +16,7 @@ RELEASE, GET = ctypes.CFUNCTYPE(None, P), ctypes.CFUNCTYPE(ctypes.c_int, P, P)
 
 class Schema(ctypes.Structure):
     name = b"arrow_schema"
-    _fields_ = [("format", ctypes.c_char_p), ("its_name", P), ("metadata", P), ("flags", I64), ("n_children", I64),
+    _fields_ = [("format", ctypes.c_char_p), ("column_name", P), ("metadata", P), ("flags", I64), ("n_children", I64),
                 ("children", P), ("dictionary", P), ("release", P), ("private_data", P)]
 
 
@@ -174,14 +174,14 @@ def producer():
 def test_a_key_of_each_type_is_as_parquet_stores_it(format, has_nulls, producer):
     keys = [None if has_nulls and i % 3 == 1 else key for i, key in enumerate(values_of(format))]
     buffers = buffers_of(format, keys)
-    whole = lambda **fields: producer.array(20, *buffers, **fields)
-    check(lambda: producer.exported(producer.schema(format), whole()), keys)
+    full = lambda **fields: producer.array(20, *buffers, **fields)
+    check(lambda: producer.exported(producer.schema(format), full()), keys)
     check(lambda: producer.exported(producer.schema(format), producer.array(6, *buffers, offset=9)), keys[9:15])
     chunks = lambda: [producer.array(7, *buffers), producer.array(0, *buffers), producer.array(11, *buffers, offset=9)]
     check(lambda: producer.streamed(producer.schema(format), *chunks()), keys[:7] + keys[9:])
     if not has_nulls:
         check(lambda: producer.exported(producer.schema(format), producer.array(20, None, *buffers[1:])), keys)
-        check(lambda: producer.exported(producer.schema(format), whole(null_count=0)), keys)
+        check(lambda: producer.exported(producer.schema(format), full(null_count=0)), keys)
 
 
 @pytest.mark.parametrize("format", ["u", "U", "l", "s", "vu"])
@@ -204,13 +204,13 @@ def test_a_code_of_a_dictionary_is_its_key(code, format, producer):
     keys = values_of(format)[:4] if format != "n" else [None] * 4
     codes, formats = [3, 0, None, 2, 1, 0, 3], dict(zip("bBhHiIqQ", "cCsSiIlL"))
     rows = [None if code is None else keys[code] for code in codes]
-    wild = struct.pack("<7" + code, *(111 if code is None else code for code in codes))
+    packed = struct.pack("<7" + code, *(111 if code is None else code for code in codes))
 
     def make(keys=keys, begin=0):
         values = buffers_of(format, keys) if format != "n" else ()
         return producer.exported(
             producer.schema(formats[code], producer.inner.schema(format)),
-            producer.array(7 - begin, b"\x7b", wild, offset=begin, dictionary=producer.inner.array(len(keys), *values)))
+            producer.array(7 - begin, b"\x7b", packed, offset=begin, dictionary=producer.inner.array(len(keys), *values)))
 
     check(make, rows)
     check(lambda: make(begin=3), rows[3:])
@@ -460,8 +460,8 @@ def stored(pa, values, path):
 
 @pytest.mark.parametrize("name", [*TYPES, "float16", "string_view", "binary_view"])
 def test_a_value_of_pyarrow_is_a_key_as_parquet_stores_it(name, pa, tmp_path):
-    whole = column_of(pa, name, 40)
-    for column in (whole, whole[4:10]):  # the slice has no nulls
+    values = column_of(pa, name, 40)
+    for column in (values, values[4:10]):  # the slice has no nulls
         keys = stored(pa, column, tmp_path / "a")
         check(lambda: column, keys)
         check(lambda: column[3:9], keys[3:9])
