@@ -12,7 +12,8 @@ from conftest import CALLS, DIST, VERSION
 HERE = pathlib.Path(__file__).resolve().parent
 CC = ["gcc", "-Wall", "-Wextra", "-Werror"]
 MAN_PAGE = (DIST / "sketch_hash.3").read_text()
-SHARED = f"libsketch_hash.so.{VERSION.partition('.')[0]}"
+MAJOR, MINOR, _ = map(int, VERSION.split("."))
+SHARED = f"libsketch_hash.so.{MAJOR}"
 
 INSTALLED = {
     "include/sketch_hash.h", "lib/libsketch_hash.a", "lib/libsketch_hash.so", f"lib/{SHARED}",
@@ -90,7 +91,7 @@ def test_an_upgrade_replaces_the_library_in_use(prefix, make, tmp_path):
     assert not (prefix / "lib" / SHARED).samefile(tmp_path / "in_use")
 
 
-@pytest.mark.parametrize("name", ["libsketch_hash.so.2", SHARED])
+@pytest.mark.parametrize("name", [f"libsketch_hash.so.{MAJOR - 1}", SHARED])
 def test_no_older_library_is_left_where_a_loader_looks_first(name, make, tmp_path):
     """glibc's loader takes a file of this folder before the one in lib."""
     later = tmp_path / "lib/glibc-hwcaps/x86-64-v3"
@@ -132,8 +133,8 @@ def test_shared_library_has_a_version_for_each_call_and_a_name(compiler, make, d
     need(compiler, "nm", "readelf")
     assert make("clean").returncode == 0 and make(f"CC={compiler}").returncode == 0
     names = re.findall(r" [B-Zb-z] (\S+)$", output("nm", "-D", "--defined-only", dist / SHARED), re.M)
-    assert sorted(name for name in names if "@@" in name) == [f"{call}@@SKETCH_HASH_3.0" for call in CALLS]
-    assert {name for name in names if "@@" not in name} <= {"SKETCH_HASH_3.0"}
+    assert sorted(name for name in names if "@@" in name) == [f"{call}@@SKETCH_HASH_{MAJOR}.0" for call in CALLS]
+    assert {name for name in names if "@@" not in name} <= {f"SKETCH_HASH_{MAJOR}.0"}
     headers = output("readelf", "-Wld", dist / SHARED)
     assert f"[{SHARED}]" in headers and re.search(r"GNU_STACK .* RW +0", headers)
     assert make("clean").returncode == 0
@@ -184,7 +185,9 @@ def test_cmake_builds_with_both_libraries(way, need, tmp_path):
         prefix = tmp_path / "a prefix"
         cmake(DIST, tmp_path / "build", f"-DCMAKE_INSTALL_PREFIX={prefix}", "-DCMAKE_INSTALL_LIBDIR=lib")
         subprocess.run(["cmake", "--install", tmp_path / "build"], check=True, stdout=subprocess.DEVNULL)
-        args = [f"-DCMAKE_PREFIX_PATH={prefix}", "-DCMAKE_FIND_USE_CMAKE_SYSTEM_PATH=OFF"]
+        others = f"{MAJOR - 1}.0;{MAJOR}.{MINOR + 1};{MAJOR + 1}.0"
+        args = [f"-DCMAKE_PREFIX_PATH={prefix}", "-DCMAKE_FIND_USE_CMAKE_SYSTEM_PATH=OFF",
+                f"-Dversion={MAJOR}.{MINOR}", f"-Dother_versions={others}"]
         expected = {f"lib/{SHARED}", "lib/libsketch_hash.a", "include/sketch_hash.h", "share/man/man3/sketch_hash.3"}
         assert expected < files_in(prefix)
     cmake(project, project / "build", *args)
