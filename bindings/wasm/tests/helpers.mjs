@@ -1,4 +1,4 @@
-// What the tests share: the module, as it is loaded by default, and inputs.
+// What the tests share: the module, as it is loaded by default, the version of the package, and inputs.
 import { readFileSync } from 'node:fs';
 import v8 from 'node:v8';
 import { load } from '../../../dist/wasm/sketch_hash.mjs';

@@ -123,7 +123,7 @@ cdef int contains_column(
 
 
 cdef int check_length(object length) except -1:
-    if not 0 < length < 2**37 or sketch_bloom_check(length):
+    if not 0 <= length < 2**64 or sketch_bloom_check(length):
         raise ValueError(
             f"a Bloom filter must have a positive multiple of 32 bytes, below 2**37, not {length}: "
             "BloomFilter.for_keys finds the number for keys and an error rate; from_parquet reads a filter with its header")
