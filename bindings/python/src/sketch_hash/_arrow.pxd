@@ -1,7 +1,5 @@
 """The Arrow C data interface: https://arrow.apache.org/docs/format/CDataInterface.html"""
-from libc.stdint cimport int64_t, uint32_t, uint64_t
-
-from ._library cimport *
+from libc.stdint cimport int64_t, uint64_t
 
 
 cdef struct ArrowSchema:
@@ -50,20 +48,6 @@ cdef struct Chunk:
     Values *keys  # the rows, or the dictionary whose codes they are
     bint has_nulls
     Chunk *next
-
-
-cdef inline int hash_texts(
-    int words, size_t width, const void *text, size_t length, const void *offsets, size_t items, uint64_t seed, void *out,
-    size_t count, size_t *wrong
-) noexcept nogil:
-    """Writes a word of XXH64 or two of Murmur for each text. The width is that of an offset."""
-    if words == 1 and width == 4:
-        return sketch_xxh64_each32(text, length, <uint32_t *>offsets, items, seed, out, count, wrong)
-    if words == 1:
-        return sketch_xxh64_each64(text, length, <uint64_t *>offsets, items, seed, out, count, wrong)
-    if width == 4:
-        return sketch_murmur3_x64_128_each32(text, length, <uint32_t *>offsets, items, seed, out, count, wrong)
-    return sketch_murmur3_x64_128_each64(text, length, <uint64_t *>offsets, items, seed, out, count, wrong)
 
 
 cdef bint exports_arrow(object keys) except -1

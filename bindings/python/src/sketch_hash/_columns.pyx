@@ -9,7 +9,7 @@ from libc.stdint cimport INT32_MAX, uint64_t, uintptr_t
 from libc.string cimport strchr, strlen, strspn
 
 from ._arguments cimport PyBuffer_Release, PyObject_GetBuffer, View, get_bytes, overlap, word_of
-from ._arrow cimport Arrow, exports_arrow, hash_texts
+from ._arrow cimport Arrow, exports_arrow
 from ._library cimport *
 from ._locks cimport LONG
 
