@@ -4,14 +4,15 @@ ghost use Rattle.std.specs.Prelude.{ℕ, List, ◌≡◌, ◌⊎◌, ◌↔◌, 
 ghost use Rattle.sketch_bloom.specs.Filter.{Folds, Inserts, IsFoldFault, IsLengthFault, IsMember, IsMergeFault, Merges, hash_of};
 ghost use Rattle.sketch_bloom.specs.Header.{IsHeaderLength, header};
 ghost use Rattle.sketch_bloom.specs.Laws.{StandsFor};
+ghost use Rattle.sketch_bloom.specs.Rate.{FoldsTo};
 ghost use Rattle.sketch_bloom.specs.Size.{IsLeastSize, NoneKeepsRate};
 
 use datasketches::hash::Hash;
 use datasketches::hash::value::raw_bytes;
-use sketch_bloom::laws::{fold_law, header_law, insert_law, merge_law};
+use sketch_bloom::laws::{block_law, fold_law, header_law, insert_law, merge_law};
 use sketch_bloom::{
-    BloomFilter, Fault, MAX_BYTES, bytes_for, contains, insert, insert_each_value, merge,
-    read_header, write_header,
+    BloomFilter, Fault, MAX_BYTES, block_offset, bytes_for, contains, contains_hash, insert,
+    insert_each_value, merge, read_header, write_header,
 };
 use std::alloc::Global;
 
@@ -108,6 +109,32 @@ pub fn shrink(filter: &mut BloomFilter, half: &[u8]) -> Result<bool, Fault>
     fold_law();
     filter.fold()?;
     Ok(is_same_filter(filter.as_bytes(), half))
+}
+
+/// Folds a filter as often as it finds at most one in `one_in` of the keys that were not inserted. It
+/// contains the same values.
+pub fn shrink_to(filter: &mut BloomFilter, one_in: u64)
+    ensures folds { FoldsTo one_in filter.old filter.new }
+    ensures stands { (hashes : List ℕ) → StandsFor filter.old hashes → StandsFor filter.new hashes }
+{
+    fold_law();
+    filter.fold_to(one_in);
+}
+
+/// Whether a filter contains a key, from 32 of its bytes: of a filter in a file no more are read.
+///
+/// # Errors
+///
+/// Returns [`Fault::Length`] if no filter has this length.
+pub fn contains_by_block(filter: &[u8], key: &[u8]) -> Result<bool, Fault>
+    ensures { MatchResult result
+        (λ found. IsTrue found ↔ IsMember filter.now (hash_of key.now))
+        (IsLengthFault (length filter.now)) }
+{
+    block_law();
+    let hash = raw_bytes::from_slice(key).xxh64(0);
+    let offset = block_offset(filter.len(), hash)?;
+    contains_hash(&filter[offset..offset + 32], hash)
 }
 
 /// Writes the header and the filter, as in a Parquet file, and returns their number of bytes.

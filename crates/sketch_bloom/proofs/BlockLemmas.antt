@@ -9,7 +9,7 @@ use Rattle.std.proofs.lemmas.Bool.Decides.{nat_tests}
 use Rattle.std.proofs.lemmas.List.{append_cancel_left, append_cancel_right, ext_get_or, get_or-map, get_or-replicate, get_or_past, length-replicate, take-append-drop}
 use Rattle.std.proofs.lemmas.List.Elements.{All-get_or, All-from_get_or}
 use Rattle.datasketches.specs.Bytes.{AreBytes}
-use Rattle.std.proofs.lemmas.Nat.{and_mask, le_or_l, le_or_r, one_shl, or_of_8, pow-add, shr-shr}
+use Rattle.std.proofs.lemmas.Nat.{and_mask, le_or_l, le_or_r, one_shl, or_of_8, pow-add, shr-shr, xor_comm}
 use Rattle.std.proofs.lemmas.Nat.Bits.{bit_at-pow_same, bit_at-pow_other, bit_at-zero, bit_at_cat_low, bit_at_or, same_from_bits_below}
 use Rattle.std.proofs.lemmas.Simd.{get_or-chunk, get_or-put_chunk_above, get_or-put_chunk_at, get_or-put_chunk_below, get_or-zip2, get_or_narrower, length-chunk, length-put_chunk, length-zip2, put_chunk_is}
 use Rattle.sketch_bloom.specs.Filter.{Inserts, IsBitOf, IsMaskBit, IsMember, IsSet, Sets, block_of, mask_bit, salt}
@@ -73,7 +73,7 @@ byte_fits (suc count) n zero = omega arith
 byte_fits (suc count) n (suc k) = byte_fits count (n / 256) k
 
 -- the digits of a byte of a number are digits of the number
-digit_of_byte : (n k j : ℕ) → j < 8 → bit_at (n / 256 ^ k % 256) j ≡ bit_at n (8 * k + j)
+pub digit_of_byte : (n k j : ℕ) → j < 8 → bit_at (n / 256 ^ k % 256) j ≡ bit_at n (8 * k + j)
 digit_of_byte n k j low =
     let m = n / 2 ^ (8 * k) in
     grind (arith, power k, bit_at_cat_low (m / 256) 8 (m % 256) j, shr-shr n (8 * k) j)
@@ -121,6 +121,12 @@ fold_is_zero (x ∷ xs) [] n count = absurd (omega arith)
 fold_is_zero (x ∷ xs) (y ∷ ys) n count =
     let rest = fold_is_zero xs ys (bit_or n (bit_xor x y)) (omega arith) in
     grind (arith, rest, le_or_l, le_or_r, or_zero_r 0, xor_assoc x y y, xor_self, xor_zero_l, xor_zero_r)
+
+zip2_xor_comm : (xs ys : List ℕ) → zip2 bit_xor xs ys ≡ zip2 bit_xor ys xs
+zip2_xor_comm [] [] = refl
+zip2_xor_comm [] (y ∷ ys) = refl
+zip2_xor_comm (x ∷ xs) [] = refl
+zip2_xor_comm (x ∷ xs) (y ∷ ys) = rw (xor_comm x y, zip2_xor_comm xs ys) refl
 
 -- Writing a block changes nothing exactly if the same block was there.
 put_same : (start n : ℕ) (xs ys : List ℕ) → length ys ≡ n → start + n ≤ length xs →
@@ -214,3 +220,10 @@ module _ (hash start : ℕ) (mask filter : List ℕ) (at : start ≡ block_of (l
               (λ i. grind (arith, inserted.bits i, member i))),
         )),
       )
+
+  -- the same of the xor with its sides exchanged
+  pub is_member_turned : ((k : ℕ) → Fits w8 (get_or filter k 0)) → ((k : ℕ) → get_or mask k 0 < 256) →
+      (fold_l bit_or 0 (zip2 bit_xor (chunk start 32 filter) (joined start mask filter)) ≡ 0)
+      ↔ IsMember filter hash
+  is_member_turned bytes mask_bytes =
+      rw (zip2_xor_comm (chunk start 32 filter) (joined start mask filter)) (is_member bytes mask_bytes)

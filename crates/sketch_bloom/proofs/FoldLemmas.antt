@@ -11,6 +11,7 @@ use Rattle.std.proofs.lemmas.Simd.{get_or-chunk, get_or-put_chunk_above, get_or-
 use Rattle.sketch_bloom.proofs.LawLemmas.{same}
 use Rattle.sketch_bloom.specs.Filter.{Folds, IsBitOf, IsFoldable, block_of, mask_bit}
 use Rattle.sketch_bloom.specs.Laws.{FoldLaw, StandsFor}
+use Rattle.sketch_bloom.specs.Rate.{FoldsWithin, fold, whole}
 
 -- The first n blocks are folded, and the bytes after them are as they were.
 pub record AreFolded (before after : List ℕ) (n : ℕ) : Type 0 where
@@ -189,8 +190,16 @@ stands-folded before after hashes foldable folded stands i =
       ])),
     )
 
+-- So does one that was folded several times.
+stands-within : (one_in : ℕ) (before after hashes : List ℕ) → FoldsWithin one_in before after →
+    StandsFor before hashes → StandsFor after hashes
+stands-within one_in before after hashes whole stands = stands
+stands-within one_in before after hashes (fold filter _ first foldable folds rate) stands =
+    stands-folded filter after hashes foldable folds (stands-within one_in before filter hashes first stands)
+
 pub fold_law : FoldLaw
 fold_law = record {
+  within = stands-within;
   stands = stands-folded;
   streams = λ before after whole hashes bytes whole_bytes count foldable folded stands stands_whole.
       same after whole hashes hashes bytes whole_bytes (sym count)

@@ -1,13 +1,16 @@
 -- The laws of inserts, merges and values.
-use Rattle.std.proofs.Common.{◌≡◌, ◌↔◌, ◌⊎◌, ℕ, ◌/◌, List, [], ◌∷◌, ◌++◌, length, refl, sym, ap, ◌∙◌, inl, inr, arith}
+use Rattle.std.proofs.Common.{◌≡◌, ◌↔◌, ◌⊎◌, ℕ, ◌+◌, ◌-◌, ◌*◌, ◌/◌, ◌%◌, ◌^◌, ◌<◌, ◌≤◌, List, [], ◌∷◌, ◌++◌, length, refl, sym, ap, ◌∙◌, inl, inr, arith}
 use Rattle.std.specs.Prelude.{Contains}
+use Rattle.std.specs.Simd.Lanes.{chunk}
+use Rattle.std.proofs.lemmas.Nat.{mul-le}
+use Rattle.std.proofs.lemmas.Simd.{get_or-chunk, length-chunk}
 use Rattle.std.proofs.lemmas.List.{get_or-map, length-map}
 use Rattle.std.proofs.lemmas.Grind.{get_or_head}
 use Rattle.std.proofs.lemmas.List.Elements.{Contains-append_cases, Contains-append_left, Contains-append_right}
 use Rattle.datasketches.specs.Bytes.{AreBytes}
 use Rattle.sketch_bloom.proofs.BlockLemmas.{no_bit_of_zeros, same_from_bits}
-use Rattle.sketch_bloom.specs.Filter.{Inserts, InsertsAll, IsBitOf, IsBitOfAny, Merges, hash_of}
-use Rattle.sketch_bloom.specs.Laws.{empty_filter, InsertLaw, MergeLaw, StandsFor, ValueLaw}
+use Rattle.sketch_bloom.specs.Filter.{Inserts, InsertsAll, IsBitOf, IsBitOfAny, IsLength, Merges, block_of, hash_of, mask_bit}
+use Rattle.sketch_bloom.specs.Laws.{BlockLaw, empty_filter, InsertLaw, MergeLaw, StandsFor, ValueLaw}
 
 -- the bits of a list of one hash
 any-one : (blocks hash i : ℕ) → IsBitOfAny blocks (hash ∷ []) i ↔ IsBitOf blocks hash i
@@ -110,3 +113,42 @@ value_law = record {
       let there = get_or-map hash_of values k fed (hash_of fed) within ∙ ap hash_of is in
       (stands i).1 (hash_of fed, (k, rw (length-map values hash_of) within, there), bit);
 }
+
+-- A filter contains a hash exactly if the block of the hash does.
+pub block_law : BlockLaw
+unfolding IsBitOf
+block_law = record {
+  alone = λ filter hash is_length word.
+      let blocks = length filter / 32 in
+      let c = block_of blocks hash in
+      let inside : 32 * c + 32 ≤ length filter = block_inside (length filter) hash is_length word in
+      let block = chunk (32 * c) 32 filter in
+      let long : length block / 32 ≡ 1 = omega (arith, length-chunk (32 * c) 32 filter inside) in
+      let first : block_of 1 hash ≡ 0 = omega arith in (
+        (λ member i (b, (w, few, is), place).
+            let low : b < 256 = omega (arith, mask_bit_below hash w) in
+            let at : i ≡ b = omega (arith, first, rw long at place) in
+            let byte : (c * 256 + b) / 8 ≡ 32 * c + b / 8 = omega arith in
+            let digit : (c * 256 + b) % 8 ≡ b % 8 = omega arith in
+            rw (at, get_or-chunk (32 * c) 32 filter (b / 8) 0 (omega arith))
+            (rw (byte, digit) at (member (c * 256 + b) (b, (w, few, is), refl)))),
+        (λ member i (b, (w, few, is), place).
+            let low : b < 256 = omega (arith, mask_bit_below hash w) in
+            let byte : (c * 256 + b) / 8 ≡ 32 * c + b / 8 = omega arith in
+            let digit : (c * 256 + b) % 8 ≡ b % 8 = omega arith in
+            let in_block = member b (b, (w, few, is), rw (long, first) (omega arith)) in
+            rw (place, byte, digit)
+            (rw (get_or-chunk (32 * c) 32 filter (b / 8) 0 (omega arith)) at in_block)),
+      );
+}
+  where
+    mask_bit_below : (hash w : ℕ) → mask_bit hash w < 32
+    mask_bit_below hash w = omega arith
+
+    block_inside : (bytes hash : ℕ) → IsLength bytes → hash < 2 ^ 64 →
+        32 * block_of (bytes / 32) hash + 32 ≤ bytes
+    block_inside bytes hash is_length word =
+        let upper = hash / 2 ^ 32 in
+        let blocks = bytes / 32 in
+        let below = mul-le upper blocks (2 ^ 32 - 1) blocks (omega arith) (omega arith) in
+        omega (arith, below)

@@ -3,5 +3,6 @@ mod ColumnLemmas
 mod HeaderLemmas
 mod LawLemmas
 mod FoldLemmas
+mod RateLemmas
 mod SizeLemmas
 mod KnownAnswers

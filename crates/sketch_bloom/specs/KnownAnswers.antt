@@ -30,8 +30,8 @@ abbrev pub FilterAnswer : Type 0
 FilterAnswer = StandsFor of_parquet_mr
     (map hash_of (codes "hello" ∷ codes "filter" ∷ codes "parquet" ∷ codes "bloom" ∷ []))
 
--- The block of a hash, of one block, of three and of 2 ^ 16 + 1: at the ends, and on both sides of a
--- limit. Writers take powers of two of blocks: a program in C and one in Python answer so.
+-- The block of a hash, of one block, of three and of 2 ^ 16 + 1: at the ends, and on both sides of
+-- a limit. A program in C and one in Python give them, since writers take powers of two of blocks.
 pub record BlockAnswers : Type 0 where
   pub of_1 : block_of 1 (2 ^ 64 - 1) ≡ 0
   pub first_of_3 : block_of 3 0x55555555ffffffff ≡ 0
@@ -44,8 +44,8 @@ pub record BlockAnswers : Type 0 where
 abbrev pub last_fields : List ℕ
 last_fields = 0x1c ∷ 0x1c ∷ 0 ∷ 0 ∷ 0x1c ∷ 0x1c ∷ 0 ∷ 0 ∷ 0x1c ∷ 0x1c ∷ 0 ∷ 0 ∷ 0 ∷ []
 
--- a header of each length, and the first and last of a length, as Apache Thrift's library and a model
--- in Python write them
+-- a header of each length, and the first and last of a length, as Apache Thrift's library and a
+-- model in Python write them
 pub record HeaderAnswers : Type 0 where
   pub of_15_bytes : header 32 ≡ 0x15 ∷ 0x40 ∷ last_fields
   pub first_of_16_bytes : header 64 ≡ 0x15 ∷ 0x80 ∷ 0x01 ∷ last_fields

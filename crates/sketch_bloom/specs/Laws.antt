@@ -1,7 +1,8 @@
 -- Facts about filters.
-use Rattle.std.specs.Prelude.{◌≡◌, ◌↔◌, ◌⊎◌, ℕ, ◌/◌, List, [], ◌∷◌, ◌++◌, length, map, replicate, Contains}
+use Rattle.std.specs.Prelude.{◌≡◌, ◌↔◌, ◌⊎◌, ℕ, ◌*◌, ◌/◌, ◌^◌, ◌<◌, List, [], ◌∷◌, ◌++◌, drop, length, map, replicate, take, Contains}
 use Rattle.datasketches.specs.Bytes.{AreBytes}
-use Rattle.sketch_bloom.specs.Filter.{Folds, Inserts, InsertsAll, IsBitOfAny, IsFoldable, IsMember, IsSet, Merges, hash_of}
+use Rattle.sketch_bloom.specs.Filter.{Folds, Inserts, InsertsAll, IsBitOfAny, IsFoldable, IsLength, IsMember, IsSet, Merges, block_of, hash_of}
+use Rattle.sketch_bloom.specs.Rate.{FoldsWithin}
 
 -- the empty filter with this many bytes
 abbrev pub empty_filter : ℕ → List ℕ
@@ -55,6 +56,15 @@ pub record FoldLaw : Type 0 where
   pub streams : (before after whole hashes : List ℕ) → AreBytes after → AreBytes whole →
       length whole ≡ length after → IsFoldable (length before) → Folds before after →
       StandsFor before hashes → StandsFor whole hashes → after ≡ whole
+  -- so does one that was folded several times
+  pub within : (one_in : ℕ) (before after hashes : List ℕ) → FoldsWithin one_in before after →
+      StandsFor before hashes → StandsFor after hashes
+
+-- The law of blocks: a filter contains a hash exactly if its block does, as a filter of one block.
+pub record BlockLaw : Type 0 where
+  pub alone : (filter : List ℕ) (hash : ℕ) → IsLength (length filter) → hash < 2 ^ 64 →
+      let offset = 32 * block_of (length filter / 32) hash in
+      IsMember filter hash ↔ IsMember (take 32 (drop offset filter)) hash
 
 -- The law of values: those among many that were inserted are contained.
 pub record ValueLaw : Type 0 where

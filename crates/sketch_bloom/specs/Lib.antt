@@ -1,5 +1,6 @@
 pub mod Filter
 pub mod Columns
+pub mod Rate
 pub mod Header
 pub mod Laws
 pub mod Size

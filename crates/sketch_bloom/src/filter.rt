@@ -1,7 +1,7 @@
-//! Insert, look up, merge and fold, on the bytes of a filter.
+//! Insert, look up and merge, on the bytes of a filter.
 
-ghost use Rattle.std.specs.Prelude.{◌≡◌, ◌↔◌, ◌/◌, IsTrue, MatchResult, drop, length, take};
-ghost use Rattle.sketch_bloom.specs.Filter.{Folds, Inserts, IsFoldFault, IsFoldable, IsLength, IsLengthFault, IsMember, IsMergeFault, Merges, hash_of};
+ghost use Rattle.std.specs.Prelude.{◌≡◌, ◌↔◌, ◌+◌, ◌*◌, ◌/◌, ◌≤◌, IsTrue, MatchResult, length};
+ghost use Rattle.sketch_bloom.specs.Filter.{Inserts, IsLength, IsLengthFault, IsMember, IsMergeFault, Merges, block_of, hash_of};
 
 use crate::block::{block_start, mask};
 use crate::fault::Fault;
@@ -94,6 +94,22 @@ pub fn contains_hash(filter: &[u8], hash: u64) -> Result<bool, Fault>
     Ok(is_in(filter, hash))
 }
 
+/// The offset of the block of a hash in a filter of this many bytes. The block's 32 bytes, as a
+/// filter of one block, contain the hash exactly if the filter does: [`crate::laws::block_law`].
+///
+/// # Errors
+///
+/// Returns [`Fault::Length`] if `bytes` is not a positive multiple of 32 below 2^37.
+pub fn block_offset(bytes: usize, hash: u64) -> Result<usize, Fault>
+    ensures { MatchResult result
+        (λ offset. IsLength bytes × (offset ≡ 32 * block_of (bytes / 32) hash)
+        × (offset + 32 ≤ bytes))
+        (IsLengthFault bytes) }
+{
+    check_length(bytes)?;
+    Ok(block_start(bytes, hash))
+}
+
 // Sets the eight bits of a hash.
 #[inline(always)]
 #[tactic(auto, using(crate::proofs::BlockLemmas::inserted))]
@@ -108,7 +124,7 @@ pub(crate) fn insert_into(filter: &mut [u8], hash: u64)
 
 // Whether the eight bits of a hash are set.
 #[inline(always)]
-#[tactic(auto, using(crate::proofs::BlockLemmas::is_member))]
+#[tactic(auto, using(crate::proofs::BlockLemmas::is_member, crate::proofs::BlockLemmas::is_member_turned))]
 pub(crate) fn is_in(filter: &[u8], hash: u64) -> bool
     requires { IsLength (length filter.now) }
     ensures { IsTrue result ↔ IsMember filter.now hash }
@@ -138,34 +154,6 @@ pub fn merge(into: &mut [u8], from: &[u8]) -> Result<(), Fault>
     }
     for i in 0..into.len() {
         into[i] |= from[i];
-    }
-    Ok(())
-}
-
-/// Folds a filter into its first half. Block k is then the union of blocks 2 k and 2 k + 1, and the
-/// first half is the filter of that length, of the same values. The second half is unchanged.
-///
-/// A filter can be created for all values, and folded when it is known how many are different.
-///
-/// # Errors
-///
-/// Returns [`Fault::Length`] if the length of `filter` is not a positive multiple of 32 below 2^37.
-/// Otherwise returns [`Fault::OddBlocks`] if it is not a multiple of 64. The filter is then
-/// unchanged.
-pub fn fold(filter: &mut [u8]) -> Result<(), Fault>
-    ensures { let half = length filter.old / 2 in MatchResult result
-        (λ _. IsFoldable (length filter.old) × Folds filter.old (take half filter.new)
-        × (drop half filter.new ≡ drop half filter.old))
-        (λ fault. (filter.new ≡ filter.old) × IsFoldFault (length filter.old) fault) }
-{
-    check_length(filter.len())?;
-    if filter.len() % 64 != 0 {
-        return Err(Fault::OddBlocks(filter.len()));
-    }
-    for i in 0..filter.len() / 64 {
-        let left = u8x32::from_slice(&filter[64 * i..]);
-        let right = u8x32::from_slice(&filter[64 * i + 32..]);
-        (left | right).copy_to_slice(&mut filter[32 * i..]);
     }
     Ok(())
 }

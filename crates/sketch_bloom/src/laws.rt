@@ -1,7 +1,7 @@
 //! Facts about filters, for a caller's proof. Each function does nothing: its contract is the law.
 
 ghost use Rattle.sketch_bloom.specs.Header.{HeaderLaw};
-ghost use Rattle.sketch_bloom.specs.Laws.{FoldLaw, InsertLaw, MergeLaw, ValueLaw};
+ghost use Rattle.sketch_bloom.specs.Laws.{BlockLaw, FoldLaw, InsertLaw, MergeLaw, ValueLaw};
 
 /// A filter contains each value that was inserted. Filters of one length are the same, byte for
 /// byte, if the same values were inserted, in any order and however often.
@@ -16,10 +16,17 @@ pub fn merge_law()
     ensures { MergeLaw }
 {}
 
-/// Folding a filter makes the filter of half its length of the same values, byte for byte.
+/// Folding a filter makes the filter of half its length of the same values, byte for byte. Folding it
+/// several times keeps its values.
 #[tactic(auto, using(crate::proofs::FoldLemmas::fold_law))]
 pub fn fold_law()
     ensures { FoldLaw }
+{}
+
+/// A filter contains a hash exactly if the block of the hash does, as a filter of one block.
+#[tactic(auto, using(crate::proofs::LawLemmas::block_law))]
+pub fn block_law()
+    ensures { BlockLaw }
 {}
 
 /// The filter of a list of values contains each of them.

@@ -23,6 +23,7 @@ mod block;
 mod columns;
 mod fault;
 mod filter;
+mod folds;
 mod header;
 pub mod known_answers;
 pub mod laws;
@@ -36,7 +37,10 @@ pub use self::columns::{
     insert_each_value,
 };
 pub use self::fault::Fault;
-pub use self::filter::{contains, contains_hash, fold, insert, insert_hash, is_length, merge};
+pub use self::filter::{
+    block_offset, contains, contains_hash, insert, insert_hash, is_length, merge,
+};
+pub use self::folds::{fold, fold_to};
 pub use self::header::{read_header, write_header};
 pub use self::owned::BloomFilter;
 pub use self::size::{MAX_BYTES, bytes_for};

@@ -3,10 +3,12 @@
 ghost use Rattle.std.specs.Prelude.{◌≡◌, ℕ, ◌↔◌, List, IsTrue, MatchResult, length, map};
 ghost use Rattle.sketch_bloom.specs.Filter.{Folds, Inserts, InsertsAll, IsFoldFault, IsFoldable, IsLength, IsLengthFault, IsMember, IsMergeFault, IsNewFault, Merges, hash_of};
 ghost use Rattle.sketch_bloom.specs.Laws.{empty_filter};
+ghost use Rattle.sketch_bloom.specs.Rate.{FoldsTo};
 
 use crate::columns;
 use crate::fault::Fault;
-use crate::filter::{check_length, fold, insert_into, is_in, is_length, merge};
+use crate::filter::{check_length, insert_into, is_in, is_length, merge};
+use crate::folds::{fold, fold_to};
 use datasketches::hash::Hash;
 use std::alloc::Global;
 use std::marker::Model;
@@ -119,5 +121,16 @@ impl BloomFilter {
         fold(&mut self.bytes)?;
         self.bytes.truncate(self.bytes.len() / 2);
         Ok(())
+    }
+
+    /// Folds the filter as often as its false positive rate, by the bits that are set, stays at most
+    /// one in `one_in`. It may stay as it is.
+    pub fn fold_to(&mut self, one_in: u64)
+        ensures { FoldsTo one_in self.old self.new }
+    {
+        // A filter has a valid length, so this is never an error.
+        if let Ok(bytes) = fold_to(&mut self.bytes, one_in) {
+            self.bytes.truncate(bytes);
+        }
     }
 }

@@ -1,11 +1,12 @@
 //! The Bloom filter of Apache Parquet, in bytes that the caller owns.
 
-ghost use Rattle.std.specs.Prelude.{◌≡◌, ◌⊎◌, ◌++◌, ◌<◌, ◌≤◌, ◌*◌, ◌/◌, ◌^◌, ℕ, List, Result, pos, drop, length, map, take};
+ghost use Rattle.std.specs.Prelude.{◌≡◌, ◌⊎◌, ◌+◌, ◌++◌, ◌<◌, ◌≤◌, ◌-◌, ◌*◌, ◌/◌, ◌^◌, ℕ, List, Result, pos, drop, length, map, take};
 ghost use Rattle.datasketches.specs.Bytes.{low_bytes};
 ghost use Rattle.sketch_bloom.specs.declared.fault.Fault.{Fault};
 ghost use Rattle.sketch_bloom.specs.Columns.{FindsEach, FindsKeys, InsertsKeys};
-ghost use Rattle.sketch_bloom.specs.Filter.{Folds, Inserts, InsertsAll, IsFoldable, IsLength, IsMergeFault, Merges, hash_of};
+ghost use Rattle.sketch_bloom.specs.Filter.{Folds, Inserts, InsertsAll, IsFoldable, IsLength, IsMergeFault, Merges, block_of, hash_of};
 ghost use Rattle.sketch_bloom.specs.Header.{IsHeaderLength, header};
+ghost use Rattle.sketch_bloom.specs.Rate.{FoldsTo};
 ghost use Rattle.sketch_bloom.specs.Size.{IsLeastSize, NoneKeepsRate, max_log2_blocks};
 ghost use Rattle.sketch_c.specs.{Changes, IsNumber, MayContain, Reports, error};
 
@@ -228,6 +229,30 @@ pub extern "C" fn sketch_bloom_fold(bits: &mut [u8]) -> i32
         ⊎ ((result ≡ error 1) × (bits.new ≡ bits.old) × (IsFoldable (length bits.old) → ⊥)) }
 {
     status_of(sketch_bloom::fold(bits))
+}
+
+/// Folds a filter as often as its false positive rate, by the bits that are set, stays at most one in
+/// `one_in`. Returns the length of the folded filter, which is the first part of `bits`, or 0 if the
+/// length is not that of a filter.
+#[unsafe(no_mangle)]
+pub extern "C" fn sketch_bloom_fold_to(bits: &mut [u8], one_in: u64) -> usize
+    ensures { (IsLength (length bits.old) × IsLength result × (result ≤ length bits.old)
+        × FoldsTo one_in bits.old (take result bits.new))
+        ⊎ ((result ≡ 0) × (bits.new ≡ bits.old) × (IsLength (length bits.old) → ⊥)) }
+{
+    sketch_bloom::fold_to(bits, one_in).unwrap_or(0)
+}
+
+/// The offset of the block of 32 bytes of a hash, XXH64 with seed 0, in a filter of this many bytes,
+/// or `usize::MAX` if no filter has this length. The block, as a filter, contains the hash exactly
+/// if the filter does.
+#[unsafe(no_mangle)]
+pub extern "C" fn sketch_bloom_block_offset(length: usize, hash: u64) -> usize
+    ensures { (IsLength length × (result ≡ 32 * block_of (length / 32) hash)
+        × (result + 32 ≤ length))
+        ⊎ ((result ≡ 2 ^ 64 - 1) × (IsLength length → ⊥)) }
+{
+    sketch_bloom::block_offset(length, hash).unwrap_or(usize::MAX)
 }
 
 /// Writes the header of a filter with this many bytes to the start of `out`, and returns the

@@ -183,6 +183,31 @@ fn folds_a_filter_of_an_even_number_of_blocks(rt: HostRuntime) {
     assert!(rt; even.starts_with(&foxes()));
 }
 
+// A block with all bits set finds each key, an empty one none, and so one of each half of them.
+#[test]
+fn folds_a_filter_while_it_keeps_a_rate(rt: HostRuntime) {
+    let mut mixed = [0; 128];
+    mixed[..32].fill(255);
+    assert_eq!(rt; sketch_bloom_fold_to(&mut mixed, 4), 128);
+    assert_eq!(rt; sketch_bloom_fold_to(&mut mixed, 2), 64);
+    assert!(rt; mixed.starts_with(&[255; 32]) && mixed[32..64] == [0; 32]);
+    assert_eq!(rt; sketch_bloom_fold_to(&mut mixed[..64], 1), 32);
+    assert_eq!(rt; sketch_bloom_fold_to(&mut [0; 64], 0), 64);
+    assert_eq!(rt; sketch_bloom_fold_to(&mut [0; 33], 2), 0);
+}
+
+#[test]
+fn finds_a_key_by_its_block_alone(rt: HostRuntime) {
+    let (mut bits, hash) = ([0; 96], XxHash64::hash(b"fox", 0));
+    sketch_bloom_insert(&mut bits, b"fox");
+    let offset = sketch_bloom_block_offset(96, hash);
+    assert_eq!(rt;
+        sketch_bloom_contains_hash(&bits[offset..offset + 32], hash),
+        1
+    );
+    assert_eq!(rt; sketch_bloom_block_offset(97, hash), usize::MAX);
+}
+
 #[test]
 fn returns_an_error_for_a_length_that_no_filter_has(rt: HostRuntime) {
     let (mut bits, mut found, mut wrong) = ([0; 33], [9; 1], 77);

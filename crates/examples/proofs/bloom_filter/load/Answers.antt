@@ -8,8 +8,8 @@ returns-then-rest-bytes c = λ filter others is starts.
     let read = c.in_ok-bytes.ensures in
     let rest = c.split_at.result.1.now in
     let after = drop c.in_ok-bytes.start c.args.input.now in
-    let once = c.header_law.ensures.once c.in_ok-bytes.bytes (length filter) after (filter ++ others) read.0 is
-    (sym read.2 ∙ starts) in
+    let once = c.header_law.ensures.once c.in_ok-bytes.bytes (length filter) after
+    (filter ++ others) read.0 is (sym read.2 ∙ starts) in
     omega (
       arith,
       c.if-rest-bytes.true,

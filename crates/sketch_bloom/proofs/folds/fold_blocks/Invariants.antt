@@ -1,5 +1,5 @@
 use Rattle.sketch_bloom.proofs.FoldLemmas.{AreFolded}
-use Rattle.sketch_bloom.proofs.filter.fold.Given as goal
+use Rattle.sketch_bloom.proofs.folds.fold_blocks.Given as goal
 
 abbrev pub invariant-loop-i : goal.invariant-loop-i
 invariant-loop-i l = AreFolded l.fn.filter l.filter l.i

@@ -1,6 +1,6 @@
 use Rattle.std.proofs.Common.{◌≡◌, ◌+◌, ◌*◌, ◌/◌, ◌≤◌, length, arith}
 use Rattle.sketch_bloom.proofs.FoldLemmas.{folds, left_right, one_more, right_left, same_rest}
-use Rattle.sketch_bloom.proofs.filter.fold.Goals as goal
+use Rattle.sketch_bloom.proofs.folds.fold_blocks.Goals as goal
 
 pub loop-i-preserved : goal.loop-i-preserved
 loop-i-preserved c =
@@ -19,7 +19,6 @@ returns c =
     let l = c.loop-i in
     let before = c.args.filter.now in
     let half : length before / 2 ≡ 32 * l.i = omega (arith, l.auto.i-end) in (
-      (c.in_ok-check_length.ensures, omega arith),
       rw half (folds before l.filter l.i (omega (arith, l.auto.i-end)) (omega (arith, l.auto)) l.invariant),
       rw half (same_rest before l.filter l.i l.auto.filter l.invariant),
     )
