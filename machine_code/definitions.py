@@ -72,7 +72,7 @@ GIVEN = {
     "fold": Function(3, lambda f, start, items: functools.reduce(f, items, start)),
     "take": Function(2, lambda n, items: items[:n]), "drop": Function(2, lambda n, items: items[n:]),
     "slice_index": Function(2, lambda items, i: items[i]), "replicate": Function(2, lambda n, item: [item] * n),
-    "length": Function(1, len), "codes": Function(1, lambda text: [*text.encode()]),
+    "length": Function(1, len), "suc": Function(1, lambda n: n + 1), "codes": Function(1, lambda text: [*text.encode()]),
     "range_with_len": Function(2, lambda start, n: [*range(start, start + n)]),
 }
 
@@ -226,3 +226,4 @@ def of_hash(hash, *files):
 
 XXH64, MURMUR = of_hash("Xxh64"), of_hash("Murmur")
 FILTER = of_hash("Xxh64", "sketch_bloom/specs/Filter.antt")
+RATE = Definitions("sketch_hash/specs/Words.antt", "sketch_bloom/specs/Rate.antt")

@@ -1,13 +1,14 @@
 """Bloom filters of any length: merges, folds, and columns of any number of values."""
 import functools
 import itertools
+import random
 
 import calls
 import loops
-from calls import COUNT, LENGTH, OK, Call, bits, check_call, found, input, of, values
+from calls import COUNT, LENGTH, OK, Call, Memory, bits, check_call, found, input, of, values
 from columns import Elements, behind
 from hashes import OneCall, Pieces
-from definitions import FILTER, as_value
+from definitions import FILTER, RATE, as_value
 from machine import Array, place_of
 from values import (Stop, add, assume_at_most, bitwise, complement, cut, extend, is_zero, join, mul, number, number_in,
                     power_of_two, shift_right, sub, unknown, width_of)
@@ -283,6 +284,54 @@ def wrong_folds(machine):
     check_call(machine, "bloom_fold", lambda: Call([bits, number(0)], [], LENGTH))
 
 
+def block_offset(machine):
+    hash = unknown("hash", 64)
+    place = as_value(FILTER.block_of(extend(cut(any_length, 5, 32)), hash))
+    check_call(machine, "bloom_block_offset", Call, [any_length, hash], [], mul(place, number(32)))
+    for length in WRONG_LENGTHS:
+        check_call(machine, "bloom_block_offset", Call, [length, hash], [], number(-1))
+
+
+# ---- folds to a rate, of filters that are known: blocks, and how many of 256 random bytes are not 0
+
+KNOWN = [(1, 256), (2, 100), (2, 256), (3, 256), (4, 40), (4, 256), (6, 200), (8, 30)]
+
+
+def known_filter(blocks, share):
+    """No two of its blocks are alike."""
+    generator = random.Random(1000 * blocks + share)
+    return [generator.randrange(256) if generator.randrange(256) < share else 0 for _ in range(32 * blocks)]
+
+
+def folds_of(filter):
+    """The filter, folded once, twice and so on."""
+    while True:
+        yield filter
+        if len(filter) % 64:
+            return
+        pairs = range(0, len(filter), 64)
+        filter = [filter[pair + i] | filter[pair + 32 + i] for pair in pairs for i in range(32)]
+
+
+def fold_to(machine, filter):
+    """With each rate at which one more fold is too many, and with those next to it."""
+    folds = list(folds_of(filter))
+    found = [RATE.found_by_blocks(fold, len(fold) // 32) for fold in folds]
+    most = [(len(fold) << 35) // max(number, 1) for fold, number in zip(folds, found)]
+    for one_in in {0, 1, 2, 2 ** 64 - 1, *(min(n, 2 ** 64 - 2) + more for n in most for more in (0, 1))}:
+        count = 0
+        while count + 1 < len(folds) and 0 < one_in and found[count + 1] * one_in <= len(folds[count + 1]) << 35:
+            count += 1
+        after = [number(byte, 8) for byte in folds[count]]
+        memory = Memory(bits, [number(byte, 8) for byte in filter], after + [None] * (len(filter) - len(after)))
+        check_call(machine, "bloom_fold_to", Call, [bits, number(len(filter)), number(one_in)], [memory], number(len(after)))
+
+
+def wrong_folds_to(machine):
+    for length in WRONG_LENGTHS:
+        check_call(machine, "bloom_fold_to", Call, [bits, length, unknown("one_in", 64)], [], number(0))
+
+
 def too_few_values(machine, function):
     n = extend(unknown("n", 57))
     places = add(add(n, number(1)), extend(unknown("more", 57)))
@@ -298,6 +347,9 @@ def checks(machine):
                             for is_first in (True, False)), functools.partial(merges_of_two_lengths, machine)]
     yield "bloom_fold", [functools.partial(loops.prove_each_rest, functools.partial(Fold, machine)),
                          functools.partial(wrong_folds, machine)]
+    yield "bloom_fold_to", [functools.partial(wrong_folds_to, machine),
+                            *(functools.partial(fold_to, machine, known_filter(*kind)) for kind in KNOWN)]
+    yield "bloom_block_offset", [functools.partial(block_offset, machine)]
     for is_insert in (True, False):
         name, wrong = name_of(is_insert), wrong_result(is_insert)
         yield name, [functools.partial(loops.prove_each_rest, functools.partial(Key, machine, is_insert), 32),

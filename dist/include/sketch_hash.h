@@ -302,6 +302,20 @@ SKETCH_HASH_API int sketch_bloom_merge(void *into, size_t length, const void *fr
  * not a multiple of 64. */
 SKETCH_HASH_API int sketch_bloom_fold(void *bits, size_t length);
 
+/** Folds a filter as often as its false positive rate, by the bits that are set, stays at most one in
+ * `one_in`. Returns the length of the folded filter, which is at `bits`. The bytes after it, up to
+ * `length`, have no meaning. Returns `length` if it folds nothing, as with a `one_in` of 0, and 0 if
+ * no filter has `length` bytes.
+ *
+ * The rate is the probability that a key is found that was not inserted: the mean, over the blocks,
+ * of the product of the shares of set bits in the eight words. */
+SKETCH_HASH_API size_t sketch_bloom_fold_to(void *bits, size_t length, uint64_t one_in);
+
+/** Returns the offset of the block of an XXH64 `hash` in a filter of `length` bytes, or SIZE_MAX if
+ * no filter has that length. The 32 bytes of the block are a filter that contains the hash exactly
+ * if the filter does. So a look-up in a file reads 32 bytes of a filter. */
+SKETCH_HASH_API size_t sketch_bloom_block_offset(size_t length, uint64_t hash);
+
 /** How many bytes sketch_bloom_header_write writes at most. */
 #define SKETCH_BLOOM_HEADER_MAX 19
 

@@ -126,6 +126,13 @@ SKH_INLINE uint64_t skh_less64(uint64_t x, uint64_t y) {
     return x > y ? x - y : 0;
 } /* x - y, but not below 0 */
 
+/* How many bits are set. */
+SKH_INLINE uint32_t skh_ones32(uint32_t x) {
+    x -= x >> 1 & 0x55555555u;
+    x = (x & 0x33333333u) + (x >> 2 & 0x33333333u);
+    return ((x + (x >> 4)) & 0x0f0f0f0fu) * 0x01010101u >> 24;
+}
+
 /* Numbers of 128 bits. */
 #ifdef __SIZEOF_INT128__
 __extension__ typedef unsigned __int128 skh_uint128;

@@ -362,6 +362,8 @@ class Values:
             return call(f"skh_most{width}", *values)
         if name.startswith("llvm.usub.sat"):
             return call(f"skh_less{width}", *values)
+        if name == "llvm.ctpop.i32":
+            return call("skh_ones32", *values)
         raise Unknown(f"print_c does not know the call of {name}")
 
     def vector(self, step):
