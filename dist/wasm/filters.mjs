@@ -167,6 +167,12 @@ export function filtersOf(module, { xxh64 }) {
             throw new RangeError('no Bloom filter of at most 128 MiB keeps this rate for so many keys, or oneIn is 0');
         }
 
+        static blockOffset(length, hash) {
+            const offset = calls.sketch_bloom_block_offset(checked(length, 'a length'), checked(hash, 'a hash'));
+            if (offset < 0n) throw new RangeError(`a filter must have a positive multiple of 32 bytes, not ${length}`);
+            return Number(offset);
+        }
+
         // A subclass's constructor may take other arguments, so it is not called.
         static forKeys(keys, oneIn) { return Reflect.construct(BloomFilter, [BloomFilter.bytesFor(keys, oneIn)], this); }
 
@@ -269,16 +275,24 @@ export function filtersOf(module, { xxh64 }) {
             return this;
         }
 
-        // The second half of the bits is free then.
+        // The bits after these are free then.
+        #shrink(length) {
+            this.#length = length;
+            const start = this.#block.start + 64 * Math.ceil(length / 64);
+            if (start < this.#block.stop) blocks.release({ start, stop: this.#block.stop });
+            this.#block.stop = start;
+            return this;
+        }
+
         fold() {
             if (calls.sketch_bloom_fold(...this.#bits)) {
                 throw new RangeError(`a filter to fold must have an even number of blocks, not ${this.#length / 32}`);
             }
-            this.#length /= 2;
-            const start = this.#block.start + 64 * Math.ceil(this.#length / 64);
-            if (start < this.#block.stop) blocks.release({ start, stop: this.#block.stop });
-            this.#block.stop = start;
-            return this;
+            return this.#shrink(this.#length / 2);
+        }
+
+        foldTo(oneIn) {
+            return this.#shrink(Number(calls.sketch_bloom_fold_to(...this.#bits, checked(oneIn, 'oneIn, as 100 for 1 %,'))));
         }
 
         toBytes() { return this.#bytes().slice(); }

@@ -94,6 +94,11 @@ export interface BloomFilter {
      * @throws {RangeError} if its length is not a multiple of 64. The filter is then unchanged
      */
     fold(): this;
+    /**
+     * Folds the filter as often as its false positive rate, by the bits that are set, stays at most one in `oneIn`. It
+     * may stay as it is.
+     */
+    foldTo(oneIn: Whole): this;
     /** Frees the memory. Later calls but free throw a TypeError. */
     free(): void;
     /** Calls free at the end of a block with `using`, in engines that have it. */
@@ -116,6 +121,13 @@ export interface BloomFilterConstructor {
     forKeys(keys: Whole, oneIn: Whole): BloomFilter;
     /** The length of the filter that forKeys returns. @throws {RangeError} as forKeys does */
     bytesFor(keys: Whole, oneIn: Whole): number;
+    /**
+     * The offset of the block of a hash, xxh64 of the seed 0, in a filter of this length. Its 32 bytes are a filter that
+     * has the hash if the whole filter has it: of a filter in a file no other bytes have to be read.
+     *
+     * @throws {RangeError} as the constructor does
+     */
+    blockOffset(length: Whole, hash: Whole): number;
     /** The filter with a copy of these bytes, without a header. @throws {RangeError} as the constructor does */
     fromBytes(bytes: Input): BloomFilter;
     /**

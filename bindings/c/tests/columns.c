@@ -1,5 +1,5 @@
 /* Columns of keys: each result compared with the call on its key, and what is an error. The Bloom
- * filter: lengths, merges, the header; check.c has its bytes. Each array is a block, so that
+ * filter: lengths, merges, folds, the header; check.c has its bytes. Each array is a block, so that
  * valgrind sees accesses outside of it. */
 #include "sketch_hash.h"
 #include "helpers.h"
@@ -208,6 +208,47 @@ static void merges(void) {
     free(into), free(from);
 }
 
+/* Of 2^40 keys for each block, so many are found in the filter. */
+static uint64_t found_in(const unsigned char *filter, size_t bytes) {
+    uint64_t sum = 0;
+    for (size_t block = 0; block < bytes; block += 32) {
+        uint64_t product = 1;
+        for (size_t word = block; word < block + 32; word += 4) {
+            uint64_t ones = 0;
+            for (int bit = 0; bit < 32; bit++) ones += filter[word + bit / 8] >> bit % 8 & 1;
+            product *= ones;
+        }
+        sum += product;
+    }
+    return sum;
+}
+
+/* A filter is folded to each rate that is one in a power of two, and then cannot be folded once more. */
+static void folds(void) {
+    enum { BYTES = 1 << 14, HASHES = 200 };
+    unsigned char *filter = malloc(BYTES), *expected = malloc(BYTES);
+    for (int power = 0; power <= 40; power++) {
+        memset(filter, 0, BYTES);
+        for (int i = 0; i < HASHES; i++) sketch_bloom_insert_hash(filter, BYTES, random64());
+        memcpy(expected, filter, BYTES);
+        size_t bytes = BYTES;
+        for (; bytes > 32; bytes /= 2) {
+            unsigned char next[BYTES];
+            memcpy(next, expected, bytes);
+            sketch_bloom_fold(next, bytes);
+            if (found_in(next, bytes / 2) > (uint64_t)bytes / 64 << (40 - power)) break;
+            memcpy(expected, next, bytes / 2);
+        }
+        same("a fold to a rate", sketch_bloom_fold_to(filter, BYTES, (uint64_t)1 << power), bytes);
+        same("the folded filter", memcmp(filter, expected, bytes), 0);
+    }
+    same("one in 0", sketch_bloom_fold_to(filter, BYTES, 0), BYTES);
+    same("no filter to fold", sketch_bloom_fold_to(filter, 33, 1), 0);
+    same("a block", sketch_bloom_block_offset(96, UINT64_MAX), 64);
+    same("a block of no filter", sketch_bloom_block_offset(97, 1), SIZE_MAX);
+    free(filter), free(expected);
+}
+
 static void headers(void) {
     unsigned char *header = malloc(SKETCH_BLOOM_HEADER_MAX), *input = malloc(16);
     uint64_t bytes = 77;
@@ -233,6 +274,7 @@ int main(void) {
     sizes();
     wrong_lengths();
     merges();
+    folds();
     headers();
     return conclude();
 }

@@ -255,16 +255,25 @@ def test_a_filter_is_folded_to_an_error_rate(rate, num_bytes):
     bloom.fold(error_rate=rate)
     assert bloom == filled(KEYS, bloom.num_bytes)
     assert rate_of(bloom) <= rate or bloom == before
-    assert bloom.num_bytes % 64 or rate_of(filled(KEYS, bloom.num_bytes // 2)) > rate
+    assert bloom.num_bytes % 64 or rate_of(filled(KEYS, bloom.num_bytes // 2)) > fractions.Fraction(1, math.ceil(1 / rate))
 
 
-def test_the_rate_of_a_fold_is_exact():
-    rate = float(rate_of(filled(KEYS, 512)))
-    assert rate == rate_of(filled(KEYS, 512))  # it has few enough bits for a float
-    for rate, num_bytes in ((rate, 512), (math.nextafter(rate, 0), 1024)):
+def test_a_fold_finds_at_most_one_other_key_in_n():
+    n = int(1 / rate_of(filled(KEYS, 512)))
+    for rate, num_bytes in ((1 / n, 512), (1 / (n + 1), 1024)):
         bloom = filled(KEYS, 2048)
         bloom.fold(rate)
         assert bloom.num_bytes == num_bytes
+
+
+def test_the_block_of_a_hash_tells_whether_a_filter_has_it():
+    bloom, hashes = filled(KEYS, 96), [sketch_hash.xxh64_intdigest(key) for key in KEYS]
+    for hash in hashes:
+        start = BloomFilter.block_offset(96, hash)
+        assert all(BloomFilter.view(bytes(bloom)[start : start + 32]).contains_hashes(array.array("Q", [hash])))
+    for num_bytes in (0, 33, 2**37):
+        with pytest.raises(ValueError, match=f"must have a positive multiple of 32 bytes, below 2..37, not {num_bytes}"):
+            BloomFilter.block_offset(num_bytes, 1)
 
 
 @pytest.mark.parametrize("make, args, error, text", [

@@ -106,6 +106,45 @@ impl BloomFilter {
         Ok(())
     }
 
+    /// Folds the filter as often as its false positive rate, by the bits that are set, stays at most
+    /// one in `one_in`. It may stay as it is. The capacity of the vector stays.
+    ///
+    /// ```
+    /// use sketch_hash::BloomFilter;
+    /// let mut filter = BloomFilter::for_keys(1_000_000, 100)?;
+    /// filter.insert(b"fox");
+    /// filter.fold_to(100);
+    /// assert!(filter.as_bytes().len() == 32 && filter.contains(b"fox"));
+    /// # Ok::<(), sketch_hash::Error>(())
+    /// ```
+    pub fn fold_to(&mut self, one_in: u64) {
+        // SAFETY: a slice is readable and writable for its length, and is borrowed alone.
+        let len = unsafe { sketch_bloom_fold_to(self.bits.as_mut_ptr(), self.bits.len(), one_in) };
+        self.bits.truncate(len);
+    }
+
+    /// Returns the offset of the block of a hash, XXH64 with seed 0, in a filter of `len` bytes. The
+    /// 32 bytes of the block are a filter that contains the hash exactly if the whole filter does. So
+    /// of a filter in a file no other bytes have to be read.
+    ///
+    /// ```
+    /// use sketch_hash::{xxh64, BloomFilter};
+    /// let mut filter = BloomFilter::with_len(1024)?;
+    /// filter.insert(b"fox");
+    /// let hash = xxh64(b"fox", 0);
+    /// let start = BloomFilter::block_offset(1024, hash)?;
+    /// let block = BloomFilter::from_bytes(&filter.as_bytes()[start..start + 32])?;
+    /// assert!(block.contains_hash(hash));
+    /// # Ok::<(), sketch_hash::Error>(())
+    /// ```
+    ///
+    /// # Errors
+    ///
+    /// Returns [`Error::Length`] if `len` is not a positive multiple of 32 below 2^37.
+    pub fn block_offset(len: usize, hash: u64) -> Result<usize, Error> {
+        Some(sketch_bloom_block_offset(len, hash)).filter(|at| *at < len).ok_or(Error::Length)
+    }
+
     /// Reads the header of a filter in a Parquet file, and returns where the filter's bytes are: the
     /// range begins after the header. It may end after `input` does.
     ///

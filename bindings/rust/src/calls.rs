@@ -154,6 +154,8 @@ unsafe extern "C" {
         into: *mut u8, length: usize, from: *const u8, from_length: usize,
     ) -> c_int;
     pub fn sketch_bloom_fold(bits: *mut u8, length: usize) -> c_int;
+    pub fn sketch_bloom_fold_to(bits: *mut u8, length: usize, one_in: u64) -> usize;
+    pub safe fn sketch_bloom_block_offset(length: usize, hash: u64) -> usize;
     pub fn sketch_bloom_header_write(bytes: u64, header: *mut u8, length: usize) -> usize;
     pub fn sketch_bloom_header_read(input: *const u8, length: usize, bytes: &mut u64) -> usize;
 }

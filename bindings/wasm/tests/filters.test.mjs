@@ -223,6 +223,21 @@ test('a filter is merged into itself', () => {
     assert.deepEqual(filter.merge(filter).toBytes(), filled().toBytes());
 });
 
+test('a filter is folded while it keeps a rate', () => {
+    const large = new library.BloomFilter(128 * 32).add('fox').foldTo(100);
+    assert.deepEqual([large.length, large.has('fox')], [32, true]);
+    const full = library.BloomFilter.fromBytes(new Uint8Array(64).fill(255));
+    assert.equal(full.foldTo(2).length, 64);
+    assert.equal(full.foldTo(1).length, 32);
+});
+
+test('a block alone tells whether a filter has a hash', () => {
+    const hash = library.xxh64('fox'), bytes = new library.BloomFilter(96).addHash(hash).toBytes();
+    const start = library.BloomFilter.blockOffset(96, hash);
+    assert(library.BloomFilter.fromBytes(bytes.slice(start, start + 32)).hasHash(hash));
+    assert.throws(() => library.BloomFilter.blockOffset(33, hash), { name: 'RangeError', message: /multiple of 32 bytes, not 33/ });
+});
+
 test('a folded filter is that of half the length', () => {
     const filter = filled(6 * 32).fold();
     assert.equal(filter.length, 96);

@@ -29,7 +29,7 @@ each = filter.hasEachNumber(offsets);
 each = filter.hasEachHash(columns[0]);
 const lengths: number[] = [filter.length, library.BloomFilter.bytesFor(1, 2)];
 let read: BloomFilter = library.BloomFilter.fromParquet(filter.toParquet());
-read = library.BloomFilter.fromBytes(filter.fold().toBytes());
+read = library.BloomFilter.fromBytes(filter.fold().foldTo(100).toBytes());
 const freed: void[] = [read.free(), stream.free()];
 const disposed: { [Symbol.dispose](): void }[] = [read, stream];
 

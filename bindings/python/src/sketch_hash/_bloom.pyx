@@ -308,6 +308,15 @@ cdef class BloomFilter:
             PyBuffer_Release(&memory)
         return range(header, header + num_bytes)
 
+    @staticmethod
+    def block_offset(num_bytes, hash):
+        """block_offset(num_bytes, hash, /)\n--\n\nReturns the offset of the block of a hash in a filter of num_bytes bytes.
+        The hash is xxh64 with the seed 0. The 32 bytes of the block are a filter that has the hash if the whole filter has
+        it: so of a filter in a file no other bytes are read. Raises ValueError if no filter has that many bytes."""
+        num_bytes = operator.index(num_bytes)
+        check_length(num_bytes)
+        return sketch_bloom_block_offset(num_bytes, operator.index(hash))
+
     @classmethod
     def view(cls, buffer):
         """view($type, buffer, /)\n--\n\nReturns the filter in a buffer, such as a mapped file, without a copy.
@@ -496,17 +505,20 @@ cdef class BloomFilter:
     def fold(self, error_rate=None):
         """fold($self, error_rate=None)\n--\n\nMakes the filter half as large: it is then that of this size with the
         same keys. Raises ValueError if its number of blocks of 32 bytes is odd. With an error rate, as 0.01, it is
-        halved while other keys are found at this rate at most, by the bits that are set, and may stay as it is. So
-        create a filter for all keys, and fold it once they are added. Raises TypeError for a view, and BufferError if
+        halved while other keys are found at this rate at most, by the bits that are set, and may stay as it is: at a rate of
+        at most one in n, which is the least whole number that keeps the error rate. So create a filter for all keys, and
+        fold it once they are added. Raises TypeError for a view, and BufferError if
         memoryviews exist."""
-        cdef double rate = 0.5 if error_rate is None else error_rate
-        check_rate(rate)
-        ratio = None if error_rate is None else rate.as_integer_ratio()
+        cdef uint64_t one_in = 0 if error_rate is None else one_in_of(error_rate)
         self.begin(True)
         cdef bint has_exports = self.exports != 0, is_odd = self.bits.len % 64 != 0
         try:  # no exception is made here: garbage would be collected, whose code may call the filter
             if not (self.bits.buf is NULL or self.is_view or has_exports):
-                self.halve(ratio)
+                with nogil:
+                    if one_in:
+                        self.bits.len = sketch_bloom_fold_to(self.bits.buf, self.bits.len, one_in)
+                    elif sketch_bloom_fold(self.bits.buf, self.bits.len) == 0:
+                        self.bits.len //= 2
         finally:
             release(self.lock)
         self.check(0)
@@ -514,25 +526,9 @@ cdef class BloomFilter:
             self.check_exports()
         if self.is_view:
             raise TypeError("a filter to fold must not be a view: copy() makes one that can be folded")
-        if is_odd and ratio is None:
+        if is_odd and not one_in:
             raise ValueError(f"a filter to fold must have an even number of blocks, not {self.bits.len // 32}")
         self.shrink()
-
-    cdef int halve(self, tuple ratio) except -1:
-        while self.bits.len % 64 == 0 and (ratio is None or self.may_halve(ratio)):
-            with nogil:
-                sketch_bloom_fold(self.bits.buf, self.bits.len)
-            self.bits.len //= 2
-            if ratio is None:
-                break
-        return 0
-
-    cdef bint may_halve(self, tuple ratio) except -1:
-        """Whether the rate of the next fold is at most this ratio. The numbers are exact."""
-        cdef uint64_t high = 0, low = 0
-        with nogil:
-            sum_rates(<uint64_t *>self.bits.buf, self.bits.len // 64, &high, &low)
-        return (<object>high * 2**64 + low) * ratio[1] <= ratio[0] * (self.bits.len // 64) * 2**40
 
     cdef int shrink(self) except -1:
         """Gives memory back that a fold has left unused, if there is memory for the copy."""
@@ -616,30 +612,10 @@ cdef BloomFilter duplicate(object kind, BloomFilter source):
     return filter
 
 
-cdef void sum_rates(const uint64_t *words, size_t pairs, uint64_t *high, uint64_t *low) noexcept nogil:
-    """Adds how many of 2**40 other keys each block of the folded filter finds: the product of its words' set bits."""
-    cdef uint64_t found, both
-    cdef size_t i
-    cdef int j
-    for i in range(pairs):
-        found = 1
-        for j in range(4):
-            both = words[8 * i + j] | words[8 * i + 4 + j]
-            found *= __builtin_popcountll(<uint32_t>both) * __builtin_popcountll(both >> 32)
-        low[0] += found
-        if low[0] < found:
-            high[0] += 1
-
-
-cdef int check_rate(double rate) except -1:
+cdef object one_in_of(double rate):
+    """The smallest number whose reciprocal, as a float, is at most the error rate, or the largest that the library takes."""
     if not 0 < rate < 1:
         raise ValueError(f"error_rate must be above 0 and below 1, as 0.01 for one key in a hundred, not {rate}")
-    return 0
-
-
-cdef object one_in_of(double rate):
-    """The smallest number whose reciprocal, as a float, is at most the error rate."""
-    check_rate(rate)
     if rate < 2.0**-63:
         return 2**64 - 1
     one_in = round(1 / rate)

@@ -47,6 +47,8 @@ cdef extern from "sketch_hash.h" nogil:
     int sketch_bloom_contains_each_hash(const void *, size_t, const uint64_t *, size_t, unsigned char *, size_t)
     int sketch_bloom_merge(void *, size_t, const void *, size_t)
     int sketch_bloom_fold(void *, size_t)
+    size_t sketch_bloom_fold_to(void *, size_t, uint64_t)
+    size_t sketch_bloom_block_offset(size_t, uint64_t)
     size_t sketch_bloom_header_write(uint64_t, unsigned char *, size_t)
     size_t sketch_bloom_header_read(const void *, size_t, uint64_t *)
 
