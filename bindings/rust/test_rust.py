@@ -68,9 +68,9 @@ def test_builds_with_core_and_alloc_alone(tmp_path):
 
 
 def test_package_builds_on_its_own(target, tmp_path):
-    """After docs/contributing.md's command has put the text into the package's folder."""
+    """After docs/maintaining.md's command has put the text into the package's folder."""
     copy = shutil.copytree(HERE, tmp_path / "bindings/rust", ignore=shutil.ignore_patterns("c", "target"))
-    (command,) = re.findall(r"^    (mkdir .*bindings/rust/c)$", (DIST.parent / "docs/contributing.md").read_text(), re.M)
+    (command,) = re.findall(r"^    (mkdir .*bindings/rust/c)$", (DIST.parent / "docs/maintaining.md").read_text(), re.M)
     shutil.copytree(DIST, tmp_path / "dist")
     subprocess.run(command, shell=True, cwd=tmp_path, check=True)
     shutil.rmtree(tmp_path / "dist")
