@@ -1,7 +1,7 @@
 /* sketch_hash.c 3.0.0: printed from proved text. Do not edit it: tools/print_c prints it.
  *
  * crate     sketch_c, and those that it depends on, of which PROVED says more
- * text      1bd876313858083bd7bf7543a12548d02ffef707474dd8673d8adffe020bc65b
+ * text      7570eae52ad49386c32e21df5492dad511bf939a35dbbfa96fddd602a23af7af
  * prover    rattle-kit-13f logic dac8208d650f15bf
  * compiler  clang version 22.1.8, of the kit: its module, optimized, is what is printed
  * licence   Apache-2.0
@@ -133,6 +133,13 @@ SKH_INLINE uint64_t skh_most64(uint64_t x, uint64_t y) { return x > y ? x : y; }
 SKH_INLINE uint64_t skh_less64(uint64_t x, uint64_t y) {
     return x > y ? x - y : 0;
 } /* x - y, but not below 0 */
+
+/* How many bits are set. */
+SKH_INLINE uint32_t skh_ones32(uint32_t x) {
+    x -= x >> 1 & 0x55555555u;
+    x = (x & 0x33333333u) + (x >> 2 & 0x33333333u);
+    return ((x + (x >> 4)) & 0x0f0f0f0fu) * 0x01010101u >> 24;
+}
 
 /* Numbers of 128 bits. */
 #ifdef __SIZEOF_INT128__
@@ -1239,6 +1246,16 @@ SKH_INLINE void skh_insert_hashes_any(bool has_vectors, unsigned char *p1, uint6
 SKH_CHOOSE(static SKH_NOINLINE, void, , skh_insert_hashes,
     (unsigned char *p1, uint64_t x1, const unsigned char *p2, uint64_t x2), (p1, x1, p2, x2))
 
+SKETCH_HASH_API size_t sketch_bloom_block_offset(size_t length, uint64_t hash) {
+    uint64_t x1;
+    if (skh_rotate64(length, 59) - 1 < 0xffffffffu) {
+        x1 = (((hash >> 32) * (length >> 5)) >> 27) & 0x1fffffffe0u;
+    } else {
+        x1 = 0xffffffffffffffffu;
+    }
+    return x1;
+}
+
 SKETCH_HASH_API size_t sketch_bloom_bytes_for(uint64_t keys, uint64_t one_in) {
     uint64_t x6;
     switch (one_in) {
@@ -1507,6 +1524,96 @@ SKH_INLINE int sketch_bloom_contains_hash_any(bool has_vectors, const void *bits
 
 SKH_CHOOSE(SKETCH_HASH_API, int, return, sketch_bloom_contains_hash,
     (const void *bits, size_t length, uint64_t hash), (bits, length, hash))
+
+SKETCH_HASH_API size_t sketch_bloom_fold_to(void *bits, size_t length, uint64_t one_in) {
+    uint64_t x6;
+    unsigned char *const p1 = bits;
+    unsigned char *const p2 = (p1 == NULL) ? (unsigned char *)4096 : p1;
+    if (skh_rotate64(length, 59) - 1 < 0xffffffffu) {
+        if ((length & 63) == 0) {
+            const bool c1 = one_in == 0;
+            const bool c2 = one_in > 255;
+            uint64_t x1 = length;
+            for (;;) {
+                skh_uint128 y2;
+                const uint64_t x7 = x1 >> 6;
+                const bool c3 = x1 == 0;
+                if (c3) {
+                    y2 = skh_wide(0, 0);
+                } else {
+                    skh_uint128 y1 = skh_wide(0, 0);
+                    uint64_t x2 = 0;
+                    for (;;) {
+                        uint64_t x8;
+                        const unsigned char *const p3 = p2 + (x2 << 6);
+                        uint64_t x3 = 1;
+                        uint64_t x4 = 0;
+                        for (;;) {
+                            const unsigned char *const p4 = p3 + (x4 << 2);
+                            x8 = x3 * (uint64_t)skh_ones32(skh_load32(p4 + 32) | skh_load32(p4));
+                            const uint64_t x9 = x4 + 1;
+                            if (x9 == 8) break;
+                            x3 = x8;
+                            x4 = x9;
+                        }
+                        const skh_uint128 y3 = skh_wide_add(y1, skh_wide(0, x8));
+                        const uint64_t x10 = x2 + 1;
+                        if (x10 == x7) {
+                            y2 = y3;
+                            break;
+                        }
+                        y1 = y3;
+                        x2 = x10;
+                    }
+                }
+                if (c1 || (c2 & skh_wide_above(y2, skh_wide(0, 0xffffffffffffffffu)))) {
+                    x6 = x1;
+                    break;
+                }
+                if (skh_wide_above(skh_wide_mul(y2, skh_wide(0, one_in)),
+                    skh_wide_left(skh_wide(0, x7), 40))) {
+                    x6 = x1;
+                    break;
+                }
+                if (!c3) {
+                    uint64_t x5 = 0;
+                    do {
+                        const unsigned char *const p5 = p2 + (x5 << 6);
+                        unsigned char *const p6 = p2 + (x5 << 5);
+                        const uint32_t w1 = skh_load32(p5 + 32) | skh_load32(p5);
+                        const uint32_t w2 = skh_load32(p5 + 36) | skh_load32(p5 + 4);
+                        const uint32_t w3 = skh_load32(p5 + 40) | skh_load32(p5 + 8);
+                        const uint32_t w4 = skh_load32(p5 + 44) | skh_load32(p5 + 12);
+                        const uint32_t w5 = skh_load32(p5 + 48) | skh_load32(p5 + 16);
+                        const uint32_t w6 = skh_load32(p5 + 52) | skh_load32(p5 + 20);
+                        const uint32_t w7 = skh_load32(p5 + 56) | skh_load32(p5 + 24);
+                        const uint32_t w8 = skh_load32(p5 + 60) | skh_load32(p5 + 28);
+                        skh_store32(p6, w1);
+                        skh_store32(p6 + 4, w2);
+                        skh_store32(p6 + 8, w3);
+                        skh_store32(p6 + 12, w4);
+                        skh_store32(p6 + 16, w5);
+                        skh_store32(p6 + 20, w6);
+                        skh_store32(p6 + 24, w7);
+                        skh_store32(p6 + 28, w8);
+                        x5 += 1;
+                    } while (x5 != x7);
+                }
+                const uint64_t x12 = x1 >> 1;
+                if ((x1 & 126) != 0) {
+                    x6 = x12;
+                    break;
+                }
+                x1 = x12;
+            }
+        } else {
+            x6 = length;
+        }
+    } else {
+        x6 = 0;
+    }
+    return x6;
+}
 
 SKETCH_HASH_API size_t sketch_bloom_header_read(const void *input, size_t length, uint64_t *bytes) {
     unsigned char room1[19];
