@@ -54,9 +54,9 @@ abbrev pub test_bytes : ℕ → List ℕ
 test_bytes n = test_bytes_from 0x9E3779B1 n
 
 -- XXH64: xxHash's sanity tests, and SMHasher's value. The tail of 14 bytes has a step of each
--- width and two single bytes; that of 222 bytes has three words of eight bytes. The last answers have
--- a seed of 64 bits, which each lane takes from 32 bytes on: libxxhash 0.8 and a model in Python
--- give them.
+-- width and two single bytes; that of 222 bytes has three words of eight bytes. The last answers
+-- have a seed of 64 bits, which each lane takes from 32 bytes on: libxxhash 0.8 and a model in
+-- Python give them.
 pub record Xxh64Answers : Type 0 where
   pub no_bytes : xxh64 0 [] ≡ 0xef46db3751d8e999
   pub no_stripe : xxh64 0 (test_bytes 14) ≡ 0x8282dcc4994e35c8

@@ -111,8 +111,8 @@ pub fn shrink(filter: &mut BloomFilter, half: &[u8]) -> Result<bool, Fault>
     Ok(is_same_filter(filter.as_bytes(), half))
 }
 
-/// Folds a filter as often as it finds at most one in `one_in` of the keys that were not inserted. It
-/// contains the same values.
+/// Folds a filter as often as it finds at most one in `one_in` of the keys that were not inserted.
+/// It contains the same values.
 pub fn shrink_to(filter: &mut BloomFilter, one_in: u64)
     ensures folds { FoldsTo one_in filter.old filter.new }
     ensures stands { (hashes : List ℕ) → StandsFor filter.old hashes → StandsFor filter.new hashes }

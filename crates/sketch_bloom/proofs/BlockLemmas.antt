@@ -227,3 +227,6 @@ module _ (hash start : ℕ) (mask filter : List ℕ) (at : start ≡ block_of (l
       ↔ IsMember filter hash
   is_member_turned bytes mask_bytes =
       rw (zip2_xor_comm (chunk start 32 filter) (joined start mask filter)) (is_member bytes mask_bytes)
+
+-- for `is_in`: the test, with the sides of its xor in either order
+pub ruleset for_is_in = (is_member, is_member_turned)

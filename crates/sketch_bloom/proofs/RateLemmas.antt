@@ -46,7 +46,11 @@ pub digit_of_word : (bytes : List ℕ) (n : ℕ) → length bytes ≡ 4 →
 digit_of_word bytes n long fits is b low =
     let same = le_bytes_4 bytes n long fits is in
     let place : 8 * (b / 8) + b % 8 ≡ b = omega arith in
-    rw (← same, byte_of_word n (b / 8) (omega arith), digit_of_byte n (b / 8) (b % 8) (omega arith), place) refl
+    let byte = byte_of_word n (b / 8) (omega arith) in
+    rw (← same, byte, digit_of_byte n (b / 8) (b % 8) (omega arith), place) refl
+
+pub few_ones : (left right : ℕ) → left < 2 ^ 32 → right < 2 ^ 32 → ones (bit_or left right) ≤ 32
+few_ones left right small other = ones-le 32 (bit_or left right) (or_lt 32 left right small other)
 
 -- Two words joined by or have as many set digits as the word of the folded filter.
 pub word_of_union : (filter folded : List ℕ) (k w left right : ℕ) → Folds filter folded → w < 8 →

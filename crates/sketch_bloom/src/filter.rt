@@ -124,7 +124,7 @@ pub(crate) fn insert_into(filter: &mut [u8], hash: u64)
 
 // Whether the eight bits of a hash are set.
 #[inline(always)]
-#[tactic(auto, using(crate::proofs::BlockLemmas::is_member, crate::proofs::BlockLemmas::is_member_turned))]
+#[tactic(auto, using(crate::proofs::BlockLemmas::for_is_in))]
 pub(crate) fn is_in(filter: &[u8], hash: u64) -> bool
     requires { IsLength (length filter.now) }
     ensures { IsTrue result ↔ IsMember filter.now hash }

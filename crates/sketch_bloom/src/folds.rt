@@ -33,12 +33,12 @@ pub fn fold(filter: &mut [u8]) -> Result<(), Fault>
     Ok(())
 }
 
-/// Folds a filter as often as its false positive rate, by the bits that are set, stays at most one in
-/// `one_in`. Returns the length of the folded filter, which is the first part of `filter`. The bytes
-/// after it have no meaning.
+/// Folds a filter as often as its false positive rate, by the bits that are set, stays at most one
+/// in `one_in`. Returns the length of the folded filter, which is the first part of `filter`. The
+/// bytes after it have no meaning.
 ///
-/// The rate is the probability that a key that was not inserted is found: the mean, over the blocks,
-/// of the product of the shares of set bits in the eight words.
+/// The rate is the probability that a key that was not inserted is found: the mean, over the
+/// blocks, of the product of the shares of set bits in the eight words.
 ///
 /// # Errors
 ///
@@ -90,8 +90,8 @@ fn has_rate_folded(filter: &[u8], one_in: u64) -> bool
     found * u128::from(one_in) <= (blocks as u128) << 40
 }
 
-// How many of the 2^40 choices of a bit in each word choose set bits alone, in block k of the folded
-// filter.
+// How many of the 2^40 choices of a bit in each word choose set bits alone, in block k of the
+// folded filter.
 fn found_by_union(filter: &[u8], k: usize) -> u64
     requires { 64 * k + 64 ≤ length filter.now }
     ensures value { (folded : List ℕ) → Folds filter.now folded →

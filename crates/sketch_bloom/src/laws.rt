@@ -16,8 +16,8 @@ pub fn merge_law()
     ensures { MergeLaw }
 {}
 
-/// Folding a filter makes the filter of half its length of the same values, byte for byte. Folding it
-/// several times keeps its values.
+/// Folding a filter makes the filter of half its length of the same values, byte for byte. Folding
+/// it several times keeps its values.
 #[tactic(auto, using(crate::proofs::FoldLemmas::fold_law))]
 pub fn fold_law()
     ensures { FoldLaw }

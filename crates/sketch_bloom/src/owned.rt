@@ -123,8 +123,8 @@ impl BloomFilter {
         Ok(())
     }
 
-    /// Folds the filter as often as its false positive rate, by the bits that are set, stays at most
-    /// one in `one_in`. It may stay as it is.
+    /// Folds the filter as often as its false positive rate, by the bits that are set, stays at
+    /// most one in `one_in`. It may stay as it is.
     pub fn fold_to(&mut self, one_in: u64)
         ensures { FoldsTo one_in self.old self.new }
     {

@@ -231,9 +231,9 @@ pub extern "C" fn sketch_bloom_fold(bits: &mut [u8]) -> i32
     status_of(sketch_bloom::fold(bits))
 }
 
-/// Folds a filter as often as its false positive rate, by the bits that are set, stays at most one in
-/// `one_in`. Returns the length of the folded filter, which is the first part of `bits`, or 0 if the
-/// length is not that of a filter.
+/// Folds a filter as often as its false positive rate, by the bits that are set, stays at most one
+/// in `one_in`. Returns the length of the folded filter, which is the first part of `bits`, or 0 if
+/// the length is not that of a filter.
 #[unsafe(no_mangle)]
 pub extern "C" fn sketch_bloom_fold_to(bits: &mut [u8], one_in: u64) -> usize
     ensures { (IsLength (length bits.old) × IsLength result × (result ≤ length bits.old)
@@ -243,9 +243,9 @@ pub extern "C" fn sketch_bloom_fold_to(bits: &mut [u8], one_in: u64) -> usize
     sketch_bloom::fold_to(bits, one_in).unwrap_or(0)
 }
 
-/// The offset of the block of 32 bytes of a hash, XXH64 with seed 0, in a filter of this many bytes,
-/// or `usize::MAX` if no filter has this length. The block, as a filter, contains the hash exactly
-/// if the filter does.
+/// The offset of the block of 32 bytes of a hash, XXH64 with seed 0, in a filter of this many
+/// bytes, or `usize::MAX` if no filter has this length. The block, as a filter, contains the hash
+/// exactly if the filter does.
 #[unsafe(no_mangle)]
 pub extern "C" fn sketch_bloom_block_offset(length: usize, hash: u64) -> usize
     ensures { (IsLength length × (result ≡ 32 * block_of (length / 32) hash)
