@@ -24,7 +24,7 @@ exports = ["-Xlinker", f"--version-script={here}/exports.map"] if sys.platform =
 library = "sketch_hash", {"sources": ["c/sketch_hash.c"], "include_dirs": ["c"]}
 modules = [
     Extension(f"sketch_hash.{name}", [f"src/sketch_hash/{name}.pyx"], include_dirs=["c"], extra_link_args=exports)
-    for name in ("_arrow", "_columns", "_hashes", "_bloom")
+    for name in ("_arrow", "_columns", "_hashes", "_bloom", "_thrift")
 ]
 directives = {"language_level": 3, "binding": False, "auto_pickle": False, "always_allow_keywords": False}
 setup(

@@ -1,16 +1,13 @@
 """The footer of a Parquet file: where its parts are, its columns, and a copy with filters.
 
-A footer is a struct in Thrift's compact protocol. It is read in place, once, and its parts are copied as bytes: a footer
-that was made to cost time or memory has no more than its length. Apache Thrift's library has no such limits.
-https://github.com/apache/thrift/blob/master/doc/specs/thrift-compact-protocol.md
+A footer is a struct in Thrift's compact protocol. It is read in place, once, and its parts are copied as bytes.
 """
 import array
 import collections
 import contextlib
 import itertools
 
-# The kinds of values. A field that is a bool has its value in its kind.
-TRUE, FALSE, BYTE, I16, I32, I64, F64, BINARY, LIST, _, _, STRUCT = range(1, 13)
+from .._thrift import BINARY, I32, I64, LIST, STRUCT, TRUE, Reader
 
 # Numbers of the fields, as parquet.thrift gives them, in FileMetaData, SchemaElement, RowGroup, ColumnChunk and
 # ColumnMetaData.
@@ -20,123 +17,7 @@ COLUMNS, BYTE_SIZE, ROWS = 1, 2, 3
 FILE_PATH, FILE_OFFSET, METADATA = 1, 2, 3
 VALUES, STATISTICS, OFFSET, LENGTH = 5, 12, 14, 15
 
-MOST_DEPTH = 64  # of lists and structs in each other, and of the schema. parquet.thrift itself needs 8.
-
-
-class Reader:
-    """Reads values from a place of the footer on."""
-
-    def __init__(self, data, at):
-        self.data, self.at = data, at
-
-    def varint(self):
-        number = 0
-        for shift in range(0, 70, 7):
-            byte = self.data[self.at]
-            self.at += 1
-            number |= (byte & 127) << shift
-            if byte < 128:
-                return number
-        raise ValueError("a number must have at most 10 bytes")
-
-    def integer(self, bits):
-        number = self.varint()
-        if number >> bits:
-            raise ValueError(f"a number must have at most {bits} bits")
-        return number >> 1 ^ -(number & 1)
-
-    def fields(self):
-        """The number and kind of each field of a struct. It is skipped unless the caller reads it."""
-        number = 0
-        while True:
-            head = self.data[self.at]
-            self.at += 1
-            if head == 0:
-                return
-            number = number + (head >> 4) if head > 15 else self.integer(16)
-            if not 0 < number < 1 << 15:
-                raise ValueError("the number of a field must be from 1 to 32767")
-            before, kind = self.at, head & 15
-            yield number, kind
-            if self.at == before:
-                self.skip(kind)
-
-    def items(self):
-        """How many items a list has, which follow, and their kind."""
-        head = self.data[self.at]
-        self.at += 1
-        count = head >> 4 if head >> 4 < 15 else self.varint()
-        if count > len(self.data) - self.at:
-            raise ValueError("a list is truncated")
-        return count, head & 15
-
-    def structs(self):
-        """How many structs a list has, which follow."""
-        count, kind = self.items()
-        if count and kind != STRUCT:
-            raise ValueError("a list has another type than in parquet.thrift")
-        return range(count)
-
-    def skip(self, kind, depth=0):
-        data, at = self.data, self.at
-        if kind in (I16, I32, I64):
-            while data[at] > 127:
-                at += 1
-            if at - self.at > 9:
-                raise ValueError("a number must have at most 10 bytes")
-            self.at = at + 1
-        elif kind == BINARY:
-            self.skip_bytes(self.varint())
-        elif kind in (STRUCT, LIST):
-            if depth == MOST_DEPTH:
-                raise ValueError(f"lists and structs must be at most {MOST_DEPTH} deep")
-            if kind == LIST:
-                count, kind = self.items()
-                if kind <= BYTE:
-                    self.skip_bytes(count)
-                else:
-                    for _ in range(count):
-                        self.skip(kind, depth + 1)
-            else:
-                for _, kind in self.fields():
-                    self.skip(kind, depth + 1)
-        elif kind == F64:
-            self.skip_bytes(8)
-        elif kind == BYTE:
-            self.skip_bytes(1)
-        elif kind > FALSE or kind == 0:
-            raise ValueError("no value of a footer is a map, a set or of another kind")
-
-    def skip_bytes(self, length):
-        self.at += length
-        if self.at > len(self.data):
-            raise ValueError("a value is truncated")
-
-    def bytes_of(self, kind):
-        """The bytes of a value."""
-        begin = self.at
-        self.skip(kind)
-        return self.data[begin:self.at]
-
-    def struct(self, kinds):
-        """The values of the fields in `kinds`, by their numbers; of lists and structs, where they begin."""
-        found = {}
-        for number, kind in self.fields():
-            if number not in kinds:
-                continue
-            if number in found or (kind not in (TRUE, FALSE) if kinds[number] == TRUE else kind != kinds[number]):
-                raise ValueError(f"field {number} is there twice, or has another type than in parquet.thrift")
-            begin = self.at
-            if kind in (I32, I64):
-                found[number] = self.integer(32 if kind == I32 else 64)
-            elif kind == BINARY:
-                length = self.varint()
-                begin = self.at
-                self.skip_bytes(length)
-                found[number] = self.data[begin:self.at]
-            else:
-                found[number] = begin if kind in (LIST, STRUCT) else kind == TRUE
-        return found
+MOST_DEPTH = 64  # of the schema
 
 
 def varint(number):
