@@ -11,7 +11,7 @@ from conftest import DIST
 
 HERE = pathlib.Path(__file__).resolve().parent
 PIP = [sys.executable, "-m", "pip", "install", "--quiet", "--no-index", "--no-deps", "--root-user-action=ignore"]
-PRIVATE = tuple(f"parquet.{name}" for name in ("__main__", "files", "footer", "keys", "values"))
+PRIVATE = tuple(f"parquet.{name}" for name in ("__main__", "command", "files", "footer", "keys", "reader", "values", "writer"))
 FOX = "import sketch_hash; print(sketch_hash.xxh64_hexdigest(b'The quick brown fox jumps over the lazy dog'))"
 
 

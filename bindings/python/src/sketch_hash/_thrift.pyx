@@ -180,3 +180,48 @@ cdef class Reader:
             self.at = begin
             return self.zigzag(32 if kind == I32 else 64)
         return kind == TRUE if kind in (TRUE, FALSE) else begin
+
+
+def varint(number):
+    data = bytearray()
+    while number > 127:
+        data.append(number & 127 | 128)
+        number >>= 7
+    data.append(number)
+    return data
+
+
+def zigzag(number):
+    return varint(number << 1 if number >= 0 else ~number << 1 | 1)
+
+
+def list_of(structs):
+    return b"".join([bytes([15 << 4 | STRUCT]), varint(len(structs)), *(struct.end() for struct in structs)])
+
+
+class Writer:
+    """Writes a struct."""
+
+    def __init__(self):
+        self.data, self.number = bytearray(), 0
+
+    def field(self, number, kind, value=b""):
+        step, self.number = number - self.number, number
+        if 0 < step < 16:
+            self.data.append(step << 4 | kind)
+        else:
+            self.data.append(kind)
+            self.data += zigzag(number)
+        self.data += value
+        return self
+
+    def copy(self, reader, numbers):
+        """Copies some fields of a struct."""
+        for number, kind in reader.fields():
+            if number in numbers:
+                self.field(number, kind, reader.bytes_of(kind))
+        return self
+
+    def end(self):
+        self.data.append(0)
+        return bytes(self.data)

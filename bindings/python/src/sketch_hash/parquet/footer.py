@@ -3,11 +3,12 @@
 A footer is a struct in Thrift's compact protocol. It is read in place, once, and its parts are copied as bytes.
 """
 import array
-import collections
 import contextlib
+import functools
 import itertools
+import operator
 
-from .._thrift import BINARY, I32, I64, LIST, STRUCT, TRUE, Reader
+from .._thrift import BINARY, I32, I64, LIST, STRUCT, TRUE, Reader, Writer, list_of, zigzag
 
 # Numbers of the fields, as parquet.thrift gives them, in FileMetaData, SchemaElement, RowGroup, ColumnChunk and
 # ColumnMetaData.
@@ -15,54 +16,13 @@ VERSION, SCHEMA, ALL_ROWS, ROW_GROUPS, CREATED_BY, ENCRYPTION = 1, 2, 3, 4, 6, 8
 TYPE, TYPE_LENGTH, REPETITION, NAME, CHILDREN, CONVERTED, SCALE, LOGICAL = 1, 2, 3, 4, 5, 6, 7, 10
 COLUMNS, BYTE_SIZE, ROWS = 1, 2, 3
 FILE_PATH, FILE_OFFSET, METADATA = 1, 2, 3
-VALUES, STATISTICS, OFFSET, LENGTH = 5, 12, 14, 15
+VALUES, BYTES, STATISTICS, OFFSET, LENGTH = 5, 7, 12, 14, 15
+PAGES = 9, 10, 11  # the first data page, index page and dictionary page
+INDEXES = (4, 5), (6, 7)  # the offset and the length of each
+CHUNK = {FILE_PATH: BINARY, METADATA: STRUCT, 4: I64, 5: I32, 6: I64, 7: I32}
 
 MOST_DEPTH = 64  # of the schema
-
-
-def varint(number):
-    data = bytearray()
-    while number > 127:
-        data.append(number & 127 | 128)
-        number >>= 7
-    data.append(number)
-    return data
-
-
-def zigzag(number):
-    return varint(number << 1 if number >= 0 else ~number << 1 | 1)
-
-
-def list_of(structs):
-    return b"".join([bytes([15 << 4 | STRUCT]), varint(len(structs)), *(struct.end() for struct in structs)])
-
-
-class Writer:
-    """Writes a struct."""
-
-    def __init__(self):
-        self.data, self.number = bytearray(), 0
-
-    def field(self, number, kind, value=b""):
-        step, self.number = number - self.number, number
-        if 0 < step < 16:
-            self.data.append(step << 4 | kind)
-        else:
-            self.data.append(kind)
-            self.data += zigzag(number)
-        self.data += value
-        return self
-
-    def copy(self, reader, numbers):
-        """Copies some fields of a struct."""
-        for number, kind in reader.fields():
-            if number in numbers:
-                self.field(number, kind, reader.bytes_of(kind))
-        return self
-
-    def end(self):
-        self.data.append(0)
-        return bytes(self.data)
+MOST_NAMES = 10  # in a message
 
 
 BOOLEAN, INT32, INT64, INT96, FLOAT, DOUBLE, BYTE_ARRAY, FIXED = range(8)
@@ -120,37 +80,47 @@ class Column:
     def __init__(self, footer, index, name, path):
         self.footer, self.index, self.name, self.path = footer, index, name, path
 
-    @property
+    @functools.cached_property
     def kind(self):
         return Kind(Reader(self.footer.data, self.path[-1]))
 
     def chunk(self, group):
-        """Where the ColumnMetaData of a row group begins, or None if it is encrypted."""
+        """The fields of a row group's ColumnChunk. METADATA is missing if the column is encrypted."""
         reader = Reader(self.footer.data, self.footer.chunks[group * self.footer.width + self.index])
-        fields = reader.struct({FILE_PATH: BINARY, METADATA: STRUCT})
+        fields = reader.struct(CHUNK)
         if FILE_PATH in fields:
             raise ValueError(f"the column {self.name} must be in this file alone, not in those that the footer names")
-        return fields.get(METADATA)
+        return fields
 
     def metadata(self, group):
         """A reader of the ColumnMetaData of a row group."""
-        begin = self.chunk(group)
+        begin = self.chunk(group).get(METADATA)
         if begin is None:
             raise ValueError(f"the column {self.name} must not be encrypted")
         return Reader(self.footer.data, begin)
 
     def place(self, group):
         """Where the filter of a row group begins, or None, and how long it is with its header, or None."""
-        begin = self.chunk(group)
+        begin = self.chunk(group).get(METADATA)
         fields = {} if begin is None else Reader(self.footer.data, begin).struct({OFFSET: I64, LENGTH: I32})
         return fields.get(OFFSET), fields.get(LENGTH)
+
+    def end(self, group):
+        """Where the pages of a row group and their indexes end."""
+        chunk = self.chunk(group)
+        metadata = self.metadata(group).struct({BYTES: I64, **dict.fromkeys(PAGES, I64)})
+        pages = [metadata[number] for number in PAGES if metadata.get(number, 0) > 0]
+        if not pages or BYTES not in metadata:
+            raise ValueError(f"the pages of {self.name} are missing")
+        indexes = [chunk.get(offset, 0) + chunk.get(length, 0) for offset, length in INDEXES]
+        return max(min(pages) + metadata[BYTES], max(pages) + 1, *indexes)
 
     def values(self, group):
         """How many values a row group has, with nulls."""
         return self.metadata(group).struct({VALUES: I64}).get(VALUES, 1)
 
-    def has_filters(self):
-        return any(self.place(group)[0] is not None for group in range(self.footer.groups))
+    def groups_with_filters(self):
+        return [group for group in range(self.footer.groups) if self.place(group)[0] is not None]
 
 
 class Footer:
@@ -212,7 +182,8 @@ class Footer:
         return len(self.chunks) - before
 
     def leaves(self):
-        """The name and the path of each column. The names of all have at most 20 times the bytes of the footer."""
+        """For each column the names of its elements of the schema, as a and a.b, and where they begin. The names of all
+        columns have at most 20 times the bytes of the footer."""
         if self.schema is None:
             raise ValueError("the schema is missing")
         reader = Reader(self.data, self.schema)
@@ -233,7 +204,7 @@ class Footer:
             if length > 20 * len(self.data) or len(above) > MOST_DEPTH:
                 raise ValueError("the names of the columns are too long")
             if TYPE in fields:
-                yield name, [*(place for place, _, _ in above), begin]
+                yield [*(name for _, name, _ in above[1:]), name], [*(place for place, _, _ in above), begin]
             elif children:
                 above.append([begin, name, children])
             while above and above[-1][2] <= 0:
@@ -242,24 +213,26 @@ class Footer:
             raise ValueError("the schema is truncated")
 
     def find(self, names):
-        """The columns with these names."""
-        columns, counts = dict.fromkeys(names), collections.Counter()
-        for column in self.columns(columns):
-            counts[column.name] += 1
-            columns[column.name] = column
-        for name in columns:
-            if not counts[name]:
-                some = [leaf for leaf, _ in itertools.islice(self.leaves(), 10)]
-                raise ValueError(f"the column must be one of {', '.join(some)}{', ..' * (self.width > 10)}, not {name}")
-            if counts[name] > 1:
-                raise ValueError(f"the name of a column must be that of one alone: {name} is of {counts[name]}")
-        return list(columns.values())
+        """The columns with these names. That of an element with one column in it is one too, as tags for
+        tags.list.element."""
+        whole, parts = ({name: [] for name in names} for _ in range(2))
+        for index, (elements, path) in enumerate(self.leaves()):
+            for name in set(elements).intersection(whole):
+                found = (whole if name == elements[-1] else parts)[name]
+                if len(found) <= MOST_NAMES:
+                    found.append(Column(self, index, elements[-1], path))
+        return [self.only_one(name, whole[name] or parts[name]) for name in whole]
 
-    def columns(self, names=None):
-        """All columns, or those with these names."""
-        for index, (name, path) in enumerate(self.leaves()):
-            if names is None or name in names:
-                yield Column(self, index, name, path)
+    def only_one(self, name, found):
+        if not found:
+            raise ValueError(f"the column must be one of {some_of(self.columns())}, not {name}")
+        if len(found) > 1:
+            raise ValueError(f"the name of a column must be that of one alone: {name} is of {some_of(found)}")
+        return found[0]
+
+    def columns(self):
+        for index, (elements, path) in enumerate(self.leaves()):
+            yield Column(self, index, elements[-1], path)
 
     def with_filters(self, places):
         """The end of the file, if filters are at other places: (column, row group, offset, length)."""
@@ -291,17 +264,17 @@ class Footer:
                 .field(ROWS, I64, zigzag(self.rows[group])))
 
 
+def some_of(columns):
+    names = [column.name for column in itertools.islice(columns, MOST_NAMES + 1)]
+    return ", ".join([*names[:MOST_NAMES], ".."][:len(names)])
+
+
 def with_place(reader, offset, length):
     """A ColumnMetaData with another place of its filter."""
-    place = [(OFFSET, I64, zigzag(offset)), (LENGTH, I32, zigzag(length))]
+    fields = [(number, kind, reader.bytes_of(kind)) for number, kind in reader.fields() if number not in (OFFSET, LENGTH)]
+    fields += (OFFSET, I64, zigzag(offset)), (LENGTH, I32, zigzag(length))
     writer = Writer()
-    for number, kind in reader.fields():
-        value = reader.bytes_of(kind)
-        while place and number > LENGTH:
-            writer.field(*place.pop(0))
-        if number not in (OFFSET, LENGTH):
-            writer.field(number, kind, value)
-    for field in place:
+    for field in sorted(fields, key=operator.itemgetter(0)):
         writer.field(*field)
     return writer.end()
 
