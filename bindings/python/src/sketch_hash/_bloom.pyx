@@ -250,12 +250,13 @@ cdef class BloomFilter:
     @classmethod
     def for_keys(cls, keys, *, error_rate=None, one_in=None):
         """for_keys($type, keys, *, error_rate=None, one_in=None)\n--\n\nReturns the smallest filter whose
-        false positive rate is at most this, error_rate=0.01 or one_in=100, once it has so many keys. Its size is a
-        power of two. Raises ValueError if it would need more than 128 MiB. A subclass's __init__ is not called."""
-        if (error_rate is None) == (one_in is None):
+        false positive rate is at most this, error_rate=0.01 or one_in=100, once it has so many keys; 0.01 if both are
+        left out. Its size is a power of two. Raises ValueError if it would need more than 128 MiB. A subclass's
+        __init__ is not called."""
+        if error_rate is not None and one_in is not None:
             raise TypeError("for_keys takes one of error_rate, as 0.01, and one_in, as 100")
         if one_in is None:
-            one_in = one_in_of(error_rate)
+            one_in = one_in_of(0.01 if error_rate is None else error_rate)
         if one_in == 0:
             raise ValueError("one_in must be at least 1, not 0")
         cdef size_t num_bytes = sketch_bloom_bytes_for(word_of(keys, "keys"), word_of(one_in, "one_in"))

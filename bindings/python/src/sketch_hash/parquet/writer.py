@@ -26,7 +26,7 @@ def add_filters(source, target, columns, *, error_rate=0.01, max_bytes=None, rep
     No filter has more than error_rate, the share of other keys that it finds, unless it would need more than max_bytes.
     replace replaces filters that are there, and moves those that are the last before the footer, so that a file does not
     grow with each call. skip_existing keeps them, and adds those that are missing. A UserWarning names each column whose
-    filters exclude no row group.
+    filters help little.
 
     Raises ValueError if a column has filters, and neither of the two is given; if the footer is encrypted or signed, or a
     file is not a regular one; if folders show that the target belongs to a table of Delta Lake or Iceberg; if another call
@@ -114,10 +114,10 @@ def unused_end(reader, replaced_columns):
         while filters and filters[-1][1] == last:
             last = filters[-1][0]
             kept.append(filters.pop())
-        ends = [max((column.end(group) for column in columns for group in groups), default=0), *(end for _, end, _, _ in filters)]
+        end = max((column.end(group) for column in columns for group in groups), default=0)
     except ValueError:  # a filter or a part of the footer is damaged, or belongs to another file
         return footer.start, []
-    if max(ends) > last:
+    if end > last or filters and filters[-1][1] > last:
         return footer.start, []
     return last, [filter for filter in reversed(kept) if filter[2].index not in indexes]
 
@@ -133,7 +133,7 @@ def new_filters(file, footer, todo, builder):
 
 
 class Builder:
-    """Builds filters with an error rate, and notes the columns whose filters exclude no row group."""
+    """Builds filters with an error rate, and notes the columns whose filters help little."""
 
     def __init__(self, error_rate, max_bytes):
         BloomFilter.for_keys(1, error_rate=error_rate)  # raises if it is no rate
@@ -166,9 +166,9 @@ class Builder:
         full = [is_full for _, is_full in built]
         others = {hash for hash, _ in built[:max(len(built) - 1, 2)]}  # the last row group may have less rows
         if built and all(full):
-            self.notes.append(f"the filters of {column.name} exclude no row group: max_bytes is too small for them")
+            self.notes.append(f"the filters of {column.name} help little: max_bytes is too small for them")
         elif len(built) > 1 and len(others) == 1:
-            self.notes.append(f"the filters of {column.name} exclude no row group: all have the same values")
+            self.notes.append(f"the filters of {column.name} help little: all row groups have the same values")
 
 
 def check_filters(source, *, progress=None):
