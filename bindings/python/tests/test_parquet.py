@@ -1,9 +1,11 @@
 """Filters of Parquet files. data/ has two files of pyarrow 25; it is needed by the last tests alone."""
+import array
 import contextlib
 import datetime
 import decimal
 import gzip
 import io
+import math
 import mmap
 import os
 import pathlib
@@ -21,11 +23,12 @@ import uuid
 
 import pytest
 from helpers import TYPES, column_of, in_threads
-from sketch_hash import column, parquet
+from sketch_hash import BloomFilter, column, parquet, xxh64_intdigest
 from sketch_hash.parquet import values as parquet_values
 from sketch_hash.parquet import writer
 from sketch_hash.parquet.files import Source
-from sketch_hash.parquet.footer import LENGTH, OFFSET, Footer
+from sketch_hash.parquet.footer import LENGTH, OFFSET, VALUES as VALUE_COUNT, Footer
+from sketch_hash.parquet.reader import contain_hashes, false_positive_rate
 from thrift_tree import TType, chunk_of, join, metadata_of, split
 
 numpy = pytest.importorskip("numpy")
@@ -70,6 +73,52 @@ def test_a_file_may_be_open_or_in_memory():
     for file in (io.BytesIO(memory), memory, open(FILTERS, "rb"), open(FILTERS, "rb", buffering=0), str(FILTERS)):
         assert 1 in parquet.may_contain(file, "string", "fox 8") and len(parquet.filters(file)) == 3 * len(VALUES)
         assert "fox 8" in parquet.read_filter(file, 1, "string")
+
+
+def test_a_reader_finds_many_values_in_few_reads():
+    read = []
+
+    class Counted(io.BytesIO):
+        def read(self, length):
+            read.append(length)
+            return super().read(length)
+
+    rows = [i for i in range(24) if i % 8 != 5]
+    with parquet.open(Counted(FILTERS.read_bytes())) as reader:
+        found = reader.may_contain("string", [f"fox {i}" for i in rows])
+        assert len(read) == 4 and reader.may_contain("string", ["none"]) == [[]] and len(read) == 5
+        assert reader.filters() == parquet.filters(FILTERS) and "fox 8" in reader.read_filter(1, "string")
+    assert all(i // 8 in groups for i, groups in zip(rows, found)) and sum(map(len, found)) < 25
+
+
+def test_large_filters_are_asked_by_their_blocks(tmp_path):
+    """The same filter, repeated to a file, has the same answers whole and in blocks."""
+    filter = BloomFilter.for_keys(100_000)
+    keys = [str(i) for i in range(2000)]
+    filter.add_each(column(keys[:1000]))
+    (tmp_path / "a").write_bytes(filter.to_bytes() * 3)
+    hashes = array.array("Q", map(xxh64_intdigest, map(str.encode, keys)))
+    with open(tmp_path / "a", "rb") as file:
+        source, places = Source(file), [(filter.num_bytes * i, filter.num_bytes) for i in range(3)]
+        whole = [list(found) for found in contain_hashes(source, places, hashes)]
+        parts = [[list(found) for found in contain_hashes(source, places, hashes[i:i + 1])] for i in range(len(keys))]
+    assert filter.num_bytes > source.gap and whole == [list(filter.contains_each(column(keys)))] * 3
+    assert [[it[group][0] for it in parts] for group in range(3)] == whole
+
+
+def test_a_reader_that_is_closed_reads_no_other_file():
+    with parquet.open(FILTERS) as reader:
+        pass
+    with open(ODD, "rb"), pytest.raises(ValueError, match="closed file"):  # it may have the same descriptor
+        reader.may_contain("string", ["fox 8"])
+
+
+def test_a_rate_is_that_of_the_bits():
+    filter = BloomFilter.for_keys(1000)
+    filter.add_each(column(map(str, range(1000))))
+    blocks = [filter.to_bytes()[i:i + 32] for i in range(0, filter.num_bytes, 32)]
+    rates = [math.prod(bin(word).count("1") / 32 for word in array.array("I", block)) for block in blocks]
+    assert false_positive_rate(filter.to_bytes()) == pytest.approx(sum(rates) / len(rates)) and 0.001 < rates[0] < 0.1
 
 
 class Slow(io.BytesIO):
@@ -142,6 +191,19 @@ def test_each_form_of_zero_is_looked_for():
         assert all(0 in parquet.may_contain(FILTERS, name, value) for value in values)
 
 
+def test_a_number_that_float_cannot_have_finds_those_around_it():
+    """As DuckDB finds 0.1, which it converts. The filters have 0.25 in the first row group, and 2.25 in the second."""
+    for value, group in ((0.25 + 1e-12, 0), (0.25 - 1e-12, 0), (0.25, 0), (2.25 + 2e-7, 1), (numpy.float32(0.25), 0)):
+        assert group in parquet.may_contain(FILTERS, "float", value)
+    assert parquet.may_contain(FILTERS, "float", 1e300) == []
+
+
+def test_a_list_of_one_column_is_asked_by_its_own_name():
+    assert parquet.may_contain(FILTERS, "list", 100) == parquet.may_contain(FILTERS, "list.list.element", 100) == [0]
+    with pytest.raises(ValueError, match="^the name of a column must be that of one alone: struct is of struct.x, struct.y$"):
+        parquet.may_contain(FILTERS, "struct", 5)
+
+
 class Timestamp(datetime.datetime):
     nanosecond = 7  # as pandas has it
 
@@ -152,7 +214,8 @@ def test_nanoseconds_of_pandas_count():
 
 
 @pytest.mark.parametrize("call, error, text", [
-    (lambda: parquet.may_contain(FILTERS, "none", 1), ValueError, "must be one of int8, uint16, .* not none"),
+    (lambda: parquet.may_contain(FILTERS, "none", 1), ValueError, "must be one of int8, (\\w+, ){9}.., not none"),
+    (lambda: parquet.open(FILTERS).may_contain("string", "fox"), TypeError, "must be a list of values, as .42., not one"),
     (lambda: parquet.may_contain(ODD, "x.y", 1), ValueError, "that of one alone: x.y is of x.y, x.y"),
     (lambda: parquet.read_filter(FILTERS, 3, "int8"), IndexError, "a row group must be from 0 to 2, not 3"),
     (lambda: parquet.read_filter(FILTERS, -1, "int8"), IndexError, "a row group must be from 0 to 2, not -1"),
@@ -160,7 +223,7 @@ def test_nanoseconds_of_pandas_count():
     (lambda: parquet.may_contain(io.BytesIO(b"PAR1"), "x", 1), ValueError, "must be a Parquet file"),
     (lambda: parquet.may_contain(io.BytesIO(b""), "x", 1), ValueError, "must be a Parquet file"),
     (lambda: parquet.may_contain(DATA / "none", "x", 1), FileNotFoundError, "none"),
-], ids=range(8))
+], ids=range(9))
 def test_another_question_is_an_error(call, error, text):
     with pytest.raises(error, match=text):
         call()
@@ -369,6 +432,89 @@ def test_a_file_is_replaced_with_its_mode_and_behind_its_link(copy, tmp_path):
     assert len(parquet.filters(copy)) == 6
 
 
+def test_a_file_does_not_grow_with_each_night(copy):
+    parquet.add_filters(copy, copy, ["plain", "b"])
+    after, filters = copy.read_bytes(), parquet.filters(copy)
+    for names in (["b"], ["plain"], ["plain", "b"], ["b"]):
+        parquet.add_filters(copy, copy, names, replace=True)
+        assert len(copy.read_bytes()) == len(after) and parquet.filters(copy) == filters
+        assert all(i // 8 in parquet.may_contain(copy, name, f"fox {i}") for i in range(24) for name in ("plain", "b"))
+    parquet.add_filters(copy, copy, ["plain", "b"], replace=True)
+    assert copy.read_bytes() == after  # of the first night
+
+
+def move_pages(fields):
+    metadata_of(fields, 2, 0)[9] = TType.I64, 10**6
+
+
+def share_filter(fields):
+    metadata_of(fields, 2, 0).update({number: metadata_of(fields, 2, 5)[number] for number in (OFFSET, LENGTH)})
+
+
+@pytest.mark.parametrize("change", [
+    move_pages, share_filter, lambda fields: metadata_of(fields, 1, 0).update({OFFSET: (TType.I64, -1)}),
+    lambda fields: set_path(fields, 2, 0), lambda fields: chunk_of(fields, 2, 0).update(
+        {4: (TType.I64, 10**6), 5: (TType.I32, 100)}),
+], ids=["pages", "filter of two columns", "damaged filter", "other file", "index"])
+def test_bytes_that_the_footer_needs_are_not_cut_off(change, copy):
+    """The columns plain and b are the sixth and seventh."""
+    parquet.add_filters(copy, copy, ["plain", "b"])
+    copy.write_bytes(changed(copy, change).read())
+    before = copy.read_bytes()[:footer_of(copy).start]
+    parquet.add_filters(copy, copy, ["plain", "b"], replace=True)
+    assert copy.read_bytes().startswith(before) and parquet.may_contain(copy, "b", "fox 9") == [1]
+
+
+def test_filters_that_are_there_are_skipped(copy):
+    parquet.add_filters(copy, copy, ["plain"])
+    status = copy.stat()
+    assert parquet.add_filters(copy, copy, ["plain"], skip_existing=True) == 0 and copy.stat() == status
+    copy.write_bytes(changed(copy, lambda fields: [metadata_of(fields, 1, 5).pop(it) for it in (OFFSET, LENGTH)]).read())
+    parquet.add_filters(copy, copy, ["plain", "b"], skip_existing=True)
+    assert len(parquet.filters(copy)) == 6 and parquet.may_contain(copy, "plain", "fox 9") == [1]
+    with pytest.raises(ValueError, match="replaced or skipped, not both"):
+        parquet.add_filters(copy, copy, ["plain"], skip_existing=True, replace=True)
+
+
+@pytest.mark.parametrize("folder, file", [("..", "_delta_log/0.json"), (".", "_delta_log/0.json"),
+                                          ("..", "metadata/v1.metadata.json"), ("..", "metadata/00-a.gz.metadata.json")])
+def test_a_file_of_a_table_is_not_changed_in_place(folder, file, copy, tmp_path):
+    data = tmp_path / "data"
+    data.mkdir()
+    mark = data / folder / file
+    mark.parent.mkdir()
+    mark.touch()
+    table = shutil.copy(copy, data)
+    with pytest.raises(ValueError, match="^the file to replace must not be of a table, as that of Delta Lake or Iceberg in"):
+        parquet.add_filters(table, table, ["plain"])
+    assert pathlib.Path(table).read_bytes() == ODD.read_bytes()
+    assert parquet.add_filters(table, data / "b.parquet", ["plain"]) > 0
+
+
+def count(values):
+    return lambda fields: [metadata_of(fields, group, 5).update({VALUE_COUNT: (TType.I64, values)}) for group in range(3)]
+
+
+def test_a_filter_is_no_larger_than_it_may_be(copy, tmp_path, monkeypatch):
+    copy.write_bytes(changed(ODD, count(2**40)).read())
+    assert parquet.add_filters(copy, tmp_path / "b", ["plain"]) < 1000  # the values are few
+    with pytest.warns(UserWarning, match="^the filters of plain help little: max_bytes is too small for them$"):
+        monkeypatch.setattr(writer, "stored_values", lambda *_: ((i, [column(map(str, range(999)))]) for i in range(3)))
+        parquet.add_filters(copy, tmp_path / "b", ["plain"], max_bytes=255)
+    assert set(parquet.filters(tmp_path / "b").values()) == {128}
+    monkeypatch.setattr(writer, "MOST_BYTES", 64)
+    with pytest.raises(ValueError, match="^the column plain has too many values in row group 0 for a filter of 128 MiB"):
+        parquet.add_filters(copy, tmp_path / "c", ["plain"])
+    with pytest.raises(ValueError, match="^max_bytes must be at least 32, not 31$"):
+        parquet.add_filters(copy, tmp_path / "c", ["plain"], max_bytes=31)
+
+
+def test_a_column_whose_row_groups_are_alike_is_named(copy, monkeypatch):
+    monkeypatch.setattr(writer, "stored_values", lambda *_: ((i, [column(["x", "y"][:3 - i])]) for i in range(3)))
+    with pytest.warns(UserWarning, match="^the filters of plain help little: all row groups have the same values$"):
+        parquet.add_filters(copy, copy, ["plain"])
+
+
 def sign(fields):
     fields[8] = TType.STRUCT, {1: (TType.STRUCT, {})}
 
@@ -516,7 +662,8 @@ def test_a_missing_pyarrow_is_named(copy, tmp_path, monkeypatch):
 
 
 def run(*args):
-    return subprocess.run([sys.executable, "-m", "sketch_hash.parquet", *args], capture_output=True, text=True)
+    command = [sys.executable, "-m", "sketch_hash.parquet", *map(str, args)]
+    return subprocess.run(command, capture_output=True, text=True)
 
 
 @pytest.mark.parametrize("args, status, text", [
@@ -525,9 +672,40 @@ def run(*args):
     (["add", "-c", "x", "-o", "y", ODD, ODD], 2, "--output must come with one FILE"),
 ], ids=range(4))
 def test_the_command_reports_errors(args, status, text):
-    done = run(*map(str, args))
+    done = run(*args)
     assert done.returncode == status and done.stdout == ""
     assert re.search(text, done.stderr)
+
+
+def test_the_command_shows_and_asks():
+    done = run("show", FILTERS)
+    rows = [line.split("\t") for line in done.stdout.splitlines()]
+    assert {(int(group), name): int(num_bytes) for _, group, name, num_bytes, _ in rows} == parquet.filters(FILTERS)
+    assert done.returncode == 0 and all(float(rate) < 0.01 for *_, rate in rows)
+    for name, text, groups in (
+        ("int32", "8000", "1: 1"), ("double", "1.6", "1: 2"), ("string", "fox 8", "1: 1"), ("date", "2026-01-02", "1: 0"),
+        ("us_utc", "2026-01-01T01:01:01.000003", "1: 0"), ("decimal9", "0.04", "1: 0"), ("uuid", str(uuid.UUID(int=8)), "1: 1"),
+        ("fixed", b"0008".hex(), "1: 1"), ("time_us", "01:02:03.000009", "1: 1"), ("int32", "5", "0"),
+    ):
+        done = run("ask", FILTERS, name, text)
+        shown = groups.replace(":", " of 3 row groups:") if ":" in groups else "0 of 3 row groups"
+        assert done.stdout == f"{FILTERS}: {shown}\n" and done.returncode == (0 if ":" in groups else 3)
+    assert "the column int32 cannot have 'fox'" in run("ask", FILTERS, "int32", "fox").stderr
+
+
+def test_the_command_takes_folders_and_its_status_tells_what_is_wrong(tmp_path):
+    for name in ("a.parquet", "year=2026/b.parquet", "_x/c.parquet", ".d.parquet", "e.txt"):
+        (tmp_path / name).parent.mkdir(exist_ok=True)
+        shutil.copy(ODD, tmp_path / name)
+    done = run("check", tmp_path, "--jobs", 2)
+    assert done.stdout == f"{tmp_path}/a.parquet: no filters\n{tmp_path}/year=2026/b.parquet: no filters\n"
+    assert done.returncode == 3 and done.stderr == "" and run("ask", tmp_path / "a.parquet", "plain", "x").returncode == 0
+    (tmp_path / "a.parquet").write_bytes(b"junk")
+    done = run("show", tmp_path, tmp_path / "none")
+    assert done.returncode == 1 and len(done.stderr.splitlines()) == 2 and done.stdout.endswith("b.parquet: no filters\n")
+    (tmp_path / "empty").mkdir()
+    done = run("add", "-c", "plain", tmp_path / "empty")
+    assert done.returncode == 3 and "no file ends in .parquet" in done.stderr
 
 
 # ---- With pyarrow and DuckDB

@@ -55,9 +55,11 @@ def add_options(command):
 
 
 def run(args):
-    statuses = set()
+    statuses, files = set(), list(dict.fromkeys(files_of(args.files)))
+    if not files:
+        print("sketch_hash.parquet: no file ends in .parquet", file=sys.stderr)
     try:
-        for status, text in each(functools.partial(run_on, args), list(dict.fromkeys(files_of(args.files))), args.jobs):
+        for status, text in each(functools.partial(run_on, args), files, args.jobs):
             statuses.add(status)
             if status in (FAILED, WRONG):
                 print(f"{CLEAR}sketch_hash.parquet: {text}", file=sys.stderr)
