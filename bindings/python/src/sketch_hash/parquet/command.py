@@ -10,6 +10,7 @@ import multiprocessing
 import os
 import signal
 import sys
+import threading
 import warnings
 
 from .keys import parse
@@ -82,8 +83,13 @@ def each(task, files, jobs):
     if jobs == 1:
         yield from map(task, files)
         return
-    with concurrent.futures.ProcessPoolExecutor(jobs, multiprocessing.get_context("spawn")) as pool:
+    with concurrent.futures.ProcessPoolExecutor(jobs, multiprocessing.get_context("spawn"), end_with_parent) as pool:
         yield from pool.map(task, files)
+
+
+def end_with_parent():
+    """Ends this process if the one that started it is killed: it would wait for more work for ever."""
+    threading.Thread(target=lambda: (multiprocessing.parent_process().join(), os._exit(FAILED)), daemon=True).start()
 
 
 def files_of(paths):
