@@ -27,7 +27,8 @@ from sketch_hash import BloomFilter, column, parquet, xxh64_intdigest
 from sketch_hash.parquet import values as parquet_values
 from sketch_hash.parquet import writer
 from sketch_hash.parquet.files import Source
-from sketch_hash.parquet.footer import LENGTH, OFFSET, VALUES as VALUE_COUNT, Footer
+from sketch_hash.parquet.footer import BYTE_ARRAY, LENGTH, OFFSET, VALUES as VALUE_COUNT, Footer
+from sketch_hash.parquet.keys import keys_of, parse
 from sketch_hash.parquet.reader import contain_hashes, false_positive_rate
 from thrift_tree import TType, chunk_of, join, metadata_of, split
 
@@ -385,6 +386,11 @@ def copy(tmp_path, monkeypatch):
     return pathlib.Path(shutil.copy(ODD, tmp_path / "a.parquet"))
 
 
+def meanwhile(monkeypatch, act):
+    """Runs act() when values are to be read."""
+    monkeypatch.setattr(writer, "stored_values", lambda *args: [act(), texts(*args)][1])
+
+
 def test_all_but_the_places_of_the_filters_stays_as_it_is(copy, tmp_path):
     target = tmp_path / "b.parquet"
     assert parquet.add_filters(copy, target, ["plain", "b"]) == sum(parquet.filters(target).values()) + 15 * 6
@@ -461,7 +467,7 @@ def test_bytes_that_the_footer_needs_are_not_cut_off(change, copy):
     parquet.add_filters(copy, copy, ["plain", "b"])
     copy.write_bytes(changed(copy, change).read())
     before = copy.read_bytes()[:footer_of(copy).start]
-    parquet.add_filters(copy, copy, ["plain", "b"], replace=True)
+    parquet.add_filters(copy, copy, ["plain", "b"], replace=True, error_rate=1e-6)
     assert copy.read_bytes().startswith(before) and parquet.may_contain(copy, "b", "fox 9") == [1]
 
 
@@ -476,19 +482,15 @@ def test_filters_that_are_there_are_skipped(copy):
         parquet.add_filters(copy, copy, ["plain"], skip_existing=True, replace=True)
 
 
-@pytest.mark.parametrize("folder, file", [("..", "_delta_log/0.json"), (".", "_delta_log/0.json"),
-                                          ("..", "metadata/v1.metadata.json"), ("..", "metadata/00-a.gz.metadata.json")])
-def test_a_file_of_a_table_is_not_changed_in_place(folder, file, copy, tmp_path):
-    data = tmp_path / "data"
-    data.mkdir()
-    mark = data / folder / file
-    mark.parent.mkdir()
-    mark.touch()
-    table = shutil.copy(copy, data)
+@pytest.mark.parametrize("mark", ["_delta_log/0.json", "data/_delta_log/0.json", "metadata/v1.metadata.json"])
+def test_a_file_of_a_table_is_not_changed_in_place(mark, copy, tmp_path):
+    for folder in ((tmp_path / "data"), (tmp_path / mark).parent):
+        folder.mkdir(exist_ok=True)
+    (tmp_path / mark).touch()
+    table = copy.rename(tmp_path / "data/a.parquet")
     with pytest.raises(ValueError, match="^the file to replace must not be of a table, as that of Delta Lake or Iceberg in"):
         parquet.add_filters(table, table, ["plain"])
-    assert pathlib.Path(table).read_bytes() == ODD.read_bytes()
-    assert parquet.add_filters(table, data / "b.parquet", ["plain"]) > 0
+    assert table.read_bytes() == ODD.read_bytes() and parquet.add_filters(table, tmp_path / "data/b.parquet", ["plain"]) > 0
 
 
 def count(values):
@@ -552,11 +554,7 @@ def test_an_error_while_values_are_read_leaves_the_target(copy, tmp_path, monkey
 
 
 def test_a_file_that_changes_meanwhile_is_an_error(copy, tmp_path, monkeypatch):
-    def other_values(*args):
-        os.replace(shutil.copy(FILTERS, tmp_path / "b"), copy)
-        return texts(*args)
-
-    monkeypatch.setattr(writer, "stored_values", other_values)
+    meanwhile(monkeypatch, lambda: os.replace(shutil.copy(FILTERS, tmp_path / "b"), copy))
     with pytest.raises(ValueError, match="^the file must not change while it is read$"):
         parquet.add_filters(copy, copy, ["plain"])
     assert copy.read_bytes() == FILTERS.read_bytes() and os.listdir(tmp_path) == ["a.parquet"]
@@ -568,36 +566,34 @@ def test_a_target_that_changes_meanwhile_is_not_overwritten(old, copy, tmp_path,
     if old:
         target.write_bytes(old)
 
-    def write_to_target(*args):
-        target.write_bytes(b"other data")
-        return texts(*args)
-
-    monkeypatch.setattr(writer, "stored_values", write_to_target)
+    meanwhile(monkeypatch, lambda: target.write_bytes(b"other data"))
     with pytest.raises(ValueError, match="^the file to replace must not change while its successor is written$"):
         parquet.add_filters(copy, target, ["plain"])
     assert target.read_bytes() == b"other data" and set(os.listdir(tmp_path)) == {"a.parquet", "b.parquet"}
 
 
-@pytest.mark.parametrize("has_locks", [True, False])
-def test_of_two_runs_on_one_file_one_fails(has_locks, copy, monkeypatch):
-    def second_run(*args):
+def test_of_two_runs_on_one_file_the_second_fails(copy, monkeypatch):
+    def second_run():
         monkeypatch.setattr(writer, "stored_values", texts)
-        if has_locks:
-            with pytest.raises(ValueError, match="^another run is replacing the file$"):
-                parquet.add_filters(copy, copy, ["b"])
-        else:
+        with pytest.raises(ValueError, match="^another run is replacing the file$"):
             parquet.add_filters(copy, copy, ["b"])
-        return texts(*args)
 
-    monkeypatch.setattr(writer, "stored_values", second_run)
-    if has_locks:
-        parquet.add_filters(copy, copy, ["plain"])
+    meanwhile(monkeypatch, second_run)
+    parquet.add_filters(copy, copy, ["plain"])
+    parquet.add_filters(copy, copy, ["b"])
+    assert {name for _, name in parquet.filters(copy)} == {"plain", "b"}
+
+
+def test_of_two_runs_on_one_file_the_first_fails_if_there_are_no_locks(copy, monkeypatch):
+    def second_run():
+        monkeypatch.setattr(writer, "stored_values", texts)
         parquet.add_filters(copy, copy, ["b"])
-    else:
-        monkeypatch.setattr("fcntl.flock", lambda *_: os.stat("/none"))
-        with pytest.raises(ValueError, match="must not change"):
-            parquet.add_filters(copy, copy, ["plain"])
-    assert {name for _, name in parquet.filters(copy)} == ({"plain", "b"} if has_locks else {"b"})
+
+    meanwhile(monkeypatch, second_run)
+    monkeypatch.setattr("fcntl.flock", lambda *_: os.stat("/none"))
+    with pytest.raises(ValueError, match="must not change"):
+        parquet.add_filters(copy, copy, ["plain"])
+    assert {name for _, name in parquet.filters(copy)} == {"b"}
 
 
 def test_what_others_put_in_place_of_the_new_file_is_not_touched(copy, tmp_path, monkeypatch):
@@ -605,13 +601,12 @@ def test_what_others_put_in_place_of_the_new_file_is_not_touched(copy, tmp_path,
     secret.write_bytes(b"key")
     secret.chmod(0o600)
 
-    def put_a_link(*args):
+    def put_a_link():
         new, = tmp_path.glob(".sketch_hash-*")
         new.unlink()
         new.symlink_to(secret)
-        return texts(*args)
 
-    monkeypatch.setattr(writer, "stored_values", put_a_link)
+    meanwhile(monkeypatch, put_a_link)
     with pytest.raises(ValueError, match="^the file to replace must not change"):
         parquet.add_filters(copy, copy, ["plain"])
     assert secret.read_bytes() == b"key" and stat.S_IMODE(secret.stat().st_mode) == 0o600
@@ -677,20 +672,25 @@ def test_the_command_reports_errors(args, status, text):
     assert re.search(text, done.stderr)
 
 
+def test_a_command_line_has_the_values_of_each_type():
+    texts = {"time_ms": "01:02:00.003", "ms": "2026-01-01 01:01:00", "us_utc": "2026-01-01T01:01:01", "fixed": b"0000".hex()}
+    for leaf in footer_of(FILTERS).columns():
+        if leaf.name != "binary":
+            value = VALUES[leaf.name](0)
+            assert keys_of(parse(texts.get(leaf.name, str(value)), leaf), leaf) == keys_of(value, leaf)
+            if leaf.kind.type != BYTE_ARRAY:
+                pytest.raises(ValueError, parse, "dog", leaf).match("cannot have 'dog'$")
+
+
 def test_the_command_shows_and_asks():
     done = run("show", FILTERS)
     rows = [line.split("\t") for line in done.stdout.splitlines()]
     assert {(int(group), name): int(num_bytes) for _, group, name, num_bytes, _ in rows} == parquet.filters(FILTERS)
     assert done.returncode == 0 and all(float(rate) < 0.01 for *_, rate in rows)
-    for name, text, groups in (
-        ("int32", "8000", "1: 1"), ("double", "1.6", "1: 2"), ("string", "fox 8", "1: 1"), ("date", "2026-01-02", "1: 0"),
-        ("us_utc", "2026-01-01T01:01:01.000003", "1: 0"), ("decimal9", "0.04", "1: 0"), ("uuid", str(uuid.UUID(int=8)), "1: 1"),
-        ("fixed", b"0008".hex(), "1: 1"), ("time_us", "01:02:03.000009", "1: 1"), ("int32", "5", "0"),
-    ):
-        done = run("ask", FILTERS, name, text)
-        shown = groups.replace(":", " of 3 row groups:") if ":" in groups else "0 of 3 row groups"
-        assert done.stdout == f"{FILTERS}: {shown}\n" and done.returncode == (0 if ":" in groups else 3)
-    assert "the column int32 cannot have 'fox'" in run("ask", FILTERS, "int32", "fox").stderr
+    found, absent, wrong = (run("ask", FILTERS, "int32", text) for text in ("8000", "5", "fox"))
+    assert found.stdout == f"{FILTERS}: 1 of 3 row groups: 1\n" and absent.stdout == f"{FILTERS}: 0 of 3 row groups\n"
+    assert (found.returncode, absent.returncode, wrong.returncode) == (0, 3, 1)
+    assert "the column int32 cannot have 'fox'" in wrong.stderr
 
 
 def test_the_command_takes_folders_and_its_status_tells_what_is_wrong(tmp_path):
@@ -699,7 +699,7 @@ def test_the_command_takes_folders_and_its_status_tells_what_is_wrong(tmp_path):
         shutil.copy(ODD, tmp_path / name)
     done = run("check", tmp_path, "--jobs", 2)
     assert done.stdout == f"{tmp_path}/a.parquet: no filters\n{tmp_path}/year=2026/b.parquet: no filters\n"
-    assert done.returncode == 3 and done.stderr == "" and run("ask", tmp_path / "a.parquet", "plain", "x").returncode == 0
+    assert done.returncode == 3 and done.stderr == ""
     (tmp_path / "a.parquet").write_bytes(b"junk")
     done = run("show", tmp_path, tmp_path / "none")
     assert done.returncode == 1 and len(done.stderr.splitlines()) == 2 and done.stdout.endswith("b.parquet: no filters\n")
@@ -770,6 +770,8 @@ def test_the_command_adds_and_checks(pa, tmp_path):
     file = str(shutil.copy(ODD, tmp_path / "a"))
     assert run("add", "-c", "plain", "-c", "b", "-e", "0.1", file).stdout == f"{file}: 282 bytes of filters\n"
     assert run("check", file).stdout == f"{file}: 6 filters have all values\n"
+    assert run("add", "-c", "plain", "--skip-existing", "--jobs", 2, tmp_path / "a").stdout == f"{file}: nothing to add\n"
+    assert run("add", "-c", "plain", "-m", "64", "--replace", file).stdout == f"{file}: 141 bytes of filters\n"
     place = footer_of(file).find(["b"])[0].place(1)[0] + 15
     with open(file, "r+b") as opened:  # an empty filter
         opened.seek(place)

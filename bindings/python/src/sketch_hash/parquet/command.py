@@ -41,6 +41,9 @@ def main():
     args = parser.parse_args()
     if args.command == "add" and args.output and (len(args.files) > 1 or os.path.isdir(args.files[0])):
         parser.error("--output must come with one FILE")
+    if args.jobs < 1:
+        parser.error("--jobs must be at least 1")
+    sys.stdout.reconfigure(errors="surrogateescape")  # a name may be any bytes
     signal.signal(signal.SIGTERM, lambda *_: sys.exit(128 + signal.SIGTERM))  # so the file in work is removed
     return run(args)
 
