@@ -60,7 +60,7 @@ class BloomFilterReader:
         A value is that of pyarrow: a str, bytes, a number, a date, time or datetime, a Decimal, a UUID. A value that the
         column cannot have, such as 2**40 in INT32, is in no row group.
         """
-        if isinstance(values, (str, bytes)):
+        if isinstance(values, (str, bytes)) or not hasattr(values, "__iter__"):
             raise TypeError("values must be a list of values, as [42], not one value")
         if column not in self.asked:
             found, = self.footer.find([column])

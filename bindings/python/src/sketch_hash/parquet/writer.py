@@ -41,8 +41,8 @@ def add_filters(source, target, columns, *, error_rate=0.01, max_bytes=None, rep
     with open_file(source) as file:
         status, reader = os.fstat(file.fileno()), BloomFilterReader(file)
         chosen = reader.footer.find(names)
-        check_columns(reader.footer, names, chosen, replace or skip_existing)
-        todo = [(column, missing(column, skip_existing)) for column in chosen]
+        check_columns(reader.footer, names, chosen)
+        todo = [(column, groups_to_fill(column, replace, skip_existing)) for column in chosen]
         total = sum(len(groups) for _, groups in todo)
         if total == 0 and os.path.exists(target) and os.path.samefile(source, target):
             return 0
@@ -82,7 +82,7 @@ def copy(source, output, begin, end):
         begin += len(piece)
 
 
-def check_columns(footer, names, columns, may_have_filters):
+def check_columns(footer, names, columns):
     if footer.is_signed:
         raise ValueError("the footer must not be signed: each change would break its signature")
     if not names or len({column.index for column in columns}) < len(names):
@@ -91,14 +91,14 @@ def check_columns(footer, names, columns, may_have_filters):
         reason = column.kind.why_no_filter()
         if reason:
             raise ValueError(f"the column {column.name} must not be {reason}")
-        if column.groups_with_filters() and not may_have_filters:
-            raise ValueError(f"the column {column.name} has filters: replace them by replace=True, or --replace, "
-                             "or keep them by skip_existing=True, or --skip-existing")
 
 
-def missing(column, skip_existing):
-    existing = set(column.groups_with_filters()) if skip_existing else ()
-    return [group for group in range(column.footer.groups) if group not in existing]
+def groups_to_fill(column, replace, skip_existing):
+    existing = set(column.groups_with_filters())
+    if existing and not replace and not skip_existing:
+        raise ValueError(f"the column {column.name} has filters: replace them by replace=True, or --replace, "
+                         "or keep them by skip_existing=True, or --skip-existing")
+    return [group for group in range(column.footer.groups) if replace or group not in existing]
 
 
 def unused_end(reader, replaced_columns):
