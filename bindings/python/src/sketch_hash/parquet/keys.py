@@ -56,7 +56,7 @@ def is_missing(value):
 def of_float(value, format):
     """A query engine converts the value to the column's type, as 0.1 to FLOAT, and need not round to the nearest number.
     So a value that the type lacks has the keys of the two numbers around it."""
-    if not isinstance(value, numbers.Real):
+    if not isinstance(value, (numbers.Real, decimal.Decimal)):
         raise TypeError("it must be a number")
     try:
         key = struct.pack(format, value)
