@@ -102,24 +102,26 @@ def groups_to_fill(column, replace, skip_existing):
 
 
 def unused_end(reader, replaced_columns):
-    """Where the filters begin that are the last before the footer, and those of them that stay: (begin, end, column,
-    group). Nothing else of the file may be there. If that is not certain, none is moved."""
-    footer, last, kept = reader.footer, reader.footer.start, []
+    """Where the first filter begins that is replaced, if only filters are from there to the footer; and those of them that
+    stay: (begin, end, column, group). Else the footer, and none."""
+    footer, run, begin = reader.footer, [], reader.footer.start
     columns, groups = [*footer.columns()], range(footer.groups)
     indexes = {column.index for column in replaced_columns}
     try:
         filters = [(column.place(group)[0], sum(place), column, group) for column in columns
                    for group, place in zip(groups, places_of(reader.source, footer, column, groups)) if place]
-        filters.sort(key=itemgetter(1))
-        while filters and filters[-1][1] == last:
-            last = filters[-1][0]
-            kept.append(filters.pop())
         end = max((column.end(group) for column in columns for group in groups), default=0)
     except ValueError:  # a filter or a part of the footer is damaged, or belongs to another file
         return footer.start, []
-    if end > last or filters and filters[-1][1] > last:
+    filters.sort(key=itemgetter(1))
+    while filters and filters[-1][1] == begin:
+        begin = filters[-1][0]
+        run.append(filters.pop())
+    while run and run[-1][2].index not in indexes:
+        begin = run.pop()[1]
+    if end > begin or filters and filters[-1][1] > begin:
         return footer.start, []
-    return last, [filter for filter in reversed(kept) if filter[2].index not in indexes]
+    return begin, [filter for filter in reversed(run) if filter[2].index not in indexes]
 
 
 def new_filters(file, footer, todo, builder):
