@@ -94,7 +94,7 @@ def test_a_reader_finds_many_values_in_few_reads():
 
 def test_large_filters_are_asked_by_their_blocks(tmp_path):
     """The same filter, repeated to a file, has the same answers whole and in blocks."""
-    filter = BloomFilter.for_keys(100_000)
+    filter = BloomFilter(32 * 3001)
     keys = [str(i) for i in range(2000)]
     filter.add_each(column(keys[:1000]))
     (tmp_path / "a").write_bytes(filter.to_bytes() * 3)
@@ -194,7 +194,8 @@ def test_each_form_of_zero_is_looked_for():
 
 def test_a_number_that_float_cannot_have_finds_those_around_it():
     """As DuckDB finds 0.1, which it converts. The filters have 0.25 in the first row group, and 2.25 in the second."""
-    for value, group in ((0.25 + 1e-12, 0), (0.25 - 1e-12, 0), (0.25, 0), (2.25 + 2e-7, 1), (numpy.float32(0.25), 0)):
+    for value, group in ((0.25 + 1e-12, 0), (0.25 - 1e-12, 0), (0.25, 0), (2.25 + 2e-7, 1), (numpy.float32(0.25), 0),
+                         (decimal.Decimal("0.25"), 0)):
         assert group in parquet.may_contain(FILTERS, "float", value)
     assert parquet.may_contain(FILTERS, "float", 1e300) == []
 
