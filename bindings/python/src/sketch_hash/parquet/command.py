@@ -116,7 +116,7 @@ def run_on(args, file):
     except FilterError as error:
         return WRONG, f"{file}: {error}"
     except Exception as error:
-        return FAILED, f"{file}: {error or type(error).__name__}"
+        return FAILED, f"{file}: {' '.join(str(error).split()) or type(error).__name__}"
 
 
 def add(args, file):
