@@ -128,13 +128,14 @@ class Footer:
     """The footer of a file. `start` is where it begins, `groups` and `width` how many row groups and columns it has."""
 
     def __init__(self, source):
-        tail = source.read(max(source.size - 8, 0), min(source.size, 8))
-        if tail[4:] == b"PARE":
+        tail = source.read(max(source.size - source.gap, 0), min(source.size, source.gap))
+        length = int.from_bytes(tail[-8:-4], "little")
+        self.start = source.size - 8 - length
+        if tail[-4:] == b"PARE":
             raise ValueError("the footer must not be encrypted")
-        self.start = source.size - 8 - int.from_bytes(tail[:4], "little")
-        if tail[4:] != b"PAR1" or self.start < 4:
+        if tail[-4:] != b"PAR1" or self.start < 4:
             raise ValueError("the file must be a Parquet file: its end is damaged")
-        self.data = source.read(self.start, source.size - 8 - self.start)
+        self.data = tail[-8 - length:-8] if length + 8 <= len(tail) else source.read(self.start, length)
         # Numbers in arrays: an object for each takes ten times as much as a part of a damaged footer may.
         self.rows, self.chunks = array.array("q"), array.array("Q")
         self.is_signed, self.schema = False, None  # where the list of the schema's elements begins
