@@ -104,7 +104,7 @@ def test_large_filters_are_asked_by_their_blocks(tmp_path):
         whole = [list(found) for found in contain_hashes(source, places, hashes)]
         parts = [[list(found) for found in contain_hashes(source, places, hashes[i:i + 1])] for i in range(len(keys))]
     assert filter.num_bytes > source.gap and whole == [list(filter.contains_each(column(keys)))] * 3
-    assert [[it[group][0] for it in parts] for group in range(3)] == whole
+    assert [[part[group][0] for part in parts] for group in range(3)] == whole
 
 
 def test_a_reader_that_is_closed_reads_no_other_file():
@@ -244,12 +244,11 @@ def changed(file, change):
 
 
 @pytest.mark.parametrize("change", [
-    lambda it: it.update({OFFSET: (TType.I64, -1)}), lambda it: it.update({OFFSET: (TType.I64, 2**62)}),
-    lambda it: it.update({OFFSET: (TType.I64, 4)}), lambda it: it.update({LENGTH: (TType.I32, 5)}),
-    lambda it: it.update({OFFSET: (TType.I32, 4)}),
+    {OFFSET: (TType.I64, -1)}, {OFFSET: (TType.I64, 2**62)}, {OFFSET: (TType.I64, 4)}, {LENGTH: (TType.I32, 5)},
+    {OFFSET: (TType.I32, 4)},
 ], ids=["negative", "past the end", "no filter", "length", "type"])
 def test_a_wrong_place_of_a_filter_is_an_error(change):
-    file = changed(FILTERS, lambda fields: change(metadata_of(fields, 1, 2)))
+    file = changed(FILTERS, lambda fields: metadata_of(fields, 1, 2).update(change))
     for call in (lambda: parquet.may_contain(file, "int32", 1), lambda: parquet.read_filter(file, 1, "int32"),
                  lambda: parquet.filters(file)):
         with pytest.raises(ValueError):
@@ -292,7 +291,7 @@ def structs(*items):
 
 def element(name, **fields):
     numbers = {"type": 1, "length": 2, "children": 5}
-    return {4: (TType.STRING, name), **{numbers[key]: (TType.I32, it) for key, it in fields.items()}}
+    return {4: (TType.STRING, name), **{numbers[key]: (TType.I32, value) for key, value in fields.items()}}
 
 
 ROOT, LEAF = element(b"root", children=1), element(b"a", type=1)
@@ -366,7 +365,7 @@ def test_a_damaged_footer_raises_value_and_type_errors_alone():
         wrong = data.copy()
         for _ in range(rng.randint(1, 3)):
             wrong[rng.randrange(start, len(wrong))] = rng.randrange(256)
-        for call in (lambda it: parquet.may_contain(it, "string", "fox 8"), parquet.filters):
+        for call in (lambda file: parquet.may_contain(file, "string", "fox 8"), parquet.filters):
             try:
                 call(io.BytesIO(wrong))
             except (ValueError, TypeError):
@@ -476,7 +475,7 @@ def test_filters_that_are_there_are_skipped(copy):
     parquet.add_filters(copy, copy, ["plain"])
     status = copy.stat()
     assert parquet.add_filters(copy, copy, ["plain"], skip_existing=True) == 0 and copy.stat() == status
-    copy.write_bytes(changed(copy, lambda fields: [metadata_of(fields, 1, 5).pop(it) for it in (OFFSET, LENGTH)]).read())
+    copy.write_bytes(changed(copy, lambda fields: [metadata_of(fields, 1, 5).pop(field) for field in (OFFSET, LENGTH)]).read())
     parquet.add_filters(copy, copy, ["plain", "b"], skip_existing=True)
     assert len(parquet.filters(copy)) == 6 and parquet.may_contain(copy, "plain", "fox 9") == [1]
     with pytest.raises(ValueError, match="replaced or skipped, not both"):
@@ -646,7 +645,7 @@ writer.stored_values, writer.check_unchanged = test_parquet.texts, lambda *_: os
 parquet.add_filters({str(copy)!r}, {str(copy)!r}, ["plain"])"""
     done = subprocess.run([sys.executable, "-c", code], env={**os.environ, "PYTHONPATH": os.pathsep.join(sys.path)})
     assert done.returncode == -signal.SIGKILL and copy.read_bytes() == ODD.read_bytes()
-    assert sorted(it[:13] for it in os.listdir(tmp_path)) == [".sketch_hash-", "a.parquet"]
+    assert sorted(name[:13] for name in os.listdir(tmp_path)) == [".sketch_hash-", "a.parquet"]
 
 
 def test_a_missing_pyarrow_is_named(copy, tmp_path, monkeypatch):
@@ -711,7 +710,7 @@ def test_the_command_takes_folders_and_its_status_tells_what_is_wrong(tmp_path):
 
 # ---- With pyarrow and DuckDB
 
-ALL_TYPES = [*TYPES, "date64", "time32('s')", "timestamp('s')", *(f"decimal128({it}, 2)" for it in (9, 18, 30))]
+ALL_TYPES = [*TYPES, "date64", "time32('s')", "timestamp('s')", *(f"decimal128({digits}, 2)" for digits in (9, 18, 30))]
 OPTIONS = [
     {}, {"data_page_version": "2.0", "compression": "zstd"}, {"use_dictionary": False, "write_page_index": True},
     {"version": "1.0", "coerce_timestamps": "ms", "allow_truncated_timestamps": True},
@@ -722,7 +721,7 @@ OPTIONS = [
 @pytest.mark.parametrize("name", ALL_TYPES)
 def test_filters_are_those_of_pyarrow(name, pa, tmp_path):
     table = pa.table({"x": column_of(pa, name)})
-    plain, ours, theirs = (tmp_path / it for it in ("plain", "ours", "theirs"))
+    plain, ours, theirs = (tmp_path / file for file in ("plain", "ours", "theirs"))
     for options in OPTIONS:
         pa.parquet.write_table(table, plain, row_group_size=1500, **options)
         options = {**options, "bloom_filter_options": {"x": {"ndv": 1500, "fpp": 0.01}}}
@@ -731,7 +730,7 @@ def test_filters_are_those_of_pyarrow(name, pa, tmp_path):
         for group in range(3):
             one, two = parquet.read_filter(ours, group, "x"), parquet.read_filter(theirs, group, "x")
             while one.num_bytes != two.num_bytes:
-                max(one, two, key=lambda it: it.num_bytes).fold()
+                max(one, two, key=lambda filter: filter.num_bytes).fold()
             assert one == two
         assert pa.parquet.read_table(ours).equals(pa.parquet.read_table(plain))
         assert parquet.check_filters(ours) == parquet.check_filters(theirs) == 3
@@ -792,8 +791,8 @@ def duckdb(folder, *queries):
 
 def test_duckdb_finds_the_same_rows_and_prunes(need, pa, tmp_path):
     need("duckdb")
-    names = [it for it in ALL_TYPES if it not in ("binary", "binary(4)", "date64", "duration('s')")]
-    table = pa.table({f"c{i}": column_of(pa, it) for i, it in enumerate(names)})
+    types = [type for type in ALL_TYPES if type not in ("binary", "binary(4)", "date64", "duration('s')")]
+    table = pa.table({f"c{i}": column_of(pa, type) for i, type in enumerate(types)})
     pa.parquet.write_table(table, tmp_path / "plain.parquet", row_group_size=700, write_statistics=False)
     parquet.add_filters(tmp_path / "plain.parquet", tmp_path / "filters.parquet", table.column_names)
     rows = (0, 1234, 2998)
@@ -802,14 +801,14 @@ def test_duckdb_finds_the_same_rows_and_prunes(need, pa, tmp_path):
     assert "none" not in values
     asked = [f"select count(*) from '{{0}}' where {name} = '{value}'"
              for i, name in enumerate(table.column_names) for value in values[3 * i : 3 * i + 3]]
-    plain = duckdb(tmp_path, *(it.format("plain.parquet") for it in asked))
-    filtered = duckdb(tmp_path, *(it.format("filters.parquet") for it in asked))
+    plain = duckdb(tmp_path, *(query.format("plain.parquet") for query in asked))
+    filtered = duckdb(tmp_path, *(query.format("filters.parquet") for query in asked))
     assert filtered == plain and "0" not in plain
 
     probe = "select bloom_filter_excludes from parquet_bloom_probe('filters.parquet', '{}', {})"
-    for name, type, value in ((f"c{i}", it, v) for i, it in enumerate(names)
-                              for v in (5, 99999, "0007", "dog") if (it == "string") == isinstance(v, str)):
+    for name, type, value in ((f"c{i}", type, v) for i, type in enumerate(types)
+                              for v in (5, 99999, "0007", "dog") if (type == "string") == isinstance(v, str)):
         if type in ("int32", "int64", "string"):
             excluded = duckdb(tmp_path, probe.format(name, repr(value)))
             groups = parquet.may_contain(tmp_path / "filters.parquet", name, value)
-            assert [i for i, it in enumerate(excluded) if it == "false"] == groups and len(groups) < 6
+            assert [i for i, answer in enumerate(excluded) if answer == "false"] == groups and len(groups) < 6

@@ -103,7 +103,7 @@ def status_of(name, folder):
 
 def check_no_table(path):
     """Raises ValueError if folders show that a file is of a table of Delta Lake or Iceberg, which record its size."""
-    for folder in pathlib.Path(path).parents:
+    for folder in (*pathlib.Path(path).absolute().parents, *pathlib.Path(path).resolve().parents):
         if (folder / "_delta_log").is_dir() or any((folder / "metadata").glob("*.metadata.json*")):
             raise ValueError(f"the file to replace must not be of a table, as that of Delta Lake or Iceberg in {folder}, "
                              "which records the sizes of its files: write to another file")
@@ -137,7 +137,7 @@ def replaced(target, mode):
         if before and not stat.S_ISREG(before.st_mode):
             raise ValueError("the file to replace must be a regular file")
         if before:
-            check_no_table(path)
+            check_no_table(target)
             old = os.open(name, os.O_RDONLY | os.O_NOFOLLOW | os.O_NONBLOCK, dir_fd=folder)
             stack.callback(os.close, old)
             lock(old)
