@@ -33,6 +33,7 @@ from sketch_hash.parquet.reader import contain_hashes, false_positive_rate
 from thrift_tree import TType, chunk_of, join, metadata_of, split
 
 numpy = pytest.importorskip("numpy")
+pytestmark = pytest.mark.filterwarnings("ignore:the filters of")
 
 DATA = pathlib.Path(__file__).parent / "data"
 FILTERS, ODD = DATA / "filters.parquet", DATA / "odd.parquet"  # 24 rows in 3 row groups; those at 5 modulo 8 are null
@@ -112,6 +113,23 @@ def test_a_reader_that_is_closed_reads_no_other_file():
         pass
     with open(ODD, "rb"), pytest.raises(ValueError, match="closed file"):  # it may have the same descriptor
         reader.may_contain("string", ["fox 8"])
+
+
+def test_a_file_that_is_written_to_is_not_asked(tmp_path):
+    """Its footer is that of before, and what is at the old places may be no filter."""
+    with parquet.open(shutil.copy(FILTERS, tmp_path / "a")) as reader:
+        assert 1 in reader.may_contain("string", ["fox 8"])[0]
+        os.utime(shutil.copy(FILTERS, tmp_path / "b"), ns=(0, 0))
+        os.replace(tmp_path / "b", tmp_path / "a")  # the reader has the old file
+        assert 1 in reader.may_contain("string", ["fox 8"])[0]
+    with parquet.open(tmp_path / "a") as reader:
+        (tmp_path / "a").write_bytes(bytes(FILTERS.stat().st_size))
+        for call in (lambda: reader.may_contain("string", ["fox 8"]), lambda: reader.read_filter(0, "string")):
+            with pytest.raises(ValueError):
+                call()
+        (tmp_path / "a").write_bytes(FILTERS.read_bytes())
+        with pytest.raises(ValueError, match="^the file must not change while it is read$"):
+            reader.may_contain("string", ["fox 8"])
 
 
 def test_a_rate_is_that_of_the_bits():

@@ -39,7 +39,8 @@ class Source:
         # To read so many bytes more is faster than to read twice: to copy memory than a system call, or than a request.
         self.gap = 1 << 13 if self.is_local else 1 << 20
         if self.is_local:
-            self.size = os.fstat(file.fileno()).st_size
+            self.status = os.fstat(file.fileno())
+            self.size = self.status.st_size
         else:
             self.lock = LOCKS[id(file) % len(LOCKS)]
             with self.lock:
@@ -64,6 +65,11 @@ class Source:
             begin += len(piece)
             length -= len(piece)
         return b"".join(pieces)
+
+    def check_unchanged(self):
+        """Raises ValueError if others have written to the file since, as far as its size and time show that."""
+        if self.is_local and version_of(os.fstat(self.file.fileno())) != version_of(self.status):
+            raise ValueError("the file must not change while it is read")
 
     def read_each(self, ranges):
         """Yields the bytes of each (begin, length). Those that follow each other closely are read at once."""

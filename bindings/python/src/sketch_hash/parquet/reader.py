@@ -52,7 +52,9 @@ class BloomFilterReader:
         if not 0 <= row_group < self.num_row_groups:
             raise IndexError(f"a row group must be from 0 to {self.num_row_groups - 1}, not {row_group}")
         place, = places_of(self.source, self.footer, *self.footer.find([column]), [row_group])
-        return place and BloomFilter.from_bytes(self.source.read(*place))
+        filter = place and BloomFilter.from_bytes(self.source.read(*place))
+        self.source.check_unchanged()
+        return filter
 
     def may_contain(self, column, values):
         """For each value a list of the row groups that may have it in a column, so also of those without a filter.
@@ -73,6 +75,7 @@ class BloomFilterReader:
         for group, answers in enumerate(contain_hashes(self.source, places, hashes)):
             for i in dict.fromkeys(itertools.compress(owners, answers)):
                 groups[i].append(group)
+        self.source.check_unchanged()  # other bytes would be a filter without the values
         return groups
 
 
