@@ -658,8 +658,8 @@ def test_only_a_regular_file_is_read_or_replaced(make, copy, tmp_path):
 
 
 def test_a_killed_run_leaves_the_target(copy, tmp_path):
-    code = f"""import os, test_parquet; from sketch_hash import parquet; from sketch_hash.parquet import writer
-writer.stored_values, writer.check_unchanged = test_parquet.texts, lambda *_: os.kill(os.getpid(), 9)
+    code = f"""import os, test_parquet; from sketch_hash import parquet; from sketch_hash.parquet import files, writer
+writer.stored_values, files.Source.check_unchanged = test_parquet.texts, lambda *_: os.kill(os.getpid(), 9)
 parquet.add_filters({str(copy)!r}, {str(copy)!r}, ["plain"])"""
     done = subprocess.run([sys.executable, "-c", code], env={**os.environ, "PYTHONPATH": os.pathsep.join(sys.path)})
     assert done.returncode == -signal.SIGKILL and copy.read_bytes() == ODD.read_bytes()

@@ -66,10 +66,13 @@ class Source:
             length -= len(piece)
         return b"".join(pieces)
 
-    def check_unchanged(self):
-        """Raises ValueError if others have written to the file since, as far as its size and time show that."""
-        if self.is_local and version_of(os.fstat(self.file.fileno())) != version_of(self.status):
-            raise ValueError("the file must not change while it is read")
+    def check_unchanged(self, *paths):
+        """Raises ValueError if others have written to the file since, or replaced it at a path, as far as sizes and times
+        show that."""
+        if self.is_local:
+            found = os.fstat(self.file.fileno()), *map(os.stat, paths)
+            if {*map(version_of, found)} != {version_of(self.status)}:
+                raise ValueError("the file must not change while it is read")
 
     def read_each(self, ranges):
         """Yields the bytes of each (begin, length). Those that follow each other closely are read at once."""
@@ -92,12 +95,6 @@ class Source:
 
 def version_of(status):
     return status and (status.st_dev, status.st_ino, status.st_size, status.st_mtime_ns)
-
-
-def check_unchanged(file, path, status):
-    """Raises ValueError unless an open file and its path are still what they were."""
-    if not version_of(os.fstat(file.fileno())) == version_of(os.stat(path)) == version_of(status):
-        raise ValueError("the file must not change while it is read")
 
 
 def status_of(name, folder):

@@ -4,7 +4,7 @@ import warnings
 from operator import itemgetter
 
 from .. import BloomFilter, xxh64_intdigest
-from .files import check_unchanged, open_file, replaced
+from .files import open_file, replaced
 from .reader import BloomFilterReader, false_positive_rate, places_of
 from .values import stored_values
 
@@ -39,7 +39,7 @@ def add_filters(source, target, columns, *, error_rate=0.01, max_bytes=None, rep
         raise ValueError("filters that are there must be replaced or skipped, not both")
     names, builder = list(columns), Builder(error_rate, max_bytes)
     with open_file(source) as file:
-        status, reader = os.fstat(file.fileno()), BloomFilterReader(file)
+        reader = BloomFilterReader(file)
         chosen = reader.footer.find(names)
         check_columns(reader.footer, names, chosen)
         todo = [(column, groups_to_fill(column, replace, skip_existing)) for column in chosen]
@@ -50,9 +50,9 @@ def add_filters(source, target, columns, *, error_rate=0.01, max_bytes=None, rep
         if progress:
             steps = progress(steps, total=total)
         end, kept = unused_end(reader, chosen) if replace else (reader.footer.start, [])
-        with replaced(target, status.st_mode & 0o777) as output:
+        with replaced(target, reader.source.status.st_mode & 0o777) as output:
             size = write(reader, output, end, kept, steps)
-            check_unchanged(file, source, status)
+            reader.source.check_unchanged(source)
     for note in builder.notes:
         warnings.warn(note, stacklevel=2)
     return size
