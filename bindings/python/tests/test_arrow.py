@@ -446,14 +446,15 @@ def test_a_stream_may_wait_for_a_thread_that_needs_the_gil(need, tmp_path, ticks
 
 def stored(pa, values, path):
     """The bytes of values in a Parquet file, as pyarrow reads them if it knows nothing of their types."""
-    from sketch_hash import parquet
     from sketch_hash.parquet.files import Source
     from sketch_hash.parquet.footer import Footer
+    from sketch_hash.parquet.values import stored_values
     formats = {"int32": "<i", "int64": "<q", "float": "<f", "double": "<d"}
     pa.parquet.write_table(pa.table({"x": values}), path)
     with open(path, "rb") as file:
         footer = Footer(Source(file))
-        arrays = [batch for batches in parquet.stored_values(file, footer, *footer.columns()) for batch in batches]
+        chunks = stored_values(file, footer, *footer.columns(), range(footer.groups))
+        arrays = [batch for _, batches in chunks for batch in batches]
     return [value if value is None or isinstance(value, bytes) else struct.pack(formats[str(values.type)], value)
             for values in arrays for value in values.to_pylist()]
 

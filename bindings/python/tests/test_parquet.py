@@ -1,9 +1,11 @@
 """Filters of Parquet files. data/ has two files of pyarrow 25; it is needed by the last tests alone."""
+import array
 import contextlib
 import datetime
 import decimal
 import gzip
 import io
+import math
 import mmap
 import os
 import pathlib
@@ -21,13 +23,17 @@ import uuid
 
 import pytest
 from helpers import TYPES, column_of, in_threads
-from sketch_hash import column, parquet
+from sketch_hash import BloomFilter, column, parquet, xxh64_intdigest
 from sketch_hash.parquet import values as parquet_values
+from sketch_hash.parquet import writer
 from sketch_hash.parquet.files import Source
-from sketch_hash.parquet.footer import LENGTH, OFFSET, Footer
+from sketch_hash.parquet.footer import BYTE_ARRAY, LENGTH, OFFSET, VALUES as VALUE_COUNT, Footer
+from sketch_hash.parquet.keys import keys_of, parse
+from sketch_hash.parquet.reader import contain_hashes, false_positive_rate
 from thrift_tree import TType, chunk_of, join, metadata_of, split
 
 numpy = pytest.importorskip("numpy")
+pytestmark = pytest.mark.filterwarnings("ignore:the filters of")
 
 DATA = pathlib.Path(__file__).parent / "data"
 FILTERS, ODD = DATA / "filters.parquet", DATA / "odd.parquet"  # 24 rows in 3 row groups; those at 5 modulo 8 are null
@@ -71,6 +77,69 @@ def test_a_file_may_be_open_or_in_memory():
         assert "fox 8" in parquet.read_filter(file, 1, "string")
 
 
+def test_a_reader_finds_many_values_in_few_reads():
+    read = []
+
+    class Counted(io.BytesIO):
+        def read(self, length):
+            read.append(length)
+            return super().read(length)
+
+    rows = [i for i in range(24) if i % 8 != 5]
+    with parquet.open(Counted(FILTERS.read_bytes())) as reader:
+        found = reader.may_contain("string", [f"fox {i}" for i in rows])
+        assert len(read) == 3 and reader.may_contain("string", ["none"]) == [[]] and len(read) == 4
+        assert reader.filters() == parquet.filters(FILTERS) and "fox 8" in reader.read_filter(1, "string")
+    assert all(i // 8 in groups for i, groups in zip(rows, found)) and sum(map(len, found)) < 25
+
+
+def test_large_filters_are_asked_by_their_blocks(tmp_path):
+    """The same filter, repeated to a file, has the same answers whole and in blocks."""
+    filter = BloomFilter(32 * 3001)
+    keys = [str(i) for i in range(2000)]
+    filter.add_each(column(keys[:1000]))
+    (tmp_path / "a").write_bytes(filter.to_bytes() * 3)
+    hashes = array.array("Q", map(xxh64_intdigest, map(str.encode, keys)))
+    with open(tmp_path / "a", "rb") as file:
+        source, places = Source(file), [(filter.num_bytes * i, filter.num_bytes) for i in range(3)]
+        whole = [list(found) for found in contain_hashes(source, places, hashes)]
+        parts = [[list(found) for found in contain_hashes(source, places, hashes[i:i + 1])] for i in range(len(keys))]
+    assert filter.num_bytes > source.gap and whole == [list(filter.contains_each(column(keys)))] * 3
+    assert [[part[group][0] for part in parts] for group in range(3)] == whole
+
+
+def test_a_reader_that_is_closed_reads_no_other_file():
+    with parquet.open(FILTERS) as reader:
+        pass
+    with open(ODD, "rb"), pytest.raises(ValueError, match="closed file"):  # it may have the same descriptor
+        reader.may_contain("string", ["fox 8"])
+
+
+def test_a_file_that_is_written_to_is_not_asked(tmp_path):
+    """Its footer is that of before, and what is at the old places may be no filter."""
+    with parquet.open(shutil.copy(FILTERS, tmp_path / "a")) as reader:
+        assert 1 in reader.may_contain("string", ["fox 8"])[0]
+        os.utime(shutil.copy(FILTERS, tmp_path / "b"), ns=(0, 0))
+        os.replace(tmp_path / "b", tmp_path / "a")  # the reader has the old file
+        assert 1 in reader.may_contain("string", ["fox 8"])[0]
+    with parquet.open(tmp_path / "a") as reader:
+        (tmp_path / "a").write_bytes(bytes(FILTERS.stat().st_size))
+        for call in (lambda: reader.may_contain("string", ["fox 8"]), lambda: reader.read_filter(0, "string")):
+            with pytest.raises(ValueError):
+                call()
+        (tmp_path / "a").write_bytes(FILTERS.read_bytes())
+        with pytest.raises(ValueError, match="^the file must not change while it is read$"):
+            reader.may_contain("string", ["fox 8"])
+
+
+def test_a_rate_is_that_of_the_bits():
+    filter = BloomFilter.for_keys(1000)
+    filter.add_each(column(map(str, range(1000))))
+    blocks = [filter.to_bytes()[i:i + 32] for i in range(0, filter.num_bytes, 32)]
+    rates = [math.prod(bin(word).count("1") / 32 for word in array.array("I", block)) for block in blocks]
+    assert false_positive_rate(filter.to_bytes()) == pytest.approx(sum(rates) / len(rates)) and 0.001 < rates[0] < 0.1
+
+
 class Slow(io.BytesIO):
     """Another thread runs after each seek."""
     def seek(self, *args):
@@ -108,7 +177,7 @@ def test_a_row_group_without_a_filter_may_have_each_value():
 
 
 @pytest.mark.parametrize("name, value", [
-    ("int8", 2**40), ("uint32", -1), ("uint64", 2**64), ("float", 0.1), ("float", 1e300), ("fixed", b"12345"),
+    ("int8", 2**40), ("uint32", -1), ("uint64", 2**64), ("fixed", b"12345"),
     ("ms", moment(microsecond=1)), ("decimal9", decimal.Decimal("0.001")), ("decimal9", decimal.Decimal("1e999999")),
     ("decimal9", decimal.Decimal("Infinity")), ("decimal9", decimal.Decimal("1e-999999999")), ("decimal30", 10**40),
     ("decimal30", decimal.Decimal("1" * 5000)),
@@ -141,6 +210,20 @@ def test_each_form_of_zero_is_looked_for():
         assert all(0 in parquet.may_contain(FILTERS, name, value) for value in values)
 
 
+def test_a_number_that_float_cannot_have_finds_those_around_it():
+    """As DuckDB finds 0.1, which it converts. The filters have 0.25 in the first row group, and 2.25 in the second."""
+    for value, group in ((0.25 + 1e-12, 0), (0.25 - 1e-12, 0), (0.25, 0), (2.25 + 2e-7, 1), (numpy.float32(0.25), 0),
+                         (decimal.Decimal("0.25"), 0)):
+        assert group in parquet.may_contain(FILTERS, "float", value)
+    assert parquet.may_contain(FILTERS, "float", 1e300) == []
+
+
+def test_a_list_of_one_column_is_asked_by_its_own_name():
+    assert parquet.may_contain(FILTERS, "list", 100) == parquet.may_contain(FILTERS, "list.list.element", 100) == [0]
+    with pytest.raises(ValueError, match="^the name of a column must be that of one alone: struct is of struct.x, struct.y$"):
+        parquet.may_contain(FILTERS, "struct", 5)
+
+
 class Timestamp(datetime.datetime):
     nanosecond = 7  # as pandas has it
 
@@ -151,15 +234,16 @@ def test_nanoseconds_of_pandas_count():
 
 
 @pytest.mark.parametrize("call, error, text", [
-    (lambda: parquet.may_contain(FILTERS, "none", 1), ValueError, "must be one of int8, uint16, .* not none"),
-    (lambda: parquet.may_contain(ODD, "x.y", 1), ValueError, "that of one alone: x.y is of 2"),
+    (lambda: parquet.may_contain(FILTERS, "none", 1), ValueError, "must be one of int8, (\\w+, ){9}.., not none"),
+    (lambda: parquet.open(FILTERS).may_contain("string", "fox"), TypeError, "must be a list of values, as .42., not one"),
+    (lambda: parquet.may_contain(ODD, "x.y", 1), ValueError, "that of one alone: x.y is of x.y, x.y"),
     (lambda: parquet.read_filter(FILTERS, 3, "int8"), IndexError, "a row group must be from 0 to 2, not 3"),
     (lambda: parquet.read_filter(FILTERS, -1, "int8"), IndexError, "a row group must be from 0 to 2, not -1"),
     (lambda: parquet.may_contain(ODD, "half", 1.0), TypeError, "must not be FLOAT16: DuckDB 2.0 loses rows"),
     (lambda: parquet.may_contain(io.BytesIO(b"PAR1"), "x", 1), ValueError, "must be a Parquet file"),
     (lambda: parquet.may_contain(io.BytesIO(b""), "x", 1), ValueError, "must be a Parquet file"),
     (lambda: parquet.may_contain(DATA / "none", "x", 1), FileNotFoundError, "none"),
-], ids=range(8))
+], ids=range(9))
 def test_another_question_is_an_error(call, error, text):
     with pytest.raises(error, match=text):
         call()
@@ -178,12 +262,11 @@ def changed(file, change):
 
 
 @pytest.mark.parametrize("change", [
-    lambda it: it.update({OFFSET: (TType.I64, -1)}), lambda it: it.update({OFFSET: (TType.I64, 2**62)}),
-    lambda it: it.update({OFFSET: (TType.I64, 4)}), lambda it: it.update({LENGTH: (TType.I32, 5)}),
-    lambda it: it.update({OFFSET: (TType.I32, 4)}),
+    {OFFSET: (TType.I64, -1)}, {OFFSET: (TType.I64, 2**62)}, {OFFSET: (TType.I64, 4)}, {LENGTH: (TType.I32, 5)},
+    {OFFSET: (TType.I32, 4)},
 ], ids=["negative", "past the end", "no filter", "length", "type"])
 def test_a_wrong_place_of_a_filter_is_an_error(change):
-    file = changed(FILTERS, lambda fields: change(metadata_of(fields, 1, 2)))
+    file = changed(FILTERS, lambda fields: metadata_of(fields, 1, 2).update(change))
     for call in (lambda: parquet.may_contain(file, "int32", 1), lambda: parquet.read_filter(file, 1, "int32"),
                  lambda: parquet.filters(file)):
         with pytest.raises(ValueError):
@@ -226,7 +309,7 @@ def structs(*items):
 
 def element(name, **fields):
     numbers = {"type": 1, "length": 2, "children": 5}
-    return {4: (TType.STRING, name), **{numbers[key]: (TType.I32, it) for key, it in fields.items()}}
+    return {4: (TType.STRING, name), **{numbers[key]: (TType.I32, value) for key, value in fields.items()}}
 
 
 ROOT, LEAF = element(b"root", children=1), element(b"a", type=1)
@@ -300,7 +383,7 @@ def test_a_damaged_footer_raises_value_and_type_errors_alone():
         wrong = data.copy()
         for _ in range(rng.randint(1, 3)):
             wrong[rng.randrange(start, len(wrong))] = rng.randrange(256)
-        for call in (lambda it: parquet.may_contain(it, "string", "fox 8"), parquet.filters):
+        for call in (lambda file: parquet.may_contain(file, "string", "fox 8"), parquet.filters):
             try:
                 call(io.BytesIO(wrong))
             except (ValueError, TypeError):
@@ -309,16 +392,21 @@ def test_a_damaged_footer_raises_value_and_type_errors_alone():
 
 # ---- Files that are written: the values come from here, and not from pyarrow
 
-def texts(file, footer, any_column):
+def texts(file, footer, any_column, groups):
     """As stored_values, for any column."""
-    for group in range(footer.groups):
-        yield [column([f"fox {i}"]) for i in range(8 * group, 8 * group + 8)]
+    for group in groups:
+        yield group, [column([f"fox {i}"]) for i in range(8 * group, 8 * group + 8)]
 
 
 @pytest.fixture
 def copy(tmp_path, monkeypatch):
-    monkeypatch.setattr(parquet, "stored_values", texts)
+    monkeypatch.setattr(writer, "stored_values", texts)
     return pathlib.Path(shutil.copy(ODD, tmp_path / "a.parquet"))
+
+
+def meanwhile(monkeypatch, act):
+    """Runs act() when values are to be read."""
+    monkeypatch.setattr(writer, "stored_values", lambda *args: [act(), texts(*args)][1])
 
 
 def test_all_but_the_places_of_the_filters_stays_as_it_is(copy, tmp_path):
@@ -361,11 +449,90 @@ def test_a_file_is_replaced_with_its_mode_and_behind_its_link(copy, tmp_path):
     parquet.add_filters(tmp_path / "link", tmp_path / "link", ["plain"])
     assert (tmp_path / "link").is_symlink() and stat.S_IMODE(copy.stat().st_mode) == 0o640
     assert set(os.listdir(tmp_path)) == {"a.parquet", "link"} and len(parquet.filters(copy)) == 3
-    with pytest.raises(ValueError, match="^the column plain has filters: replace=True, or --replace, replaces them$"):
+    with pytest.raises(ValueError, match="^the column plain has filters: replace them by replace=True"):
         parquet.add_filters(copy, copy, ["plain"])
     parquet.add_filters(copy, copy, ["b"])
     parquet.add_filters(copy, copy, ["plain"], replace=True)
     assert len(parquet.filters(copy)) == 6
+
+
+def test_a_file_does_not_grow_with_each_night(copy):
+    parquet.add_filters(copy, copy, ["plain", "b"])
+    after, filters = copy.read_bytes(), parquet.filters(copy)
+    for names in (["b"], ["plain"], ["plain", "b"], ["b"]):
+        parquet.add_filters(copy, copy, names, replace=True)
+        assert len(copy.read_bytes()) == len(after) and parquet.filters(copy) == filters
+        assert all(i // 8 in parquet.may_contain(copy, name, f"fox {i}") for i in range(24) for name in ("plain", "b"))
+    parquet.add_filters(copy, copy, ["plain", "b"], replace=True)
+    assert copy.read_bytes() == after  # of the first night
+
+
+def move_pages(fields):
+    metadata_of(fields, 2, 0)[9] = TType.I64, 10**6
+
+
+def share_filter(fields):
+    metadata_of(fields, 2, 0).update({number: metadata_of(fields, 2, 5)[number] for number in (OFFSET, LENGTH)})
+
+
+@pytest.mark.parametrize("change", [
+    move_pages, share_filter, lambda fields: metadata_of(fields, 1, 0).update({OFFSET: (TType.I64, -1)}),
+    lambda fields: set_path(fields, 2, 0), lambda fields: chunk_of(fields, 2, 0).update(
+        {4: (TType.I64, 10**6), 5: (TType.I32, 100)}),
+], ids=["pages", "filter of two columns", "damaged filter", "other file", "index"])
+def test_bytes_that_the_footer_needs_are_not_cut_off(change, copy):
+    """The columns plain and b are the sixth and seventh."""
+    parquet.add_filters(copy, copy, ["plain", "b"])
+    copy.write_bytes(changed(copy, change).read())
+    before = copy.read_bytes()[:footer_of(copy).start]
+    parquet.add_filters(copy, copy, ["plain", "b"], replace=True, error_rate=1e-6)
+    assert copy.read_bytes().startswith(before) and parquet.may_contain(copy, "b", "fox 9") == [1]
+
+
+def test_filters_that_are_there_are_skipped(copy):
+    parquet.add_filters(copy, copy, ["plain"])
+    status = copy.stat()
+    assert parquet.add_filters(copy, copy, ["plain"], skip_existing=True) == 0 and copy.stat() == status
+    copy.write_bytes(changed(copy, lambda fields: [metadata_of(fields, 1, 5).pop(field) for field in (OFFSET, LENGTH)]).read())
+    parquet.add_filters(copy, copy, ["plain", "b"], skip_existing=True)
+    assert len(parquet.filters(copy)) == 6 and parquet.may_contain(copy, "plain", "fox 9") == [1]
+    with pytest.raises(ValueError, match="replaced or skipped, not both"):
+        parquet.add_filters(copy, copy, ["plain"], skip_existing=True, replace=True)
+
+
+@pytest.mark.parametrize("mark", ["_delta_log/0.json", "data/_delta_log/0.json", "metadata/v1.metadata.json"])
+def test_a_file_of_a_table_is_not_changed_in_place(mark, copy, tmp_path):
+    for folder in ((tmp_path / "data"), (tmp_path / mark).parent):
+        folder.mkdir(exist_ok=True)
+    (tmp_path / mark).touch()
+    table = copy.rename(tmp_path / "data/a.parquet")
+    with pytest.raises(ValueError, match="^the file to replace must not be of a table, as that of Delta Lake or Iceberg in"):
+        parquet.add_filters(table, table, ["plain"])
+    assert table.read_bytes() == ODD.read_bytes() and parquet.add_filters(table, tmp_path / "data/b.parquet", ["plain"]) > 0
+
+
+def count(values):
+    return lambda fields: [metadata_of(fields, group, 5).update({VALUE_COUNT: (TType.I64, values)}) for group in range(3)]
+
+
+def test_a_filter_is_no_larger_than_it_may_be(copy, tmp_path, monkeypatch):
+    copy.write_bytes(changed(ODD, count(2**40)).read())
+    assert parquet.add_filters(copy, tmp_path / "b", ["plain"]) < 1000  # the values are few
+    with pytest.warns(UserWarning, match="^the filters of plain help little: max_bytes is too small for them$"):
+        monkeypatch.setattr(writer, "stored_values", lambda *_: ((i, [column(map(str, range(999)))]) for i in range(3)))
+        parquet.add_filters(copy, tmp_path / "b", ["plain"], max_bytes=255)
+    assert set(parquet.filters(tmp_path / "b").values()) == {128}
+    monkeypatch.setattr(writer, "MOST_BYTES", 64)
+    with pytest.raises(ValueError, match="^the column plain has too many values in row group 0 for a filter of 128 MiB"):
+        parquet.add_filters(copy, tmp_path / "c", ["plain"])
+    with pytest.raises(ValueError, match="^max_bytes must be at least 32, not 31$"):
+        parquet.add_filters(copy, tmp_path / "c", ["plain"], max_bytes=31)
+
+
+def test_a_column_whose_row_groups_are_alike_is_named(copy, monkeypatch):
+    monkeypatch.setattr(writer, "stored_values", lambda *_: ((i, [column(["x", "y"][:3 - i])]) for i in range(3)))
+    with pytest.warns(UserWarning, match="^the filters of plain help little: all row groups have the same values$"):
+        parquet.add_filters(copy, copy, ["plain"])
 
 
 def sign(fields):
@@ -398,18 +565,14 @@ def test_an_encrypted_footer_is_an_error(copy):
 
 
 def test_an_error_while_values_are_read_leaves_the_target(copy, tmp_path, monkeypatch):
-    monkeypatch.setattr(parquet, "stored_values", lambda *_: iter([[5]]))
+    monkeypatch.setattr(writer, "stored_values", lambda *_: iter([(0, [5])]))
     with pytest.raises(TypeError):
         parquet.add_filters(copy, copy, ["plain"])
     assert copy.read_bytes() == ODD.read_bytes() and os.listdir(tmp_path) == ["a.parquet"]
 
 
 def test_a_file_that_changes_meanwhile_is_an_error(copy, tmp_path, monkeypatch):
-    def other_values(*args):
-        os.replace(shutil.copy(FILTERS, tmp_path / "b"), copy)
-        return texts(*args)
-
-    monkeypatch.setattr(parquet, "stored_values", other_values)
+    meanwhile(monkeypatch, lambda: os.replace(shutil.copy(FILTERS, tmp_path / "b"), copy))
     with pytest.raises(ValueError, match="^the file must not change while it is read$"):
         parquet.add_filters(copy, copy, ["plain"])
     assert copy.read_bytes() == FILTERS.read_bytes() and os.listdir(tmp_path) == ["a.parquet"]
@@ -421,36 +584,34 @@ def test_a_target_that_changes_meanwhile_is_not_overwritten(old, copy, tmp_path,
     if old:
         target.write_bytes(old)
 
-    def write_to_target(*args):
-        target.write_bytes(b"other data")
-        return texts(*args)
-
-    monkeypatch.setattr(parquet, "stored_values", write_to_target)
+    meanwhile(monkeypatch, lambda: target.write_bytes(b"other data"))
     with pytest.raises(ValueError, match="^the file to replace must not change while its successor is written$"):
         parquet.add_filters(copy, target, ["plain"])
     assert target.read_bytes() == b"other data" and set(os.listdir(tmp_path)) == {"a.parquet", "b.parquet"}
 
 
-@pytest.mark.parametrize("has_locks", [True, False])
-def test_of_two_runs_on_one_file_one_fails(has_locks, copy, monkeypatch):
-    def second_run(*args):
-        monkeypatch.setattr(parquet, "stored_values", texts)
-        if has_locks:
-            with pytest.raises(ValueError, match="^another run is replacing the file$"):
-                parquet.add_filters(copy, copy, ["b"])
-        else:
+def test_of_two_runs_on_one_file_the_second_fails(copy, monkeypatch):
+    def second_run():
+        monkeypatch.setattr(writer, "stored_values", texts)
+        with pytest.raises(ValueError, match="^another run is replacing the file$"):
             parquet.add_filters(copy, copy, ["b"])
-        return texts(*args)
 
-    monkeypatch.setattr(parquet, "stored_values", second_run)
-    if has_locks:
-        parquet.add_filters(copy, copy, ["plain"])
+    meanwhile(monkeypatch, second_run)
+    parquet.add_filters(copy, copy, ["plain"])
+    parquet.add_filters(copy, copy, ["b"])
+    assert {name for _, name in parquet.filters(copy)} == {"plain", "b"}
+
+
+def test_of_two_runs_on_one_file_the_first_fails_if_there_are_no_locks(copy, monkeypatch):
+    def second_run():
+        monkeypatch.setattr(writer, "stored_values", texts)
         parquet.add_filters(copy, copy, ["b"])
-    else:
-        monkeypatch.setattr("fcntl.flock", lambda *_: os.stat("/none"))
-        with pytest.raises(ValueError, match="must not change"):
-            parquet.add_filters(copy, copy, ["plain"])
-    assert {name for _, name in parquet.filters(copy)} == ({"plain", "b"} if has_locks else {"b"})
+
+    meanwhile(monkeypatch, second_run)
+    monkeypatch.setattr("fcntl.flock", lambda *_: os.stat("/none"))
+    with pytest.raises(ValueError, match="must not change"):
+        parquet.add_filters(copy, copy, ["plain"])
+    assert {name for _, name in parquet.filters(copy)} == {"b"}
 
 
 def test_what_others_put_in_place_of_the_new_file_is_not_touched(copy, tmp_path, monkeypatch):
@@ -458,13 +619,12 @@ def test_what_others_put_in_place_of_the_new_file_is_not_touched(copy, tmp_path,
     secret.write_bytes(b"key")
     secret.chmod(0o600)
 
-    def put_a_link(*args):
+    def put_a_link():
         new, = tmp_path.glob(".sketch_hash-*")
         new.unlink()
         new.symlink_to(secret)
-        return texts(*args)
 
-    monkeypatch.setattr(parquet, "stored_values", put_a_link)
+    meanwhile(monkeypatch, put_a_link)
     with pytest.raises(ValueError, match="^the file to replace must not change"):
         parquet.add_filters(copy, copy, ["plain"])
     assert secret.read_bytes() == b"key" and stat.S_IMODE(secret.stat().st_mode) == 0o600
@@ -498,16 +658,16 @@ def test_only_a_regular_file_is_read_or_replaced(make, copy, tmp_path):
 
 
 def test_a_killed_run_leaves_the_target(copy, tmp_path):
-    code = f"""import os, test_parquet; from sketch_hash import parquet
-parquet.stored_values, parquet.check_unchanged = test_parquet.texts, lambda *_: os.kill(os.getpid(), 9)
+    code = f"""import os, test_parquet; from sketch_hash import parquet; from sketch_hash.parquet import files, writer
+writer.stored_values, files.Source.check_unchanged = test_parquet.texts, lambda *_: os.kill(os.getpid(), 9)
 parquet.add_filters({str(copy)!r}, {str(copy)!r}, ["plain"])"""
     done = subprocess.run([sys.executable, "-c", code], env={**os.environ, "PYTHONPATH": os.pathsep.join(sys.path)})
     assert done.returncode == -signal.SIGKILL and copy.read_bytes() == ODD.read_bytes()
-    assert sorted(it[:13] for it in os.listdir(tmp_path)) == [".sketch_hash-", "a.parquet"]
+    assert sorted(name[:13] for name in os.listdir(tmp_path)) == [".sketch_hash-", "a.parquet"]
 
 
 def test_a_missing_pyarrow_is_named(copy, tmp_path, monkeypatch):
-    monkeypatch.setattr(parquet, "stored_values", parquet_values.stored_values)
+    monkeypatch.setattr(writer, "stored_values", parquet_values.stored_values)
     monkeypatch.setitem(sys.modules, "pyarrow", None)
     with pytest.raises(ImportError, match="^this call needs pyarrow: pip install pyarrow$"):
         parquet.add_filters(copy, tmp_path / "b.parquet", ["plain"])
@@ -515,7 +675,8 @@ def test_a_missing_pyarrow_is_named(copy, tmp_path, monkeypatch):
 
 
 def run(*args):
-    return subprocess.run([sys.executable, "-m", "sketch_hash.parquet", *args], capture_output=True, text=True)
+    command = [sys.executable, "-m", "sketch_hash.parquet", *map(str, args)]
+    return subprocess.run(command, capture_output=True, text=True)
 
 
 @pytest.mark.parametrize("args, status, text", [
@@ -524,14 +685,50 @@ def run(*args):
     (["add", "-c", "x", "-o", "y", ODD, ODD], 2, "--output must come with one FILE"),
 ], ids=range(4))
 def test_the_command_reports_errors(args, status, text):
-    done = run(*map(str, args))
+    done = run(*args)
     assert done.returncode == status and done.stdout == ""
     assert re.search(text, done.stderr)
 
 
+def test_a_command_line_has_the_values_of_each_type():
+    texts = {"time_ms": "01:02:00.003", "ms": "2026-01-01 01:01:00", "us_utc": "2026-01-01T01:01:01", "fixed": b"0000".hex()}
+    for leaf in footer_of(FILTERS).columns():
+        if leaf.name != "binary":
+            value = VALUES[leaf.name](0)
+            assert keys_of(parse(texts.get(leaf.name, str(value)), leaf), leaf) == keys_of(value, leaf)
+            if leaf.kind.type != BYTE_ARRAY:
+                pytest.raises(ValueError, parse, "dog", leaf).match("cannot have 'dog'$")
+
+
+def test_the_command_shows_and_asks():
+    done = run("show", FILTERS)
+    rows = [line.split("\t") for line in done.stdout.splitlines()]
+    assert {(int(group), name): int(num_bytes) for _, group, name, num_bytes, _ in rows} == parquet.filters(FILTERS)
+    assert done.returncode == 0 and all(float(rate) < 0.01 for *_, rate in rows)
+    found, absent, wrong = (run("ask", FILTERS, "int32", text) for text in ("8000", "5", "fox"))
+    assert found.stdout == f"{FILTERS}: 1 of 3 row groups: 1\n" and absent.stdout == f"{FILTERS}: 0 of 3 row groups\n"
+    assert (found.returncode, absent.returncode, wrong.returncode) == (0, 3, 1)
+    assert "the column int32 cannot have 'fox'" in wrong.stderr
+
+
+def test_the_command_takes_folders_and_its_status_tells_what_is_wrong(tmp_path):
+    for name in ("a.parquet", "year=2026/b.parquet", "_x/c.parquet", ".d.parquet", "e.txt"):
+        (tmp_path / name).parent.mkdir(exist_ok=True)
+        shutil.copy(ODD, tmp_path / name)
+    done = run("check", tmp_path, "--jobs", 2)
+    assert done.stdout == f"{tmp_path}/a.parquet: no filters\n{tmp_path}/year=2026/b.parquet: no filters\n"
+    assert done.returncode == 3 and done.stderr == ""
+    (tmp_path / "a.parquet").write_bytes(b"junk")
+    done = run("show", tmp_path, tmp_path / "none")
+    assert done.returncode == 1 and len(done.stderr.splitlines()) == 2 and done.stdout.endswith("b.parquet: no filters\n")
+    (tmp_path / "empty").mkdir()
+    done = run("add", "-c", "plain", tmp_path / "empty")
+    assert done.returncode == 3 and "no file ends in .parquet" in done.stderr
+
+
 # ---- With pyarrow and DuckDB
 
-ALL_TYPES = [*TYPES, "date64", "time32('s')", "timestamp('s')", *(f"decimal128({it}, 2)" for it in (9, 18, 30))]
+ALL_TYPES = [*TYPES, "date64", "time32('s')", "timestamp('s')", *(f"decimal128({digits}, 2)" for digits in (9, 18, 30))]
 OPTIONS = [
     {}, {"data_page_version": "2.0", "compression": "zstd"}, {"use_dictionary": False, "write_page_index": True},
     {"version": "1.0", "coerce_timestamps": "ms", "allow_truncated_timestamps": True},
@@ -542,7 +739,7 @@ OPTIONS = [
 @pytest.mark.parametrize("name", ALL_TYPES)
 def test_filters_are_those_of_pyarrow(name, pa, tmp_path):
     table = pa.table({"x": column_of(pa, name)})
-    plain, ours, theirs = (tmp_path / it for it in ("plain", "ours", "theirs"))
+    plain, ours, theirs = (tmp_path / file for file in ("plain", "ours", "theirs"))
     for options in OPTIONS:
         pa.parquet.write_table(table, plain, row_group_size=1500, **options)
         options = {**options, "bloom_filter_options": {"x": {"ndv": 1500, "fpp": 0.01}}}
@@ -551,7 +748,7 @@ def test_filters_are_those_of_pyarrow(name, pa, tmp_path):
         for group in range(3):
             one, two = parquet.read_filter(ours, group, "x"), parquet.read_filter(theirs, group, "x")
             while one.num_bytes != two.num_bytes:
-                max(one, two, key=lambda it: it.num_bytes).fold()
+                max(one, two, key=lambda filter: filter.num_bytes).fold()
             assert one == two
         assert pa.parquet.read_table(ours).equals(pa.parquet.read_table(plain))
         assert parquet.check_filters(ours) == parquet.check_filters(theirs) == 3
@@ -581,7 +778,7 @@ def test_long_texts_are_read_a_few_at_a_time(is_list, pa, tmp_path):
     with open(tmp_path / "a", "rb") as file:
         footer = Footer(Source(file))
         column, = footer.columns()
-        sizes = [batch.nbytes for batches in parquet.stored_values(file, footer, column) for batch in batches]
+        sizes = [batch.nbytes for _, batches in parquet_values.stored_values(file, footer, column, [0]) for batch in batches]
     assert max(sizes) < 1 << 26 and sum(sizes) > 5000 * 40_000
     parquet.add_filters(tmp_path / "a", tmp_path / "a", [column.name])
     assert parquet.may_contain(tmp_path / "a", column.name, "x" * 40_000) == [0]
@@ -591,12 +788,14 @@ def test_the_command_adds_and_checks(pa, tmp_path):
     file = str(shutil.copy(ODD, tmp_path / "a"))
     assert run("add", "-c", "plain", "-c", "b", "-e", "0.1", file).stdout == f"{file}: 282 bytes of filters\n"
     assert run("check", file).stdout == f"{file}: 6 filters have all values\n"
+    assert run("add", "-c", "plain", "--skip-existing", "--jobs", 2, tmp_path / "a").stdout == f"{file}: nothing to add\n"
+    assert run("add", "-c", "plain", "-m", "64", "--replace", file).stdout == f"{file}: 141 bytes of filters\n"
     place = footer_of(file).find(["b"])[0].place(1)[0] + 15
     with open(file, "r+b") as opened:  # an empty filter
         opened.seek(place)
         opened.write(bytes(32))
     done = run("check", file, str(FILTERS))
-    assert done.returncode == 1 and done.stdout == f"{FILTERS}: {3 * len(VALUES)} filters have all values\n"
+    assert done.returncode == 4 and done.stdout == f"{FILTERS}: {3 * len(VALUES)} filters have all values\n"
     assert f"{file}: the filter of b in row group 1 must have all values" in done.stderr
 
 
@@ -610,8 +809,8 @@ def duckdb(folder, *queries):
 
 def test_duckdb_finds_the_same_rows_and_prunes(need, pa, tmp_path):
     need("duckdb")
-    names = [it for it in ALL_TYPES if it not in ("binary", "binary(4)", "date64", "duration('s')")]
-    table = pa.table({f"c{i}": column_of(pa, it) for i, it in enumerate(names)})
+    types = [type for type in ALL_TYPES if type not in ("binary", "binary(4)", "date64", "duration('s')")]
+    table = pa.table({f"c{i}": column_of(pa, type) for i, type in enumerate(types)})
     pa.parquet.write_table(table, tmp_path / "plain.parquet", row_group_size=700, write_statistics=False)
     parquet.add_filters(tmp_path / "plain.parquet", tmp_path / "filters.parquet", table.column_names)
     rows = (0, 1234, 2998)
@@ -620,14 +819,14 @@ def test_duckdb_finds_the_same_rows_and_prunes(need, pa, tmp_path):
     assert "none" not in values
     asked = [f"select count(*) from '{{0}}' where {name} = '{value}'"
              for i, name in enumerate(table.column_names) for value in values[3 * i : 3 * i + 3]]
-    plain = duckdb(tmp_path, *(it.format("plain.parquet") for it in asked))
-    filtered = duckdb(tmp_path, *(it.format("filters.parquet") for it in asked))
+    plain = duckdb(tmp_path, *(query.format("plain.parquet") for query in asked))
+    filtered = duckdb(tmp_path, *(query.format("filters.parquet") for query in asked))
     assert filtered == plain and "0" not in plain
 
     probe = "select bloom_filter_excludes from parquet_bloom_probe('filters.parquet', '{}', {})"
-    for name, type, value in ((f"c{i}", it, v) for i, it in enumerate(names)
-                              for v in (5, 99999, "0007", "dog") if (it == "string") == isinstance(v, str)):
+    for name, type, value in ((f"c{i}", type, v) for i, type in enumerate(types)
+                              for v in (5, 99999, "0007", "dog") if (type == "string") == isinstance(v, str)):
         if type in ("int32", "int64", "string"):
             excluded = duckdb(tmp_path, probe.format(name, repr(value)))
             groups = parquet.may_contain(tmp_path / "filters.parquet", name, value)
-            assert [i for i, it in enumerate(excluded) if it == "false"] == groups and len(groups) < 6
+            assert [i for i, answer in enumerate(excluded) if answer == "false"] == groups and len(groups) < 6

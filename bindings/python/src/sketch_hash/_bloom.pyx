@@ -23,15 +23,12 @@ from ._attributes import attributes_of, set_attributes
 
 cdef extern from "Python.h":
     const char *PyUnicode_AsUTF8AndSize(object, Py_ssize_t *) except NULL
-    int __builtin_popcountll(uint64_t) nogil
     View *PyMemoryView_GET_BUFFER(object)
     bint PyBuffer_IsContiguous(const View *, char)
 
 cdef enum:
     READ_ONLY = -100  # not a status of the library
     OVERLAP = -101
-
-HEADER_MAX = SKETCH_BLOOM_HEADER_MAX
 
 
 cdef inline uint64_t hash_of(object key) except? -1:
@@ -128,12 +125,6 @@ cdef int check_length(object length) except -1:
             f"a Bloom filter must have a positive multiple of 32 bytes, below 2**37, not {length}: "
             "BloomFilter.for_keys finds the number for keys and an error rate; from_parquet reads a filter with its header")
     return 0
-
-
-def parquet_header(data):
-    """How many bytes the header at the beginning of data has, and the filter after it."""
-    bits = BloomFilter.parquet_bits(data)
-    return bits.start, len(bits)
 
 
 cdef size_t header_of(const View *memory, uint64_t *num_bytes) except 0:
@@ -249,12 +240,13 @@ cdef class BloomFilter:
     @classmethod
     def for_keys(cls, keys, *, error_rate=None, one_in=None):
         """for_keys($type, keys, *, error_rate=None, one_in=None)\n--\n\nReturns the smallest filter whose
-        false positive rate is at most this, error_rate=0.01 or one_in=100, once it has so many keys. Its size is a
-        power of two. Raises ValueError if it would need more than 128 MiB. A subclass's __init__ is not called."""
-        if (error_rate is None) == (one_in is None):
+        false positive rate is at most this, error_rate=0.01 or one_in=100, once it has so many keys; 0.01 if both are
+        left out. Its size is a power of two. Raises ValueError if it would need more than 128 MiB. A subclass's
+        __init__ is not called."""
+        if error_rate is not None and one_in is not None:
             raise TypeError("for_keys takes one of error_rate, as 0.01, and one_in, as 100")
         if one_in is None:
-            one_in = one_in_of(error_rate)
+            one_in = one_in_of(0.01 if error_rate is None else error_rate)
         if one_in == 0:
             raise ValueError("one_in must be at least 1, not 0")
         cdef size_t num_bytes = sketch_bloom_bytes_for(word_of(keys, "keys"), word_of(one_in, "one_in"))
@@ -507,8 +499,7 @@ cdef class BloomFilter:
         same keys. Raises ValueError if its number of blocks of 32 bytes is odd. With an error rate, as 0.01, it is
         halved while other keys are found at this rate at most, by the bits that are set, and may stay as it is: at a rate of
         at most one in n, which is the least whole number that keeps the error rate. So create a filter for all keys, and
-        fold it once they are added. Raises TypeError for a view, and BufferError if
-        memoryviews exist."""
+        fold it once they are added. Raises TypeError for a view, and BufferError if memoryviews exist."""
         cdef uint64_t one_in = 0 if error_rate is None else one_in_of(error_rate)
         self.begin(True)
         cdef bint has_exports = self.exports != 0, is_odd = self.bits.len % 64 != 0

@@ -2,6 +2,7 @@
 import contextlib
 import io
 import os
+import pathlib
 import secrets
 import stat
 import threading
@@ -11,6 +12,7 @@ try:
 except ImportError:  # not a POSIX system
     fcntl = None
 
+MOST_READ, MOST_PARTS = 1 << 24, 1000  # bytes that are read at a time, and parts of them
 # Of open files, by their addresses.
 LOCKS = [threading.Lock() for _ in range(61)]
 
@@ -32,10 +34,13 @@ class Source:
     """
 
     def __init__(self, file):
-        self.file, self.number = file, None
-        if isinstance(file, io.BufferedReader) and isinstance(file.raw, io.FileIO) and hasattr(os, "pread"):
-            self.number = file.fileno()
-            self.size = os.fstat(self.number).st_size
+        self.file = file
+        self.is_local = isinstance(file, io.BufferedReader) and isinstance(file.raw, io.FileIO) and hasattr(os, "pread")
+        # To read so many bytes more is faster than to read twice: to copy memory than a system call, or than a request.
+        self.gap = 1 << 13 if self.is_local else 1 << 20
+        if self.is_local:
+            self.status = os.fstat(file.fileno())
+            self.size = self.status.st_size
         else:
             self.lock = LOCKS[id(file) % len(LOCKS)]
             with self.lock:
@@ -43,8 +48,8 @@ class Source:
                 self.size = file.tell()
 
     def read_some(self, begin, length):
-        if self.number is not None:
-            return os.pread(self.number, length, begin)
+        if self.is_local:
+            return os.pread(self.file.fileno(), length, begin)  # fileno() raises once the file is closed
         with self.lock:
             self.file.seek(begin)
             return self.file.read(length)
@@ -61,22 +66,35 @@ class Source:
             length -= len(piece)
         return b"".join(pieces)
 
+    def check_unchanged(self, *paths):
+        """Raises ValueError if others have written to the file since, or replaced it at a path, as far as sizes and times
+        show that."""
+        if self.is_local:
+            found = os.fstat(self.file.fileno()), *map(os.stat, paths)
+            if {*map(version_of, found)} != {version_of(self.status)}:
+                raise ValueError("the file must not change while it is read")
 
-@contextlib.contextmanager
-def opened(file):
-    """A Source of a path or of an open file."""
-    with contextlib.nullcontext(file) if hasattr(file, "read") else open_file(file) as file:
-        yield Source(file)
+    def read_each(self, ranges):
+        """Yields the bytes of each (begin, length). Those that follow each other closely are read at once."""
+        run, begin, end = [], 0, 0
+        for place, length in ranges:
+            if len(run) == MOST_PARTS or not begin <= place <= end + self.gap or place + length > begin + MOST_READ:
+                yield from self.parts(run, begin, end)
+                run.clear()
+            if not run:
+                begin = end = place
+            run.append((place, length))
+            end = max(end, place + length)
+        yield from self.parts(run, begin, end)
+
+    def parts(self, run, begin, end):
+        data = self.read(begin, end - begin) if run else b""
+        for place, length in run:
+            yield data[place - begin:place - begin + length]
 
 
 def version_of(status):
     return status and (status.st_dev, status.st_ino, status.st_size, status.st_mtime_ns)
-
-
-def check_unchanged(file, path, status):
-    """Raises ValueError unless an open file and its path are still what they were."""
-    if not version_of(os.fstat(file.fileno())) == version_of(os.stat(path)) == version_of(status):
-        raise ValueError("the file must not change while it is read")
 
 
 def status_of(name, folder):
@@ -84,6 +102,14 @@ def status_of(name, folder):
         return os.stat(name, dir_fd=folder, follow_symlinks=False)
     except FileNotFoundError:
         return None
+
+
+def check_no_table(path):
+    """Raises ValueError if folders show that a file is of a table of Delta Lake or Iceberg, which record its size."""
+    for folder in (*pathlib.Path(path).absolute().parents, *pathlib.Path(path).resolve().parents):
+        if (folder / "_delta_log").is_dir() or any((folder / "metadata").glob("*.metadata.json*")):
+            raise ValueError(f"the file to replace must not be of a table, as that of Delta Lake or Iceberg in {folder}, "
+                             "which records the sizes of its files: write to another file")
 
 
 def lock(number):
@@ -114,6 +140,7 @@ def replaced(target, mode):
         if before and not stat.S_ISREG(before.st_mode):
             raise ValueError("the file to replace must be a regular file")
         if before:
+            check_no_table(target)
             old = os.open(name, os.O_RDONLY | os.O_NOFOLLOW | os.O_NONBLOCK, dir_fd=folder)
             stack.callback(os.close, old)
             lock(old)

@@ -1,16 +1,13 @@
 """The footer of a Parquet file: where its parts are, its columns, and a copy with filters.
 
-A footer is a struct in Thrift's compact protocol. It is read in place, once, and its parts are copied as bytes: a footer
-that was made to cost time or memory has no more than its length. Apache Thrift's library has no such limits.
-https://github.com/apache/thrift/blob/master/doc/specs/thrift-compact-protocol.md
+A footer is a struct in Thrift's compact protocol. It is read in place, once, and its parts are copied as bytes.
 """
 import array
-import collections
 import contextlib
 import itertools
+import operator
 
-# The kinds of values. A field that is a bool has its value in its kind.
-TRUE, FALSE, BYTE, I16, I32, I64, F64, BINARY, LIST, _, _, STRUCT = range(1, 13)
+from .._thrift import BINARY, I32, I64, LIST, STRUCT, TRUE, Reader, Writer, list_of, zigzag
 
 # Numbers of the fields, as parquet.thrift gives them, in FileMetaData, SchemaElement, RowGroup, ColumnChunk and
 # ColumnMetaData.
@@ -18,170 +15,13 @@ VERSION, SCHEMA, ALL_ROWS, ROW_GROUPS, CREATED_BY, ENCRYPTION = 1, 2, 3, 4, 6, 8
 TYPE, TYPE_LENGTH, REPETITION, NAME, CHILDREN, CONVERTED, SCALE, LOGICAL = 1, 2, 3, 4, 5, 6, 7, 10
 COLUMNS, BYTE_SIZE, ROWS = 1, 2, 3
 FILE_PATH, FILE_OFFSET, METADATA = 1, 2, 3
-VALUES, STATISTICS, OFFSET, LENGTH = 5, 12, 14, 15
+VALUES, BYTES, STATISTICS, OFFSET, LENGTH = 5, 7, 12, 14, 15
+PAGES = 9, 10, 11  # the first data page, index page and dictionary page
+INDEXES = (4, 5), (6, 7)  # the offset and the length of each
+CHUNK = {FILE_PATH: BINARY, METADATA: STRUCT, 4: I64, 5: I32, 6: I64, 7: I32}
 
-MOST_DEPTH = 64  # of lists and structs in each other, and of the schema. parquet.thrift itself needs 8.
-
-
-class Reader:
-    """Reads values from a place of the footer on."""
-
-    def __init__(self, data, at):
-        self.data, self.at = data, at
-
-    def varint(self):
-        number = 0
-        for shift in range(0, 70, 7):
-            byte = self.data[self.at]
-            self.at += 1
-            number |= (byte & 127) << shift
-            if byte < 128:
-                return number
-        raise ValueError("a number must have at most 10 bytes")
-
-    def integer(self, bits):
-        number = self.varint()
-        if number >> bits:
-            raise ValueError(f"a number must have at most {bits} bits")
-        return number >> 1 ^ -(number & 1)
-
-    def fields(self):
-        """The number and kind of each field of a struct. It is skipped unless the caller reads it."""
-        number = 0
-        while True:
-            head = self.data[self.at]
-            self.at += 1
-            if head == 0:
-                return
-            number = number + (head >> 4) if head > 15 else self.integer(16)
-            if not 0 < number < 1 << 15:
-                raise ValueError("the number of a field must be from 1 to 32767")
-            before, kind = self.at, head & 15
-            yield number, kind
-            if self.at == before:
-                self.skip(kind)
-
-    def items(self):
-        """How many items a list has, which follow, and their kind."""
-        head = self.data[self.at]
-        self.at += 1
-        count = head >> 4 if head >> 4 < 15 else self.varint()
-        if count > len(self.data) - self.at:
-            raise ValueError("a list is truncated")
-        return count, head & 15
-
-    def structs(self):
-        """How many structs a list has, which follow."""
-        count, kind = self.items()
-        if count and kind != STRUCT:
-            raise ValueError("a list has another type than in parquet.thrift")
-        return range(count)
-
-    def skip(self, kind, depth=0):
-        data, at = self.data, self.at
-        if kind in (I16, I32, I64):
-            while data[at] > 127:
-                at += 1
-            if at - self.at > 9:
-                raise ValueError("a number must have at most 10 bytes")
-            self.at = at + 1
-        elif kind == BINARY:
-            self.skip_bytes(self.varint())
-        elif kind in (STRUCT, LIST):
-            if depth == MOST_DEPTH:
-                raise ValueError(f"lists and structs must be at most {MOST_DEPTH} deep")
-            if kind == LIST:
-                count, kind = self.items()
-                if kind <= BYTE:
-                    self.skip_bytes(count)
-                else:
-                    for _ in range(count):
-                        self.skip(kind, depth + 1)
-            else:
-                for _, kind in self.fields():
-                    self.skip(kind, depth + 1)
-        elif kind == F64:
-            self.skip_bytes(8)
-        elif kind == BYTE:
-            self.skip_bytes(1)
-        elif kind > FALSE or kind == 0:
-            raise ValueError("no value of a footer is a map, a set or of another kind")
-
-    def skip_bytes(self, length):
-        self.at += length
-        if self.at > len(self.data):
-            raise ValueError("a value is truncated")
-
-    def bytes_of(self, kind):
-        """The bytes of a value."""
-        begin = self.at
-        self.skip(kind)
-        return self.data[begin:self.at]
-
-    def struct(self, kinds):
-        """The values of the fields in `kinds`, by their numbers; of lists and structs, where they begin."""
-        found = {}
-        for number, kind in self.fields():
-            if number not in kinds:
-                continue
-            if number in found or (kind not in (TRUE, FALSE) if kinds[number] == TRUE else kind != kinds[number]):
-                raise ValueError(f"field {number} is there twice, or has another type than in parquet.thrift")
-            begin = self.at
-            if kind in (I32, I64):
-                found[number] = self.integer(32 if kind == I32 else 64)
-            elif kind == BINARY:
-                length = self.varint()
-                begin = self.at
-                self.skip_bytes(length)
-                found[number] = self.data[begin:self.at]
-            else:
-                found[number] = begin if kind in (LIST, STRUCT) else kind == TRUE
-        return found
-
-
-def varint(number):
-    data = bytearray()
-    while number > 127:
-        data.append(number & 127 | 128)
-        number >>= 7
-    data.append(number)
-    return data
-
-
-def zigzag(number):
-    return varint(number << 1 if number >= 0 else ~number << 1 | 1)
-
-
-def list_of(structs):
-    return b"".join([bytes([15 << 4 | STRUCT]), varint(len(structs)), *(struct.end() for struct in structs)])
-
-
-class Writer:
-    """Writes a struct."""
-
-    def __init__(self):
-        self.data, self.number = bytearray(), 0
-
-    def field(self, number, kind, value=b""):
-        step, self.number = number - self.number, number
-        if 0 < step < 16:
-            self.data.append(step << 4 | kind)
-        else:
-            self.data.append(kind)
-            self.data += zigzag(number)
-        self.data += value
-        return self
-
-    def copy(self, reader, numbers):
-        """Copies some fields of a struct."""
-        for number, kind in reader.fields():
-            if number in numbers:
-                self.field(number, kind, reader.bytes_of(kind))
-        return self
-
-    def end(self):
-        self.data.append(0)
-        return bytes(self.data)
+MOST_DEPTH = 64  # of the schema
+MOST_NAMES = 10  # in a message
 
 
 BOOLEAN, INT32, INT64, INT96, FLOAT, DOUBLE, BYTE_ARRAY, FIXED = range(8)
@@ -238,51 +78,64 @@ class Column:
 
     def __init__(self, footer, index, name, path):
         self.footer, self.index, self.name, self.path = footer, index, name, path
+        self.annotations = None
 
     @property
     def kind(self):
-        return Kind(Reader(self.footer.data, self.path[-1]))
+        self.annotations = self.annotations or Kind(Reader(self.footer.data, self.path[-1]))
+        return self.annotations
 
     def chunk(self, group):
-        """Where the ColumnMetaData of a row group begins, or None if it is encrypted."""
+        """The fields of a row group's ColumnChunk. METADATA is missing if the column is encrypted."""
         reader = Reader(self.footer.data, self.footer.chunks[group * self.footer.width + self.index])
-        fields = reader.struct({FILE_PATH: BINARY, METADATA: STRUCT})
+        fields = reader.struct(CHUNK)
         if FILE_PATH in fields:
             raise ValueError(f"the column {self.name} must be in this file alone, not in those that the footer names")
-        return fields.get(METADATA)
+        return fields
 
     def metadata(self, group):
         """A reader of the ColumnMetaData of a row group."""
-        begin = self.chunk(group)
+        begin = self.chunk(group).get(METADATA)
         if begin is None:
             raise ValueError(f"the column {self.name} must not be encrypted")
         return Reader(self.footer.data, begin)
 
     def place(self, group):
         """Where the filter of a row group begins, or None, and how long it is with its header, or None."""
-        begin = self.chunk(group)
+        begin = self.chunk(group).get(METADATA)
         fields = {} if begin is None else Reader(self.footer.data, begin).struct({OFFSET: I64, LENGTH: I32})
         return fields.get(OFFSET), fields.get(LENGTH)
+
+    def end(self, group):
+        """Where the pages of a row group and their indexes end."""
+        chunk = self.chunk(group)
+        metadata = self.metadata(group).struct({BYTES: I64, **dict.fromkeys(PAGES, I64)})
+        pages = [metadata[number] for number in PAGES if metadata.get(number, 0) > 0]
+        if not pages or BYTES not in metadata:
+            raise ValueError(f"the pages of {self.name} are missing")
+        indexes = [chunk.get(offset, 0) + chunk.get(length, 0) for offset, length in INDEXES]
+        return max(min(pages) + metadata[BYTES], max(pages) + 1, *indexes)
 
     def values(self, group):
         """How many values a row group has, with nulls."""
         return self.metadata(group).struct({VALUES: I64}).get(VALUES, 1)
 
-    def has_filters(self):
-        return any(self.place(group)[0] is not None for group in range(self.footer.groups))
+    def groups_with_filters(self):
+        return [group for group in range(self.footer.groups) if self.place(group)[0] is not None]
 
 
 class Footer:
     """The footer of a file. `start` is where it begins, `groups` and `width` how many row groups and columns it has."""
 
     def __init__(self, source):
-        tail = source.read(max(source.size - 8, 0), min(source.size, 8))
-        if tail[4:] == b"PARE":
+        tail = source.read(max(source.size - source.gap, 0), min(source.size, source.gap))
+        length = int.from_bytes(tail[-8:-4], "little")
+        self.start = source.size - 8 - length
+        if tail[-4:] == b"PARE":
             raise ValueError("the footer must not be encrypted")
-        self.start = source.size - 8 - int.from_bytes(tail[:4], "little")
-        if tail[4:] != b"PAR1" or self.start < 4:
+        if tail[-4:] != b"PAR1" or self.start < 4:
             raise ValueError("the file must be a Parquet file: its end is damaged")
-        self.data = source.read(self.start, source.size - 8 - self.start)
+        self.data = tail[-8 - length:-8] if length + 8 <= len(tail) else source.read(self.start, length)
         # Numbers in arrays: an object for each takes ten times as much as a part of a damaged footer may.
         self.rows, self.chunks = array.array("q"), array.array("Q")
         self.is_signed, self.schema = False, None  # where the list of the schema's elements begins
@@ -331,7 +184,8 @@ class Footer:
         return len(self.chunks) - before
 
     def leaves(self):
-        """The name and the path of each column. The names of all have at most 20 times the bytes of the footer."""
+        """For each column the names of its elements of the schema, as a and a.b, and where they begin. The names of all
+        columns have at most 20 times the bytes of the footer."""
         if self.schema is None:
             raise ValueError("the schema is missing")
         reader = Reader(self.data, self.schema)
@@ -352,7 +206,7 @@ class Footer:
             if length > 20 * len(self.data) or len(above) > MOST_DEPTH:
                 raise ValueError("the names of the columns are too long")
             if TYPE in fields:
-                yield name, [*(place for place, _, _ in above), begin]
+                yield [*(name for _, name, _ in above[1:]), name], [*(place for place, _, _ in above), begin]
             elif children:
                 above.append([begin, name, children])
             while above and above[-1][2] <= 0:
@@ -361,24 +215,26 @@ class Footer:
             raise ValueError("the schema is truncated")
 
     def find(self, names):
-        """The columns with these names."""
-        columns, counts = dict.fromkeys(names), collections.Counter()
-        for column in self.columns(columns):
-            counts[column.name] += 1
-            columns[column.name] = column
-        for name in columns:
-            if not counts[name]:
-                some = [leaf for leaf, _ in itertools.islice(self.leaves(), 10)]
-                raise ValueError(f"the column must be one of {', '.join(some)}{', ..' * (self.width > 10)}, not {name}")
-            if counts[name] > 1:
-                raise ValueError(f"the name of a column must be that of one alone: {name} is of {counts[name]}")
-        return list(columns.values())
+        """The columns with these names. That of an element with one column in it is one too, as tags for
+        tags.list.element."""
+        whole, parts = ({name: [] for name in names} for _ in range(2))
+        for index, (elements, path) in enumerate(self.leaves()):
+            for name in set(elements).intersection(whole):
+                found = (whole if name == elements[-1] else parts)[name]
+                if len(found) <= MOST_NAMES:
+                    found.append(Column(self, index, elements[-1], path))
+        return [self.only_one(name, whole[name] or parts[name]) for name in whole]
 
-    def columns(self, names=None):
-        """All columns, or those with these names."""
-        for index, (name, path) in enumerate(self.leaves()):
-            if names is None or name in names:
-                yield Column(self, index, name, path)
+    def only_one(self, name, found):
+        if not found:
+            raise ValueError(f"the column must be one of {some_of(self.columns())}, not {name}")
+        if len(found) > 1:
+            raise ValueError(f"the name of a column must be that of one alone: {name} is of {some_of(found)}")
+        return found[0]
+
+    def columns(self):
+        for index, (elements, path) in enumerate(self.leaves()):
+            yield Column(self, index, elements[-1], path)
 
     def with_filters(self, places):
         """The end of the file, if filters are at other places: (column, row group, offset, length)."""
@@ -410,17 +266,17 @@ class Footer:
                 .field(ROWS, I64, zigzag(self.rows[group])))
 
 
+def some_of(columns):
+    names = [column.name for column in itertools.islice(columns, MOST_NAMES + 1)]
+    return ", ".join([*names[:MOST_NAMES], ".."][:len(names)])
+
+
 def with_place(reader, offset, length):
     """A ColumnMetaData with another place of its filter."""
-    place = [(OFFSET, I64, zigzag(offset)), (LENGTH, I32, zigzag(length))]
+    fields = [(number, kind, reader.bytes_of(kind)) for number, kind in reader.fields() if number not in (OFFSET, LENGTH)]
+    fields += (OFFSET, I64, zigzag(offset)), (LENGTH, I32, zigzag(length))
     writer = Writer()
-    for number, kind in reader.fields():
-        value = reader.bytes_of(kind)
-        while place and number > LENGTH:
-            writer.field(*place.pop(0))
-        if number not in (OFFSET, LENGTH):
-            writer.field(number, kind, value)
-    for field in place:
+    for field in sorted(fields, key=operator.itemgetter(0)):
         writer.field(*field)
     return writer.end()
 

@@ -1,12 +1,13 @@
 """The bytes that a Parquet file stores for a value."""
 import datetime
 import decimal
+import math
 import numbers
 import operator
 import struct
 import uuid
 
-from .footer import BYTE_ARRAY, DOUBLE, FLOAT, INT32, INT64
+from .footer import BYTE_ARRAY, DOUBLE, FIXED, FLOAT, INT32, INT64
 
 MOST_BYTES = 1024  # of a decimal. Arrow's have up to 32.
 
@@ -33,6 +34,18 @@ def keys_of(value, column):
         raise TypeError(f"a value of {type(value).__name__} cannot be in {column.name}: {error}") from None
 
 
+def parse(text, column):
+    """The value of a column that a text stands for."""
+    kind = column.kind
+    try:
+        value = PARSERS.get(kind.name, PARSERS.get(kind.type, str))(text)
+    except (ArithmeticError, ValueError):
+        raise ValueError(f"the column {column.name} cannot have {text!r}") from None
+    if kind.name == "timestamp" and kind.is_utc and value.tzinfo is None:
+        return value.replace(tzinfo=datetime.timezone.utc)
+    return value
+
+
 def is_missing(value):
     try:
         return value is None or bool(value != value)
@@ -41,17 +54,21 @@ def is_missing(value):
 
 
 def of_float(value, format):
-    if not isinstance(value, numbers.Real):
+    """A query engine converts the value to the column's type, as 0.1 to FLOAT, and need not round to the nearest number.
+    So a value that the type lacks has the keys of the two numbers around it."""
+    if not isinstance(value, (numbers.Real, decimal.Decimal)):
         raise TypeError("it must be a number")
     try:
         key = struct.pack(format, value)
     except OverflowError:
-        return []
+        key = struct.pack(format, math.inf if value > 0 else -math.inf)
     except struct.error:  # a duration of numpy says that it is a number
         raise TypeError("it must be a number") from None
-    if struct.unpack(format, key)[0] != value:
-        return []
-    return [key] if value else [struct.pack(format, 0.0), struct.pack(format, -0.0)]
+    near, bits = struct.unpack(format, key)[0], int.from_bytes(key, "little")
+    if near == 0:
+        return [struct.pack(format, 0.0), struct.pack(format, -0.0)]
+    other = bits + (abs(near) < abs(value)) - (abs(near) > abs(value))
+    return [key] if other == bits else [key, other.to_bytes(len(key), "little")]
 
 
 def of_integer(number, kind):
@@ -123,3 +140,8 @@ def since_midnight(value, kind):
 
 
 MOMENTS = {"date": days, "timestamp": since_1970, "time": since_midnight}
+PARSERS = {
+    "date": datetime.date.fromisoformat, "time": datetime.time.fromisoformat, "decimal": decimal.Decimal,
+    "timestamp": datetime.datetime.fromisoformat, "uuid": uuid.UUID,
+    INT32: int, INT64: int, FLOAT: float, DOUBLE: float, FIXED: bytes.fromhex,
+}

@@ -5,8 +5,8 @@ BATCH = 1 << 24  # bytes of values that are in memory at a time, about
 MOST_ROWS = 1024  # of a batch; longer ones are not faster
 
 
-def stored_values(file, footer, column):
-    """For each row group the values of a column in batches."""
+def stored_values(file, footer, column, groups):
+    """For each of the row groups the values of a column in batches."""
     try:
         import pyarrow
         import pyarrow.parquet
@@ -17,8 +17,9 @@ def stored_values(file, footer, column):
         raise ValueError(f"a value of {column.name} must have 1 to {BATCH} bytes, not {width}")
     metadata = pyarrow.parquet.read_metadata(pyarrow.BufferReader(b"PAR1" + footer.of_column(column)))
     with pyarrow.parquet.ParquetFile(file, metadata=metadata, buffer_size=1 << 20, pre_buffer=False) as parquet:
-        for group, count in enumerate(footer.rows):
-            yield batches_of(parquet, group, max(1, min(64, BATCH // width, 64 * count // max(column.values(group), 1))))
+        for group in groups:
+            values = max(column.values(group), 1)
+            yield group, batches_of(parquet, group, max(1, min(64, BATCH // width, 64 * footer.rows[group] // values)))
 
 
 def batches_of(parquet, group, rows):

@@ -1,0 +1,136 @@
+"""The filters of a file, as many questions as there are, from one reading of the footer."""
+import array
+import contextlib
+import itertools
+import math
+
+from .. import BloomFilter, xxh64_intdigest
+from .files import Source, open_file
+from .footer import Footer
+from .keys import keys_of
+
+SET_BITS = bytes(bin(byte).count("1") for byte in range(256))
+
+
+class BloomFilterReader:
+    """The filters of a file. The footer, and where the filters of each column asked for are, stay in memory.
+
+    Threads may share a reader. It is a context manager, and closes a file that it has opened.
+    """
+
+    def __init__(self, file):
+        with contextlib.ExitStack() as stack:
+            if not hasattr(file, "read"):
+                file = stack.enter_context(open_file(file))
+            self.source = Source(file)
+            self.footer = Footer(self.source)
+            self.asked = {}  # the columns by the names that were asked for, and the places of their filters
+            self.opened = stack.pop_all()
+
+    def __enter__(self):
+        return self
+
+    def __exit__(self, kind, value, traceback):
+        self.close()
+
+    def close(self):
+        self.opened.close()
+
+    @property
+    def num_row_groups(self):
+        return self.footer.groups
+
+    def filters(self):
+        """For each (row group, column) that has a filter, how many bytes its bits have."""
+        groups = range(self.num_row_groups)
+        return {(group, column.name): place[1] for column in self.footer.columns()
+                for group, place in zip(groups, places_of(self.source, self.footer, column, groups)) if place}
+
+    def read_filter(self, row_group, column):
+        """The filter of a column in a row group, or None if it has none."""
+        if not 0 <= row_group < self.num_row_groups:
+            raise IndexError(f"a row group must be from 0 to {self.num_row_groups - 1}, not {row_group}")
+        place, = places_of(self.source, self.footer, *self.footer.find([column]), [row_group])
+        filter = place and BloomFilter.from_bytes(self.source.read(*place))
+        self.source.check_unchanged()
+        return filter
+
+    def may_contain(self, column, values):
+        """For each value a list of the row groups that may have it in a column, so also of those without a filter.
+
+        A value is that of pyarrow: a str, bytes, a number, a date, time or datetime, a Decimal, a UUID. A value that the
+        column cannot have, such as 2**40 in INT32, is in no row group.
+        """
+        if isinstance(values, (str, bytes)) or not hasattr(values, "__iter__"):
+            raise TypeError("values must be a list of values, as [42], not one value")
+        if column not in self.asked:
+            found, = self.footer.find([column])
+            self.asked[column] = found, places_of(self.source, self.footer, found, range(self.num_row_groups))
+        found, places = self.asked[column]
+        keys = [keys_of(value, found) for value in (values.to_pylist() if hasattr(values, "to_pylist") else values)]
+        owners = [i for i, some in enumerate(keys) for _ in some]
+        hashes = array.array("Q", [xxh64_intdigest(key) for some in keys for key in some])
+        groups = [[] for _ in keys]
+        for group, answers in enumerate(contain_hashes(self.source, places, hashes)):
+            for i in dict.fromkeys(itertools.compress(owners, answers)):
+                groups[i].append(group)
+        self.source.check_unchanged()  # other bytes would be a filter without the values
+        return groups
+
+
+def places_of(source, footer, column, groups):
+    """For each of the row groups where the bits of the filter begin, and how many bytes they have; or None."""
+    places, again = itertools.tee(column.place(group) for group in groups)
+    heads = source.read_each(range_of_header(footer, column, offset) for offset, _ in again if offset is not None)
+    return [None if offset is None else place_of_bits(footer, column, offset, length, next(heads)) for offset, length in places]
+
+
+def range_of_header(footer, column, offset):
+    if not 4 <= offset < footer.start:
+        raise ValueError(f"a filter of {column.name} must be in the file, not at {offset}")
+    return offset, min(BloomFilter.PARQUET_HEADER_MAX, footer.start - offset)
+
+
+def place_of_bits(footer, column, offset, length, head):
+    bits = BloomFilter.parquet_bits(head)
+    if offset + bits.stop > footer.start or length not in (None, bits.stop):
+        raise ValueError(f"the filter of {column.name} at {offset} must have the length that the footer has")
+    return offset + bits.start, len(bits)
+
+
+def contain_hashes(source, places, hashes):
+    """For each row group whether its filter may have each hash.
+
+    A small filter is read whole. Of another one a block is read for each hash. As a filter alone it has the hash if the
+    whole filter has.
+    """
+    small = source.gap * len(hashes)
+    pieces = map(BloomFilter.view, source.read_each(ranges_of(filter(None, places), hashes, small)))
+    for place in places:
+        if place is None:
+            yield itertools.repeat(True)
+        elif place[1] <= small:
+            yield next(pieces).contains_hashes(hashes)
+        else:
+            yield [next(pieces).contains_hashes(hashes[i:i + 1])[0] for i in range(len(hashes))]
+
+
+def ranges_of(places, hashes, small):
+    for begin, num_bytes in places:
+        if num_bytes <= small:
+            yield begin, num_bytes
+        else:
+            yield from ((begin + BloomFilter.block_offset(num_bytes, hash), 32) for hash in hashes)
+
+
+def false_positive_rate(bits):
+    """The share of other keys that a filter finds: in each block the product of its eight words' shares of set bits."""
+    total = 0
+    for begin in range(0, len(bits), 1 << 20):
+        piece = bits[begin:begin + (1 << 20)]
+        counts = int.from_bytes(piece.translate(SET_BITS), "little")  # of set bits, in each byte
+        counts += counts >> 8
+        counts += counts >> 16  # in every fourth byte the count of its word
+        words = iter(counts.to_bytes(len(piece), "little")[::4])
+        total += sum(map(math.prod, zip(*[words] * 8)))
+    return total / 32**8 / (len(bits) // 32)
