@@ -235,7 +235,8 @@ test('a block alone tells whether a filter has a hash', () => {
     const hash = library.xxh64(new TextEncoder().encode('fox')), bytes = new library.BloomFilter(96).addHash(hash).toBytes();
     const start = library.BloomFilter.blockOffset(96, hash);
     assert(library.BloomFilter.fromBytes(bytes.slice(start, start + 32)).hasHash(hash));
-    assert.throws(() => library.BloomFilter.blockOffset(33, hash), { name: 'RangeError', message: /multiple of 32 bytes, not 33/ });
+    const error = { name: 'RangeError', message: /multiple of 32 bytes, not 33/ };
+    assert.throws(() => library.BloomFilter.blockOffset(33, hash), error);
 });
 
 test('a folded filter is that of half the length', () => {
