@@ -1,7 +1,7 @@
 /* sketch_hash.c 3.0.0: printed from proved text. Do not edit it: tools/print_c prints it.
  *
  * crate     sketch_c, and those that it depends on, of which PROVED says more
- * text      7570eae52ad49386c32e21df5492dad511bf939a35dbbfa96fddd602a23af7af
+ * text      c8fceda55483fbcd6765631e08854641b0e830272867366d192674a9af8a188a
  * prover    rattle-kit-13f logic dac8208d650f15bf
  * compiler  clang version 22.1.8, of the kit: its module, optimized, is what is printed
  * licence   Apache-2.0
