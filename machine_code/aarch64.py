@@ -84,6 +84,8 @@ OPERATIONS = {
     "csel": lambda m, x, y, holds: x if holds else y, "csinc": lambda m, x, y, holds: x if holds else plus_one(y),
     "cset": plain(lambda bit: bit), "csetm": lambda m, holds: number(-holds),
     "ushl": plain(shift_lane), "sshl": plain(shift_lane), "ushr": shift(shift_right), "shl": shift(shift_left),
+    "umulh": plain(lambda x, y: number(known(x, "a factor") * known(y, "a factor") >> 64)),
+    "cnt": plain(lambda x: number(bin(known(x, "a byte")).count("1"), 8)),
     "cmeq": plain(lambda x, y: join(*[is_zero(bitwise("xor", x, y))] * width_of(x))),
 }
 OPERATIONS |= dict.fromkeys(("mov", "fmov", "adrp", "adr", "umov"), plain(lambda x: x))
@@ -156,6 +158,8 @@ class Aarch64(Machine):
 
     def condition(self, name):
         """Those of a carry have x86-64's names only after a subtraction."""
+        if self.flags and self.flags[0] == "add" and name in ("b", "ae"):
+            return super().condition({"b": "ae", "ae": "b"}[name])
         if name in ("b", "be", "a", "ae") and (not self.flags or self.flags[0] not in ("sub", "bits")):
             raise Stop("a carry that is not understood")
         return super().condition(name)
@@ -185,6 +189,9 @@ class Aarch64(Machine):
             self.registers[register] = field(self.registers[register], self.read(operands[1]), at, size)
         elif operands[0][0] == "v":
             self.write(operands[0], self.vector(op, operands))
+        elif op == "addv" and operands[0][0] == "b":
+            value = self.read(operands[1])
+            self.write(operands[0], functools.reduce(add, (cut(value, at, 8) for at in range(0, width_of(value), 8))))
         else:
             width = width_of(self.read(operands[0]))
             values = [self.read(item, width) for item in operands[op not in ("cmp", "tst") :]]
@@ -265,6 +272,6 @@ class Aarch64(Machine):
             return cut(join(*values[:2]), 8 * known(values[2], "a place"), count * size)
         if op in ("ushr", "shl") and known(values[1], "a shift") < size:
             return lanes(size, lambda item: OPERATIONS[op](self, item, values[1]), values[0])
-        if op in ("add", "sub", "mul", "ushl", "sshl", "cmeq"):
+        if op in ("add", "sub", "mul", "ushl", "sshl", "cmeq", "cnt"):
             return lanes(size, functools.partial(OPERATIONS[op], self), *values)
         return {item: OPERATIONS[item] for item in ("and", "orr", "eor", "bic", "mvn", "orn")}[op](self, *values)

@@ -103,7 +103,18 @@ def plus_one(sign):
 
 
 def with_carry(sign):
-    return lambda m, x, y: m.compare(None, x, y, add(add(x, y, sign), extend(m.condition("b"), width_of(x)), sign))
+    """Of numbers that are known it sets conditions too."""
+    def run(m, x, y):
+        carry = m.condition("b")
+        result = add(add(x, y, sign), extend(carry, width_of(x)), sign)
+        numbers = [number_in(item) for item in (x, y, carry)]
+        if None in numbers:
+            return m.compare(None, x, y, result)
+        whole = numbers[0] + sign * (numbers[1] + numbers[2])
+        m.compare("bits", is_zero(result), number(not 0 <= whole < 1 << width_of(x), 1), None)
+        return result
+
+    return run
 
 
 def of_128_bits(x):
@@ -191,6 +202,19 @@ def broadcast(size):
     return lambda m, x: join(*[cut(x, 0, size)] * (256 // size))
 
 
+def packed(x, y):
+    """A byte of each signed word that is known, or the nearest one."""
+    of_128_bits(x)
+    words = [known(cut(value, at, 16), "a word") for value in (x, y) for at in range(0, 128, 16)]
+    return join(*(number(0 if word >> 15 else min(word, 255), 8) for word in words))
+
+
+def differences(x, y):
+    """The sum of those of bytes that are known."""
+    pairs = [[known(cut(value, at, 8), "a byte") for value in (x, y)] for at in range(0, 64, 8)]
+    return number(sum(abs(one - other) for one, other in pairs))
+
+
 def is_covered(m, x, y):
     """`ptest`: whether the values have no bit in common, and whether x has all bits of y."""
     return m.compare("bits", is_zero(bitwise("and", x, y)), is_zero(bitwise("and", complement(x), y)), None)
@@ -218,12 +242,13 @@ OPERATIONS = {
     "movmskps": plain(lambda x: lanes(32, lambda lane: cut(lane, 31, 1), x)),
     "pmovmskb": plain(lambda x: lanes(8, lambda item: cut(item, 7, 1), x)),
     "pandn": plain(lambda x, y: bitwise("and", complement(x), y)),
-    "paddd": lanewise(32, add), "paddq": lanewise(64, add), "pmulld": lanewise(32, mul),
+    "paddd": lanewise(32, add), "psubd": lanewise(32, sub), "paddq": lanewise(64, add), "pmulld": lanewise(32, mul),
     "pmuludq": lanewise(64, half_product), "psllvd": lanewise(32, shift_lane(shift_left)),
     "psrlvd": lanewise(32, shift_lane(shift_right)),
     "pcmpeqb": lanewise(8, is_equal), "pcmpeqd": lanewise(32, is_equal),
-    "psrld": shifted_lanes(32, shift_right), "pslld": shifted_lanes(32, shift_left), "psrlq": shifted_lanes(64, shift_right),
-    "psllq": shifted_lanes(64, shift_left),
+    "psrlw": shifted_lanes(16, shift_right), "psrld": shifted_lanes(32, shift_right), "psrlq": shifted_lanes(64, shift_right),
+    "pslld": shifted_lanes(32, shift_left), "psllq": shifted_lanes(64, shift_left),
+    "paddb": lanewise(8, add), "packuswb": plain(packed), "psadbw": lanewise(64, differences),
     # of x86-64-v3
     "rorx": plain(lambda x, n: rotate_right(x, known(n, "a shift"))), "andn": lambda m, x, y: logic("and")(m, complement(x), y),
     "shlx": plain(shift_by_any(shift_left)), "pbroadcastd": broadcast(32),
@@ -314,6 +339,8 @@ class X86(Machine):
             return self.fill(FILLS[text])
         if op == "call" or op[0] == "j":
             return self.jump(op, int(text, 16))
+        if op == "mul":
+            return self.multiply(*decode(text))
         if op == "leave":
             self.registers["rsp"], op, text = self.registers["rbp"], "pop", "rbp"
         if op in ("push", "pop", "ret"):
@@ -353,6 +380,12 @@ class X86(Machine):
             self.store(self.registers["rdi"], cut(self.registers["rax"], 0, 8 * size))
             self.registers["rdi"] = add(self.registers["rdi"], number(size))
         self.registers["rcx"] = number(0)
+
+    def multiply(self, operand):
+        """All 128 bits of a product of numbers that are known. Nobody asks for its conditions."""
+        product = known(self.registers["rax"], "a factor") * known(self.read(operand, 64), "a factor")
+        self.registers["rax"], self.registers["rdx"] = number(product & 2 ** 64 - 1), number(product >> 64)
+        self.flags = None
 
     def jump(self, op, target):
         if op == "call":
