@@ -1,0 +1,101 @@
+"""Filters of Parquet files beside those of pyarrow, and in queries of DuckDB."""
+import subprocess
+
+import pytest
+from helpers import TYPES, column_of
+from sketch_hash import parquet
+from sketch_hash.parquet import values as parquet_values
+from sketch_hash.parquet.files import Source
+from sketch_hash.parquet.footer import Footer
+
+pytest.importorskip("numpy")
+pytestmark = pytest.mark.filterwarnings("ignore:the filters of")
+
+ALL_TYPES = [*TYPES, "date64", "time32('s')", "timestamp('s')", *(f"decimal128({digits}, 2)" for digits in (9, 18, 30))]
+OPTIONS = [
+    {}, {"data_page_version": "2.0", "compression": "zstd"}, {"use_dictionary": False, "write_page_index": True},
+    {"version": "1.0", "coerce_timestamps": "ms", "allow_truncated_timestamps": True},
+    {"store_decimal_as_integer": True},
+]
+
+
+@pytest.mark.parametrize("name", ALL_TYPES)
+def test_filters_are_those_of_pyarrow(name, pa, tmp_path):
+    table = pa.table({"x": column_of(pa, name)})
+    plain, ours, theirs = (tmp_path / file for file in ("plain", "ours", "theirs"))
+    for options in OPTIONS:
+        pa.parquet.write_table(table, plain, row_group_size=1500, **options)
+        options = {**options, "bloom_filter_options": {"x": {"ndv": 1500, "fpp": 0.01}}}
+        pa.parquet.write_table(table, theirs, row_group_size=1500, **options)
+        parquet.add_filters(plain, ours, ["x"])
+        for group in range(3):
+            one, two = parquet.read_filter(ours, group, "x"), parquet.read_filter(theirs, group, "x")
+            while one.num_bytes != two.num_bytes:
+                max(one, two, key=lambda filter: filter.num_bytes).fold()
+            assert one == two
+        assert pa.parquet.read_table(ours).equals(pa.parquet.read_table(plain))
+        assert parquet.check_filters(ours) == parquet.check_filters(theirs) == 3
+
+
+def test_nested_columns_have_filters_of_their_values(pa, tmp_path):
+    rows = [None if i % 5 == 2 else [{"a": i, "m": [(str(i), None if i % 3 else i)]}] * (i % 3) for i in range(100)]
+    type = pa.list_(pa.struct([("a", pa.int32()), ("m", pa.map_(pa.string(), pa.int64()))]))
+    table = pa.table({"x": pa.array(rows, type)})
+    pa.parquet.write_table(table, tmp_path / "a", row_group_size=40)
+    with open(tmp_path / "a", "rb") as file:
+        names = [column.name for column in Footer(Source(file)).columns()]
+    parquet.add_filters(tmp_path / "a", tmp_path / "a", names)
+    assert parquet.check_filters(tmp_path / "a") == 9 and pa.parquet.read_table(tmp_path / "a").equals(table)
+    for i in range(100):
+        if i % 5 != 2 and i % 3:
+            values = [i, str(i), *[i] * (i % 3 == 0)]
+            found = [parquet.may_contain(tmp_path / "a", name, value) for name, value in zip(names, values)]
+            assert all(i // 40 in groups for groups in found)
+
+
+@pytest.mark.parametrize("is_list", [False, True])
+def test_long_texts_are_read_a_few_at_a_time(is_list, pa, tmp_path):
+    """A dictionary page has each once, so the file does not show how much memory they take."""
+    rows = pa.array(["x"] * 2000 + ["x" * 40_000] * 5000)
+    rows = pa.ListArray.from_arrays(range(len(rows) + 1), rows) if is_list else rows
+    pa.parquet.write_table(pa.table({"x": rows}), tmp_path / "a", compression="zstd")
+    with open(tmp_path / "a", "rb") as file:
+        footer = Footer(Source(file))
+        column, = footer.columns()
+        sizes = [batch.nbytes for _, batches in parquet_values.stored_values(file, footer, column, [0]) for batch in batches]
+    assert max(sizes) < 1 << 26 and sum(sizes) > 5000 * 40_000
+    parquet.add_filters(tmp_path / "a", tmp_path / "a", [column.name])
+    assert parquet.may_contain(tmp_path / "a", column.name, "x" * 40_000) == [0]
+
+
+def duckdb(folder, *queries):
+    """The rows of the answers, in which only the first column counts."""
+    command = ["duckdb", "-csv", "-noheader", "-nullvalue", "none", "-separator", "|", "-c", ";".join(queries)]
+    output = subprocess.run(command, cwd=folder, capture_output=True, text=True)
+    assert output.returncode == 0, output.stderr[-500:]
+    return output.stdout.splitlines()
+
+
+def test_duckdb_finds_the_same_rows_and_prunes(need, pa, tmp_path):
+    need("duckdb")
+    types = [type for type in ALL_TYPES if type not in ("binary", "binary(4)", "date64", "duration('s')")]
+    table = pa.table({f"c{i}": column_of(pa, type) for i, type in enumerate(types)})
+    pa.parquet.write_table(table, tmp_path / "plain.parquet", row_group_size=700, write_statistics=False)
+    parquet.add_filters(tmp_path / "plain.parquet", tmp_path / "filters.parquet", table.column_names)
+    rows = (0, 1234, 2998)
+    values = duckdb(tmp_path, *(f"select {name}::varchar from 'plain.parquet' limit 1 offset {row}"
+                                for name in table.column_names for row in rows))
+    assert "none" not in values
+    asked = [f"select count(*) from '{{0}}' where {name} = '{value}'"
+             for i, name in enumerate(table.column_names) for value in values[3 * i : 3 * i + 3]]
+    plain = duckdb(tmp_path, *(query.format("plain.parquet") for query in asked))
+    filtered = duckdb(tmp_path, *(query.format("filters.parquet") for query in asked))
+    assert filtered == plain and "0" not in plain
+
+    probe = "select bloom_filter_excludes from parquet_bloom_probe('filters.parquet', '{}', {})"
+    for name, type, value in ((f"c{i}", type, v) for i, type in enumerate(types)
+                              for v in (5, 99999, "0007", "dog") if (type == "string") == isinstance(v, str)):
+        if type in ("int32", "int64", "string"):
+            excluded = duckdb(tmp_path, probe.format(name, repr(value)))
+            groups = parquet.may_contain(tmp_path / "filters.parquet", name, value)
+            assert [i for i, answer in enumerate(excluded) if answer == "false"] == groups and len(groups) < 6
