@@ -213,7 +213,7 @@ def test_each_form_of_zero_is_looked_for():
 def test_a_number_that_float_cannot_have_finds_those_around_it():
     """As DuckDB finds 0.1, which it converts. The filters have 0.25 in the first row group, and 2.25 in the second."""
     for value, group in ((0.25 + 1e-12, 0), (0.25 - 1e-12, 0), (0.25, 0), (2.25 + 2e-7, 1), (numpy.float32(0.25), 0),
-                         (decimal.Decimal("0.25"), 0)):
+                         (decimal.Decimal("0.25"), 0), (1e-45, 0), (-1e-60, 0)):
         assert group in parquet.may_contain(FILTERS, "float", value)
     assert parquet.may_contain(FILTERS, "float", 1e300) == []
 

@@ -13,7 +13,7 @@ MOST_BYTES = 1024  # of a decimal. Arrow's have up to 32.
 
 
 def keys_of(value, column):
-    """The keys of a value: two for zero as a float, none if the column cannot have the value."""
+    """The keys of a value: several for some floats, none if the column cannot have the value."""
     kind = column.kind
     reason = kind.why_no_filter()
     if reason:
@@ -55,7 +55,7 @@ def is_missing(value):
 
 def of_float(value, format):
     """A query engine converts the value to the column's type, as 0.1 to FLOAT, and need not round to the nearest number.
-    So a value that the type lacks has the keys of the two numbers around it."""
+    So a value that the type lacks has the keys of the two numbers around it. Zero has two forms."""
     if not isinstance(value, (numbers.Real, decimal.Decimal)):
         raise TypeError("it must be a number")
     try:
@@ -65,10 +65,11 @@ def of_float(value, format):
     except struct.error:  # a duration of numpy says that it is a number
         raise TypeError("it must be a number") from None
     near, bits = struct.unpack(format, key)[0], int.from_bytes(key, "little")
-    if near == 0:
-        return [struct.pack(format, 0.0), struct.pack(format, -0.0)]
-    other = bits + (abs(near) < abs(value)) - (abs(near) > abs(value))
-    return [key] if other == bits else [key, other.to_bytes(len(key), "little")]
+    forms = {bits, bits + (abs(near) < abs(value)) - (abs(near) > abs(value))}
+    zeros = {0, 1 << 8 * len(key) - 1}
+    if forms & zeros:
+        forms |= zeros
+    return [form.to_bytes(len(key), "little") for form in sorted(forms)]
 
 
 def of_integer(number, kind):
