@@ -274,6 +274,9 @@ def test_the_block_of_a_hash_tells_whether_a_filter_has_it():
     for num_bytes in (0, 33, 2**37):
         with pytest.raises(ValueError, match=f"must have a positive multiple of 32 bytes, below 2..37, not {num_bytes}"):
             BloomFilter.block_offset(num_bytes, 1)
+    for hash in (-1, 2**64):
+        with pytest.raises(OverflowError, match="^hash must be from 0 to 2..64 - 1$"):
+            BloomFilter.block_offset(96, hash)
 
 
 @pytest.mark.parametrize("make, args, error, text", [

@@ -307,7 +307,7 @@ cdef class BloomFilter:
         it: so of a filter in a file no other bytes are read. Raises ValueError if no filter has that many bytes."""
         num_bytes = operator.index(num_bytes)
         check_length(num_bytes)
-        return sketch_bloom_block_offset(num_bytes, operator.index(hash))
+        return sketch_bloom_block_offset(num_bytes, word_of(hash, "hash"))
 
     @classmethod
     def view(cls, buffer):
