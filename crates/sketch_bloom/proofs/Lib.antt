@@ -5,4 +5,10 @@ mod LawLemmas
 mod FoldLemmas
 mod RateLemmas
 mod SizeLemmas
+mod ExactWeights
+mod ExactShares
+mod ExactFound
+mod ExactTail
+mod ExactCrowd
+mod ExactLemmas
 mod KnownAnswers

@@ -20,7 +20,7 @@ first_term keys log2_blocks = record {
   clear_is = refl;
 }
 
-unit_is_positive : (keys log2_blocks k : ℕ) → 0 < (weight keys log2_blocks k).unit
+pub unit_is_positive : (keys log2_blocks k : ℕ) → 0 < (weight keys log2_blocks k).unit
 unfolding weight
 unit_is_positive keys log2_blocks zero = omega arith
 unit_is_positive keys log2_blocks (suc k) =

@@ -1,8 +1,10 @@
 -- Facts about filters.
-use Rattle.std.specs.Prelude.{◌≡◌, ◌↔◌, ◌⊎◌, ℕ, ◌*◌, ◌/◌, ◌^◌, ◌<◌, List, [], ◌∷◌, ◌++◌, drop, length, map, replicate, take, Contains}
+use Rattle.std.specs.Prelude.{◌≡◌, ◌↔◌, ◌⊎◌, ℕ, ◌*◌, ◌/◌, ◌^◌, ◌<◌, ◌≤◌, List, [], ◌∷◌, ◌++◌, drop, length, map, replicate, take, Contains}
 use Rattle.datasketches.specs.Bytes.{AreBytes}
 use Rattle.sketch_bloom.specs.Filter.{Folds, Inserts, InsertsAll, IsBitOfAny, IsFoldable, IsLength, IsMember, IsSet, Merges, block_of, hash_of}
+use Rattle.sketch_bloom.specs.ExactRate.{IsRateAbove, IsRateBelow}
 use Rattle.sketch_bloom.specs.Rate.{FoldsWithin}
+use Rattle.sketch_bloom.specs.Size.{KeepsRate}
 
 -- the empty filter with this many bytes
 abbrev pub empty_filter : ℕ → List ℕ
@@ -70,3 +72,13 @@ pub record BlockLaw : Type 0 where
 pub record ValueLaw : Type 0 where
   pub found : (filter fed : List ℕ) (values : List (List ℕ)) →
       StandsFor filter (map hash_of values) → Contains values fed → IsMember filter (hash_of fed)
+
+-- The law of sizes. The sums of whole numbers of `Size.antt`, which decide whether a size keeps a
+-- rate, are near to the exact ones.
+pub record SizeLaw : Type 0 where
+  -- a size that keeps a rate has it exactly, but for 2 ^ -22
+  pub kept : (keys one_in log2_blocks k : ℕ) → 383 ≤ k → KeepsRate keys log2_blocks one_in →
+      IsRateBelow keys (2 ^ log2_blocks) one_in k
+  -- a size that does not keep it has a rate of 0.999 / one_in or more, for up to one in 2 ^ 26
+  pub missed : (keys one_in log2_blocks k : ℕ) → 383 ≤ k → 0 < one_in →
+      (KeepsRate keys log2_blocks one_in → ⊥) → IsRateAbove keys (2 ^ log2_blocks) one_in k

@@ -2,6 +2,7 @@ pub mod Filter
 pub mod Columns
 pub mod Rate
 pub mod Header
-pub mod Laws
 pub mod Size
+pub mod ExactRate
+pub mod Laws
 pub mod KnownAnswers

@@ -1,7 +1,7 @@
 //! Facts about filters, for a caller's proof. Each function does nothing: its contract is the law.
 
 ghost use Rattle.sketch_bloom.specs.Header.{HeaderLaw};
-ghost use Rattle.sketch_bloom.specs.Laws.{BlockLaw, FoldLaw, InsertLaw, MergeLaw, ValueLaw};
+ghost use Rattle.sketch_bloom.specs.Laws.{BlockLaw, FoldLaw, InsertLaw, MergeLaw, SizeLaw, ValueLaw};
 
 /// A filter contains each value that was inserted. Filters of one length are the same, byte for
 /// byte, if the same values were inserted, in any order and however often.
@@ -39,4 +39,11 @@ pub fn value_law()
 #[tactic(auto, using(crate::proofs::HeaderLemmas::header_law))]
 pub fn header_law()
     ensures { HeaderLaw }
+{}
+
+/// A size from [`bytes_for`](crate::bytes_for) has the rate that was asked, within 2^-22, and any
+/// smaller power of two has 0.999 of it or more, for rates down to one in 2^26.
+#[tactic(auto, using(crate::proofs::ExactLemmas::size_law))]
+pub fn size_law()
+    ensures { SizeLaw }
 {}
