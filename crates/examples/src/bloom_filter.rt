@@ -1,6 +1,7 @@
 //! A Bloom filter of Apache Parquet that is filled, saved with its header, read, and merged.
 
-ghost use Rattle.std.specs.Prelude.{ℕ, List, ◌≡◌, ◌⊎◌, ◌↔◌, ◌+◌, ◌*◌, ◌^◌, ◌<◌, ◌≤◌, ◌++◌, ◌∷◌, [], Contains, IfOk, IsTrue, MatchOption, MatchResult, length, map, take};
+ghost use Rattle.std.specs.Prelude.{ℕ, List, ◌≡◌, ◌⊎◌, ◌↔◌, ◌+◌, ◌*◌, ◌^◌, ◌<◌, ◌≤◌, ◌++◌, ◌∷◌, [], Contains, IfOk, IfSome, IsTrue, MatchOption, MatchResult, None, length, map, take};
+ghost use Rattle.sketch_bloom.specs.ExactRate.{IsRateAbove, IsRateBelow};
 ghost use Rattle.sketch_bloom.specs.Filter.{Folds, Inserts, IsFoldFault, IsLengthFault, IsMember, IsMergeFault, Merges, hash_of};
 ghost use Rattle.sketch_bloom.specs.Header.{IsHeaderLength, header};
 ghost use Rattle.sketch_bloom.specs.Laws.{StandsFor};
@@ -9,7 +10,7 @@ ghost use Rattle.sketch_bloom.specs.Size.{IsLeastSize, NoneKeepsRate};
 
 use datasketches::hash::Hash;
 use datasketches::hash::value::raw_bytes;
-use sketch_bloom::laws::{block_law, fold_law, header_law, insert_law, merge_law};
+use sketch_bloom::laws::{block_law, fold_law, header_law, insert_law, merge_law, size_law};
 use sketch_bloom::{
     BloomFilter, Fault, MAX_BYTES, block_offset, bytes_for, contains, contains_hash, insert,
     insert_each_value, merge, read_header, write_header,
@@ -37,6 +38,19 @@ pub fn fill<T: Hash>(alloc: Global, values: &[T], one_in: u64) -> Result<BloomFi
     let mut filter = BloomFilter::new(alloc, bytes)?;
     filter.insert_each_value(values);
     Ok(filter)
+}
+
+/// The size for this number of keys. Its exact false positive rate is the one that was asked or less,
+/// but for 2^-22. Each smaller power of two has 0.999 of it or more, for rates down to one in 2^26.
+pub fn size_for(keys: u64, one_in: u64) -> Option<usize>
+    ensures rate { IfSome result (λ bytes. (log2_blocks : ℕ) × (bytes ≡ 32 * 2 ^ log2_blocks)
+        × ((k : ℕ) → 383 ≤ k → IsRateBelow keys (2 ^ log2_blocks) one_in k)
+        × ((smaller k : ℕ) → smaller < log2_blocks → 383 ≤ k →
+        IsRateAbove keys (2 ^ smaller) one_in k)) }
+    ensures none { result ≡ None → NoneKeepsRate keys one_in }
+{
+    size_law();
+    bytes_for(keys, one_in)
 }
 
 /// Whether a filter contains a key that was inserted. It always does.
