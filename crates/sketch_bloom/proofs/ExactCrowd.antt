@@ -25,7 +25,7 @@ grows keys blocks k many early =
     let more : blocks * suc k ≤ keys = omega (arith, many, mul-le-mul_right blocks early) in
     rw (pow-suc keys k) (omega (arith, mul-le-mul_right (keys ^ k) more))
 
--- After weight k, the sum of those found is less than half of the sum of all by m weights k at most, twice.
+-- By the terms 0 to k, found keys lack m / 10 of weight k, at most, to be half of all.
 abbrev Lacks : ℕ → ℕ → ℕ → ℕ → Type 0
 Lacks keys blocks k m = 5 * (weights_to keys blocks k * (32 ^ 8) ^ k)
     ≤ 10 * found_to keys blocks k + m * (keys ^ k * (32 ^ 8) ^ k)

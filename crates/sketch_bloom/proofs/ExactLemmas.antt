@@ -12,7 +12,7 @@ use Rattle.sketch_bloom.specs.ExactRate.{IsRateAbove, IsRateBelow, found_to, wei
 use Rattle.sketch_bloom.specs.Laws.{SizeLaw}
 use Rattle.sketch_bloom.proofs.SizeLemmas.{unit_is_positive}
 
--- Each constant is an error's bound, in parts of 2 ^ 100: of weights_to, of c, of roundings at the end.
+-- Each term bounds an error in parts of 2 ^ 100: of the weights, of c(k), of the last division.
 abbrev most_above : ℕ
 most_above = 2 ^ 60 * 147072 + 2 ^ 54 + 1
 

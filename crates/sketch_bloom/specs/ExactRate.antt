@@ -2,10 +2,11 @@
 --
 -- As `Size.antt` says, a block of a filter of z blocks with n values has k of them in proportion to
 -- w(k) = n^k / (z^k k!), and then has another value with a probability of c(k) = (1 - (31/32)^k)^8.
--- The rate is the sum of w(k) c(k) over all k, divided by the sum of w(k). The more terms, the nearer.
+-- The rate is the sum of w(k) c(k) over all k, divided by the sum of w(k). With more terms, both
+-- sums come nearer to it.
 --
--- Both sums of the terms 0 to k are whole numbers here, since they are multiplied by z^k k!, and the
--- first by 32^(8 k) besides.
+-- The sums of the terms 0 to k are whole numbers here, since they are multiplied by z^k k!, and the
+-- first also by 32^(8 k).
 use Rattle.std.specs.Prelude.{ℕ, zero, suc, ◌+◌, ◌-◌, ◌*◌, ◌^◌, ◌≤◌}
 
 -- (w(0) + .. + w(k)) z^k k!

@@ -2,50 +2,69 @@
 
 use super::{ONE_VALUE_1, ONE_VALUE_2, assert_done_or_no_memory, prints, refuse};
 use crate::{Fault, MemberTable};
-use datasketches::error::{Error, ErrorKind};
+use datasketches::error::Error;
 use std::alloc::Global;
 use std::process::Abort;
 use std::test::Fail;
 
-// A place in the bytes of a table, another byte there, and the error's message.
+// A place in the bytes of a table, another byte there, and the line that the error prints.
 type Change = (usize, u8, &'static str);
 
 const CHANGES_1: [Change; 6] = [
     (
         0,
         4,
-        "invalid preamble longs: expected one of [2, 3], got 4",
+        "InvalidData => invalid preamble longs: expected one of [2, 3], got 4",
     ),
-    (0, 3, "unsupported serial version: expected 2, got 1"),
-    (1, 2, "unsupported serial version: expected 1, got 2"),
-    (2, 21, "invalid family: expected 200 (MEMBER), got 21"),
-    (3, 5, "invalid log2 bits: expected 6 to 20, got 5"),
-    (6, 1, "reserved bytes are not zero"),
+    (
+        0,
+        3,
+        "InvalidData => unsupported serial version: expected 2, got 1",
+    ),
+    (
+        1,
+        2,
+        "InvalidData => unsupported serial version: expected 1, got 2",
+    ),
+    (
+        2,
+        21,
+        "InvalidData => invalid family: expected 200 (MEMBER), got 21",
+    ),
+    (
+        3,
+        5,
+        "InvalidData => invalid log2 bits: expected 6 to 20, got 5",
+    ),
+    (6, 1, "InvalidData => reserved bytes are not zero"),
 ];
 
 const CHANGES_2: [Change; 4] = [
-    (4, 17, "invalid hashes: expected 1 to 16, got 17"),
-    (5, 2, "reserved bytes are not zero"),
-    (7, 1, "reserved bytes are not zero"),
-    (5, 0, "unknown count is not zero"),
+    (
+        4,
+        17,
+        "InvalidData => invalid hashes: expected 1 to 16, got 17",
+    ),
+    (5, 2, "InvalidData => reserved bytes are not zero"),
+    (7, 1, "InvalidData => reserved bytes are not zero"),
+    (5, 0, "InvalidData => unknown count is not zero"),
 ];
 
 // Asserts that bytes are refused.
-fn refuse_bytes(rt: &impl Abort, alloc: Global, bytes: &[u8], message: &str) -> Result<(), Error> {
-    let answer = MemberTable::from_bytes(alloc, bytes);
-    refuse(rt, answer, ErrorKind::InvalidData, message)
+fn refuse_bytes(rt: &impl Abort, alloc: Global, bytes: &[u8], line: &str) -> Result<(), Error> {
+    refuse(rt, MemberTable::from_bytes(alloc, bytes), line)
 }
 
 fn try_changes(rt: &impl Abort, alloc: Global) -> Result<(), Error> {
-    for (place, byte, message) in CHANGES_1 {
+    for (place, byte, line) in CHANGES_1 {
         let mut bytes = ONE_VALUE_1;
         bytes[place.min(7)] = byte;
-        refuse_bytes(rt, alloc, &bytes, message)?;
+        refuse_bytes(rt, alloc, &bytes, line)?;
     }
-    for (place, byte, message) in CHANGES_2 {
+    for (place, byte, line) in CHANGES_2 {
         let mut bytes = ONE_VALUE_2;
         bytes[place.min(7)] = byte;
-        refuse_bytes(rt, alloc, &bytes, message)?;
+        refuse_bytes(rt, alloc, &bytes, line)?;
     }
     Ok(())
 }
@@ -55,14 +74,14 @@ fn try_prefixes(rt: &impl Abort, alloc: Global, bytes: &[u8], header: usize) -> 
     for count in 0..bytes.len() {
         let prefix = &bytes[..count];
         if count < header {
-            let message = "insufficient data (member table): unexpected end of file";
-            refuse_bytes(rt, alloc, prefix, message)?;
+            let line = "InvalidData => insufficient data (member table): unexpected end of file";
+            refuse_bytes(rt, alloc, prefix, line)?;
         } else {
             let have = count - header;
-            let message = format!(in alloc;
-                "insufficient data (member bits): expected 8, got {have}"
+            let line = format!(in alloc;
+                "InvalidData => insufficient data (member bits): expected 8, got {have}"
             )?;
-            refuse_bytes(rt, alloc, prefix, &message)?;
+            refuse_bytes(rt, alloc, prefix, &line)?;
         }
     }
     Ok(())
@@ -71,9 +90,9 @@ fn try_prefixes(rt: &impl Abort, alloc: Global, bytes: &[u8], header: usize) -> 
 fn try_longer(rt: &impl Abort, alloc: Global) -> Result<(), Error> {
     let mut longer = [0; 34];
     longer[..24].copy_from_slice(&ONE_VALUE_1);
-    refuse_bytes(rt, alloc, &longer[..25], "trailing bytes: 1")?;
+    refuse_bytes(rt, alloc, &longer[..25], "InvalidData => trailing bytes: 1")?;
     longer[..32].copy_from_slice(&ONE_VALUE_2);
-    refuse_bytes(rt, alloc, &longer, "trailing bytes: 2")
+    refuse_bytes(rt, alloc, &longer, "InvalidData => trailing bytes: 2")
 }
 
 #[test]
@@ -90,14 +109,6 @@ fn the_first_fault_is_returned_without_memory(rt: HostRuntime) {
     assert_done_or_no_memory(&rt, try_prefixes(&rt, rt.alloc(), &ONE_VALUE_1, 16));
     assert_done_or_no_memory(&rt, try_prefixes(&rt, rt.alloc(), &ONE_VALUE_2, 24));
     assert_done_or_no_memory(&rt, try_longer(&rt, rt.alloc()));
-}
-
-// An error prints its kind and its message.
-#[test]
-fn an_error_prints_its_line(rt: HostRuntime) {
-    let line = "InvalidData => insufficient data (member bits): expected 8, got 7";
-    let answer = MemberTable::from_bytes(rt.alloc(), &ONE_VALUE_1[..23]);
-    assert!(rt; answer.err().is_some_and(|error| prints(error, line)));
 }
 
 // Whether a standard error prints this text, with a width too.

@@ -2,7 +2,7 @@
 
 use super::{ONE_VALUE_1, ONE_VALUE_2, UNKNOWN_COUNT, assert_done_or_no_memory, refuse};
 use crate::MemberTable;
-use datasketches::error::{Error, ErrorKind};
+use datasketches::error::Error;
 use datasketches::hash::value::raw_bytes;
 use std::alloc::Global;
 use std::process::Abort;
@@ -61,16 +61,24 @@ fn try_tables(rt: &impl Abort, alloc: Global) -> Result<(), Error> {
     Ok(())
 }
 
-// Sizes that no table has.
+// Sizes that no table has, and the line that the error prints.
 const SIZES: [(u8, u8, &'static str); 2] = [
-    (5, 0, "invalid log2 bits: expected 6 to 20, got 5"),
-    (20, 17, "invalid hashes: expected 1 to 16, got 17"),
+    (
+        5,
+        0,
+        "InvalidArgument => invalid log2 bits: expected 6 to 20, got 5",
+    ),
+    (
+        20,
+        17,
+        "InvalidArgument => invalid hashes: expected 1 to 16, got 17",
+    ),
 ];
 
 fn try_refusals(rt: &impl Abort, alloc: Global) -> Result<(), Error> {
-    for (log2_bits, hashes, message) in SIZES {
+    for (log2_bits, hashes, line) in SIZES {
         let answer = MemberTable::new(alloc, 0, log2_bits, hashes);
-        refuse(rt, answer, ErrorKind::InvalidArgument, message)?;
+        refuse(rt, answer, line)?;
     }
     Ok(())
 }
