@@ -453,7 +453,7 @@ def stored(pa, values, path):
     pa.parquet.write_table(pa.table({"x": values}), path)
     with open(path, "rb") as file:
         footer = Footer(Source(file))
-        chunks = stored_values(file, footer, *footer.columns(), range(footer.groups))
+        chunks = stored_values(file, *footer.columns(), range(footer.groups))
         arrays = [batch for _, batches in chunks for batch in batches]
     return [value if value is None or isinstance(value, bytes) else struct.pack(formats[str(values.type)], value)
             for values in arrays for value in values.to_pylist()]

@@ -392,7 +392,7 @@ def test_a_damaged_footer_raises_value_and_type_errors_alone():
 
 # ---- Files that are written: the values come from here, and not from pyarrow
 
-def texts(file, footer, any_column, groups):
+def texts(file, any_column, groups):
     """As stored_values, for any column."""
     for group in groups:
         yield group, [column([f"fox {i}"]) for i in range(8 * group, 8 * group + 8)]

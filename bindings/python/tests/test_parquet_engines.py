@@ -62,7 +62,7 @@ def test_long_texts_are_read_a_few_at_a_time(is_list, pa, tmp_path):
     with open(tmp_path / "a", "rb") as file:
         footer = Footer(Source(file))
         column, = footer.columns()
-        sizes = [batch.nbytes for _, batches in parquet_values.stored_values(file, footer, column, [0]) for batch in batches]
+        sizes = [batch.nbytes for _, batches in parquet_values.stored_values(file, column, [0]) for batch in batches]
     assert max(sizes) < 1 << 26 and sum(sizes) > 5000 * 40_000
     parquet.add_filters(tmp_path / "a", tmp_path / "a", [column.name])
     assert parquet.may_contain(tmp_path / "a", column.name, "x" * 40_000) == [0]
