@@ -4,6 +4,7 @@ A footer is a struct in Thrift's compact protocol. It is read in place, once, an
 """
 import array
 import contextlib
+import functools
 import itertools
 import operator
 
@@ -78,12 +79,10 @@ class Column:
 
     def __init__(self, footer, index, name, path):
         self.footer, self.index, self.name, self.path = footer, index, name, path
-        self.annotations = None
 
-    @property
+    @functools.cached_property
     def kind(self):
-        self.annotations = self.annotations or Kind(Reader(self.footer.data, self.path[-1]))
-        return self.annotations
+        return Kind(Reader(self.footer.data, self.path[-1]))
 
     def chunk(self, group):
         """The fields of a row group's ColumnChunk. METADATA is missing if the column is encrypted."""
