@@ -68,10 +68,12 @@ def test_a_value_is_in_its_row_group(name, value):
         parquet.filters(FILTERS)[group, name] for group in range(3)]
 
 
-def test_a_file_may_be_open_or_in_memory():
+def test_a_file_may_be_open_or_in_memory_or_decompress(tmp_path):
     memory = mmap.mmap(-1, FILTERS.stat().st_size)
     memory[:] = FILTERS.read_bytes()
-    for file in (io.BytesIO(memory), memory, open(FILTERS, "rb"), open(FILTERS, "rb", buffering=0), str(FILTERS)):
+    (tmp_path / "a.gz").write_bytes(gzip.compress(memory))
+    for file in (io.BytesIO(memory), memory, open(FILTERS, "rb"), open(FILTERS, "rb", buffering=0), str(FILTERS),
+                 gzip.open(tmp_path / "a.gz")):  # whose fileno() is of the compressed file
         assert 1 in parquet.may_contain(file, "string", "fox 8") and len(parquet.filters(file)) == 3 * len(VALUES)
         assert "fox 8" in parquet.read_filter(file, 1, "string")
 
@@ -159,13 +161,6 @@ def test_threads_may_ask_one_open_file(make):
     with make() as file:
         in_threads(ask)
     assert wrong == []
-
-
-def test_a_file_that_decompresses_is_asked_for_its_own_bytes(tmp_path):
-    with gzip.open(tmp_path / "a.gz", "wb") as file:
-        file.write(FILTERS.read_bytes())
-    with gzip.open(tmp_path / "a.gz") as file:
-        assert parquet.filters(file) == parquet.filters(FILTERS)
 
 
 def test_a_row_group_without_a_filter_may_have_each_value():
