@@ -24,10 +24,10 @@ MAP_NORESERVE = 0x4000 if sys.platform == "linux" else 0
 ZEROS = mmap.mmap(-1, 1 << 31, flags=mmap.MAP_PRIVATE | mmap.MAP_ANONYMOUS | MAP_NORESERVE, prot=mmap.PROT_READ)
 
 
-def in_threads(work, count=4):
-    """Runs work(0) to work(count - 1) at the same time."""
-    start = threading.Barrier(count)
-    workers = [threading.Thread(target=lambda n=n: (start.wait(), work(n))) for n in range(count)]
+def in_threads(work):
+    """Runs work(0) to work(3) at the same time."""
+    start = threading.Barrier(4)
+    workers = [threading.Thread(target=lambda n=n: (start.wait(), work(n))) for n in range(4)]
     for worker in workers:
         worker.start()
     for worker in workers:

@@ -32,10 +32,10 @@ class Stream(ctypes.Structure):
     _fields_ = [("get_schema", P), ("get_next", P), ("get_last_error", P), ("release", P), ("private_data", P)]
 
 
-def capsule(made, name=None):
+def capsule(made):
     new = ctypes.pythonapi.PyCapsule_New
     new.restype, new.argtypes = ctypes.py_object, [P, ctypes.c_char_p, P]
-    return new(ctypes.addressof(made), name or made.name, None)
+    return new(ctypes.addressof(made), made.name, None)
 
 
 class Producer:
