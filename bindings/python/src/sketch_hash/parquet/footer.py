@@ -3,7 +3,6 @@
 A footer is a struct in Thrift's compact protocol. It is read in place, once, and its parts are copied as bytes.
 """
 import array
-import functools
 import itertools
 import operator
 
@@ -78,10 +77,12 @@ class Column:
 
     def __init__(self, footer, index, name, path):
         self.footer, self.index, self.name, self.path = footer, index, name, path
+        self.annotations = None
 
-    @functools.cached_property
+    @property
     def kind(self):
-        return Kind(Reader(self.footer.data, self.path[-1]))
+        self.annotations = self.annotations or Kind(Reader(self.footer.data, self.path[-1]))
+        return self.annotations
 
     def chunk(self, group):
         """The fields of a row group's ColumnChunk. METADATA is missing if the column is encrypted."""
