@@ -124,12 +124,6 @@ def test_each_command_of_the_page_of_c_builds_it(command, installed, tmp_path):
     assert output_of("./fox", tmp_path, **installed) == ANSWER
 
 
-def test_check_runs_both_libraries(need, tmp_path):
-    need("make", "cc")
-    copy = shutil.copytree(ROOT / "dist", tmp_path / "dist")
-    assert len(re.findall(r"^\S+: OK: ", output_of("make -s check", copy), re.M)) == 2
-
-
 def test_the_program_in_rust_prints_the_hash(need, tmp_path):
     need("cargo", "rustc 1.82", "gcc", DEBIAN_CRATES)
     (tmp_path / ".cargo").mkdir()

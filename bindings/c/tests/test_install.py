@@ -119,6 +119,10 @@ def test_uninstall_keeps_other_files(prefix, make):
     assert not (prefix / "share/doc/sketch_hash").exists()
 
 
+def test_check_runs_both_libraries(make):
+    assert len(re.findall(r"^\S+: OK: ", make("-s", "check").stdout, re.M)) == 2
+
+
 def test_check_fails_for_a_wrong_answer(dist, need, tmp_path):
     need("make", "gcc")
     copy = shutil.copytree(dist, tmp_path / "dist", ignore=shutil.ignore_patterns("*.o", "*.a", "*.so.*"))

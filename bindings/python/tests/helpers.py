@@ -1,6 +1,9 @@
-"""What several files of tests use: the calls on hashes, copies, threads, and columns of pyarrow."""
+"""What several files of tests use: the calls on hashes, copies, threads, the rate of a filter, and columns of pyarrow."""
+import array
 import copy
 import decimal
+import fractions
+import math
 import mmap
 import pickle
 import sys
@@ -21,10 +24,10 @@ MAP_NORESERVE = 0x4000 if sys.platform == "linux" else 0
 ZEROS = mmap.mmap(-1, 1 << 31, flags=mmap.MAP_PRIVATE | mmap.MAP_ANONYMOUS | MAP_NORESERVE, prot=mmap.PROT_READ)
 
 
-def in_threads(work, count=4):
-    """Runs work(0) to work(count - 1) at the same time."""
-    start = threading.Barrier(count)
-    workers = [threading.Thread(target=lambda n=n: (start.wait(), work(n))) for n in range(count)]
+def in_threads(work):
+    """Runs work(0) to work(3) at the same time."""
+    start = threading.Barrier(4)
+    workers = [threading.Thread(target=lambda n=n: (start.wait(), work(n))) for n in range(4)]
     for worker in workers:
         worker.start()
     for worker in workers:
@@ -52,6 +55,13 @@ def assert_releases_the_gil(call, data, ticks):
     while len(ticks) == before and time.monotonic() < end:
         call(data)
     assert len(ticks) > before
+
+
+def rate_of(bloom):
+    """By the bits that are set, how often another key is found."""
+    counts = [bin(word).count("1") for word in array.array("I", bytes(bloom))]
+    blocks = [math.prod(counts[i:i + 8]) for i in range(0, len(counts), 8)]
+    return fractions.Fraction(sum(blocks), len(blocks) << 40)
 
 
 TYPES = [

@@ -8,7 +8,8 @@ import sys
 
 import pytest
 from helpers import TYPES, assert_releases_the_gil, column_of
-from sketch_hash import BloomFilter, murmur3_x64_128_each, murmur3_x64_128_intdigest, xxh64_each, xxh64_intdigest
+from sketch_hash import BloomFilter, murmur3_x64_128_each, murmur3_x64_128_intdigest, parquet, xxh64_each, xxh64_intdigest
+from sketch_hash.parquet.values import stored_values
 
 P, I64 = ctypes.c_void_p, ctypes.c_int64
 RELEASE, GET = ctypes.CFUNCTYPE(None, P), ctypes.CFUNCTYPE(ctypes.c_int, P, P)
@@ -31,10 +32,10 @@ class Stream(ctypes.Structure):
     _fields_ = [("get_schema", P), ("get_next", P), ("get_last_error", P), ("release", P), ("private_data", P)]
 
 
-def capsule(made, name=None):
+def capsule(made):
     new = ctypes.pythonapi.PyCapsule_New
     new.restype, new.argtypes = ctypes.py_object, [P, ctypes.c_char_p, P]
-    return new(ctypes.addressof(made), name or made.name, None)
+    return new(ctypes.addressof(made), made.name, None)
 
 
 class Producer:
@@ -446,14 +447,10 @@ def test_a_stream_may_wait_for_a_thread_that_needs_the_gil(need, tmp_path, ticks
 
 def stored(pa, values, path):
     """The bytes of values in a Parquet file, as pyarrow reads them if it knows nothing of their types."""
-    from sketch_hash.parquet.files import Source
-    from sketch_hash.parquet.footer import Footer
-    from sketch_hash.parquet.values import stored_values
     formats = {"int32": "<i", "int64": "<q", "float": "<f", "double": "<d"}
     pa.parquet.write_table(pa.table({"x": values}), path)
-    with open(path, "rb") as file:
-        footer = Footer(Source(file))
-        chunks = stored_values(file, footer, *footer.columns(), range(footer.groups))
+    with parquet.open(path) as reader:
+        chunks = stored_values(reader.source.file, *reader.footer.columns(), range(reader.num_row_groups))
         arrays = [batch for _, batches in chunks for batch in batches]
     return [value if value is None or isinstance(value, bytes) else struct.pack(formats[str(values.type)], value)
             for values in arrays for value in values.to_pylist()]

@@ -1,6 +1,5 @@
 """The Bloom filter: its format, keys and columns, whole filters, memory, threads, and errors."""
 import array
-import fractions
 import io
 import itertools
 import math
@@ -10,7 +9,7 @@ import subprocess
 import sys
 
 import pytest
-from helpers import WAYS, ZEROS, in_threads, waits
+from helpers import WAYS, ZEROS, in_threads, rate_of, waits
 from sketch_hash import BloomFilter, xxh64_each, xxh64_intdigest
 
 numpy = pytest.importorskip("numpy")
@@ -231,14 +230,6 @@ def test_a_pickle_out_of_band_has_the_bits_without_a_copy():
     assert copy == filled() and buffers[0].raw() == bloom
 
 
-def rate_of(bloom):
-    """By the bits that are set, how often another key is found."""
-    data = bytes(bloom)
-    blocks = [[bin(int.from_bytes(data[i + 4 * j : i + 4 * j + 4], "little")).count("1") for j in range(8)]
-              for i in range(0, len(data), 32)]
-    return fractions.Fraction(sum(map(math.prod, blocks)), len(blocks) << 40)
-
-
 @pytest.mark.parametrize("num_bytes", [64, 192, 1024, 1 << 18])
 def test_a_folded_filter_is_that_of_half_the_size(num_bytes):
     bloom = filled(KEYS, num_bytes)
@@ -248,22 +239,14 @@ def test_a_folded_filter_is_that_of_half_the_size(num_bytes):
     assert bloom == filled([*KEYS, b"fox"], num_bytes // 2)
 
 
-@pytest.mark.parametrize("rate", [0.9, 0.01, 1e-5, 1e-9])
-@pytest.mark.parametrize("num_bytes", [32, 96, 1536, 1 << 17])
-def test_a_filter_is_folded_to_an_error_rate(rate, num_bytes):
-    bloom, before = filled(KEYS, num_bytes), filled(KEYS, num_bytes)
-    bloom.fold(error_rate=rate)
-    assert bloom == filled(KEYS, bloom.num_bytes)
-    assert rate_of(bloom) <= rate or bloom == before
-    assert bloom.num_bytes % 64 or rate_of(filled(KEYS, bloom.num_bytes // 2)) > fractions.Fraction(1, math.ceil(1 / rate))
-
-
-def test_a_fold_finds_at_most_one_other_key_in_n():
+def test_a_filter_is_folded_while_it_finds_at_most_one_other_key_in_n():
     n = int(1 / rate_of(filled(KEYS, 512)))
-    for rate, num_bytes in ((1 / n, 512), (1 / (n + 1), 1024)):
-        bloom = filled(KEYS, 2048)
-        bloom.fold(rate)
-        assert bloom.num_bytes == num_bytes
+    for rate, before, after in [
+        (1 / n, 1 << 17, 512), (1 / (n + 1), 1 << 17, 1024), (1 / n, 256, 256), (0.9, 1536, 96), (0.9, 96, 96), (0.9, 32, 32),
+    ]:
+        bloom = filled(KEYS, before)
+        bloom.fold(error_rate=rate)
+        assert bloom == filled(KEYS, after)
 
 
 def test_the_block_of_a_hash_tells_whether_a_filter_has_it():

@@ -5,7 +5,6 @@ import datetime
 import decimal
 import gzip
 import io
-import math
 import mmap
 import os
 import pathlib
@@ -22,12 +21,12 @@ import tracemalloc
 import uuid
 
 import pytest
-from helpers import in_threads
+from helpers import in_threads, rate_of
 from sketch_hash import BloomFilter, column, parquet, xxh64_intdigest
 from sketch_hash.parquet import values as parquet_values
 from sketch_hash.parquet import writer
 from sketch_hash.parquet.files import Source
-from sketch_hash.parquet.footer import BYTE_ARRAY, LENGTH, OFFSET, VALUES as VALUE_COUNT, Footer
+from sketch_hash.parquet.footer import BYTE_ARRAY, LENGTH, OFFSET, VALUES as VALUE_COUNT
 from sketch_hash.parquet.keys import keys_of, parse
 from sketch_hash.parquet.reader import contain_hashes, false_positive_rate
 from thrift_tree import TType, chunk_of, join, metadata_of, split
@@ -69,10 +68,12 @@ def test_a_value_is_in_its_row_group(name, value):
         parquet.filters(FILTERS)[group, name] for group in range(3)]
 
 
-def test_a_file_may_be_open_or_in_memory():
+def test_a_file_may_be_open_or_in_memory_or_decompress(tmp_path):
     memory = mmap.mmap(-1, FILTERS.stat().st_size)
     memory[:] = FILTERS.read_bytes()
-    for file in (io.BytesIO(memory), memory, open(FILTERS, "rb"), open(FILTERS, "rb", buffering=0), str(FILTERS)):
+    (tmp_path / "a.gz").write_bytes(gzip.compress(memory))
+    for file in (io.BytesIO(memory), memory, open(FILTERS, "rb"), open(FILTERS, "rb", buffering=0), str(FILTERS),
+                 gzip.open(tmp_path / "a.gz")):  # whose fileno() is of the compressed file
         assert 1 in parquet.may_contain(file, "string", "fox 8") and len(parquet.filters(file)) == 3 * len(VALUES)
         assert "fox 8" in parquet.read_filter(file, 1, "string")
 
@@ -135,9 +136,7 @@ def test_a_file_that_is_written_to_is_not_asked(tmp_path):
 def test_a_rate_is_that_of_the_bits():
     filter = BloomFilter.for_keys(1000)
     filter.add_each(column(map(str, range(1000))))
-    blocks = [filter.to_bytes()[i:i + 32] for i in range(0, filter.num_bytes, 32)]
-    rates = [math.prod(bin(word).count("1") / 32 for word in array.array("I", block)) for block in blocks]
-    assert false_positive_rate(filter.to_bytes()) == pytest.approx(sum(rates) / len(rates)) and 0.001 < rates[0] < 0.1
+    assert false_positive_rate(filter.to_bytes()) == pytest.approx(float(rate_of(filter))) and 0.001 < rate_of(filter) < 0.1
 
 
 class Slow(io.BytesIO):
@@ -162,13 +161,6 @@ def test_threads_may_ask_one_open_file(make):
     with make() as file:
         in_threads(ask)
     assert wrong == []
-
-
-def test_a_file_that_decompresses_is_asked_for_its_own_bytes(tmp_path):
-    with gzip.open(tmp_path / "a.gz", "wb") as file:
-        file.write(FILTERS.read_bytes())
-    with gzip.open(tmp_path / "a.gz") as file:
-        assert parquet.filters(file) == parquet.filters(FILTERS)
 
 
 def test_a_row_group_without_a_filter_may_have_each_value():
@@ -247,11 +239,6 @@ def test_nanoseconds_of_pandas_count():
 def test_another_question_is_an_error(call, error, text):
     with pytest.raises(error, match=text):
         call()
-
-
-def footer_of(file):
-    with open(file, "rb") as opened:
-        return Footer(Source(opened))
 
 
 def changed(file, change):
@@ -352,7 +339,7 @@ def test_a_footer_takes_memory_by_its_length(fields):
 
 def test_a_long_text_is_not_copied_for_each_column():
     data = join(b"PAR1", {2: structs(ROOT, LEAF), 6: (TType.STRING, b"x" * 50_000)})
-    footer = Footer(Source(io.BytesIO(data)))
+    footer = parquet.open(io.BytesIO(data)).footer
     assert [len(footer.of_column(column)) < 100 for column in footer.columns()] == [True]
 
 
@@ -378,7 +365,7 @@ def test_a_decimal_has_at_most_1024_bytes(length):
 
 def test_a_damaged_footer_raises_value_and_type_errors_alone():
     rng, data = random.Random(5), bytearray(FILTERS.read_bytes())
-    start = footer_of(FILTERS).start
+    start = parquet.open(FILTERS).footer.start
     for _ in range(300):
         wrong = data.copy()
         for _ in range(rng.randint(1, 3)):
@@ -392,7 +379,7 @@ def test_a_damaged_footer_raises_value_and_type_errors_alone():
 
 # ---- Files that are written: the values come from here, and not from pyarrow
 
-def texts(file, footer, any_column, groups):
+def texts(file, any_column, groups):
     """As stored_values, for any column."""
     for group in groups:
         yield group, [column([f"fox {i}"]) for i in range(8 * group, 8 * group + 8)]
@@ -415,7 +402,7 @@ def test_all_but_the_places_of_the_filters_stays_as_it_is(copy, tmp_path):
     assert copy.read_bytes() == ODD.read_bytes()
     (before, old), (after, new) = split(ODD), split(target)
     assert after[: len(before)] == before
-    for index, leaf in enumerate(footer_of(target).columns()):
+    for index, leaf in enumerate(parquet.open(target).footer.columns()):
         for group in range(3):
             metadata, has_filter = metadata_of(new, group, index), leaf.name in ("plain", "b")
             assert (metadata.pop(OFFSET, None) is not None) == (metadata.pop(LENGTH, None) is not None) == has_filter
@@ -484,7 +471,7 @@ def test_bytes_that_the_footer_needs_are_not_cut_off(change, copy):
     """The columns plain and b are the sixth and seventh."""
     parquet.add_filters(copy, copy, ["plain", "b"])
     copy.write_bytes(changed(copy, change).read())
-    before = copy.read_bytes()[:footer_of(copy).start]
+    before = copy.read_bytes()[:parquet.open(copy).footer.start]
     parquet.add_filters(copy, copy, ["plain", "b"], replace=True, error_rate=1e-6)
     assert copy.read_bytes().startswith(before) and parquet.may_contain(copy, "b", "fox 9") == [1]
 
@@ -692,7 +679,7 @@ def test_the_command_reports_errors(args, status, text):
 
 def test_a_command_line_has_the_values_of_each_type():
     texts = {"time_ms": "01:02:00.003", "ms": "2026-01-01 01:01:00", "us_utc": "2026-01-01T01:01:01", "fixed": b"0000".hex()}
-    for leaf in footer_of(FILTERS).columns():
+    for leaf in parquet.open(FILTERS).footer.columns():
         if leaf.name != "binary":
             value = VALUES[leaf.name](0)
             assert keys_of(parse(texts.get(leaf.name, str(value)), leaf), leaf) == keys_of(value, leaf)
@@ -732,7 +719,7 @@ def test_the_command_adds_and_checks(pa, tmp_path):
     assert run("check", file).stdout == f"{file}: 6 filters have all values\n"
     assert run("add", "-c", "plain", "--skip-existing", "--jobs", 2, tmp_path / "a").stdout == f"{file}: nothing to add\n"
     assert run("add", "-c", "plain", "-m", "64", "--replace", file).stdout == f"{file}: 141 bytes of filters\n"
-    place = footer_of(file).find(["b"])[0].place(1)[0] + 15
+    place = parquet.open(file).footer.find(["b"])[0].place(1)[0] + 15
     with open(file, "r+b") as opened:  # an empty filter
         opened.seek(place)
         opened.write(bytes(32))

@@ -5,8 +5,6 @@ import pytest
 from helpers import TYPES, column_of
 from sketch_hash import parquet
 from sketch_hash.parquet import values as parquet_values
-from sketch_hash.parquet.files import Source
-from sketch_hash.parquet.footer import Footer
 
 pytest.importorskip("numpy")
 pytestmark = pytest.mark.filterwarnings("ignore:the filters of")
@@ -42,8 +40,7 @@ def test_nested_columns_have_filters_of_their_values(pa, tmp_path):
     type = pa.list_(pa.struct([("a", pa.int32()), ("m", pa.map_(pa.string(), pa.int64()))]))
     table = pa.table({"x": pa.array(rows, type)})
     pa.parquet.write_table(table, tmp_path / "a", row_group_size=40)
-    with open(tmp_path / "a", "rb") as file:
-        names = [column.name for column in Footer(Source(file)).columns()]
+    names = [column.name for column in parquet.open(tmp_path / "a").footer.columns()]
     parquet.add_filters(tmp_path / "a", tmp_path / "a", names)
     assert parquet.check_filters(tmp_path / "a") == 9 and pa.parquet.read_table(tmp_path / "a").equals(table)
     for i in range(100):
@@ -59,10 +56,10 @@ def test_long_texts_are_read_a_few_at_a_time(is_list, pa, tmp_path):
     rows = pa.array(["x"] * 2000 + ["x" * 40_000] * 5000)
     rows = pa.ListArray.from_arrays(range(len(rows) + 1), rows) if is_list else rows
     pa.parquet.write_table(pa.table({"x": rows}), tmp_path / "a", compression="zstd")
-    with open(tmp_path / "a", "rb") as file:
-        footer = Footer(Source(file))
-        column, = footer.columns()
-        sizes = [batch.nbytes for _, batches in parquet_values.stored_values(file, footer, column, [0]) for batch in batches]
+    with parquet.open(tmp_path / "a") as reader:
+        column, = reader.footer.columns()
+        chunks = parquet_values.stored_values(reader.source.file, column, [0])
+        sizes = [batch.nbytes for _, batches in chunks for batch in batches]
     assert max(sizes) < 1 << 26 and sum(sizes) > 5000 * 40_000
     parquet.add_filters(tmp_path / "a", tmp_path / "a", [column.name])
     assert parquet.may_contain(tmp_path / "a", column.name, "x" * 40_000) == [0]

@@ -48,13 +48,6 @@ pub(crate) fn reachable<O: Offset>(bytes: &[u8]) -> &[u8] {
 /// ```
 pub trait Number: sealed::Width {}
 
-impl Number for u32 {}
-impl Number for i32 {}
-impl Number for f32 {}
-impl Number for u64 {}
-impl Number for i64 {}
-impl Number for f64 {}
-
 pub(crate) mod sealed {
     use super::*;
 
@@ -74,6 +67,7 @@ pub(crate) mod sealed {
 
     macro_rules! widths {
         ($($Bits:ty: $($Type:ty)*,)*) => { $($(
+            impl Number for $Type {}
             // SAFETY: both have one size and one alignment, and all their bits are initialized.
             unsafe impl Width for $Type {
                 type Bits = $Bits;

@@ -1,8 +1,7 @@
 //! The hashes, of one call and of streams.
 
 use sketch_hash::{
-    murmur3_x64_128, murmur3_x64_128_bytes, xxh64, xxh64_u64, BuildMurmur3X64_128, BuildXxh64,
-    Murmur3X64_128, Xxh64,
+    murmur3_x64_128, xxh64, xxh64_u64, BuildMurmur3X64_128, BuildXxh64, Murmur3X64_128, Xxh64,
 };
 use std::hash::{BuildHasher, Hasher};
 
@@ -149,16 +148,6 @@ fn a_number_is_hashed_as_its_bytes() {
     assert_eq!(build.hash_one(value), xxh64_u64(value, SEED));
     assert_eq!(build.hash_one(-5_i16), xxh64(&(-5_i16).to_le_bytes(), SEED));
     assert_eq!(build.hash_one(5_u128), xxh64(&5_u128.to_le_bytes(), SEED));
-}
-
-#[test]
-fn bytes_of_murmur_are_in_memory_order() {
-    let [h1, h2] = murmur3_x64_128(FOX, 7);
-    let mut hasher = Murmur3X64_128::new(7);
-    hasher.update(FOX);
-    for bytes in [murmur3_x64_128_bytes(FOX, 7), hasher.digest_bytes()] {
-        assert_eq!(bytes[..], [h1.to_le_bytes(), h2.to_le_bytes()].concat());
-    }
 }
 
 #[test]

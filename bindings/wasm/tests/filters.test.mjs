@@ -136,8 +136,8 @@ for (const length of [0, 31, 33, 2 ** 37]) {
 }
 
 test('a column of keys equals single calls', () => {
-    for (const type of [Uint32Array, Int32Array, BigUint64Array, BigInt64Array]) {
-        const ends = type.from({ length: 11 }, (_, n) => type.name.startsWith('Big') ? BigInt(2 * n) : 2 * n);
+    for (const type of offsetTypes) {
+        const ends = offsetsOf(type, 0, 2, 4, 6, 8, 10, 12, 14, 16, 18, 20);
         const filter = new BloomFilter(1024).addEach(bytes(keys.join('')), ends);
         assert.deepEqual(filter.toBytes(), filled().toBytes());
         assert.deepEqual([...filter.hasEach(bytes('a0fxa9'), ends.subarray(0, 4))], [1, 0, 1]);
@@ -224,19 +224,20 @@ test('a filter is merged into itself', () => {
 });
 
 test('a filter is folded while it keeps a rate', () => {
-    const large = new library.BloomFilter(128 * 32).add('fox').foldTo(100);
+    const large = new BloomFilter(128 * 32).add('fox').foldTo(100);
     assert.deepEqual([large.length, large.has('fox')], [32, true]);
-    const full = library.BloomFilter.fromBytes(new Uint8Array(64).fill(255));
+    const full = BloomFilter.fromBytes(new Uint8Array(64).fill(255));
     assert.equal(full.foldTo(2).length, 64);
     assert.equal(full.foldTo(1).length, 32);
 });
 
 test('a block alone tells whether a filter has a hash', () => {
-    const hash = library.xxh64(new TextEncoder().encode('fox')), bytes = new library.BloomFilter(96).addHash(hash).toBytes();
-    const start = library.BloomFilter.blockOffset(96, hash);
-    assert(library.BloomFilter.fromBytes(bytes.slice(start, start + 32)).hasHash(hash));
+    const hash = xxh64(bytes('fox'));
+    const start = BloomFilter.blockOffset(96, hash);
+    const block = new BloomFilter(96).addHash(hash).toBytes().subarray(start, start + 32);
+    assert.ok(BloomFilter.fromBytes(block).hasHash(hash));
     const error = { name: 'RangeError', message: /multiple of 32 bytes, not 33/ };
-    assert.throws(() => library.BloomFilter.blockOffset(33, hash), error);
+    assert.throws(() => BloomFilter.blockOffset(33, hash), error);
 });
 
 test('a folded filter is that of half the length', () => {
@@ -263,14 +264,6 @@ test('a filter in a file is a header and the bytes', () => {
     assert.throws(() => BloomFilter.fromParquet(longer.subarray(1)), /does not begin with the whole header/);
     assert.throws(() => BloomFilter.fromParquet(file.subarray(0, 15)), /does not begin with the whole header/);
     assert.throws(() => BloomFilter.fromParquet(file.subarray(0, 1039)), /ends before the Bloom filter does/);
-});
-
-test('filters are unchanged when the memory grows', () => {
-    const filters = Array.from({ length: 50 }, (_, n) => new BloomFilter(32 * (n + 1)).add(`${n}`));
-    library.xxh64EachU64(new BigUint64Array(1e6));
-    filters.forEach((filter, n) => {
-        assert.deepEqual(filter.toBytes(), new BloomFilter(filter.length).add(`${n}`).toBytes());
-    });
 });
 
 test('a filter in reused memory is empty', () => {

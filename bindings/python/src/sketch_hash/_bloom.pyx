@@ -140,7 +140,7 @@ cdef object copy_of(object kind, const void *bits, size_t length):
     """A filter of a kind, with a copy of the bits."""
     check_length(length)
     cdef BloomFilter filter = empty(kind)
-    filter.adopt(PyByteArray_FromStringAndSize(<char *>bits, length), False)
+    filter.adopt(PyByteArray_FromStringAndSize(<char *>bits, length), None)
     return filter
 
 
@@ -166,31 +166,27 @@ cdef class BloomFilter:
     """
 
     cdef View bits  # of an own bytearray, or of a view
-    cdef object memory  # a memoryview that keeps the bits of a view, or None
+    cdef object memory  # what keeps the bits of a view, or None
     cdef Lock lock  # created by the first long call or merge
     cdef Py_ssize_t exports  # how many memoryviews of the bits there are
-    cdef bint is_view
 
     PARQUET_HEADER_MAX = SKETCH_BLOOM_HEADER_MAX
 
     def __init__(self, num_bytes):
         num_bytes = operator.index(num_bytes)
         check_length(num_bytes)
-        self.adopt(bytearray(num_bytes), False)
+        self.adopt(bytearray(num_bytes), None)
 
     def __dealloc__(self):
         PyBuffer_Release(&self.bits)
 
-    cdef int adopt(self, object buffer, bint is_view) except -1:
+    cdef int adopt(self, object buffer, object memory) except -1:
         """Takes the memory of a buffer, and releases what it had."""
         cdef View bits
         PyObject_GetBuffer(buffer, &bits, PyBUF_SIMPLE)
         try:
             check_length(bits.len)
-            self.swap_memory(&bits)
-            self.is_view = is_view
-            # Cython drops the old object before it stores the new one. Dropped later, it cannot find itself in here.
-            before, self.memory = self.memory, None
+            self.swap_memory(&bits, memory)
         finally:
             PyBuffer_Release(&bits)
         return 0
@@ -200,18 +196,19 @@ cdef class BloomFilter:
         cdef View bits = PyMemoryView_GET_BUFFER(memory)[0]
         bits.obj = NULL
         check_length(bits.len)
-        self.swap_memory(&bits)
-        self.is_view = True
-        memory, self.memory = self.memory, memory
+        self.swap_memory(&bits, memory)
         PyBuffer_Release(&bits)
         return 0
 
-    cdef int swap_memory(self, View *bits) except -1:
+    cdef int swap_memory(self, View *bits, object memory) except -1:
+        """Exchanges the memory. What it had before is in `bits` then, and the caller releases it."""
         cdef View before
         wait(<void *>self.lock)
         self.check_exports()
         before, self.bits = self.bits, bits[0]
         bits[0] = before
+        # Cython drops the old object before it stores the new one. Dropped later, it cannot find itself in here.
+        memory, self.memory = self.memory, memory
         return 0
 
     cdef int check_exports(self) except -1:
@@ -254,7 +251,7 @@ cdef class BloomFilter:
             raise ValueError(f"no filter of up to 128 MiB has {keys} keys and reports one in {one_in} others: "
                              "allow more, or split the keys over several filters")
         cdef BloomFilter filter = empty(cls)
-        filter.adopt(bytearray(num_bytes), False)
+        filter.adopt(bytearray(num_bytes), None)
         return filter
 
     @classmethod
@@ -318,8 +315,8 @@ cdef class BloomFilter:
         view is released: by release, at the end of a with block, or with the view itself.
         """
         cdef BloomFilter filter = empty(cls)
-        if type(buffer) is bytes or type(buffer) is bytearray:
-            filter.adopt(buffer, True)
+        if type(buffer) is bytes or type(buffer) is bytearray:  # with a memoryview, asking many small filters takes 9 % more
+            filter.adopt(buffer, buffer)
             return filter
         memory = memoryview(buffer)
         if memory.format != "B":
@@ -333,8 +330,7 @@ cdef class BloomFilter:
         """release($self)\n--\n\nReleases the memory. Later calls raise ValueError; another release does nothing."""
         cdef View nothing
         nothing.buf, nothing.obj, nothing.len, nothing.readonly = NULL, NULL, 0, 0
-        self.swap_memory(&nothing)
-        memory, self.memory = self.memory, None
+        self.swap_memory(&nothing, None)
         PyBuffer_Release(&nothing)
 
     def __enter__(self):
@@ -502,9 +498,9 @@ cdef class BloomFilter:
         fold it once they are added. Raises TypeError for a view, and BufferError if memoryviews exist."""
         cdef uint64_t one_in = 0 if error_rate is None else one_in_of(error_rate)
         self.begin(True)
-        cdef bint has_exports = self.exports != 0, is_odd = self.bits.len % 64 != 0
+        cdef bint has_exports = self.exports != 0, is_view = self.memory is not None, is_odd = self.bits.len % 64 != 0
         try:  # no exception is made here: garbage would be collected, whose code may call the filter
-            if not (self.bits.buf is NULL or self.is_view or has_exports):
+            if not (self.bits.buf is NULL or is_view or has_exports):
                 with nogil:
                     if one_in:
                         self.bits.len = sketch_bloom_fold_to(self.bits.buf, self.bits.len, one_in)
@@ -515,7 +511,7 @@ cdef class BloomFilter:
         self.check(0)
         if has_exports:
             self.check_exports()
-        if self.is_view:
+        if is_view:
             raise TypeError("a filter to fold must not be a view: copy() makes one that can be folded")
         if is_odd and not one_in:
             raise ValueError(f"a filter to fold must have an even number of blocks, not {self.bits.len // 32}")
@@ -525,7 +521,7 @@ cdef class BloomFilter:
         """Gives memory back that a fold has left unused, if there is memory for the copy."""
         wait(<void *>self.lock)
         try:
-            self.adopt(PyByteArray_FromStringAndSize(<char *>self.bits.buf, self.bits.len), False)
+            self.adopt(PyByteArray_FromStringAndSize(<char *>self.bits.buf, self.bits.len), None)
         except (BufferError, MemoryError, ValueError):  # another thread has made a memoryview, or released the filter
             pass
         return 0
@@ -593,7 +589,7 @@ cdef BloomFilter duplicate(object kind, BloomFilter source):
     cdef BloomFilter filter = empty(kind)  # runs code that may change the source
     wait(<void *>source.lock)
     source.check(0)
-    filter.adopt(PyByteArray_FromStringAndSize(<char *>source.bits.buf, source.bits.len), False)
+    filter.adopt(PyByteArray_FromStringAndSize(<char *>source.bits.buf, source.bits.len), None)
     if kind is not BloomFilter:
         attributes = attributes_of(source)
         if attributes is not None and hasattr(filter, "__setstate__"):

@@ -183,7 +183,7 @@ cdef char letter_of(const View *memory) noexcept:
     return format[0] if strlen(format) == 1 and memory.ndim == 1 else 0
 
 
-cdef type no_mask = bytes  # the last type of numbers that has no mask
+cdef type no_mask = bytes  # the last type of numbers that has no mask: to look again takes a quarter of a short call
 
 
 cdef int refuse_mask(object numbers) except -1:

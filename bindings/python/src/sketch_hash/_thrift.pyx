@@ -155,30 +155,29 @@ cdef class Reader:
         """The values of the fields in `kinds`, by their numbers; of lists and structs, where they begin."""
         found = {}
         cdef int field = self.field(0), kind
-        cdef Py_ssize_t begin
         while field:
-            number, kind, begin = field >> 4, field & 15, self.at
+            number, kind = field >> 4, field & 15
             expected = kinds.get(number)
-            self.skip_value(kind, 0)
-            if expected is not None:
-                if number in found or (TRUE if kind == FALSE else kind) != expected:
-                    raise ValueError(f"field {number} is there twice, or has another type than in parquet.thrift")
-                found[number] = self.value(kind, begin)
+            if expected is None:
+                self.skip_value(kind, 0)
+            elif number in found or (TRUE if kind == FALSE else kind) != expected:
+                raise ValueError(f"field {number} is there twice, or has another type than in parquet.thrift")
+            else:
+                found[number] = self.value(kind)
             field = self.field(field >> 4)
         return found
 
-    cdef object value(self, int kind, Py_ssize_t begin):
-        """The value of this kind that was just skipped."""
+    cdef object value(self, int kind):
+        """Reads a value. Of a list or a struct it returns where that begins."""
         cdef uint64_t length = 0
-        cdef Py_ssize_t end = self.at
         if kind == BINARY:
-            self.at = begin
             self.varint(&length)
-            begin, self.at = self.at, end
-            return self.data[begin:end]
+            self.skip_bytes(length)
+            return self.data[self.at - length:self.at]
         if kind in (I32, I64):
-            self.at = begin
             return self.zigzag(32 if kind == I32 else 64)
+        begin = self.at
+        self.skip_value(kind, 0)
         return kind == TRUE if kind in (TRUE, FALSE) else begin
 
 

@@ -14,7 +14,7 @@ import threading
 import warnings
 
 from .keys import parse
-from .reader import BloomFilterReader, false_positive_rate, places_of
+from .reader import BloomFilterReader, all_places, false_positive_rate
 from .writer import FilterError, add_filters, check_filters
 
 DONE, FAILED, _, NOTHING, WRONG = range(5)
@@ -137,11 +137,9 @@ def check(args, file):
 def show(args, file):
     lines = []
     with BloomFilterReader(file) as reader:
-        for column in reader.footer.columns():
-            places = places_of(reader.source, reader.footer, column, range(reader.num_row_groups))
-            for group, (begin, num_bytes) in ((group, place) for group, place in enumerate(places) if place):
-                rate = false_positive_rate(reader.source.read(begin, num_bytes))
-                lines.append(f"{file}\t{group}\t{column.name}\t{num_bytes}\t{rate:.3g}")
+        for column, group, (begin, num_bytes) in all_places(reader.source, reader.footer):
+            rate = false_positive_rate(reader.source.read(begin, num_bytes))
+            lines.append(f"{file}\t{group}\t{column.name}\t{num_bytes}\t{rate:.3g}")
     return (DONE, "\n".join(lines)) if lines else (NOTHING, f"{file}: no filters")
 
 

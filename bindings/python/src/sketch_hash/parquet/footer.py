@@ -3,7 +3,6 @@
 A footer is a struct in Thrift's compact protocol. It is read in place, once, and its parts are copied as bytes.
 """
 import array
-import contextlib
 import itertools
 import operator
 
@@ -140,11 +139,13 @@ class Footer:
         self.rows, self.chunks = array.array("q"), array.array("Q")
         self.is_signed, self.schema = False, None  # where the list of the schema's elements begins
         self.copied = {}  # the kind and the bytes of some fields, if they are short: they are copied for each column
-        with damage():
+        try:
             self.read_root()
             self.width = sum(1 for _ in self.leaves())
             if len(self.chunks) != self.groups * self.width:
                 raise ValueError("a row group must have all columns")
+        except ValueError as error:
+            raise ValueError(f"the footer is damaged: {error}") from error
 
     @property
     def groups(self):
@@ -283,12 +284,3 @@ def with_place(reader, offset, length):
 
 def end_of_file(footer):
     return footer + len(footer).to_bytes(4, "little") + b"PAR1"
-
-
-@contextlib.contextmanager
-def damage():
-    """What reading past the end of a footer raises."""
-    try:
-        yield
-    except (IndexError, ValueError) as error:
-        raise ValueError(f"the footer is damaged: {error}") from error

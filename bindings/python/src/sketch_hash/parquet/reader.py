@@ -42,15 +42,13 @@ class BloomFilterReader:
 
     def filters(self):
         """For each (row group, column) that has a filter, how many bytes its bits have."""
-        groups = range(self.num_row_groups)
-        return {(group, column.name): place[1] for column in self.footer.columns()
-                for group, place in zip(groups, places_of(self.source, self.footer, column, groups)) if place}
+        return {(group, column.name): num_bytes for column, group, (_, num_bytes) in all_places(self.source, self.footer)}
 
     def read_filter(self, row_group, column):
         """The filter of a column in a row group, or None if it has none."""
         if not 0 <= row_group < self.num_row_groups:
             raise IndexError(f"a row group must be from 0 to {self.num_row_groups - 1}, not {row_group}")
-        place, = places_of(self.source, self.footer, *self.footer.find([column]), [row_group])
+        place, = places_of(self.source, *self.footer.find([column]), [row_group])
         filter = place and BloomFilter.from_bytes(self.source.read(*place))
         self.source.check_unchanged()
         return filter
@@ -65,7 +63,7 @@ class BloomFilterReader:
             raise TypeError("values must be a list of values, as [42], not one value")
         if column not in self.asked:
             found, = self.footer.find([column])
-            self.asked[column] = found, places_of(self.source, self.footer, found, range(self.num_row_groups))
+            self.asked[column] = found, places_of(self.source, found, range(self.num_row_groups))
         found, places = self.asked[column]
         keys = [keys_of(value, found) for value in (values.to_pylist() if hasattr(values, "to_pylist") else values)]
         owners = [i for i, some in enumerate(keys) for _ in some]
@@ -78,22 +76,29 @@ class BloomFilterReader:
         return groups
 
 
-def places_of(source, footer, column, groups):
+def all_places(source, footer):
+    """The column, the row group and the place of each filter."""
+    groups = range(footer.groups)
+    for column in footer.columns():
+        yield from ((column, group, place) for group, place in zip(groups, places_of(source, column, groups)) if place)
+
+
+def places_of(source, column, groups):
     """For each of the row groups where the bits of the filter begin, and how many bytes they have; or None."""
     places, again = itertools.tee(column.place(group) for group in groups)
-    heads = source.read_each(range_of_header(footer, column, offset) for offset, _ in again if offset is not None)
-    return [None if offset is None else place_of_bits(footer, column, offset, length, next(heads)) for offset, length in places]
+    heads = source.read_each(range_of_header(column, offset) for offset, _ in again if offset is not None)
+    return [None if offset is None else place_of_bits(column, offset, length, next(heads)) for offset, length in places]
 
 
-def range_of_header(footer, column, offset):
-    if not 4 <= offset < footer.start:
+def range_of_header(column, offset):
+    if not 4 <= offset < column.footer.start:
         raise ValueError(f"a filter of {column.name} must be in the file, not at {offset}")
-    return offset, min(BloomFilter.PARQUET_HEADER_MAX, footer.start - offset)
+    return offset, min(BloomFilter.PARQUET_HEADER_MAX, column.footer.start - offset)
 
 
-def place_of_bits(footer, column, offset, length, head):
+def place_of_bits(column, offset, length, head):
     bits = BloomFilter.parquet_bits(head)
-    if offset + bits.stop > footer.start or length not in (None, bits.stop):
+    if offset + bits.stop > column.footer.start or length not in (None, bits.stop):
         raise ValueError(f"the filter of {column.name} at {offset} must have the length that the footer has")
     return offset + bits.start, len(bits)
 

@@ -5,14 +5,14 @@ BATCH = 1 << 24  # bytes of values that are in memory at a time, about
 MOST_ROWS = 1024  # of a batch; longer ones are not faster
 
 
-def stored_values(file, footer, column, groups):
+def stored_values(file, column, groups):
     """For each of the row groups the values of a column in batches."""
     try:
         import pyarrow
         import pyarrow.parquet
     except ImportError as error:
         raise ImportError("this call needs pyarrow: pip install pyarrow") from error
-    width = column.kind.length if column.kind.type == FIXED else 1
+    footer, width = column.footer, column.kind.length if column.kind.type == FIXED else 1
     if not 0 < width <= BATCH:
         raise ValueError(f"a value of {column.name} must have 1 to {BATCH} bytes, not {width}")
     metadata = pyarrow.parquet.read_metadata(pyarrow.BufferReader(b"PAR1" + footer.of_column(column)))

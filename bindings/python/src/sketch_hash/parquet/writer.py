@@ -5,7 +5,7 @@ from operator import itemgetter
 
 from .. import BloomFilter, xxh64_intdigest
 from .files import open_file, replaced
-from .reader import BloomFilterReader, false_positive_rate, places_of
+from .reader import BloomFilterReader, all_places, false_positive_rate, places_of
 from .values import stored_values
 
 MOST_BYTES = 1 << 27  # of a filter that Arrow reads
@@ -46,7 +46,7 @@ def add_filters(source, target, columns, *, error_rate=0.01, max_bytes=None, rep
         total = sum(len(groups) for _, groups in todo)
         if total == 0 and os.path.exists(target) and os.path.samefile(source, target):
             return 0
-        steps = new_filters(file, reader.footer, todo, builder)
+        steps = new_filters(file, todo, builder)
         if progress:
             steps = progress(steps, total=total)
         end, kept = unused_end(reader, chosen) if replace else (reader.footer.start, [])
@@ -105,12 +105,11 @@ def unused_end(reader, replaced_columns):
     """Where the first filter begins that is replaced, if only filters are from there to the footer; and those of them that
     stay: (begin, end, column, group). Else the footer, and none."""
     footer, run, begin = reader.footer, [], reader.footer.start
-    columns, groups = [*footer.columns()], range(footer.groups)
     indexes = {column.index for column in replaced_columns}
     try:
-        filters = [(column.place(group)[0], sum(place), column, group) for column in columns
-                   for group, place in zip(groups, places_of(reader.source, footer, column, groups)) if place]
-        end = max((column.end(group) for column in columns for group in groups), default=0)
+        filters = [(column.place(group)[0], sum(place), column, group)
+                   for column, group, place in all_places(reader.source, footer)]
+        end = max((column.end(group) for column in footer.columns() for group in range(footer.groups)), default=0)
     except ValueError:  # a filter or a part of the footer is damaged, or belongs to another file
         return footer.start, []
     filters.sort(key=itemgetter(1))
@@ -124,10 +123,10 @@ def unused_end(reader, replaced_columns):
     return begin, [filter for filter in reversed(run) if filter[2].index not in indexes]
 
 
-def new_filters(file, footer, todo, builder):
+def new_filters(file, todo, builder):
     for column, groups in todo:
         built = []
-        for group, batches in stored_values(file, footer, column, groups) if groups else ():
+        for group, batches in stored_values(file, column, groups) if groups else ():
             filter, is_full = builder.build(column, group, batches)
             built.append((xxh64_intdigest(filter), is_full))
             yield column, group, filter
@@ -182,11 +181,11 @@ def check_filters(source, *, progress=None):
         reader, count = BloomFilterReader(file), 0
         todo = [(column, groups) for column in reader.footer.columns() if (groups := column.groups_with_filters())]
         steps = ((column, group, batches) for column, groups in todo
-                 for group, batches in stored_values(file, reader.footer, column, groups))
+                 for group, batches in stored_values(file, column, groups))
         if progress:
             steps = progress(steps, total=sum(len(groups) for _, groups in todo))
         for column, group, batches in steps:
-            place, = places_of(reader.source, reader.footer, column, [group])
+            place, = places_of(reader.source, column, [group])
             filter = BloomFilter.from_bytes(reader.source.read(*place))
             for batch in batches:
                 if filter.contains_each(batch).tobytes().count(1) != len(batch) - batch.null_count:
