@@ -1,17 +1,19 @@
 """The page in headless Chromium, opened as a file and from a server, and the module in a page. The hashes are compared
-with python3-xxhash and the Python package."""
+with python3-xxhash and the shared library of dist/."""
+import ctypes
 import functools
 import http.server
 import json
 import random
 import shutil
+import subprocess
+import tempfile
 import threading
 
 import pytest
 from conftest import DIST
 
 xxhash = pytest.importorskip("xxhash")
-sketch_hash = pytest.importorskip("sketch_hash")
 pytest.importorskip("selenium")
 from selenium import webdriver
 from selenium.webdriver.chrome.service import Service
@@ -25,9 +27,22 @@ FOX_HASHES = ("0b242d361fda71bc", "e34bbc7bbc071b6c7a433ca9c49a9347", "6c1b07bc7
 NONE = ("", "", "")
 
 
+@functools.cache
+def library():
+    """The library for C. Linux keeps it after its file is gone."""
+    with tempfile.TemporaryDirectory() as folder:
+        command = ["gcc", "-O1", "-fPIC", "-shared", "-I", DIST / "include", "-o", f"{folder}/library.so"]
+        subprocess.run([*command, DIST / "sketch_hash.c"], check=True)
+        found = ctypes.CDLL(f"{folder}/library.so")
+    words = ctypes.POINTER(ctypes.c_uint64)
+    found.sketch_murmur3_x64_128.argtypes = ctypes.c_char_p, ctypes.c_size_t, ctypes.c_uint64, words
+    return found
+
+
 def hashes(data, seed=0):
-    murmur = sketch_hash.murmur3_x64_128(data, seed)
-    return xxhash.xxh64_hexdigest(data, seed), murmur.hexdigest(), murmur.digest_bytes().hex()
+    words = (ctypes.c_uint64 * 2)()
+    library().sketch_murmur3_x64_128(data, len(data), seed, words)
+    return xxhash.xxh64_hexdigest(data, seed), f"{words[0]:016x}{words[1]:016x}", bytes(words).hex()
 
 
 pytestmark = pytest.mark.xdist_group("browser")  # one worker of pytest has the browser
