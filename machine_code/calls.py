@@ -1,10 +1,10 @@
 """What the calls of the library have in common: the unknowns that they are given, and what a call must leave."""
 import collections
-import pathlib
 import re
 
 import loops
 from definitions import MURMUR, XXH64, as_value
+from library import HEADER
 from values import cut, extend, join, number, unknown, width_of
 
 # The arguments of a call have 64 bits each. A call that returns nothing has the result None.
@@ -17,7 +17,6 @@ NAMES = {"xxh64": "xxh64", "murmur": "murmur3_x64_128"}
 DEFINITIONS = {"xxh64": XXH64, "murmur": MURMUR}
 PIECE = {"xxh64": 32, "murmur": 16}
 WORDS = {"xxh64": ["seed", "v1", "v2", "v3", "v4"], "murmur": ["h1", "h2"]}
-HEADER = (pathlib.Path(__file__).parents[1] / "dist/include/sketch_hash.h").read_text()
 VERSION = int(re.search(r"SKETCH_HASH_VERSION (\d+)", HEADER)[1])
 seed = unknown("seed", 64)
 
@@ -26,7 +25,7 @@ def pointer(name):
     return extend(unknown(name, 62, 1))
 
 
-bits, fault, found, input, out, state, values = map(pointer, "bits fault found input out state values".split())
+bits, fault, input, out, state, values = map(pointer, "bits fault input out state values".split())
 old_fault = unknown("old fault", 64)
 
 
@@ -75,7 +74,7 @@ def check_call(machine, function, build, *arguments, may_choose=()):
         run = machine()
         for memory in call.memory:
             run.map(memory.at, memory.before, writable=bool(memory.after))
-        run.begin(f"sketch_{function}", call.arguments)
+        run.begin(function, call.arguments)
         run.go()
         run.must_return(call.result)
         for memory in call.memory:

@@ -9,9 +9,13 @@ from machine import Array
 from values import Stop, add, extend, mul, number, unknown
 
 
-def behind(array, name="gap"):
-    """A pointer to what is behind an array in memory."""
-    return add(add(array.at, array.length), extend(unknown(name, 61)))
+def target_and_source(run, is_first, target_length, source_length):
+    """An array that a call writes, and one that it reads: the target is before the source in memory, or behind it."""
+    lengths = (target_length, source_length) if is_first else (source_length, target_length)
+    first = run.give(Array("first", values, lengths[0], is_first))
+    behind = add(add(first.at, first.length), extend(unknown("gap", 61)))
+    second = run.give(Array("second", behind, lengths[1], not is_first))
+    return (first, second) if is_first else (second, first)
 
 
 class Elements(Subject):
@@ -71,13 +75,9 @@ class Numbers(Elements):
     def start(self, count):
         run, n = self.machine(), self.number_of(count)
         all_numbers = add(n, extend(unknown("more", 55)))
-        if self.is_first:
-            self.target = run.give(Array("old", out, mul(n, number(8)), True))
-            self.source = run.give(Array("numbers", behind(self.target), mul(all_numbers, number(8))))
-        else:
-            self.source = run.give(Array("numbers", values, mul(all_numbers, number(8))))
-            self.target = run.give(Array("old", behind(self.source), mul(n, number(8)), True))
-        run.begin("sketch_xxh64_each_u64", [self.source.at, all_numbers, seed, self.target.at, n])
+        lengths = mul(n, number(8)), mul(all_numbers, number(8))
+        self.target, self.source = target_and_source(run, self.is_first, *lengths)
+        run.begin("xxh64_each_u64", [self.source.at, all_numbers, seed, self.target.at, n])
         return run
 
     def element(self, index):

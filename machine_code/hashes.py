@@ -70,7 +70,7 @@ class OneCall(Pieces):
     def begin_call(self, run, n):
         if self.hash == "murmur":
             run.map(out, some("old", 2, 64), writable=True)
-        run.begin(f"sketch_{calls.NAMES[self.hash]}", [input, n, seed, out])
+        run.begin(calls.NAMES[self.hash], [input, n, seed, *[out] * (self.hash == "murmur")])
         return run
 
     def must_leave(self, run, after):
@@ -106,7 +106,7 @@ class Update(OneCall):
 
     def begin_call(self, run, n):
         run.map(state, saved(self.before), writable=True)
-        run.begin(f"sketch_{calls.NAMES[self.hash]}_update", [state, input, n])
+        run.begin(f"{calls.NAMES[self.hash]}_update", [state, input, n])
         return run
 
     def must_leave(self, run, after):
@@ -131,21 +131,23 @@ def reset(hash):
     return Call([state, seed], [Memory(state, before, [value or number(0, 8) for value in after])])
 
 
+def answering(hash, after, arguments, memory):
+    """A call that gives the hash of a state: XXH64's as its result, and Murmur's at `out`."""
+    answer = calls.answer_of(hash, after)
+    if hash == "xxh64":
+        return Call(arguments, memory, *answer)
+    return Call([*arguments, out], [*memory, Memory(out, some("old", 2, 64), answer)])
+
+
 def digest(hash, fill, least=None):
     """With no full piece before, if `least` is None; else with so many of them or more."""
     before = calls.any_state(hash, number(fill) if least is None else calls.total(hash, fill, least))
-    answer = calls.answer_of(hash, of(hash, "state_of")(before))
-    if hash == "xxh64":
-        return Call([state], [Memory(state, saved(before))], *answer)
-    return Call([state, out], [Memory(state, saved(before)), Memory(out, some("old", 2, 64), answer)])
+    return answering(hash, of(hash, "state_of")(before), [state], [Memory(state, saved(before))])
 
 
 def null_call(hash):
     """No bytes at NULL."""
-    answer = calls.answer_of(hash, of(hash, "start")(seed))
-    if hash == "xxh64":
-        return Call([number(0), number(0), seed], [], *answer)
-    return Call([number(0), number(0), seed, out], [Memory(out, some("old", 2, 64), answer)])
+    return answering(hash, of(hash, "start")(seed), [number(0), number(0), seed], [])
 
 
 def null_update(hash, fill):

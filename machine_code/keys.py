@@ -5,7 +5,6 @@ import calls
 import loops
 from calls import OFFSET, OK, PIECE, fault, input, of, old_fault, out, seed, values
 from columns import Elements
-from definitions import as_value
 from hashes import Pieces
 from loops import Subject
 from machine import Array
@@ -15,12 +14,14 @@ MOST = {32: 31, 64: 60}  # how many bits the length of the input has, by the wid
 
 
 class ColumnCall:
-    """The call of a hash with a column: so many places for results, and so many offsets."""
+    """A call with a column: so many places for results, each of `size` bytes, and so many offsets."""
 
-    def __init__(self, machine, hash, width):
-        self.machine, self.hash, self.width = machine, hash, width
-        self.function = f"sketch_{calls.NAMES[hash]}_each{width}"
-        self.length, self.size = extend(unknown("length", MOST[width])), 8 if hash == "xxh64" else 16
+    def __init__(self, machine, function, width, size):
+        self.machine, self.function, self.width, self.size = machine, function, width, size
+        self.length, self.missing = extend(unknown("length", MOST[width])), [number(1), extend(unknown("missing", 58, 2)), None]
+
+    def arguments(self, count, offset_count):
+        return [input, self.length, values, offset_count, seed, out, count, fault]
 
     def begin(self, count, offset_count):
         run = self.machine()
@@ -28,7 +29,7 @@ class ColumnCall:
         self.offsets = run.give(Array("offsets", values, mul(offset_count, number(self.width // 8))))
         self.target = run.give(Array("old", out, mul(count, number(self.size)), True))
         run.map(fault, [old_fault], writable=True)
-        run.begin(self.function, [input, self.length, values, offset_count, seed, out, count, fault])
+        run.begin(self.function, self.arguments(count, offset_count))
         return run
 
     def few(self):
@@ -164,11 +165,11 @@ class Keys(Elements):
 
     name, optional = "keys", 1
 
-    def __init__(self, offsets, per_key):
+    def __init__(self, offsets, hash, per_key):
         super().__init__(offsets.call.machine, 0, 1)
-        self.call, self.checked, self.hash = offsets.call, offsets, offsets.call.hash
+        self.call, self.checked, self.hash = offsets.call, offsets, hash
         self.size = self.bytes = self.call.size
-        self.per_key, self.unit, self.inner = per_key, per_key * PIECE[self.hash], None
+        self.per_key, self.unit, self.inner = per_key, per_key * PIECE[hash], None
 
     def start(self, count):
         run = self.checked.after(count)
@@ -233,8 +234,7 @@ class Keys(Elements):
         return of(self.hash, "after")(state, self.call.input.bytes(add(words[0], offset), size))
 
     def hash_of(self, state):
-        answer = of(self.hash, "answer")(state)
-        return as_value(answer) if self.hash == "xxh64" else join(*map(as_value, answer))
+        return join(*calls.answer_of(self.hash, state))
 
     def element(self, index):
         return self.answer
@@ -253,12 +253,18 @@ class Keys(Elements):
             loops.on_each_path(lambda: ends(way))
 
 
+def prove_offsets(call):
+    """Any number of offsets, of which some can be missing."""
+    for missing in call.missing:
+        checked = loops.prove(lambda per: Offsets(call, missing), [1]).subject
+    return checked
+
+
 def prove_columns(machine, hash, width):
     """Any number of keys, of any length."""
-    call = ColumnCall(machine, hash, width)
-    for missing in number(1), extend(unknown("missing", 58, 2)), None:
-        checked = loops.prove(lambda per: Offsets(call, missing), [1]).subject
-    loops.prove(lambda per: Keys(checked, per), (1, 2))
+    call = ColumnCall(machine, f"{calls.NAMES[hash]}_each{width}", width, 8 if hash == "xxh64" else 16)
+    checked = prove_offsets(call)
+    loops.prove(lambda per: Keys(checked, hash, per), (1, 2))
     call.few()
 
 

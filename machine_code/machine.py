@@ -1,6 +1,7 @@
 """What the two processors have in common: memory, conditions, and a run from a call to its return."""
 import functools
 
+from library import PARAMETERS
 from values import (Stop, Undecided, add, are_equal, bitwise, complement, cut, extend, facts, gap_of, greatest, is_below,
                     is_not_negative, join, known, linear, number, number_in, power_of_two, signed, sub, total,
                     unknown, unknowns_in, width_of)
@@ -273,10 +274,13 @@ class Machine:
     # ---- a run
 
     def begin(self, function, arguments):
-        if function not in self.library.functions:
+        """More arguments than the header has would let the call write to the stack of its caller."""
+        if len(arguments) != len(PARAMETERS.get(function, ())):
+            raise Stop("the header has another number of parameters")
+        if f"sketch_{function}" not in self.library.functions:
             raise Stop("the library does not have it")
         self.pass_arguments(arguments)
-        self.before, self.at = dict(self.registers), self.library.functions[function]
+        self.before, self.at = dict(self.registers), self.library.functions[f"sketch_{function}"]
 
     def go(self, head=None, arrivals=1):
         """Runs to the end of the call, or up to an instruction, arriving there so often. Returns whether it did."""

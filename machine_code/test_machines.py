@@ -114,7 +114,7 @@ def test_code_that_breaks_a_rule_is_refused(processor, code, reason, need, tmp_p
 def test_a_move_of_64_bits_clears_the_rest_of_a_vector(need, tmp_path):
     need("as")
     run = machine_of("x86-64", f"movq xmm1, xmm0; {VERSION}", tmp_path)()
-    run.begin("sketch_hash_version", [])
+    run.begin("hash_version", [])
     run.go()
     before, after = run.registers["ymm0"], run.registers["ymm1"]
     assert cut(after, 0, 64) == cut(before, 0, 64) and number_in(cut(after, 64, 64)) == 0
@@ -167,14 +167,24 @@ def test_an_array_that_is_only_read_is_not_written(need, tmp_path):
     for is_writable in (True, False):
         run = machine()
         run.give(array(is_writable))
-        run.begin("sketch_hash_version", [calls.out])
+        run.begin("hash_version", [])
+        run.registers["rdi"] = calls.out
         if is_writable:
             run.go()
         else:
             with pytest.raises(Stop, match="may only read"):
                 run.go()
+
+
+def test_a_call_is_given_as_many_arguments_as_the_header_has(need, tmp_path):
+    """With more, it could write to the stack of its caller."""
+    need("as")
+    run = machine_of("x86-64", VERSION, tmp_path)()
+    for arguments in [unknown("length", 64)] * 2, []:
+        with pytest.raises(Stop, match="number of parameters"):
+            run.begin("bloom_check", arguments)
     with pytest.raises(Stop, match="does not have"):
-        machine().begin("sketch_other", [])
+        run.begin("bloom_check", [unknown("length", 64)])
 
 
 # ---- each operation with another result
