@@ -1,9 +1,10 @@
 """What the two processors have in common: memory, conditions, and a run from a call to its return."""
 import functools
+import inspect
 
 from library import PARAMETERS
 from values import (Stop, Undecided, add, are_equal, bitwise, complement, cut, extend, facts, gap_of, greatest, is_below,
-                    is_not_negative, join, known, linear, number, number_in, power_of_two, signed, sub, total,
+                    is_not_negative, join, known, linear, number, number_in, power_of_two, shift_left, signed, sub, total,
                     unknown, unknowns_in, width_of)
 
 CALLER = number(0xCA11E4)  # where a call returns to
@@ -19,9 +20,30 @@ def shift_one(x, n):
     return power_of_two(cut(n, 0, 5), 32)
 
 
+def count_of(x, n):
+    """By how many bits x is shifted: the lowest bits of a number."""
+    return cut(n, 0, 6 if width_of(x) == 64 else 5)
+
+
+def shifted(function):
+    """A shift of a register. An unknown number shifts 1 alone."""
+    def run(x, n):
+        n = count_of(x, n)
+        if number_in(n) is None and function is shift_left:
+            return shift_one(x, extend(n, 32))
+        return function(x, known(n, "a shift"))
+
+    return run
+
+
 def plain(function):
     """An operation that sets no condition."""
     return lambda machine, *values: function(*values)
+
+
+def reads(function):
+    """How many operands an operation must be given."""
+    return sum(item.default is item.empty for item in inspect.signature(function).parameters.values())
 
 
 def logic(op):

@@ -83,7 +83,7 @@ WRONG = [
     ("x86-64", f"push rbp; mov rbp, rsp; and rsp, -32; movaps [rsp-8], xmm0; mov rsp, rbp; pop rbp; {VERSION}", "not aligned"),
     ("x86-64", f"mov rcx, ds:16; {VERSION}", ""), ("x86-64", f"xor ecx, ecx; mov rcx, [rcx+16]; {VERSION}", "outside"),
     ("x86-64", f"mov edx, 2; mov ecx, edi; shl edx, cl; {VERSION}", "a shift"),
-    ("x86-64", f"cvttps2dq xmm0, xmm1; {VERSION}", "power of two"), ("x86-64", f"vpshufd ymm0, ymm1, 1; {VERSION}", "256 bits"),
+    ("x86-64", f"vpshufd ymm0, ymm1, 1; {VERSION}", "256 bits"),
     ("x86-64", f"mov eax, {calls.VERSION}; ret 8", "takes more"),
     ("x86-64", f"vpsllvd xmm0, xmm1, xmm2; {VERSION}", "a shift that"),
     ("aarch64", f"rbit x1, x0; {ARM}", "is not known"),

@@ -142,6 +142,20 @@ def extend(value, width=64):
     return join(value, number(0, width - width_of(value)))
 
 
+def sign_extend(value, width):
+    return join(value, repeat(cut(value, width_of(value) - 1, 1), width - width_of(value)))
+
+
+def repeat(value, times):
+    return join(*[value] * times)
+
+
+def replace(value, low, part):
+    """The value with these bits from bit `low` on."""
+    high = low + width_of(part)
+    return join(cut(value, 0, low), part, cut(value, high, width_of(value) - high))
+
+
 def shift_left(value, n):
     return join(number(0, n), cut(value, 0, width_of(value) - n))
 
@@ -155,12 +169,10 @@ def rotate_right(value, n):
 
 
 def lanes(size, function, *values):
-    """A function of each lane of some values, or of a value and numbers."""
-    split = [itertools.repeat(item) if isinstance(item, int) else [cut(item, at, size) for at in range(0, width_of(item), size)]
-             for item in values]
-    if len({len(lane) for lane in split if isinstance(lane, list)}) != 1:
+    """A function of each lane of some values."""
+    if len(set(map(width_of, values))) != 1:
         raise Stop("vectors of different lengths")
-    return join(*map(function, *split))
+    return join(*(function(*(cut(value, at, size) for value in values)) for at in range(0, width_of(values[0]), size)))
 
 
 def power_of_two(exponent, width):
