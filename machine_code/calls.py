@@ -4,7 +4,7 @@ import re
 
 import loops
 from definitions import MURMUR, XXH64, as_value
-from library import HEADER
+from library import HEADER, PARAMETERS
 from values import cut, extend, join, number, unknown, width_of
 
 # The arguments of a call have 64 bits each. A call that returns nothing has the result None.
@@ -27,6 +27,7 @@ def pointer(name):
 
 bits, fault, input, out, state, values = map(pointer, "bits fault input out state values".split())
 old_fault = unknown("old fault", 64)
+any_length = extend(join(number(0, 5), unknown("blocks", 32, 1)))  # of a filter
 
 
 def some(name, n, width=8):
@@ -67,7 +68,12 @@ def answer_of(hash, state):
     return [as_value(word) for word in ([of(hash, "answer")(state)] if hash == "xxh64" else of(hash, "answer")(state))]
 
 
-def check_call(machine, function, build, *arguments, may_choose=()):
+def arguments_of(function, **known):
+    """In the header's order. Those that are not known are anything."""
+    return [known.get(name, unknown(("argument", name), 64)) for name in PARAMETERS[function]]
+
+
+def check_call(machine, function, build, *arguments):
     """Checks a call of a known size on each path. `build` gives it anew, since what a path assumes may change it."""
     def run():
         call = build(*arguments)

@@ -2,7 +2,7 @@
 import functools
 
 import loops
-from calls import COUNT, OK, XXH64, Call, check_call, out, seed, values
+from calls import COUNT, OK, XXH64, Call, any_length, arguments_of, check_call, seed, values
 from definitions import as_value
 from loops import Subject
 from machine import Array
@@ -84,14 +84,16 @@ class Numbers(Elements):
         return as_value(XXH64.xxh64(seed, self.source.bytes(mul(index, number(8)), 8)))
 
 
-def too_few_numbers():
+def too_few_numbers(machine, function):
     """Fewer numbers than places: nothing is read or written."""
     n = extend(unknown("n", 57))
-    return Call([values, n, seed, out, add(add(n, number(1)), extend(unknown("more", 57)))], [], COUNT)
+    places = add(add(n, number(1)), extend(unknown("more", 57)))
+    arguments = arguments_of(function, length=any_length, value_count=n, hash_count=n, count=places)
+    check_call(machine, function, Call, arguments, [], COUNT)
 
 
 def checks(machine):
     yield "xxh64_each_u64", [
         *(functools.partial(loops.prove_each_rest, functools.partial(Numbers, machine, is_first))
           for is_first in (True, False)),
-        functools.partial(check_call, machine, "xxh64_each_u64", too_few_numbers)]
+        functools.partial(too_few_numbers, machine, "xxh64_each_u64")]

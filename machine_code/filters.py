@@ -5,11 +5,10 @@ import random
 
 import calls
 import loops
-from calls import COUNT, LENGTH, OK, Call, Memory, bits, check_call, input, of, out, values
-from columns import Elements, target_and_source
+from calls import LENGTH, OK, Call, Memory, any_length, arguments_of, bits, check_call, input, of, out, values
+from columns import Elements, target_and_source, too_few_numbers
 from hashes import OneCall, Pieces
 from definitions import FILTER, RATE, as_value
-from library import PARAMETERS
 from machine import Array, place_of
 from values import (Stop, add, assume_at_most, bitwise, complement, cut, extend, is_zero, join, mul, number, number_in,
                     power_of_two, shift_right, sub, unknown, width_of)
@@ -78,13 +77,9 @@ def mask_of(hash):
     return join(*(power_of_two(cut(place, 0, 5), 32) for place in places))
 
 
-any_count = unknown("blocks", 32, 1)
-any_length = extend(join(number(0, 5), any_count))
-
-
 def block_of(hash):
     """The index of its block, in a filter of any length."""
-    return as_value(FILTER.block_of(extend(any_count), hash))
+    return as_value(FILTER.block_of(shift_right(any_length, 5), hash))
 
 
 class Bits:
@@ -156,12 +151,13 @@ class Values(Elements):
         self.is_insert, self.kind, self.width, self.size = is_insert, kind, 32 if kind == "u32" else 64, 1
 
     def start(self, count):
-        run, n, more = self.machine(), self.number_of(count), extend(unknown("more", 50))
-        source = run.give(Array("values", values, mul(add(n, more) if not self.is_insert else n, number(self.width // 8))))
-        self.source, self.target = source, run.give(Array("old", out, n, not self.is_insert))
+        run, n, function = self.machine(), self.number_of(count), f"{name_of(self.is_insert)}_each_{self.kind}"
+        value_count = n if self.is_insert else add(n, extend(unknown("more", 50)))
+        self.source = run.give(Array("values", values, mul(value_count, number(self.width // 8))))
+        self.target = run.give(Array("old", out, n, not self.is_insert))
         self.filter = run.give(Bits(self.hash, self.is_insert))
-        arguments = [n] if self.is_insert else [add(n, more), out, n]
-        run.begin(f"{name_of(self.is_insert)}_each_{self.kind}", [bits, any_length, values, *arguments])
+        run.begin(function, arguments_of(function, bits=bits, length=any_length, values=values, hashes=values, found=out,
+                                         value_count=value_count, hash_count=value_count, count=n))
         return run
 
     def hash(self, index):
@@ -262,8 +258,7 @@ WRONG_LENGTHS = lengths_of_none("blocks")
 def wrong_lengths(machine, function, result):
     """The other arguments are anything."""
     for length in WRONG_LENGTHS:
-        arguments = [length if name == "length" else unknown(("argument", name), 64) for name in PARAMETERS[function]]
-        check_call(machine, function, Call, arguments, [], result)
+        check_call(machine, function, Call, arguments_of(function, length=length), [], result)
 
 
 def merges_of_two_lengths(machine):
@@ -321,12 +316,6 @@ def fold_to(machine, filter):
         check_call(machine, "bloom_fold_to", Call, [bits, number(len(filter)), number(one_in)], [memory], number(len(after)))
 
 
-def too_few_values(machine, function):
-    n = extend(unknown("n", 57))
-    places = add(add(n, number(1)), extend(unknown("more", 57)))
-    check_call(machine, function, lambda: Call([bits, any_length, values, n, out, places], [], COUNT))
-
-
 def checks(machine):
     def wrong(function, result):
         return functools.partial(wrong_lengths, machine, function, result)
@@ -353,4 +342,4 @@ def checks(machine):
             function = f"{name}_each_{kind}"
             yield function, [functools.partial(loops.prove_each_rest, functools.partial(Values, machine, is_insert, kind)),
                              wrong(function, LENGTH),
-                             *([] if is_insert else [functools.partial(too_few_values, machine, function)])]
+                             *([] if is_insert else [functools.partial(too_few_numbers, machine, function)])]

@@ -3,7 +3,8 @@ import functools
 
 import calls
 import loops
-from calls import PIECE, WORDS, Call, Memory, bytes_of, check_call, input, of, out, saved, seed, some, state, values
+from calls import (PIECE, WORDS, Call, Memory, arguments_of, bytes_of, check_call, input, of, out, saved, seed, some, state,
+                   values)
 from definitions import XXH64, as_value
 from loops import Subject
 from machine import Array
@@ -70,7 +71,8 @@ class OneCall(Pieces):
     def begin_call(self, run, n):
         if self.hash == "murmur":
             run.map(out, some("old", 2, 64), writable=True)
-        run.begin(calls.NAMES[self.hash], [input, n, seed, *[out] * (self.hash == "murmur")])
+        function = calls.NAMES[self.hash]
+        run.begin(function, arguments_of(function, input=input, length=n, seed=seed, hash=out))
         return run
 
     def must_leave(self, run, after):

@@ -3,7 +3,7 @@ import functools
 
 import calls
 import loops
-from calls import OFFSET, OK, PIECE, fault, input, of, old_fault, out, seed, values
+from calls import OFFSET, OK, PIECE, arguments_of, fault, input, of, old_fault, out, seed, values
 from columns import Elements
 from hashes import Pieces
 from loops import Subject
@@ -20,17 +20,18 @@ class ColumnCall:
         self.machine, self.function, self.width, self.size = machine, function, width, size
         self.length, self.missing = extend(unknown("length", MOST[width])), [number(1), extend(unknown("missing", 58, 2)), None]
 
-    def arguments(self, count, offset_count):
-        return [input, self.length, values, offset_count, seed, out, count, fault]
-
     def begin(self, count, offset_count):
         run = self.machine()
         self.input = run.give(Array("input", input, self.length))
         self.offsets = run.give(Array("offsets", values, mul(offset_count, number(self.width // 8))))
         self.target = run.give(Array("old", out, mul(count, number(self.size)), True))
         run.map(fault, [old_fault], writable=True)
-        run.begin(self.function, self.arguments(count, offset_count))
+        run.begin(self.function, self.arguments(self.length, count, offset_count))
         return run
+
+    def arguments(self, length, count, offset_count):
+        return arguments_of(self.function, input=input, length=length, offsets=values, offset_count=offset_count, seed=seed,
+                            out=out, count=count, wrong_offset=fault)
 
     def few(self):
         """No keys; or some, and no offset."""
@@ -107,46 +108,41 @@ class Offsets(Subject):
     def ways(self):
         return "right", "below", "above"
 
-    def index(self, turns, done):
-        return add(turns, number(done))
-
-    def assume(self, run, words, turns, done, way):
-        assume_at_most(words[0], self.call.length)
-        if done:
-            self.call.set_offset(run, self.index(turns, done - 1), words[0])
-        if way:
-            self.suppose(way, self.index(turns, done), words[0])
-
-    def step(self, words, turns, done, way):
-        if way != "right":
-            raise Stop("a wrong offset does not end the call")
-        return [self.call.offset(self.index(turns, done))]
-
     def entered(self, run, done):
         if done:
             raise Stop("an offset is read before the loop")
 
+    def assume(self, run, words, turns, done, way):
+        assume_at_most(words[0], self.call.length)
+        if way:
+            self.suppose(way, turns, words[0])
+
+    def step(self, words, turns, done, way):
+        if way != "right":
+            raise Stop("a wrong offset does not end the call")
+        return [self.call.offset(turns)]
+
     def leave(self, run, words, turns, done, way):
         if way == "right":
             raise Stop("a right offset ends the call")
-        self.call.must_fail(run, self.index(turns, done))
+        self.call.must_fail(run, turns)
 
     def at_end(self, loop, turns, ways):
         """At the head with the last turns to do, and what is supposed of the offsets that are left."""
         run, words, _ = loop.at(turns, number(loop.last), None)
         before = words[0]
         for i, way in enumerate(ways):
-            before = self.suppose(way, self.index(turns, loop.done + i), before)
+            before = self.suppose(way, add(turns, number(i)), before)
         return run
 
     def finish(self, loop):
         """With a wrong offset among those that are left; the keys' own loop is reached if there is none."""
-        left, turns = loop.last - loop.done + (not self.missing), loop.turns_at_end()
+        left, turns = loop.last + (not self.missing), loop.turns_at_end()
 
         def fails(ways, at):
             run = self.at_end(loop, turns, ways)
             run.go()
-            self.call.must_fail(run, self.index(turns, loop.done + at))
+            self.call.must_fail(run, add(turns, number(at)))
 
         for i in range(left):
             for way in ("below", "above"):
@@ -157,7 +153,7 @@ class Offsets(Subject):
 
     def after(self, count):
         """A machine that goes on to the keys: all offsets are right."""
-        return self.at_end(self.loop, sub(count, number(self.loop.last)), ["right"] * (self.loop.last - self.loop.done + 1))
+        return self.at_end(self.loop, sub(count, number(self.loop.last)), ["right"] * (self.loop.last + 1))
 
 
 class Keys(Elements):

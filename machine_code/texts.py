@@ -6,18 +6,15 @@ not follow these: so columns that are right are checked for the lengths of keys 
 import functools
 import itertools
 
-from calls import LENGTH, OK, Call, bits, check_call, fault, input, old_fault, out, some, values
+from calls import (LENGTH, OK, Call, any_length, arguments_of, bits, check_call, fault, input, old_fault, out, some,
+                   values)
 from definitions import FILTER
-from filters import Bits, any_length, name_of, wrong_lengths
+from filters import Bits, name_of, wrong_lengths
 from keys import MOST, ColumnCall, prove_offsets
 from values import add, number
 
 # The lengths of keys: each to 96, so that there are four batches, and some that are not in order and longer.
 LENGTHS = [*range(97)], [k * 37 % 101 for k in range(70)], [2100, 0, 3, 515], []
-
-
-def arguments_of(is_insert, length, count, offset_count):
-    return [bits, any_length, input, length, values, offset_count, *([] if is_insert else [out, count]), fault]
 
 
 class TextsCall(ColumnCall):
@@ -32,33 +29,34 @@ class TextsCall(ColumnCall):
     def begin(self, count, offset_count):
         return super().begin(count, add(count, number(1)) if self.is_insert else offset_count)
 
-    def arguments(self, count, offset_count):
-        return arguments_of(self.is_insert, self.length, count, offset_count)
+    def arguments(self, length, count, offset_count):
+        return arguments_of(self.function, bits=bits, length=any_length, keys=input, keys_length=length, offsets=values,
+                            offset_count=offset_count, found=out, count=count, wrong_offset=fault)
 
 
-def column(machine, is_insert, width, lengths):
+def column(call, lengths):
     offsets = [*itertools.accumulate(lengths, initial=3)]
     data, n = some("input", offsets[-1]), len(lengths)
     keys = [data[start:end] for start, end in zip(offsets, offsets[1:])]
-    run, old = machine(), some("old", n)
-    filter = run.give(Bits(lambda index: FILTER.hash_of(keys[index[0][1]]), is_insert))
+    run, old = call.machine(), some("old", n)
+    filter = run.give(Bits(lambda index: FILTER.hash_of(keys[index[0][1]]), call.is_insert))
     run.map(input, data)
-    run.map(values, [number(offset, width) for offset in offsets])
+    run.map(values, [number(offset, call.width) for offset in offsets])
     run.map(fault, [old_fault], writable=True)
     run.map(out, old, writable=True)
-    run.begin(f"{name_of(is_insert)}_each{width}", arguments_of(is_insert, *map(number, (len(data), n, len(offsets)))))
+    run.begin(call.function, call.arguments(*map(number, (len(data), n, len(offsets)))))
     run.go()
     run.must_return(OK)
     run.must_have(fault, [old_fault])
     filter.must_have_reached(n)
-    run.must_have(out, old if is_insert else [filter.contains(number(i)) for i in range(n)])
+    run.must_have(out, old if call.is_insert else [filter.contains(number(i)) for i in range(n)])
 
 
 def checks(machine):
     for is_insert, width in itertools.product((True, False), MOST):
         call = TextsCall(machine, is_insert, width)
-        no_offsets = arguments_of(is_insert, number(0), number(0), number(0))
+        no_offsets = call.arguments(number(0), number(0), number(0))
         yield call.function, [
             functools.partial(prove_offsets, call), functools.partial(wrong_lengths, machine, call.function, LENGTH),
             functools.partial(check_call, machine, call.function, Call, no_offsets, [], OK),
-            *(functools.partial(column, machine, is_insert, width, lengths) for lengths in LENGTHS)]
+            *(functools.partial(column, call, lengths) for lengths in LENGTHS)]
