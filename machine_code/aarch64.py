@@ -159,7 +159,7 @@ class Aarch64(Machine):
             _, _, place = operands[1].partition(", lsl #")
             part = self.read(operands[1].partition(",")[0], 16)
             self.write(operands[0], replace(self.read(operands[0]), int(place or 0), part))
-        elif op in ("mov", "ins") and "[" in operands[0] and operands[0][0] == "v":
+        elif op == "mov" and "[" in operands[0] and operands[0][0] == "v":
             register, size = self.register(operands[0])
             at = size * int(re.search(r"\[(\d+)\]", operands[0])[1])
             self.registers[register] = replace(self.registers[register], at, cut(self.read(operands[1]), 0, size))
@@ -235,13 +235,6 @@ class Aarch64(Machine):
             values[1] = repeat(values[1], count)
         if op in ("dup", "movi"):
             return repeat(cut(values[0], 0, size), count)
-        if op in ("uxtl", "uxtl2", "shll", "shll2"):
-            half = cut(values[0], width_of(values[0]) // 2 if op[-1] == "2" else 0, 64)
-            n = 0 if op[0] == "u" else known(values[1], "a shift")
-            return lanes(size // 2, lambda lane: shift_left(extend(lane, size), n), half)
-        if op == "bsl":
-            choice = self.read(operands[0])
-            return bitwise("or", bitwise("and", choice, values[0]), bitwise("and", complement(choice), values[1]))
         if op == "ext":
             return cut(join(*values[:2]), 8 * known(values[2], "a place"), count * size)
         if op == "ushr":

@@ -5,7 +5,7 @@ import re
 import loops
 from definitions import MURMUR, XXH64, as_value
 from library import HEADER, PARAMETERS
-from values import cut, extend, join, number, unknown, width_of
+from values import extend, join, number, unknown
 
 # The arguments of a call have 64 bits each. A call that returns nothing has the result None.
 Call = collections.namedtuple("Call", "arguments memory result", defaults=[None])
@@ -32,10 +32,6 @@ any_length = extend(join(number(0, 5), unknown("blocks", 32, 1)))  # of a filter
 
 def some(name, n, width=8):
     return [unknown((name, i), width) for i in range(n)]
-
-
-def bytes_of(value):
-    return [cut(value, at, 8) for at in range(0, width_of(value), 8)]
 
 
 def of(hash, name):

@@ -3,8 +3,7 @@ import functools
 
 import calls
 import loops
-from calls import (PIECE, WORDS, Call, Memory, arguments_of, bytes_of, check_call, input, of, out, saved, seed, some, state,
-                   values)
+from calls import PIECE, WORDS, Call, Memory, arguments_of, check_call, input, of, out, saved, seed, some, state, values
 from definitions import XXH64, as_value
 from loops import Subject
 from machine import Array
@@ -118,13 +117,13 @@ class Update(OneCall):
 # ---- calls without a loop
 
 def number_call():
-    any_number = unknown("number", 64)
-    return Call([any_number, seed], [], as_value(XXH64.xxh64(seed, bytes_of(any_number))))
+    data = some("number", 8)
+    return Call([join(*data), seed], [], as_value(XXH64.xxh64(seed, data)))
 
 
 def bytes_call():
     words = some("hash", 2, 64)
-    return Call([values, out], [Memory(values, words), Memory(out, some("old", 16), bytes_of(join(*words)))])
+    return Call([values, out], [Memory(values, words), Memory(out, some("old", 2, 64), words)])
 
 
 def reset(hash):

@@ -171,12 +171,9 @@ class Machine:
             raise Stop("a read below the stack")
         if (base, at) in self.bytes:
             return self.bytes[base, at]
-        if base:
-            array, offset = self.in_array(of_place(base, at), 1)
-            return array.load(offset, 1)[0]
-        if any(at in addresses for addresses in self.library.statics):
+        if not base and any(at in addresses for addresses in self.library.statics):
             return extend(unknown(("static", at), 1), 8), 0  # a flag of the library, which no call writes
-        offset = self.library.offset_of(at)
+        offset = None if base else self.library.offset_of(at)
         if offset is None:
             raise Stop("a read outside of what the call is given")
         return number(self.library.data[offset], 8), 0

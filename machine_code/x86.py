@@ -24,8 +24,6 @@ def decode(text):
             terms = re.findall(r"([+-]?)(\w+)(?:\*(\d))?", memory[2])
             terms = tuple((name, (-1 if sign == "-" else 1) * int(factor or 1)) for sign, name, factor in terms)
             found.append(("memory", terms, SIZES.get(memory[1])))
-        elif re.fullmatch("[abcd]h", item):
-            found.append(("high", f"r{item[0]}x", 8))  # bits 8 to 15, which are only read
         else:
             found.append(("register", *REGISTERS[item]) if item in REGISTERS else ("number", int(item, 16), None))
     return found
@@ -226,8 +224,6 @@ class X86(Machine):
 
     def read(self, operand, width):
         kind, what, own = operand
-        if kind == "high":
-            return cut(self.registers[what], 8, 8)
         if kind == "memory":
             return self.load(self.address(what), (own or width) // 8)
         return number(what, width) if kind == "number" else cut(self.registers[what], 0, own)
@@ -235,8 +231,6 @@ class X86(Machine):
     def write(self, operand, value, clears):
         """A write of 32 or 64 bits clears the higher ones; one of 8 or 16 keeps them, and SSE's of 128, but not AVX's."""
         kind, what, width = operand
-        if kind == "high":
-            raise Stop("a write of bits 8 to 15")
         value = cut(extend(value, max(width, width_of(value))), 0, width)
         if kind == "memory":
             self.store(self.address(what), value)
