@@ -25,6 +25,13 @@ def shift_lane(x, n):
     return shift_left(x, min(count, width_of(x))) if count < 128 else shift_right(x, min(256 - count, width_of(x)))
 
 
+def signed_shift_lane(x, n):
+    """To the right it would repeat the sign."""
+    if (number_in(cut(n, 0, 8)) or 0) > 127:
+        raise Stop("a signed shift to the right")
+    return shift_lane(x, n)
+
+
 def signed_byte(x):
     return sign_extend(cut(x, 0, 8), width_of(x))
 
@@ -55,7 +62,7 @@ PLAIN = {
     "lsl": shifted(shift_left), "lsr": shifted(shift_right), "ror": shifted(rotate_right),
     "cinc": lambda x, holds: plus_one(x) if holds else x, "csel": lambda x, y, holds: x if holds else y,
     "csinc": lambda x, y, holds: x if holds else plus_one(y), "csetm": lambda holds: number(-holds),
-    "ushl": shift_lane, "sshl": shift_lane, "ushr": by_numbers(lambda x, n: shift_right(x, min(n, width_of(x)))),
+    "ushl": shift_lane, "sshl": signed_shift_lane, "ushr": by_numbers(lambda x, n: shift_right(x, min(n, width_of(x)))),
     "umulh": lambda x, y: number(known(x, "a factor") * known(y, "a factor") >> 64),
     "cnt": lambda x: number(bin(known(x, "a byte")).count("1"), 8),
     "cmeq": lambda x, y: repeat(is_zero(bitwise("xor", x, y)), width_of(x)),

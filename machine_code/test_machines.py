@@ -87,6 +87,7 @@ WRONG = [
     ("x86-64", f"mov eax, {calls.VERSION}; ret 8", "takes more"),
     ("x86-64", f"vpsllvd xmm0, xmm1, xmm2; {VERSION}", "a shift that"),
     ("aarch64", f"rbit x1, x0; {ARM}", "is not known"),
+    ("aarch64", f"movi v0.16b, #128; movi v1.16b, #255; sshl v0.4s, v0.4s, v1.4s; {ARM}", "a signed shift to the right"),
     ("aarch64", f"mov x19, x0; {ARM}", "x19 is not restored"), ("aarch64", f"fmov d8, d0; {ARM}", "v8 is not restored"),
     ("aarch64", f"sub sp, sp, #16; {ARM}", "the stack pointer is not restored"),
     ("aarch64", f"str x0, [sp, #-16]; {ARM}", "outside"),
