@@ -64,6 +64,7 @@ PLAIN = {
     "csinc": lambda x, y, holds: x if holds else plus_one(y), "csetm": lambda holds: number(-holds),
     "ushl": shift_lane, "sshl": signed_shift_lane, "ushr": by_numbers(lambda x, n: shift_right(x, min(n, width_of(x)))),
     "umulh": lambda x, y: number(known(x, "a factor") * known(y, "a factor") >> 64),
+    "udiv": lambda x, y: number(known(x, "a dividend") // divisor if (divisor := known(y, "a divisor")) else 0, width_of(x)),
     "cnt": lambda x: number(bin(known(x, "a byte")).count("1"), 8),
     "cmeq": lambda x, y: repeat(is_zero(bitwise("xor", x, y)), width_of(x)),
     **{name: functools.partial(bitwise, op) for name, op in (("and", "and"), ("orr", "or"), ("eor", "xor"))},

@@ -5,6 +5,7 @@ import hashes
 import headers
 import keys
 import library
+import sizes
 import texts
 from aarch64 import Aarch64
 from loops import on_each_path
@@ -12,8 +13,6 @@ from values import Stop
 from x86 import X86
 
 MACHINES = {"x86-64": X86, "aarch64": Aarch64}
-# Its sums have divisions, and comparisons that depend on both arguments.
-NOT_CHECKED = {"bloom_bytes_for"}
 
 
 def checks_of(built):
@@ -22,10 +21,10 @@ def checks_of(built):
         return MACHINES[built.processor](built)
 
     found = {}
-    for module in hashes, columns, keys, filters, texts, headers:
+    for module in hashes, columns, keys, filters, sizes, texts, headers:
         found |= dict(module.checks(machine))
-    if found.keys() | NOT_CHECKED != library.PARAMETERS.keys() or found.keys() & NOT_CHECKED:
-        raise Stop(f"the header has other functions: {(found.keys() | NOT_CHECKED) ^ library.PARAMETERS.keys()}")
+    if found.keys() != library.PARAMETERS.keys():
+        raise Stop(f"the header has other functions: {found.keys() ^ library.PARAMETERS.keys()}")
     if not all(found.values()):
         raise Stop("a function has no check")
     return found

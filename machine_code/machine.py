@@ -9,7 +9,7 @@ from values import (Stop, Undecided, add, are_equal, bitwise, complement, cut, e
 
 CALLER = number(0xCA11E4)  # where a call returns to
 STACK = 4096  # how much of it a call may use
-LIMIT = 40000  # how many instructions a run may execute
+LIMIT = 1_000_000  # how many instructions a run may execute
 OPPOSITE = {"ne": "e", "ae": "b", "a": "be", "ns": "s", "ge": "l"}
 
 
@@ -268,9 +268,10 @@ class Machine:
             return are_equal(x, y) if what == "sub" else are_equal(result, number(0, width_of(result)))
         if what == "sub":
             return number(is_below(x, y) if name == "b" else not is_below(y, x), 1)
-        if what == "other" or what == "add" and (greatest(x) + greatest(y)) >> width_of(x):
+        carry = what == "add" and (greatest(x) + greatest(y)) >> width_of(x)
+        if what == "other" or carry and None in (number_in(x), number_in(y)):
             raise Stop("a carry that is not known")
-        return number(0, 1) if name == "b" else self.condition("e")
+        return number(carry, 1) if carry or name == "b" else self.condition("e")
 
     def holds(self, name):
         if name in ("le", "g"):

@@ -249,8 +249,8 @@ class X86(Machine):
             return self.fill(FILLS[text])
         if op == "call" or op[0] == "j":
             return self.jump(op, int(text, 16))
-        if op == "mul":
-            return self.multiply(*decode(text))
+        if op in ("mul", "div"):
+            return (self.multiply if op == "mul" else self.divide)(*decode(text))
         if op == "leave":
             self.registers["rsp"], op, text = self.registers["rbp"], "pop", "rbp"
         if op in ("push", "pop", "ret"):
@@ -319,3 +319,14 @@ class X86(Machine):
             self.write(operand, value, True)
         else:
             self.next = known(value, "the end of a call")
+
+    def divide(self, operand):
+        """Of numbers that are known. The quotient has no more bits than the divisor."""
+        width = operand[2]
+        divisor = known(self.read(operand, width), "a divisor")
+        low, high = (known(cut(self.registers[name], 0, width), "a dividend") for name in ("rax", "rdx"))
+        if width < 32 or divisor <= high:
+            raise Stop("a division that fails")
+        quotient, rest = divmod(high << width | low, divisor)
+        self.registers["rax"], self.registers["rdx"] = number(quotient), number(rest)
+        self.flags = None
