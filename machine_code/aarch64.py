@@ -2,9 +2,9 @@
 import functools
 import re
 
-from machine import CALLER, Machine, logic, plain, shift_one
-from values import (Stop, add, bitwise, complement, cut, extend, is_zero, join, known, lanes, mul, number, number_in,
-                    rotate_right, shift_left, shift_right, sub, unknown, width_of)
+from machine import CALLER, Machine, logic, plain, shift_one, shifted
+from values import (Stop, add, bitwise, complement, cut, extend, is_zero, join, known, lanes, mul, number, number_in, repeat,
+                    replace, rotate_right, shift_left, shift_right, sign_extend, sub, unknown, width_of)
 
 CONDITIONS = {"eq": "e", "ne": "ne", "cc": "b", "cs": "ae", "hi": "a", "ls": "be", "mi": "s", "pl": "ns", "lt": "l", "ge": "ge",
               "le": "le", "gt": "g"}
@@ -17,43 +17,28 @@ def split(text):
     return re.split(r",\s*(?=\S)(?![^\[]*\])(?!(?:ls[lr]|ror)\b)", text) if text else []
 
 
-def shift(function):
-    return lambda m, x, n: function(x, known(cut(n, 0, 6 if width_of(x) == 64 else 5), "a shift"))
-
-
-def shift_by_any(function):
-    """An unknown number shifts 1 alone."""
-    def run(m, x, n):
-        if number_in(n) is None and function is shift_left and width_of(x) == 32:
-            return shift_one(x, extend(cut(n, 0, 5), 32))
-        return function(x, known(cut(n, 0, 6 if width_of(x) == 64 else 5), "a shift"))
-
-    return run
-
-
 def shift_lane(x, n):
     """To the left, or to the right by a negative number: the lowest byte of the other lane."""
     count = number_in(cut(n, 0, 8))
     if count is None:
         return shift_one(x, n)
-    count = count - 256 if count > 127 else count
-    if abs(count) >= width_of(x):
-        return number(0, width_of(x))
-    return shift_left(x, count) if count >= 0 else shift_right(x, -count)
+    return shift_left(x, min(count, width_of(x))) if count < 128 else shift_right(x, min(256 - count, width_of(x)))
+
+
+def signed_shift_lane(x, n):
+    """To the right it would repeat the sign."""
+    if (number_in(cut(n, 0, 8)) or 0) > 127:
+        raise Stop("a signed shift to the right")
+    return shift_lane(x, n)
 
 
 def signed_byte(x):
-    return join(cut(x, 0, 8), *[cut(x, 7, 1)] * (width_of(x) - 8))
+    return sign_extend(cut(x, 0, 8), width_of(x))
 
 
-def field(x, y, at, width):
-    """x with so many bits of y at a place."""
-    return join(cut(x, 0, at), cut(y, 0, width), cut(x, at + width, width_of(x) - at - width))
-
-
-def in_zeros(function):
-    """Of a field of y, x being 0: `function` gives it."""
-    return lambda m, y, at, width: function(y, known(at, "a place"), known(width, "a width"))
+def by_numbers(function):
+    """All operands but the first are known."""
+    return lambda x, *numbers: function(x, *(known(n, "a place") for n in numbers))
 
 
 def plus_one(x):
@@ -65,31 +50,31 @@ def add_with_carry(m, x, y):
     return add(add(x, y), extend(Machine.condition(m, "b" if m.flags[0] == "add" else "ae"), width_of(x)))
 
 
-# What an instruction computes from its operands but the first, which it writes. Those of vectors do it for each lane.
-OPERATIONS = {
-    "add": plain(add), "sub": plain(sub), "mul": plain(mul), "madd": plain(lambda x, y, z: add(mul(x, y), z)),
-    "adcs": lambda m, x, y: m.compare(None, x, y, add_with_carry(m, x, y)), "adc": add_with_carry,
-    "adds": Machine.sum, "subs": Machine.subtract, "cmp": Machine.subtract,
-    "neg": plain(lambda x: sub(number(0, width_of(x)), x)), "mvn": plain(complement),
-    "bic": lambda m, x, y: bitwise("and", x, complement(y)),
-    "orn": plain(lambda x, y: bitwise("or", x, complement(y))), "eon": plain(lambda x, y: bitwise("xor", x, complement(y))),
-    "ubfx": in_zeros(lambda y, at, width: extend(cut(y, at, width), width_of(y))),
-    "sbfx": in_zeros(lambda y, at, width: join(cut(y, at, width), *[cut(y, at + width - 1, 1)] * (width_of(y) - width))),
-    "ubfiz": in_zeros(lambda y, at, width: field(number(0, width_of(y)), y, at, width)),
-    "extr": plain(lambda x, y, n: cut(join(y, x), known(n, "a place"), width_of(x))),
-    "cinc": lambda m, x, holds: plus_one(x) if holds else x, "sxtb": plain(lambda x: signed_byte(x)),
-    "cneg": lambda m, x, holds: sub(number(0, width_of(x)), x) if holds else x,
-    "ands": logic("and"), "tst": logic("and"), "lsl": shift_by_any(shift_left),
-    "lsr": shift_by_any(shift_right), "ror": shift(rotate_right),
-    "csel": lambda m, x, y, holds: x if holds else y, "csinc": lambda m, x, y, holds: x if holds else plus_one(y),
-    "cset": plain(lambda bit: bit), "csetm": lambda m, holds: number(-holds),
-    "ushl": plain(shift_lane), "sshl": plain(shift_lane), "ushr": shift(shift_right), "shl": shift(shift_left),
-    "umulh": plain(lambda x, y: number(known(x, "a factor") * known(y, "a factor") >> 64)),
-    "cnt": plain(lambda x: number(bin(known(x, "a byte")).count("1"), 8)),
-    "cmeq": plain(lambda x, y: join(*[is_zero(bitwise("xor", x, y))] * width_of(x))),
+# What an instruction computes from its operands but the first, which it writes. Those of LANES do it for each lane of vectors.
+PLAIN = {
+    "add": add, "sub": sub, "mul": mul, "madd": lambda x, y, z: add(mul(x, y), z), "mvn": complement,
+    "neg": lambda x: sub(number(0, width_of(x)), x),
+    "bic": lambda x, y: bitwise("and", x, complement(y)), "orn": lambda x, y: bitwise("or", x, complement(y)),
+    "ubfx": by_numbers(lambda x, at, width: extend(cut(x, at, width), width_of(x))), "sxtb": signed_byte,
+    "sbfx": by_numbers(lambda x, at, width: sign_extend(cut(x, at, width), width_of(x))),
+    "ubfiz": by_numbers(lambda x, at, width: replace(number(0, width_of(x)), at, cut(x, 0, width))),
+    "extr": lambda x, y, n: cut(join(y, x), known(n, "a place"), width_of(x)),
+    "lsl": shifted(shift_left), "lsr": shifted(shift_right), "ror": shifted(rotate_right),
+    "cinc": lambda x, holds: plus_one(x) if holds else x, "csel": lambda x, y, holds: x if holds else y,
+    "csinc": lambda x, y, holds: x if holds else plus_one(y), "csetm": lambda holds: number(-holds),
+    "ushl": shift_lane, "sshl": signed_shift_lane, "ushr": by_numbers(lambda x, n: shift_right(x, min(n, width_of(x)))),
+    "umulh": lambda x, y: number(known(x, "a factor") * known(y, "a factor") >> 64),
+    "udiv": lambda x, y: number(known(x, "a dividend") // divisor if (divisor := known(y, "a divisor")) else 0, width_of(x)),
+    "cnt": lambda x: number(bin(known(x, "a byte")).count("1"), 8),
+    "cmeq": lambda x, y: repeat(is_zero(bitwise("xor", x, y)), width_of(x)),
+    **{name: functools.partial(bitwise, op) for name, op in (("and", "and"), ("orr", "or"), ("eor", "xor"))},
+    **dict.fromkeys(("mov", "fmov", "adrp", "adr", "umov", "cset"), lambda x: x),
 }
-OPERATIONS |= dict.fromkeys(("mov", "fmov", "adrp", "adr", "umov"), plain(lambda x: x))
-OPERATIONS |= {name: plain(functools.partial(bitwise, op)) for name, op in (("and", "and"), ("orr", "or"), ("eor", "xor"))}
+OPERATIONS = {name: plain(function) for name, function in PLAIN.items()} | {
+    "adds": Machine.sum, "subs": Machine.subtract, "cmp": Machine.subtract, "ands": logic("and"), "tst": logic("and"),
+    "adcs": lambda m, x, y: m.compare(None, x, y, add_with_carry(m, x, y)), "adc": add_with_carry,
+}
+LANES = "add", "sub", "mul", "ushl", "sshl", "cmeq", "cnt"
 
 
 class Aarch64(Machine):
@@ -180,13 +165,12 @@ class Aarch64(Machine):
             self.access(op, operands)
         elif op == "movk":
             _, _, place = operands[1].partition(", lsl #")
-            value, place = self.read(operands[0]), int(place or 0)
             part = self.read(operands[1].partition(",")[0], 16)
-            self.write(operands[0], join(cut(value, 0, place), part, cut(value, place + 16, width_of(value) - place - 16)))
-        elif op in ("mov", "ins") and "[" in operands[0] and operands[0][0] == "v":
+            self.write(operands[0], replace(self.read(operands[0]), int(place or 0), part))
+        elif op == "mov" and "[" in operands[0] and operands[0][0] == "v":
             register, size = self.register(operands[0])
             at = size * int(re.search(r"\[(\d+)\]", operands[0])[1])
-            self.registers[register] = field(self.registers[register], self.read(operands[1]), at, size)
+            self.registers[register] = replace(self.registers[register], at, cut(self.read(operands[1]), 0, size))
         elif operands[0][0] == "v":
             self.write(operands[0], self.vector(op, operands))
         elif op == "addv" and operands[0][0] == "b":
@@ -223,7 +207,7 @@ class Aarch64(Machine):
 
     def insert_field(self, op, to, source, at, width):
         x, y, at, width = self.read(to), self.read(source), int(at.strip("#"), 0), int(width.strip("#"), 0)
-        self.write(to, field(x, y, at, width) if op == "bfi" else field(x, cut(y, at, width), 0, width))
+        self.write(to, replace(x, at, cut(y, 0, width)) if op == "bfi" else replace(x, 0, cut(y, at, width)))
 
     def compare_if(self, x, y, flags, name):
         """Compares if a condition holds; else the flags N, Z, C, V are these. Of them Z and C are understood."""
@@ -256,22 +240,13 @@ class Aarch64(Machine):
         count, size = int(count), WIDTHS[size]
         values = [self.read(item, size if item[0] == "#" else 64) for item in operands[1:]]
         if op == "mul" and "[" in operands[2]:  # by one lane
-            values[1] = join(*[values[1]] * count)
+            values[1] = repeat(values[1], count)
         if op in ("dup", "movi"):
-            return join(*[cut(values[0], 0, size)] * count)
-        if op in ("uxtl", "uxtl2", "shll", "shll2"):
-            half = cut(values[0], width_of(values[0]) // 2 if op[-1] == "2" else 0, 64)
-            n = 0 if op[0] == "u" else known(values[1], "a shift")
-            return lanes(size // 2, lambda lane: shift_left(extend(lane, size), n), half)
-        if op == "mov":
-            return values[0]
-        if op == "bsl":
-            choice = self.read(operands[0])
-            return bitwise("or", bitwise("and", choice, values[0]), bitwise("and", complement(choice), values[1]))
+            return repeat(cut(values[0], 0, size), count)
         if op == "ext":
             return cut(join(*values[:2]), 8 * known(values[2], "a place"), count * size)
-        if op in ("ushr", "shl") and known(values[1], "a shift") < size:
-            return lanes(size, lambda item: OPERATIONS[op](self, item, values[1]), values[0])
-        if op in ("add", "sub", "mul", "ushl", "sshl", "cmeq", "cnt"):
+        if op == "ushr":
+            return lanes(size, lambda lane: OPERATIONS[op](self, lane, values[1]), values[0])
+        if op in LANES:
             return lanes(size, functools.partial(OPERATIONS[op], self), *values)
-        return {item: OPERATIONS[item] for item in ("and", "orr", "eor", "bic", "mvn", "orn")}[op](self, *values)
+        return {item: OPERATIONS[item] for item in ("mov", "and", "orr", "eor", "bic", "mvn", "orn")}[op](self, *values)

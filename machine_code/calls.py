@@ -1,11 +1,11 @@
 """What the calls of the library have in common: the unknowns that they are given, and what a call must leave."""
 import collections
-import pathlib
 import re
 
 import loops
 from definitions import MURMUR, XXH64, as_value
-from values import cut, extend, join, number, unknown, width_of
+from library import HEADER, PARAMETERS
+from values import extend, join, number, unknown
 
 # The arguments of a call have 64 bits each. A call that returns nothing has the result None.
 Call = collections.namedtuple("Call", "arguments memory result", defaults=[None])
@@ -17,7 +17,6 @@ NAMES = {"xxh64": "xxh64", "murmur": "murmur3_x64_128"}
 DEFINITIONS = {"xxh64": XXH64, "murmur": MURMUR}
 PIECE = {"xxh64": 32, "murmur": 16}
 WORDS = {"xxh64": ["seed", "v1", "v2", "v3", "v4"], "murmur": ["h1", "h2"]}
-HEADER = (pathlib.Path(__file__).parents[1] / "dist/include/sketch_hash.h").read_text()
 VERSION = int(re.search(r"SKETCH_HASH_VERSION (\d+)", HEADER)[1])
 seed = unknown("seed", 64)
 
@@ -26,16 +25,13 @@ def pointer(name):
     return extend(unknown(name, 62, 1))
 
 
-bits, fault, found, input, out, state, values = map(pointer, "bits fault found input out state values".split())
+bits, fault, input, out, state, values = map(pointer, "bits fault input out state values".split())
 old_fault = unknown("old fault", 64)
+any_length = extend(join(number(0, 5), unknown("blocks", 32, 1)))  # of a filter
 
 
 def some(name, n, width=8):
     return [unknown((name, i), width) for i in range(n)]
-
-
-def bytes_of(value):
-    return [cut(value, at, 8) for at in range(0, width_of(value), 8)]
 
 
 def of(hash, name):
@@ -68,14 +64,19 @@ def answer_of(hash, state):
     return [as_value(word) for word in ([of(hash, "answer")(state)] if hash == "xxh64" else of(hash, "answer")(state))]
 
 
-def check_call(machine, function, build, *arguments, may_choose=()):
+def arguments_of(function, **known):
+    """In the header's order. Those that are not known are anything."""
+    return [known.get(name, unknown(("argument", name), 64)) for name in PARAMETERS[function]]
+
+
+def check_call(machine, function, build, *arguments):
     """Checks a call of a known size on each path. `build` gives it anew, since what a path assumes may change it."""
     def run():
         call = build(*arguments)
         run = machine()
         for memory in call.memory:
             run.map(memory.at, memory.before, writable=bool(memory.after))
-        run.begin(f"sketch_{function}", call.arguments)
+        run.begin(function, call.arguments)
         run.go()
         run.must_return(call.result)
         for memory in call.memory:

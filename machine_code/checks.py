@@ -1,12 +1,11 @@
 """All checks of a library, by function of its header."""
-import re
-
-import calls
 import columns
 import filters
 import hashes
 import headers
 import keys
+import library
+import sizes
 import texts
 from aarch64 import Aarch64
 from loops import on_each_path
@@ -14,21 +13,18 @@ from values import Stop
 from x86 import X86
 
 MACHINES = {"x86-64": X86, "aarch64": Aarch64}
-# Its sums have divisions, and comparisons that depend on both arguments.
-NOT_CHECKED = {"bloom_bytes_for"}
 
 
-def checks_of(library):
+def checks_of(built):
     """By function what runs its checks, each of which raises Stop if something is wrong."""
     def machine():
-        return MACHINES[library.processor](library)
+        return MACHINES[built.processor](built)
 
     found = {}
-    for module in hashes, columns, keys, filters, texts, headers:
+    for module in hashes, columns, keys, filters, sizes, texts, headers:
         found |= dict(module.checks(machine))
-    in_header = set(re.findall(r"\bsketch_(\w+)\(", re.sub(r"/\*.*?\*/", "", calls.HEADER, flags=re.S)))
-    if found.keys() | NOT_CHECKED != in_header or found.keys() & NOT_CHECKED:
-        raise Stop(f"the header has other functions: {(found.keys() | NOT_CHECKED) ^ in_header}")
+    if found.keys() != library.PARAMETERS.keys():
+        raise Stop(f"the header has other functions: {found.keys() ^ library.PARAMETERS.keys()}")
     if not all(found.values()):
         raise Stop("a function has no check")
     return found

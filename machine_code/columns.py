@@ -2,16 +2,20 @@
 import functools
 
 import loops
-from calls import COUNT, OK, XXH64, Call, check_call, out, seed, values
+from calls import COUNT, OK, XXH64, Call, any_length, arguments_of, check_call, seed, values
 from definitions import as_value
 from loops import Subject
 from machine import Array
 from values import Stop, add, extend, mul, number, unknown
 
 
-def behind(array, name="gap"):
-    """A pointer to what is behind an array in memory."""
-    return add(add(array.at, array.length), extend(unknown(name, 61)))
+def target_and_source(run, is_first, target_length, source_length):
+    """An array that a call writes, and one that it reads: the target is before the source in memory, or behind it."""
+    lengths = (target_length, source_length) if is_first else (source_length, target_length)
+    first = run.give(Array("first", values, lengths[0], is_first))
+    behind = add(add(first.at, first.length), extend(unknown("gap", 61)))
+    second = run.give(Array("second", behind, lengths[1], not is_first))
+    return (first, second) if is_first else (second, first)
 
 
 class Elements(Subject):
@@ -71,27 +75,25 @@ class Numbers(Elements):
     def start(self, count):
         run, n = self.machine(), self.number_of(count)
         all_numbers = add(n, extend(unknown("more", 55)))
-        if self.is_first:
-            self.target = run.give(Array("old", out, mul(n, number(8)), True))
-            self.source = run.give(Array("numbers", behind(self.target), mul(all_numbers, number(8))))
-        else:
-            self.source = run.give(Array("numbers", values, mul(all_numbers, number(8))))
-            self.target = run.give(Array("old", behind(self.source), mul(n, number(8)), True))
-        run.begin("sketch_xxh64_each_u64", [self.source.at, all_numbers, seed, self.target.at, n])
+        lengths = mul(n, number(8)), mul(all_numbers, number(8))
+        self.target, self.source = target_and_source(run, self.is_first, *lengths)
+        run.begin("xxh64_each_u64", [self.source.at, all_numbers, seed, self.target.at, n])
         return run
 
     def element(self, index):
         return as_value(XXH64.xxh64(seed, self.source.bytes(mul(index, number(8)), 8)))
 
 
-def too_few_numbers():
+def too_few_numbers(machine, function):
     """Fewer numbers than places: nothing is read or written."""
     n = extend(unknown("n", 57))
-    return Call([values, n, seed, out, add(add(n, number(1)), extend(unknown("more", 57)))], [], COUNT)
+    places = add(add(n, number(1)), extend(unknown("more", 57)))
+    arguments = arguments_of(function, length=any_length, value_count=n, hash_count=n, count=places)
+    check_call(machine, function, Call, arguments, [], COUNT)
 
 
 def checks(machine):
     yield "xxh64_each_u64", [
         *(functools.partial(loops.prove_each_rest, functools.partial(Numbers, machine, is_first))
           for is_first in (True, False)),
-        functools.partial(check_call, machine, "xxh64_each_u64", too_few_numbers)]
+        functools.partial(too_few_numbers, machine, "xxh64_each_u64")]

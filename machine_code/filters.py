@@ -5,8 +5,8 @@ import random
 
 import calls
 import loops
-from calls import COUNT, LENGTH, OK, Call, Memory, bits, check_call, found, input, of, values
-from columns import Elements, behind
+from calls import LENGTH, OK, Call, Memory, any_length, arguments_of, bits, check_call, input, of, out, values
+from columns import Elements, target_and_source, too_few_numbers
 from hashes import OneCall, Pieces
 from definitions import FILTER, RATE, as_value
 from machine import Array, place_of
@@ -47,13 +47,8 @@ class Merge(Blocks):
 
     def start(self, count):
         run, n = self.machine(), self.length(count, 32)
-        if self.is_first:
-            self.target = run.give(Array("bits", bits, n, True))
-            self.source = run.give(Array("other", behind(self.target), n))
-        else:
-            self.source = run.give(Array("other", bits, n))
-            self.target = run.give(Array("bits", behind(self.source), n, True))
-        run.begin("sketch_bloom_merge", [self.target.at, n, self.source.at, n])
+        self.target, self.source = target_and_source(run, self.is_first, n, n)
+        run.begin("bloom_merge", [self.target.at, n, self.source.at, n])
         return run
 
     def element(self, index):
@@ -67,7 +62,7 @@ class Fold(Blocks):
     def start(self, count):
         run, n = self.machine(), self.length(count, 64)
         self.target = run.give(Array("bits", bits, n, True))
-        run.begin("sketch_bloom_fold", [bits, n])
+        run.begin("bloom_fold", [bits, n])
         return run
 
     def element(self, index):
@@ -82,12 +77,17 @@ def mask_of(hash):
     return join(*(power_of_two(cut(place, 0, 5), 32) for place in places))
 
 
+def block_of(hash):
+    """The index of its block, in a filter of any length."""
+    return as_value(FILTER.block_of(shift_right(any_length, 5), hash))
+
+
 class Bits:
     """A filter, of which a call reaches the blocks of its keys. An insert is done with one before it reaches the next: so it
     does not matter which of them are the same block. `hash` gives that of the key with an index."""
 
-    def __init__(self, count, hash, is_writable):
-        self.count, self.hash, self.is_writable = count, hash, is_writable
+    def __init__(self, hash, is_writable):
+        self.hash, self.is_writable = hash, is_writable
         self.begin(number(0))
 
     def begin(self, first):
@@ -99,8 +99,7 @@ class Bits:
         if i not in self.blocks:
             index = add(self.first, number(i))
             hash, before = self.hash(index), join(*(unknown(("block", place_of(index), w), 32) for w in range(8)))
-            place = as_value(FILTER.block_of(extend(self.count), hash))
-            at = add(bits, join(number(0, 5), cut(place, 0, 59)))
+            at = add(bits, join(number(0, 5), cut(block_of(hash), 0, 59)))
             self.blocks[i] = at, before, bitwise("or", before, mask_of(hash)), {}
         return self.blocks[i]
 
@@ -144,9 +143,6 @@ class Bits:
         self.block(place[0])[3].update({place[1] + k: (value, 8 * k) for k in range(width_of(value) // 8)})
 
 
-any_length = extend(join(number(0, 5), unknown("blocks", 32, 1)))
-
-
 class Values(Elements):
     """Inserts each number, or each hash, or looks it up. `kind` is the end of the call's name: u32, u64 or hash."""
 
@@ -155,12 +151,13 @@ class Values(Elements):
         self.is_insert, self.kind, self.width, self.size = is_insert, kind, 32 if kind == "u32" else 64, 1
 
     def start(self, count):
-        run, n, more = self.machine(), self.number_of(count), extend(unknown("more", 50))
-        source = run.give(Array("values", values, mul(add(n, more) if not self.is_insert else n, number(self.width // 8))))
-        self.source, self.target = source, run.give(Array("old", found, n, not self.is_insert))
-        self.filter = run.give(Bits(cut(any_length, 5, 32), self.hash, self.is_insert))
-        arguments = [n] if self.is_insert else [add(n, more), found, n]
-        run.begin(f"sketch_{name_of(self.is_insert)}_each_{self.kind}", [bits, any_length, values, *arguments])
+        run, n, function = self.machine(), self.number_of(count), f"{name_of(self.is_insert)}_each_{self.kind}"
+        value_count = n if self.is_insert else add(n, extend(unknown("more", 50)))
+        self.source = run.give(Array("values", values, mul(value_count, number(self.width // 8))))
+        self.target = run.give(Array("old", out, n, not self.is_insert))
+        self.filter = run.give(Bits(self.hash, self.is_insert))
+        run.begin(function, arguments_of(function, bits=bits, length=any_length, values=values, hashes=values, found=out,
+                                         value_count=value_count, hash_count=value_count, count=n))
         return run
 
     def hash(self, index):
@@ -187,8 +184,8 @@ class Key(OneCall):
         self.machine, self.is_insert, self.answer = machine, is_insert, None
 
     def begin_call(self, run, n):
-        self.filter = run.give(Bits(cut(any_length, 5, 32), lambda index: self.answer, self.is_insert))
-        run.begin(f"sketch_{name_of(self.is_insert)}", [bits, any_length, input, n])
+        self.filter = run.give(Bits(lambda index: self.answer, self.is_insert))
+        run.begin(name_of(self.is_insert), [bits, any_length, input, n])
         return run
 
     def go_to_end(self, run, after):
@@ -205,7 +202,7 @@ class KeyOfWrongLength(Key):
         self.wrong_length = length
 
     def begin_call(self, run, n):
-        run.begin(f"sketch_{name_of(self.is_insert)}", [bits, self.wrong_length, input, n])
+        run.begin(name_of(self.is_insert), [bits, self.wrong_length, input, n])
         return run
 
     def go_to_end(self, run, after):
@@ -232,21 +229,20 @@ def keys_of_wrong_lengths(machine, is_insert):
         KeyOfWrongLength(machine, is_insert, length, n, 1).few()
 
 
-def null_key(machine, is_insert):
-    filter = Bits(cut(any_length, 5, 32), lambda index: FILTER.hash_of([]), is_insert)
+any_hash = unknown("hash", 64)
+
+
+def one_key(machine, is_insert, function, arguments, hash):
+    """A key with this hash, without a loop."""
     run = machine()
-    run.give(filter)
-    run.begin(f"sketch_{name_of(is_insert)}", [bits, any_length, number(0), number(0)])
+    filter = run.give(Bits(lambda index: hash, is_insert))
+    run.begin(function, [bits, any_length, *arguments])
     run.go()
     must_have_used(run, filter, is_insert)
 
 
 def one_hash(machine, is_insert):
-    run, hash = machine(), unknown("hash", 64)
-    filter = run.give(Bits(cut(any_length, 5, 32), lambda index: hash, is_insert))
-    run.begin(f"sketch_{name_of(is_insert)}_hash", [bits, any_length, hash])
-    run.go()
-    must_have_used(run, filter, is_insert)
+    one_key(machine, is_insert, f"{name_of(is_insert)}_hash", [any_hash], any_hash)
 
 
 # ---- lengths that no filter has: none, too many blocks, and no multiple of 32. Then nothing is read or written.
@@ -259,9 +255,10 @@ def lengths_of_none(name):
 WRONG_LENGTHS = lengths_of_none("blocks")
 
 
-def wrong_lengths(machine, function, result, *arguments):
+def wrong_lengths(machine, function, result):
+    """The other arguments are anything."""
     for length in WRONG_LENGTHS:
-        check_call(machine, function, lambda: Call([bits, length, *arguments], [], result))
+        check_call(machine, function, Call, arguments_of(function, length=length), [], result)
 
 
 def merges_of_two_lengths(machine):
@@ -282,14 +279,6 @@ def wrong_folds(machine):
         length = join(number(rest, 6), unknown("pairs", 58, 0 if rest else 1 << 31))
         check_call(machine, "bloom_fold", lambda: Call([bits, length], [], LENGTH))
     check_call(machine, "bloom_fold", lambda: Call([bits, number(0)], [], LENGTH))
-
-
-def block_offset(machine):
-    hash = unknown("hash", 64)
-    place = as_value(FILTER.block_of(extend(cut(any_length, 5, 32)), hash))
-    check_call(machine, "bloom_block_offset", Call, [any_length, hash], [], mul(place, number(32)))
-    for length in WRONG_LENGTHS:
-        check_call(machine, "bloom_block_offset", Call, [length, hash], [], number(-1))
 
 
 # ---- folds to a rate, of filters that are known: blocks, and how many of 256 random bytes are not 0
@@ -327,38 +316,30 @@ def fold_to(machine, filter):
         check_call(machine, "bloom_fold_to", Call, [bits, number(len(filter)), number(one_in)], [memory], number(len(after)))
 
 
-def wrong_folds_to(machine):
-    for length in WRONG_LENGTHS:
-        check_call(machine, "bloom_fold_to", Call, [bits, length, unknown("one_in", 64)], [], number(0))
-
-
-def too_few_values(machine, function):
-    n = extend(unknown("n", 57))
-    places = add(add(n, number(1)), extend(unknown("more", 57)))
-    check_call(machine, function, lambda: Call([bits, any_length, values, n, found, places], [], COUNT))
-
-
 def checks(machine):
-    any_arguments = [unknown(("argument", i), 64) for i in range(8)]
+    def wrong(function, result):
+        return functools.partial(wrong_lengths, machine, function, result)
+
     yield "bloom_check", [functools.partial(check_call, machine, "bloom_check", Call, [any_length], [], OK),
-                          *(functools.partial(check_call, machine, "bloom_check", Call, [length], [], LENGTH)
-                            for length in WRONG_LENGTHS)]
+                          wrong("bloom_check", LENGTH)]
     yield "bloom_merge", [*(functools.partial(loops.prove_each_rest, functools.partial(Merge, machine, is_first))
                             for is_first in (True, False)), functools.partial(merges_of_two_lengths, machine)]
     yield "bloom_fold", [functools.partial(loops.prove_each_rest, functools.partial(Fold, machine)),
                          functools.partial(wrong_folds, machine)]
-    yield "bloom_fold_to", [functools.partial(wrong_folds_to, machine),
+    yield "bloom_fold_to", [wrong("bloom_fold_to", number(0)),
                             *(functools.partial(fold_to, machine, known_filter(*kind)) for kind in KNOWN)]
-    yield "bloom_block_offset", [functools.partial(block_offset, machine)]
+    offset = functools.partial(Call, [any_length, any_hash], [], mul(block_of(any_hash), number(32)))
+    yield "bloom_block_offset", [functools.partial(check_call, machine, "bloom_block_offset", offset),
+                                 wrong("bloom_block_offset", number(-1))]
     for is_insert in (True, False):
-        name, wrong = name_of(is_insert), wrong_result(is_insert)
+        name = name_of(is_insert)
         yield name, [functools.partial(loops.prove_each_rest, functools.partial(Key, machine, is_insert), 32),
-                     functools.partial(null_key, machine, is_insert),
+                     functools.partial(one_key, machine, is_insert, name, [number(0), number(0)], FILTER.hash_of([])),
                      functools.partial(keys_of_wrong_lengths, machine, is_insert)]
         yield f"{name}_hash", [functools.partial(one_hash, machine, is_insert),
-                               functools.partial(wrong_lengths, machine, f"{name}_hash", wrong, *any_arguments)]
+                               wrong(f"{name}_hash", wrong_result(is_insert))]
         for kind in ("hash", "u32", "u64"):
             function = f"{name}_each_{kind}"
             yield function, [functools.partial(loops.prove_each_rest, functools.partial(Values, machine, is_insert, kind)),
-                             functools.partial(wrong_lengths, machine, function, LENGTH, *any_arguments),
-                             *([] if is_insert else [functools.partial(too_few_values, machine, function)])]
+                             wrong(function, LENGTH),
+                             *([] if is_insert else [functools.partial(too_few_numbers, machine, function)])]

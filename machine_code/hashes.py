@@ -3,7 +3,7 @@ import functools
 
 import calls
 import loops
-from calls import PIECE, WORDS, Call, Memory, bytes_of, check_call, input, of, out, saved, seed, some, state, values
+from calls import PIECE, WORDS, Call, Memory, arguments_of, check_call, input, of, out, saved, seed, some, state, values
 from definitions import XXH64, as_value
 from loops import Subject
 from machine import Array
@@ -70,7 +70,8 @@ class OneCall(Pieces):
     def begin_call(self, run, n):
         if self.hash == "murmur":
             run.map(out, some("old", 2, 64), writable=True)
-        run.begin(f"sketch_{calls.NAMES[self.hash]}", [input, n, seed, out])
+        function = calls.NAMES[self.hash]
+        run.begin(function, arguments_of(function, input=input, length=n, seed=seed, hash=out))
         return run
 
     def must_leave(self, run, after):
@@ -106,7 +107,7 @@ class Update(OneCall):
 
     def begin_call(self, run, n):
         run.map(state, saved(self.before), writable=True)
-        run.begin(f"sketch_{calls.NAMES[self.hash]}_update", [state, input, n])
+        run.begin(f"{calls.NAMES[self.hash]}_update", [state, input, n])
         return run
 
     def must_leave(self, run, after):
@@ -116,13 +117,13 @@ class Update(OneCall):
 # ---- calls without a loop
 
 def number_call():
-    any_number = unknown("number", 64)
-    return Call([any_number, seed], [], as_value(XXH64.xxh64(seed, bytes_of(any_number))))
+    data = some("number", 8)
+    return Call([join(*data), seed], [], as_value(XXH64.xxh64(seed, data)))
 
 
 def bytes_call():
     words = some("hash", 2, 64)
-    return Call([values, out], [Memory(values, words), Memory(out, some("old", 16), bytes_of(join(*words)))])
+    return Call([values, out], [Memory(values, words), Memory(out, some("old", 2, 64), words)])
 
 
 def reset(hash):
@@ -131,21 +132,23 @@ def reset(hash):
     return Call([state, seed], [Memory(state, before, [value or number(0, 8) for value in after])])
 
 
+def answering(hash, after, arguments, memory):
+    """A call that gives the hash of a state: XXH64's as its result, and Murmur's at `out`."""
+    answer = calls.answer_of(hash, after)
+    if hash == "xxh64":
+        return Call(arguments, memory, *answer)
+    return Call([*arguments, out], [*memory, Memory(out, some("old", 2, 64), answer)])
+
+
 def digest(hash, fill, least=None):
     """With no full piece before, if `least` is None; else with so many of them or more."""
     before = calls.any_state(hash, number(fill) if least is None else calls.total(hash, fill, least))
-    answer = calls.answer_of(hash, of(hash, "state_of")(before))
-    if hash == "xxh64":
-        return Call([state], [Memory(state, saved(before))], *answer)
-    return Call([state, out], [Memory(state, saved(before)), Memory(out, some("old", 2, 64), answer)])
+    return answering(hash, of(hash, "state_of")(before), [state], [Memory(state, saved(before))])
 
 
 def null_call(hash):
     """No bytes at NULL."""
-    answer = calls.answer_of(hash, of(hash, "start")(seed))
-    if hash == "xxh64":
-        return Call([number(0), number(0), seed], [], *answer)
-    return Call([number(0), number(0), seed, out], [Memory(out, some("old", 2, 64), answer)])
+    return answering(hash, of(hash, "start")(seed), [number(0), number(0), seed], [])
 
 
 def null_update(hash, fill):

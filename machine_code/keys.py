@@ -3,9 +3,8 @@ import functools
 
 import calls
 import loops
-from calls import OFFSET, OK, PIECE, fault, input, of, old_fault, out, seed, values
+from calls import OFFSET, OK, PIECE, arguments_of, fault, input, of, old_fault, out, seed, values
 from columns import Elements
-from definitions import as_value
 from hashes import Pieces
 from loops import Subject
 from machine import Array
@@ -15,12 +14,11 @@ MOST = {32: 31, 64: 60}  # how many bits the length of the input has, by the wid
 
 
 class ColumnCall:
-    """The call of a hash with a column: so many places for results, and so many offsets."""
+    """A call with a column: so many places for results, each of `size` bytes, and so many offsets."""
 
-    def __init__(self, machine, hash, width):
-        self.machine, self.hash, self.width = machine, hash, width
-        self.function = f"sketch_{calls.NAMES[hash]}_each{width}"
-        self.length, self.size = extend(unknown("length", MOST[width])), 8 if hash == "xxh64" else 16
+    def __init__(self, machine, function, width, size):
+        self.machine, self.function, self.width, self.size = machine, function, width, size
+        self.length, self.missing = extend(unknown("length", MOST[width])), [number(1), extend(unknown("missing", 58, 2)), None]
 
     def begin(self, count, offset_count):
         run = self.machine()
@@ -28,8 +26,12 @@ class ColumnCall:
         self.offsets = run.give(Array("offsets", values, mul(offset_count, number(self.width // 8))))
         self.target = run.give(Array("old", out, mul(count, number(self.size)), True))
         run.map(fault, [old_fault], writable=True)
-        run.begin(self.function, [input, self.length, values, offset_count, seed, out, count, fault])
+        run.begin(self.function, self.arguments(self.length, count, offset_count))
         return run
+
+    def arguments(self, length, count, offset_count):
+        return arguments_of(self.function, input=input, length=length, offsets=values, offset_count=offset_count, seed=seed,
+                            out=out, count=count, wrong_offset=fault)
 
     def few(self):
         """No keys; or some, and no offset."""
@@ -106,46 +108,41 @@ class Offsets(Subject):
     def ways(self):
         return "right", "below", "above"
 
-    def index(self, turns, done):
-        return add(turns, number(done))
-
-    def assume(self, run, words, turns, done, way):
-        assume_at_most(words[0], self.call.length)
-        if done:
-            self.call.set_offset(run, self.index(turns, done - 1), words[0])
-        if way:
-            self.suppose(way, self.index(turns, done), words[0])
-
-    def step(self, words, turns, done, way):
-        if way != "right":
-            raise Stop("a wrong offset does not end the call")
-        return [self.call.offset(self.index(turns, done))]
-
     def entered(self, run, done):
         if done:
             raise Stop("an offset is read before the loop")
 
+    def assume(self, run, words, turns, done, way):
+        assume_at_most(words[0], self.call.length)
+        if way:
+            self.suppose(way, turns, words[0])
+
+    def step(self, words, turns, done, way):
+        if way != "right":
+            raise Stop("a wrong offset does not end the call")
+        return [self.call.offset(turns)]
+
     def leave(self, run, words, turns, done, way):
         if way == "right":
             raise Stop("a right offset ends the call")
-        self.call.must_fail(run, self.index(turns, done))
+        self.call.must_fail(run, turns)
 
     def at_end(self, loop, turns, ways):
         """At the head with the last turns to do, and what is supposed of the offsets that are left."""
         run, words, _ = loop.at(turns, number(loop.last), None)
         before = words[0]
         for i, way in enumerate(ways):
-            before = self.suppose(way, self.index(turns, loop.done + i), before)
+            before = self.suppose(way, add(turns, number(i)), before)
         return run
 
     def finish(self, loop):
         """With a wrong offset among those that are left; the keys' own loop is reached if there is none."""
-        left, turns = loop.last - loop.done + (not self.missing), loop.turns_at_end()
+        left, turns = loop.last + (not self.missing), loop.turns_at_end()
 
         def fails(ways, at):
             run = self.at_end(loop, turns, ways)
             run.go()
-            self.call.must_fail(run, self.index(turns, loop.done + at))
+            self.call.must_fail(run, add(turns, number(at)))
 
         for i in range(left):
             for way in ("below", "above"):
@@ -156,7 +153,7 @@ class Offsets(Subject):
 
     def after(self, count):
         """A machine that goes on to the keys: all offsets are right."""
-        return self.at_end(self.loop, sub(count, number(self.loop.last)), ["right"] * (self.loop.last - self.loop.done + 1))
+        return self.at_end(self.loop, sub(count, number(self.loop.last)), ["right"] * (self.loop.last + 1))
 
 
 class Keys(Elements):
@@ -164,11 +161,11 @@ class Keys(Elements):
 
     name, optional = "keys", 1
 
-    def __init__(self, offsets, per_key):
+    def __init__(self, offsets, hash, per_key):
         super().__init__(offsets.call.machine, 0, 1)
-        self.call, self.checked, self.hash = offsets.call, offsets, offsets.call.hash
+        self.call, self.checked, self.hash = offsets.call, offsets, hash
         self.size = self.bytes = self.call.size
-        self.per_key, self.unit, self.inner = per_key, per_key * PIECE[self.hash], None
+        self.per_key, self.unit, self.inner = per_key, per_key * PIECE[hash], None
 
     def start(self, count):
         run = self.checked.after(count)
@@ -233,8 +230,7 @@ class Keys(Elements):
         return of(self.hash, "after")(state, self.call.input.bytes(add(words[0], offset), size))
 
     def hash_of(self, state):
-        answer = of(self.hash, "answer")(state)
-        return as_value(answer) if self.hash == "xxh64" else join(*map(as_value, answer))
+        return join(*calls.answer_of(self.hash, state))
 
     def element(self, index):
         return self.answer
@@ -253,12 +249,18 @@ class Keys(Elements):
             loops.on_each_path(lambda: ends(way))
 
 
+def prove_offsets(call):
+    """Any number of offsets, of which some can be missing."""
+    for missing in call.missing:
+        checked = loops.prove(lambda per: Offsets(call, missing), [1]).subject
+    return checked
+
+
 def prove_columns(machine, hash, width):
     """Any number of keys, of any length."""
-    call = ColumnCall(machine, hash, width)
-    for missing in number(1), extend(unknown("missing", 58, 2)), None:
-        checked = loops.prove(lambda per: Offsets(call, missing), [1]).subject
-    loops.prove(lambda per: Keys(checked, per), (1, 2))
+    call = ColumnCall(machine, f"{calls.NAMES[hash]}_each{width}", width, 8 if hash == "xxh64" else 16)
+    checked = prove_offsets(call)
+    loops.prove(lambda per: Keys(checked, hash, per), (1, 2))
     call.few()
 
 

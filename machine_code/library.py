@@ -5,17 +5,25 @@ import struct
 import subprocess
 import tempfile
 
+HEADER = (pathlib.Path(__file__).parents[1] / "dist/include/sketch_hash.h").read_text()
 ARM = 183, 0x100000C  # the numbers of aarch64 in ELF and Mach-O; each PE here is for x86-64
 BASE = 1 << 40  # where a loader maps the file: so that a number that is near 0 is no address of it
 DISASSEMBLE = {
     "x86-64": ["objdump", "-m", "i386:x86-64", "-M", "intel"],
     "aarch64": ["aarch64-linux-gnu-objdump", "-m", "aarch64"],
 }
-
-
 # By the bytes with which their object files begin.
 ELF = b"\x7fELF\2\1\1" + bytes(9) + b"\1\0"
 LINKERS = {ELF + b"\x3e\0": "ld", ELF + b"\xb7\0": "aarch64-linux-gnu-ld", b"\x64\x86": "x86_64-w64-mingw32-ld"}
+
+
+def parameters_of(header):
+    """The names of the parameters of each function that a header declares."""
+    declared = re.findall(r"\bsketch_(\w+)\(([^;{}]*)\);", re.sub(r"/\*.*?\*/", "", header, flags=re.S))
+    return {name: re.findall(r"(?!void$)(\b\w+)\)?(?:\[\d+\])?(?:,|$)", text) for name, text in declared}
+
+
+PARAMETERS = parameters_of(HEADER)
 
 
 class Library:
@@ -113,8 +121,7 @@ class Library:
 def read(path):
     """A shared library; or an archive or an object file, as a linker makes one of it."""
     data = path.read_bytes()
-    is_object = data.startswith(b"\x7fELF") and data[16:18] == b"\1\0"
-    if not is_object and not data.startswith(b"!<arch>"):
+    if not data.startswith((ELF, b"!<arch>")):
         return Library(data)
     linker = next(name for magic, name in LINKERS.items() if magic in data)
     with tempfile.TemporaryDirectory() as tmp:

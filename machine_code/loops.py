@@ -188,8 +188,6 @@ class Loop:
                 return "word", i
         if seen[0] == seen[1] == seen[2]:
             return "by", 0
-        if width_of(seen[0]) < 64:
-            return None
         first, second = (number_in(sub(after, before)) for before, after in zip(seen, seen[1:]))
         return ("by", first) if first is not None and first == second else None
 

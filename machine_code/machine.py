@@ -1,13 +1,15 @@
 """What the two processors have in common: memory, conditions, and a run from a call to its return."""
 import functools
+import inspect
 
+from library import PARAMETERS
 from values import (Stop, Undecided, add, are_equal, bitwise, complement, cut, extend, facts, gap_of, greatest, is_below,
-                    is_not_negative, join, known, linear, number, number_in, power_of_two, signed, sub, total,
+                    is_not_negative, join, known, linear, number, number_in, power_of_two, shift_left, signed, sub, total,
                     unknown, unknowns_in, width_of)
 
 CALLER = number(0xCA11E4)  # where a call returns to
 STACK = 4096  # how much of it a call may use
-LIMIT = 40000  # how many instructions a run may execute
+LIMIT = 1_000_000  # how many instructions a run may execute
 OPPOSITE = {"ne": "e", "ae": "b", "a": "be", "ns": "s", "ge": "l"}
 
 
@@ -18,9 +20,30 @@ def shift_one(x, n):
     return power_of_two(cut(n, 0, 5), 32)
 
 
+def count_of(x, n):
+    """By how many bits x is shifted: the lowest bits of a number."""
+    return cut(n, 0, 6 if width_of(x) == 64 else 5)
+
+
+def shifted(function):
+    """A shift of a register. An unknown number shifts 1 alone."""
+    def run(x, n):
+        n = count_of(x, n)
+        if number_in(n) is None and function is shift_left:
+            return shift_one(x, extend(n, 32))
+        return function(x, known(n, "a shift"))
+
+    return run
+
+
 def plain(function):
     """An operation that sets no condition."""
     return lambda machine, *values: function(*values)
+
+
+def reads(function):
+    """How many operands an operation must be given."""
+    return sum(item.default is item.empty for item in inspect.signature(function).parameters.values())
 
 
 def logic(op):
@@ -148,12 +171,9 @@ class Machine:
             raise Stop("a read below the stack")
         if (base, at) in self.bytes:
             return self.bytes[base, at]
-        if base:
-            array, offset = self.in_array(of_place(base, at), 1)
-            return array.load(offset, 1)[0]
-        if any(at in addresses for addresses in self.library.statics):
+        if not base and any(at in addresses for addresses in self.library.statics):
             return extend(unknown(("static", at), 1), 8), 0  # a flag of the library, which no call writes
-        offset = self.library.offset_of(at)
+        offset = None if base else self.library.offset_of(at)
         if offset is None:
             raise Stop("a read outside of what the call is given")
         return number(self.library.data[offset], 8), 0
@@ -248,9 +268,10 @@ class Machine:
             return are_equal(x, y) if what == "sub" else are_equal(result, number(0, width_of(result)))
         if what == "sub":
             return number(is_below(x, y) if name == "b" else not is_below(y, x), 1)
-        if what == "other" or what == "add" and (greatest(x) + greatest(y)) >> width_of(x):
+        carry = what == "add" and (greatest(x) + greatest(y)) >> width_of(x)
+        if what == "other" or carry and None in (number_in(x), number_in(y)):
             raise Stop("a carry that is not known")
-        return number(0, 1) if name == "b" else self.condition("e")
+        return number(carry, 1) if carry or name == "b" else self.condition("e")
 
     def holds(self, name):
         if name in ("le", "g"):
@@ -273,10 +294,13 @@ class Machine:
     # ---- a run
 
     def begin(self, function, arguments):
-        if function not in self.library.functions:
+        """More arguments than the header has would let the call write to the stack of its caller."""
+        if len(arguments) != len(PARAMETERS.get(function, ())):
+            raise Stop("the header has another number of parameters")
+        if f"sketch_{function}" not in self.library.functions:
             raise Stop("the library does not have it")
         self.pass_arguments(arguments)
-        self.before, self.at = dict(self.registers), self.library.functions[function]
+        self.before, self.at = dict(self.registers), self.library.functions[f"sketch_{function}"]
 
     def go(self, head=None, arrivals=1):
         """Runs to the end of the call, or up to an instruction, arriving there so often. Returns whether it did."""

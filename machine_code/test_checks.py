@@ -47,8 +47,8 @@ def test_the_machine_code_is_as_defined(name, library_of):
 
 @pytest.mark.parametrize("header", ["int sketch_other(void);", ""])
 def test_a_function_without_a_check_is_noticed(header, library_of, monkeypatch):
-    text = calls.HEADER + header if header else calls.HEADER.replace("sketch_xxh64_update(", "(")
-    monkeypatch.setattr(calls, "HEADER", text)
+    text = library.HEADER + header if header else library.HEADER.replace("sketch_xxh64_update(", "(")
+    monkeypatch.setattr(library, "PARAMETERS", library.parameters_of(text))
     with pytest.raises(Stop, match="other functions"):
         checks.checks_of(library_of("gcc"))
 

@@ -83,10 +83,11 @@ WRONG = [
     ("x86-64", f"push rbp; mov rbp, rsp; and rsp, -32; movaps [rsp-8], xmm0; mov rsp, rbp; pop rbp; {VERSION}", "not aligned"),
     ("x86-64", f"mov rcx, ds:16; {VERSION}", ""), ("x86-64", f"xor ecx, ecx; mov rcx, [rcx+16]; {VERSION}", "outside"),
     ("x86-64", f"mov edx, 2; mov ecx, edi; shl edx, cl; {VERSION}", "a shift"),
-    ("x86-64", f"cvttps2dq xmm0, xmm1; {VERSION}", "power of two"), ("x86-64", f"vpshufd ymm0, ymm1, 1; {VERSION}", "256 bits"),
+    ("x86-64", f"vpshufd ymm0, ymm1, 1; {VERSION}", "256 bits"),
     ("x86-64", f"mov eax, {calls.VERSION}; ret 8", "takes more"),
     ("x86-64", f"vpsllvd xmm0, xmm1, xmm2; {VERSION}", "a shift that"),
     ("aarch64", f"rbit x1, x0; {ARM}", "is not known"),
+    ("aarch64", f"movi v0.16b, #128; movi v1.16b, #255; sshl v0.4s, v0.4s, v1.4s; {ARM}", "a signed shift to the right"),
     ("aarch64", f"mov x19, x0; {ARM}", "x19 is not restored"), ("aarch64", f"fmov d8, d0; {ARM}", "v8 is not restored"),
     ("aarch64", f"sub sp, sp, #16; {ARM}", "the stack pointer is not restored"),
     ("aarch64", f"str x0, [sp, #-16]; {ARM}", "outside"),
@@ -114,7 +115,7 @@ def test_code_that_breaks_a_rule_is_refused(processor, code, reason, need, tmp_p
 def test_a_move_of_64_bits_clears_the_rest_of_a_vector(need, tmp_path):
     need("as")
     run = machine_of("x86-64", f"movq xmm1, xmm0; {VERSION}", tmp_path)()
-    run.begin("sketch_hash_version", [])
+    run.begin("hash_version", [])
     run.go()
     before, after = run.registers["ymm0"], run.registers["ymm1"]
     assert cut(after, 0, 64) == cut(before, 0, 64) and number_in(cut(after, 64, 64)) == 0
@@ -167,14 +168,24 @@ def test_an_array_that_is_only_read_is_not_written(need, tmp_path):
     for is_writable in (True, False):
         run = machine()
         run.give(array(is_writable))
-        run.begin("sketch_hash_version", [calls.out])
+        run.begin("hash_version", [])
+        run.registers["rdi"] = calls.out
         if is_writable:
             run.go()
         else:
             with pytest.raises(Stop, match="may only read"):
                 run.go()
+
+
+def test_a_call_is_given_as_many_arguments_as_the_header_has(need, tmp_path):
+    """With more, it could write to the stack of its caller."""
+    need("as")
+    run = machine_of("x86-64", VERSION, tmp_path)()
+    for arguments in [unknown("length", 64)] * 2, []:
+        with pytest.raises(Stop, match="number of parameters"):
+            run.begin("bloom_check", arguments)
     with pytest.raises(Stop, match="does not have"):
-        machine().begin("sketch_other", [])
+        run.begin("bloom_check", [unknown("length", 64)])
 
 
 # ---- each operation with another result

@@ -7,7 +7,6 @@ may keep different forms: then a comparison fails that should not. Different val
 """
 import contextlib
 import functools
-import itertools
 import math
 
 NUMBER = -1
@@ -51,7 +50,7 @@ def assume(ways):
     if equalities != facts:
         facts.clear()
         facts.update(equalities)
-        for function in (part_of, linear, add, mul):
+        for function in (linear, add, mul):
             function.cache_clear()
 
 
@@ -120,26 +119,27 @@ def cut(value, low, width):
     for a, start, size in value:
         first, last = max(low - at, 0), min(low + width - at, size)
         if first < last:
-            parts.append(number(start >> first, last - first) if a == NUMBER else part_of(a, start + first, last - first))
+            parts.append(number(start >> first, last - first) if a == NUMBER else ((a, start + first, last - first),))
         at += size
     return join(*parts)
 
 
-@remember
-def part_of(a, low, width):
-    """Bits of an atom. Those of a sum are simpler if they are no sum without the terms that are multiples of what is above."""
-    if kinds[a][0] == "sum":
-        _, n, terms = kinds[a]
-        left = {piece: factor for piece, factor in terms if factor % (1 << low + width)}
-        if len(left) < len(terms):
-            rest = total(n % (1 << low + width), left)
-            if not any(b != NUMBER and kinds[b][0] == "sum" for b, _, _ in rest):
-                return cut(rest, low, width)
-    return ((a, low, width),)
-
-
 def extend(value, width=64):
     return join(value, number(0, width - width_of(value)))
+
+
+def sign_extend(value, width):
+    return join(value, repeat(cut(value, width_of(value) - 1, 1), width - width_of(value)))
+
+
+def repeat(value, times):
+    return join(*[value] * times)
+
+
+def replace(value, low, part):
+    """The value with these bits from bit `low` on."""
+    high = low + width_of(part)
+    return join(cut(value, 0, low), part, cut(value, high, width_of(value) - high))
 
 
 def shift_left(value, n):
@@ -155,12 +155,10 @@ def rotate_right(value, n):
 
 
 def lanes(size, function, *values):
-    """A function of each lane of some values, or of a value and numbers."""
-    split = [itertools.repeat(item) if isinstance(item, int) else [cut(item, at, size) for at in range(0, width_of(item), size)]
-             for item in values]
-    if len({len(lane) for lane in split if isinstance(lane, list)}) != 1:
+    """A function of each lane of some values."""
+    if len(set(map(width_of, values))) != 1:
         raise Stop("vectors of different lengths")
-    return join(*map(function, *split))
+    return join(*(function(*(cut(value, at, size) for value in values)) for at in range(0, width_of(values[0]), size)))
 
 
 def power_of_two(exponent, width):
@@ -260,18 +258,10 @@ def greatest(value):
 
 
 def total(n, factors):
-    """The value of 64 bits. Neighbouring bits whose factors fit are one piece."""
+    """The value of 64 bits."""
     n, factors = n % WORD, {piece: factor % WORD for piece, factor in factors.items() if factor % WORD}
     if not factors:
         return number(n)
-    for one, other in itertools.pairwise(sorted(factors)):
-        if one[:2] == other[:2] and (factors[other] & -factors[other]) << one[2] >= WORD:
-            factors[one] += factors.pop(other)  # whose higher bits count nothing
-            return total(n, factors)
-        if one[0] == other[0] and one[1] + one[2] == other[1] and (factors[one] << one[2]) % WORD == factors[other]:
-            del factors[other]
-            collect(factors, one[0], one[1], one[2] + other[2], factors.pop(one))
-            return total(n + factors.pop(None, 0), factors)
     bits = functools.reduce(lambda x, y: x | y, factors.values())
     common = (bits & -bits).bit_length() - 1
     if common:  # no piece reaches the lowest bits: they are the number's
@@ -375,8 +365,6 @@ def bitwise(op, x, y):
 
 def of_pieces(op, x, y, width):
     n, other = (number_in(x), y) if number_in(x) is not None else (number_in(y), x)
-    if len(x) > 1 or len(y) > 1:
-        return bitwise(op, x, y)
     if n is None and x == y:
         return number(0, width) if op == "xor" else x
     if n is None or op == "xor" and n and number_in(other) is None:
@@ -407,8 +395,6 @@ def operation(op, operands, width):
             return functools.reduce(functools.partial(bitwise, op), parts + rest)
         else:
             members = members ^ {value} if op == "xor" else members | {value}
-    if n == 0 and len(members) < 2:
-        return min(members, default=number(0, width))
     return atom((op, width, n, tuple(sorted(members))), width) if members else number(n, width)
 
 
@@ -426,8 +412,6 @@ def is_zero(value):
             kind = kinds[a] if a != NUMBER else (None,)
             if kind[0] == "or":
                 todo += [cut(item, low, width) for item in kind[3]]
-            elif kind[:3] == ("xor", 1, 1) and len(kind[3]) == 1 and kinds[kind[3][0][0][0]][0] == "is zero":
-                todo.append(kinds[kind[3][0][0][0]][1])  # "it is not 0" is 0 if it is 0
             elif a != NUMBER:
                 pieces.add((a, low, width))
     if not pieces:

@@ -2,17 +2,14 @@
 import functools
 import re
 
-from machine import CALLER, Machine, logic, plain, shift_one
-from values import (Stop, add, bitwise, complement, cut, extend, is_zero, join, known, lanes, mul, number, number_in,
-                    power_of_two, rotate_right, shift_left, shift_right, sub, unknown, width_of)
+from machine import CALLER, Machine, count_of, logic, plain, reads, shift_one, shifted
+from values import (Stop, add, bitwise, complement, cut, extend, is_zero, join, known, lanes, mul, number, number_in, repeat,
+                    rotate_right, shift_left, shift_right, sign_extend, sub, unknown, width_of)
 
 REGISTERS = {f"r{n}{end}": (f"r{n}", width) for n in range(8, 16) for end, width in (("", 64), ("d", 32), ("w", 16), ("b", 8))}
-for item in "abcd":
-    REGISTERS |= {name: (f"r{item}x", width)
-                  for name, width in ((f"r{item}x", 64), (f"e{item}x", 32), (f"{item}x", 16), (f"{item}l", 8))}
-for item in ("si", "di", "bp", "sp"):
-    REGISTERS |= {name: (f"r{item}", width)
-                  for name, width in ((f"r{item}", 64), (f"e{item}", 32), (item, 16), (f"{item}l", 8))}
+for item in "ax bx cx dx si di bp sp".split():
+    names = (f"r{item}", 64), (f"e{item}", 32), (item, 16), (f"{item.rstrip('x')}l", 8)
+    REGISTERS |= {name: (f"r{item}", width) for name, width in names}
 REGISTERS |= {f"{kind}mm{n}": (f"ymm{n}", width) for n in range(16) for kind, width in (("x", 128), ("y", 256))}
 SIZES = {"BYTE": 8, "WORD": 16, "DWORD": 32, "QWORD": 64, "XMMWORD": 128, "YMMWORD": 256}
 
@@ -27,73 +24,27 @@ def decode(text):
             terms = re.findall(r"([+-]?)(\w+)(?:\*(\d))?", memory[2])
             terms = tuple((name, (-1 if sign == "-" else 1) * int(factor or 1)) for sign, name, factor in terms)
             found.append(("memory", terms, SIZES.get(memory[1])))
-        elif re.fullmatch("[abcd]h", item):
-            found.append(("high", f"r{item[0]}x", 8))  # bits 8 to 15, which are only read
         else:
             found.append(("register", *REGISTERS[item]) if item in REGISTERS else ("number", int(item, 16), None))
     return found
 
 
-# ---- what an instruction computes from its operands, which it writes to the first of them
-
-def half_product(x, y):
-    return mul(extend(cut(x, 0, 32)), extend(cut(y, 0, 32)))
-
-
-def is_equal(x, y):
-    return join(*[is_zero(bitwise("xor", x, y))] * width_of(x))
-
-
-def from_float(x):
-    """A float with the exponent n and no fraction is 2^n, or its opposite if n is 31: as bits, 127 + n times 2^23."""
-    exponent = sub(x, number(127 << 23, 32))
-    if (cut(exponent, 0, 23), cut(exponent, 28, 4)) != (number(0, 23), number(0, 4)):
-        raise Stop("a float that is perhaps no power of two")
-    return power_of_two(cut(exponent, 23, 5), 32)
-
-
-def count_of(value, width):
-    return known(cut(value, 0, 6 if width == 64 else 5), "a shift")
-
+# ---- instructions that set conditions
 
 def shift(function):
-    def run(m, x, count=number(1, 8)):
-        if function is shift_left and width_of(x) == 32 and number_in(cut(count, 0, 5)) is None:
-            return m.compare(None, x, None, shift_one(x, extend(cut(count, 0, 5), 32)))  # it may set no condition
-        n = count_of(count, width_of(x))
-        return m.compare("other", x, None, function(x, n)) if n else x
+    """By 0 it sets none; by an unknown number they are not known."""
+    def run(m, x, count):
+        result, n = shifted(function)(x, count), number_in(count_of(x, count))
+        return x if n == 0 else m.compare("other" if n else None, x, None, result)
 
     return run
-
-
-def shift_by_any(function):
-    """Without conditions. An unknown number shifts 1 alone."""
-    def run(x, count):
-        width = width_of(x)
-        n = number_in(cut(count, 0, 6 if width == 64 else 5))
-        if n is None and function is shift_left:
-            return shift_one(x, extend(cut(count, 0, 5), 32))
-        return function(x, count_of(count, width))
-
-    return run
-
-
-def shift_lane(function):
-    """By a number of the other lane, which is not taken modulo 32."""
-    def run(x, count):
-        n = number_in(count)
-        if n is None:
-            return shift_one(x, count)
-        return function(x, n) if n < width_of(x) else number(0, width_of(x))
-
-    return run if function is shift_left else lambda x, count: run(x, number(known(count, "a shift"), width_of(x)))
 
 
 def rotate(sign):
     """It changes the carry alone, and with a count of 0 not even that."""
-    def run(m, x, count=number(1, 8)):
+    def run(m, x, count):
         m.flags = ("other", *m.flags[1:]) if m.flags and m.flags[0] not in (None, "bits") else None
-        return rotate_right(x, sign * count_of(count, width_of(x)) % width_of(x))
+        return rotate_right(x, sign * known(count_of(x, count), "a shift") % width_of(x))
 
     return run
 
@@ -117,37 +68,52 @@ def with_carry(sign):
     return run
 
 
-def of_128_bits(x):
-    """AVX does these for each half of 256 bits."""
-    if width_of(x) != 128:
-        raise Stop("a vector of 256 bits")
+def double_shift(m, low, high, at):
+    """Bits of two values side by side."""
+    return m.compare(None, low, high, cut(join(low, high), at, width_of(low)))
+
+
+def is_covered(m, x, y):
+    """`ptest`: whether the values have no bit in common, and whether x has all bits of y."""
+    return m.compare("bits", is_zero(bitwise("and", x, y)), is_zero(bitwise("and", complement(x), y)), None)
+
+
+CONDITIONAL = {
+    "add": Machine.sum, "sub": Machine.subtract, "cmp": Machine.subtract, "adc": with_carry(1), "sbb": with_carry(-1),
+    "neg": lambda m, x: m.subtract(number(0, width_of(x)), x), "inc": plus_one(1), "dec": plus_one(-1),
+    "imul": lambda m, x, y: m.compare(None, x, y, mul(x, y)), "and": logic("and"), "test": logic("and"), "or": logic("or"),
+    "xor": logic("xor"), "andn": lambda m, x, y: logic("and")(m, complement(x), y), "ptest": is_covered,
+    "shl": shift(shift_left), "shr": shift(shift_right), "rol": rotate(-1), "ror": rotate(1),
+    "shld": lambda m, x, y, n: double_shift(m, y, x, width_of(x) - known(count_of(x, n), "a shift")),
+    "shrd": lambda m, x, y, n: double_shift(m, x, y, known(count_of(x, n), "a shift")),
+}
+
+
+# ---- and those that set none
+
+def is_equal(x, y):
+    return repeat(is_zero(bitwise("xor", x, y)), width_of(x))
+
+
+def shift_lane(x, count):
+    """By a number of the other lane, which is not taken modulo 32."""
+    return shift_one(x, count) if number_in(count) is None else shift_left(x, min(number_in(count), width_of(x)))
+
+
+def arithmetic(x, n):
+    n = min(n, width_of(x) - 1)
+    return sign_extend(cut(x, n, width_of(x) - n), width_of(x))
 
 
 def interleaved(size, half):
     """The lanes of the lower halves, or of the higher ones, in turn."""
-    def run(x, y):
-        of_128_bits(x)
-        return join(*(cut(value, at, size) for at in range(64 * half, 64 * half + 64, size) for value in (x, y)))
-
-    return run
+    return lambda x, y: join(*(cut(value, at, size) for at in range(64 * half, 64 * half + 64, size) for value in (x, y)))
 
 
 def shuffled(x, y, order):
     """Two lanes of x, and then two of y."""
-    of_128_bits(x)
-    lane = [known(order, "an order") >> 2 * i & 3 for i in range(4)]
-    return join(*(cut(x if i < 2 else y, 32 * lane[i], 32) for i in range(4)))
-
-
-def shuffled_bytes(x, order):
-    of_128_bits(x)
-    places = [known(cut(order, at, 8), "an order") for at in range(0, 128, 8)]
-    return join(*(number(0, 8) if place & 128 else cut(x, 8 * (place & 15), 8) for place in places))
-
-
-def shifted_bytes(x, n):
-    of_128_bits(x)
-    return shift_right(x, 8 * min(known(n, "a shift"), 16))
+    order = known(order, "an order")
+    return join(*(cut(x if i < 2 else y, 32 * (order >> 2 * i & 3), 32) for i in range(4)))
 
 
 def blended(x, y, choice):
@@ -156,55 +122,8 @@ def blended(x, y, choice):
     return join(*(cut(y if bits >> i & 1 else x, 32 * i, 32) for i in range(width_of(x) // 32)))
 
 
-def chosen(size):
-    """Of each lane y, if the choice's lane has its highest bit, else x."""
-    def run(x, y, choice):
-        wide = lanes(size, lambda lane: join(*[cut(lane, size - 1, 1)] * size), choice)
-        return bitwise("or", bitwise("and", y, wide), bitwise("and", x, complement(wide)))
-
-    return run
-
-
-def inserted(size):
-    def run(x, y, n):
-        at = size * known(n, "a place")
-        return join(cut(x, 0, at), cut(y, 0, size), cut(x, at + size, width_of(x) - at - size))
-
-    return run
-
-
-def extended_lanes(size, to, is_signed=False):
-    def run(x):
-        return lanes(size, lambda lane: join(lane, *[cut(lane, size - 1, 1) if is_signed else number(0, 1)] * (to - size)), x)
-
-    return run
-
-
-def arithmetic(x, n):
-    n = min(known(n, "a shift"), width_of(x) - 1)
-    return join(cut(x, n, width_of(x) - n), *[cut(x, width_of(x) - 1, 1)] * n)
-
-
-def lanewise(size, function):
-    return lambda m, x, y: lanes(size, function, x, y)
-
-
-def shifted_lanes(size, function):
-    return lambda m, x, n: lanes(size, function, x, known(n, "a shift"))
-
-
-def reordered(m, x, order):
-    of_128_bits(x)
-    return join(*(cut(x, 32 * (known(order, "an order") >> 2 * i & 3), 32) for i in range(4)))
-
-
-def broadcast(size):
-    return lambda m, x: join(*[cut(x, 0, size)] * (256 // size))
-
-
 def packed(x, y):
     """A byte of each signed word that is known, or the nearest one."""
-    of_128_bits(x)
     words = [known(cut(value, at, 16), "a word") for value in (x, y) for at in range(0, 128, 16)]
     return join(*(number(0 if word >> 15 else min(word, 255), 8) for word in words))
 
@@ -215,60 +134,55 @@ def differences(x, y):
     return number(sum(abs(one - other) for one, other in pairs))
 
 
-def is_covered(m, x, y):
-    """`ptest`: whether the values have no bit in common, and whether x has all bits of y."""
-    return m.compare("bits", is_zero(bitwise("and", x, y)), is_zero(bitwise("and", complement(x), y)), None)
+def lanewise(size, function):
+    return lambda x, y: lanes(size, function, x, y)
 
 
-SOURCE = plain(lambda x: x)
-OPERATIONS = {
-    "add": Machine.sum, "sub": Machine.subtract, "cmp": Machine.subtract, "adc": with_carry(1), "sbb": with_carry(-1),
-    "neg": lambda m, x: m.subtract(number(0, width_of(x)), x), "inc": plus_one(1), "dec": plus_one(-1),
-    "imul": lambda m, x, y: m.compare(None, x, y, mul(x, y)), "not": plain(complement),
-    "shl": shift(shift_left), "shr": shift(shift_right), "rol": rotate(-1), "ror": rotate(1),
-    "shld": lambda m, x, y, n: m.compare(None, x, y, cut(join(y, x), width_of(x) - count_of(n, width_of(x)), width_of(x))),
-    "shrd": lambda m, x, y, n: m.compare(None, x, y, cut(join(x, y), count_of(n, width_of(x)), width_of(x))),
-    "cvttps2dq": plain(lambda x: lanes(32, from_float, x)), "pshufd": reordered,
-    "punpcklbw": plain(interleaved(8, 0)), "punpcklwd": plain(interleaved(16, 0)), "punpckldq": plain(interleaved(32, 0)),
-    "punpckhdq": plain(interleaved(32, 1)), "punpcklqdq": plain(interleaved(64, 0)), "punpckhqdq": plain(interleaved(64, 1)),
-    "movhlps": plain(lambda x, y: join(cut(y, 64, 64), cut(x, 64, 64))), "pshufb": plain(shuffled_bytes),
-    "movlhps": plain(lambda x, y: join(cut(x, 0, 64), cut(y, 0, 64))), "psrldq": plain(shifted_bytes),
-    "movss": plain(lambda x, y: join(cut(y, 0, 32), cut(x, 32, width_of(x) - 32))), "shufps": plain(shuffled),
-    "movsd": plain(lambda x, y: join(cut(y, 0, 64), cut(x, 64, width_of(x) - 64))), "pblendd": plain(blended),
-    "pblendvb": plain(chosen(8)), "blendvps": plain(chosen(32)), "pinsrb": plain(inserted(8)),
-    "pinsrd": plain(inserted(32)), "pinsrq": plain(inserted(64)), "pmovzxdq": plain(extended_lanes(32, 64)),
-    "pmovzxbd": plain(extended_lanes(8, 32)), "pmovsxbd": plain(extended_lanes(8, 32, True)),
-    "psrad": plain(lambda x, n: lanes(32, lambda lane: arithmetic(lane, n), x)), "psubb": lanewise(8, sub),
-    "movmskps": plain(lambda x: lanes(32, lambda lane: cut(lane, 31, 1), x)),
-    "pmovmskb": plain(lambda x: lanes(8, lambda item: cut(item, 7, 1), x)),
-    "pandn": plain(lambda x, y: bitwise("and", complement(x), y)),
-    "paddd": lanewise(32, add), "psubd": lanewise(32, sub), "paddq": lanewise(64, add), "pmulld": lanewise(32, mul),
-    "pmuludq": lanewise(64, half_product), "psllvd": lanewise(32, shift_lane(shift_left)),
-    "psrlvd": lanewise(32, shift_lane(shift_right)),
-    "pcmpeqb": lanewise(8, is_equal), "pcmpeqd": lanewise(32, is_equal),
-    "psrlw": shifted_lanes(16, shift_right), "psrld": shifted_lanes(32, shift_right), "psrlq": shifted_lanes(64, shift_right),
-    "pslld": shifted_lanes(32, shift_left), "psllq": shifted_lanes(64, shift_left),
-    "paddb": lanewise(8, add), "packuswb": plain(packed), "psadbw": lanewise(64, differences),
-    # of x86-64-v3
-    "rorx": plain(lambda x, n: rotate_right(x, known(n, "a shift"))), "andn": lambda m, x, y: logic("and")(m, complement(x), y),
-    "shlx": plain(shift_by_any(shift_left)), "pbroadcastd": broadcast(32),
-    "shrx": plain(shift_by_any(shift_right)), "pbroadcastq": broadcast(64), "ptest": is_covered, "pbroadcastb": broadcast(8),
-    "pextrb": plain(lambda x, n: cut(x, 8 * known(n, "a place"), 8)),
-    "pextrd": plain(lambda x, n: cut(x, 32 * known(n, "a place"), 32)),
-    "pextrq": plain(lambda x, n: cut(x, 64 * known(n, "a place"), 64)),
-    "extracti128": plain(lambda x, n: cut(x, 128 * known(n, "a place"), 128)),
+def each_by(size, function):
+    """All by one number, of which 64 bits count."""
+    return lambda x, n: lanes(size, lambda lane: function(lane, min(known(cut(n, 0, 64), "a shift"), size)), x)
+
+
+def part(size):
+    return lambda x, n: cut(x, size * known(n, "a place"), size)
+
+
+def lowest(size):
+    return lambda x: cut(x, 0, min(size, width_of(x)))
+
+
+def signs(size):
+    return lambda x: lanes(size, lambda lane: cut(lane, size - 1, 1), x)
+
+
+SAME = dict.fromkeys("mov movabs movzx movups movdqu movaps movdqa".split(), lambda x: x)
+# AVX does these for each half of 256 bits.
+OF_128_BITS = {
+    "pshufd": lambda x, order: shuffled(x, x, order), "shufps": shuffled, "packuswb": packed,
+    "psrldq": lambda x, n: shift_right(x, 8 * min(known(n, "a shift"), 16)), "punpckhdq": interleaved(32, 1),
+    **{f"punpckl{name}": interleaved(size, 0) for name, size in (("bw", 8), ("wd", 16), ("dq", 32), ("qdq", 64))},
 }
-OPERATIONS |= {name: logic(op) for name, op in (("and", "and"), ("test", "and"), ("or", "or"), ("xor", "xor"))}
-OPERATIONS |= {name: plain(functools.partial(bitwise, op)) for op in ("and", "or", "xor")
-               for name in (f"p{op}", f"{op}ps")}
-OPERATIONS |= {name: plain(lambda x, width=width: cut(x, 0, min(width, width_of(x))))
-               for name, width in (("movd", 32), ("movq", 64))}
-OPERATIONS |= dict.fromkeys("mov movabs movzx movups movdqu movaps movdqa".split(), SOURCE)
+PLAIN = SAME | OF_128_BITS | {
+    "not": complement, "movd": lowest(32), "movq": lowest(64), "movss": lambda x, y: join(cut(y, 0, 32), cut(x, 32, 96)),
+    "rorx": lambda x, n: rotate_right(x, known(n, "a shift")), "shlx": shifted(shift_left), "shrx": shifted(shift_right),
+    "movhlps": lambda x, y: join(cut(y, 64, 64), cut(x, 64, 64)), "pandn": lambda x, y: bitwise("and", complement(x), y),
+    "extracti128": part(128), "movmskps": signs(32), "pmovmskb": signs(8), "psadbw": lanewise(64, differences),
+    "pmovzxbd": lambda x: lanes(8, lambda lane: extend(lane, 32), x), "psllvd": lanewise(32, shift_lane),
+    "pmovsxbd": lambda x: lanes(8, lambda lane: sign_extend(lane, 32), x), "psrad": each_by(32, arithmetic),
+    "pmuludq": lanewise(64, lambda x, y: mul(extend(cut(x, 0, 32)), extend(cut(y, 0, 32)))), "pmulld": lanewise(32, mul),
+    "pblendd": blended,
+    **{name: functools.partial(bitwise, op) for op in ("and", "or", "xor") for name in (f"p{op}", f"{op}ps")},
+}
+for letter, size in ("b", 8), ("w", 16), ("d", 32), ("q", 64):
+    PLAIN |= {f"padd{letter}": lanewise(size, add), f"psub{letter}": lanewise(size, sub),
+              f"psll{letter}": each_by(size, shift_left), f"psrl{letter}": each_by(size, shift_right),
+              f"pcmpeq{letter}": lanewise(size, is_equal), f"pextr{letter}": part(size),
+              f"pbroadcast{letter}": lambda x, size=size: repeat(cut(x, 0, size), 256 // size)}
+OPERATIONS = {name: plain(function) for name, function in PLAIN.items()} | CONDITIONAL
+# How many operands an instruction reads: the last ones.
+READS = {name: reads(function) for name, function in PLAIN.items()}
+READS |= {name: reads(function) - 1 for name, function in CONDITIONAL.items()}
 READ_ONLY = "cmp", "test", "ptest", "vptest"  # the first operand is not written
-# The first operand is not read.
-WRITTEN = {*"mov movabs movzx movd movq movups movdqu movaps movdqa cvttps2dq pmovmskb movmskps lea".split(),
-           "pmovzxdq", "pmovzxbd", "pmovsxbd"}
-BY_PLACE = "shld", "shrd", "pinsrb", "pinsrd", "pinsrq", "shufps"  # three operands, of which the first is read
 FILLS = {f"stos {name} PTR es:[rdi],{register}": size
          for name, register, size in (("BYTE", "al", 1), ("DWORD", "eax", 4), ("QWORD", "rax", 8))}
 UNALIGNED = "movups", "movdqu"
@@ -310,8 +224,6 @@ class X86(Machine):
 
     def read(self, operand, width):
         kind, what, own = operand
-        if kind == "high":
-            return cut(self.registers[what], 8, 8)
         if kind == "memory":
             return self.load(self.address(what), (own or width) // 8)
         return number(what, width) if kind == "number" else cut(self.registers[what], 0, own)
@@ -319,8 +231,6 @@ class X86(Machine):
     def write(self, operand, value, clears):
         """A write of 32 or 64 bits clears the higher ones; one of 8 or 16 keeps them, and SSE's of 128, but not AVX's."""
         kind, what, width = operand
-        if kind == "high":
-            raise Stop("a write of bits 8 to 15")
         value = cut(extend(value, max(width, width_of(value))), 0, width)
         if kind == "memory":
             self.store(self.address(what), value)
@@ -339,22 +249,23 @@ class X86(Machine):
             return self.fill(FILLS[text])
         if op == "call" or op[0] == "j":
             return self.jump(op, int(text, 16))
-        if op == "mul":
-            return self.multiply(*decode(text))
+        if op in ("mul", "div"):
+            return (self.multiply if op == "mul" else self.divide)(*decode(text))
         if op == "leave":
             self.registers["rsp"], op, text = self.registers["rbp"], "pop", "rbp"
         if op in ("push", "pop", "ret"):
             return self.use_stack(op, *decode(text))
-        name = self.name_of(op)
+        name, operands = self.name_of(op), decode(text)
         is_avx = name != op
         if name not in OPERATIONS and name != "lea" and op[:3] != "set" and op[:4] != "cmov":
             raise Stop("the instruction is not known")
-        operands = decode(text)
+        if name in ("shl", "shr", "rol", "ror") and len(operands) == 1:
+            operands = [*operands, ("number", 1, None)]
         width = max(item[2] or 0 for item in operands)
-        if name in ("movss", "movsd") and "PTR" in text:  # to memory or from there it is a move
-            name = {"movss": "movd", "movsd": "movq"}[name]
-        skips = is_avx or name in WRITTEN or len(operands) == 3 and name not in BY_PLACE
-        skips &= op not in READ_ONLY
+        if name in OF_128_BITS and width > 128:
+            raise Stop("a vector of 256 bits")
+        if name == "movss" and "PTR" in text:  # to memory or from there it is a move
+            name = "movd"
         if name not in UNALIGNED and (not is_avx or name in ("movaps", "movdqa")):
             self.must_be_aligned_vectors(operands)
         if op[:3] == "set" or op[:4] == "cmov":
@@ -363,7 +274,7 @@ class X86(Machine):
         elif op == "lea":
             result = self.address(operands[1][1])
         else:
-            result = OPERATIONS[name](self, *(self.read(item, width) for item in operands[skips:]))
+            result = OPERATIONS[name](self, *(self.read(item, width) for item in operands[-READS[name] :]))
         if name == "and" and operands[0][1] == "rsp":
             self.must_know_alignment()
         if op not in READ_ONLY:
@@ -408,3 +319,14 @@ class X86(Machine):
             self.write(operand, value, True)
         else:
             self.next = known(value, "the end of a call")
+
+    def divide(self, operand):
+        """Of numbers that are known. The quotient has no more bits than the divisor."""
+        width = operand[2]
+        divisor = known(self.read(operand, width), "a divisor")
+        low, high = (known(cut(self.registers[name], 0, width), "a dividend") for name in ("rax", "rdx"))
+        if width < 32 or divisor <= high:
+            raise Stop("a division that fails")
+        quotient, rest = divmod(high << width | low, divisor)
+        self.registers["rax"], self.registers["rdx"] = number(quotient), number(rest)
+        self.flags = None
