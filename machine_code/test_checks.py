@@ -1,5 +1,6 @@
 """The machine code of libraries; and whether a wrong definition, or a function without a check, is noticed."""
 import functools
+import pathlib
 import re
 import subprocess
 
@@ -43,6 +44,18 @@ def tools(need):
 def test_the_machine_code_is_as_defined(name, library_of):
     faults = {function: checks.faults_of(runs) for function, runs in checks.checks_of(library_of(name)).items()}
     assert {function: found for function, found in faults.items() if found} == {}
+
+
+@pytest.mark.parametrize("change, status, output", [
+    ("", 0, "1 of 1 functions are as defined"), ("-Dsketch_hash_version=other", 1, "the library does not have it"),
+])
+def test_the_command_says_whether_a_function_is_as_defined(change, status, output, need, tmp_path):
+    need("gcc")
+    command = ["gcc", "-O2", "-fPIC", "-shared", *change.split(), "-I", DIST / "include", TEXT, "-o", tmp_path / "library.so"]
+    subprocess.run(command, check=True)
+    check = [pathlib.Path(__file__).with_name("check"), "--only", "hash_version", tmp_path / "library.so"]
+    run = subprocess.run(check, capture_output=True, text=True)
+    assert run.returncode == status and output in run.stdout and not run.stderr
 
 
 @pytest.mark.parametrize("header", ["int sketch_other(void);", ""])
