@@ -23,7 +23,8 @@ def add_filters(source, target, columns, *, error_rate=0.01, max_bytes=None, rep
     footer only the places of the filters change. Returns how many bytes the new filters have. A target is whole at any
     time: it is written to its folder as .sketch_hash-.., and then renamed. progress, as tqdm.tqdm, draws a bar.
 
-    No filter has more than error_rate, the share of other keys that it finds, unless it would need more than max_bytes.
+    By its bits, no filter has more than error_rate, the share of other keys that it finds on average, unless it would need
+    more than max_bytes.
     replace replaces filters that are there, and moves those that are the last before the footer, so that a file does not
     grow with each call. skip_existing keeps them, and adds those that are missing. A UserWarning names each column whose
     filters help little.
