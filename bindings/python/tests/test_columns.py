@@ -190,6 +190,9 @@ class Series:
     def __array__(self):
         return numpy.zeros(2)
 
+    def mask(self, where):
+        """It is no mask."""
+
 
 @pytest.mark.parametrize("keys", [Series(), numpy.zeros(2, "datetime64[ns]"), numpy.zeros(2, "timedelta64[ms]")],
                          ids=["Series", "dates", "durations"])

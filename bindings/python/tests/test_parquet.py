@@ -363,6 +363,14 @@ def test_a_decimal_has_at_most_1024_bytes(length):
         parquet.may_contain(changed(FILTERS, change), "decimal30", decimal.Decimal(1))
 
 
+def test_a_damaged_header_of_a_filter_is_named():
+    data = bytearray(FILTERS.read_bytes())
+    offset, _ = parquet.open(FILTERS).footer.find(["int8"])[0].place(0)
+    data[offset:offset + 10] = b"\xff" * 10
+    with pytest.raises(ValueError, match=f"^the filter of int8 at {offset} has a damaged header: add the filters again$"):
+        parquet.may_contain(io.BytesIO(data), "int8", 1)
+
+
 def test_a_damaged_footer_raises_value_and_type_errors_alone():
     rng, data = random.Random(5), bytearray(FILTERS.read_bytes())
     start = parquet.open(FILTERS).footer.start
@@ -725,4 +733,4 @@ def test_the_command_adds_and_checks(pa, tmp_path):
         opened.write(bytes(32))
     done = run("check", file, str(FILTERS))
     assert done.returncode == 4 and done.stdout == f"{FILTERS}: {3 * len(VALUES)} filters have all values\n"
-    assert f"{file}: the filter of b in row group 1 must have all values" in done.stderr
+    assert f"{file}: the filter of b in row group 1 lacks a value" in done.stderr

@@ -49,8 +49,8 @@ impl fmt::Display for Error {
     fn fmt(&self, f: &mut fmt::Formatter<'_>) -> fmt::Result {
         match self {
             Error::Length => f.write_str(
-                "a Bloom filter must have a positive multiple of 32 bytes, below 2^37, \
-                 both filters of a merge one length, and a filter to fold an even number of blocks",
+                "a Bloom filter must have a positive multiple of 32 bytes, below 2^37, or 2^31 in a Parquet file; \
+                 both filters of a merge must have one length, and a filter to fold an even number of blocks",
             ),
             Error::Offset { index } => {
                 write!(f, "the offset at {index} is missing, past the end or below the one before")

@@ -191,7 +191,7 @@ cdef int refuse_mask(object numbers) except -1:
     global no_mask
     if type(numbers) is no_mask:
         return 0
-    if hasattr(type(numbers), "mask"):
+    if isinstance(getattr(type(numbers), "mask", None), property):  # a Series of pandas has a method of this name
         raise TypeError("a column must not be a masked array: pass pyarrow.array(keys), or keys.compressed() "
                         "if you need no result for the masked values")
     no_mask = type(numbers)

@@ -97,7 +97,10 @@ def range_of_header(column, offset):
 
 
 def place_of_bits(column, offset, length, head):
-    bits = BloomFilter.parquet_bits(head)
+    try:
+        bits = BloomFilter.parquet_bits(head)
+    except ValueError:
+        raise ValueError(f"the filter of {column.name} at {offset} has a damaged header: add the filters again") from None
     if offset + bits.stop > column.footer.start or length not in (None, bits.stop):
         raise ValueError(f"the filter of {column.name} at {offset} must have the length that the footer has")
     return offset + bits.start, len(bits)

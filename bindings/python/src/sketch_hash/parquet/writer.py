@@ -190,6 +190,7 @@ def check_filters(source, *, progress=None):
             filter = BloomFilter.from_bytes(reader.source.read(*place))
             for batch in batches:
                 if filter.contains_each(batch).tobytes().count(1) != len(batch) - batch.null_count:
-                    raise FilterError(f"the filter of {column.name} in row group {group} must have all values")
+                    raise FilterError(f"the filter of {column.name} in row group {group} lacks a value, so queries lose rows: "
+                                      "add the filters again")
             count += 1
     return count
