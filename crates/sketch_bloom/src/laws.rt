@@ -16,8 +16,7 @@ pub fn merge_law()
     ensures { MergeLaw }
 {}
 
-/// Folding a filter makes the filter of half its length of the same values, byte for byte. Folding
-/// it several times keeps its values.
+/// Folding a filter makes the filter of half its length of the same values, byte for byte.
 #[tactic(auto, using(crate::proofs::FoldLemmas::fold_law))]
 pub fn fold_law()
     ensures { FoldLaw }
@@ -41,8 +40,7 @@ pub fn header_law()
     ensures { HeaderLaw }
 {}
 
-/// A size from [`bytes_for`](crate::bytes_for) has the rate that was asked, within 2^-22, and any
-/// smaller power of two has 0.999 of it or more, for rates down to one in 2^26.
+/// How near the exact rate of a size from [`bytes_for`](crate::bytes_for) is to the one asked for.
 #[tactic(auto, using(crate::proofs::ExactLemmas::size_law))]
 pub fn size_law()
     ensures { SizeLaw }
