@@ -40,8 +40,8 @@ pub fn fill<T: Hash>(alloc: Global, values: &[T], one_in: u64) -> Result<BloomFi
     Ok(filter)
 }
 
-/// The size for this number of keys. Its exact false positive rate is at most the one asked for plus
-/// 2^-22. Each smaller power of two has 0.999 of it or more, for rates down to one in 2^26.
+/// The size for this number of keys. Its exact false positive rate is at most the one asked for,
+/// plus 2^-22. Each smaller power of two has 0.999 of it or more, for rates down to one in 2^26.
 pub fn size_for(keys: u64, one_in: u64) -> Option<usize>
     ensures rate { IfSome result (λ bytes. (log2_blocks : ℕ) × (bytes ≡ 32 * 2 ^ log2_blocks)
         × ((k : ℕ) → 383 ≤ k → IsRateBelow keys (2 ^ log2_blocks) one_in k)
