@@ -50,6 +50,12 @@ def add_with_carry(m, x, y):
     return add(add(x, y), extend(Machine.condition(m, "b" if m.flags[0] == "add" else "ae"), width_of(x)))
 
 
+def divided(x, y):
+    """A division by 0 gives 0."""
+    divisor = known(y, "a divisor")
+    return number(known(x, "a dividend") // divisor if divisor else 0, width_of(x))
+
+
 # What an instruction computes from its operands but the first, which it writes. Those of LANES do it for each lane of vectors.
 PLAIN = {
     "add": add, "sub": sub, "mul": mul, "madd": lambda x, y, z: add(mul(x, y), z), "mvn": complement,
@@ -64,7 +70,7 @@ PLAIN = {
     "csinc": lambda x, y, holds: x if holds else plus_one(y), "csetm": lambda holds: number(-holds),
     "ushl": shift_lane, "sshl": signed_shift_lane, "ushr": by_numbers(lambda x, n: shift_right(x, min(n, width_of(x)))),
     "umulh": lambda x, y: number(known(x, "a factor") * known(y, "a factor") >> 64),
-    "udiv": lambda x, y: number(known(x, "a dividend") // divisor if (divisor := known(y, "a divisor")) else 0, width_of(x)),
+    "udiv": divided,
     "cnt": lambda x: number(bin(known(x, "a byte")).count("1"), 8),
     "cmeq": lambda x, y: repeat(is_zero(bitwise("xor", x, y)), width_of(x)),
     **{name: functools.partial(bitwise, op) for name, op in (("and", "and"), ("orr", "or"), ("eor", "xor"))},

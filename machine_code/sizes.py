@@ -17,8 +17,8 @@ def keeps_rate(keys, log2_blocks, one_in):
     if one_in < 2 or keys > 128 << log2_blocks:
         return one_in == 1
     unit = SIZE.weight(keys, log2_blocks, 383)["unit"]
-    found, all = (sums(keys, log2_blocks, 383) // unit for sums in (SIZE.covered_to, SIZE.all_to))
-    return found <= all * (2 ** 60 // one_in)
+    found, weights = (sum_to(keys, log2_blocks, 383) // unit for sum_to in (SIZE.covered_to, SIZE.all_to))
+    return found <= weights * (2 ** 60 // one_in)
 
 
 def size_of(keys, one_in):

@@ -1,7 +1,7 @@
 """Bloom filters of Parquet files. A folder stands for all files below it that end in .parquet.
 
-Exit status: 0 if all is done, 1 if a file failed (the others are done), 2 if an argument is wrong, 3 if there is nothing (a
-file without filters; with ask, no row group that may have the value), 4 if a filter lacks a value, so that queries lose rows.
+Exit status: 0 if all is done, 1 if a file failed (the others are done), 2 if the command line is wrong, 3 if there is nothing
+(a file without filters; with ask, no row group that may have the value), 4 if a filter lacks a value, so queries lose rows.
 """
 import argparse
 import concurrent.futures
