@@ -638,6 +638,17 @@ def test_a_folder_that_cannot_be_synced_is_an_error_at_once(copy, tmp_path, monk
     assert copy.read_bytes() == ODD.read_bytes() and os.listdir(tmp_path) == ["a.parquet"]
 
 
+def test_an_error_names_the_folder_that_cannot_be_written_to(copy, tmp_path, monkeypatch):
+    def open_but_create_nothing(path, flags, *args, open=os.open, **kwargs):
+        if flags & os.O_CREAT:
+            raise PermissionError(13, "Permission denied", path)
+        return open(path, flags, *args, **kwargs)
+
+    monkeypatch.setattr(os, "open", open_but_create_nothing)
+    with pytest.raises(PermissionError, match=re.escape(f"{tmp_path}/.sketch_hash-")):
+        parquet.add_filters(copy, copy, ["plain"])
+
+
 @pytest.mark.parametrize("make", [os.mkdir, os.mkfifo, lambda path: socket.socket(socket.AF_UNIX).bind(str(path))],
                          ids=["folder", "FIFO", "socket"])
 def test_only_a_regular_file_is_read_or_replaced(make, copy, tmp_path):
@@ -678,7 +689,9 @@ def run(*args):
     (["add", "-c", "bool", ODD], 1, "odd.parquet: the column bool must not be BOOLEAN"),
     (["check", DATA / "none"], 1, "none: .*No such file"), ([], 2, "usage"),
     (["add", "-c", "x", "-o", "y", ODD, ODD], 2, "--output must come with one FILE"),
-], ids=range(4))
+    (["add", "-c", "x", "-e", "2", ODD], 2, "error_rate must be above 0 and below 1"),
+    (["add", "-c", "x", "-m", "5", ODD], 2, "max_bytes must be at least 32, not 5"),
+], ids=range(6))
 def test_the_command_reports_errors(args, status, text):
     done = run(*args)
     assert done.returncode == status and done.stdout == ""
@@ -704,6 +717,7 @@ def test_the_command_shows_and_asks():
     assert found.stdout == f"{FILTERS}: 1 of 3 row groups: 1\n" and absent.stdout == f"{FILTERS}: 0 of 3 row groups\n"
     assert (found.returncode, absent.returncode, wrong.returncode) == (0, 3, 1)
     assert "the column int32 cannot have 'fox'" in wrong.stderr
+    assert run("ask", ODD, "plain", "dog").stdout == f"{ODD}: 3 of 3 row groups, 3 without a filter: 0 1 2\n"
 
 
 def test_the_command_takes_folders_and_its_status_tells_what_is_wrong(tmp_path):

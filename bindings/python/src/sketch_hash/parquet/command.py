@@ -15,7 +15,7 @@ import warnings
 
 from .keys import parse
 from .reader import BloomFilterReader, all_places, false_positive_rate
-from .writer import FilterError, add_filters, check_filters
+from .writer import Builder, FilterError, add_filters, check_filters
 
 DONE, FAILED, _, NOTHING, WRONG = range(5)
 CLEAR = "\r\x1b[K" if sys.stderr.isatty() else ""  # the line of a bar
@@ -39,8 +39,8 @@ def main():
     commands.choices["ask"].add_argument("column", metavar="COLUMN")
     commands.choices["ask"].add_argument("value", metavar="VALUE", help="as 42, 2026-01-31, fox; hexadecimal for fixed bytes")
     args = parser.parse_args()
-    if args.command == "add" and args.output and (len(args.files) > 1 or os.path.isdir(args.files[0])):
-        parser.error("--output must come with one FILE")
+    if args.command == "add":
+        check_options(args, parser)
     if args.jobs < 1:
         parser.error("--jobs must be at least 1")
     sys.stdout.reconfigure(errors="surrogateescape")  # a name may be any bytes
@@ -56,6 +56,16 @@ def add_options(command):
     existing = command.add_mutually_exclusive_group()
     existing.add_argument("--replace", action="store_true", help="replaces filters that a file has")
     existing.add_argument("--skip-existing", action="store_true", help="keeps them, and adds those that are missing")
+
+
+def check_options(args, parser):
+    """Ends the program if no file could be changed with such options."""
+    if args.output and (len(args.files) > 1 or os.path.isdir(args.files[0])):
+        parser.error("--output must come with one FILE")
+    try:
+        Builder(args.error_rate, args.max_bytes)
+    except ValueError as error:
+        parser.error(str(error))
 
 
 def run(args):
@@ -148,6 +158,8 @@ def ask(args, file):
         column, = reader.footer.find([args.column])
         groups, = reader.may_contain(args.column, [parse(args.value, column)])
         text = f"{file}: {len(groups)} of {reader.num_row_groups} row groups"
+        without = sum(column.place(group)[0] is None for group in groups)
+        text += f", {without} without a filter" if without else ""
     return (DONE, f"{text}: {' '.join(map(str, groups))}") if groups else (NOTHING, text)
 
 

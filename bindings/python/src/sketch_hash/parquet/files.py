@@ -145,7 +145,12 @@ def replaced(target, mode):
             stack.callback(os.close, old)
             lock(old)
         flags = os.O_RDWR | os.O_CREAT | os.O_EXCL | os.O_NOFOLLOW
-        output = stack.enter_context(open(os.open(temporary, flags, 0o600, dir_fd=folder), "wb"))
+        try:
+            number = os.open(temporary, flags, 0o600, dir_fd=folder)
+        except OSError as error:
+            error.filename = os.path.join(os.path.dirname(path), temporary)  # so that a message names the folder
+            raise
+        output = stack.enter_context(open(number, "wb"))
         try:
             yield output
             output.flush()
