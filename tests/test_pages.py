@@ -68,12 +68,6 @@ def test_files_that_a_page_names_are_there(page):
     assert [name for name in named if "PATH/" not in name and not any(end.endswith(f"/{name}") for end in ends)] == []
 
 
-def test_the_definitions_to_read_have_as_many_lines_as_the_page_says():
-    page = text_of("docs/trust.md")
-    lines = sum(text_of(file).count("\n") for file in re.findall(r"^- `(crates/\S+\.antt)`:", page, re.M))
-    assert re.findall(r"(\d+)\s(?:> )?lines of definitions", page) == [str(lines)] * 2
-
-
 # ---- The programs and commands of each README, run as they stand there
 
 PAGE, OF_C, OF_PYTHON = (text_of(f"{folder}README.md") for folder in ("", "dist/", "bindings/python/"))
