@@ -7,7 +7,7 @@ use Rattle.std.proofs.lemmas.Nat.{mod_below}
 use Rattle.std.proofs.lemmas.Bool.{cases_lt}
 use Rattle.std.proofs.lemmas.List.Sums.{fold-append}
 use Rattle.std.proofs.lemmas.List.Elements.{All-take, All-drop}
-use Rattle.datasketches.proofs.ListLemmas.{agree-back, agree-beyond, agree-front, three_parts}
+use Rattle.datasketches.proofs.ListLemmas.{agree-suffix, agree-beyond, agree-prefix, three_parts}
 use Rattle.sketch_base.specs.Bytes.{AreBytes}
 use Rattle.sketch_base.proofs.BytesLemmas.{IsByte, bytes_known}
 use Rattle.sketch_hash.specs.Words.{IsWord, OneToOne}
@@ -169,8 +169,8 @@ same_full_block ps ms seed i a b s full =
     let after = drop (low + 16) a in
     let in_a = three_parts low 16 a in
     let in_b : before ++ block_b ++ after ≡ b =
-    ap (λ t. t ++ block_b ++ after) (agree-front low (low + 16) a b s.one_length s.agree)
-    ∙ ap (λ t. take low b ++ block_b ++ t) (agree-back low (low + 16) a b s.one_length s.agree)
+    ap (λ t. t ++ block_b ++ after) (agree-prefix low (low + 16) a b s.one_length s.agree)
+    ∙ ap (λ t. take low b ++ block_b ++ t) (agree-suffix low (low + 16) a b s.one_length s.agree)
     ∙ three_parts low 16 b in
     let begun : length before ≡ low = length-take-le low a (omega arith) in
     let law = murmur_block_law ps ms seed before after s.seed_is (All-take IsByte low a s.a_are)
@@ -195,7 +195,7 @@ same_cut_block ps ms seed i a b s begun cut =
     let before = take low a in
     let in_a = take-append-drop low a in
     let in_b : before ++ drop low b ≡ b =
-    ap (λ t. t ++ drop low b) (agree-front low (low + 16) a b s.one_length s.agree)
+    ap (λ t. t ++ drop low b) (agree-prefix low (low + 16) a b s.one_length s.agree)
     ∙ take-append-drop low b in
     let size_a = length-drop low a in
     let size_b = length-drop low b in

@@ -15,7 +15,7 @@ use Rattle.sketch_hash.specs.Laws.{IsStep, step_widths, PieceLaws, Xxh64StepLaws
 use Rattle.sketch_hash.proofs.OneToOne.{◌▸◌, alike}
 use Rattle.sketch_hash.proofs.WordLemmas.{plus-lt}
 use Rattle.datasketches.specs.Laws.{AgreeOutside, HashU64Law, XxTailLaw, XxSeedLaw}
-use Rattle.datasketches.proofs.ListLemmas.{agree-front, agree-back, agree-beyond, parts_at}
+use Rattle.datasketches.proofs.ListLemmas.{agree-prefix, agree-suffix, agree-beyond, parts_at}
 
 -- ---- a hash in two parts: the word that the tail begins at, and what is made of it
 
@@ -83,15 +83,15 @@ one_number ps ss h i xs ys s l k =
     let y = get_or ys i (0, 0) in
     let after = drop (i + 1) xs in
     let start = fold tail_step h (take i xs) in
-    let front = All-take IsStep i xs s.xs_are in
-    let start_is = (ss.steps_of_word (take i xs) front).lands h s.from_word in
+    let prefix_are = All-take IsStep i xs s.xs_are in
+    let start_is = (ss.steps_of_word (take i xs) prefix_are).lands h s.from_word in
     let m = one_length h i xs ys s in
-    let before = agree-front i (i + 1) xs ys m s.agree in
-    let behind = agree-back i (i + 1) xs ys m s.agree in
+    let before = agree-prefix i (i + 1) xs ys m s.agree in
+    let same_rest = agree-suffix i (i + 1) xs ys m s.agree in
     let one_end : onward after (tail_step start x) ≡ onward after (tail_step start (x.0, y.1)) =
     sym (onward-at xs i h l) ∙ s.one_hash ∙ onward-at ys i h k
     ∙ ap (λ t. onward (drop (i + 1) ys) (tail_step (fold tail_step h t) y)) (sym before)
-    ∙ ap (λ t. onward t (tail_step start y)) (sym behind)
+    ∙ ap (λ t. onward t (tail_step start y)) (sym same_rest)
     ∙ ap (λ w. onward after (tail_step start (w, y.1))) (sym (one_width h i xs ys s l k)) in
     let onward_is = onward-once ps ss after (All-drop IsStep (i + 1) xs s.xs_are) in
     let once = (ss.step_of_number x.0 start start_is ▸ onward_is).once in
@@ -106,11 +106,11 @@ same_steps ps ss h i xs ys s =
           let k : i < length ys = omega arith in
           let y = get_or ys i (0, 0) in
           sym (parts_at xs i (0, 0) l)
-          ∙ ap (λ t. t ++ get_or xs i (0, 0) ∷ drop (i + 1) xs) (agree-front i (i + 1) xs ys m s.agree)
+          ∙ ap (λ t. t ++ get_or xs i (0, 0) ∷ drop (i + 1) xs) (agree-prefix i (i + 1) xs ys m s.agree)
           ∙ ap (λ n. take i ys ++ ((get_or xs i (0, 0)).0, n) ∷ drop (i + 1) xs)
           (one_number ps ss h i xs ys s l k)
           ∙ ap (λ w. take i ys ++ (w, y.1) ∷ drop (i + 1) xs) (one_width h i xs ys s l k)
-          ∙ ap (λ t. take i ys ++ y ∷ t) (agree-back i (i + 1) xs ys m s.agree) ∙ parts_at ys i (0, 0) k
+          ∙ ap (λ t. take i ys ++ y ∷ t) (agree-suffix i (i + 1) xs ys m s.agree) ∙ parts_at ys i (0, 0) k
       | inr beyond ↦ agree-beyond i (i + 1) xs ys m s.agree beyond
     ]
 
@@ -122,13 +122,13 @@ pub xx_tail_law : PieceLaws → Xxh64StepLaws → XxTailLaw
 xx_tail_law ps ss seed a b p h k d e =
     let n = length a % 2 ^ 64 in
     let v = lanes seed a in
-    let behind = ps.rest_length 32 a b d.one_length in
+    let same_rest = ps.rest_length 32 a b d.one_length in
     let one_start = sym (lanes-same seed a b d.same_stripes) in
     d.differ (same_steps ps ss (tail_start seed v n) d.one_step.0 (tail_steps a) (tail_steps b) (record {
       from_word = tail_start-lands seed v n;
       xs_are = tail_steps-are ps ss a h;
       ys_are = tail_steps-are ps ss b k;
-      same_widths = ss.tail_widths (rest 32 a) (rest 32 b) behind;
+      same_widths = ss.tail_widths (rest 32 a) (rest 32 b) same_rest;
       agree = d.one_step.1;
       one_hash =
           sym (xxh64-is seed a) ∙ e ∙ xxh64-is seed b

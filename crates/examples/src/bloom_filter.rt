@@ -5,7 +5,7 @@ ghost use Rattle.sketch_bloom.specs.ExactRate.{IsRateAbove, IsRateBelow};
 ghost use Rattle.sketch_bloom.specs.Filter.{Folds, Inserts, IsFoldFault, IsLengthFault, IsMember, IsMergeFault, Merges, hash_of};
 ghost use Rattle.sketch_bloom.specs.Header.{IsHeaderLength, header};
 ghost use Rattle.sketch_bloom.specs.Laws.{StandsFor};
-ghost use Rattle.sketch_bloom.specs.Rate.{FoldsTo};
+ghost use Rattle.sketch_bloom.specs.FoldRate.{FoldsTo};
 ghost use Rattle.sketch_bloom.specs.Size.{IsLeastSize, NoneKeepsRate};
 
 use datasketches::hash::Hash;
@@ -82,47 +82,41 @@ pub fn is_same_filter(one: &[u8], other: &[u8]) -> bool
     left == right
 }
 
-/// Merges the filter of another worker, in place, and returns whether the result is the filter
-/// `whole` into which the values of both were inserted. It always is.
+/// Merges the filter of another worker into this one, in place. It is then the filter of the values
+/// of both.
 ///
 /// # Errors
 ///
 /// Returns [`Fault::Length`] or [`Fault::OtherLength`] as [`merge`] does. The filter is then
 /// unchanged.
-pub fn merge_in_place(into: &mut [u8], worker: &[u8], whole: &[u8]) -> Result<bool, Fault>
-    ensures always { (hashes others : List ℕ) → length whole.now ≡ length into.old →
-        StandsFor into.old hashes → StandsFor worker.now others →
-        StandsFor whole.now (hashes ++ others) → IfOk result (λ same. IsTrue same) }
+pub fn merge_in_place(into: &mut [u8], worker: &[u8]) -> Result<(), Fault>
+    ensures stands { (hashes others : List ℕ) → StandsFor into.old hashes →
+        StandsFor worker.now others → IfOk result (λ _. StandsFor into.new (hashes ++ others)) }
     ensures merges { MatchResult result
-        (λ same. Merges worker.now into.old into.new × (IsTrue same ↔ (into.new ≡ whole.now)))
+        (λ _. Merges worker.now into.old into.new)
         (λ fault. (into.new ≡ into.old)
         × IsMergeFault (length into.old) (length worker.now) fault) }
 {
     merge_law();
     merge(into, worker)?;
-    Ok(is_same_filter(into, whole))
+    Ok(())
 }
 
-/// Folds a filter into one of half its length, which contains the same values, and returns whether
-/// it is the filter `half` into which the same values were inserted. It always is.
+/// Folds a filter. It is then the filter of half its length of the same values.
 ///
 /// # Errors
 ///
 /// Returns [`Fault::OddBlocks`] if the length is not a multiple of 64 bytes. The filter is then
 /// unchanged.
-pub fn shrink(filter: &mut BloomFilter, half: &[u8]) -> Result<bool, Fault>
+pub fn shrink(filter: &mut BloomFilter) -> Result<(), Fault>
     ensures stands { (hashes : List ℕ) → StandsFor filter.old hashes →
         IfOk result (λ _. StandsFor filter.new hashes) }
-    ensures always { (hashes : List ℕ) → length filter.old ≡ 2 * length half.now →
-        StandsFor filter.old hashes → StandsFor half.now hashes →
-        IfOk result (λ same. IsTrue same) }
     ensures folds { MatchResult result
-        (λ same. Folds filter.old filter.new × (IsTrue same ↔ (filter.new ≡ half.now)))
+        (λ _. Folds filter.old filter.new)
         (λ fault. (filter.new ≡ filter.old) × IsFoldFault (length filter.old) fault) }
 {
     fold_law();
-    filter.fold()?;
-    Ok(is_same_filter(filter.as_bytes(), half))
+    filter.fold()
 }
 
 /// Folds a filter as often as it finds at most one in `one_in` of the keys that were not inserted.

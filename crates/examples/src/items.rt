@@ -50,10 +50,3 @@ fn write_all(mut writer: SketchBytes, items: &[Item], rest: &[u8]) -> Result<Vec
     writer.write(rest)?;
     Ok(writer.into_bytes())
 }
-
-/// Writes no bytes, which never fails.
-pub fn write_nothing(writer: &mut SketchBytes) -> Result<(), AllocError>
-    ensures { IsOk result }
-{
-    writer.write(&[])
-}

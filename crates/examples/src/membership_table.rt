@@ -1,39 +1,17 @@
-//! A membership table of the keys seen so far, which is saved and loaded.
+//! A membership table of the keys seen so far, which is saved and read back.
 
-ghost use Rattle.std.specs.Prelude.{ℕ, List, None, ◌≡◌, ◌⊎◌, ◌↔◌, ◌+◌, [], ◌∷◌, ◌++◌, IfErr, IfOk, IsTrue, MatchResult, length};
+ghost use Rattle.std.specs.Prelude.{ℕ, List, None, ◌≡◌, ◌↔◌, ◌+◌, [], ◌∷◌, ◌++◌, IfOk, IsTrue, MatchResult, length};
 ghost use Rattle.datasketches.specs.ErrorValue.{memory_error};
-ghost use Rattle.datasketches.specs.Refusals.{Refuses};
-ghost use Rattle.sketch_member.specs.declared.fault.Fault.{Fault};
-ghost use Rattle.sketch_member.specs.Faults.{IsFirstFault, IsStepsError, fault_text, steps};
+ghost use Rattle.sketch_member.specs.Faults.{IsStepsError, steps};
 ghost use Rattle.sketch_member.specs.Form.{IsForm, form1};
 ghost use Rattle.sketch_member.specs.Laws.{StandsFor, count_after};
-ghost use Rattle.sketch_member.specs.Table.{Inserts, IsMember, IsTable, Table, empty_table};
+ghost use Rattle.sketch_member.specs.Table.{Inserts, IsMember, IsTable, Table};
 
 use datasketches::error::{Error, ErrorKind};
 use datasketches::hash::value::raw_bytes;
 use sketch_member::MemberTable;
 use sketch_member::laws::{form_law, insert_law, table_law};
 use std::alloc::Global;
-
-/// The table of the keys seen so far, from saved bytes. Without bytes a new one, of 1024 bits with
-/// seven indexes a key.
-///
-/// # Errors
-///
-/// Returns `InvalidData` with the first fault if the bytes are not a table, and `OutOfMemory` with
-/// an empty message if there is no memory.
-pub fn load_keys(alloc: Global, saved: &[u8]) -> Result<MemberTable, Error>
-    ensures loaded { IfOk result (λ seen.
-        ((saved.now ≡ []) × (seen ≡ empty_table 0 10 7)) ⊎ IsForm seen saved.now) }
-    ensures refused { IfErr result (λ error. (error ≡ memory_error) ⊎ ((fault : Fault)
-        × IsFirstFault (length saved.now) (steps saved.now) fault
-        × Refuses ErrorKind.InvalidData (fault_text fault) error)) }
-{
-    if saved.is_empty() {
-        return MemberTable::new(alloc, 0, 10, 7);
-    }
-    MemberTable::from_bytes(alloc, saved)
-}
 
 /// Whether the table contains a key, which may be a false positive. The key is then inserted.
 pub fn see_key(seen: &mut MemberTable, key: &[u8]) -> bool

@@ -4,11 +4,11 @@ use crate::bloom_filter::{
     contains_inserted, fill, is_same_filter, load, merge_in_place, save, see_in_place, shrink,
 };
 use crate::custom_types::{BigEndian, Point};
-use crate::items::{round_trip, write_nothing};
+use crate::items::round_trip;
 use crate::keys::{
     hash_texts, is_same_key, is_same_number, is_same_number_by_murmur, pair_of, pair_of_value,
 };
-use crate::membership_table::{load_keys, read_back, read_upgraded, see_key};
+use crate::membership_table::{read_back, read_upgraded, see_key};
 use crate::preamble::{check_preamble, write_preamble};
 use crate::streams::{
     checkpoint, has_same_pair, has_same_xxh64, is_same_seed, murmur_of_pieces, xxh64_from,
@@ -17,6 +17,7 @@ use datasketches::codec::{Item, Kind, SketchBytes};
 use datasketches::hash::XxHash64;
 use datasketches::hash::value::raw_bytes;
 use sketch_bloom::BloomFilter;
+use sketch_member::MemberTable;
 use std::test::Fail;
 
 #[test]
@@ -74,7 +75,6 @@ fn items_and_a_preamble_are_read_back(rt: HostRuntime) -> Result<(), Fail> {
     let writer = SketchBytes::with_capacity(rt.alloc(), 7)?;
     assert!(rt; round_trip(writer, &items, &kinds, &[7, 8], &mut places)?);
     assert_eq!(rt; places, items);
-    assert!(rt; write_nothing(&mut SketchBytes::with_capacity(rt.alloc(), 0)?).is_ok());
     let preamble = write_preamble(rt.alloc(), 9001)?;
     assert_eq!(rt; preamble.as_slice(), [1, 3, 7, 0xcc, 0x93].as_slice());
     assert!(rt; check_preamble(rt.alloc(), &preamble, 9001).is_ok());
@@ -84,7 +84,7 @@ fn items_and_a_preamble_are_read_back(rt: HostRuntime) -> Result<(), Fail> {
 
 #[test]
 fn a_membership_table_is_saved_and_loaded(rt: HostRuntime) -> Result<(), Fail> {
-    let mut seen = load_keys(rt.alloc(), &[])?;
+    let mut seen = MemberTable::new(rt.alloc(), 0, 10, 7)?;
     assert!(rt; !see_key(&mut seen, b"a"));
     let mut read = read_back(rt.alloc(), &seen)?;
     assert!(rt; see_key(&mut read, b"a"));
@@ -120,13 +120,15 @@ fn filters_of_the_same_values_are_the_same(rt: HostRuntime) -> Result<(), Fail> 
     let _ = (see_in_place(&mut one, b"a"), see_in_place(&mut other, b"b"));
     let _ = (see_in_place(&mut both, b"b"), see_in_place(&mut both, b"a"));
     assert!(rt; !is_same_filter(&one, &other));
-    assert_eq!(rt; merge_in_place(&mut one, &other, &both), Ok(true));
+    assert_eq!(rt; merge_in_place(&mut one, &other), Ok(()));
+    assert!(rt; is_same_filter(&one, &both));
     let mut filter = BloomFilter::new(rt.alloc(), 64)?;
     filter.insert(&raw_bytes::from_str("a"));
     let mut half = [0; 32];
     let _ = see_in_place(&mut half, b"a");
-    assert_eq!(rt; shrink(&mut filter, &half), Ok(true));
-    assert!(rt; shrink(&mut filter, &half).is_err());
+    assert_eq!(rt; shrink(&mut filter), Ok(()));
+    assert!(rt; is_same_filter(filter.as_bytes(), &half));
+    assert!(rt; shrink(&mut filter).is_err());
     Ok(())
 }
 

@@ -60,7 +60,7 @@ pub written-more : (before bytes : List ℕ) (items : List Item) (i : ℕ) (item
     bytes ≡ before ++ spell_all (take i items) →
     bytes ++ spell (get_or items i item) ≡ before ++ spell_all (take (i + 1) items)
 written-more before bytes items i item within written =
-    ap (λ front. front ++ spell (get_or items i item)) written
+    ap (λ prefix. prefix ++ spell (get_or items i item)) written
     ∙ append_assoc before (spell_all (take i items)) (spell (get_or items i item))
     ∙ ap (λ back. before ++ back) (sym (spell_all-more items i item within))
 
@@ -73,24 +73,24 @@ pub placed-more : (kinds : List Kind) (bytes : List ℕ) (places : List Item) (i
     set (unspell_all (take i kinds) bytes ++ drop i places) i item
     ≡ unspell_all (take (i + 1) kinds) bytes ++ drop (i + 1) places
 placed-more kinds bytes places i kind item within lengths is =
-    let front = unspell_all (take i kinds) bytes in
-    let count : length front ≡ i = length-unspell_all (take i kinds) bytes
+    let prefix = unspell_all (take i kinds) bytes in
+    let count : length prefix ≡ i = length-unspell_all (take i kinds) bytes
     ∙ length-take-le i kinds (omega arith) in
     let next : drop i places ≡ get_or places i item ∷ drop (i + 1) places =
     drop-cons places i item (omega arith)
     ∙ ap (λ n. get_or places i item ∷ drop n places) (sym (add-one i)) in
-    let all : unspell_all (take (i + 1) kinds) bytes ≡ front ++ item ∷ [] =
+    let all : unspell_all (take (i + 1) kinds) bytes ≡ prefix ++ item ∷ [] =
     ap (λ ks. unspell_all ks bytes) (take_more kinds i kind within)
-    ∙ unspell_all-push (take i kinds) (get_or kinds i kind) bytes ∙ ap (λ x. front ++ x ∷ []) (sym is) in
-    ap (λ rest. set (front ++ rest) i item) next
-    ∙ ap (λ n. set (front ++ get_or places i item ∷ drop (i + 1) places) n item) (sym count)
-    ∙ set-append_seam front (get_or places i item) (drop (i + 1) places) item
-    ∙ sym (append_assoc front (item ∷ []) (drop (i + 1) places))
+    ∙ unspell_all-push (take i kinds) (get_or kinds i kind) bytes ∙ ap (λ x. prefix ++ x ∷ []) (sym is) in
+    ap (λ rest. set (prefix ++ rest) i item) next
+    ∙ ap (λ n. set (prefix ++ get_or places i item ∷ drop (i + 1) places) n item) (sym count)
+    ∙ set-append_seam prefix (get_or places i item) (drop (i + 1) places) item
+    ∙ sym (append_assoc prefix (item ∷ []) (drop (i + 1) places))
     ∙ ap (λ items. items ++ drop (i + 1) places) (sym all)
 
 pub in_type-more : (items : List Item) (i : ℕ) (item : Item) → i < length items →
     All InType (take i items) → InType (get_or items i item) → All InType (take (i + 1) items)
-in_type-more items i item within front next = All-more InType items i item within front next
+in_type-more items i item within prefix next = All-more InType items i item within prefix next
 
 -- one step of a loop over items
 pub ruleset one_item_more = (written-more, in_type-more, widths-more, placed-more, length-drop, drop-drop)
@@ -271,11 +271,11 @@ read_back (i ∷ items) after h =
     let others = spell_all items ++ after in
     let whole : (spell i ++ spell_all items) ++ after
     ≡ spell i ++ others = append_assoc (spell i) (spell_all items) after in
-    let front : take (width (item_kind i)) (spell i ++ others) ≡ spell i =
+    let prefix : take (width (item_kind i)) (spell i ++ others) ≡ spell i =
     ap (λ n. take n (spell i ++ others)) (sym first.count) ∙ take-append_seam (spell i) others in
     let back : drop (width (item_kind i)) (spell i ++ others) ≡ others =
     ap (λ n. drop n (spell i ++ others)) (sym first.count) ∙ drop-append_seam (spell i) others in
-    rw (whole, front, back, first.item, read_back items after (All-tail InType i items h)) refl
+    rw (whole, prefix, back, first.item, read_back items after (All-tail InType i items h)) refl
 
 pub leave_rest : (items : List Item) (after : List ℕ) → All InType items →
     drop (widths (map item_kind items)) (spell_all items ++ after) ≡ after
@@ -286,8 +286,8 @@ leave_rest items after h =
 pub item_law : ItemLaw
 item_law = record {
   spell_holds = spell_holds;
-  spell_only = λ i bytes h held.
-      sym (spell-unspell (item_kind i) bytes held.are_bytes held.count) ∙ ap spell held.item;
+  spell_only = λ i bytes h facts.
+      sym (spell-unspell (item_kind i) bytes facts.are_bytes facts.count) ∙ ap spell facts.item;
   once = λ xs ys hx hy kinds bytes.
       sym (read_back xs [] hx)
       ∙ ap (λ ks. unspell_all ks (spell_all xs ++ [])) kinds

@@ -34,12 +34,12 @@ pub inserts_run : (hash : ℕ → ℕ) (start : ℕ) (hashes before next after :
     InsertsAll (map hash (range_with_len 0 start)) before next → InsertsAll hashes next after →
     InsertsAll (map hash (range_with_len 0 (start + length hashes))) before after
 inserts_run hash start hashes before next after are first second =
-    let front = map hash (range_with_len 0 start) in
+    let prefix = map hash (range_with_len 0 start) in
     let part = length-map-range_with_len hash 0 start in
-    let size = length-append front hashes ∙ ap (λ n. n + length hashes) part in
-    rw (← fill_by_all hash (front ++ hashes) (start + length hashes) 0 size (λ k below.
+    let size = length-append prefix hashes ∙ ap (λ n. n + length hashes) part in
+    rw (← fill_by_all hash (prefix ++ hashes) (start + length hashes) 0 size (λ k below.
     grind (arith, elements, part, are (k - start) 0, get_or-map-range_with_len hash 0 start k k 0)))
-    (inserts_append front hashes before next after first second)
+    (inserts_append prefix hashes before next after first second)
 
 -- the hash of a key
 pub key_hash : (keys offsets : List ℕ) (n k : ℕ) → k < n →

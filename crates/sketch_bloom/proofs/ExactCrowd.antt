@@ -5,8 +5,8 @@ use Rattle.sketch_bloom.proofs.ExactShares.{half_chosen, most_chosen}
 use Rattle.sketch_bloom.specs.ExactRate.{found_to, weights_to}
 
 -- To the 78th, the weights more than grow by 128 / 78.
-sum_is_small : (keys blocks k : ℕ) → 128 * blocks ≤ keys → k ≤ 78 → weights_to keys blocks k
-    ≤ 3 * keys ^ k
+sum_is_small : (keys blocks k : ℕ) → 128 * blocks ≤ keys → k ≤ 78 →
+    weights_to keys blocks k ≤ 3 * keys ^ k
 unfolding weights_to
 sum_is_small keys blocks zero many early = rw (pow-zero keys) (omega arith)
 sum_is_small keys blocks (suc k) many early =
@@ -19,8 +19,8 @@ sum_is_small keys blocks (suc k) many early =
     ))
 
 -- A weight up to the 128th is at least the one before it.
-grows : (keys blocks k : ℕ) → 128 * blocks ≤ keys → suc k ≤ 128 → keys ^ k * (blocks * suc k)
-    ≤ keys ^ suc k
+grows : (keys blocks k : ℕ) → 128 * blocks ≤ keys → suc k ≤ 128 →
+    keys ^ k * (blocks * suc k) ≤ keys ^ suc k
 grows keys blocks k many early =
     let more : blocks * suc k ≤ keys = omega (arith, many, mul-le-mul_right blocks early) in
     rw (pow-suc keys k) (omega (arith, mul-le-mul_right (keys ^ k) more))
@@ -43,23 +43,17 @@ lacks_step sum found power next chosen t q b m more grow share before =
     )
 
 module _ (keys blocks : ℕ) (many : 128 * blocks ≤ keys) where
-  lacks_next : (k m more : ℕ) → suc k ≤ 128 → (5 + more) * (32 ^ 8) ^ suc k
-      ≤ 10 * (32 ^ suc k - 31 ^ suc k) ^ 8 →
+  lacks_next : (k m more : ℕ) → suc k ≤ 128 →
+      (5 + more) * (32 ^ 8) ^ suc k ≤ 10 * (32 ^ suc k - 31 ^ suc k) ^ 8 →
       Lacks keys blocks k (m + more) → Lacks keys blocks (suc k) m
   unfolding found_to weights_to
   lacks_next k m more early share before =
-      rw (pow-suc (32 ^ 8) k) (lacks_step (weights_to keys blocks k) (found_to keys blocks k)
-      (keys ^ k) (keys ^ suc k)
-      ((32 ^ suc k - 31 ^ suc k) ^ 8) (blocks * suc k) ((32 ^ 8) ^ k) (32 ^ 8) m more
-      (grows keys blocks k many early)
-      (rw (pow-suc (32 ^ 8) k) at share) before)
+      rw (pow-suc (32 ^ 8) k) (lacks_step _ _ _ _ _ _ _ (32 ^ 8) m more
+      (grows keys blocks k many early) (rw (pow-suc (32 ^ 8) k) at share) before)
 
   lacks_first : Lacks keys blocks 78 16
-  lacks_first = omega (
-    arith,
-    mul-le-mul_right ((32 ^ 8) ^ 78) (sum_is_small keys blocks 78 many
-        (omega arith)),
-  )
+  lacks_first =
+      omega (arith, mul-le-mul_right ((32 ^ 8) ^ 78) (sum_is_small keys blocks 78 many (omega arith)))
 
   lacks_same : (j : ℕ) → j ≤ 21 → Lacks keys blocks (j + 78) 16
   lacks_same zero early = lacks_first
@@ -71,7 +65,8 @@ module _ (keys blocks : ℕ) (many : 128 * blocks ≤ keys) where
       (lacks_same j (omega (arith, early))))
 
   lacks_less : (j m : ℕ) → m + 2 * j ≡ 16 → Lacks keys blocks (j + 99) m
-  lacks_less zero m left = let same : m ≡ 16 = omega (arith, left) in
+  lacks_less zero m left =
+      let same : m ≡ 16 = omega (arith, left) in
       rw same (lacks_same 21 (omega arith))
   lacks_less (suc j) m left =
       let next : suc j + 99 ≡ suc (j + 99) = omega arith in
@@ -84,18 +79,15 @@ module _ (keys blocks : ℕ) (many : 128 * blocks ≤ keys) where
   first_half = omega (arith, lacks_less 8 0 (omega arith))
 
   -- With 128 keys a block or more the rate is one in two or more.
-  pub at_least_half : (j : ℕ) → weights_to keys blocks (j + 107) * (32 ^ 8) ^ (j + 107)
-      ≤ 2 * found_to keys blocks (j + 107)
+  pub at_least_half : (j : ℕ) →
+      weights_to keys blocks (j + 107) * (32 ^ 8) ^ (j + 107) ≤ 2 * found_to keys blocks (j + 107)
   unfolding found_to weights_to
   at_least_half zero = first_half
   at_least_half (suc j) =
       let next : suc j + 107 ≡ suc (j + 107) = omega arith in
       let here : j + 29 + 79 ≡ suc (j + 107) = omega arith in
       let share = rw here at (half_chosen (j + 29)) in
-      rw (next, pow-suc (32 ^ 8) (j + 107)) (half_step (weights_to keys blocks (j + 107))
-      (found_to keys blocks (j + 107))
-      (keys ^ suc (j + 107)) ((32 ^ suc (j + 107) - 31 ^ suc (j + 107)) ^ 8)
-      (blocks * suc (j + 107)) ((32 ^ 8) ^ (j + 107)) (32 ^ 8)
+      rw (next, pow-suc (32 ^ 8) (j + 107)) (half_step _ _ _ _ _ _ (32 ^ 8)
       (rw (pow-suc (32 ^ 8) (j + 107)) at share) (at_least_half j))
     where
       half_step : (sum found next chosen t q b : ℕ) → q * b ≤ 2 * chosen → sum * q ≤ 2 * found →

@@ -23,62 +23,40 @@ clear_fits zero = omega arith
 clear_fits (suc k) = omega (arith, clear_fits k)
 
 -- what is left of 2 ^ 50, beside the exact share left / b
-left_over : (clear share b y left : ℕ) → share + clear ≡ 2 ^ 50 → left + y ≡ b →
-    2 ^ 50 * y ≤ (clear + 992) * b → share * b ≤ 2 ^ 50 * left + 992 * b
-left_over clear share b y left all both above =
-    let most : share + clear ≤ 2 ^ 50 = omega arith in
-    omega (arith, mul-le-mul_right b most, above)
+module _ (clear share b y left : ℕ) (all : share + clear ≡ 2 ^ 50) (both : left + y ≡ b) where
+  left_over : 2 ^ 50 * y ≤ (clear + 992) * b → share * b ≤ 2 ^ 50 * left + 992 * b
+  left_over above =
+      let most : share + clear ≤ 2 ^ 50 = omega arith in
+      omega (arith, mul-le-mul_right b most, above)
 
-left_under : (clear share b y left : ℕ) → share + clear ≡ 2 ^ 50 → left + y ≡ b →
-    clear * b ≤ 2 ^ 50 * y → 2 ^ 50 * left ≤ share * b
-left_under clear share b y left all both below =
-    let least : 2 ^ 50 ≤ share + clear = omega arith in
-    omega (arith, mul-le-mul_right b least, below)
+  left_under : clear * b ≤ 2 ^ 50 * y → 2 ^ 50 * left ≤ share * b
+  left_under below =
+      let least : 2 ^ 50 ≤ share + clear = omega arith in
+      omega (arith, mul-le-mul_right b least, below)
 
--- a square, rounded down, of a share that is too large by d / 2 ^ 50 at most, or too small
-square_over : (s b x d next : ℕ) → s * b ≤ 2 ^ 50 * x + d * b → x ≤ b → d * d ≤ 2 ^ 50 →
-    next * 2 ^ 50 ≤ s * s → next * (b * b) ≤ 2 ^ 50 * (x * x) + (2 * d + 1) * (b * b)
-square_over s b x d next over most small is =
-    omega (
-      arith,
-      mul-le (s * b) (s * b) (2 ^ 50 * x + d * b) (2 ^ 50 * x + d * b) over over,
-      mul-le-mul_right (d * b) most,
-      mul-le-mul_right (b * b) small,
-      mul-le-mul_right (b * b) is,
-    )
+-- A square, in parts of 2 ^ 50 / m, of a share that is too large by d / 2 ^ 50 at most, or too small.
+module _ (m s b x d next : ℕ) (small : d * d ≤ 2 ^ 50) where
+  square_over : s * b ≤ 2 ^ 50 * x + d * b → x ≤ b → next * 2 ^ 50 ≤ m * (s * s) →
+      next * (b * b) ≤ m * (2 ^ 50 * (x * x) + (2 * d + 1) * (b * b))
+  square_over over most is =
+      omega (
+        arith,
+        mul-le-mul_right m (mul-le (s * b) (s * b) (2 ^ 50 * x + d * b) (2 ^ 50 * x + d * b) over over),
+        mul-le-mul_right (m * d * b) most,
+        mul-le-mul_right (m * b * b) small,
+        mul-le-mul_right (b * b) is,
+      )
 
-last_square_over : (s b x d next : ℕ) → s * b ≤ 2 ^ 50 * x + d * b → x ≤ b → d * d ≤ 2 ^ 50 →
-    next * 2 ^ 40 ≤ s * s → next * (b * b) ≤ 2 ^ 60 * (x * x) + 2 ^ 10 * (2 * d + 1) * (b * b)
-last_square_over s b x d next over most small is =
-    omega (
-      arith,
-      mul-le (s * b) (s * b) (2 ^ 50 * x + d * b) (2 ^ 50 * x + d * b) over over,
-      mul-le-mul_right (d * b) most,
-      mul-le-mul_right (b * b) small,
-      mul-le-mul_right (b * b) is,
-    )
-
-square_under : (s b x d next : ℕ) → 2 ^ 50 * x ≤ (s + d) * b → s ≤ 2 ^ 50 → d * d ≤ 2 ^ 50 →
-    s * s ≤ (next + 1) * 2 ^ 50 → 2 ^ 50 * (x * x) ≤ (next + (2 * d + 2)) * (b * b)
-square_under s b x d next under most small is =
-    omega (
-      arith,
-      mul-le (2 ^ 50 * x) (2 ^ 50 * x) ((s + d) * b) ((s + d) * b) under under,
-      mul-le-mul_right (d * b * b) most,
-      mul-le-mul_right (b * b) small,
-      mul-le-mul_right (b * b) is,
-    )
-
-last_square_under : (s b x d next : ℕ) → 2 ^ 50 * x ≤ (s + d) * b → s ≤ 2 ^ 50 → d * d ≤ 2 ^ 50 →
-    s * s ≤ (next + 1) * 2 ^ 40 → 2 ^ 60 * (x * x) ≤ (next + 1 + 2 ^ 10 * (2 * d + 1)) * (b * b)
-last_square_under s b x d next under most small is =
-    omega (
-      arith,
-      mul-le (2 ^ 50 * x) (2 ^ 50 * x) ((s + d) * b) ((s + d) * b) under under,
-      mul-le-mul_right (d * b * b) most,
-      mul-le-mul_right (b * b) small,
-      mul-le-mul_right (b * b) is,
-    )
+  square_under : 2 ^ 50 * x ≤ (s + d) * b → s ≤ 2 ^ 50 → m * (s * s) ≤ (next + 1) * 2 ^ 50 →
+      m * (2 ^ 50 * (x * x)) ≤ (next + 1 + m * (2 * d + 1)) * (b * b)
+  square_under under most is =
+      omega (
+        arith,
+        mul-le-mul_right m (mul-le (2 ^ 50 * x) (2 ^ 50 * x) ((s + d) * b) ((s + d) * b) under under),
+        mul-le-mul_right (m * d * b * b) most,
+        mul-le-mul_right (m * b * b) small,
+        mul-le-mul_right (b * b) is,
+      )
 
 -- x ^ 8 as three squares
 eighth : (x : ℕ) → x ^ 8 ≡ x * x * (x * x) * (x * x * (x * x))
@@ -95,7 +73,7 @@ eighth x = rw (
 ) (omega arith)
 
 share_fits : (s : ℕ) → s ≤ 2 ^ 50 → s * s / 2 ^ 50 ≤ 2 ^ 50
-share_fits s most = let square = mul-le s s (2 ^ 50) (2 ^ 50) most most in omega (arith, square)
+share_fits s most = omega (arith, mul-le s s (2 ^ 50) (2 ^ 50) most most)
 
 eighth_power_fits : (s : ℕ) → s ≤ 2 ^ 50 → eighth_power s ≤ 2 ^ 60
 unfolding eighth_power
@@ -111,15 +89,13 @@ unfolding eighth_power
 eighth_power_over s b x over most =
     let square = s * s / 2 ^ 50 in
     let fourth = square * square / 2 ^ 50 in
-    let two = square_over s b x 992 square over most (omega arith) (div-mul-le_self (s * s)
-    (2 ^ 50)) in
+    let two = square_over 1 s b x 992 square (omega arith) over most (omega arith) in
     let most_two = mul-le x x b b most most in
-    let four = square_over square (b * b) (x * x) 1985 fourth two most_two (omega arith)
-    (div-mul-le_self (square * square) (2 ^ 50)) in
-    let eight = last_square_over fourth (b * b * (b * b)) (x * x * (x * x)) 3971
-    (fourth * fourth / 2 ^ 40) four
-    (mul-le (x * x) (x * x) (b * b) (b * b) most_two most_two) (omega arith)
-    (div-mul-le_self (fourth * fourth) (2 ^ 40)) in
+    let four = square_over 1 square (b * b) (x * x) 1985 fourth (omega arith) (omega (arith, two)) most_two
+    (omega arith) in
+    let most_four = mul-le (x * x) (x * x) (b * b) (b * b) most_two most_two in
+    let eight = square_over (2 ^ 10) fourth (b * b * (b * b)) (x * x * (x * x)) 3971
+    (fourth * fourth / 2 ^ 40) (omega arith) (omega (arith, four)) most_four (omega arith) in
     rw (eighth x, eighth b) (omega (arith, eight))
 
 eighth_power_under : (s b x : ℕ) → 2 ^ 50 * x ≤ s * b → s ≤ 2 ^ 50 →
@@ -128,12 +104,13 @@ unfolding eighth_power
 eighth_power_under s b x under most =
     let square = s * s / 2 ^ 50 in
     let fourth = square * square / 2 ^ 50 in
-    let two = square_under s b x 0 square (omega (arith, under)) most (omega arith) (omega arith) in
-    let four = square_under square (b * b) (x * x) 2 fourth two (share_fits s most) (omega arith)
+    let two = square_under 1 s b x 0 square (omega arith) (omega (arith, under)) most (omega arith) in
+    let most_two = share_fits s most in
+    let four = square_under 1 square (b * b) (x * x) 2 fourth (omega arith) (omega (arith, two))
+    most_two (omega arith) in
+    let eight = square_under (2 ^ 10) fourth (b * b * (b * b)) (x * x * (x * x)) 6
+    (fourth * fourth / 2 ^ 40) (omega arith) (omega (arith, four)) (share_fits square most_two)
     (omega arith) in
-    let eight = last_square_under fourth (b * b * (b * b)) (x * x * (x * x)) 6
-    (fourth * fourth / 2 ^ 40) four
-    (share_fits square (share_fits s most)) (omega arith) (omega arith) in
     rw (eighth x, eighth b) (omega (arith, eight))
 
 same_scale : (k : ℕ) → (32 ^ k) ^ 8 ≡ (32 ^ 8) ^ k
@@ -147,20 +124,18 @@ powers : (k : ℕ) → 31 ^ k ≤ 32 ^ k
 powers k = pow-le-pow_left {n = 31} {m = 32} (omega arith) k
 
 -- c(k), beside the exact one: left_over_8 / 32 ^ (8 k)
-pub covered_over : (k : ℕ) → covered k * (32 ^ 8) ^ k ≤ 2 ^ 60 * (32 ^ k - 31 ^ k) ^ 8 + 2 ^ 23 *
-    (32 ^ 8) ^ k
-covered_over k = rw (← same_scale k) (eighth_power_over (2 ^ 50 - clear k) (32 ^ k)
-    (32 ^ k - 31 ^ k)
-    (left_over (clear k) (2 ^ 50 - clear k) (32 ^ k) (31 ^ k) (32 ^ k - 31 ^ k)
-    (omega (arith, clear_fits k))
-    (omega (arith, powers k)) (clear_above k)) (omega arith))
+pub covered_over : (k : ℕ) →
+    covered k * (32 ^ 8) ^ k ≤ 2 ^ 60 * (32 ^ k - 31 ^ k) ^ 8 + 2 ^ 23 * (32 ^ 8) ^ k
+covered_over k =
+    let left = left_over (clear k) (2 ^ 50 - clear k) (32 ^ k) (31 ^ k) (32 ^ k - 31 ^ k)
+    (omega (arith, clear_fits k)) (omega (arith, powers k)) (clear_above k) in
+    rw (← same_scale k) (eighth_power_over _ _ (32 ^ k - 31 ^ k) left (omega arith))
 
 pub covered_under : (k : ℕ) → 2 ^ 60 * (32 ^ k - 31 ^ k) ^ 8 ≤ (covered k + 2 ^ 14) * (32 ^ 8) ^ k
-covered_under k = rw (← same_scale k) (eighth_power_under (2 ^ 50 - clear k) (32 ^ k)
-    (32 ^ k - 31 ^ k)
-    (left_under (clear k) (2 ^ 50 - clear k) (32 ^ k) (31 ^ k) (32 ^ k - 31 ^ k)
-    (omega (arith, clear_fits k))
-    (omega (arith, powers k)) (clear_below k)) (omega arith))
+covered_under k =
+    let left = left_under (clear k) (2 ^ 50 - clear k) (32 ^ k) (31 ^ k) (32 ^ k - 31 ^ k)
+    (omega (arith, clear_fits k)) (omega (arith, powers k)) (clear_below k) in
+    rw (← same_scale k) (eighth_power_under _ _ (32 ^ k - 31 ^ k) left (omega arith))
 
 pub covered_fits : (k : ℕ) → covered k ≤ 2 ^ 60
 covered_fits k = eighth_power_fits (2 ^ 50 - clear k) (omega arith)
@@ -193,8 +168,5 @@ pub half_chosen : (j : ℕ) → (32 ^ 8) ^ (j + 79) ≤ 2 * (32 ^ (j + 79) - 31 
 half_chosen j = omega (arith, chosen_above (j + 79) 82 (omega arith) (decays 79 82 j (omega arith)))
 
 pub most_chosen : (j : ℕ) → 7 * (32 ^ 8) ^ (j + 100) ≤ 10 * (32 ^ (j + 100) - 31 ^ (j + 100)) ^ 8
-most_chosen j = omega (
-  arith,
-  chosen_above (j + 100) 42 (omega arith) (decays 100 42 j
-      (omega arith)),
-)
+most_chosen j =
+    omega (arith, chosen_above (j + 100) 42 (omega arith) (decays 100 42 j (omega arith)))

@@ -11,7 +11,7 @@ use Rattle.std.proofs.lemmas.Simd.{get_or-chunk, get_or-put_chunk_above, get_or-
 use Rattle.sketch_bloom.proofs.LawLemmas.{same}
 use Rattle.sketch_bloom.specs.Filter.{Folds, IsBitOf, IsFoldable, block_of, mask_bit}
 use Rattle.sketch_bloom.specs.Laws.{FoldLaw, StandsFor}
-use Rattle.sketch_bloom.specs.Rate.{FoldsWithin, fold, whole}
+use Rattle.sketch_bloom.specs.FoldRate.{FoldsWithin, fold, whole}
 
 -- The first n blocks are folded, and the bytes after them are as they were.
 pub record AreFolded (before after : List ℕ) (n : ℕ) : Type 0 where

@@ -3,7 +3,7 @@ mod ColumnLemmas
 mod HeaderLemmas
 mod LawLemmas
 mod FoldLemmas
-mod RateLemmas
+mod FoldRateLemmas
 mod SizeLemmas
 mod ExactWeights
 mod ExactShares

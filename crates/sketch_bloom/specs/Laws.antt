@@ -3,7 +3,7 @@ use Rattle.std.specs.Prelude.{◌≡◌, ◌↔◌, ◌⊎◌, ℕ, ◌*◌, ◌
 use Rattle.datasketches.specs.Bytes.{AreBytes}
 use Rattle.sketch_bloom.specs.Filter.{Folds, Inserts, InsertsAll, IsBitOfAny, IsFoldable, IsLength, IsMember, IsSet, Merges, block_of, hash_of}
 use Rattle.sketch_bloom.specs.ExactRate.{IsRateAbove, IsRateBelow}
-use Rattle.sketch_bloom.specs.Rate.{FoldsWithin}
+use Rattle.sketch_bloom.specs.FoldRate.{FoldsWithin}
 use Rattle.sketch_bloom.specs.Size.{KeepsRate}
 
 -- the empty filter with this many bytes

@@ -1,6 +1,6 @@
 pub mod Filter
 pub mod Columns
-pub mod Rate
+pub mod FoldRate
 pub mod Header
 pub mod Size
 pub mod ExactRate

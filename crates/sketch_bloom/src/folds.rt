@@ -3,7 +3,7 @@
 ghost use Rattle.std.specs.Prelude.{◌≡◌, ◌↔◌, ℕ, ◌+◌, ◌*◌, ◌/◌, ◌%◌, ◌^◌, ◌<◌, ◌≤◌, List, IsTrue, MatchResult, drop, length, slice_index, take};
 ghost use Rattle.datasketches.specs.Words.{digit};
 ghost use Rattle.sketch_bloom.specs.Filter.{Folds, IsFoldFault, IsFoldable, IsLength, IsLengthFault};
-ghost use Rattle.sketch_bloom.specs.Rate.{FoldsTo, HasRateOf, found_by_words};
+ghost use Rattle.sketch_bloom.specs.FoldRate.{FoldsTo, HasRateOf, found_by_words};
 
 use crate::fault::Fault;
 use crate::filter::check_length;

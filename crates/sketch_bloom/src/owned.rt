@@ -3,7 +3,7 @@
 ghost use Rattle.std.specs.Prelude.{◌≡◌, ℕ, ◌↔◌, List, IsTrue, MatchResult, length, map};
 ghost use Rattle.sketch_bloom.specs.Filter.{Folds, Inserts, InsertsAll, IsFoldFault, IsFoldable, IsLength, IsLengthFault, IsMember, IsMergeFault, IsNewFault, Merges, hash_of};
 ghost use Rattle.sketch_bloom.specs.Laws.{empty_filter};
-ghost use Rattle.sketch_bloom.specs.Rate.{FoldsTo};
+ghost use Rattle.sketch_bloom.specs.FoldRate.{FoldsTo};
 
 use crate::columns;
 use crate::fault::Fault;

@@ -6,7 +6,7 @@ ghost use Rattle.sketch_bloom.specs.declared.fault.Fault.{Fault};
 ghost use Rattle.sketch_bloom.specs.Columns.{FindsEach, FindsKeys, InsertsKeys};
 ghost use Rattle.sketch_bloom.specs.Filter.{Folds, Inserts, InsertsAll, IsFoldable, IsLength, IsMergeFault, Merges, block_of, hash_of};
 ghost use Rattle.sketch_bloom.specs.Header.{IsHeaderLength, header};
-ghost use Rattle.sketch_bloom.specs.Rate.{FoldsTo};
+ghost use Rattle.sketch_bloom.specs.FoldRate.{FoldsTo};
 ghost use Rattle.sketch_bloom.specs.Size.{IsLeastSize, NoneKeepsRate, max_log2_blocks};
 ghost use Rattle.sketch_c.specs.{Changes, IsNumber, MayContain, Reports, error};
 

@@ -15,8 +15,6 @@ ghost use Rattle.sketch_c.specs.{IsNumber, Reports};
 pub mod bloom;
 pub mod columns;
 pub mod murmur;
-#[cfg(test)]
-mod tests;
 pub mod xxh64;
 
 use sketch_bloom::Fault;

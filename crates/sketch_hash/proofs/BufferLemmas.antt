@@ -6,31 +6,31 @@ use Rattle.std.proofs.lemmas.Slice.{put_mid-paste, drop-put_mid}
 use borrow.Rule.Slice.PartMut.{put_mid, post_of}
 use Rattle.std.proofs.Math.Nat.{mod-add-mod, mod-eq_of_lt}
 
-pub copy_overlapping-is : (buffer bytes front back : List ℕ) (at k m : ℕ) → m ≡ at + length bytes - k →
+pub copy_overlapping-is : (buffer bytes prefix back : List ℕ) (at k m : ℕ) → m ≡ at + length bytes - k →
     k ≤ length bytes → length bytes ≤ k + k → at + length bytes ≤ length buffer →
-    front ≡ take k bytes → back ≡ drop (length bytes - k) bytes →
+    prefix ≡ take k bytes → back ≡ drop (length bytes - k) bytes →
     put_mid m (at + length bytes - m)
-    (put_mid at (at + k - at) buffer front) back
+    (put_mid at (at + k - at) buffer prefix) back
     ≡ take at buffer ++ bytes ++ drop (at + length bytes) buffer
-copy_overlapping-is buffer bytes front back at k m place low high within f b =
+copy_overlapping-is buffer bytes prefix back at k m place low high within f b =
     let n : ℕ = length bytes in
-    let one : List ℕ = put_mid at (at + k - at) buffer front in
-    let front_len : length front ≡ k = ap length f ∙ length-take-le k bytes low in
+    let one : List ℕ = put_mid at (at + k - at) buffer prefix in
+    let prefix_len : length prefix ≡ k = ap length f ∙ length-take-le k bytes low in
     let back_long : length (drop (n - k) bytes) ≡ n - (n - k) = length-drop (n - k) bytes in
     let back_len : length back ≡ k = ap length b ∙ back_long ∙ omega arith in
     let at_len : length (take at buffer) ≡ at = length-take-le at buffer (omega arith) in
     let seam : m ≡ length (take at buffer) + (n - k) = omega (arith, place, low, at_len) in
-    let short : n - k ≤ length front = omega (arith, front_len) in
+    let short : n - k ≤ length prefix = omega (arith, prefix_len) in
     let shorter : n - k ≤ length (take k bytes) = rw (length-take-le k bytes low) (omega arith) in
     let early : take m one ≡ take at buffer ++ take (n - k) bytes =
     ap (λ i. take i one) seam
-    ∙ take-append-add (take at buffer) (front ++ post_of at (at + k - at) buffer) (n - k)
-    ∙ ap (λ t. take at buffer ++ t) (take-append-le (n - k) front (post_of at (at + k - at) buffer) short
+    ∙ take-append-add (take at buffer) (prefix ++ post_of at (at + k - at) buffer) (n - k)
+    ∙ ap (λ t. take at buffer ++ t) (take-append-le (n - k) prefix (post_of at (at + k - at) buffer) short
     ∙ ap (take (n - k)) f ∙ sym (take-append-le (n - k) (take k bytes) (drop k bytes) shorter)
     ∙ ap (take (n - k)) (take-append-drop k bytes)) in
-    let width : length front ≡ at + k - at = omega (arith, front_len) in
+    let width : length prefix ≡ at + k - at = omega (arith, prefix_len) in
     let late : drop (at + n) one ≡ drop (at + n) buffer =
-    drop-put_mid at (at + k - at) buffer front (at + n) (omega arith) (omega arith) width in
+    drop-put_mid at (at + k - at) buffer prefix (at + n) (omega arith) (omega arith) width in
     let last : k ≡ at + n - m = omega (arith, place, low) in
     let all : m + k ≡ at + n = omega (arith, place, low) in
     let pasted : put_mid m (at + n - m) one back ≡ take m one ++ take k back ++ drop (m + k) one =
@@ -80,9 +80,9 @@ take-copy_found buffer bytes at h =
     (refl, take-copy buffer bytes at (omega (arith, h, at_len)))
 
 -- `take-append_seam` for `grind`: the bytes that a list begins with
-pub take-append_found : (bytes behind : List ℕ) →
-    Found (bytes ++ behind) (take (length bytes) (bytes ++ behind) ≡ bytes)
-take-append_found bytes behind = (refl, take-append_seam bytes behind)
+pub take-append_found : (bytes suffix : List ℕ) →
+    Found (bytes ++ suffix) (take (length bytes) (bytes ++ suffix) ≡ bytes)
+take-append_found bytes suffix = (refl, take-append_seam bytes suffix)
 
 -- The second copy of `copy_overlapping` may be cut by a range.
 pub ruleset for_copy_overlapping = (copy_overlapping-is, take_rest)

@@ -4,7 +4,7 @@ use Rattle.std.proofs.Math.Nat.{add-mod-mod, mod-eq_of_lt}
 use Rattle.std.proofs.lemmas.List.{take_all, take_rest, length-take-le, length-take}
 use Rattle.sketch_base.specs.Bytes.{le, low_bytes, AreBytes}
 use Rattle.sketch_base.proofs.BytesLemmas.{bytes_known, low_bytes-take, length-low_bytes, le-lt, le-again, low_bytes-le, IsByte, to_le_bytes-is}
-use Rattle.sketch_hash.proofs.NumberLemmas.{number-lt, kept-lt, take-low_bytes, le-front, le_take-lt, pow_eight, joined-lt, low_bytes-joined, le-drop, block_words-filled, words-lt, words-number}
+use Rattle.sketch_hash.proofs.NumberLemmas.{number-lt, kept-lt, take-low_bytes, le-prefix, le_take-lt, pow_eight, joined-lt, low_bytes-joined, le-drop, block_words-filled, words-lt, words-number}
 use Rattle.sketch_hash.specs.Pieces.{State, pieces, rest}
 use Rattle.sketch_hash.specs.Murmur.{step, murmur_after, block_words, Waits}
 use Rattle.std.proofs.lemmas.List.Elements.{All-drop}
@@ -79,19 +79,19 @@ pub waits-rest : (count : ℕ) (bytes : List ℕ) → ((i : ℕ) → Fits w8 (ge
 waits-rest count bytes known begun full =
     let are = bytes_known bytes known in
     let missing : ℕ = 16 - count in
-    let behind : List ℕ = drop missing bytes in
-    let behind_are : AreBytes behind = All-drop IsByte missing bytes are in
+    let suffix : List ℕ = drop missing bytes in
+    let suffix_are : AreBytes suffix = All-drop IsByte missing bytes are in
     let within : missing ≤ length bytes = omega (arith, full) in
-    let size : length behind ≡ count + length bytes - 16 =
+    let size : length suffix ≡ count + length bytes - 16 =
     length-drop missing bytes ∙ omega (arith, begun, full) in
-    let quotient : le bytes / 2 ^ (8 * missing) ≡ le behind =
+    let quotient : le bytes / 2 ^ (8 * missing) ≡ le suffix =
     ap (λ p. le bytes / p) (pow_eight missing) ∙ sym (le-drop missing bytes are within) in
-    let below : le behind < 256 ^ (count + length bytes - 16) =
-    subst (λ n. le behind < 256 ^ n) size (le-lt behind behind_are) in (
+    let below : le suffix < 256 ^ (count + length bytes - 16) =
+    subst (λ n. le suffix < 256 ^ n) size (le-lt suffix suffix_are) in (
       refl,
       rw quotient
-          (number_waits (count + length bytes - 16) (le behind) behind below
-          (le-again _ behind behind_are size)),
+          (number_waits (count + length bytes - 16) (le suffix) suffix below
+          (le-again _ suffix suffix_are size)),
     )
 
 pub waits-bytes : (bytes : List ℕ) → ((i : ℕ) → Fits w8 (get_or bytes i 0)) →
@@ -110,7 +110,7 @@ waits-prefix count block known low size =
     let are = bytes_known block known in
     let within : count ≤ length block = omega (arith, size, low) in (
       refl,
-      rw (le-front count block are low within)
+      rw (le-prefix count block are low within)
           (number_waits count (le (take count block)) (take count block) (le_take-lt count block are within)
           (low_bytes-take count block are within)),
     )
@@ -172,11 +172,11 @@ pub ruleset for_complete_block = (waiting_size, take_all, after_fills, block_wor
 
 pub ruleset for_write = (waiting_size, written_after)
 
-pub last_count : (count total : ℕ) (last behind bytes : List ℕ) → count ≡ total % 16 →
+pub last_count : (count total : ℕ) (last suffix bytes : List ℕ) → count ≡ total % 16 →
     16 ≤ length bytes →
-    last ≡ rest 16 behind → behind ≡ drop (16 - count) bytes →
+    last ≡ rest 16 suffix → suffix ≡ drop (16 - count) bytes →
     length last ≡ (total + length bytes) % 2 ^ 64 % 16
-last_count count total last behind bytes at enough is cut =
+last_count count total last suffix bytes at enough is cut =
     let left : List ℕ = drop (16 - count) bytes in
     let size : length last ≡ length left - length left / 16 * 16 =
     ap length (is ∙ ap (rest 16) cut) ∙ length_rest 16 left in

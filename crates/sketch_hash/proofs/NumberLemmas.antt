@@ -80,9 +80,9 @@ le-take n bytes b h =
     ∙ mod-eq_of_lt (le_take-lt n bytes b h))
 
 -- the number of the first bytes, as a remainder of words of 128 bits
-pub le-front : (n : ℕ) (bytes : List ℕ) → AreBytes bytes → n < 16 → n ≤ length bytes →
+pub le-prefix : (n : ℕ) (bytes : List ℕ) → AreBytes bytes → n < 16 → n ≤ length bytes →
     le bytes % (1 * 2 ^ (8 * n) % 2 ^ 128) ≡ le (take n bytes)
-le-front n bytes b low h =
+le-prefix n bytes b low h =
     let less : 8 * n < 128 = omega (arith, low) in
     let below : 1 * 2 ^ (8 * n) < 2 ^ 128 = rw (one-mul (2 ^ (8 * n))) (pow-lt less) in
     ap (λ m. le bytes % m) (mod-eq_of_lt below ∙ one-mul (2 ^ (8 * n)) ∙ pow_eight n)
@@ -97,10 +97,10 @@ le-ends w bytes b low high =
     let long : length back ≡ n - (n - w) = length-drop (n - w) bytes in
     let within : w + w - n ≤ length back = omega (arith, long) in
     let all : (n - w) + (w + w - n) ≡ w = omega arith in
-    let behind : drop (w + w - n) back ≡ drop w bytes = drop-drop (w + w - n) (n - w) bytes
+    let dropped : drop (w + w - n) back ≡ drop w bytes = drop-drop (w + w - n) (n - w) bytes
     ∙ ap (λ k. drop k bytes) all in
     let quotient = le-drop (w + w - n) back (All-drop IsByte (n - w) bytes b) within in
-    ap (λ v. le (take w bytes) + v * 256 ^ w) (sym quotient ∙ ap le behind) ∙ sym (le-cut w bytes low)
+    ap (λ v. le (take w bytes) + v * 256 ^ w) (sym quotient ∙ ap le dropped) ∙ sym (le-cut w bytes low)
 
 -- the number of 4 to 7 bytes, from those of their first and of their last four, which ranges cut
 pub fours_le : (bytes : List ℕ) → ((i : ℕ) → Fits w8 (get_or bytes i 0)) → 4 ≤ length bytes →
@@ -118,15 +118,15 @@ pub combined : (w count first last shift : ℕ) → w ≤ 4 → first < 256 ^ w 
     ≡ first + last / 256 ^ (w + w - count) * 256 ^ w
 combined w count first last shift narrow low high is =
     let s = w + w - count in
-    let behind : ℕ = last / 2 ^ (8 * s) in
+    let upper : ℕ = last / 2 ^ (8 * s) in
     let less = shr_le last (8 * s) in
-    let small : behind < 2 ^ 32 = omega (arith, high, less) in
+    let small : upper < 2 ^ 32 = omega (arith, high, less) in
     let within : 32 + 8 * w ≤ 64 = omega (arith, narrow) in
-    let whole = shl_whole behind 32 (8 * w) 64 small within in
+    let whole = shl_whole upper 32 (8 * w) 64 small within in
     let below : first < 2 ^ (8 * w) = subst (λ p. first < p) (sym (pow_eight w)) low in
-    let joined : behind * 2 ^ (8 * w) + first ≡ first + behind * 256 ^ w =
-    add_comm (behind * 2 ^ (8 * w)) first ∙ ap (λ p. first + behind * p) (pow_eight w) in
-    rw (is, whole, or_shifted_r behind (8 * w) first below)
+    let joined : upper * 2 ^ (8 * w) + first ≡ first + upper * 256 ^ w =
+    add_comm (upper * 2 ^ (8 * w)) first ∙ ap (λ p. first + upper * p) (pow_eight w) in
+    rw (is, whole, or_shifted_r upper (8 * w) first below)
     (joined ∙ ap (λ p. first + last / p * 256 ^ w) (pow_eight s))
 
 -- the words of the number that two words make are those two
@@ -198,26 +198,26 @@ le-block : (count n : ℕ) (bytes : List ℕ) → AreBytes bytes → n < 256 ^ c
     (n + le (take 16 bytes) * 256 ^ count) % 2 ^ 128 ≡ le (low_bytes count n ++ take (16 - count) bytes)
 le-block count n bytes b h low high =
     let missing : ℕ = 16 - count in
-    let front : List ℕ = take missing bytes in
+    let prefix : List ℕ = take missing bytes in
     let wide : List ℕ = take 16 bytes in
-    let behind : ℕ = le (drop missing wide) in
-    let missing_len : length front ≡ missing = length-take-le missing bytes (omega arith) in
+    let upper : ℕ = le (drop missing wide) in
+    let missing_len : length prefix ≡ missing = length-take-le missing bytes (omega arith) in
     let within : missing ≤ length wide = missing_within missing bytes (omega arith) (omega arith) in
-    let cut : le wide ≡ le front + behind * 256 ^ missing =
+    let cut : le wide ≡ le prefix + upper * 256 ^ missing =
     le-cut missing wide within
-    ∙ ap (λ t. le t + behind * 256 ^ missing) (take-take missing 16 bytes (omega arith)) in
+    ∙ ap (λ t. le t + upper * 256 ^ missing) (take-take missing 16 bytes (omega arith)) in
     let all : 256 ^ missing * 256 ^ count ≡ 2 ^ 128 =
     sym (pow-add 256 missing count) ∙ ap (λ k. 256 ^ k) (sub-add_cancel low) in
-    let block : List ℕ = low_bytes count n ++ front in
-    let front_are : AreBytes front = All-take IsByte missing bytes b in
-    let size : length block ≡ 16 = joined-length count n front ∙ omega (arith, missing_len) in
+    let block : List ℕ = low_bytes count n ++ prefix in
+    let prefix_are : AreBytes prefix = All-take IsByte missing bytes b in
+    let size : length block ≡ 16 = joined-length count n prefix ∙ omega (arith, missing_len) in
     let below : le block < 2 ^ 128 =
-    subst (λ k. le block < 256 ^ k) size (le-lt block (joined-are count n front front_are)) in
+    subst (λ k. le block < 256 ^ k) size (le-lt block (joined-are count n prefix prefix_are)) in
     ap (λ v. (n + v * 256 ^ count) % 2 ^ 128) cut
-    ∙ ap (λ v. v % 2 ^ 128) (spread n (le front) behind (256 ^ missing) (256 ^ count)
-    ∙ ap (λ p. n + le front * 256 ^ count + behind * p) all
-    ∙ ap (λ v. v + behind * 2 ^ 128) (sym (le-joined count n front h)))
-    ∙ add-mul-mod_self_right (le block) behind (2 ^ 128) ∙ mod-eq_of_lt below
+    ∙ ap (λ v. v % 2 ^ 128) (spread n (le prefix) upper (256 ^ missing) (256 ^ count)
+    ∙ ap (λ p. n + le prefix * 256 ^ count + upper * p) all
+    ∙ ap (λ v. v + upper * 2 ^ 128) (sym (le-joined count n prefix h)))
+    ∙ add-mul-mod_self_right (le block) upper (2 ^ 128) ∙ mod-eq_of_lt below
   where
     spread : (n a b p q : ℕ) → n + (a + b * p) * q ≡ n + a * q + b * (p * q)
     spread n a b p q = omega arith
@@ -286,12 +286,12 @@ pub block_words-filled : (count n : ℕ) (bytes : List ℕ) → AreBytes bytes �
       (n + le (take 16 bytes) * 256 ^ count) % 2 ^ 128 / 2 ^ 64,
     )
 block_words-filled count n bytes b h low high =
-    let front : List ℕ = take (16 - count) bytes in
-    let front_are : AreBytes front = All-take IsByte (16 - count) bytes b in
-    let front_len = length-take-le (16 - count) bytes (omega arith) in
-    let size : length (low_bytes count n ++ front) ≡ 16 =
-    joined-length count n front ∙ omega (arith, front_len) in
-    block_words-le (low_bytes count n ++ front) (joined-are count n front front_are) size
+    let prefix : List ℕ = take (16 - count) bytes in
+    let prefix_are : AreBytes prefix = All-take IsByte (16 - count) bytes b in
+    let prefix_len = length-take-le (16 - count) bytes (omega arith) in
+    let size : length (low_bytes count n ++ prefix) ≡ 16 =
+    joined-length count n prefix ∙ omega (arith, prefix_len) in
+    block_words-le (low_bytes count n ++ prefix) (joined-are count n prefix prefix_are) size
     ∙ ap (λ v. (v % 2 ^ 64, v / 2 ^ 64)) (sym (le-block count n bytes b h (omega arith) high))
 
 -- the first of a number's lowest bytes

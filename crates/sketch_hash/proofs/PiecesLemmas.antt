@@ -118,15 +118,15 @@ rest_cut w bytes p = (refl, rest-lt w bytes p)
 pub ruleset for_split_pieces = (chunks_cut, rest_cut)
 
 -- two parts that are one piece, or less
-pub joined_piece : (w : ℕ) (held front : List ℕ) → 0 < w → length held + length front ≡ w →
-    pieces w (held ++ front) ≡ (held ++ front) ∷ []
-joined_piece w held front p h = pieces_one w (held ++ front) p (length-append held front ∙ h)
+pub joined_piece : (w : ℕ) (waiting prefix : List ℕ) → 0 < w → length waiting + length prefix ≡ w →
+    pieces w (waiting ++ prefix) ≡ (waiting ++ prefix) ∷ []
+joined_piece w waiting prefix p h = pieces_one w (waiting ++ prefix) p (length-append waiting prefix ∙ h)
 
-pub no_piece : (w : ℕ) (held front : List ℕ) → length held + length front < w →
-    pieces w (held ++ front) ≡ []
-no_piece w held front h =
-    let short : length (held ++ front) < w = rw (length-append held front) h in
-    pieces_short w (held ++ front) short
+pub no_piece : (w : ℕ) (waiting prefix : List ℕ) → length waiting + length prefix < w →
+    pieces w (waiting ++ prefix) ≡ []
+no_piece w waiting prefix h =
+    let short : length (waiting ++ prefix) < w = rw (length-append waiting prefix) h in
+    pieces_short w (waiting ++ prefix) short
 
 -- The general case covers an empty write.
 state_after-is : {P R : Type 0} (w : ℕ) (read : List ℕ → R) (f : P → R →
@@ -200,15 +200,15 @@ pub state_after-through : {P R : Type 0} (w : ℕ) (read : List ℕ → R) (f : 
     }
 unfolding absorb
 state_after-through w read f state bytes k p t short h full =
-    let front : List ℕ = state.waiting ++ take k bytes in
-    let behind : List ℕ = drop k bytes in
-    let all : state.waiting ++ bytes ≡ front ++ behind =
+    let prefix : List ℕ = state.waiting ++ take k bytes in
+    let suffix : List ℕ = drop k bytes in
+    let all : state.waiting ++ bytes ≡ prefix ++ suffix =
     ap (λ b. state.waiting ++ b) (sym (take-append-drop k bytes))
-    ∙ sym (append_assoc state.waiting (take k bytes) behind) in
-    let none = rest_one w front p full in
-    let cut = pieces-aligned w front behind p none in
-    let one = pieces_one w front p full in
-    state_after-is w read f state bytes short t ∙ rw (all, cut, one, rest-aligned w front behind p none) refl
+    ∙ sym (append_assoc state.waiting (take k bytes) suffix) in
+    let none = rest_one w prefix p full in
+    let cut = pieces-aligned w prefix suffix p none in
+    let one = pieces_one w prefix p full in
+    state_after-is w read f state bytes short t ∙ rw (all, cut, one, rest-aligned w prefix suffix p none) refl
 
 pub piece_laws : PieceLaws
 piece_laws = record {

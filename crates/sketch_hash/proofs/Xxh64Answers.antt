@@ -146,9 +146,9 @@ pub fold_pair : (hash : ℕ) (bytes : List ℕ) → 16 ≤ length bytes →
     ≡ fold tail_step (eight_step (eight_step hash (le (take 8 bytes))) (le (take 8 (drop 8 bytes))))
     (steps (drop 8 (drop 8 bytes)))
 fold_pair hash bytes h =
-    let behind : 8 ≤ length (drop 8 bytes) = rw (length-drop 8 bytes) (omega arith) in
+    let enough : 8 ≤ length (drop 8 bytes) = rw (length-drop 8 bytes) (omega arith) in
     fold_eight hash bytes (omega arith)
-    ∙ fold_eight (eight_step hash (le (take 8 bytes))) (drop 8 bytes) behind
+    ∙ fold_eight (eight_step hash (le (take 8 bytes))) (drop 8 bytes) enough
 
 pub fold_word : (hash : ℕ) (bytes : List ℕ) → 4 ≤ length bytes → length bytes < 8 →
     fold tail_step hash (steps bytes) ≡ fold byte_step (four_step hash (le (take 4 bytes))) (drop 4 bytes)
@@ -159,9 +159,9 @@ fold_word hash bytes low high =
     let all = rest_short 8 bytes high in
     let four = pieces-first 4 bytes (omega arith) low in
     let no_other = pieces_short 4 (drop 4 bytes) short in
-    let behind = rest-first 4 bytes (omega arith) low ∙ rest_short 4 (drop 4 bytes) short in
+    let rest_four = rest-first 4 bytes (omega arith) low ∙ rest_short 4 (drop 4 bytes) short in
     let singles = steps_of_one (drop 4 bytes) in
-    rw (no_eight, all, four, no_other, behind, singles)
+    rw (no_eight, all, four, no_other, rest_four, singles)
     (fold-map tail_step (λ b. (1, b)) (four_step hash (le (take 4 bytes))) (drop 4 bytes))
 
 -- a tail of three bytes at most has a step for each byte
@@ -172,9 +172,9 @@ fold_few hash bytes h =
     let no_eight = pieces_short 8 bytes (omega arith) in
     let all = rest_short 8 bytes (omega arith) in
     let no_four = pieces_short 4 bytes h in
-    let behind = rest_short 4 bytes h in
+    let rest_four = rest_short 4 bytes h in
     let singles = steps_of_one bytes in
-    rw (no_eight, all, no_four, behind, singles) (fold-map tail_step (λ b. (1, b)) hash bytes)
+    rw (no_eight, all, no_four, rest_four, singles) (fold-map tail_step (λ b. (1, b)) hash bytes)
 
 -- no bytes are no step of the tail
 pub no_steps : (hash : ℕ) (tail : List ℕ) → length tail ≡ 0 → fold tail_step hash (steps tail) ≡ hash

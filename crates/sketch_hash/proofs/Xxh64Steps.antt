@@ -24,13 +24,13 @@ steps_of-are w bytes m h =
 pub steps-are : (waiting : List ℕ) → AreBytes waiting → All IsStep (steps waiting)
 unfolding steps
 steps-are waiting h =
-    let behind = rest 8 waiting in
-    let behind_are = rest-are 8 waiting h in
+    let suffix = rest 8 waiting in
+    let suffix_are = rest-are 8 waiting h in
     let eights = steps_of-are 8 waiting (omega arith) h in
-    let fours = steps_of-are 4 behind (omega arith) behind_are in
-    let ones = steps_of-are 1 (rest 4 behind) (omega arith) (rest-are 4 behind behind_are) in
-    All-append IsStep (steps_of 8 waiting ++ steps_of 4 behind) (steps_of 1 (rest 4 behind))
-    (All-append IsStep (steps_of 8 waiting) (steps_of 4 behind) eights fours) ones
+    let fours = steps_of-are 4 suffix (omega arith) suffix_are in
+    let ones = steps_of-are 1 (rest 4 suffix) (omega arith) (rest-are 4 suffix suffix_are) in
+    All-append IsStep (steps_of 8 waiting ++ steps_of 4 suffix) (steps_of 1 (rest 4 suffix))
+    (All-append IsStep (steps_of 8 waiting) (steps_of 4 suffix) eights fours) ones
 
 widths-steps_of : (w : ℕ) (bytes : List ℕ) → step_widths (steps_of w bytes) ≡ replicate (length bytes / w) w
 unfolding pieces

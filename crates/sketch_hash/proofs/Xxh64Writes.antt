@@ -48,14 +48,14 @@ after-partial : (s : State (ℕ × Lanes)) (bytes : List ℕ) (missing : ℕ) �
     }
 unfolding xxh64_after
 after-partial s bytes missing t p e h =
-    let front : List ℕ = take missing bytes in
-    let behind : List ℕ = drop missing bytes in
-    let full : length (s.waiting ++ front) ≡ 32 =
-    length-append s.waiting front ∙ ap (λ n. length s.waiting + n) (length-take-le missing bytes h) ∙ e in
+    let prefix : List ℕ = take missing bytes in
+    let suffix : List ℕ = drop missing bytes in
+    let full : length (s.waiting ++ prefix) ≡ 32 =
+    length-append s.waiting prefix ∙ ap (λ n. length s.waiting + n) (length-take-le missing bytes h) ∙ e in
     let short : length s.waiting < 32 = omega (arith, e, p) in
     state_after-through 32 (λ stripe. stripe) seeded_step s bytes missing (omega arith) t short h full
-    ∙ ap (λ v. record { folded = v; total = (s.total + length bytes) % 2 ^ 64; waiting = rest 32 behind })
-    (folded (seeded_step s.folded (s.waiting ++ front)) behind)
+    ∙ ap (λ v. record { folded = v; total = (s.total + length bytes) % 2 ^ 64; waiting = rest 32 suffix })
+    (folded (seeded_step s.folded (s.waiting ++ prefix)) suffix)
 
 -- If the buffered and the new bytes fill no stripe, all are buffered.
 pub write_within : (s : State (ℕ × Lanes)) (bytes : List ℕ) → s.total < 2 ^ 64 →
@@ -116,11 +116,11 @@ write_across seed total count v buffer bytes below low size enough =
     let s : State (ℕ × Lanes) =
     record { folded = (seed, v); total = total; waiting = take count buffer } in
     let waits : length s.waiting ≡ count = length-take-le count buffer (omega (arith, low, size)) in
-    let front_len : length (take missing bytes) ≡ missing = length-take-le missing bytes enough in
+    let prefix_len : length (take missing bytes) ≡ missing = length-take-le missing bytes enough in
     elim (cases_lt 0 missing) [
       | inl begun ↦
           let full : length s.waiting + missing ≡ 32 = omega (arith, waits, begun) in
-          let both : length s.waiting + length (take missing bytes) ≡ 32 = omega (arith, full, front_len) in
+          let both : length s.waiting + length (take missing bytes) ≡ 32 = omega (arith, full, prefix_len) in
           rw (joined_piece 32 s.waiting (take missing bytes) (omega arith) both)
           (after-partial s bytes missing below begun full enough)
       | inr none ↦

@@ -20,20 +20,20 @@ first_pieces-append (suc n) m w xs ys h =
     let others : n * w ≤ length (drop w xs) = rw (length-drop w xs) (omega (arith, more)) in
     let further : drop (n * w) (drop w xs) ≡ drop (suc n * w) xs = drop-drop (n * w) w xs
     ∙ ap (λ k. drop k xs) (omega (arith, more)) in
-    let pieces_behind = first_pieces-append n m w (drop w xs) ys others in
-    let front = take-append-le w xs ys first in
-    let behind = drop-append-le w xs ys first in
-    rw (suc-add n m, front, behind, pieces_behind, further) refl
+    let pieces_suffix = first_pieces-append n m w (drop w xs) ys others in
+    let prefix = take-append-le w xs ys first in
+    let suffix = drop-append-le w xs ys first in
+    rw (suc-add n m, prefix, suffix, pieces_suffix, further) refl
 
 -- how many pieces two joined lists have
 piece_count : (w : ℕ) (xs ys : List ℕ) → 0 < w →
     length (xs ++ ys) / w ≡ length xs / w + length (drop (length xs / w * w) xs ++ ys) / w
 piece_count w xs ys p =
     let within : length xs / w * w ≤ length xs = div-mul-le_self (length xs) w in
-    let behind = drop (length xs / w * w) xs in
-    let split : length (xs ++ ys) ≡ length xs / w * w + length (behind ++ ys) =
-    rw (length-append behind ys, length-drop, length-append xs ys) (omega arith) in
-    ap (λ n. n / w) split ∙ mul-add-div_right p (length xs / w) (length (behind ++ ys))
+    let suffix = drop (length xs / w * w) xs in
+    let split : length (xs ++ ys) ≡ length xs / w * w + length (suffix ++ ys) =
+    rw (length-append suffix ys, length-drop, length-append xs ys) (omega arith) in
+    ap (λ n. n / w) split ∙ mul-add-div_right p (length xs / w) (length (suffix ++ ys))
 
 -- the full pieces of joined lists are those of the first, and those of its rest with the second
 pub pieces-append : (w : ℕ) (xs ys : List ℕ) → 0 < w →
@@ -59,15 +59,15 @@ pub absorb-append : {P R : Type 0} (w : ℕ) (read : List ℕ → R) (f : P → 
     absorb w read f (absorb w read f state xs) ys ≡ absorb w read f state (xs ++ ys)
 unfolding absorb
 absorb-append w read f p state xs ys =
-    let held = state.waiting ++ xs in
-    let first = pieces w held in
-    let others = pieces w (rest w held ++ ys) in
-    let joined : state.waiting ++ (xs ++ ys) ≡ held ++ ys =
+    let so_far = state.waiting ++ xs in
+    let first = pieces w so_far in
+    let others = pieces w (rest w so_far ++ ys) in
+    let joined : state.waiting ++ (xs ++ ys) ≡ so_far ++ ys =
     sym (append_assoc state.waiting xs ys) in
-    let all = pieces-append w held ys p in
+    let all = pieces-append w so_far ys p in
     let read_all = map-append read first others in
     let folded = fold-append f state.folded (map read first) (map read others) in
-    let left = rest-append w held ys p in
+    let left = rest-append w so_far ys p in
     let count = counted state.total (length xs) (length ys) in
     rw (joined, all, read_all, folded, left, length-append xs ys, count) refl
   where

@@ -14,25 +14,25 @@ use Rattle.sketch_member.specs.Table.{Table, IsTable, byte_count}
 use Rattle.sketch_member.proofs.BitLemmas.{whole_bytes}
 
 -- The first fault of two lists of steps is that of the first list, or if all of these pass, of the second.
-pub fault-front : (count : ℕ) (front others : List Step) (fault : Fault) →
-    IsFirstFault count front fault → IsFirstFault count (front ++ others) fault
-fault-front count [] others fault first = absurd first
-fault-front count (step ∷ front) others fault first = elim first [
+pub fault-prefix : (count : ℕ) (prefix others : List Step) (fault : Fault) →
+    IsFirstFault count prefix fault → IsFirstFault count (prefix ++ others) fault
+fault-prefix count [] others fault first = absurd first
+fault-prefix count (step ∷ prefix) others fault first = elim first [
   | inl here ↦ inl here
-  | inr later ↦ inr (later.0, fault-front count front others fault later.1)
+  | inr later ↦ inr (later.0, fault-prefix count prefix others fault later.1)
 ]
 
-pub fault-later : (count : ℕ) (front others : List Step) (fault : Fault) →
-    AllPass count front → IsFirstFault count others fault → IsFirstFault count (front ++ others) fault
+pub fault-later : (count : ℕ) (prefix others : List Step) (fault : Fault) →
+    AllPass count prefix → IsFirstFault count others fault → IsFirstFault count (prefix ++ others) fault
 fault-later count [] others fault pass first = first
-fault-later count (step ∷ front) others fault pass first =
-    inr (pass.0, fault-later count front others fault pass.1 first)
+fault-later count (step ∷ prefix) others fault pass first =
+    inr (pass.0, fault-later count prefix others fault pass.1 first)
 
-pub all_pass-append : (count : ℕ) (front others : List Step) →
-    AllPass count front → AllPass count others → AllPass count (front ++ others)
+pub all_pass-append : (count : ℕ) (prefix others : List Step) →
+    AllPass count prefix → AllPass count others → AllPass count (prefix ++ others)
 all_pass-append count [] others pass more = more
-all_pass-append count (step ∷ front) others pass more =
-    (pass.0, all_pass-append count front others pass.1 more)
+all_pass-append count (step ∷ prefix) others pass more =
+    (pass.0, all_pass-append count prefix others pass.1 more)
 
 -- one of the two numbers of a list
 either : (m n x : ℕ) → Contains (m ∷ n ∷ []) x → (x ≡ m) ⊎ (x ≡ n)
@@ -62,7 +62,7 @@ next_eight bytes place are there =
     low_bytes-take 8 (drop place bytes) (All-drop (λ b. b < 256) place bytes are)
     (omega (arith, length-drop place bytes)) in
     sym (take-append-drop 8 (drop place bytes))
-    ∙ ap (λ front. front ++ drop 8 (drop place bytes)) (sym back)
+    ∙ ap (λ prefix. prefix ++ drop 8 (drop place bytes)) (sym back)
     ∙ ap (λ rest. eight (le (take 8 (drop place bytes))) ++ rest) (drop-drop 8 place bytes)
 
 -- a count of the flag 0
@@ -145,14 +145,14 @@ pub first_fault-kind : (bytes : List ℕ) (fault : Fault) →
     IsFirstFault (length bytes) (kind_steps bytes) fault →
     IsFirstFault (length bytes) (steps bytes) fault
 first_fault-kind bytes fault first =
-    fault-front (length bytes) (kind_steps bytes) (later_steps bytes) fault first
+    fault-prefix (length bytes) (kind_steps bytes) (later_steps bytes) fault first
 
 pub first_fault-sizes : (bytes : List ℕ) (fault : Fault) → AllPass (length bytes) (kind_steps bytes) →
     IsFirstFault (length bytes) (size_steps bytes) fault →
     IsFirstFault (length bytes) (steps bytes) fault
 first_fault-sizes bytes fault kind first =
     fault-later (length bytes) (kind_steps bytes) (later_steps bytes) fault kind
-    (fault-front (length bytes) (size_steps bytes) (last_steps bytes) fault first)
+    (fault-prefix (length bytes) (size_steps bytes) (last_steps bytes) fault first)
 
 -- the first fault of the steps after the sizes, if those before them pass, is that of all
 after_sizes : (bytes : List ℕ) (fault : Fault) → AllPass (length bytes) (kind_steps bytes) →
@@ -169,7 +169,7 @@ pub first_fault-numbers : (bytes : List ℕ) (fault : Fault) → AllPass (length
     IsFirstFault (length bytes) (steps bytes) fault
 first_fault-numbers bytes fault kind sizes first =
     after_sizes bytes fault kind sizes
-    (fault-front (length bytes) (number_steps bytes) (bits_steps bytes (header_length bytes)
+    (fault-prefix (length bytes) (number_steps bytes) (bits_steps bytes (header_length bytes)
     (byte_count (get_or bytes 3 0))) fault first)
 
 -- If the header passes, the first fault of the bits is the first of all.

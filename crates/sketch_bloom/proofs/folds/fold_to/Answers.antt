@@ -3,7 +3,7 @@ use Rattle.std.proofs.Common.{length-append}
 use Rattle.std.proofs.lemmas.List.{length-take-le, take-append-le}
 use Rattle.std.proofs.Math.Seq.{take-length}
 use Rattle.sketch_bloom.specs.Filter.{IsFoldable}
-use Rattle.sketch_bloom.specs.Rate.{fold, whole}
+use Rattle.sketch_bloom.specs.FoldRate.{fold, whole}
 use Rattle.sketch_bloom.proofs.folds.fold_to.Goals as goal
 
 pub loop-bytes-init : goal.loop-bytes-init

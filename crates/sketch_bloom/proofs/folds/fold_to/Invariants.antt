@@ -1,6 +1,6 @@
 use Rattle.std.proofs.Common.{◌≤◌, length, take}
 use Rattle.sketch_bloom.specs.Filter.{IsLength}
-use Rattle.sketch_bloom.specs.Rate.{FoldsWithin}
+use Rattle.sketch_bloom.specs.FoldRate.{FoldsWithin}
 use Rattle.sketch_bloom.proofs.folds.fold_to.Given as goal
 
 -- the first bytes are the filter that was folded so far

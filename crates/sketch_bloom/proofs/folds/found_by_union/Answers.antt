@@ -1,6 +1,6 @@
 use Rattle.std.proofs.Common.{◌≤◌, refl, ◌∙◌, arith}
-use Rattle.sketch_bloom.specs.Rate.{found_by_words}
-use Rattle.sketch_bloom.proofs.RateLemmas.{few_ones, product_fits, product_is, product_le, word_of_union}
+use Rattle.sketch_bloom.specs.FoldRate.{found_by_words}
+use Rattle.sketch_bloom.proofs.FoldRateLemmas.{few_ones, product_fits, product_is, product_le, word_of_union}
 use Rattle.sketch_bloom.proofs.folds.found_by_union.Goals as goal
 
 pub loop-w-init : goal.loop-w-init

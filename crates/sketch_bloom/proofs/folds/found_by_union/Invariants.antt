@@ -1,6 +1,6 @@
 use Rattle.std.proofs.Common.{◌≡◌, ℕ, ◌^◌, ◌≤◌, List}
 use Rattle.sketch_bloom.specs.Filter.{Folds}
-use Rattle.sketch_bloom.specs.Rate.{found_by_words}
+use Rattle.sketch_bloom.specs.FoldRate.{found_by_words}
 use Rattle.sketch_bloom.proofs.folds.found_by_union.Given as goal
 
 -- the product over the first words

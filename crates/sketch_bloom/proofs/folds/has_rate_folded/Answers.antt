@@ -1,6 +1,6 @@
 use Rattle.std.proofs.Common.{refl, ◌∙◌, arith}
-use Rattle.sketch_bloom.specs.Rate.{found_by_blocks}
-use Rattle.sketch_bloom.proofs.RateLemmas.{sum_is}
+use Rattle.sketch_bloom.specs.FoldRate.{found_by_blocks}
+use Rattle.sketch_bloom.proofs.FoldRateLemmas.{sum_is}
 use Rattle.sketch_bloom.proofs.folds.has_rate_folded.Goals as goal
 
 pub loop-k-init : goal.loop-k-init

@@ -1,6 +1,6 @@
 use Rattle.std.proofs.Common.{◌≡◌, ℕ, ◌*◌, ◌^◌, ◌≤◌, List}
 use Rattle.sketch_bloom.specs.Filter.{Folds}
-use Rattle.sketch_bloom.specs.Rate.{found_by_blocks}
+use Rattle.sketch_bloom.specs.FoldRate.{found_by_blocks}
 use Rattle.sketch_bloom.proofs.folds.has_rate_folded.Given as goal
 
 -- the sum over the first blocks

@@ -2,7 +2,7 @@ use Rattle.std.proofs.Common.{◌≡◌, ◌+◌, ◌-◌, ◌/◌, ◌<◌, ℕ
 use Rattle.std.proofs.lemmas.Bool.{cases_lt}
 use Rattle.std.proofs.lemmas.List.{get_or_past}
 use Rattle.std.proofs.lemmas.Simd.{get_or-chunk}
-use Rattle.sketch_bloom.proofs.RateLemmas.{digit_of_word}
+use Rattle.sketch_bloom.proofs.FoldRateLemmas.{digit_of_word}
 use Rattle.sketch_bloom.proofs.folds.word.Goals as goal
 
 pub returns : goal.returns

@@ -8,7 +8,7 @@ use Rattle.std.proofs.lemmas.Nat.{le_bytes_4, mul-le, ones-le, or_lt}
 use Rattle.std.proofs.lemmas.Nat.Bits.{bit_at-lt, bit_at-suc, bit_at_or}
 use Rattle.sketch_bloom.proofs.BlockLemmas.{digit_of_byte}
 use Rattle.sketch_bloom.specs.Filter.{Folds}
-use Rattle.sketch_bloom.specs.Rate.{found_by_blocks, found_by_words, set_bits}
+use Rattle.sketch_bloom.specs.FoldRate.{found_by_blocks, found_by_words, set_bits}
 
 -- digit i of a filter
 abbrev pub bit_of : List ℕ → ℕ → ℕ
