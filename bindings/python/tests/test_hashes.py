@@ -114,13 +114,6 @@ def test_another_init_that_raises_changes_nothing(kind, args):
     assert (hasher.digest(), hasher.seed) == (kind(b"fox", 9).digest(), 9)
 
 
-@pytest.mark.parametrize("kind", KINDS)
-def test_a_subclass_without_init_has_the_seed_0(kind):
-    hasher = type("Silent", (kind,), {"__init__": lambda _: None})()
-    hasher.update(FOX)
-    assert hasher.digest() == kind(FOX).digest() and hasher.seed == 0
-
-
 def test_an_input_may_be_longer_than_4_gib():
     """The zeros take no memory, since they are never written."""
     flags = mmap.MAP_PRIVATE | mmap.MAP_ANONYMOUS | MAP_NORESERVE

@@ -1,9 +1,7 @@
 """Objects that are copied, pickled, or shared by threads and signal handlers; the GIL; seeds."""
 import array
-import copy
 import fractions
 import signal
-import threading
 
 import pytest
 from helpers import KINDS, ONE_CALL, WAYS, assert_releases_the_gil, in_threads
@@ -28,38 +26,11 @@ def test_a_copy_is_independent(kind, way):
         assert second.digest() == kind(seed=seed).digest()
 
 
-class Named(xxh64):
-    pass
-
-
-class Seen(BloomFilter):
-    __slots__ = "note", "__dict__"
-
-
-@pytest.mark.parametrize("make", [lambda: Named(b"fox"), lambda: Seen(32)], ids=["Named", "Seen"])
-@pytest.mark.parametrize("way", WAYS)
-def test_a_copy_keeps_what_a_subclass_has_added(make, way):
-    subject = make()
-    subject.note, subject.path = ["a note"], "seen.bloom"
-    copied = way(subject)
-    assert type(copied) is type(subject) and (copied.note, copied.path) == (subject.note, subject.path)
-    assert (copied.note is subject.note) == (way in (copy.copy, WAYS[2]))
-
-
-class Locked(BloomFilter):
-    """As a class does whose attributes cannot be pickled."""
-    def __getstate__(self):
-        return self.path
-
-    def __setstate__(self, path):
-        self.path, self.lock = path, threading.Lock()
-
-
-@pytest.mark.parametrize("way", WAYS)
-def test_a_copy_takes_the_state_that_a_subclass_gives(way):
-    subject = Locked(32)
-    subject.path, subject.lock = "seen.bloom", threading.Lock()
-    assert way(subject).path == "seen.bloom" and way(subject).lock is not subject.lock
+@pytest.mark.parametrize("kind", [*KINDS, BloomFilter])
+def test_a_class_cannot_be_subclassed(kind):
+    """So that no other code runs while a call uses the memory of an object."""
+    with pytest.raises(TypeError, match="not an acceptable base type"):
+        type("Kind", (kind,), {})
 
 
 @pytest.mark.parametrize("kind, size", [(xxh64, 80), (murmur3_x64_128, 40)])

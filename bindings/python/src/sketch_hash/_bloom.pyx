@@ -19,8 +19,6 @@ from ._locks cimport LONG, Lock, acquire, release, wait
 import operator
 import pickle
 
-from ._attributes import attributes_of, set_attributes
-
 cdef extern from "Python.h":
     const char *PyUnicode_AsUTF8AndSize(object, Py_ssize_t *) except NULL
     View *PyMemoryView_GET_BUFFER(object)
@@ -136,25 +134,16 @@ cdef size_t header_of(const View *memory, uint64_t *num_bytes) except 0:
     return header
 
 
-cdef object copy_of(object kind, const void *bits, size_t length):
-    """A filter of a kind, with a copy of the bits."""
+cdef BloomFilter copy_of(const void *bits, size_t length):
+    """A filter with a copy of the bits."""
     check_length(length)
-    cdef BloomFilter filter = empty(kind)
+    cdef BloomFilter filter = BloomFilter.__new__(BloomFilter)
     filter.adopt(PyByteArray_FromStringAndSize(<char *>bits, length), None)
     return filter
 
 
-cdef BloomFilter empty(object kind):
-    """A filter without memory. A subclass may run any code here."""
-    if kind is BloomFilter:
-        return BloomFilter.__new__(BloomFilter)
-    filter = kind.__new__(kind)
-    if not isinstance(filter, BloomFilter):
-        raise TypeError(f"{kind.__name__}.__new__ must return a BloomFilter, not {type(filter).__name__}")
-    return filter
-
-
 # The garbage collector breaks a cycle at another object, so the memory of the bits lives as long as the filter.
+@cython.final
 @cython.no_gc_clear
 cdef class BloomFilter:
     """BloomFilter(num_bytes)\n--\n\nThe split block Bloom filter of Apache Parquet, without keys: it tells whether a
@@ -238,8 +227,7 @@ cdef class BloomFilter:
     def for_keys(cls, keys, *, error_rate=None, one_in=None):
         """for_keys($type, keys, *, error_rate=None, one_in=None)\n--\n\nReturns the smallest filter whose
         false positive rate is at most this, error_rate=0.01 or one_in=100, once it has so many keys; 0.01 if both are
-        left out. Its size is a power of two. Raises ValueError if it would need more than 128 MiB. A subclass's
-        __init__ is not called."""
+        left out. Its size is a power of two. Raises ValueError if it would need more than 128 MiB."""
         if error_rate is not None and one_in is not None:
             raise TypeError("for_keys takes one of error_rate, as 0.01, and one_in, as 100")
         if one_in is None:
@@ -250,9 +238,7 @@ cdef class BloomFilter:
         if num_bytes == 0:
             raise ValueError(f"no filter of up to 128 MiB has {keys} keys and reports one in {one_in} others: "
                              "allow more, or split the keys over several filters")
-        cdef BloomFilter filter = empty(cls)
-        filter.adopt(bytearray(num_bytes), None)
-        return filter
+        return BloomFilter(num_bytes)
 
     @classmethod
     def from_bytes(cls, data):
@@ -261,7 +247,7 @@ cdef class BloomFilter:
         cdef View memory
         get_bytes(data, &memory)
         try:
-            return copy_of(cls, memory.buf, memory.len)
+            return copy_of(memory.buf, memory.len)
         finally:
             PyBuffer_Release(&memory)
 
@@ -279,7 +265,7 @@ cdef class BloomFilter:
             if num_bytes > memory.len - header:
                 raise ValueError(f"the filter is truncated: it has {num_bytes} bytes after its header, and here are "
                                  f"{memory.len - header}")
-            return copy_of(cls, <char *>memory.buf + header, num_bytes)
+            return copy_of(<char *>memory.buf + header, num_bytes)
         finally:
             PyBuffer_Release(&memory)
 
@@ -314,7 +300,7 @@ cdef class BloomFilter:
         buffer during a call: two views of one buffer do not wait for each other. The buffer keeps its length until the
         view is released: by release, at the end of a with block, or with the view itself.
         """
-        cdef BloomFilter filter = empty(cls)
+        cdef BloomFilter filter = BloomFilter.__new__(BloomFilter)
         if type(buffer) is bytes or type(buffer) is bytearray:  # with a memoryview, asking many small filters takes 9 % more
             filter.adopt(buffer, buffer)
             return filter
@@ -475,7 +461,7 @@ cdef class BloomFilter:
         release(first.lock)
         source.check(0)
         if status == OVERLAP:
-            return self.merge(duplicate(BloomFilter, source))
+            return self.merge(source.copy())
         self.check(READ_ONLY if status == READ_ONLY else 0)
         if status:
             raise ValueError(f"filters of {self.bits.len} and {source.bits.len} bytes cannot be merged: "
@@ -486,7 +472,7 @@ cdef class BloomFilter:
         """A new filter with the keys of both, which are unchanged."""
         if not isinstance(self, BloomFilter) or not isinstance(other, BloomFilter):
             return NotImplemented
-        cdef BloomFilter filter = duplicate(type(self), self)
+        cdef BloomFilter filter = self.copy()
         filter.merge(other)
         return filter
 
@@ -556,12 +542,14 @@ cdef class BloomFilter:
 
     def copy(self):
         """copy($self)\n--\n\nReturns a filter with the same keys in its own memory."""
-        return duplicate(type(self), self)
+        cdef BloomFilter filter = BloomFilter.__new__(BloomFilter)  # the garbage collector may run code that changes this one
+        wait(<void *>self.lock)
+        self.check(0)
+        filter.adopt(PyByteArray_FromStringAndSize(<char *>self.bits.buf, self.bits.len), None)
+        return filter
 
     def __reduce_ex__(self, protocol):
-        attributes = None if type(self) is BloomFilter else attributes_of(self)
-        bits = self.to_bytes() if protocol < 5 else pickle.PickleBuffer(self)
-        return type(self).from_bytes, (bits,), attributes
+        return BloomFilter.from_bytes, (self.to_bytes() if protocol < 5 else pickle.PickleBuffer(self),)
 
     def __getbuffer__(self, Py_buffer *buffer, int flags):
         wait(<void *>self.lock)
@@ -581,22 +569,8 @@ cdef class BloomFilter:
 
     def __repr__(self):
         if self.bits.buf is NULL:
-            return f"<sketch_hash.{type(self).__name__}, released>"
-        return f"<sketch_hash.{type(self).__name__} of {self.bits.len} bytes>"
-
-
-cdef BloomFilter duplicate(object kind, BloomFilter source):
-    cdef BloomFilter filter = empty(kind)  # runs code that may change the source
-    wait(<void *>source.lock)
-    source.check(0)
-    filter.adopt(PyByteArray_FromStringAndSize(<char *>source.bits.buf, source.bits.len), None)
-    if kind is not BloomFilter:
-        attributes = attributes_of(source)
-        if attributes is not None and hasattr(filter, "__setstate__"):
-            filter.__setstate__(attributes)
-        else:
-            set_attributes(filter, attributes)
-    return filter
+            return "<sketch_hash.BloomFilter, released>"
+        return f"<sketch_hash.BloomFilter of {self.bits.len} bytes>"
 
 
 cdef object one_in_of(double rate):

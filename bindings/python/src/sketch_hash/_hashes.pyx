@@ -8,10 +8,6 @@ from ._arguments cimport PyBuffer_Release, View, get_bytes, word_of
 from ._library cimport *
 from ._locks cimport LONG, Lock, acquire, release, wait
 
-from copyreg import __newobj__
-
-from ._attributes import attributes_of, set_attributes
-
 cdef extern from "Python.h":
     object PyUnicode_FromStringAndSize(const char *, Py_ssize_t)
     uint32_t __builtin_bswap32(uint32_t)
@@ -55,8 +51,8 @@ cdef union State:
     sketch_murmur3_x64_128_state_t murmur
 
 
-# The list of free objects serves all classes of one size, so the state of each is here. A subclass defines its frequent
-# methods itself: since Python 3.11 a call of one that it inherits takes 1.3 times as many instructions.
+# The list of free objects serves both classes, so the state of each is here. Each class defines its frequent methods
+# itself: since Python 3.11 a call of one that it inherits takes 1.3 times as many instructions.
 @cython.no_gc
 @cython.freelist(8)
 cdef class _Hasher:
@@ -120,29 +116,23 @@ cdef class _Hasher:
         return self.start_seed
 
     def __reduce__(self):
-        attributes = attributes_of(self)
         wait(<void *>self.lock)
-        checkpoint = self.start_seed, PyBytes_FromStringAndSize(<char *>&self.state, self.state_size())
-        return __newobj__, (type(self),), checkpoint if attributes is None else (*checkpoint, attributes)
+        return type(self), (), (self.start_seed, PyBytes_FromStringAndSize(<char *>&self.state, self.state_size()))
 
     def __setstate__(self, checkpoint):
-        seed, state, *attributes = checkpoint
-        self.resume(word_of(seed, "a seed"), state)
-        set_attributes(self, attributes[0] if attributes else None)
-
-    @cython.final
-    cdef int resume(self, uint64_t seed, bytes state) except -1:
+        cdef uint64_t seed = word_of(checkpoint[0], "a seed")
+        cdef bytes state = checkpoint[1]
         if <size_t>len(state) != self.state_size():
             raise ValueError(f"a checkpoint of {type(self).__name__} does not have {len(state)} bytes")
         wait(<void *>self.lock)
         memcpy(&self.state, PyBytes_AS_STRING(state), self.state_size())
         self.start_seed = seed
-        return 0
 
     def __repr__(self):
         return f"<sketch_hash.{type(self).__name__} with seed {self.seed}, now {self.hexdigest()}>"
 
 
+@cython.final
 @cython.no_gc
 cdef class xxh64(_Hasher):
     """xxh64(data=b'', seed=0)\n--\n\nXXH64 of a stream that comes in pieces.
@@ -164,7 +154,6 @@ cdef class xxh64(_Hasher):
     cdef void feed(self, const void *data, size_t length) noexcept nogil:
         sketch_xxh64_update(&self.state.xxh64, data, length)
 
-    @cython.final
     cdef int answer(self, uint64_t *words) noexcept nogil:
         words[0] = sketch_xxh64_digest(&self.state.xxh64)
         return 1
@@ -195,15 +184,14 @@ cdef class xxh64(_Hasher):
         return int_of(words, self.answer(words))
 
     def copy(self):
-        """copy($self)\n--\n\nReturns an independent object of the same class with the same seed and data."""
-        if type(self) is not xxh64:
-            return rebuilt(self)
+        """copy($self)\n--\n\nReturns an independent object with the same seed and data."""
         cdef xxh64 other = xxh64.__new__(xxh64)
         wait(<void *>self.lock)
         other.state.xxh64, other.start_seed = self.state.xxh64, self.start_seed
         return other
 
 
+@cython.final
 @cython.no_gc
 cdef class murmur3_x64_128(_Hasher):
     """murmur3_x64_128(data=b'', seed=0)\n--\n\nMurmurHash3 x64 128 of a stream that comes in pieces.
@@ -226,7 +214,6 @@ cdef class murmur3_x64_128(_Hasher):
     cdef void feed(self, const void *data, size_t length) noexcept nogil:
         sketch_murmur3_x64_128_update(&self.state.murmur, data, length)
 
-    @cython.final
     cdef int answer(self, uint64_t *words) noexcept nogil:
         sketch_murmur3_x64_128_digest(&self.state.murmur, words)
         return 2
@@ -257,9 +244,7 @@ cdef class murmur3_x64_128(_Hasher):
         return int_of(words, self.answer(words))
 
     def copy(self):
-        """copy($self)\n--\n\nReturns an independent object of the same class with the same seed and data."""
-        if type(self) is not murmur3_x64_128:
-            return rebuilt(self)
+        """copy($self)\n--\n\nReturns an independent object with the same seed and data."""
         cdef murmur3_x64_128 other = murmur3_x64_128.__new__(murmur3_x64_128)
         wait(<void *>self.lock)
         other.state.murmur, other.start_seed = self.state.murmur, self.start_seed
@@ -271,14 +256,6 @@ cdef class murmur3_x64_128(_Hasher):
         wait(<void *>self.lock)
         self.answer(words)
         return lowest_first(words)
-
-
-cdef object rebuilt(object hasher):
-    """A copy of an object of a subclass, whose __new__ may run any code, by its pickle's parts."""
-    make, args, checkpoint = hasher.__reduce__()
-    other = make(*args)
-    other.__setstate__(checkpoint)
-    return other
 
 
 cdef object lowest_first(const uint64_t *hash):
