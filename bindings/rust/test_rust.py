@@ -1,4 +1,4 @@
-"""The crate as cargo takes it: its tests, its oldest Rust, the package, and a project that uses it."""
+"""The crate as cargo takes it: its tests, its oldest Rust, the package, and what a library that embeds it exports."""
 import os
 import pathlib
 import re
@@ -84,30 +84,20 @@ def test_package_builds_on_its_own(target, tmp_path):
     cargo("test", "--test", "columns", folder=folder)
 
 
-# ---- a project that uses it
-
-@pytest.fixture
-def project(tmp_path):
-    """The first program of the crate's page."""
-    (example,) = re.findall(r"\A.*?^```rust\n(.*?)^```", (HERE / "README.md").read_text(), re.M | re.S)
-    folder = tmp_path / "a project"
-    (folder / "src").mkdir(parents=True)
-    package = '[package]\nname = "own"\nedition = "2021"\n'
-    (folder / "Cargo.toml").write_text(f'{package}[dependencies]\nsketch-hash = {{ path = "{HERE}" }}\n')
-    (folder / "src/main.rs").write_text(f"fn main() {{\n{example}}}")
-    return folder
-
-
-def test_project_builds_with_the_library_of_the_package(project):
-    cargo("run", folder=project)
-
-
-def test_a_cdylib_exports_none_of_the_calls(project, target, need):
+def test_a_cdylib_exports_none_of_the_calls(target, need, tmp_path):
     need("nm", "linux-x86_64")
-    with open(project / "Cargo.toml", "a") as manifest:
-        manifest.write('[lib]\ncrate-type = ["cdylib"]\n')
-    lines = '#[no_mangle] extern "C" fn plugin() -> u64 { sketch_hash::xxh64(b"fox", 0) }'
-    (project / "src/lib.rs").write_text(lines)
-    cargo("build", "--lib", folder=project)
-    exported = subprocess.check_output(["nm", "-D", target / "debug/libown.so"], text=True)
+    manifest = f"""
+        [package]
+        name = "plugin"
+        edition = "2021"
+        [lib]
+        crate-type = ["cdylib"]
+        [dependencies]
+        sketch-hash = {{ path = "{HERE}" }}
+    """
+    (tmp_path / "Cargo.toml").write_text(manifest)
+    (tmp_path / "src").mkdir()
+    (tmp_path / "src/lib.rs").write_text('#[no_mangle] extern "C" fn plugin() -> u64 { sketch_hash::xxh64(b"fox", 0) }')
+    cargo("build", folder=tmp_path)
+    exported = subprocess.check_output(["nm", "-D", target / "debug/libplugin.so"], text=True)
     assert " T plugin" in exported and "sketch_" not in exported
