@@ -21,8 +21,8 @@ INSTALLED = {
 }
 
 
-def output(*command):
-    return subprocess.run(command, check=True, stdout=subprocess.PIPE, text=True).stdout
+def output(*command, **kwargs):
+    return subprocess.run(command, check=True, stdout=subprocess.PIPE, text=True, **kwargs).stdout
 
 
 def files_in(folder):
@@ -153,16 +153,15 @@ def test_pkg_config_finds_the_library(prefix, need, tmp_path, monkeypatch):
     monkeypatch.setenv("LD_LIBRARY_PATH", str(prefix / "lib"))
     (program,) = re.findall(r"^```c bloom\n(.*?)^```", (DIST / "README.md").read_text(), re.M | re.S)
     (tmp_path / "filter.c").write_text(program)
-    flags = shlex.split(subprocess.check_output(["pkg-config", "--cflags", "--libs", "sketch_hash"], text=True))
-    subprocess.run([*CC, "-o", tmp_path / "filter", tmp_path / "filter.c", *flags], check=True)
-    assert subprocess.check_output(tmp_path / "filter") == b"certainly not\n"
-    static = subprocess.check_output(["pkg-config", "--static", "--libs-only-l", "sketch_hash"])
-    assert static.split() == [b"-lsketch_hash"]
+    flags = shlex.split(output("pkg-config", "--cflags", "--libs", "sketch_hash"))
+    output(*CC, "-o", tmp_path / "filter", tmp_path / "filter.c", *flags)
+    assert output(tmp_path / "filter") == "certainly not\n"
+    assert output("pkg-config", "--static", "--libs-only-l", "sketch_hash").split() == ["-lsketch_hash"]
 
 
 def cmake(source, build, *args):
-    subprocess.run(["cmake", "-S", source, "-B", build, *args], check=True, stdout=subprocess.DEVNULL)
-    subprocess.run(["cmake", "--build", build], check=True, stdout=subprocess.DEVNULL)
+    output("cmake", "-S", source, "-B", build, *args)
+    output("cmake", "--build", build)
 
 
 # The program is linked with each of the libraries: as they are installed, or from the folder that is given.
@@ -198,7 +197,7 @@ def test_cmake_builds_with_both_libraries(way, need, tmp_path):
     if way == "find_package":
         prefix = tmp_path / "a prefix"
         cmake(DIST, tmp_path / "build", f"-DCMAKE_INSTALL_PREFIX={prefix}", "-DCMAKE_INSTALL_LIBDIR=lib")
-        subprocess.run(["cmake", "--install", tmp_path / "build"], check=True, stdout=subprocess.DEVNULL)
+        output("cmake", "--install", tmp_path / "build")
         others = f"{MAJOR - 1}.0;{MAJOR}.{MINOR + 1};{MAJOR + 1}.0"
         args = [f"-DCMAKE_PREFIX_PATH={prefix}", "-DCMAKE_FIND_USE_CMAKE_SYSTEM_PATH=OFF",
                 f"-Dversion={MAJOR}.{MINOR}", f"-Dother_versions={others}"]
@@ -206,5 +205,5 @@ def test_cmake_builds_with_both_libraries(way, need, tmp_path):
         assert expected < files_in(prefix)
     cmake(project, project / "build", *args)
     for name in ("sum", "sum_static"):
-        fox = subprocess.check_output(project / "build" / name, input=b"The quick brown fox jumps over the lazy dog")
-        assert fox == b"0b242d361fda71bc\n"
+        fox = output(project / "build" / name, input="The quick brown fox jumps over the lazy dog")
+        assert fox == "0b242d361fda71bc\n"
