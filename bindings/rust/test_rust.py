@@ -7,7 +7,7 @@ import subprocess
 import tarfile
 
 import pytest
-from conftest import CARGO_CONFIG, DEBIAN_CRATES, DIST
+from conftest import CARGO_CONFIG, DEBIAN_CRATES, DIST, ROOT
 
 HERE = pathlib.Path(__file__).resolve().parent
 pytestmark = pytest.mark.xdist_group("cargo")  # cargo locks the folder that it builds into
@@ -68,11 +68,15 @@ def test_builds_with_core_and_alloc_alone(tmp_path):
 
 
 def test_package_builds_on_its_own(target, tmp_path):
-    """After docs/maintaining.md's command has put the text into the package's folder."""
-    copy = shutil.copytree(HERE, tmp_path / "bindings/rust", ignore=shutil.ignore_patterns("c", "target"))
-    (command,) = re.findall(r"^    (mkdir .*bindings/rust/c)$", (DIST.parent / "docs/maintaining.md").read_text(), re.M)
+    """After docs/maintaining.md's commands have put the text and the licence into the package's folder."""
+    ignored = shutil.ignore_patterns("c", "target", "LICENSE", "NOTICE")
+    copy = shutil.copytree(HERE, tmp_path / "bindings/rust", ignore=ignored)
+    page = (ROOT / "docs/maintaining.md").read_text()
+    (commands,) = re.findall(r"^    (mkdir bindings/rust/c .*\n    cp .* bindings/rust)$", page, re.M)
     shutil.copytree(DIST, tmp_path / "dist")
-    subprocess.run(command, shell=True, cwd=tmp_path, check=True)
+    for name in ("LICENSE", "NOTICE"):
+        shutil.copy(ROOT / name, tmp_path)
+    subprocess.run(["bash", "-ec", commands], cwd=tmp_path, check=True)
     shutil.rmtree(tmp_path / "dist")
     cargo("package", "--no-verify", folder=copy)
     (package,) = (target / "package").glob("*.crate")
@@ -81,6 +85,8 @@ def test_package_builds_on_its_own(target, tmp_path):
     (folder,) = (tmp_path / "packed").iterdir()
     for name in ("sketch_hash.c", "include/sketch_hash.h"):
         assert (folder / "c" / pathlib.Path(name).name).read_bytes() == (DIST / name).read_bytes()
+    for name in ("LICENSE", "NOTICE"):
+        assert (folder / name).read_bytes() == (ROOT / name).read_bytes()
     cargo("test", "--test", "columns", folder=folder)
 
 
