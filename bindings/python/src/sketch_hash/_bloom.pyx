@@ -7,14 +7,14 @@ from cpython.ref cimport Py_DECREF
 from libc.stdint cimport uint32_t, uint64_t, uintptr_t
 from libc.string cimport memcpy
 
-from ._arguments cimport (
-    PyBuffer_Release, PyObject_GetBuffer, View, get_bytes, overlap, refuse_addresses, word_of,
-)
 from ._columns cimport (
     ARROW, NUMBERS32, NUMBERS64, OFFSETS32, OFFSETS64, Column, check_offsets, hashes_of, keys_of,
 )
+from ._common cimport (
+    LONG, Lock, PyBuffer_Release, PyObject_GetBuffer, View, acquire, get_bytes, overlap, refuse_addresses, release, wait,
+    word_of,
+)
 from ._library cimport *
-from ._locks cimport LONG, Lock, acquire, release, wait
 
 import operator
 import pickle
@@ -84,17 +84,17 @@ cdef int get_key(object key, View *memory) except -1:
 
 cdef int insert_column(void *bits, size_t length, Column keys, size_t *wrong) noexcept nogil:
     cdef void *numbers = keys.numbers.buf
-    if keys.kind == ARROW:
+    if keys.content == ARROW:
         return keys.arrow.insert(bits, length)
-    if keys.kind == OFFSETS32:
+    if keys.content == OFFSETS32:
         return sketch_bloom_insert_each32(
             bits, length, keys.data.buf, keys.reach, <uint32_t *>numbers, keys.items, wrong)
-    if keys.kind == OFFSETS64:
+    if keys.content == OFFSETS64:
         return sketch_bloom_insert_each64(
             bits, length, keys.data.buf, keys.reach, <uint64_t *>numbers, keys.items, wrong)
-    if keys.kind == NUMBERS32:
+    if keys.content == NUMBERS32:
         return sketch_bloom_insert_each_u32(bits, length, <uint32_t *>numbers, keys.count)
-    if keys.kind == NUMBERS64:
+    if keys.content == NUMBERS64:
         return sketch_bloom_insert_each_u64(bits, length, <uint64_t *>numbers, keys.count)
     return sketch_bloom_insert_each_hash(bits, length, <uint64_t *>numbers, keys.count)
 
@@ -104,17 +104,17 @@ cdef int contains_column(
 ) noexcept nogil:
     cdef void *numbers = keys.numbers.buf
     cdef size_t items = keys.items, count = keys.count
-    if keys.kind == ARROW:
+    if keys.content == ARROW:
         return keys.arrow.contains(bits, length, found)
-    if keys.kind == OFFSETS32:
+    if keys.content == OFFSETS32:
         return sketch_bloom_contains_each32(
             bits, length, keys.data.buf, keys.reach, <uint32_t *>numbers, items, found, count, wrong)
-    if keys.kind == OFFSETS64:
+    if keys.content == OFFSETS64:
         return sketch_bloom_contains_each64(
             bits, length, keys.data.buf, keys.reach, <uint64_t *>numbers, items, found, count, wrong)
-    if keys.kind == NUMBERS32:
+    if keys.content == NUMBERS32:
         return sketch_bloom_contains_each_u32(bits, length, <uint32_t *>numbers, items, found, count)
-    if keys.kind == NUMBERS64:
+    if keys.content == NUMBERS64:
         return sketch_bloom_contains_each_u64(bits, length, <uint64_t *>numbers, items, found, count)
     return sketch_bloom_contains_each_hash(bits, length, <uint64_t *>numbers, items, found, count)
 
@@ -136,21 +136,21 @@ cdef size_t header_of(const View *memory, uint64_t *num_bytes) except 0:
     return header
 
 
-cdef object copy_of(object kind, const void *bits, size_t length):
-    """A filter of a kind, with a copy of the bits."""
+cdef object copy_of(object cls, const void *bits, size_t length):
+    """A filter of a class, with a copy of the bits."""
     check_length(length)
-    cdef BloomFilter filter = empty(kind)
+    cdef BloomFilter filter = empty(cls)
     filter.adopt(PyByteArray_FromStringAndSize(<char *>bits, length), None)
     return filter
 
 
-cdef BloomFilter empty(object kind):
+cdef BloomFilter empty(object cls):
     """A filter without memory. A subclass may run any code here."""
-    if kind is BloomFilter:
+    if cls is BloomFilter:
         return BloomFilter.__new__(BloomFilter)
-    filter = kind.__new__(kind)
+    filter = cls.__new__(cls)
     if not isinstance(filter, BloomFilter):
-        raise TypeError(f"{kind.__name__}.__new__ must return a BloomFilter, not {type(filter).__name__}")
+        raise TypeError(f"{cls.__name__}.__new__ must return a BloomFilter, not {type(filter).__name__}")
     return filter
 
 
@@ -377,7 +377,7 @@ cdef class BloomFilter:
 
     cdef int insert(self, Column keys) except -1:
         self.insert_rows(keys)
-        while keys.has_rest():
+        while keys.check_signals_if_more():
             self.insert_rows(keys)
         return 0
 
@@ -403,7 +403,7 @@ cdef class BloomFilter:
     cdef object contains(self, Column keys):
         found = bytearray(keys.count)
         self.contains_rows(keys, <unsigned char *>PyByteArray_AS_STRING(found))
-        while keys.has_rest():
+        while keys.check_signals_if_more():
             self.contains_rows(keys, <unsigned char *>PyByteArray_AS_STRING(found))
         return memoryview(found).cast("?")
 
@@ -585,12 +585,12 @@ cdef class BloomFilter:
         return f"<sketch_hash.{type(self).__name__} of {self.bits.len} bytes>"
 
 
-cdef BloomFilter duplicate(object kind, BloomFilter source):
-    cdef BloomFilter filter = empty(kind)  # runs code that may change the source
+cdef BloomFilter duplicate(object cls, BloomFilter source):
+    cdef BloomFilter filter = empty(cls)  # runs code that may change the source
     wait(<void *>source.lock)
     source.check(0)
     filter.adopt(PyByteArray_FromStringAndSize(<char *>source.bits.buf, source.bits.len), None)
-    if kind is not BloomFilter:
+    if cls is not BloomFilter:
         attributes = attributes_of(source)
         if attributes is not None and hasattr(filter, "__setstate__"):
             filter.__setstate__(attributes)

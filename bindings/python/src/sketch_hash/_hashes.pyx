@@ -4,9 +4,8 @@ from cpython.bytes cimport PyBytes_AS_STRING, PyBytes_FromStringAndSize
 from libc.stdint cimport uint32_t, uint64_t
 from libc.string cimport memcpy
 
-from ._arguments cimport PyBuffer_Release, View, get_bytes, word_of
+from ._common cimport LONG, Lock, PyBuffer_Release, View, acquire, get_bytes, release, wait, word_of
 from ._library cimport *
-from ._locks cimport LONG, Lock, acquire, release, wait
 
 from copyreg import __newobj__
 
@@ -126,18 +125,15 @@ cdef class _Hasher:
         return __newobj__, (type(self),), checkpoint if attributes is None else (*checkpoint, attributes)
 
     def __setstate__(self, checkpoint):
+        cdef bytes state
         seed, state, *attributes = checkpoint
-        self.resume(word_of(seed, "a seed"), state)
-        set_attributes(self, attributes[0] if attributes else None)
-
-    @cython.final
-    cdef int resume(self, uint64_t seed, bytes state) except -1:
+        cdef uint64_t number = word_of(seed, "a seed")
         if <size_t>len(state) != self.state_size():
             raise ValueError(f"a checkpoint of {type(self).__name__} does not have {len(state)} bytes")
         wait(<void *>self.lock)
         memcpy(&self.state, PyBytes_AS_STRING(state), self.state_size())
-        self.start_seed = seed
-        return 0
+        self.start_seed = number
+        set_attributes(self, attributes[0] if attributes else None)
 
     def __repr__(self):
         return f"<sketch_hash.{type(self).__name__} with seed {self.seed}, now {self.hexdigest()}>"
