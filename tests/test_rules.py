@@ -1,5 +1,6 @@
-"""What several languages must write out: it is the same in each, and that of the file that sets it."""
+"""Facts that several files repeat: each must equal the file that defines it. And the layout of the sources."""
 import re
+import subprocess
 
 import pytest
 from conftest import ROOT, VERSION
@@ -19,7 +20,7 @@ def test_the_version_is_that_of_the_changelog(name):
     assert {*re.findall(r"(?<![\w.])\d+\.\d+\.\d+(?![\w.])", text_of(name))} - {"0.6.0"} == {VERSION}
 
 
-@pytest.mark.parametrize("package", ["bindings/python", "bindings/rust", "dist"])
+@pytest.mark.parametrize("package", ["dist", "dist/wasm"])
 @pytest.mark.parametrize("name", ["LICENSE", "NOTICE"])
 def test_packages_have_the_licence(package, name):
     assert text_of(f"{package}/{name}") == text_of(name)
@@ -37,11 +38,13 @@ def test_packages_say_of_a_wrong_offset_what_the_header_says():
 
 @pytest.mark.parametrize("name", [
     "bindings/python/README.md", f"{PYTHON}/_bloom.pyx", f"{RUST}/bloom.rs", f"{RUST}/error.rs",
-    f"{JAVASCRIPT}/filters.mjs", f"{JAVASCRIPT}/sketch_hash.d.mts", "dist/include/sketch_hash.h", "dist/sketch_hash.3",
+    f"{PYTHON}/parquet/writer.py", f"{JAVASCRIPT}/filters.mjs", f"{JAVASCRIPT}/sketch_hash.d.mts",
+    "dist/include/sketch_hash.h", "dist/sketch_hash.3",
 ])
 def test_the_largest_filter_for_keys_is_that_of_the_core(name):
     log2_blocks = int(re.search(r"MAX_LOG2_BLOCKS: u32 = (\d+);", text_of("crates/sketch_bloom/src/size.rt"))[1])
-    assert {*re.findall(r"(?:to|most|than) (\d+) MiB", text_of(name))} == {str((32 << log2_blocks) >> 20)}
+    sizes = re.findall(r"(?:to|of|most|than|MOST_BYTES =) (\d+) (?:MiB|<< 20)", text_of(name))
+    assert {*sizes} == {str((32 << log2_blocks) >> 20)}
 
 
 @pytest.mark.parametrize("name", [f"{RUST}/calls.rs", f"{JAVASCRIPT}/filters.mjs"])
@@ -49,3 +52,9 @@ def test_the_numbers_of_the_header_are_those_of_a_package(name):
     header = re.findall(r"SKETCH_(\w+)(?: =)? (-?\d+)", text_of("dist/include/sketch_hash.h"))
     numbers = re.findall(r"const ([A-Z_]+)(?:: \w+)? = (-?\d+);", text_of(name))
     assert numbers and {*numbers} <= {*header}
+
+
+@pytest.mark.parametrize("tool", ["awk", "clang-format-14", "flake8", "rustfmt", "shellcheck"])
+def test_a_linter_finds_nothing(tool, need):
+    need(tool)
+    subprocess.run(["bash", ROOT / ".ci/lint", tool], check=True)

@@ -1,4 +1,5 @@
-"""Builds the calls over the library for C, whose text is in `c`: of this folder, or in the repository made from `dist`."""
+"""Builds the calls over the library for C, whose text is in `c`. In the repository it is copied from `dist`, as the
+licence is."""
 import pathlib
 import re
 import shutil
@@ -19,6 +20,8 @@ if (dist / "sketch_hash.c").is_file():
     (here / "c").mkdir(exist_ok=True)
     for name in ("sketch_hash.c", "include/sketch_hash.h"):
         shutil.copy(dist / name, here / "c")
+    for name in ("LICENSE", "NOTICE"):
+        shutil.copy(dist / name, here)
 # Other extensions, or a program that embeds Python, may have another version's calls under the same names. So the names
 # of the library stay inside of each module.
 exports = ["-Xlinker", f"--version-script={here}/exports.map"] if sys.platform == "linux" else []

@@ -1,4 +1,4 @@
-"""The crate as cargo takes it: its tests, its oldest Rust, the package, and a project that uses it."""
+"""The crate as cargo takes it: its tests, its oldest Rust, the package, and what a library that embeds it exports."""
 import os
 import pathlib
 import re
@@ -7,7 +7,7 @@ import subprocess
 import tarfile
 
 import pytest
-from conftest import CARGO_CONFIG, DEBIAN_CRATES, DIST
+from conftest import CARGO_CONFIG, DEBIAN_CRATES, DIST, ROOT
 
 HERE = pathlib.Path(__file__).resolve().parent
 pytestmark = pytest.mark.xdist_group("cargo")  # cargo locks the folder that it builds into
@@ -68,11 +68,15 @@ def test_builds_with_core_and_alloc_alone(tmp_path):
 
 
 def test_package_builds_on_its_own(target, tmp_path):
-    """After docs/maintaining.md's command has put the text into the package's folder."""
-    copy = shutil.copytree(HERE, tmp_path / "bindings/rust", ignore=shutil.ignore_patterns("c", "target"))
-    (command,) = re.findall(r"^    (mkdir .*bindings/rust/c)$", (DIST.parent / "docs/maintaining.md").read_text(), re.M)
+    """After docs/maintaining.md's commands have put the text and the licence into the package's folder."""
+    ignored = shutil.ignore_patterns("c", "target", "LICENSE", "NOTICE")
+    copy = shutil.copytree(HERE, tmp_path / "bindings/rust", ignore=ignored)
+    page = (ROOT / "docs/maintaining.md").read_text()
+    (commands,) = re.findall(r"^    (mkdir bindings/rust/c .*\n    cp .* bindings/rust)$", page, re.M)
     shutil.copytree(DIST, tmp_path / "dist")
-    subprocess.run(command, shell=True, cwd=tmp_path, check=True)
+    for name in ("LICENSE", "NOTICE"):
+        shutil.copy(ROOT / name, tmp_path)
+    subprocess.run(["bash", "-ec", commands], cwd=tmp_path, check=True)
     shutil.rmtree(tmp_path / "dist")
     cargo("package", "--no-verify", folder=copy)
     (package,) = (target / "package").glob("*.crate")
@@ -81,33 +85,25 @@ def test_package_builds_on_its_own(target, tmp_path):
     (folder,) = (tmp_path / "packed").iterdir()
     for name in ("sketch_hash.c", "include/sketch_hash.h"):
         assert (folder / "c" / pathlib.Path(name).name).read_bytes() == (DIST / name).read_bytes()
+    for name in ("LICENSE", "NOTICE"):
+        assert (folder / name).read_bytes() == (ROOT / name).read_bytes()
     cargo("test", "--test", "columns", folder=folder)
 
 
-# ---- a project that uses it
-
-@pytest.fixture
-def project(tmp_path):
-    """The first program of the crate's page."""
-    (example,) = re.findall(r"\A.*?^```rust\n(.*?)^```", (HERE / "README.md").read_text(), re.M | re.S)
-    folder = tmp_path / "a project"
-    (folder / "src").mkdir(parents=True)
-    package = '[package]\nname = "own"\nedition = "2021"\n'
-    (folder / "Cargo.toml").write_text(f'{package}[dependencies]\nsketch-hash = {{ path = "{HERE}" }}\n')
-    (folder / "src/main.rs").write_text(f"fn main() {{\n{example}}}")
-    return folder
-
-
-def test_project_builds_with_the_library_of_the_package(project):
-    cargo("run", folder=project)
-
-
-def test_a_cdylib_exports_none_of_the_calls(project, target, need):
+def test_a_cdylib_exports_none_of_the_calls(target, need, tmp_path):
     need("nm", "linux-x86_64")
-    with open(project / "Cargo.toml", "a") as manifest:
-        manifest.write('[lib]\ncrate-type = ["cdylib"]\n')
-    lines = '#[no_mangle] extern "C" fn plugin() -> u64 { sketch_hash::xxh64(b"fox", 0) }'
-    (project / "src/lib.rs").write_text(lines)
-    cargo("build", "--lib", folder=project)
-    exported = subprocess.check_output(["nm", "-D", target / "debug/libown.so"], text=True)
+    manifest = f"""
+        [package]
+        name = "plugin"
+        edition = "2021"
+        [lib]
+        crate-type = ["cdylib"]
+        [dependencies]
+        sketch-hash = {{ path = "{HERE}" }}
+    """
+    (tmp_path / "Cargo.toml").write_text(manifest)
+    (tmp_path / "src").mkdir()
+    (tmp_path / "src/lib.rs").write_text('#[no_mangle] extern "C" fn plugin() -> u64 { sketch_hash::xxh64(b"fox", 0) }')
+    cargo("build", folder=tmp_path)
+    exported = subprocess.check_output(["nm", "-D", target / "debug/libplugin.so"], text=True)
     assert " T plugin" in exported and "sketch_" not in exported

@@ -31,28 +31,41 @@ static void lay_out(unsigned least, unsigned spread) {
     for (size_t i = 0; i < length; i++) keys[i] = (unsigned char)random31();
 }
 
-/* The call, with a column of which so many offsets or numbers are given. */
-static int each(int call, int column, size_t given, size_t *wrong) {
+/* A number for a call on a column. */
+#define CALL(call, column) (10 * (call) + (column))
+
+/* The call, with a column whose last `missing` offsets or numbers are not given. */
+static int each(int call, int column, size_t missing, size_t *wrong) {
     unsigned char *in = bits;
-    const size_t size = length_of_bits, n = length;
+    const size_t size = length_of_bits, n = length, given = KEYS + (column <= OFFSETS64) - missing;
     uint64_t *words = (uint64_t *)out, (*pairs)[2] = (uint64_t(*)[2])out;
-    switch (10 * call + column) {
-    case 0: return sketch_xxh64_each32(keys, n, narrow, given, seed, words, KEYS, wrong);
-    case 1: return sketch_xxh64_each64(keys, n, wide, given, seed, words, KEYS, wrong);
-    case 3: return sketch_xxh64_each_u64(numbers, given, seed, words, KEYS);
-    case 10: return sketch_murmur3_x64_128_each32(keys, n, narrow, given, seed, pairs, KEYS, wrong);
-    case 11: return sketch_murmur3_x64_128_each64(keys, n, wide, given, seed, pairs, KEYS, wrong);
-    case 20: return sketch_bloom_insert_each32(in, size, keys, n, narrow, given, wrong);
-    case 21: return sketch_bloom_insert_each64(in, size, keys, n, wide, given, wrong);
-    case 22: return sketch_bloom_insert_each_u32(in, size, narrow, given);
-    case 23: return sketch_bloom_insert_each_u64(in, size, numbers, given);
-    case 24: return sketch_bloom_insert_each_hash(in, size, numbers, given);
-    case 30:
+    switch (CALL(call, column)) {
+    case CALL(XXH64, OFFSETS32):
+        return sketch_xxh64_each32(keys, n, narrow, given, seed, words, KEYS, wrong);
+    case CALL(XXH64, OFFSETS64):
+        return sketch_xxh64_each64(keys, n, wide, given, seed, words, KEYS, wrong);
+    case CALL(XXH64, NUMBERS64): return sketch_xxh64_each_u64(numbers, given, seed, words, KEYS);
+    case CALL(MURMUR, OFFSETS32):
+        return sketch_murmur3_x64_128_each32(keys, n, narrow, given, seed, pairs, KEYS, wrong);
+    case CALL(MURMUR, OFFSETS64):
+        return sketch_murmur3_x64_128_each64(keys, n, wide, given, seed, pairs, KEYS, wrong);
+    case CALL(INSERT, OFFSETS32):
+        return sketch_bloom_insert_each32(in, size, keys, n, narrow, given, wrong);
+    case CALL(INSERT, OFFSETS64):
+        return sketch_bloom_insert_each64(in, size, keys, n, wide, given, wrong);
+    case CALL(INSERT, NUMBERS32): return sketch_bloom_insert_each_u32(in, size, narrow, given);
+    case CALL(INSERT, NUMBERS64): return sketch_bloom_insert_each_u64(in, size, numbers, given);
+    case CALL(INSERT, HASHES): return sketch_bloom_insert_each_hash(in, size, numbers, given);
+    case CALL(CONTAINS, OFFSETS32):
         return sketch_bloom_contains_each32(in, size, keys, n, narrow, given, out, KEYS, wrong);
-    case 31: return sketch_bloom_contains_each64(in, size, keys, n, wide, given, out, KEYS, wrong);
-    case 32: return sketch_bloom_contains_each_u32(in, size, narrow, given, out, KEYS);
-    case 33: return sketch_bloom_contains_each_u64(in, size, numbers, given, out, KEYS);
-    default: return sketch_bloom_contains_each_hash(in, size, numbers, given, out, KEYS);
+    case CALL(CONTAINS, OFFSETS64):
+        return sketch_bloom_contains_each64(in, size, keys, n, wide, given, out, KEYS, wrong);
+    case CALL(CONTAINS, NUMBERS32):
+        return sketch_bloom_contains_each_u32(in, size, narrow, given, out, KEYS);
+    case CALL(CONTAINS, NUMBERS64):
+        return sketch_bloom_contains_each_u64(in, size, numbers, given, out, KEYS);
+    default: /* CALL(CONTAINS, HASHES) */
+        return sketch_bloom_contains_each_hash(in, size, numbers, given, out, KEYS);
     }
 }
 
@@ -77,8 +90,7 @@ static void compare(int call, int column, size_t missing, int error, size_t inde
     memset(bits, 0, BITS), memset(bits, 255, 32); /* it contains the keys of the first block */
     memcpy(expected_bits, bits, BITS);
     for (int i = 0; !error && i < KEYS; i++) expect(call, column, i);
-    size_t given = KEYS + (column <= OFFSETS64) - missing;
-    status("the status", each(call, column, given, &wrong), error);
+    status("the status", each(call, column, missing, &wrong), error);
     same("the wrong offset", wrong, index);
     same("the results", memcmp(out, expected_out, RESULTS), 0);
     same("the bits", memcmp(bits, expected_bits, BITS), 0);
@@ -92,8 +104,8 @@ static void all_calls(void (*test)(int call, int column, size_t number), size_t 
                 test(call, column, number);
 }
 
-static void each_key(int call, int column, size_t none) {
-    compare(call, column, none, SKETCH_OK, NONE);
+static void each_key(int call, int column, size_t missing) {
+    compare(call, column, missing, SKETCH_OK, NONE);
 }
 
 static void missing_values(int call, int column, size_t missing) {

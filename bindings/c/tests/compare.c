@@ -69,6 +69,7 @@ static void inputs_past_32_bits(void) {
     same("xxh64 in one call", sketch_xxh64(zeros, length, UINT64_MAX), expected);
     sketch_xxh64_update(&x, zeros, length);
     same("xxh64 in one update", sketch_xxh64_digest(&x), expected);
+    same("xxh64, total", x.total, length);
     uint64_t whole[2], hash[2];
     sketch_murmur3_x64_128(zeros, length, UINT64_MAX, whole);
     sketch_murmur3_x64_128_update(&m, zeros, length - 37);

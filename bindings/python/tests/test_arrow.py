@@ -9,7 +9,7 @@ import sys
 import pytest
 from helpers import TYPES, assert_releases_the_gil, column_of
 from sketch_hash import BloomFilter, murmur3_x64_128_each, murmur3_x64_128_intdigest, parquet, xxh64_each, xxh64_intdigest
-from sketch_hash.parquet.values import stored_values
+from sketch_hash.parquet.pyarrow_values import stored_values
 
 P, I64 = ctypes.c_void_p, ctypes.c_int64
 RELEASE, GET = ctypes.CFUNCTYPE(None, P), ctypes.CFUNCTYPE(ctypes.c_int, P, P)
@@ -304,7 +304,7 @@ CALLS = [xxh64_each, murmur3_x64_128_each, BloomFilter(32).add_each, BloomFilter
     *((format, "another type") for format in ("tiM", "", "w:-1", "w:9999999999", "w: 5", "w:5_0", "w:")),
 ])
 @pytest.mark.parametrize("is_coded", [False, True], ids=["values", "dictionary"])
-def test_another_type_is_an_error_with_the_cure(format, text, is_coded, producer):
+def test_an_unsupported_type_raises_with_the_cure(format, text, is_coded, producer):
     for call in CALLS:
         for make in (producer.exported, producer.streamed):
             schema = producer.schema("i", producer.inner.schema(format)) if is_coded else producer.schema(format)
@@ -389,7 +389,7 @@ RELEASED = Schema(), Array(), Stream()
     ("__arrow_c_array__", (capsule(RELEASED[0]), capsule(RELEASED[2]))), ("__arrow_c_stream__", None),
     ("__arrow_c_array__", (capsule(RELEASED[0]), capsule(RELEASED[1]))), ("__arrow_c_stream__", capsule(RELEASED[2])),
 ], ids=["None", "numbers", "three", "a stream", "no stream", "a released array", "a released stream"])
-def test_other_results_of_the_methods_are_errors(method, value):
+def test_invalid_results_of_the_methods_raise(method, value):
     for call in CALLS:
         with pytest.raises((TypeError, ValueError)):
             call(type("Strange", (), {method: lambda _: value})())

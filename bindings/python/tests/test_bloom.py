@@ -88,7 +88,7 @@ def test_for_keys_rejects_other_arguments(keys, kwargs, error, text):
 
 
 @pytest.mark.parametrize("length", [0, 1, 31, 33, -32, 2**37, 2**64 + 32])
-def test_another_length_is_an_error(length):
+def test_an_invalid_length_raises(length):
     calls = [lambda: BloomFilter(length)]
     if 0 <= length < 2**37:
         calls += [lambda: BloomFilter.from_bytes(bytes(length)), lambda: BloomFilter.view(bytes(length))]
@@ -116,7 +116,7 @@ def test_a_key_is_a_text_or_bytes(key, data):
     numpy.void(b"fox"), numpy.array(5, "u1"), numpy.zeros(2, "datetime64[D]"), BloomFilter(32),
     numpy.ma.array([5], "u1", mask=[1]),
 ], ids=lambda key: type(key).__name__)
-def test_another_type_of_key_is_an_error(key):
+def test_a_key_of_an_invalid_type_raises(key):
     bloom = filled()
     for call in (bloom.add, bloom.__contains__):
         with pytest.raises(TypeError, match="^a key must be str or bytes, not .*: add_each and contains_each take"):
@@ -272,7 +272,7 @@ def test_the_block_of_a_hash_tells_whether_a_filter_has_it():
     (lambda: BloomFilter(64), (math.nan,), ValueError, "error_rate must be above 0 and below 1"),
     (lambda: BloomFilter.__new__(BloomFilter), (), ValueError, "the filter was released"),
 ], ids=["odd number of blocks", "one block", "view", "view to a rate", "text as a rate", "rate of 1", "NaN", "no memory"])
-def test_another_fold_is_an_error(make, args, error, text):
+def test_an_invalid_fold_raises_and_changes_nothing(make, args, error, text):
     bloom = make()
     with pytest.raises(error, match=text):
         bloom.fold(*args)

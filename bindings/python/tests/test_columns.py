@@ -97,7 +97,7 @@ XXH64, FILTER = [xxh64_each], [BLOOM.add_each, BLOOM.contains_each]
     *(([BLOOM.add_hashes, BLOOM.contains_hashes], hashes, "^hashes must be " + ROW.format("64"))
       for hashes in (PAIR, [1, 2], numpy.zeros(2, "u4"), numpy.zeros(2, "f8"))),
 ])
-def test_another_column_is_an_error(calls, keys, text):
+def test_an_invalid_column_raises(calls, keys, text):
     for call in calls:
         with pytest.raises(TypeError, match=text):
             call(keys)

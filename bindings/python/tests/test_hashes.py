@@ -77,22 +77,6 @@ def test_calls_take_arguments_by_name():
         assert call(keys=pair, seed=7) == call(pair, 7)
 
 
-def test_methods_take_their_argument_by_position_only():
-    """As in hashlib. Cython 3 alone would give it a name."""
-    bloom, pair, hashes = sketch_hash.BloomFilter(32), sketch_hash.column([FOX]), array.array("Q", [1])
-    for call, name, value in [
-        *((kind().update, "data", FOX) for kind in KINDS), (bloom.add, "key", FOX), (bloom.update, "keys", [FOX]),
-        (bloom.add_each, "keys", pair), (bloom.contains_each, "keys", pair), (bloom.from_bytes, "data", bytes(32)),
-        (bloom.add_hashes, "hashes", hashes), (bloom.contains_hashes, "hashes", hashes),
-        (bloom.view, "buffer", bytes(32)), (bloom.from_parquet, "data", bloom.to_parquet()),
-        (bloom.parquet_bits, "data", bloom.to_parquet()),
-        (sketch_hash.column, "texts", [FOX]),
-    ]:
-        call(value)
-        with pytest.raises(TypeError, match="keyword"):
-            call(**{name: value})
-
-
 @pytest.mark.parametrize("call, args", [
     *((name, []) for name in (*FORMS, "copy", "reset", "__init__", "__reduce__", "__repr__")),
     ("update", [b"fox"]), ("__getattribute__", ["seed"]),
@@ -105,7 +89,7 @@ def test_each_call_waits_for_a_long_one(kind, call, args):
 
 @pytest.mark.parametrize("kind", KINDS)
 @pytest.mark.parametrize("args", [(5, 9), (b"fox", -1), ("fox", 9)], ids=["data", "seed", "str"])
-def test_another_init_that_raises_changes_nothing(kind, args):
+def test_a_second_init_that_raises_changes_nothing(kind, args):
     hasher = kind(b"abc", 7)
     with pytest.raises((TypeError, OverflowError)):
         hasher.__init__(*args)
@@ -165,7 +149,7 @@ def test_a_contiguous_buffer_is_an_input(kind, data):
 
 
 @pytest.mark.parametrize("data", REJECTED.values(), ids=REJECTED)
-def test_another_input_is_an_error(data):
+def test_an_invalid_input_raises(data):
     hashers = [kind(b"a") for kind in KINDS]
     for call in (*KINDS, *ONE_CALL, *[hasher.update for hasher in hashers], sketch_hash.BloomFilter.from_bytes):
         with pytest.raises((TypeError, ValueError, BufferError)) as error:

@@ -5,26 +5,30 @@ import re
 import shutil
 import subprocess
 import sys
+import tarfile
 
 import pytest
-from conftest import DIST
+from conftest import DIST, ROOT
 
 HERE = pathlib.Path(__file__).resolve().parent
 PIP = [sys.executable, "-m", "pip", "install", "--quiet", "--no-index", "--no-deps", "--root-user-action=ignore"]
 PACKAGE = HERE.parent / "src/sketch_hash"
 PRIVATE = [path.stem for path in PACKAGE.glob("parquet/*.py") if not path.with_suffix(".pyi").exists()]
+LICENCE = ["LICENSE", "NOTICE"]
 FOX = "import sketch_hash; print(sketch_hash.xxh64_hexdigest(b'The quick brown fox jumps over the lazy dog'))"
 
 
 @pytest.fixture
 def source(need, tmp_path):
-    """A copy of the package alone, with the text of the library, as an archive of the sources has it."""
+    """A copy of the package alone, with the text of the library and the licence, as an archive of the sources has it."""
     need("gcc", "Python.h", "python:Cython", "python:setuptools", "python:wheel")
-    ignored = shutil.ignore_patterns("build", "*.egg-info", "tests", "__pycache__", "c")
+    ignored = shutil.ignore_patterns("build", "*.egg-info", "tests", "__pycache__", "c", *LICENCE)
     source = pathlib.Path(shutil.copytree(HERE.parent, tmp_path / "source", ignore=ignored))
     (source / "c").mkdir()
     for name in ("sketch_hash.c", "include/sketch_hash.h"):
         shutil.copy(DIST / name, source / "c")
+    for name in LICENCE:
+        shutil.copy(ROOT / name, source)
     return source
 
 
@@ -39,9 +43,11 @@ def install(source, to, **environment):
     return done
 
 
-def test_an_archive_of_the_sources_is_installed(source, tmp_path):
+def test_an_archive_of_the_sources_has_the_licence_and_is_installed(source, tmp_path):
     assert run([sys.executable, "setup.py", "-q", "sdist"], cwd=source).returncode == 0
     (archive,) = (source / "dist").glob("*.tar.gz")
+    with tarfile.open(archive) as file:
+        assert {*LICENCE} <= {name.partition("/")[2] for name in file.getnames()}
     assert run([*PIP, "--no-build-isolation", "--target", tmp_path / "installed", archive]).returncode == 0
     assert run([sys.executable, "-c", FOX], PYTHONPATH=str(tmp_path / "installed")).stdout == "0b242d361fda71bc\n"
 

@@ -23,11 +23,11 @@ import uuid
 import pytest
 from helpers import in_threads, rate_of
 from sketch_hash import BloomFilter, column, parquet, xxh64_intdigest
-from sketch_hash.parquet import values as parquet_values
 from sketch_hash.parquet import writer
 from sketch_hash.parquet.files import Source
 from sketch_hash.parquet.footer import BYTE_ARRAY, LENGTH, OFFSET, VALUES as VALUE_COUNT
 from sketch_hash.parquet.keys import keys_of, parse
+from sketch_hash.parquet.pyarrow_values import stored_values
 from sketch_hash.parquet.reader import contain_hashes, false_positive_rate
 from thrift_tree import TType, chunk_of, join, metadata_of, split
 
@@ -236,7 +236,7 @@ def test_nanoseconds_of_pandas_count():
     (lambda: parquet.may_contain(io.BytesIO(b""), "x", 1), ValueError, "must be a Parquet file"),
     (lambda: parquet.may_contain(DATA / "none", "x", 1), FileNotFoundError, "none"),
 ], ids=range(9))
-def test_another_question_is_an_error(call, error, text):
+def test_an_invalid_query_raises(call, error, text):
     with pytest.raises(error, match=text):
         call()
 
@@ -673,7 +673,7 @@ parquet.add_filters({str(copy)!r}, {str(copy)!r}, ["plain"])"""
 
 
 def test_a_missing_pyarrow_is_named(copy, tmp_path, monkeypatch):
-    monkeypatch.setattr(writer, "stored_values", parquet_values.stored_values)
+    monkeypatch.setattr(writer, "stored_values", stored_values)
     monkeypatch.setitem(sys.modules, "pyarrow", None)
     with pytest.raises(ImportError, match="^this call needs pyarrow: pip install pyarrow$"):
         parquet.add_filters(copy, tmp_path / "b.parquet", ["plain"])

@@ -4,7 +4,7 @@ import subprocess
 import pytest
 from helpers import TYPES, column_of
 from sketch_hash import parquet
-from sketch_hash.parquet import values as parquet_values
+from sketch_hash.parquet.pyarrow_values import stored_values
 
 pytest.importorskip("numpy")
 pytestmark = pytest.mark.filterwarnings("ignore:the filters of")
@@ -58,7 +58,7 @@ def test_long_texts_are_read_a_few_at_a_time(is_list, pa, tmp_path):
     pa.parquet.write_table(pa.table({"x": rows}), tmp_path / "a", compression="zstd")
     with parquet.open(tmp_path / "a") as reader:
         column, = reader.footer.columns()
-        chunks = parquet_values.stored_values(reader.source.file, column, [0])
+        chunks = stored_values(reader.source.file, column, [0])
         sizes = [batch.nbytes for _, batches in chunks for batch in batches]
     assert max(sizes) < 1 << 26 and sum(sizes) > 5000 * 40_000
     parquet.add_filters(tmp_path / "a", tmp_path / "a", [column.name])

@@ -34,7 +34,7 @@ def test_a_class_cannot_be_subclassed(kind):
 
 
 @pytest.mark.parametrize("kind, size", [(xxh64, 80), (murmur3_x64_128, 40)])
-def test_a_checkpoint_of_another_length_is_an_error(kind, size):
+def test_a_checkpoint_of_a_wrong_length_raises(kind, size):
     hasher = kind(b"fox", 7)
     for length in (0, size - 1, size + 1):
         with pytest.raises(ValueError, match=f"^a checkpoint of {kind.__name__} does not have {length} bytes$"):
@@ -115,7 +115,7 @@ def test_columns_of_64_kib_release_the_gil(call, ticks):
     *((seed, OverflowError) for seed in (-1, 2**64, 2**64 + 7, 2**70, -(2**64))),
     *((seed, TypeError) for seed in (7.0, "7", None, b"7", fractions.Fraction(7))),
 ])
-def test_another_seed_is_an_error(call, seed, error):
+def test_an_invalid_seed_raises(call, seed, error):
     with pytest.raises(error):
         call(b"", seed)
 

@@ -242,7 +242,7 @@ impl<B: AsRef<[u8]>> BloomFilter<B> {
     /// use sketch_hash::{xxh64, BloomFilter};
     /// let mut filter = BloomFilter::with_len(1024)?;
     /// filter.insert(b"fox");
-    /// assert!(filter.contains_hash(xxh64(b"fox", 0)));
+    /// assert!(filter.contains_hash(xxh64(b"fox", 0)) && !filter.contains_hash(xxh64(b"dog", 0)));
     /// # Ok::<(), sketch_hash::Error>(())
     /// ```
     pub fn contains_hash(&self, hash: u64) -> bool {
@@ -318,9 +318,9 @@ impl<B: AsRef<[u8]>> BloomFilter<B> {
     /// use sketch_hash::{xxh64, BloomFilter};
     /// let mut filter = BloomFilter::with_len(1024)?;
     /// filter.insert(b"fox");
-    /// let mut found = [false];
-    /// filter.contains_each_hash(&[xxh64(b"fox", 0)], &mut found)?;
-    /// assert_eq!(found, [true]);
+    /// let mut found = [false; 2];
+    /// filter.contains_each_hash(&[xxh64(b"fox", 0), xxh64(b"dog", 0)], &mut found)?;
+    /// assert_eq!(found, [true, false]);
     /// # Ok::<(), sketch_hash::Error>(())
     /// ```
     ///
@@ -505,7 +505,7 @@ impl<B: AsRef<[u8]> + AsMut<[u8]>> BloomFilter<B> {
     /// xxh64_each(b"foxdog", &[0_u32, 3, 6], 0, &mut hashes)?;
     /// let mut filter = BloomFilter::with_len(1024)?;
     /// filter.insert_each_hash(&hashes)?;
-    /// assert!(filter.contains(b"dog"));
+    /// assert!(filter.contains(b"fox") && filter.contains(b"dog"));
     /// # Ok::<(), sketch_hash::Error>(())
     /// ```
     ///
@@ -530,11 +530,11 @@ impl<B: AsRef<[u8]> + AsMut<[u8]>> BloomFilter<B> {
     ///
     /// ```
     /// use sketch_hash::BloomFilter;
-    /// let mut one = BloomFilter::with_len(1024)?;
-    /// let mut two = one.clone();
-    /// two.insert(b"fox");
+    /// let (mut one, mut two) = (BloomFilter::with_len(1024)?, BloomFilter::with_len(1024)?);
+    /// one.insert(b"fox");
+    /// two.insert(b"dog");
     /// one.merge(&two)?;
-    /// assert!(one.contains(b"fox"));
+    /// assert!(one.contains(b"fox") && one.contains(b"dog") && !two.contains(b"fox"));
     /// # Ok::<(), sketch_hash::Error>(())
     /// ```
     ///

@@ -28,8 +28,8 @@ macro_rules! offsets {
 }
 offsets! { u32 i32 u64 i64 }
 
-/// The bytes that an offset can reach. As `sketch_hash.h` says, a negative offset is then past
-/// their end, since the library reads it as a number without a sign.
+/// Truncates `bytes` to what an `O` can address. The library reads offsets as unsigned numbers, so a
+/// negative one is then past the end.
 pub(crate) fn reachable<O: Offset>(bytes: &[u8]) -> &[u8] {
     &bytes[..bytes.len().min(O::GREATEST)]
 }
@@ -157,9 +157,10 @@ pub fn xxh64_each<O: Offset>(
 /// The hash of `values[i]` is written to `out[i]`. Further values are not read.
 ///
 /// ```
+/// use sketch_hash::{xxh64_each_u64, xxh64_u64};
 /// let mut hashes = [0; 2];
-/// sketch_hash::xxh64_each_u64(&[2026, 7], 0, &mut hashes)?;
-/// assert_eq!(hashes[0], sketch_hash::xxh64_u64(2026, 0));
+/// xxh64_each_u64(&[2026, 5], 7, &mut hashes)?;
+/// assert_eq!(hashes, [xxh64_u64(2026, 7), xxh64_u64(5, 7)]);
 /// # Ok::<(), sketch_hash::Error>(())
 /// ```
 ///

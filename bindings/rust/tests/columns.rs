@@ -1,10 +1,12 @@
 //! Columns of keys, and Bloom filters.
 
 use sketch_hash::{
-    murmur3_x64_128, murmur3_x64_128_each, xxh64, xxh64_each, xxh64_each_u64, xxh64_u64,
-    BloomFilter, Error, Number, Offset,
+    murmur3_x64_128, murmur3_x64_128_each, xxh64, xxh64_each, xxh64_each_u64, BloomFilter, Error,
+    Number, Offset, Xxh64,
 };
 use std::fmt::Debug;
+use std::sync::Arc;
+use std::thread;
 
 const SEED: u64 = u64::MAX - 4;
 
@@ -73,6 +75,17 @@ fn a_negative_offset_is_an_error_in_keys_past_32_bits() {
     assert_eq!(xxh64_each(&zeros, &last, SEED, &mut [0]), Ok(()));
 }
 
+/// The zeros are never written, so they take no memory.
+#[test]
+fn a_length_or_an_offset_may_be_past_32_bits() {
+    let (zeros, mut out) = (vec![0; (1 << 32) + 37], [0]);
+    let mut stream = Xxh64::new(u64::MAX);
+    stream.update(&zeros);
+    assert_eq!([stream.digest(), xxh64(&zeros, u64::MAX)], [0x9ae5_8395_6774_714e; 2]);
+    xxh64_each(&zeros, &[(1_u64 << 32) + 32, (1 << 32) + 37], SEED, &mut out).unwrap();
+    assert_eq!(out, [xxh64(&[0; 5], SEED)]);
+}
+
 #[test]
 fn extra_offsets_are_not_read() {
     let mut out = [5; 2];
@@ -87,25 +100,10 @@ fn a_column_of_no_keys_needs_no_offset() {
 }
 
 #[test]
-fn each_number_is_hashed() {
-    let mut out = [0; 2];
-    xxh64_each_u64(&[7, u64::MAX, 9], SEED, &mut out).unwrap();
-    assert_eq!(out, [xxh64_u64(7, SEED), xxh64_u64(u64::MAX, SEED)]);
-}
-
-#[test]
 fn a_missing_number_is_an_error() {
     let mut out = [5; 3];
     assert_eq!(xxh64_each_u64(&[7, 8], SEED, &mut out), Err(Error::Count));
     assert_eq!(out, [5; 3]);
-}
-
-#[test]
-fn an_offset_past_32_bits_is_used_whole() {
-    let zeros = vec![0; (1 << 32) + 37]; // never written, so they take no memory
-    let mut out = [0];
-    xxh64_each(&zeros, &[(1_u64 << 32) + 32, (1 << 32) + 37], SEED, &mut out).unwrap();
-    assert_eq!(out, [xxh64(&[0; 5], SEED)]);
 }
 
 // ---- Bloom filters
@@ -161,38 +159,16 @@ fn a_wrong_length_is_an_error() {
 }
 
 #[test]
-fn read_only_bytes_are_a_filter() {
-    static READ_ONLY: [u8; 32] = OF_ARROW;
-    let filter: BloomFilter<&'static [u8]> = BloomFilter::from_bytes(&READ_ONLY[..]).unwrap();
-    let of_another_thread = std::thread::spawn(move || filter.contains(b"a0"));
-    assert!(filter.contains(b"a9") && of_another_thread.join().unwrap());
-}
-
-#[test]
-fn a_view_changes_the_borrowed_bytes() {
+fn the_bytes_may_be_borrowed_boxed_or_shared() {
     let mut bytes = [0; 96];
-    let mut view = BloomFilter::from_bytes(&mut bytes[32..64]).unwrap();
-    view.extend(keys());
+    BloomFilter::from_bytes(&mut bytes[32..64]).unwrap().extend(keys());
     assert_eq!(bytes, [[0; 32], OF_ARROW, [0; 32]].as_flattened());
-}
-
-#[test]
-fn a_box_or_an_arc_of_bytes_is_a_filter() {
     let mut boxed = BloomFilter::from_bytes(Box::<[u8]>::from([0; 32])).unwrap();
     boxed.extend(keys());
-    let shared: std::sync::Arc<[u8]> = boxed.into_inner().into();
-    assert_eq!(
-        BloomFilter::from_bytes(shared).unwrap(),
-        BloomFilter::from_bytes(OF_ARROW).unwrap()
-    );
-}
-
-#[test]
-fn a_hash_may_be_inserted_in_place_of_its_key() {
-    let (filter, mut other) = (filter_of_keys(), BloomFilter::with_len(1024).unwrap());
-    keys().iter().for_each(|key| other.insert_hash(xxh64(key.as_bytes(), 0)));
-    assert_eq!(other, filter);
-    assert!(filter.contains_hash(xxh64(b"a0", 0)) && !filter.contains_hash(xxh64(b"fox", 0)));
+    let shared = BloomFilter::from_bytes(Arc::<[u8]>::from(boxed.into_inner())).unwrap();
+    let of_another_thread = shared.clone();
+    assert!(thread::spawn(move || of_another_thread.contains(b"a0")).join().unwrap());
+    assert_eq!(shared.as_bytes(), OF_ARROW);
 }
 
 #[test]
@@ -204,16 +180,6 @@ fn a_column_of_keys_equals_single_calls() {
     let mut found = [true; 3];
     filter.contains_each(b"a0foxa9", &[0_u32, 2, 5, 7], &mut found).unwrap();
     assert_eq!(found, [true, false, true]);
-}
-
-#[test]
-fn a_column_of_hashes_equals_single_calls() {
-    let mut filter = BloomFilter::with_len(1024).unwrap();
-    filter.insert_each_hash(&keys().map(|key| xxh64(key.as_bytes(), 0))).unwrap();
-    assert_eq!(filter, filter_of_keys());
-    let mut found = [true; 2];
-    filter.contains_each_hash(&[xxh64(b"fox", 0), xxh64(b"a9", 0)], &mut found).unwrap();
-    assert_eq!(found, [false, true]);
 }
 
 fn is_its_plain_bytes<N: Number>(number: N, bytes: &[u8], other: N) {
@@ -245,16 +211,6 @@ fn missing_values_are_an_error() {
     let missing = filter.contains_each(b"", &[0_u32, 0], &mut found);
     assert_eq!(missing, Err(Error::Offset { index: 2 }));
     assert_eq!(found, [true, false, true]);
-}
-
-#[test]
-fn merged_filters_contain_the_keys_of_both() {
-    let (mut one, mut two) =
-        (BloomFilter::with_len(1024).unwrap(), BloomFilter::with_len(1024).unwrap());
-    one.extend(&keys()[..5]);
-    two.extend(&keys()[5..]);
-    one.merge(&BloomFilter::from_bytes(two.as_bytes()).unwrap()).unwrap();
-    assert_eq!(one, filter_of_keys());
 }
 
 #[test]

@@ -51,6 +51,7 @@ fn hashes_are_the_published_ones() {
     }
 }
 
+/// Every second stream is resumed from a checkpoint after each piece.
 #[test]
 fn a_split_input_has_the_hash_of_one_call() {
     let mut rng = Rng(1);
@@ -64,23 +65,13 @@ fn a_split_input_has_the_hash_of_one_call() {
             end += 1 + rng.below(length - begin);
             x.update(&bytes[begin..end]);
             m.update(&bytes[begin..end]);
+            if round % 2 == 0 {
+                x = Xxh64::from_bytes(&x.to_bytes());
+                m = Murmur3X64_128::from_bytes(&m.to_bytes());
+            }
             assert_eq!(x.digest(), xxh64(&bytes[..end], seed));
             assert_eq!(m.digest(), murmur3_x64_128(&bytes[..end], seed));
         }
-    }
-}
-
-#[test]
-fn a_checkpoint_is_resumed() {
-    for cut in 0..=FOX.len() {
-        let (mut x, mut m) = (Xxh64::new(SEED), Murmur3X64_128::new(SEED));
-        x.update(&FOX[..cut]);
-        m.update(&FOX[..cut]);
-        (x, m) = (Xxh64::from_bytes(&x.to_bytes()), Murmur3X64_128::from_bytes(&m.to_bytes()));
-        x.update(&FOX[cut..]);
-        m.update(&FOX[cut..]);
-        assert_eq!(x.digest(), xxh64(FOX, SEED));
-        assert_eq!(m.digest(), murmur3_x64_128(FOX, SEED));
     }
 }
 
@@ -98,21 +89,6 @@ fn any_checkpoint_is_safe() {
         m.update(&bytes);
         assert_eq!(Xxh64::from_bytes(&x.to_bytes()).digest(), x.digest());
         assert_eq!(Murmur3X64_128::from_bytes(&m.to_bytes()).digest(), m.digest());
-    }
-}
-
-#[test]
-fn a_reset_drops_bytes_and_seed() {
-    for length in 0..100 {
-        let (mut x, mut m) = (Xxh64::new(5), Murmur3X64_128::new(5));
-        x.update(&vec![1; length]);
-        m.update(&vec![1; length]);
-        x.reset(7);
-        m.reset(7);
-        x.update(FOX);
-        m.update(FOX);
-        assert_eq!(x.digest(), xxh64(FOX, 7));
-        assert_eq!(m.digest(), murmur3_x64_128(FOX, 7));
     }
 }
 
@@ -166,18 +142,4 @@ fn a_stream_is_written_to() {
     std::io::copy(&mut &FOX[..], &mut x).unwrap();
     std::io::copy(&mut &FOX[..], &mut m).unwrap();
     assert_eq!((x.digest(), m.digest()), (xxh64(FOX, 7), murmur3_x64_128(FOX, 7)));
-}
-
-/// The zeros are never written, so they take no memory.
-#[test]
-fn a_length_may_be_past_32_bits() {
-    let zeros = vec![0; (1 << 32) + 37];
-    let (mut x, mut m) = (Xxh64::new(u64::MAX), Murmur3X64_128::new(u64::MAX));
-    x.update(&zeros);
-    m.update(&zeros);
-    let (of_xxh64, of_murmur) =
-        (0x9ae5_8395_6774_714e, [0x0b42_f570_045f_be6c, 0xe4db_2f08_1f3a_e5b5]);
-    assert_eq!((x.digest(), m.digest()), (of_xxh64, of_murmur));
-    assert_eq!(xxh64(&zeros, u64::MAX), of_xxh64);
-    assert_eq!(murmur3_x64_128(&zeros, u64::MAX), of_murmur);
 }

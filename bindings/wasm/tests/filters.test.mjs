@@ -322,18 +322,6 @@ test('10,000 filters of random sizes need little more memory than what was alive
     assert.ok(pages * 65536 < 2 * most, `${pages * 65536} bytes for ${most}`);
 });
 
-test('what filters of one size have freed another can use', async (t) => {
-    const { BloomFilter: Filter } = await load();
-    const filters = Array.from({ length: 64 }, () => new Filter(2 ** 16));
-    const grow = t.mock.method(WebAssembly.Memory.prototype, 'grow');
-    for (const filter of filters) filter.free();
-    for (const length of [2 ** 22, 2 ** 5, 3 * 2 ** 20]) {
-        const filter = new Filter(length);
-        filter.free();
-    }
-    assert.equal(grow.mock.callCount(), 0);
-});
-
 test('the memory of collected filters is reused', async (t) => {
     v8.setFlagsFromString('--expose-gc');
     const collect = runInNewContext('gc');

@@ -201,23 +201,3 @@ for (const type of ['bigint', 'number']) {
         assert.ok(works(await load()));
     });
 }
-
-// The positions of the arguments that point to words.
-for (const [name, positions, run] of [
-    ['sketch_murmur3_x64_128_each64', [2, 5], (loaded) => loaded.murmur128Each(fox, BigUint64Array.of(0n, 3n))],
-    ['sketch_murmur3_x64_128_digest', [0, 1], (loaded) => new loaded.Murmur128().digest()],
-    ['sketch_bloom_contains_each_u64', [2], (loaded) => new loaded.BloomFilter(32).hasEachNumber(BigUint64Array.of(5n))],
-]) {
-    test(`${name} gets aligned addresses after the data of the module`, async (t) => {
-        const { instantiate } = WebAssembly;
-        const called = t.mock.fn();
-        t.mock.method(WebAssembly, 'instantiate', async (...args) => {
-            const { exports } = (await instantiate(...args)).instance;
-            const spy = (...args) => { called(...args); return exports[name](...args); };
-            return { instance: { exports: { ...exports, [name]: spy } } };
-        });
-        run(await load());
-        const args = called.mock.calls[0].arguments;
-        for (const at of positions) assert.ok(args[at] % 8n === 0n && args[at] > 1024n);
-    });
-}

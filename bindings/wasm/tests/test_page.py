@@ -1,19 +1,16 @@
 """The page in headless Chromium, opened as a file and from a server, and the module in a page. The hashes are compared
-with python3-xxhash and the shared library of dist/."""
-import ctypes
+with those of the Python package."""
 import functools
 import http.server
 import json
 import random
 import shutil
-import subprocess
-import tempfile
 import threading
 
 import pytest
 from conftest import DIST
 
-xxhash = pytest.importorskip("xxhash")
+sketch_hash = pytest.importorskip("sketch_hash")
 pytest.importorskip("selenium")
 from selenium import webdriver
 from selenium.webdriver.chrome.service import Service
@@ -27,22 +24,9 @@ FOX_HASHES = ("0b242d361fda71bc", "e34bbc7bbc071b6c7a433ca9c49a9347", "6c1b07bc7
 NONE = ("", "", "")
 
 
-@functools.cache
-def library():
-    """The library for C. Linux keeps it after its file is gone."""
-    with tempfile.TemporaryDirectory() as folder:
-        command = ["gcc", "-O1", "-fPIC", "-shared", "-I", DIST / "include", "-o", f"{folder}/library.so"]
-        subprocess.run([*command, DIST / "sketch_hash.c"], check=True)
-        found = ctypes.CDLL(f"{folder}/library.so")
-    words = ctypes.POINTER(ctypes.c_uint64)
-    found.sketch_murmur3_x64_128.argtypes = ctypes.c_char_p, ctypes.c_size_t, ctypes.c_uint64, words
-    return found
-
-
 def hashes(data, seed=0):
-    words = (ctypes.c_uint64 * 2)()
-    library().sketch_murmur3_x64_128(data, len(data), seed, words)
-    return xxhash.xxh64_hexdigest(data, seed), f"{words[0]:016x}{words[1]:016x}", bytes(words).hex()
+    in_memory_order = sketch_hash.murmur3_x64_128_bytes(data, seed).hex()
+    return sketch_hash.xxh64_hexdigest(data, seed), sketch_hash.murmur3_x64_128_hexdigest(data, seed), in_memory_order
 
 
 pytestmark = pytest.mark.xdist_group("browser")  # one worker of pytest has the browser
@@ -166,7 +150,7 @@ def test_a_file_may_have_more_than_4_gibibytes(chromium, tmp_path):
 
 
 @pytest.mark.parametrize("text, seed", [(str(2**64 - 1), 2**64 - 1), ("0x10", 16), (" 16\t", 16), ("0XaB", 171)])
-def test_another_seed_gives_other_hashes(text, seed, page):
+def test_a_new_seed_gives_new_hashes(text, seed, page):
     page.choose(fox=FOX)
     page.wait_for_hashes("fox", FOX_HASHES)
     page.type("seed", text)

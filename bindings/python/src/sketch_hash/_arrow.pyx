@@ -6,7 +6,7 @@ from libc.stdint cimport int32_t, int64_t, uint64_t, uintptr_t
 from libc.stdlib cimport calloc, free
 from libc.string cimport memcpy, memset
 
-from ._arguments cimport overlap
+from ._common cimport overlap
 from ._library cimport *
 
 import os
@@ -284,12 +284,12 @@ cdef bint exports_arrow(object keys) except -1:
 @cython.no_gc
 cdef class Arrow:
     def __cinit__(self, keys):
-        kind = type(keys)
-        if hasattr(kind, "__arrow_c_array__"):
-            schema, array = kind.__arrow_c_array__(keys)
+        cls = type(keys)
+        if hasattr(cls, "__arrow_c_array__"):
+            schema, array = cls.__arrow_c_array__(keys)
             self.import_array(schema, array)
         else:
-            self.import_stream(kind.__arrow_c_stream__(keys))
+            self.import_stream(cls.__arrow_c_stream__(keys))
 
     def __dealloc__(self):
         cdef Chunk *chunk

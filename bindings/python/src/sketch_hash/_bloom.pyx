@@ -7,14 +7,14 @@ from cpython.ref cimport Py_DECREF
 from libc.stdint cimport uint32_t, uint64_t, uintptr_t
 from libc.string cimport memcpy
 
-from ._arguments cimport (
-    PyBuffer_Release, PyObject_GetBuffer, View, get_bytes, overlap, refuse_addresses, word_of,
-)
 from ._columns cimport (
     ARROW, NUMBERS32, NUMBERS64, OFFSETS32, OFFSETS64, Column, check_offsets, hashes_of, keys_of,
 )
+from ._common cimport (
+    LONG, Lock, PyBuffer_Release, PyObject_GetBuffer, View, acquire, get_bytes, overlap, refuse_addresses, release, wait,
+    word_of,
+)
 from ._library cimport *
-from ._locks cimport LONG, Lock, acquire, release, wait
 
 import operator
 import pickle
@@ -82,17 +82,17 @@ cdef int get_key(object key, View *memory) except -1:
 
 cdef int insert_column(void *bits, size_t length, Column keys, size_t *wrong) noexcept nogil:
     cdef void *numbers = keys.numbers.buf
-    if keys.kind == ARROW:
+    if keys.content == ARROW:
         return keys.arrow.insert(bits, length)
-    if keys.kind == OFFSETS32:
+    if keys.content == OFFSETS32:
         return sketch_bloom_insert_each32(
             bits, length, keys.data.buf, keys.reach, <uint32_t *>numbers, keys.items, wrong)
-    if keys.kind == OFFSETS64:
+    if keys.content == OFFSETS64:
         return sketch_bloom_insert_each64(
             bits, length, keys.data.buf, keys.reach, <uint64_t *>numbers, keys.items, wrong)
-    if keys.kind == NUMBERS32:
+    if keys.content == NUMBERS32:
         return sketch_bloom_insert_each_u32(bits, length, <uint32_t *>numbers, keys.count)
-    if keys.kind == NUMBERS64:
+    if keys.content == NUMBERS64:
         return sketch_bloom_insert_each_u64(bits, length, <uint64_t *>numbers, keys.count)
     return sketch_bloom_insert_each_hash(bits, length, <uint64_t *>numbers, keys.count)
 
@@ -102,17 +102,17 @@ cdef int contains_column(
 ) noexcept nogil:
     cdef void *numbers = keys.numbers.buf
     cdef size_t items = keys.items, count = keys.count
-    if keys.kind == ARROW:
+    if keys.content == ARROW:
         return keys.arrow.contains(bits, length, found)
-    if keys.kind == OFFSETS32:
+    if keys.content == OFFSETS32:
         return sketch_bloom_contains_each32(
             bits, length, keys.data.buf, keys.reach, <uint32_t *>numbers, items, found, count, wrong)
-    if keys.kind == OFFSETS64:
+    if keys.content == OFFSETS64:
         return sketch_bloom_contains_each64(
             bits, length, keys.data.buf, keys.reach, <uint64_t *>numbers, items, found, count, wrong)
-    if keys.kind == NUMBERS32:
+    if keys.content == NUMBERS32:
         return sketch_bloom_contains_each_u32(bits, length, <uint32_t *>numbers, items, found, count)
-    if keys.kind == NUMBERS64:
+    if keys.content == NUMBERS64:
         return sketch_bloom_contains_each_u64(bits, length, <uint64_t *>numbers, items, found, count)
     return sketch_bloom_contains_each_hash(bits, length, <uint64_t *>numbers, items, found, count)
 
@@ -363,7 +363,7 @@ cdef class BloomFilter:
 
     cdef int insert(self, Column keys) except -1:
         self.insert_rows(keys)
-        while keys.has_rest():
+        while keys.check_signals_if_more():
             self.insert_rows(keys)
         return 0
 
@@ -389,7 +389,7 @@ cdef class BloomFilter:
     cdef object contains(self, Column keys):
         found = bytearray(keys.count)
         self.contains_rows(keys, <unsigned char *>PyByteArray_AS_STRING(found))
-        while keys.has_rest():
+        while keys.check_signals_if_more():
             self.contains_rows(keys, <unsigned char *>PyByteArray_AS_STRING(found))
         return memoryview(found).cast("?")
 

@@ -1,8 +1,8 @@
 """Columns: many keys in a call."""
-from ._arguments cimport View
 from ._arrow cimport Arrow
+from ._common cimport View
 
-cdef enum Kind:
+cdef enum Content:
     OFFSETS32, OFFSETS64, NUMBERS32, NUMBERS64, HASHES, ARROW
 
 
@@ -10,12 +10,12 @@ cdef class Column:
     cdef object texts  # what data is of: of bytes it is no buffer that could keep them
     cdef View data, numbers  # the bytes of texts; their offsets, or else the numbers
     cdef Arrow arrow
-    cdef Kind kind
+    cdef Content content
     cdef size_t reach  # how many bytes an offset can reach
     cdef size_t items, count  # how many numbers or offsets there are, and how many keys
 
     cdef Py_ssize_t size(self) noexcept
-    cdef bint has_rest(self) except -1
+    cdef bint check_signals_if_more(self) except -1
     cdef bint overlaps(self, const void *memory, size_t length) noexcept
 
 

@@ -8,10 +8,9 @@ from cpython.unicode cimport PyUnicode_AsUTF8String
 from libc.stdint cimport INT32_MAX, uint64_t, uintptr_t
 from libc.string cimport strchr, strlen, strspn
 
-from ._arguments cimport PyBuffer_Release, PyObject_GetBuffer, View, get_bytes, overlap, word_of
 from ._arrow cimport Arrow, exports_arrow
+from ._common cimport LONG, PyBuffer_Release, PyObject_GetBuffer, View, get_bytes, overlap, word_of
 from ._library cimport *
-from ._locks cimport LONG
 
 import array
 import itertools
@@ -26,18 +25,18 @@ cdef class Column:
         PyBuffer_Release(&self.numbers)
 
     cdef Py_ssize_t size(self) noexcept:
-        return self.arrow.num_bytes if self.kind == ARROW else self.data.len + self.numbers.len
+        return self.arrow.num_bytes if self.content == ARROW else self.data.len + self.numbers.len
 
-    cdef bint has_rest(self) except -1:
-        """Whether a call has left rows for another one, between which it looks for signals. Their handlers may call the
-        object whose lock the call held, so it releases the lock before."""
-        if self.kind != ARROW or self.arrow.chunk is NULL:
+    cdef bint check_signals_if_more(self) except -1:
+        """Returns whether rows are left for another call. If so, it runs signal handlers first, and raises what they raise.
+        They may call the object whose lock the last call held, so that is released before."""
+        if self.content != ARROW or self.arrow.chunk is NULL:
             return False
         PyErr_CheckSignals()
         return True
 
     cdef bint overlaps(self, const void *memory, size_t length) noexcept:
-        if self.kind == ARROW:
+        if self.content == ARROW:
             return self.arrow.overlaps(memory, length)
         return (overlap(self.data.buf, self.data.len, memory, length)
                 or overlap(self.numbers.buf, self.numbers.len, memory, length))
@@ -86,7 +85,7 @@ cdef Column keys_of(object keys):
 cdef Column hashes_of(object hashes):
     """The hashes of keys of a filter."""
     column = numbers_of(hashes, hash_rule)
-    column.kind = HASHES
+    column.content = HASHES
     return column
 
 
@@ -116,12 +115,12 @@ cdef bint is_arrow(object keys) except -1:
     return False
 
 
-# ---- Columns of each kind
+# ---- Columns by their content
 
 cdef Column arrow_of(object keys):
     cdef Column column = Column.__new__(Column)
     column.arrow = Arrow(keys)
-    column.kind = ARROW
+    column.content = ARROW
     column.count = column.arrow.count
     return column
 
@@ -132,10 +131,10 @@ cdef Column pair_of(object pair):
     column.texts = (<tuple>pair)[0]
     get_bytes(column.texts, &column.data)
     letter = get_numbers(column, (<tuple>pair)[1], offset_rule)
-    column.kind = OFFSETS32 if column.numbers.itemsize == 4 else OFFSETS64
+    column.content = OFFSETS32 if column.numbers.itemsize == 4 else OFFSETS64
     column.count = column.items - 1 if column.items else 0
     column.reach = column.data.len
-    if column.reach > INT32_MAX and column.kind == OFFSETS32 and (letter == c"i" or letter == c"l"):
+    if column.reach > INT32_MAX and column.content == OFFSETS32 and (letter == c"i" or letter == c"l"):
         column.reach = INT32_MAX  # as sketch_hash.h says: a negative offset is then past the end
     return column
 
@@ -143,7 +142,7 @@ cdef Column pair_of(object pair):
 cdef Column numbers_of(object numbers, NumberRule rule):
     cdef Column column = Column.__new__(Column)
     get_numbers(column, numbers, rule)
-    column.kind = NUMBERS32 if column.numbers.itemsize == 4 else NUMBERS64
+    column.content = NUMBERS32 if column.numbers.itemsize == 4 else NUMBERS64
     column.count = column.items
     return column
 
@@ -219,19 +218,19 @@ cdef int check_offsets(int status, size_t wrong) except -1:
 
 cdef int hash_keys(Column keys, int words, uint64_t seed, void *out, size_t *wrong) noexcept nogil:
     """Writes a word of XXH64 or two of Murmur for each key."""
-    if keys.kind == ARROW:
+    if keys.content == ARROW:
         keys.arrow.hash(words, seed, <uint64_t *>out)
         return 0
-    if keys.kind == NUMBERS64:
+    if keys.content == NUMBERS64:
         return sketch_xxh64_each_u64(<uint64_t *>keys.numbers.buf, keys.items, seed, out, keys.count)
-    return hash_texts(words, 4 if keys.kind == OFFSETS32 else 8, keys.data.buf, keys.reach, keys.numbers.buf,
+    return hash_texts(words, 4 if keys.content == OFFSETS32 else 8, keys.data.buf, keys.reach, keys.numbers.buf,
                       keys.items, seed, out, keys.count, wrong)
 
 
 cdef object hash_each(Column keys, int words, object seed):
     cdef uint64_t number = word_of(seed, "a seed")
     cdef size_t wrong = 0
-    if keys.kind == ARROW:
+    if keys.content == ARROW:
         keys.arrow.refuse_nulls()
     hashes = bytearray(8 * words * keys.count)
     cdef void *out = PyByteArray_AS_STRING(hashes)
@@ -242,7 +241,7 @@ cdef object hash_each(Column keys, int words, object seed):
             with nogil:
                 status = hash_keys(keys, words, number, out, &wrong)
         check_offsets(status, wrong)
-        if not keys.has_rest():
+        if not keys.check_signals_if_more():
             break
     return memoryview(hashes).cast("Q")
 

@@ -4,9 +4,8 @@ from cpython.bytes cimport PyBytes_AS_STRING, PyBytes_FromStringAndSize
 from libc.stdint cimport uint32_t, uint64_t
 from libc.string cimport memcpy
 
-from ._arguments cimport PyBuffer_Release, View, get_bytes, word_of
+from ._common cimport LONG, Lock, PyBuffer_Release, View, acquire, get_bytes, release, wait, word_of
 from ._library cimport *
-from ._locks cimport LONG, Lock, acquire, release, wait
 
 cdef extern from "Python.h":
     object PyUnicode_FromStringAndSize(const char *, Py_ssize_t)

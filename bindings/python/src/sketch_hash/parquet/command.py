@@ -1,4 +1,4 @@
-"""Bloom filters of Parquet files. A folder stands for all files below it that end in .parquet.
+"""Bloom filters of Parquet files. A folder means all files below it that end in .parquet.
 
 Exit status: 0 if all is done, 1 if a file failed (the others are done), 2 if the command line is wrong, 3 if there is nothing
 (a file without filters; with ask, no row group that may have the value), 4 if a filter lacks a value, so queries lose rows.
@@ -106,7 +106,8 @@ def end_with_parent():
 
 
 def files_of(paths):
-    """As pyarrow's datasets, without what begins with . or _. A folder that cannot be read stands for itself, and fails."""
+    """The files at paths and below folders, as in pyarrow's datasets without names that begin with . or _. A folder that
+    cannot be read is returned itself, and to open it fails."""
     for path in paths:
         if not os.path.isdir(path):
             yield path

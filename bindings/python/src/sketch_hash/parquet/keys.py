@@ -35,7 +35,7 @@ def keys_of(value, column):
 
 
 def parse(text, column):
-    """The value of a column that a text stands for."""
+    """Returns the value of a column that is written as this text."""
     kind = column.kind
     try:
         value = PARSERS.get(kind.name, PARSERS.get(kind.type, str))(text)

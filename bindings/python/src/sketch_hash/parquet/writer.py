@@ -5,10 +5,10 @@ from operator import itemgetter
 
 from .. import BloomFilter, xxh64_intdigest
 from .files import open_file, replaced
+from .pyarrow_values import stored_values
 from .reader import BloomFilterReader, all_places, false_positive_rate, places_of
-from .values import stored_values
 
-MOST_BYTES = 1 << 27  # of a filter that Arrow reads
+MOST_BYTES = 128 << 20  # of a filter that Arrow reads
 
 
 class FilterError(ValueError):

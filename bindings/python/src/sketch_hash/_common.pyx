@@ -1,5 +1,6 @@
-"""Arguments of calls: bytes-like objects, and whole numbers."""
+"""Arguments of calls, and locks of objects that threads share."""
 from cpython.buffer cimport PyBUF_FORMAT, PyBUF_ND
+from cpython.pythread cimport PyThread_allocate_lock, PyThread_free_lock
 from libc.stdint cimport uint64_t
 from libc.string cimport strpbrk
 
@@ -40,3 +41,14 @@ cdef uint64_t word_of(object number, str name) except? -1:
         return PyLong_AsUnsignedLongLong(number)
     except OverflowError:
         raise OverflowError(f"{name} must be from 0 to 2**64 - 1") from None
+
+
+cdef class Lock:
+    def __cinit__(self):
+        self.handle = PyThread_allocate_lock()
+        if self.handle is NULL:
+            raise MemoryError("no memory for a lock")
+
+    def __dealloc__(self):
+        if self.handle is not NULL:
+            PyThread_free_lock(self.handle)
