@@ -12,7 +12,7 @@ def text_of(name):
 
 @pytest.mark.parametrize("name", [
     "README.md", "bindings/python/src/sketch_hash/__init__.py", "bindings/rust/Cargo.toml", "dist/CMakeLists.txt",
-    "dist/Makefile", "dist/include/sketch_hash.h", "dist/sketch_hash.3", "dist/sketch_hash.pc.in", "dist/wasm/hashes.mjs",
+    "dist/Makefile", "dist/include/sketch_hash.h", "dist/sketch_hash.pc.in", "dist/wasm/hashes.mjs",
     "dist/wasm/package.json",
 ])
 def test_the_version_is_that_of_the_changelog(name):
@@ -39,7 +39,7 @@ def test_packages_say_of_a_wrong_offset_what_the_header_says():
 @pytest.mark.parametrize("name", [
     "bindings/python/README.md", f"{PYTHON}/_bloom.pyx", f"{RUST}/bloom.rs", f"{RUST}/error.rs",
     f"{PYTHON}/parquet/writer.py", f"{JAVASCRIPT}/filters.mjs", f"{JAVASCRIPT}/sketch_hash.d.mts",
-    "dist/include/sketch_hash.h", "dist/sketch_hash.3",
+    "dist/include/sketch_hash.h",
 ])
 def test_the_largest_filter_for_keys_is_that_of_the_core(name):
     log2_blocks = int(re.search(r"MAX_LOG2_BLOCKS: u32 = (\d+);", text_of("crates/sketch_bloom/src/size.rt"))[1])

@@ -1,4 +1,4 @@
-"""The library for C as people build and install it: make, pkg-config, CMake, the man page."""
+"""The library for C as people build and install it: make, pkg-config, CMake."""
 import os
 import re
 import shlex
@@ -9,14 +9,12 @@ import pytest
 from conftest import CALLS, DIST, VERSION
 
 CC = ["gcc", "-Wall", "-Wextra", "-Werror"]
-MAN_PAGE = (DIST / "sketch_hash.3").read_text()
 MAJOR, MINOR, _ = map(int, VERSION.split("."))
 SHARED = f"libsketch_hash.so.{MAJOR}"
 
 INSTALLED = {
     "include/sketch_hash.h", "lib/libsketch_hash.a", "lib/libsketch_hash.so", f"lib/{SHARED}",
-    "lib/pkgconfig/sketch_hash.pc", "share/man/man3/sketch_hash.3",
-    *(f"share/man/man3/{call}.3" for call in CALLS),
+    "lib/pkgconfig/sketch_hash.pc",
     *(f"share/doc/sketch_hash/{name}" for name in ("LICENSE", "NOTICE", "PROVED", "README.md")),
 }
 
@@ -96,7 +94,7 @@ def test_install_rejects_a_relative_folder(name, make, tmp_path):
 
 
 def test_uninstall_keeps_other_files(prefix, make):
-    others = {"include/sketch_hash2.h", "lib/libsketch_hash.so.1", "share/man/man3/sketch_hash2.3"}
+    others = {"include/sketch_hash2.h", "lib/libsketch_hash.so.1", "share/man/man3/sketch_hash.3"}
     for name in others:
         (prefix / name).parent.mkdir(parents=True, exist_ok=True)
         (prefix / name).touch()
@@ -131,28 +129,18 @@ def test_shared_library_has_a_version_for_each_call_and_a_name(compiler, make, d
     assert make("clean").returncode == 0
 
 
-# ---- the man page
-
-def section(name):
-    return re.search(rf"^\.SH {name}\n(.*?)(?=^\.SH |\Z)", MAN_PAGE, re.M | re.S)[1]
-
-
-def test_man_page_has_the_declarations_of_the_header():
-    header = re.sub(r"/\*.*?\*/|\s", "", (DIST / "include/sketch_hash.h").read_text(), flags=re.S)
-    shown = [re.sub(r'["\s]', "", line) for line in re.findall(r"^\.BI? (.*\).*;\"?)$", section("SYNOPSIS"), re.M)]
-    assert sorted(re.search(r"(sketch_\w+)\(", line)[1] for line in shown if "_INIT(" not in line) == CALLS
-    assert [line for line in shown if line not in header and "_INIT(" not in line] == []
-    assert sorted(re.findall(r"\bsketch_\w+", section("NAME"))) == CALLS
-
-
 # ---- pkg-config and CMake
+
+def program_of_the_readme(kind):
+    (program,) = re.findall(rf"^```{kind}\n(.*?)^```", (DIST / "README.md").read_text(), re.M | re.S)
+    return program
+
 
 def test_pkg_config_finds_the_library(prefix, need, tmp_path, monkeypatch):
     need("pkg-config")
     monkeypatch.setenv("PKG_CONFIG_LIBDIR", str(prefix / "lib/pkgconfig"))
     monkeypatch.setenv("LD_LIBRARY_PATH", str(prefix / "lib"))
-    (program,) = re.findall(r"^```c bloom\n(.*?)^```", (DIST / "README.md").read_text(), re.M | re.S)
-    (tmp_path / "filter.c").write_text(program)
+    (tmp_path / "filter.c").write_text(program_of_the_readme("c bloom"))
     flags = shlex.split(output("pkg-config", "--cflags", "--libs", "sketch_hash"))
     output(*CC, "-o", tmp_path / "filter", tmp_path / "filter.c", *flags)
     assert output(tmp_path / "filter") == "certainly not\n"
@@ -167,7 +155,7 @@ def cmake(source, build, *args):
 # The program is linked with each of the libraries: as they are installed, or from the folder that is given.
 PROJECT = """
 cmake_minimum_required(VERSION 3.13)
-project(sum C)
+project(fox C)
 if(sketch_hash_folder)
     add_subdirectory("${sketch_hash_folder}" sketch_hash EXCLUDE_FROM_ALL)
 else()
@@ -179,10 +167,10 @@ else()
     endforeach()
     find_package(sketch_hash ${version} REQUIRED)
 endif()
-add_executable(sum sum.c)
-target_link_libraries(sum sketch_hash::sketch_hash)
-add_executable(sum_static sum.c)
-target_link_libraries(sum_static sketch_hash::sketch_hash_static)
+add_executable(fox fox.c)
+target_link_libraries(fox sketch_hash::sketch_hash)
+add_executable(fox_static fox.c)
+target_link_libraries(fox_static sketch_hash::sketch_hash_static)
 """
 
 
@@ -192,8 +180,7 @@ def test_cmake_builds_with_both_libraries(way, need, tmp_path):
     project, args = tmp_path / "project", [f"-Dsketch_hash_folder={DIST}"]
     project.mkdir()
     (project / "CMakeLists.txt").write_text(PROJECT)
-    example = re.search(r"^\.nf\n(.*?)^\.fi", section("EXAMPLES"), re.M | re.S)[1]
-    (project / "sum.c").write_text(example.replace("\\e", "\\"))
+    (project / "fox.c").write_text(program_of_the_readme("c"))
     if way == "find_package":
         prefix = tmp_path / "a prefix"
         cmake(DIST, tmp_path / "build", f"-DCMAKE_INSTALL_PREFIX={prefix}", "-DCMAKE_INSTALL_LIBDIR=lib")
@@ -201,9 +188,8 @@ def test_cmake_builds_with_both_libraries(way, need, tmp_path):
         others = f"{MAJOR - 1}.0;{MAJOR}.{MINOR + 1};{MAJOR + 1}.0"
         args = [f"-DCMAKE_PREFIX_PATH={prefix}", "-DCMAKE_FIND_USE_CMAKE_SYSTEM_PATH=OFF",
                 f"-Dversion={MAJOR}.{MINOR}", f"-Dother_versions={others}"]
-        expected = {f"lib/{SHARED}", "lib/libsketch_hash.a", "include/sketch_hash.h", "share/man/man3/sketch_hash.3"}
+        expected = {f"lib/{SHARED}", "lib/libsketch_hash.a", "include/sketch_hash.h"}
         assert expected < files_in(prefix)
     cmake(project, project / "build", *args)
-    for name in ("sum", "sum_static"):
-        fox = output(project / "build" / name, input="The quick brown fox jumps over the lazy dog")
-        assert fox == "0b242d361fda71bc\n"
+    for name in ("fox", "fox_static"):
+        assert output(project / "build" / name) == "0b242d361fda71bc\n"
