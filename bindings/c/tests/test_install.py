@@ -8,7 +8,6 @@ import subprocess
 import pytest
 from conftest import CALLS, DIST, VERSION
 
-CC = ["gcc", "-Wall", "-Wextra", "-Werror"]
 MAJOR, MINOR, _ = map(int, VERSION.split("."))
 SHARED = f"libsketch_hash.so.{MAJOR}"
 
@@ -142,7 +141,7 @@ def test_pkg_config_finds_the_library(prefix, need, tmp_path, monkeypatch):
     monkeypatch.setenv("LD_LIBRARY_PATH", str(prefix / "lib"))
     (tmp_path / "filter.c").write_text(program_of_the_readme("c bloom"))
     flags = shlex.split(output("pkg-config", "--cflags", "--libs", "sketch_hash"))
-    output(*CC, "-o", tmp_path / "filter", tmp_path / "filter.c", *flags)
+    output("gcc", "-Wall", "-Wextra", "-Werror", "-o", tmp_path / "filter", tmp_path / "filter.c", *flags)
     assert output(tmp_path / "filter") == "certainly not\n"
     assert output("pkg-config", "--static", "--libs-only-l", "sketch_hash").split() == ["-lsketch_hash"]
 

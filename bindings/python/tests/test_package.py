@@ -12,10 +12,7 @@ from conftest import DIST, ROOT
 
 HERE = pathlib.Path(__file__).resolve().parent
 PIP = [sys.executable, "-m", "pip", "install", "--quiet", "--no-index", "--no-deps", "--root-user-action=ignore"]
-PACKAGE = HERE.parent / "src/sketch_hash"
-PRIVATE = [path.stem for path in PACKAGE.glob("parquet/*.py") if not path.with_suffix(".pyi").exists()]
 LICENCE = ["LICENSE", "NOTICE"]
-FOX = "import sketch_hash; print(sketch_hash.xxh64_hexdigest(b'The quick brown fox jumps over the lazy dog'))"
 
 
 @pytest.fixture
@@ -49,7 +46,8 @@ def test_an_archive_of_the_sources_has_the_licence_and_is_installed(source, tmp_
     with tarfile.open(archive) as file:
         assert {*LICENCE} <= {name.partition("/")[2] for name in file.getnames()}
     assert run([*PIP, "--no-build-isolation", "--target", tmp_path / "installed", archive]).returncode == 0
-    assert run([sys.executable, "-c", FOX], PYTHONPATH=str(tmp_path / "installed")).stdout == "0b242d361fda71bc\n"
+    code = "import sketch_hash; print(sketch_hash.xxh64_hexdigest(b'fox'))"
+    assert run([sys.executable, "-c", code], PYTHONPATH=str(tmp_path / "installed")).stdout == "bce6c02d5136f238\n"
 
 
 def test_only_its_own_name_leaves_an_extension(source, tmp_path):
@@ -74,7 +72,8 @@ def test_stubs_fit_the_module(need, tmp_path):
     need("python:mypy", "python:sketch_hash")
     import sketch_hash
     # Programs and private modules have no stubs, nor has pyarrow.
-    private = ",".join(f"sketch_hash.parquet.{name}" for name in PRIVATE)
+    modules = (HERE.parent / "src/sketch_hash/parquet").glob("*.py")
+    private = ",".join(f"sketch_hash.parquet.{path.stem}" for path in modules if not path.with_suffix(".pyi").exists())
     settings = f"[mypy]\nignore_missing_imports = True\n[mypy-{private}]\nignore_errors = True\n"
     (tmp_path / "mypy.ini").write_text(settings)
     folder = str(pathlib.Path(sketch_hash.__file__).parents[1])
