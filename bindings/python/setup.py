@@ -27,8 +27,8 @@ if (dist / "sketch_hash.c").is_file():
 exports = ["-Xlinker", f"--version-script={here}/exports.map"] if sys.platform == "linux" else []
 library = "sketch_hash", {"sources": ["c/sketch_hash.c"], "include_dirs": ["c"]}
 modules = [
-    Extension(f"sketch_hash.{path.stem}", [f"src/sketch_hash/{path.name}"], include_dirs=["c"], extra_link_args=exports)
-    for path in sorted(here.glob("src/sketch_hash/*.pyx"))
+    Extension(".".join(path.with_suffix("").parts[1:]), [str(path)], include_dirs=["c"], extra_link_args=exports)
+    for path in sorted(path.relative_to(here) for path in here.glob("src/**/*.pyx"))
 ]
 directives = {"language_level": 3, "binding": False, "auto_pickle": False, "always_allow_keywords": False}
 setup(

@@ -53,7 +53,7 @@ def test_an_archive_of_the_sources_has_the_licence_and_is_installed(source, tmp_
 def test_only_its_own_name_leaves_an_extension(source, tmp_path):
     """Also if the linker has none of Debian's options: other versions of the calls may be in the same process."""
     assert install(source, tmp_path / "installed", LDSHARED="gcc -shared", CFLAGS="-O0").returncode == 0
-    extensions = [*(tmp_path / "installed/sketch_hash").glob("*.so")]
+    extensions = [*(tmp_path / "installed/sketch_hash").rglob("*.so")]
     assert extensions
     for extension in extensions:
         names = subprocess.check_output(["nm", "-D", "--defined-only", "--format=just-symbols", extension], text=True)

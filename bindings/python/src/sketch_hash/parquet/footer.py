@@ -6,7 +6,7 @@ import array
 import itertools
 import operator
 
-from .._thrift import BINARY, I32, I64, LIST, STRUCT, TRUE, Reader, Writer, list_of, zigzag
+from ._thrift import BINARY, I32, I64, LIST, STRUCT, TRUE, Reader, Writer, list_of, zigzag
 
 # Numbers of the fields, as parquet.thrift gives them, in FileMetaData, SchemaElement, RowGroup, ColumnChunk and
 # ColumnMetaData.
