@@ -13,7 +13,7 @@ import sys
 
 from body import Body
 from expression import HEAD, atom, cast
-from module import Module, Struct, Unknown
+from module import Module, Struct, Unknown, bare
 from statements import Let, Text, with_type, wrap
 from values import TYPES, VECTORS, struct_name
 
@@ -52,15 +52,14 @@ class Signatures:
         return self.names.get(name, name)
 
     def constant(self, token):
-        return self.names[token[1:].strip('"')]
+        return self.names[bare(token)]
 
     def result(self, body, operand):
         value, declared = body.value(operand), self.declared.get(body.function.name)
         if isinstance(value, list):
             return f"({struct_name(operand.type)}){{ {', '.join(map(str, value))} }}"
         if declared and declared.type == "int":
-            number = body.constant(operand)
-            return str(number) if number is not None else str(cast("int", value))
+            return str(cast("int", value))
         return str(value)
 
 

@@ -28,6 +28,11 @@ class Unknown(SystemExit):
     """What this program does not know stops it."""
 
 
+def bare(token):
+    """A name without its sign."""
+    return token[1:].strip('"')
+
+
 class Line:
     """The tokens of one line, from left to right."""
 
@@ -57,10 +62,6 @@ class Line:
 
     def stop(self):
         raise Unknown(f"print_c does not know: {self.text}")
-
-    def name(self):
-        """Of a function or a label, without its sign."""
-        return self.take()[1:].strip('"')
 
     def is_at_type(self):
         return self.peek() == "{" or self.peek() in ("<", "[") and self.peek(2) == "x" or TYPE.fullmatch(self.peek())
@@ -94,7 +95,7 @@ class Line:
     def value(self, type):
         token = self.take()
         if type == "label":
-            return Operand(type, token[1:].strip('"'))
+            return Operand(type, bare(token))
         if token == "<":
             elements = self.operands()
             self.take(">")
@@ -138,7 +139,7 @@ def instruction(text):
     line.words(FLAGS)
     if operation == "call":
         line.attributes()
-        type, function = line.type(), line.name()
+        type, function = line.type(), bare(line.take())
         return Instruction(result, operation, type, line.in_brackets(), function)
     more = line.take(*ORDERS) if operation == "icmp" else None
     operands = line.operands()
@@ -156,7 +157,7 @@ def instruction(text):
     elif operation == "getelementptr" and type == "i8":
         type, operands = "ptr", operands[1:]
     elif operation == "phi":
-        more = [label.token[1:].strip('"') for label in operands[2::2]]
+        more = [bare(label.token) for label in operands[2::2]]
         operands = operands[1::2]
     elif operation == "extractvalue":
         type = type.fields[int(operands[1].token)]
@@ -178,7 +179,7 @@ class Function:
         line.take("define")
         self.is_internal = line.has("internal")
         line.attributes()
-        self.type, self.name = line.type(), line.name()
+        self.type, self.name = line.type(), bare(line.take())
         self.parameters = line.in_brackets()
         self.blocks, label = {}, "entry"
         for text in lines:
