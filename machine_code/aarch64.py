@@ -2,8 +2,8 @@
 import functools
 import re
 
-from machine import CALLER, Machine, logic, plain, shift_one, shifted
-from values import (Stop, add, bitwise, complement, cut, extend, is_zero, join, known, lanes, mul, number, number_in, repeat,
+from machine import CALLER, Machine, if_equal, logic, plain, shift_one, shifted
+from values import (Stop, add, bitwise, complement, cut, extend, join, known, lanes, mul, number, number_in, repeat,
                     replace, rotate_right, shift_left, shift_right, sign_extend, sub, unknown, width_of)
 
 CONDITIONS = {"eq": "e", "ne": "ne", "cc": "b", "cs": "ae", "hi": "a", "ls": "be", "mi": "s", "pl": "ns", "lt": "l", "ge": "ge",
@@ -72,7 +72,7 @@ PLAIN = {
     "umulh": lambda x, y: number(known(x, "a factor") * known(y, "a factor") >> 64),
     "udiv": divided,
     "cnt": lambda x: number(bin(known(x, "a byte")).count("1"), 8),
-    "cmeq": lambda x, y: repeat(is_zero(bitwise("xor", x, y)), width_of(x)),
+    "cmeq": if_equal,
     **{name: functools.partial(bitwise, op) for name, op in (("and", "and"), ("orr", "or"), ("eor", "xor"))},
     **dict.fromkeys(("mov", "fmov", "adrp", "adr", "umov", "cset"), lambda x: x),
 }

@@ -52,12 +52,16 @@ def saved(fields):
     return [*(value for name, value in fields.items() if name != "waiting"), *fields["waiting"]]
 
 
+def folded_words(hash, state):
+    """The words of a state of the definitions into which pieces are folded."""
+    return [as_value(word) for word in (state["folded"][1].values() if hash == "xxh64" else state["folded"])]
+
+
 def fields(hash, state):
-    """A state of the definitions. What is behind the waiting bytes may be anything."""
-    seed_or_h1, lanes_or_h2 = state["folded"]
-    words = [seed_or_h1, *lanes_or_h2.values()] if hash == "xxh64" else [seed_or_h1, lanes_or_h2]
-    waiting = state["waiting"]
-    return [*map(as_value, words), as_value(state["total"]), *waiting, *[None] * (PIECE[hash] - len(waiting))]
+    """A state of the definitions as it is in memory. What is behind the waiting bytes may be anything."""
+    own_seed, waiting = [as_value(state["folded"][0])] if hash == "xxh64" else [], state["waiting"]
+    rest = [None] * (PIECE[hash] - len(waiting))
+    return [*own_seed, *folded_words(hash, state), as_value(state["total"]), *waiting, *rest]
 
 
 def answer_of(hash, state):

@@ -1,12 +1,13 @@
 """All checks of a library, by function of its header."""
+import collections
+
 import columns
 import filters
 import hashes
 import headers
 import keys
 import library
-import sizes
-import texts
+import rates
 from aarch64 import Aarch64
 from loops import on_each_path
 from values import Stop
@@ -16,17 +17,16 @@ MACHINES = {"x86-64": X86, "aarch64": Aarch64}
 
 
 def checks_of(built):
-    """By function what runs its checks, each of which raises Stop if something is wrong."""
+    """By function what runs each of its checks, which raises Stop if something is wrong."""
     def machine():
         return MACHINES[built.processor](built)
 
-    found = {}
-    for module in hashes, columns, keys, filters, sizes, texts, headers:
-        found |= dict(module.checks(machine))
+    found = collections.defaultdict(list)
+    for module in hashes, columns, keys, filters, rates, headers:
+        for function, run in module.checks(machine):
+            found[function].append(run)
     if found.keys() != library.PARAMETERS.keys():
         raise Stop(f"the header has other functions: {found.keys() ^ library.PARAMETERS.keys()}")
-    if not all(found.values()):
-        raise Stop("a function has no check")
     return found
 
 

@@ -1,10 +1,9 @@
 """Columns of any number of elements: what each element of the result is; and columns of numbers."""
-import functools
+from functools import partial
 
-import loops
 from calls import COUNT, OK, XXH64, Call, any_length, arguments_of, check_call, seed, values
 from definitions import as_value
-from loops import Subject
+from loops import Subject, prove_each_rest
 from machine import Array
 from values import Stop, add, extend, mul, number, unknown
 
@@ -27,7 +26,7 @@ class Elements(Subject):
     def number_of(self, count):
         return add(mul(extend(count), number(self.per)), number(self.rest))
 
-    def elements_written(self, run):
+    def elements_written(self):
         n, rest = divmod(len(self.target.written), self.size)
         if rest:
             raise Stop("the loop begins within an element")
@@ -42,15 +41,14 @@ class Elements(Subject):
     def must_have_written(self, first, n):
         self.target.must_have_written([self.element(add(first, number(i))) for i in range(n)])
 
-    def entered(self, run, done):
+    def entered(self, done):
         self.must_have_written(number(0), done)
 
-    def turned(self, run, words, turns, done, way):
+    def turned(self, turns, done):
         self.must_have_written(self.index(turns, done), self.per)
 
     def finish(self, loop):
-        turns = loop.turns_at_end()
-        run, _, _ = loop.at(turns, number(loop.last), None)
+        run, _, turns = loop.at_end()
         run.go()
         run.must_return(OK)
         self.must_have_written(self.index(turns, loop.done), loop.last * self.per + self.rest - loop.done)
@@ -93,7 +91,6 @@ def too_few_numbers(machine, function):
 
 
 def checks(machine):
-    yield "xxh64_each_u64", [
-        *(functools.partial(loops.prove_each_rest, functools.partial(Numbers, machine, is_first))
-          for is_first in (True, False)),
-        functools.partial(too_few_numbers, machine, "xxh64_each_u64")]
+    for is_first in (True, False):
+        yield "xxh64_each_u64", partial(prove_each_rest, partial(Numbers, machine, is_first))
+    yield "xxh64_each_u64", partial(too_few_numbers, machine, "xxh64_each_u64")

@@ -231,4 +231,3 @@ def of_hash(hash, *files):
 
 XXH64, MURMUR = of_hash("Xxh64"), of_hash("Murmur")
 FILTER = of_hash("Xxh64", "sketch_bloom/specs/Filter.antt")
-RATE = Definitions("sketch_hash/specs/Words.antt", "sketch_bloom/specs/FoldRate.antt")

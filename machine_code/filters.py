@@ -1,14 +1,15 @@
-"""Bloom filters of any length: merges, folds, and columns of any number of values."""
-import functools
+"""Bloom filters of any length: merges, folds, keys, and columns of numbers and of texts."""
 import itertools
-import random
+from functools import partial
 
 import calls
-import loops
-from calls import LENGTH, OK, Call, Memory, any_length, arguments_of, bits, check_call, input, of, out, values
+from calls import (LENGTH, OK, Call, any_length, arguments_of, bits, check_call, fault, input, of, old_fault, out, some,
+                   values)
 from columns import Elements, target_and_source, too_few_numbers
-from hashes import OneCall, Pieces
-from definitions import FILTER, RATE, as_value
+from definitions import FILTER, as_value
+from hashes import OneCall
+from keys import MOST, ColumnCall, prove_offsets
+from loops import prove_each_rest
 from machine import Array, place_of
 from values import (Stop, add, assume_at_most, bitwise, complement, cut, extend, is_zero, join, mul, number, number_in,
                     power_of_two, shift_right, sub, unknown, width_of)
@@ -164,8 +165,8 @@ class Values(Elements):
         data = self.source.bytes(mul(index, number(self.width // 8)), self.width // 8)
         return join(*data) if self.kind == "hash" else FILTER.hash_of(data)
 
-    def elements_written(self, run):
-        return self.filter.reached if self.is_insert else super().elements_written(run)
+    def elements_written(self):
+        return self.filter.reached if self.is_insert else super().elements_written()
 
     def assume(self, run, words, turns, done, way):
         super().assume(run, words, turns, done, way)
@@ -180,8 +181,8 @@ class Key(OneCall):
     """A key of any length that is inserted or looked up, in a filter of any length."""
 
     def __init__(self, machine, is_insert, rest, per):
-        Pieces.__init__(self, "xxh64", of("xxh64", "start")(0), self.bytes_of_input, rest, per)
-        self.machine, self.is_insert, self.answer = machine, is_insert, None
+        super().__init__(machine, "xxh64", rest, per, of("xxh64", "start")(0))
+        self.is_insert, self.answer = is_insert, None
 
     def begin_call(self, run, n):
         self.filter = run.give(Bits(lambda index: self.answer, self.is_insert))
@@ -224,7 +225,7 @@ def wrong_result(is_insert):
 
 
 def keys_of_wrong_lengths(machine, is_insert):
-    loops.prove_each_rest(functools.partial(KeyOfWrongLength, machine, is_insert, number(33)), 32)
+    prove_each_rest(partial(KeyOfWrongLength, machine, is_insert, number(33)), 32)
     for length, n in itertools.product(WRONG_LENGTHS, (0, 7, 40)):
         KeyOfWrongLength(machine, is_insert, length, n, 1).few()
 
@@ -262,84 +263,96 @@ def wrong_lengths(machine, function, result):
 
 
 def merges_of_two_lengths(machine):
-    """Of a wrong one with itself, with another wrong one, and with a right one."""
-    for length, other in itertools.product(WRONG_LENGTHS, [*lengths_of_none("other blocks"), any_length]):
-        check_call(machine, "bloom_merge", lambda: Call([bits, length, values, length], [], LENGTH))
-        check_call(machine, "bloom_merge", lambda: Call([bits, length, values, other], [], LENGTH))
+    """Of a wrong one with itself, with another wrong one, and with a right one; and of two right ones that differ."""
+    pairs = [(length, length) for length in WRONG_LENGTHS]
+    pairs += itertools.product(WRONG_LENGTHS, [*lengths_of_none("other blocks"), any_length])
     more = add(any_length, join(number(0, 5), unknown("more", 58, 1), number(0, 1)))
     odd = [join(number(n, 5), unknown("any blocks", 58), number(0, 1)) for n in range(1, 32)]
     for other in [number(0), more, *odd]:
-        check_call(machine, "bloom_merge", lambda: Call([bits, any_length, values, other], [], LENGTH))
-        check_call(machine, "bloom_merge", lambda: Call([bits, other, values, any_length], [], LENGTH))
+        pairs += [(any_length, other), (other, any_length)]
+    for length, other in pairs:
+        check_call(machine, "bloom_merge", Call, [bits, length, values, other], [], LENGTH)
 
 
 def wrong_folds(machine):
     """By pairs of blocks: a rest, or too many."""
-    for rest in range(64):
-        length = join(number(rest, 6), unknown("pairs", 58, 0 if rest else 1 << 31))
-        check_call(machine, "bloom_fold", lambda: Call([bits, length], [], LENGTH))
-    check_call(machine, "bloom_fold", lambda: Call([bits, number(0)], [], LENGTH))
+    lengths = [join(number(rest, 6), unknown("pairs", 58, 0 if rest else 1 << 31)) for rest in range(64)]
+    for length in [number(0), *lengths]:
+        check_call(machine, "bloom_fold", Call, [bits, length], [], LENGTH)
 
 
-# ---- folds to a rate, of filters that are known: blocks, and how many of 256 random bytes are not 0
+# ---- columns of texts: offsets of any number, and keys of known lengths. Such a call hashes 32 keys at a time to its stack, in
+# a loop over batches, one over keys and one over pieces. The induction does not follow these.
 
-KNOWN = [(1, 256), (2, 100), (2, 256), (3, 256), (4, 40), (4, 256), (6, 200), (8, 30)]
-
-
-def known_filter(blocks, share):
-    """No two of its blocks are alike."""
-    generator = random.Random(1000 * blocks + share)
-    return [generator.randrange(256) if generator.randrange(256) < share else 0 for _ in range(32 * blocks)]
+# The lengths of keys: each to 96, so that there are four batches, and some that are not in order and longer.
+KEY_LENGTHS = [*range(97)], [k * 37 % 101 for k in range(70)], [2100, 0, 3, 515], []
 
 
-def folds_of(filter):
-    """The filter, folded once, twice and so on."""
-    while True:
-        yield filter
-        if len(filter) % 64:
-            return
-        pairs = range(0, len(filter), 64)
-        filter = [filter[pair + i] | filter[pair + 32 + i] for pair in pairs for i in range(32)]
+class TextsCall(ColumnCall):
+    """To insert a column takes as many keys as its offsets bound. Only calls that fail come to an end here."""
+
+    def __init__(self, machine, is_insert, width):
+        super().__init__(machine, f"{name_of(is_insert)}_each{width}", width, 0 if is_insert else 1)
+        self.is_insert = is_insert
+        if is_insert:
+            self.missing = [None]
+
+    def begin(self, count, offset_count):
+        return super().begin(count, add(count, number(1)) if self.is_insert else offset_count)
+
+    def arguments(self, length, count, offset_count):
+        return arguments_of(self.function, bits=bits, length=any_length, keys=input, keys_length=length, offsets=values,
+                            offset_count=offset_count, found=out, count=count, wrong_offset=fault)
 
 
-def fold_to(machine, filter):
-    """With each rate at which one more fold is too many, and with those next to it."""
-    folds = list(folds_of(filter))
-    found = [RATE.found_by_blocks(fold, len(fold) // 32) for fold in folds]
-    most = [(len(fold) << 35) // max(number, 1) for fold, number in zip(folds, found)]
-    for one_in in {0, 1, 2, 2 ** 64 - 1, *(min(n, 2 ** 64 - 2) + more for n in most for more in (0, 1))}:
-        count = 0
-        while count + 1 < len(folds) and 0 < one_in and found[count + 1] * one_in <= len(folds[count + 1]) << 35:
-            count += 1
-        after = [number(byte, 8) for byte in folds[count]]
-        memory = Memory(bits, [number(byte, 8) for byte in filter], after + [None] * (len(filter) - len(after)))
-        check_call(machine, "bloom_fold_to", Call, [bits, number(len(filter)), number(one_in)], [memory], number(len(after)))
+def column(call, lengths):
+    offsets = [*itertools.accumulate(lengths, initial=3)]
+    data, n = some("input", offsets[-1]), len(lengths)
+    keys = [data[start:end] for start, end in zip(offsets, offsets[1:])]
+    run, old = call.machine(), some("old", n)
+    filter = run.give(Bits(lambda index: FILTER.hash_of(keys[index[0][1]]), call.is_insert))
+    run.map(input, data)
+    run.map(values, [number(offset, call.width) for offset in offsets])
+    run.map(fault, [old_fault], writable=True)
+    run.map(out, old, writable=True)
+    run.begin(call.function, call.arguments(*map(number, (len(data), n, len(offsets)))))
+    run.go()
+    run.must_return(OK)
+    run.must_have(fault, [old_fault])
+    filter.must_have_reached(n)
+    run.must_have(out, old if call.is_insert else [filter.contains(number(i)) for i in range(n)])
 
 
 def checks(machine):
-    def wrong(function, result):
-        return functools.partial(wrong_lengths, machine, function, result)
-
-    yield "bloom_check", [functools.partial(check_call, machine, "bloom_check", Call, [any_length], [], OK),
-                          wrong("bloom_check", LENGTH)]
-    yield "bloom_merge", [*(functools.partial(loops.prove_each_rest, functools.partial(Merge, machine, is_first))
-                            for is_first in (True, False)), functools.partial(merges_of_two_lengths, machine)]
-    yield "bloom_fold", [functools.partial(loops.prove_each_rest, functools.partial(Fold, machine)),
-                         functools.partial(wrong_folds, machine)]
-    yield "bloom_fold_to", [wrong("bloom_fold_to", number(0)),
-                            *(functools.partial(fold_to, machine, known_filter(*kind)) for kind in KNOWN)]
-    offset = functools.partial(Call, [any_length, any_hash], [], mul(block_of(any_hash), number(32)))
-    yield "bloom_block_offset", [functools.partial(check_call, machine, "bloom_block_offset", offset),
-                                 wrong("bloom_block_offset", number(-1))]
+    yield "bloom_check", partial(check_call, machine, "bloom_check", Call, [any_length], [], OK)
+    offset = partial(Call, [any_length, any_hash], [], mul(block_of(any_hash), number(32)))
+    yield "bloom_block_offset", partial(check_call, machine, "bloom_block_offset", offset)
+    for is_first in (True, False):
+        yield "bloom_merge", partial(prove_each_rest, partial(Merge, machine, is_first))
+    yield "bloom_merge", partial(merges_of_two_lengths, machine)
+    yield "bloom_fold", partial(prove_each_rest, partial(Fold, machine))
+    yield "bloom_fold", partial(wrong_folds, machine)
+    wrong_results = {"bloom_check": LENGTH, "bloom_block_offset": number(-1), "bloom_fold_to": number(0)}
     for is_insert in (True, False):
         name = name_of(is_insert)
-        yield name, [functools.partial(loops.prove_each_rest, functools.partial(Key, machine, is_insert), 32),
-                     functools.partial(one_key, machine, is_insert, name, [number(0), number(0)], FILTER.hash_of([])),
-                     functools.partial(keys_of_wrong_lengths, machine, is_insert)]
-        yield f"{name}_hash", [functools.partial(one_hash, machine, is_insert),
-                               wrong(f"{name}_hash", wrong_result(is_insert))]
+        yield name, partial(prove_each_rest, partial(Key, machine, is_insert), 32)
+        yield name, partial(one_key, machine, is_insert, name, [number(0), number(0)], FILTER.hash_of([]))
+        yield name, partial(keys_of_wrong_lengths, machine, is_insert)
+        yield f"{name}_hash", partial(one_hash, machine, is_insert)
+        wrong_results[f"{name}_hash"] = wrong_result(is_insert)
         for kind in ("hash", "u32", "u64"):
             function = f"{name}_each_{kind}"
-            yield function, [functools.partial(loops.prove_each_rest, functools.partial(Values, machine, is_insert, kind)),
-                             wrong(function, LENGTH),
-                             *([] if is_insert else [functools.partial(too_few_numbers, machine, function)])]
+            yield function, partial(prove_each_rest, partial(Values, machine, is_insert, kind))
+            if not is_insert:
+                yield function, partial(too_few_numbers, machine, function)
+            wrong_results[function] = LENGTH
+    for function, result in wrong_results.items():
+        yield function, partial(wrong_lengths, machine, function, result)
+    for is_insert, width in itertools.product((True, False), MOST):
+        call = TextsCall(machine, is_insert, width)
+        no_offsets = call.arguments(number(0), number(0), number(0))
+        yield call.function, partial(prove_offsets, call)
+        yield call.function, partial(wrong_lengths, machine, call.function, LENGTH)
+        yield call.function, partial(check_call, machine, call.function, Call, no_offsets, [], OK)
+        for lengths in KEY_LENGTHS:
+            yield call.function, partial(column, call, lengths)

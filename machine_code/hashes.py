@@ -1,21 +1,21 @@
 """The hashes: one call and updates of any length, and the calls that have no loop."""
-import functools
+from functools import partial
 
 import calls
-import loops
-from calls import PIECE, WORDS, Call, Memory, arguments_of, check_call, input, of, out, saved, seed, some, state, values
+from calls import (PIECE, WORDS, Call, Memory, arguments_of, check_call, folded_words, input, of, out, saved, seed, some, state,
+                   values)
 from definitions import XXH64, as_value
-from loops import Subject
+from loops import Subject, prove_each_rest
 from machine import Array
 from values import add, extend, join, mul, number, unknown
 
 
 class Pieces(Subject):
-    """Full pieces of an input that a hash reads in a loop: `self.begin` is the definitions' state before them, with `fill`
-    waiting bytes, and `rest` bytes of `self.data` come after the last turn."""
+    """Full pieces of an input that a hash reads in a loop: `begin` is the definitions' state before them, with `fill` waiting
+    bytes, and `rest` bytes come after the last turn. `data` gives some bytes of the input."""
 
-    def __init__(self, hash, begin, data, rest, per, fill=0):
-        self.hash, self.begin, self.data, self.rest, self.per, self.fill = hash, begin, data, rest, per, fill
+    def __init__(self, hash, begin, rest, per, fill=0):
+        self.hash, self.begin, self.rest, self.per, self.fill = hash, begin, rest, per, fill
         self.name, self.piece = hash, PIECE[hash]
         self.bytes = self.piece
         self.unit, self.lead = per * self.piece, -fill % self.piece
@@ -23,15 +23,12 @@ class Pieces(Subject):
     def length(self, count):
         return add(mul(extend(count), number(self.unit)), number(self.lead + self.rest))
 
-    def words_of(self, folded):
-        return [as_value(word) for word in (folded[1].values() if self.hash == "xxh64" else folded)]
-
     def after(self, state, offset, size):
         return of(self.hash, "after")(state, self.data(offset, size))
 
     def words_after(self, n):
         size = n * self.piece - self.fill
-        return None if size < 0 else self.words_of(self.after(self.begin, number(0), size)["folded"])
+        return None if size < 0 else folded_words(self.hash, self.after(self.begin, number(0), size))
 
     def any_words(self):
         return [unknown(("folded", name), 64) for name in WORDS[self.hash] if name != "seed"]
@@ -46,20 +43,20 @@ class Pieces(Subject):
         return {"folded": folded, "total": total, "waiting": []}
 
     def step(self, words, turns, done, way):
-        return self.words_of(self.after(self.at(words, turns, done), self.consumed(turns, done), self.unit)["folded"])
+        return folded_words(self.hash, self.after(self.at(words, turns, done), self.consumed(turns, done), self.unit))
 
-    def at_end(self, words, turns, done, last):
+    def after_all(self, loop, words, turns):
         """The definitions' state after all bytes, from that with the last turns to do."""
-        left = last * self.unit + self.lead + self.rest - (done * self.piece - self.fill)
-        return self.after(self.at(words, turns, done), self.consumed(turns, done), left)
+        left = loop.last * self.unit + self.lead + self.rest - (loop.done * self.piece - self.fill)
+        return self.after(self.at(words, turns, loop.done), self.consumed(turns, loop.done), left)
 
 
 class OneCall(Pieces):
-    def __init__(self, machine, hash, rest, per):
-        super().__init__(hash, of(hash, "start")(seed), self.bytes_of_input, rest, per)
+    def __init__(self, machine, hash, rest, per, begin=None, fill=0):
+        super().__init__(hash, begin or of(hash, "start")(seed), rest, per, fill)
         self.machine = machine
 
-    def bytes_of_input(self, offset, size):
+    def data(self, offset, size):
         return self.array.bytes(offset, size)
 
     def start(self, count):
@@ -82,10 +79,8 @@ class OneCall(Pieces):
             run.must_have(out, answer)
 
     def finish(self, loop):
-        turns = loop.turns_at_end()
-        run, words, _ = loop.at(turns, number(loop.last), None)
-        after = self.at_end(words, turns, loop.done, loop.last)
-        self.go_to_end(run, after)
+        run, words, turns = loop.at_end()
+        self.go_to_end(run, self.after_all(loop, words, turns))
 
     def go_to_end(self, run, after):
         run.go()
@@ -102,8 +97,7 @@ class Update(OneCall):
 
     def __init__(self, machine, hash, fill, rest, per):
         self.before = calls.any_state(hash, calls.total(hash, fill))
-        Pieces.__init__(self, hash, of(hash, "state_of")(self.before), self.bytes_of_input, rest, per, fill)
-        self.machine = machine
+        super().__init__(machine, hash, rest, per, of(hash, "state_of")(self.before), fill)
 
     def begin_call(self, run, n):
         run.map(state, saved(self.before), writable=True)
@@ -157,23 +151,17 @@ def null_update(hash, fill):
 
 
 def checks(machine):
-    """Pairs of a function and what runs its checks, one for each fill."""
-    yield "hash_version", [lambda: check_call(machine, "hash_version", Call, [], [], number(calls.VERSION, 32))]
-    yield "xxh64_u64", [lambda: check_call(machine, "xxh64_u64", number_call)]
-    yield "murmur3_x64_128_bytes", [lambda: check_call(machine, "murmur3_x64_128_bytes", bytes_call)]
+    """Pairs of a function and what runs a check of it."""
+    yield "hash_version", lambda: check_call(machine, "hash_version", Call, [], [], number(calls.VERSION, 32))
+    yield "xxh64_u64", lambda: check_call(machine, "xxh64_u64", number_call)
+    yield "murmur3_x64_128_bytes", lambda: check_call(machine, "murmur3_x64_128_bytes", bytes_call)
     for hash, name in calls.NAMES.items():
-        yield name, [functools.partial(one_call, machine, hash, name)]
-        yield f"{name}_reset", [functools.partial(check_call, machine, f"{name}_reset", reset, hash)]
-        yield f"{name}_update", [functools.partial(update, machine, hash, name, fill) for fill in range(PIECE[hash])]
-        yield f"{name}_digest", [functools.partial(check_call, machine, f"{name}_digest", digest, hash, fill, least)
-                                 for fill in range(PIECE[hash]) for least in ((None, 1) if hash == "xxh64" else (0,))]
-
-
-def one_call(machine, hash, name):
-    loops.prove_each_rest(functools.partial(OneCall, machine, hash), PIECE[hash])
-    check_call(machine, name, null_call, hash)
-
-
-def update(machine, hash, name, fill):
-    loops.prove_each_rest(functools.partial(Update, machine, hash, fill), PIECE[hash], -fill % PIECE[hash])
-    check_call(machine, f"{name}_update", null_update, hash, fill)
+        yield name, partial(prove_each_rest, partial(OneCall, machine, hash), PIECE[hash])
+        yield name, partial(check_call, machine, name, null_call, hash)
+        yield f"{name}_reset", partial(check_call, machine, f"{name}_reset", reset, hash)
+        for fill in range(PIECE[hash]):
+            make = partial(Update, machine, hash, fill)
+            yield f"{name}_update", partial(prove_each_rest, make, PIECE[hash], -fill % PIECE[hash])
+            yield f"{name}_update", partial(check_call, machine, f"{name}_update", null_update, hash, fill)
+            for least in (None, 1) if hash == "xxh64" else (0,):
+                yield f"{name}_digest", partial(check_call, machine, f"{name}_digest", digest, hash, fill, least)

@@ -1,5 +1,5 @@
 """The header of a filter, written for every argument, and read on some inputs. Its number has one to five bytes."""
-import functools
+from functools import partial
 
 from calls import Call, Memory, check_call, input, out, some
 from definitions import Definitions, as_value
@@ -73,5 +73,5 @@ def read(machine):
 
 
 def checks(machine):
-    yield "bloom_header_write", [functools.partial(write, machine)]
-    yield "bloom_header_read", [functools.partial(read, machine)]
+    yield "bloom_header_write", partial(write, machine)
+    yield "bloom_header_read", partial(read, machine)

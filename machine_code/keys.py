@@ -1,5 +1,5 @@
 """Columns of any number of keys, each of any length: their offsets, which are checked first, and then the hash of each key."""
-import functools
+from functools import partial
 
 import calls
 import loops
@@ -108,7 +108,7 @@ class Offsets(Subject):
     def ways(self):
         return "right", "below", "above"
 
-    def entered(self, run, done):
+    def entered(self, done):
         if done:
             raise Stop("an offset is read before the loop")
 
@@ -122,7 +122,7 @@ class Offsets(Subject):
             raise Stop("a wrong offset does not end the call")
         return [self.call.offset(turns)]
 
-    def leave(self, run, words, turns, done, way):
+    def leave(self, run, turns, way):
         if way == "right":
             raise Stop("a right offset ends the call")
         self.call.must_fail(run, turns)
@@ -146,9 +146,9 @@ class Offsets(Subject):
 
         for i in range(left):
             for way in ("below", "above"):
-                loops.on_each_path(functools.partial(fails, ["right"] * i + [way], i))
+                loops.on_each_path(partial(fails, ["right"] * i + [way], i))
         if self.missing:
-            loops.on_each_path(functools.partial(fails, ["right"] * left, left))
+            loops.on_each_path(partial(fails, ["right"] * left, left))
         self.loop = loop
 
     def after(self, count):
@@ -213,21 +213,17 @@ class Keys(Elements):
         rest, count = way
         if number_in(count) is not None:
             run, words, before = loop.at(turns, left, way)
-            self.answer = self.hash_of(self.after(self.start_of_key(), words, number(0), rest))
+            key = self.call.input.bytes(words[0], rest)
+            self.answer = self.hash_of(of(self.hash, "after")(self.start_of_key(), key))
             return run, words, before, run.go(*target)
         inner = self.inner = loops.prove(lambda per: Key(self, loop, turns, left, rest, per), [self.per_key], self.inner)
         self.fewest = max(self.fewest, inner.least)
-        count, key = inner.turns_at_end(), inner.subject
-        run, words, _ = inner.at(count, number(inner.last), None)
-        self.answer = self.hash_of(key.at_end(words, count, inner.done, inner.last))
-        self.pieces = add(count, number(inner.last))
-        return run, key.outer_words, key.before, run.go(*target)
+        run, words, count = inner.at_end()
+        self.answer = self.hash_of(inner.subject.after_all(inner, words, count))
+        return run, inner.subject.outer_words, inner.subject.before, run.go(*target)
 
     def start_of_key(self):
         return of(self.hash, "start")(seed)
-
-    def after(self, state, words, offset, size):
-        return of(self.hash, "after")(state, self.call.input.bytes(add(words[0], offset), size))
 
     def hash_of(self, state):
         return join(*calls.answer_of(self.hash, state))
@@ -267,14 +263,14 @@ def prove_columns(machine, hash, width):
 def checks(machine):
     for hash, name in calls.NAMES.items():
         for width in MOST:
-            yield f"{name}_each{width}", [functools.partial(prove_columns, machine, hash, width)]
+            yield f"{name}_each{width}", partial(prove_columns, machine, hash, width)
 
 
 class Key(Pieces):
     """The loop over the pieces of one key, within a turn of the loop over keys."""
 
     def __init__(self, keys, loop, turns, left, rest, per):
-        super().__init__(keys.hash, keys.start_of_key(), self.bytes_of_key, rest, per)
+        super().__init__(keys.hash, keys.start_of_key(), rest, per)
         self.keys, self.at_keys = keys, lambda count: loop.at(turns, left, (rest, count))
 
     def some(self, what, least=0):
@@ -288,5 +284,5 @@ class Key(Pieces):
     def finish(self, loop):
         """It goes on in the loop over keys."""
 
-    def bytes_of_key(self, offset, size):
+    def data(self, offset, size):
         return self.keys.call.input.bytes(add(self.outer_words[0], offset), size)

@@ -73,7 +73,7 @@ class Subject:
         """A number of turns."""
         return extend(unknown((what, self.name), SIZE - (self.per * self.bytes - 1).bit_length(), least))
 
-    def elements_written(self, run):
+    def elements_written(self):
         """How many are written at the first arrival, if the loop writes any; else None."""
         return None
 
@@ -96,10 +96,10 @@ class Subject:
     def assume(self, run, words, turns, done, way):
         """What is so at the head, and what a way assumes."""
 
-    def entered(self, run, done):
+    def entered(self, done):
         """What must be so at the first arrival: so many elements are done."""
 
-    def turned(self, run, words, turns, done, way):
+    def turned(self, turns, done):
         """What must be so after a turn."""
 
     def ways(self):
@@ -110,7 +110,7 @@ class Subject:
         run, words, before = loop.at(turns, left, way)
         return run, words, before, run.go(*target)
 
-    def leave(self, run, words, turns, done, way):
+    def leave(self, run, turns, way):
         """What must be so if a turn ends the call."""
         raise Stop("the loop ends before its last turn")
 
@@ -118,7 +118,7 @@ class Subject:
 class Loop:
     """A loop of a subject. `least` is the fewest turns of the calls that reach it; with `last` turns left it ends."""
 
-    def __init__(self, subject, least=2, last=1, like=None):
+    def __init__(self, subject, least, last, like):
         """What a turn does may be suggested by another loop."""
         self.subject, self.least, self.last = subject, least, last
         if like:
@@ -167,7 +167,7 @@ class Loop:
             if not run.go(self.head, arrivals):
                 raise Stop("the head of the loop is not reached")
             if not seen:
-                written = self.subject.elements_written(run)
+                written = self.subject.elements_written()
             seen.append(places_of(run))
         for done in [written] if written is not None else range(4):
             words = [self.subject.words_after(done + k * self.subject.per) for k in range(3)]
@@ -199,7 +199,7 @@ class Loop:
         for place, role in self.roles.items():
             if role and role[0] == "word" and now[place] != words[role[1]]:
                 raise Stop(f"at the entry of the loop {place} is not what the definitions say")
-        self.subject.entered(run, self.done)
+        self.subject.entered(self.done)
 
     def at(self, turns, left, way):
         """A machine at the head after so many turns, the words of the definitions' state, and what each place is."""
@@ -222,7 +222,7 @@ class Loop:
     def turn(self, turns, left, way):
         run, words, before, came = self.subject.travel(self, turns, left, way, self.head, self.arrivals)
         if not came:
-            return self.subject.leave(run, words, turns, self.done, way)
+            return self.subject.leave(run, turns, way)
         new, now = self.subject.step(words, turns, self.done, way), places_of(run)
         for place, role in self.roles.items():
             if role and place in before:
@@ -230,7 +230,7 @@ class Loop:
             if role and (place not in before or now.get(place) != expected):
                 self.wrong.add(place)
         if not self.wrong:
-            self.subject.turned(run, words, turns, self.done, way)
+            self.subject.turned(turns, self.done)
 
     def check_turns(self):
         """With more turns left than the last ones. A place that is not as suggested is anything."""
@@ -246,6 +246,12 @@ class Loop:
 
     def turns_at_end(self):
         return sub(self.subject.some("total", max(self.least, self.last)), number(self.last))
+
+    def at_end(self):
+        """A machine at the head with the last turns to do, the words there, and how many turns are done."""
+        turns = self.turns_at_end()
+        run, words, _ = self.at(turns, number(self.last), None)
+        return run, words, turns
 
 
 def prove(make, pers, like=None):
@@ -266,9 +272,9 @@ def prove(make, pers, like=None):
     raise Stop(" | ".join(dict.fromkeys(faults)))
 
 
-def prove_each_rest(make, rests=1, lead=0, pers=(1, 2, 4, 8, 16)):
+def prove_each_rest(make, rests=1, lead=0):
     """For calls of any number of elements, each of which can have so many rests; then the few that reach no loop."""
-    loops = [prove(lambda per: make(0, per), pers)]
+    loops = [prove(lambda per: make(0, per), (1, 2, 4, 8, 16))]
     per = loops[0].subject.per
     for rest in range(1, rests * per):
         loops.append(prove(lambda per: make(rest, per), [per], loops[-1]))

@@ -4,8 +4,8 @@ import inspect
 
 from library import PARAMETERS
 from values import (Stop, Undecided, add, are_equal, bitwise, complement, cut, extend, facts, gap_of, greatest, is_below,
-                    is_not_negative, join, known, linear, number, number_in, power_of_two, shift_left, signed, sub, total,
-                    unknown, unknowns_in, width_of)
+                    is_not_negative, is_zero, join, known, linear, number, number_in, power_of_two, repeat, shift_left,
+                    signed, sub, total, unknown, unknowns_in, width_of)
 
 CALLER = number(0xCA11E4)  # where a call returns to
 STACK = 4096  # how much of it a call may use
@@ -34,6 +34,11 @@ def shifted(function):
         return function(x, known(n, "a shift"))
 
     return run
+
+
+def if_equal(x, y):
+    """All bits if two lanes are equal, else none."""
+    return repeat(is_zero(bitwise("xor", x, y)), width_of(x))
 
 
 def plain(function):

@@ -2,7 +2,7 @@
 import functools
 import re
 
-from machine import CALLER, Machine, count_of, logic, plain, reads, shift_one, shifted
+from machine import CALLER, Machine, count_of, if_equal, logic, plain, reads, shift_one, shifted
 from values import (Stop, add, bitwise, complement, cut, extend, is_zero, join, known, lanes, mul, number, number_in, repeat,
                     rotate_right, shift_left, shift_right, sign_extend, sub, unknown, width_of)
 
@@ -91,10 +91,6 @@ CONDITIONAL = {
 
 # ---- and those that set none
 
-def is_equal(x, y):
-    return repeat(is_zero(bitwise("xor", x, y)), width_of(x))
-
-
 def shift_lane(x, count):
     """By a number of the other lane, which is not taken modulo 32."""
     return shift_one(x, count) if number_in(count) is None else shift_left(x, min(number_in(count), width_of(x)))
@@ -176,7 +172,7 @@ PLAIN = SAME | OF_128_BITS | {
 for letter, size in ("b", 8), ("w", 16), ("d", 32), ("q", 64):
     PLAIN |= {f"padd{letter}": lanewise(size, add), f"psub{letter}": lanewise(size, sub),
               f"psll{letter}": each_by(size, shift_left), f"psrl{letter}": each_by(size, shift_right),
-              f"pcmpeq{letter}": lanewise(size, is_equal), f"pextr{letter}": part(size),
+              f"pcmpeq{letter}": lanewise(size, if_equal), f"pextr{letter}": part(size),
               f"pbroadcast{letter}": lambda x, size=size: repeat(cut(x, 0, size), 256 // size)}
 OPERATIONS = {name: plain(function) for name, function in PLAIN.items()} | CONDITIONAL
 # How many operands an instruction reads: the last ones.

@@ -8,7 +8,7 @@ HEAD = (pathlib.Path(__file__).parent / "head.c").read_text()
 
 # How tightly an operator binds. A name, a call and a number are ATOM.
 ATOM, UNARY, TIMES, SUM, SHIFT, ORDER, EQUAL, AND, XOR, OR, BOTH, EITHER, CHOICE = range(13, 0, -1)
-LEVELS = {"*": TIMES, "/": TIMES, "%": TIMES, "+": SUM, "-": SUM, "<<": SHIFT, ">>": SHIFT, "<": ORDER, "<=": ORDER, ">": ORDER,
+LEVELS = {"*": TIMES, "/": TIMES, "+": SUM, "-": SUM, "<<": SHIFT, ">>": SHIFT, "<": ORDER, "<=": ORDER, ">": ORDER,
           ">=": ORDER, "==": EQUAL, "!=": EQUAL, "&": AND, "^": XOR, "|": OR, "&&": BOTH, "||": EITHER}
 NEGATED = {"==": "!=", "!=": "==", "<": ">=", ">=": "<", ">": "<=", "<=": ">"}
 WARNED = {SHIFT, AND, XOR, OR, BOTH, EITHER}  # compilers warn of another operator within, if it has no brackets

@@ -1,82 +1,51 @@
 """The control flow of a function: which block is only reached through which other, and which blocks are a loop."""
-
-
-class Unstructured(SystemExit):
-    pass
-
-
-def targets(block):
-    """The labels that a block's last instruction may go to."""
-    last = block[-1]
-    if last.operation == "br":
-        return list(dict.fromkeys(last.more))
-    if last.operation == "switch":
-        return list(dict.fromkeys(label for _, label in last.more))
-    return []
+from module import Unknown
 
 
 class Flow:
-    """`order`: the labels in reverse postorder. `before`: the labels that go to one. `parent`: the nearest block that all
-    ways to one go through. `loops`: for the label of a loop's head, the labels in it."""
+    """`order`: the labels in reverse postorder. `before`: the labels that go to one. `through`: those that all ways to one go
+    through. `parent`: the nearest of these. `loops`: for the label of a loop's head, the labels in it."""
 
     def __init__(self, blocks):
-        self.after = {label: targets(block) for label, block in blocks.items()}
-        self.order = self.in_order(next(iter(blocks)))
+        self.after = {label: list(dict.fromkeys(block[-1].more or [])) for label, block in blocks.items()}
+        self.order = []
+        self.visit(next(iter(blocks)), set())
+        self.order.reverse()
         self.place = {label: at for at, label in enumerate(self.order)}
         self.before = {label: [] for label in self.order}
         for label in self.order:
             for target in self.after[label]:
                 self.before[target].append(label)
-        self.parent = self.parents()
+        self.find_parents()
         self.loops = {}
         for label in self.order:
             for target in self.after[label]:
                 if self.place[target] <= self.place[label]:
                     self.add_to_loop(target, label)
 
-    def in_order(self, entry):
-        """Blocks on the way back to a loop's head come before those that leave the loop, so that a loop's body is together."""
-        found, seen, stack = [], {entry}, [(entry, iter(self.after[entry]))]
-        while stack:
-            label, rest = stack[-1]
-            target = next((target for target in rest if target not in seen), None)
-            if target is None:
-                found.append(label)
-                stack.pop()
-            else:
-                seen.add(target)
-                stack.append((target, iter(self.after[target])))
-        return found[::-1]
+    def visit(self, label, seen):
+        """Adds to `order` what is reached from a block, and then the block."""
+        seen.add(label)
+        for target in self.after[label]:
+            if target not in seen:
+                self.visit(target, seen)
+        self.order.append(label)
 
-    def parents(self):
-        parent, has_changed = {self.order[0]: None}, True
+    def find_parents(self):
+        first, *rest = self.order
+        self.through, has_changed = {first: {first}}, True
         while has_changed:
             has_changed = False
-            for label in self.order[1:]:
-                known = [before for before in self.before[label] if before in parent]
-                nearest = known[0]
-                for other in known[1:]:
-                    nearest = self.common(parent, nearest, other)
-                if parent.get(label, "") != nearest:
-                    parent[label], has_changed = nearest, True
-        return parent
-
-    def common(self, parent, one, other):
-        while one != other:
-            if self.place[one] > self.place[other]:
-                one = parent[one]
-            else:
-                other = parent[other]
-        return one
-
-    def is_through(self, label, through):
-        while label is not None and label != through:
-            label = self.parent[label]
-        return label is not None
+            for label in rest:
+                known = [self.through[before] for before in self.before[label] if before in self.through]
+                through = {label}.union(set.intersection(*known))
+                has_changed |= self.through.get(label) != through
+                self.through[label] = through
+        self.parent = {label: max(self.through[label] - {label}, key=self.place.get, default=None) for label in self.order}
 
     def add_to_loop(self, head, last):
-        if not self.is_through(last, head):
-            raise Unstructured(f"a loop with two entries: {head}")
+        if head not in self.through[last]:
+            raise Unknown(f"print_c does not know a loop with two entries: {head}")
         body = self.loops.setdefault(head, {head})
         stack = [last]
         while stack:

@@ -4,7 +4,8 @@ import re
 
 # A value that an instruction takes: its type, and a token, or a list of tokens for a vector's or an array's elements.
 Operand = collections.namedtuple("Operand", "type token")
-# `result` is its name or None; `type` that of the result, or of what a store writes; `more` depends on the operation.
+# `result` is its name or None, and `type` that of the result. `more` is the function of a call, the order of a comparison, the
+# type on the stack, or the labels from which a phi has its operands, or to which a branch goes.
 Instruction = collections.namedtuple("Instruction", "result operation type operands more")
 # A vector has a count and an element; a struct a tuple of types.
 Vector = collections.namedtuple("Vector", "count element")
@@ -12,17 +13,24 @@ Struct = collections.namedtuple("Struct", "fields")
 Array = collections.namedtuple("Array", "count element")
 
 TOKEN = re.compile(r'[%@](?:"[^"]*"|[-\w.$]+)|c?"[^"]*"|;.*|[!#][\w.]*|-?\w[\w.$]*:?|\.\.\.|\S')
-ATTRIBUTES = {"range", "captures", "dereferenceable", "dereferenceable_or_null", "initializes", "sret", "memory"}
-TYPE = re.compile(r"i\d+|ptr|void")
-FLAGS = {"nuw", "nsw", "exact", "disjoint", "samesign", "nneg", "inbounds", "nusw", "volatile"}
-BINARY = {"add", "sub", "mul", "and", "or", "xor", "shl", "lshr", "ashr", "udiv", "urem"}
-CASTS = {"zext", "sext", "trunc", "ptrtoint", "ptrtoaddr", "inttoptr", "bitcast"}
-OTHERS = {"select", "store", "freeze", "insertelement", "extractelement", "shufflevector", "insertvalue", "extractvalue"}
-CONSTANTS = {"true", "false", "null", "poison", "undef", "zeroinitializer", "splat", "ptrtoaddr", "getelementptr"}
+ATTRIBUTES = {"range", "captures", "dereferenceable", "initializes", "memory"}
+TYPE = re.compile(r"i\d+|ptr|void|label")
+FLAGS = {"nuw", "nsw", "exact", "disjoint", "samesign", "nneg", "inbounds"}
+CASTS = {"zext", "sext", "trunc", "ptrtoaddr", "bitcast"}
+# Their result has the type of the first operand, or they have none.
+OTHERS = {"add", "sub", "mul", "and", "or", "xor", "shl", "lshr", "udiv", "freeze", "insertelement", "insertvalue", "store",
+          "br", "switch", "ret"}
+ORDERS = {"eq": "==", "ne": "!=", "ult": "<", "ule": "<=", "ugt": ">", "uge": ">=", "slt": "<"}
+CONSTANTS = {"true", "false", "null", "poison", "zeroinitializer", "splat", "ptrtoaddr"}
 
 
 class Unknown(SystemExit):
     """What this program does not know stops it."""
+
+
+def bare(token):
+    """A name without its sign."""
+    return token[1:].strip('"')
 
 
 class Line:
@@ -55,165 +63,111 @@ class Line:
     def stop(self):
         raise Unknown(f"print_c does not know: {self.text}")
 
-    def skip_brackets(self):
-        depth = 0
-        while True:
-            depth += {"(": 1, ")": -1}.get(self.take(), 0)
-            if depth == 0:
-                return
+    def is_at_type(self):
+        return self.peek() == "{" or self.peek() in ("<", "[") and self.peek(2) == "x" or TYPE.fullmatch(self.peek())
 
     def type(self):
         token = self.take()
         if TYPE.fullmatch(token):
             return token
-        if token in "<[":
+        if token in ("<", "["):
             count = int(self.take())
             self.take("x")
-            kind = Vector if token == "<" else Array
-            found = kind(count, self.type())
-            self.take(">" if token == "<" else "]")
+            found = (Vector if token == "<" else Array)(count, self.type())
+            self.take(">", "]")
             return found
-        if token == "{":
-            fields = []
-            while not self.has("}"):
-                fields.append(self.type())
-                self.has(",")
-            return Struct(tuple(fields))
-        self.stop()
+        if token != "{":
+            self.stop()
+        fields = []
+        while not self.has("}"):
+            fields.append(self.type())
+            self.has(",")
+        return Struct(tuple(fields))
 
     def attributes(self):
         while re.fullmatch(r"[a-z_]\w*", self.peek()) and self.peek() not in CONSTANTS and not TYPE.fullmatch(self.peek()):
-            word = self.take()
+            word, depth = self.take(), 0
             if word == "align":
                 self.take()
-            elif word in ATTRIBUTES:
-                self.skip_brackets()
+            while word in ATTRIBUTES and (depth or self.peek() == "("):
+                depth += {"(": 1, ")": -1}.get(self.take(), 0)
 
     def value(self, type):
         token = self.take()
+        if type == "label":
+            return Operand(type, bare(token))
         if token == "<":
-            elements = []
-            while not self.has(">"):
-                elements.append(self.typed().token)
-                self.has(",")
-            return Operand(type, elements)
+            elements = self.operands()
+            self.take(">")
+            return Operand(type, [element.token for element in elements])
         if token == "splat":
-            self.take("(")
-            element = self.typed().token
-            self.take(")")
-            return Operand(type, [element] * type.count)
+            return Operand(type, [self.in_brackets()[0].token] * type.count)
         if token == "ptrtoaddr":
-            self.take("(")
-            address = self.typed()
-            self.take("to")
-            self.type()
-            self.take(")")
-            return Operand(type, ("address", address.token))
-        if token[0] not in "%@" and not re.fullmatch(r"-?\d+|true|false|null|poison|undef|zeroinitializer", token):
+            return Operand(type, ("address", self.in_brackets()[0].token))
+        if token[0] not in "%@" and not re.fullmatch(r"-?\d+|true|false|null|poison|zeroinitializer", token):
             self.stop()
         return Operand(type, token)
 
-    def typed(self):
-        type = self.type()
-        self.attributes()
-        return self.value(type)
+    def in_brackets(self):
+        self.take("(")
+        found = self.operands()
+        self.take(")")
+        return found
 
-    def pair(self):
-        """Two operands of one type, which stands once."""
-        first = self.typed()
-        self.take(",")
-        return [first, self.value(first.type)]
-
-    def label(self):
-        self.take("label")
-        return self.take()[1:].strip('"')
+    def operands(self):
+        """Up to the end of a list. A value without a type has that of the one before; a type alone has the token None."""
+        found = []
+        while self.peek() not in ("", "align", ")", ">") and self.peek()[0] not in "!#":
+            if self.is_at_type():
+                type = self.type()
+                self.attributes()
+                found.append(Operand(type, None) if self.peek() in ("", ",", "[", ")") else self.value(type))
+            elif self.peek() in (",", "[", "]", "to"):
+                self.take()
+            elif found:
+                found.append(self.value(found[-1].type))
+            else:
+                self.stop()
+        return found
 
 
 def instruction(text):
     line = Line(text)
-    result = None
-    if line.peek(1) == "=":
-        result = line.take()
-        line.take("=")
-    line.words({"tail", "musttail", "notail"})
+    result = line.take() if line.peek(1) == "=" else None
+    line.words({"=", "tail"})
     operation = line.take()
     line.words(FLAGS)
-    type, operands, more = "void", [], None
-    if operation in BINARY:
-        operands = line.pair()
-        type = operands[0].type
-    elif operation == "icmp":
-        more, operands, type = line.take(), line.pair(), "i1"
-    elif operation in CASTS:
-        operands = [line.typed()]
-        line.take("to")
-        type = line.type()
-    elif operation == "load":
-        type = line.type()
-        line.take(",")
-        operands = [line.typed()]
-    elif operation == "alloca":
-        type, more = "ptr", (line.type(), int(line.tokens[line.tokens.index("align") + 1]))
-    elif operation == "getelementptr":
-        element = line.type()
-        if element != "i8":
-            line.stop()
-        line.take(",")
-        base = line.typed()
-        line.take(",")
-        operands, type = [base, line.typed()], "ptr"
-    elif operation == "phi":
-        type, more = line.type(), {}
-        while line.has("[") or line.has(",") and line.has("["):
-            value = line.value(type)
-            line.take(",")
-            more[line.take()[1:].strip('"')] = value
-            line.take("]")
-    elif operation == "switch":
-        operands = [line.typed()]
-        line.take(",")
-        more = [(None, line.label())]
-        line.take("[")
-        while not line.has("]"):
-            case = line.typed()
-            line.take(",")
-            more.append((case, line.label()))
-    elif operation == "br":
-        if line.peek() == "label":
-            more = [line.label()]
-        else:
-            operands = [line.typed()]
-            line.take(",")
-            more = [line.label(), line.take(",") and line.label()]
-    elif operation == "call":
+    if operation == "call":
         line.attributes()
-        type = line.type()
-        more = line.take().strip('@"')
-        line.take("(")
-        while not line.has(")"):
-            operands.append(line.typed())
-            line.has(",")
-    elif operation == "ret":
-        if line.has("void"):
-            return Instruction(None, "ret", "void", [], None)
-        operands = [line.typed()]
-        type = operands[0].type
-    elif operation == "unreachable":
-        pass
-    elif operation in OTHERS:
-        operands.append(line.typed())
-        while line.has(",") and line.peek() not in ("align", "") and line.peek()[0] != "!":
-            operands.append(Operand("i32", line.take()) if "value" in operation and line.peek().isdigit() else line.typed())
-        type = {"select": 1, "insertelement": 0, "insertvalue": 0, "freeze": 0, "store": 0}.get(operation)
-        type = operands[type].type if type is not None else None
-        if operation == "extractvalue":
-            type = operands[0].type.fields[int(operands[1].token)]
-        elif operation == "extractelement":
-            type = operands[0].type.element
-        elif operation == "shufflevector":
-            type = Vector(operands[2].type.count, operands[0].type.element)
-    else:
+        type, function = line.type(), bare(line.take())
+        return Instruction(result, operation, type, line.in_brackets(), function)
+    more = line.take(*ORDERS) if operation == "icmp" else None
+    operands = line.operands()
+    type = operands[0].type
+    if operation == "icmp":
+        type = "i1"
+    elif operation in CASTS:
+        type = operands.pop().type
+    elif operation == "load":
+        operands = operands[1:]
+    elif operation == "select":
+        type = operands[1].type
+    elif operation == "alloca":
+        type, operands, more = "ptr", [], type
+    elif operation == "getelementptr" and type == "i8":
+        type, operands = "ptr", operands[1:]
+    elif operation == "phi":
+        more = [bare(label.token) for label in operands[2::2]]
+        operands = operands[1::2]
+    elif operation == "extractvalue":
+        type = type.fields[int(operands[1].token)]
+    elif operation == "shufflevector":
+        type = Vector(operands[2].type.count, type.element)
+    elif operation not in OTHERS:
         line.stop()
+    if operation in ("br", "switch"):
+        more = [token for type, token in operands if type == "label"]
+        operands = [operand for operand in operands if operand.type != "label"]
     return Instruction(result, operation, type, operands, more)
 
 
@@ -225,24 +179,18 @@ class Function:
         line.take("define")
         self.is_internal = line.has("internal")
         line.attributes()
-        self.type = line.type()
-        self.name = line.take().strip('@"')
-        line.take("(")
-        self.parameters = []
-        while not line.has(")"):
-            self.parameters.append(line.typed())
-            line.has(",")
-        self.blocks, label = collections.OrderedDict(), None
+        self.type, self.name = line.type(), bare(line.take())
+        self.parameters = line.in_brackets()
+        self.blocks, label = {}, "entry"
         for text in lines:
             found = re.match(r'\s*("[^"]*"|[-\w.$]+):', text)
             if found:
                 label = found[1].strip('"')
-                self.blocks[label] = []
             elif text.strip():
-                if label is None:
-                    label = "entry"
-                    self.blocks[label] = []
-                self.blocks[label].append(instruction(text))
+                self.blocks.setdefault(label, []).append(instruction(text))
+
+    def steps(self):
+        return [step for block in self.blocks.values() for step in block]
 
 
 class Module:

@@ -1,23 +1,24 @@
 """The instructions of a block as expressions and statements of C. A value that is used once stands where it is used; one that
 is used more often gets a name."""
 import collections
+import itertools
 import re
 
 import expression
 from expression import Expression, atom, binary, call, cast, choice, negation, number
 from flow import Flow
-from module import Operand, Struct, Unknown, Vector
+from module import ORDERS, Operand, Struct, Unknown, Vector
 from statements import Let, Say
 
 WIDE = "skh_uint128"
 VECTORS = "has_vectors"  # the first parameter of a function that works on vectors
 TYPES = {"i1": "bool", "i8": "uint8_t", "i16": "uint16_t", "i32": "uint32_t", "i64": "uint64_t", "i128": WIDE, "void": "void"}
 LETTERS = {"i1": "c", "i8": "b", "i16": "s", "i32": "w", "i64": "x", "i128": "y", "ptr": "p"}
-SIGNS = {"add": "+", "sub": "-", "mul": "*", "udiv": "/", "urem": "%", "shl": "<<", "lshr": ">>", "and": "&", "or": "|",
+SIGNS = {"add": "+", "sub": "-", "mul": "*", "udiv": "/", "shl": "<<", "lshr": ">>", "and": "&", "or": "|",
          "xor": "^"}
-ORDERS = {"eq": "==", "ne": "!=", "lt": "<", "le": "<=", "gt": ">", "ge": ">="}
+NUMBERS = {"true": 1, "false": 0, "poison": 0, "zeroinitializer": 0}
+INTRINSICS = {"fshl": "rotate", "umin": "least", "umax": "most", "usub.sat": "less", "ctpop": "ones"}
 LONGEST = 120  # of an expression without a name
-IGNORED = ("llvm.lifetime", "llvm.assume", "llvm.experimental.noalias")
 
 
 def width_of(type):
@@ -40,8 +41,8 @@ class Values:
         self.function, self.signatures, self.written = function, signatures, written
         self.blocks, self.flow = function.blocks, Flow(function.blocks)
         self.values, self.counts, self.arrays = {}, collections.Counter(), []
-        self.made = {step.result: step for block in self.blocks.values() for step in block if step.result}
-        self.count_uses()
+        self.made = {step.result: step for step in function.steps() if step.result}
+        self.find_users()
         self.loop_of = {}
         for label in self.flow.order:
             around = [head for head, body in self.flow.loops.items() if label in body]
@@ -49,24 +50,20 @@ class Values:
 
     # ---- which values are used where
 
-    def count_uses(self):
-        self.uses, self.used_in, self.users = collections.Counter(), collections.defaultdict(set), collections.defaultdict(list)
+    def find_users(self):
+        """Of each value the instructions that use it, each with the block in which it must be known."""
+        self.users = collections.defaultdict(list)
         for label in self.flow.order:
             for step in self.blocks[label]:
-                operands = step.operands
+                operands, places = step.operands, itertools.repeat(label)
                 if step.operation == "call" and step.more.startswith("llvm.fshl"):
                     operands = operands[1:]  # a rotation, whose first two are one
-                places = [(value, label) for value in operands]
                 if step.operation == "phi":
-                    places = [(value, before) for before, value in step.more.items() if before in self.flow.place]
-                elif step.operation == "switch":
-                    places = [(step.operands[0], label)]
-                for value, place in places:
+                    places = step.more
+                for value, place in zip(operands, places):
                     for token in value.token if isinstance(value.token, list) else [value.token]:
                         if isinstance(token, str) and token[0] == "%":
-                            self.uses[token] += 1
-                            self.used_in[token].add(place)
-                            self.users[token].append(step)
+                            self.users[token].append((step, place))
 
     # ---- values
 
@@ -90,12 +87,12 @@ class Values:
             return self.values[token]
         if token[0] == "@":
             return atom(self.signatures.constant(token))
-        if token in ("null", "poison", "undef", "zeroinitializer"):
-            return atom("NULL") if type == "ptr" else number(0, width_of(type))
+        if type == "ptr":
+            return atom("NULL")
+        n = NUMBERS[token] if token in NUMBERS else int(token)
         if type == "i128":
-            high, low = divmod(int(token) % (1 << 128), 1 << 64)
-            return call("skh_wide", number(high, 64), number(low, 64))
-        return number({"true": 1, "false": 0}.get(token) if token in ("true", "false") else int(token), width_of(type))
+            return call("skh_wide", number(n >> 64, 64), number(n, 64))
+        return number(n, width_of(type))
 
     def words(self, operand):
         type, token = operand
@@ -106,7 +103,7 @@ class Values:
                     raise Unknown(f"the vector {token}")
                 return [number(-1, 32)] * count
             return [self.value(Operand(element, each)) for each in token]
-        if token in ("poison", "undef", "zeroinitializer"):
+        if token in ("poison", "zeroinitializer"):
             return [number(0, width_of(element))] * count
         return self.values[token]
 
@@ -121,8 +118,6 @@ class Values:
     def give(self, instruction, value, label, is_cheap=False):
         """Keeps it until it is used, or gives it a name."""
         token, type = instruction.result, instruction.type
-        if self.uses[token] == 0:
-            return
         if isinstance(value, list):
             element = words_of(type)[1]
             self.values[token] = [word if self.is_short(word, instruction, label) else self.named(element, word)
@@ -138,9 +133,10 @@ class Values:
         """Whether it needs no name: it is one, or it can stand where it is used."""
         if re.fullmatch(r"\w+", value.text) and not value.offset:
             return True
-        if self.uses[instruction.result] != 1 or len(value.text) > LONGEST:
+        users = self.users[instruction.result]
+        if len(users) != 1 or len(value.text) > LONGEST:
             return False
-        (place,) = self.used_in[instruction.result]
+        ((_, place),) = users
         return place == label or not value.reads and self.loop_of[place] == self.loop_of[label]
 
     def named(self, type, value, token=None):
@@ -173,7 +169,7 @@ class Values:
 
     def instruction(self, step, label):
         operation = step.operation
-        if operation == "phi" or operation == "call" and step.more.startswith(IGNORED):
+        if operation == "phi" or operation == "call" and step.more.startswith("llvm.lifetime"):
             return
         if operation == "insertvalue":
             fields = [*self.values.get(step.operands[0].token, [None] * len(step.type.fields))]
@@ -183,7 +179,7 @@ class Values:
             self.values[step.result] = self.values[step.operands[0].token][int(step.operands[1].token)]
         elif operation == "alloca":
             name = f"room{len(self.arrays) + 1}"
-            self.arrays.append((name, step.more[0]))
+            self.arrays.append((name, step.more))
             self.values[step.result] = atom(name)
         elif operation == "store":
             self.store(step)
@@ -193,17 +189,16 @@ class Values:
             self.give(step, self.vector(step), label)
         else:
             value = self.scalar(step)
-            cheap = operation in ("freeze", "extractvalue") or operation == "getelementptr" and not value.reads and (
-                value._replace(offset=0).level == expression.ATOM) or operation in ("zext", "trunc")
-            self.give(step, value, label, cheap)
+            is_place = operation == "getelementptr" and value.level == expression.ATOM
+            self.give(step, value, label, is_place or operation in ("freeze", "zext", "trunc"))
 
     def load(self, type, address):
         if type == "i8":
-            base = address._replace(offset=0)
-            if base.parts[:1] == ("+",) and not address.offset and base.parts[1].level == expression.ATOM:
-                return Expression(f"{base.parts[1]}[{base.parts[2]}]", expression.ATOM, True)
-            text = f"{base.text}[{address.offset}]" if base.level == expression.ATOM else f"*({address})"
-            return Expression(text, expression.ATOM if base.level == expression.ATOM else expression.UNARY, True)
+            if address.level == expression.ATOM:
+                return Expression(f"{address.text}[{address.offset}]", expression.ATOM, True)
+            if address.parts[:1] == ("+",) and not address.offset and address.parts[1].level == expression.ATOM:
+                return Expression(f"{address.parts[1]}[{address.parts[2]}]", expression.ATOM, True)
+            return Expression(f"*({address})", expression.UNARY, True)
         if type == "ptr":
             raise Unknown("print_c does not know a pointer in memory")
         return call(f"skh_load{width_of(type)}", address)._replace(reads=True)
@@ -211,10 +206,9 @@ class Values:
     def address(self, operand):
         """A pointer that is used more than once."""
         value = self.value(operand)
-        if value._replace(offset=0).level == expression.ATOM:
-            return value
-        self.values[operand.token] = self.named("ptr", value, operand.token)
-        return self.values[operand.token]
+        if value.level != expression.ATOM:
+            self.values[operand.token] = value = self.named("ptr", value, operand.token)
+        return value
 
     def store(self, step):
         value, address = step.operands
@@ -243,7 +237,7 @@ class Values:
             self.say(Say(str(call(name, *values[:3]))))
             return
         done = call(self.signatures.name(step.more), *values)
-        if step.type == "void" or self.uses[step.result] == 0:
+        if step.type == "void" or not self.users[step.result]:
             self.say(Say(str(done)))
         elif isinstance(step.type, Struct):
             self.counts["r"] += 1
@@ -272,13 +266,11 @@ class Values:
             return cast(TYPES[type], values[0])
         if operation == "sext" and step.operands[0].type == "i1":
             return Expression(f"-{cast(TYPES[type], values[0])}", expression.UNARY, values[0].reads)
-        if operation in ("ptrtoint", "ptrtoaddr"):
+        if operation == "ptrtoaddr":
             return cast("uint64_t", cast("uintptr_t", values[0]))
         if operation == "freeze":
             return values[0]
         if operation == "select":
-            if type == "i1" and step.operands[2].token == "false":
-                return binary("&&", values[0], values[1])
             if type == "i1" and step.operands[1].token == "true":
                 return binary("||", values[0], values[2])
             return choice(*values)
@@ -294,14 +286,11 @@ class Values:
                 return negation(one)
             operation = {"add": "xor", "sub": "xor", "mul": "and"}.get(operation, operation)
             return binary(SIGNS[operation], one, other)
-        if operation == "add" and constant is not None and constant < 0 and constant > -(1 << 20):
+        if operation == "add" and constant is not None and -(1 << 20) < constant < 0:
             operation, other = "sub", number(-constant, width)
         if operation == "shl" and self.constant(step.operands[0]) is not None:
             one = cast(TYPES[type], one)
-        if operation == "xor" and constant == -1:
-            found = Expression(f"~{one.flat().within(expression.UNARY)}", expression.UNARY, one.reads)
-        else:
-            found = binary(SIGNS[operation], one, other)
+        found = binary(SIGNS[operation], one, other)
         return cast(TYPES[type], found) if width < 32 else found
 
     def wide(self, step, one, other=None):
@@ -323,12 +312,12 @@ class Values:
         raise Unknown(f"print_c does not know {operation} of 128 bits")
 
     def comparison(self, step, one, other):
-        type, order = step.operands[0].type, step.more
-        if order[0] == "s":
+        type = step.operands[0].type
+        if step.more == "slt":
             one, other = (cast(f"int{type[1:]}_t", each) for each in (one, other))
-        elif type == "ptr" and order[0] == "u":
+        elif type == "ptr" and step.more not in ("eq", "ne"):
             one, other = (cast("uintptr_t", each) for each in (one, other))
-        return binary(ORDERS[order[-2:]], one, other)
+        return binary(ORDERS[step.more], one, other)
 
     def place(self, step, base, offset):
         """A pointer and an offset in bytes."""
@@ -342,29 +331,20 @@ class Values:
 
     def stand_in(self, step):
         """In place of a null pointer a caller's slice of no bytes has the address 4096."""
-        found = [self.made.get(step.operands[1].token)]
-        if found[0] is None or found[0].operation != "select" or self.constant(found[0].operands[1]) != 4096:
+        select = self.made.get(step.operands[1].token)
+        if select is None or select.operation != "select" or self.constant(select.operands[1]) != 4096:
             return None
-        asked = self.made.get(found[0].operands[0].token)
+        asked = self.made.get(select.operands[0].token)
         if asked is None or (asked.operation, asked.more, asked.operands[0].token) != ("icmp", "eq", step.operands[0].token):
             return None
-        base = self.value(step.operands[0])
-        other = cast(self.type_of("ptr", step.result).replace(" *", "*").replace("*", " *"), atom("4096"))
+        base, other = self.value(step.operands[0]), cast(self.type_of("ptr", step.result), atom("4096"))
         return choice(binary("==", base, atom("NULL")), other, base)
 
     def intrinsic(self, step, values):
-        name, width = step.more, step.type[1:]
-        if name.startswith("llvm.fshl") and step.operands[0] == step.operands[1]:
-            return call(f"skh_rotate{width}", values[0], values[2])
-        if name.startswith("llvm.umin"):
-            return call(f"skh_least{width}", *values)
-        if name.startswith("llvm.umax"):
-            return call(f"skh_most{width}", *values)
-        if name.startswith("llvm.usub.sat"):
-            return call(f"skh_less{width}", *values)
-        if name == "llvm.ctpop.i32":
-            return call("skh_ones32", *values)
-        raise Unknown(f"print_c does not know the call of {name}")
+        kind = step.more[len("llvm."):].rpartition(".")[0]
+        if kind not in INTRINSICS or kind == "fshl" and step.operands[0] != step.operands[1]:
+            raise Unknown(f"print_c does not know the call of {step.more}")
+        return call(f"skh_{INTRINSICS[kind]}{step.type[1:]}", *(values[::2] if kind == "fshl" else values))
 
     def vector(self, step):
         operation, type = step.operation, step.type
@@ -373,7 +353,7 @@ class Values:
             size = width_of(element) // 8
             return [self.load(element, at._replace(offset=at.offset + size * i)) for i in range(count)]
         if operation == "call" and step.more == "llvm.vector.reduce.or.v32i8":
-            asked = [(user.operation, user.more, user.operands[1].token) for user in self.users[step.result]]
+            asked = [(user.operation, user.more, user.operands[1].token) for user, _ in self.users[step.result]]
             if set(asked) - {("icmp", "eq", "0"), ("icmp", "ne", "0")}:
                 raise Unknown("print_c knows llvm.vector.reduce.or only if it is compared with 0")
             return call("skh_any", atom(VECTORS), *self.words(step.operands[0]))
