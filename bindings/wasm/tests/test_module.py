@@ -57,6 +57,12 @@ def test_program_of_the_page_prints_what_its_comments_say(project):
     assert subprocess.check_output(["node", *flags, "page.mjs"], cwd=project, text=True).splitlines() == expected
 
 
+def test_the_page_is_made_of_the_texts_that_are_edited(need, tmp_path):
+    need("bash", "linux-x86_64")
+    subprocess.run(["bash", ROOT / "tools/make_dist", "--page", tmp_path / "dist"], check=True)
+    assert (tmp_path / "dist/wasm/index.html").read_bytes() == (DIST / "wasm/index.html").read_bytes()
+
+
 def test_the_page_explains_the_definitions_in_its_contracts():
     page = (DIST / "wasm/index.html").read_text()
     legend, contracts = re.search(r"<table>(.*?)</table>\n<pre>(.*?)</pre>", page, re.S).groups()
