@@ -1,7 +1,7 @@
 /* sketch_hash.c 3.0.0: printed from proved text. Do not edit it: tools/print_c prints it.
  *
  * crate     sketch_c, and those that it depends on, of which PROVED says more
- * text      3f7c8f1bcb37f33664d38c5ab3e299389c3fa11338021a786f27334e3b3e8489
+ * text      eff59a58333e2cde993074b6b80250935e59b51b962062d5a035c115a4a42b74
  * prover    rattle-kit-13f logic dac8208d650f15bf
  * compiler  clang version 22.1.8, of the kit: its module, optimized, is what is printed
  * licence   Apache-2.0

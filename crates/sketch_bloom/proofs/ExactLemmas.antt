@@ -132,11 +132,13 @@ kept : (keys one_in log2_blocks k : ℕ) → 383 ≤ k → KeepsRate keys log2_b
 kept keys one_in log2_blocks k late (inl same) =
     rw same (omega (arith, found_le keys (2 ^ log2_blocks) k))
 kept keys one_in log2_blocks k late (inr (many, (few, rate))) =
-    let first = kept_step _ _ _ _ _ _ _ _ _ (unit_is_positive keys log2_blocks 383) (div-mul-le_self (2 ^ 60) one_in)
+    let first = kept_step _ _ _ _ _ _ _ _ _ (unit_is_positive keys log2_blocks 383)
+    (div-mul-le_self (2 ^ 60) one_in)
     (near_weight keys log2_blocks 383).unit (near_sum keys log2_blocks 383).below rate
     (near_found keys log2_blocks 383).above in
-    kept_more _ _ _ _ _ _ _ _ _ _ _ (some_parts keys log2_blocks few) (small keys log2_blocks few) (more keys log2_blocks few k late).sum_grows first
-    (more keys log2_blocks few k late).found
+    let last = more keys log2_blocks few k late in
+    kept_more _ _ _ _ _ _ _ _ _ _ _ (some_parts keys log2_blocks few) (small keys log2_blocks few)
+    last.sum_grows first last.found
 
 missed_few : (keys one_in log2_blocks k : ℕ) → 383 ≤ k → 0 < one_in → keys ≤ 128 * 2 ^ log2_blocks →
     (let unit = (weight keys log2_blocks 383).unit in
@@ -147,11 +149,13 @@ missed_few keys one_in log2_blocks k late some few rate =
     let least : 2 ^ 60 ≤ (2 ^ 60 / one_in + 1) * one_in =
     omega (arith, next_multiple (2 ^ 60) one_in some) in
     let sum = near_sum keys log2_blocks 383 in
-    let first = missed_step _ _ _ _ _ _ _ _ _ (unit_is_positive keys log2_blocks 383) (div-mul-le_self (2 ^ 60) one_in)
+    let first = missed_step _ _ _ _ _ _ _ _ _ (unit_is_positive keys log2_blocks 383)
+    (div-mul-le_self (2 ^ 60) one_in)
     (near_weight keys log2_blocks 383).unit sum.below rate least
     (near_found keys log2_blocks 383).below sum.above in
-    missed_more _ _ _ _ _ _ _ _ _ _ _ (some_parts keys log2_blocks few) (small keys log2_blocks few) (more keys log2_blocks few k late).sum_grows first
-    (more keys log2_blocks few k late).found_grows (more keys log2_blocks few k late).sum
+    let last = more keys log2_blocks few k late in
+    missed_more _ _ _ _ _ _ _ _ _ _ _ (some_parts keys log2_blocks few) (small keys log2_blocks few)
+    last.sum_grows first last.found_grows last.sum
 
 missed_many : (keys one_in blocks k : ℕ) → 383 ≤ k → 1 < one_in → 128 * blocks ≤ keys →
     IsRateAbove keys blocks one_in k
