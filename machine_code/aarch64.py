@@ -14,7 +14,7 @@ WIDTHS = {"b": 8, "h": 16, "s": 32, "d": 64, "q": 128, "w": 32, "x": 64}
 @functools.cache
 def split(text):
     """The operands. What is in brackets is one; so is a shift with the register before it."""
-    return re.split(r",\s*(?=\S)(?![^\[]*\])(?!(?:ls[lr]|ror)\b)", text) if text else []
+    return re.split(r",\s*(?=\S)(?![^\[]*\])(?!(?:ls[lr]|ror|uxtw)\b)", text) if text else []
 
 
 def shift_lane(x, n):
@@ -110,7 +110,7 @@ class Aarch64(Machine):
         return ("x" if kind in "wx" else "v") + index, int(lane or 1) * WIDTHS[letter or kind]
 
     def read(self, text, width=64):
-        """A number, a register, or a register that is shifted."""
+        """A number, or a register that may be shifted, or extended with zeros before."""
         name, _, change = text.partition(", ")
         if name in CONDITIONS:
             return CONDITIONS[name]
@@ -123,7 +123,9 @@ class Aarch64(Machine):
             place = re.search(r"\[(\d+)\]", name)
             value = cut(self.registers[register], size * int(place[1]) if place else 0, size)
         how, _, n = change.partition(" #")
-        return OPERATIONS[how](self, value, number(int(n, 0))) if how else value
+        if how == "uxtw":
+            how, value = "lsl", extend(value, 64)
+        return OPERATIONS[how](self, value, number(int(n or "0", 0))) if how else value
 
     def write(self, name, value):
         """A write of a part clears the rest."""

@@ -174,6 +174,7 @@ RIGHT = [
     ("x86-64", f"sub rsp, 24; movaps [rsp], xmm0; add rsp, 24; {VERSION}"), ("Windows", f"mov [rsp+8], rcx; {VERSION}"),
     ("x86-64", f"add rax, rcx; inc rax; cmp rax, rax; jne 1f; {VERSION}; 1: ud2"), ("aarch64", ARM),
     ("aarch64", f"stp x19, x20, [sp, #-16]!; mov x19, x0; ldp x19, x20, [sp], #16; {ARM}"),
+    ("aarch64", f"mov w2, w1; add x3, x9, w1, uxtw #3; sub x3, x3, x2, lsl #3; eor x3, x3, x9; cbnz x3, 1f; {ARM}; 1: udf #0"),
     ("x86-64", f"mov rax, rsp; and rsp, -64; sub rsp, 64; movaps [rsp], xmm1; mov rsp, rax; {VERSION}"),
     # A move of 64 bits clears the rest of a vector.
     ("x86-64", f"movq xmm1, xmm0; movq rax, xmm1; movq rcx, xmm0; sub rax, rcx; add eax, {calls.VERSION}; ret"),
