@@ -175,6 +175,8 @@ RIGHT = [
     ("x86-64", f"add rax, rcx; inc rax; cmp rax, rax; jne 1f; {VERSION}; 1: ud2"), ("aarch64", ARM),
     ("aarch64", f"stp x19, x20, [sp, #-16]!; mov x19, x0; ldp x19, x20, [sp], #16; {ARM}"),
     ("aarch64", f"mov w2, w1; add x3, x9, w1, uxtw #3; sub x3, x3, x2, lsl #3; eor x3, x3, x9; cbnz x3, 1f; {ARM}; 1: udf #0"),
+    ("aarch64", f"cmp x1, x1; csinv x3, x9, xzr, ne; csinv x4, x9, x9, eq; eor x4, x4, x9; sub x3, x3, x4; mvn x3, x3; "
+                f"cbnz x3, 1f; {ARM}; 1: udf #0"),
     ("x86-64", f"mov rax, rsp; and rsp, -64; sub rsp, 64; movaps [rsp], xmm1; mov rsp, rax; {VERSION}"),
     # A move of 64 bits clears the rest of a vector.
     ("x86-64", f"movq xmm1, xmm0; movq rax, xmm1; movq rcx, xmm0; sub rax, rcx; add eax, {calls.VERSION}; ret"),
@@ -294,7 +296,8 @@ def test_accesses_that_perhaps_overlap_are_refused():
 
 # Those whose result does not matter in some library.
 SAME = {"movaps": "it clears what is written before it is read", "punpcklqdq": "both halves are compared with 0",
-        "movdqa": "it clears what is written before it is read", "sbb": "only its carry is used"}
+        "movdqa": "it clears what is written before it is read", "sbb": "only its carry is used",
+        "pcmpeqb": "a second one takes the complement"}
 
 
 def some_runs(machine):
@@ -343,5 +346,5 @@ def changed(kind, operation, right, run, *values):
     result = right(run, *values)
     if operation in kind.comparisons:
         what, x, y, last = run.flags
-        run.flags = what, x, complement(y), last and complement(last)
+        run.flags = what, complement(x) if what == "bits" else x, complement(y), last and complement(last)
     return complement(result) if result else result
