@@ -54,7 +54,7 @@ def test_the_numbers_of_the_header_are_those_of_a_package(name):
     assert numbers and {*numbers} <= {*header}
 
 
-@pytest.mark.parametrize("tool", ["awk", "clang-format-14", "flake8", "rustfmt", "shellcheck"])
+@pytest.mark.parametrize("tool", ["awk", "clang-format", "flake8", "rustfmt", "shellcheck"])
 def test_a_linter_finds_nothing(tool, need):
     need(tool)
     subprocess.run(["bash", ROOT / ".ci/lint", tool], check=True)

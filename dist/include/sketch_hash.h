@@ -130,11 +130,10 @@ typedef struct sketch_murmur3_x64_128_state {
     unsigned char waiting[16]; /* the first total % 16 are bytes of the input */
 } sketch_murmur3_x64_128_state_t;
 
+/* clang-format off */
 /** Initializes a state, as sketch_murmur3_x64_128_reset does. It evaluates `seed` twice. */
-#define SKETCH_MURMUR3_X64_128_INIT(seed)                                                          \
-    {                                                                                              \
-        SKETCH_HASH_U64(seed), SKETCH_HASH_U64(seed), 0, { 0 }                                     \
-    }
+#define SKETCH_MURMUR3_X64_128_INIT(seed) { SKETCH_HASH_U64(seed), SKETCH_HASH_U64(seed), 0, { 0 } }
+/* clang-format on */
 
 /** Writes the two words of MurmurHash3_x64_128 of `length` bytes, as the original's `out`. A seed
  * below 2^32 gives the original's hash. hash[0] and then hash[1], each as "%016" PRIx64, are the 32

@@ -1,6 +1,6 @@
 /* The header alone, under each standard of C and C++: it may be included twice, and
  * inside extern "C", and its initializers are constants that equal a reset, also in a
- * namespace with names of its own. */
+ * class with names of its own. */
 #ifdef __cplusplus
 extern "C" {
 #include "sketch_hash.h"
@@ -16,13 +16,14 @@ static const sketch_xxh64_state_t constant_x = SKETCH_XXH64_INIT(SEVEN);
 static const sketch_murmur3_x64_128_state_t constant_m = SKETCH_MURMUR3_X64_128_INIT(SEVEN);
 
 #ifdef __cplusplus
-namespace own {
-namespace sketch_hash {
-typedef unsigned char u64;
-}
-typedef unsigned char uint64_t;
-static const sketch_xxh64_state_t state = SKETCH_XXH64_INIT(0x700000007);
-} // namespace own
+struct own {
+    struct sketch_hash {};
+    typedef unsigned char uint64_t;
+    static sketch_xxh64_state_t state() {
+        sketch_xxh64_state_t state = SKETCH_XXH64_INIT(0x700000007);
+        return state;
+    }
+};
 #endif
 
 int main(void) {
@@ -33,7 +34,7 @@ int main(void) {
 #ifdef __cplusplus
     int seed = 7;
     uint64_t word = 7; /* needs no cast */
-    if (own::state.seed >> 32 != 7) return 1;
+    if (own::state().seed >> 32 != 7) return 1;
     sketch_xxh64_state_t other_x[] = {SKETCH_XXH64_INIT(seed), SKETCH_XXH64_INIT(word)};
     sketch_murmur3_x64_128_state_t other_m[] = {SKETCH_MURMUR3_X64_128_INIT(seed),
                                                 SKETCH_MURMUR3_X64_128_INIT(word)};

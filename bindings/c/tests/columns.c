@@ -38,7 +38,7 @@ static void lay_out(unsigned least, unsigned spread) {
 static int each(int call, int column, size_t missing, size_t *wrong) {
     unsigned char *in = bits;
     const size_t size = length_of_bits, n = length, given = KEYS + (column <= OFFSETS64) - missing;
-    uint64_t *words = (uint64_t *)out, (*pairs)[2] = (uint64_t(*)[2])out;
+    uint64_t *words = (uint64_t *)out, (*pairs)[2] = (void *)out;
     switch (CALL(call, column)) {
     case CALL(XXH64, OFFSETS32):
         return sketch_xxh64_each32(keys, n, narrow, given, seed, words, KEYS, wrong);
