@@ -5,6 +5,8 @@ import struct
 import subprocess
 import tempfile
 
+from values import Stop
+
 HEADER = (pathlib.Path(__file__).parents[1] / "dist/include/sketch_hash.h").read_text()
 ARM = 183, 0x100000C  # the numbers of aarch64 in ELF and Mach-O; each PE here is for x86-64
 BASE = 1 << 40  # where a loader maps the file: so that a number that is near 0 is no address of it
@@ -32,7 +34,9 @@ class Library:
     def __init__(self, data):
         self.data, self.functions, self.read_only, self.code, self.statics = data, {}, [], [], []
         magics = {b"\x7fELF": self.read_elf, b"MZ": self.read_pe, b"\xcf\xfa\xed\xfe": self.read_macho}
-        (read,) = (item for magic, item in magics.items() if data.startswith(magic))
+        read = next((item for magic, item in magics.items() if data.startswith(magic)), None)
+        if not read:
+            raise Stop("it is no library in ELF, PE or Mach-O")
         self.format = read.__name__.partition("_")[2]
         self.processor = "aarch64" if read() in ARM else "x86-64"
         self.instructions = {}
@@ -123,7 +127,9 @@ def read(path):
     data = path.read_bytes()
     if not data.startswith((ELF, b"!<arch>")):
         return Library(data)
-    linker = next(name for magic, name in LINKERS.items() if magic in data)
+    linker = next((name for magic, name in LINKERS.items() if magic in data), None)
+    if not linker:
+        raise Stop("it has no object file that is known")
     with tempfile.TemporaryDirectory() as tmp:
         command = [linker, "-shared", "-o", f"{tmp}/linked", "--whole-archive", path]
         subprocess.run(command, check=True)

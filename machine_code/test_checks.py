@@ -58,15 +58,28 @@ def test_the_machine_code_is_as_defined(name, library_of):
     assert {function: found for function, found in faults.items() if found} == {}
 
 
+CHECK = pathlib.Path(__file__).with_name("check")
+
+
 @pytest.mark.parametrize("change, status, output", [
     ([], 0, "1 of 1 functions are as defined"), (["-Dsketch_hash_version=other"], 1, "the library does not have it"),
 ])
 def test_the_command_says_whether_a_function_is_as_defined(change, status, output, need, tmp_path):
     need("gcc")
     build("gcc", tmp_path / "library.so", *change)
-    check = [pathlib.Path(__file__).with_name("check"), "--only", "hash_version", tmp_path / "library.so"]
-    run = subprocess.run(check, capture_output=True, text=True)
+    run = subprocess.run([CHECK, "--only", "sketch_hash_version", tmp_path / "library.so"], capture_output=True, text=True)
     assert run.returncode == status and output in run.stdout and not run.stderr
+
+
+@pytest.mark.parametrize("only, data, reason", [
+    ("other", TEXT.with_name("linux-x86_64").joinpath("sketchsum").read_bytes(), "no function has other in its name"),
+    ("", None, "No such file"), ("", b"text", "ELF, PE or Mach-O"), ("", b"!<arch>\n", "no object file"),
+])
+def test_a_check_of_nothing_fails(only, data, reason, tmp_path):
+    if data is not None:
+        (tmp_path / "library").write_bytes(data)
+    run = subprocess.run([CHECK, "--only", only, tmp_path / "library"], capture_output=True, text=True)
+    assert (run.returncode, run.stdout) == (2, "") and reason in run.stderr.splitlines()[-1]
 
 
 @pytest.mark.parametrize("header", ["int sketch_other(void);", ""])
