@@ -25,7 +25,7 @@ if IS_CI:
     pytest.importorskip = importlib.import_module  # a module that is missing fails
 # The folder of Debian's crates, and the settings by which cargo takes them in place of those of crates.io.
 DEBIAN_CRATES = pathlib.Path("/usr/share/cargo/registry")
-CARGO_CONFIG = f'[source]\ncrates-io = {{ replace-with = "debian" }}\ndebian = {{ directory = "{DEBIAN_CRATES}" }}\n'
+CARGO_CONFIG = re.search(r"^```toml\n(.*?)^```", (ROOT / "bindings/rust/README.md").read_text(), re.M | re.S)[1]
 PLATFORM = sysconfig.get_platform()
 if PLATFORM != "linux-x86_64":  # these run its library or its program
     collect_ignore = ["tests/test_crates.py", "tests/test_faults.py", "bindings/c",

@@ -304,8 +304,8 @@ SKETCH_HASH_API int sketch_bloom_fold(void *bits, size_t length);
 
 /** Folds a filter as often as its false positive rate, by the bits that are set, stays at most one in
  * `one_in`. Returns the length of the folded filter, which is at `bits`. The bytes after it, up to
- * `length`, have no meaning. Returns `length` if it folds nothing, as with a `one_in` of 0, and 0 if
- * no filter has `length` bytes.
+ * `length`, have no meaning: from then on a call with the old length misses keys. Returns `length` if
+ * it folds nothing, as with a `one_in` of 0, and 0 if no filter has `length` bytes.
  *
  * The rate is the probability that a key is found that was not inserted: the mean, over the blocks,
  * of the product of the shares of set bits in the eight words. */
