@@ -205,9 +205,11 @@ def test_each_form_of_zero_is_looked_for():
 def test_a_number_that_float_cannot_have_finds_those_around_it():
     """As DuckDB finds 0.1, which it converts. The filters have 0.25 in the first row group, and 2.25 in the second."""
     for value, group in ((0.25 + 1e-12, 0), (0.25 - 1e-12, 0), (0.25, 0), (2.25 + 2e-7, 1), (numpy.float32(0.25), 0),
-                         (decimal.Decimal("0.25"), 0), (1e-45, 0), (-1e-60, 0)):
+                         (decimal.Decimal("0.25"), 0), (1e-45, 0), (-1e-60, 0), (numpy.float64(0.25 + 1e-12), 0)):
         assert group in parquet.may_contain(FILTERS, "float", value)
-    assert parquet.may_contain(FILTERS, "float", 1e300) == []
+    for value in (1e300, 10**400, numpy.float64(-1e300)):
+        assert parquet.may_contain(FILTERS, "float", value) == []
+    assert parquet.may_contain(FILTERS, "double", -10**400) == parquet.may_contain(FILTERS, "double", numpy.float32(-1)) == []
 
 
 def test_a_list_of_one_column_is_asked_by_its_own_name():
@@ -223,6 +225,22 @@ class Timestamp(datetime.datetime):
 def test_nanoseconds_of_pandas_count():
     assert parquet.may_contain(FILTERS, "ns", Timestamp(2026, 1, 1, 1, 1, 1, 3)) == []
     assert 0 in parquet.may_contain(FILTERS, "ns", datetime.datetime(2026, 1, 1, 1, 1, 1, 3))
+
+
+def test_nanoseconds_of_a_command_line_count():
+    """Python's fromisoformat drops them."""
+    columns = {leaf.name: leaf for leaf in parquet.open(FILTERS).footer.columns()}
+
+    def keys(name, text):
+        return keys_of(parse(text, columns[name]), columns[name])
+
+    whole = keys("ns", "2026-01-01 01:01:01.000003")
+    for digits, more in (("007", 7), ("07", 70), ("999", 999), ("000", 0)):
+        assert keys("ns", f"2026-01-01 01:01:01.000003{digits}") == [
+            (int.from_bytes(whole[0], "little") + more).to_bytes(8, "little")]
+    assert keys("us_utc", "2026-01-01T01:01:01.000003000") == keys("us_utc", "2026-01-01T01:01:01.000003000Z") != []
+    assert keys("us_utc", "2026-01-01T01:01:01.0000031") == keys("time_us", "01:02:03.000003001") == []
+    pytest.raises(ValueError, keys, "ns", "2026-01-01 01:01:01.0000030070").match("cannot have")
 
 
 @pytest.mark.parametrize("call, error, text", [
@@ -367,7 +385,7 @@ def test_a_damaged_header_of_a_filter_is_named():
     data = bytearray(FILTERS.read_bytes())
     offset, _ = parquet.open(FILTERS).footer.find(["int8"])[0].place(0)
     data[offset:offset + 10] = b"\xff" * 10
-    with pytest.raises(ValueError, match=f"^the filter of int8 at {offset} has a damaged header: add the filters again$"):
+    with pytest.raises(ValueError, match=f"^the filter of int8 at {offset} has a damaged header: replace it "):
         parquet.may_contain(io.BytesIO(data), "int8", 1)
 
 
@@ -670,6 +688,37 @@ parquet.add_filters({str(copy)!r}, {str(copy)!r}, ["plain"])"""
     done = subprocess.run([sys.executable, "-c", code], env={**os.environ, "PYTHONPATH": os.pathsep.join(sys.path)})
     assert done.returncode == -signal.SIGKILL and copy.read_bytes() == ODD.read_bytes()
     assert sorted(name[:13] for name in os.listdir(tmp_path)) == [".sketch_hash-", "a.parquet"]
+
+
+@pytest.mark.parametrize("send, number, status", [
+    (os.kill, signal.SIGTERM, 143), (os.killpg, signal.SIGTERM, 143), (os.killpg, signal.SIGINT, 130),
+    (os.kill, signal.SIGKILL, -9),
+])
+def test_a_stopped_run_of_several_processes_leaves_all_files(send, number, status, tmp_path):
+    """Those in work and those that wait, and no new one."""
+    (tmp_path / "code").mkdir()
+    (tmp_path / "code/sitecustomize.py").write_text("""import time
+from sketch_hash.parquet import writer
+writer.stored_values = lambda *_: time.sleep(60)""")
+    (tmp_path / "files").mkdir()
+    names = [f"{i}.parquet" for i in range(6)]
+    for name in names:
+        shutil.copy(ODD, tmp_path / "files" / name)
+    command = [sys.executable, "-m", "sketch_hash.parquet", "add", "-c", "plain", "--jobs", "2", tmp_path / "files"]
+    path = os.pathsep.join([str(tmp_path / "code"), *sys.path])
+    process = subprocess.Popen(command, env={**os.environ, "PYTHONPATH": path}, start_new_session=True)
+    until(lambda: len(os.listdir(tmp_path / "files")) == len(names) + 2)
+    send(process.pid, number)
+    assert process.wait(30) == status
+    until(lambda: sorted(os.listdir(tmp_path / "files")) == names)
+    assert all((tmp_path / "files" / name).read_bytes() == ODD.read_bytes() for name in names)
+
+
+def until(is_so):
+    end = time.monotonic() + 30
+    while not is_so():
+        assert time.monotonic() < end
+        time.sleep(0.02)
 
 
 def test_a_missing_pyarrow_is_named(copy, tmp_path, monkeypatch):

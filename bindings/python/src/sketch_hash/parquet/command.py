@@ -44,8 +44,14 @@ def main():
     if args.jobs < 1:
         parser.error("--jobs must be at least 1")
     sys.stdout.reconfigure(errors="surrogateescape")  # a name may be any bytes
-    signal.signal(signal.SIGTERM, lambda *_: sys.exit(128 + signal.SIGTERM))  # so the file in work is removed
+    signal.signal(signal.SIGTERM, stop)
     return run(args)
+
+
+def stop(*_):
+    """Ends the process, and removes the file in work. A second signal must not interrupt that."""
+    signal.signal(signal.SIGTERM, signal.SIG_IGN)
+    sys.exit(128 + signal.SIGTERM)
 
 
 def add_options(command):
@@ -96,13 +102,31 @@ def each(task, files, jobs):
     if jobs == 1:
         yield from map(task, files)
         return
-    with concurrent.futures.ProcessPoolExecutor(jobs, multiprocessing.get_context("spawn"), end_with_parent) as pool:
-        yield from pool.map(task, files)
+    with concurrent.futures.ProcessPoolExecutor(jobs, multiprocessing.get_context("spawn"), begin_worker) as pool:
+        try:
+            yield from pool.map(functools.partial(as_worker, task), files)
+        except BaseException:
+            for worker in multiprocessing.active_children():
+                worker.terminate()
+            raise
 
 
-def end_with_parent():
-    """Ends this process if the one that started it is killed: it would wait for more work for ever."""
-    threading.Thread(target=lambda: (multiprocessing.parent_process().join(), os._exit(FAILED)), daemon=True).start()
+def begin_worker():
+    """The process that started this one ends it by SIGTERM. If it was killed, this one would wait for work for ever."""
+    def stop_with_parent():
+        multiprocessing.parent_process().join()
+        os.kill(os.getpid(), signal.SIGTERM)
+
+    signal.signal(signal.SIGINT, signal.SIG_IGN)  # Ctrl-C sends it to both
+    signal.signal(signal.SIGTERM, stop)
+    threading.Thread(target=stop_with_parent, daemon=True).start()
+
+
+def as_worker(task, file):
+    try:
+        return task(file)
+    except SystemExit:
+        os._exit(FAILED)  # else the pool gives this process the next file
 
 
 def files_of(paths):

@@ -4,6 +4,7 @@ import decimal
 import math
 import numbers
 import operator
+import re
 import struct
 import uuid
 
@@ -34,15 +35,30 @@ def keys_of(value, column):
         raise TypeError(f"a value of {type(value).__name__} cannot be in {column.name}: {error}") from None
 
 
+class Timestamp(datetime.datetime):
+    nanosecond = 0  # behind the microsecond, as a pandas.Timestamp has it
+
+
+class Time(datetime.time):
+    nanosecond = 0
+
+
 def parse(text, column):
     """Returns the value of a column that is written as this text."""
     kind = column.kind
+    # Python's parsers drop what follows the sixth digit of a second.
+    parts = re.split(r"(?<=[.,]\d{6})(\d+)", text, maxsplit=1) if kind.name in ("time", "timestamp") else [text]
+    digits = "".join(parts[1:2])
     try:
-        value = PARSERS.get(kind.name, PARSERS.get(kind.type, str))(text)
+        if len(digits) > 3:
+            raise ValueError("finer than a nanosecond")
+        value = PARSERS.get(kind.name, PARSERS.get(kind.type, str))("".join(parts[::2]))
     except (ArithmeticError, ValueError):
         raise ValueError(f"the column {column.name} cannot have {text!r}") from None
     if kind.name == "timestamp" and kind.is_utc and value.tzinfo is None:
-        return value.replace(tzinfo=datetime.timezone.utc)
+        value = value.replace(tzinfo=datetime.timezone.utc)
+    if digits:
+        value.nanosecond = int(digits.ljust(3, "0"))
     return value
 
 
@@ -59,13 +75,14 @@ def of_float(value, format):
     if not isinstance(value, (numbers.Real, decimal.Decimal)):
         raise TypeError("it must be a number")
     try:
-        key = struct.pack(format, value)
+        key = struct.pack(format, float(value))
     except OverflowError:
         key = struct.pack(format, math.inf if value > 0 else -math.inf)
-    except struct.error:  # a duration of numpy says that it is a number
+    except TypeError:  # a duration of numpy says that it is a number
         raise TypeError("it must be a number") from None
     near, bits = struct.unpack(format, key)[0], int.from_bytes(key, "little")
-    forms = {bits, bits + (abs(near) < abs(value)) - (abs(near) > abs(value))}
+    # numpy compares to its own kind of bool, whose sums have 64 bits.
+    forms = {bits, bits + bool(abs(near) < abs(value)) - bool(abs(near) > abs(value))}
     zeros = {0, 1 << 8 * len(key) - 1}
     if forms & zeros:
         forms |= zeros
@@ -142,7 +159,7 @@ def since_midnight(value, kind):
 
 MOMENTS = {"date": days, "timestamp": since_1970, "time": since_midnight}
 PARSERS = {
-    "date": datetime.date.fromisoformat, "time": datetime.time.fromisoformat, "decimal": decimal.Decimal,
-    "timestamp": datetime.datetime.fromisoformat, "uuid": uuid.UUID,
+    "date": datetime.date.fromisoformat, "time": Time.fromisoformat, "decimal": decimal.Decimal,
+    "timestamp": Timestamp.fromisoformat, "uuid": uuid.UUID,
     INT32: int, INT64: int, FLOAT: float, DOUBLE: float, FIXED: bytes.fromhex,
 }

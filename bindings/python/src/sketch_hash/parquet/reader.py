@@ -100,7 +100,8 @@ def place_of_bits(column, offset, length, head):
     try:
         bits = BloomFilter.parquet_bits(head)
     except ValueError:
-        raise ValueError(f"the filter of {column.name} at {offset} has a damaged header: add the filters again") from None
+        raise ValueError(f"the filter of {column.name} at {offset} has a damaged header: replace it by replace=True, "
+                         "or --replace") from None
     if offset + bits.stop > column.footer.start or length not in (None, bits.stop):
         raise ValueError(f"the filter of {column.name} at {offset} must have the length that the footer has")
     return offset + bits.start, len(bits)

@@ -23,8 +23,8 @@ def add_filters(source, target, columns, *, error_rate=0.01, max_bytes=None, rep
     footer only the places of the filters change. Returns how many bytes the new filters have. A target is whole at any
     time: it is written to its folder as .sketch_hash-.., and then renamed. progress, as tqdm.tqdm, draws a bar.
 
-    By its bits, no filter has more than error_rate, the share of other keys that it finds on average, unless it would need
-    more than max_bytes.
+    A filter begins large enough for all values at error_rate, the share of other keys that it finds on average, or with
+    max_bytes. It is halved while its rate by its bits stays at most error_rate.
     replace replaces filters that are there, and moves those that are the last before the footer, so that a file does not
     grow with each call. skip_existing keeps them, and adds those that are missing. A UserWarning names each column whose
     filters help little.
@@ -191,6 +191,6 @@ def check_filters(source, *, progress=None):
             for batch in batches:
                 if filter.contains_each(batch).tobytes().count(1) != len(batch) - batch.null_count:
                     raise FilterError(f"the filter of {column.name} in row group {group} lacks a value, so queries lose rows: "
-                                      "add the filters again")
+                                      "replace it by replace=True, or --replace")
             count += 1
     return count
