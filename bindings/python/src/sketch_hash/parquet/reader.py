@@ -57,7 +57,8 @@ class BloomFilterReader:
         """For each value a list of the row groups that may have it in a column, so also of those without a filter.
 
         A value is that of pyarrow: a str, bytes, a number, a date, time or datetime, a Decimal, a UUID. A value that the
-        column cannot have, such as 2**40 in INT32, is in no row group.
+        column cannot have, such as 2**40 in INT32, is in no row group. For a number that FLOAT cannot have, such as 0.1, both
+        neighbours are looked up, since an engine may convert it to either.
         """
         if isinstance(values, (str, bytes)) or not hasattr(values, "__iter__"):
             raise TypeError("values must be a list of values, as [42], not one value")
