@@ -106,7 +106,7 @@ def installed(need, tmp_path):
     return {"PKG_CONFIG_PATH": str(lib / "pkgconfig"), "LD_LIBRARY_PATH": str(lib)}
 
 
-@pytest.mark.parametrize("copied, command", zip((COPIED, ()), re.findall(r"`(cc [^`]+)`", PAGE), strict=True))
+@pytest.mark.parametrize("copied, command", [*zip((COPIED, ()), re.findall(r"`(cc [^`]+)`", PAGE), strict=True)])
 def test_the_program_in_c_prints_the_hash(copied, command, installed, tmp_path):
     (tmp_path / "fox.c").write_text(the_block(PAGE, "c"))
     for name in copied:
