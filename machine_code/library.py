@@ -80,7 +80,9 @@ class Library:
             size, address, stored, offset = self.unpack("4I", at + 8)
             places.append((base + address, offset, min(size, stored)))
             (flags,) = self.unpack("I", at + 36)
-            if not flags >> 31:  # not writable
+            if flags >> 31:  # writable
+                self.statics.append(range(base + address, base + address + size))
+            else:
                 self.add(flags & 1 << 29, places[-1])
 
         def offset_of(address):

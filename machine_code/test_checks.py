@@ -194,6 +194,9 @@ RIGHT = [
     # A move of 64 bits clears the rest of a vector.
     ("x86-64", f"movq xmm1, xmm0; movq rax, xmm1; movq rcx, xmm0; sub rax, rcx; add eax, {calls.VERSION}; ret"),
     ("x86-64", f"movq xmm1, xmm0; pextrq rax, xmm1, 1; add eax, {calls.VERSION}; ret"),
+    # A flag of the library.
+    *((processor, f"cmp byte ptr [rip+1f], 1; sbb ecx, ecx; sub ecx, ecx; {VERSION}; .data; 1: .byte 0")
+      for processor in ("x86-64", "Windows")),
 ]
 WRONG = [
     ("x86-64", LOOKED_UP + ", ".join(map(str, [*BITS[:31], 5])), "outside"),
