@@ -65,7 +65,15 @@ pub fn read_header(input: &[u8]) -> Option<(usize, usize)>
 fn has_prefix(input: &[u8], prefix: &[u8]) -> bool
     ensures { IsTrue result ↔ (take (length prefix.now) input.now ≡ prefix.now) }
 {
-    prefix.len() <= input.len() && &input[..prefix.len()] == prefix
+    if prefix.len() > input.len() {
+        return false;
+    }
+    for i in 0..prefix.len() {
+        if input[i] != prefix[i] {
+            return false;
+        }
+    }
+    true
 }
 
 // The first field of a header, and its number of bytes.

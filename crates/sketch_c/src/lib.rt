@@ -19,12 +19,12 @@ pub mod xxh64;
 
 use sketch_bloom::Fault;
 
-/// The version of the library as one number, major * 10000 + minor * 100 + patch: 3.0.0.
+/// The version of the library as one number, major * 10000 + minor * 100 + patch: 3.1.0.
 #[unsafe(no_mangle)]
 pub extern "C" fn sketch_hash_version() -> u32
-    ensures { result ≡ 30000 }
+    ensures { result ≡ 30100 }
 {
-    30_000
+    30_100
 }
 
 // 0, or the number of the error.

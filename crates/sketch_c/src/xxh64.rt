@@ -52,5 +52,5 @@ pub extern "C" fn sketch_xxh64_digest(state: &XxHash64State) -> u64
     ensures stands { (seed : ℕ) (bytes : List ℕ) → Xxh64StateStands state.now seed bytes →
         result ≡ xxh64 seed bytes }
 {
-    XxHash64::resume(state).finish64()
+    state.finish()
 }

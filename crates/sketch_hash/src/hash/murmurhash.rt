@@ -217,6 +217,7 @@ impl Hasher for MurmurHash3X64128 {
     ghost empty_write = { murmur_after-empty };
 }
 
+// The first word of a block, before it is joined to the state.
 #[inline(always)]
 #[tactic(auto, unfolding(crate::specs::Murmur::mix1))]
 fn mix1(k1: u64) -> u64
@@ -225,6 +226,7 @@ fn mix1(k1: u64) -> u64
     rotate::<31>(k1.wrapping_mul(C1)).wrapping_mul(C2)
 }
 
+// The second word of a block, before it is joined to the state.
 #[inline(always)]
 #[tactic(auto, unfolding(crate::specs::Murmur::mix2))]
 fn mix2(k2: u64) -> u64
@@ -288,6 +290,7 @@ fn mix_tail(h1: u64, h2: u64, tail: &[u8]) -> (u64, u64)
     (h1 ^ mix1(k1), h2 ^ mix2(k2))
 }
 
+// The last mixing of a word.
 #[inline(always)]
 #[tactic(auto, unfolding(crate::specs::Murmur::fmix))]
 fn fmix(word: u64) -> u64

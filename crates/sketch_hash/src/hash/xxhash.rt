@@ -279,6 +279,7 @@ fn hash_stripes(bytes: &[u8], seed: u64) -> u64
     hash_long(bytes, seed)
 }
 
+// The hash of 32 bytes and more.
 #[inline(always)]
 #[tactic(auto, using(crate::proofs::Xxh64Answers::of_long))]
 fn hash_long(bytes: &[u8], seed: u64) -> u64

@@ -28,8 +28,9 @@ pub(super) fn read_partial_words(bytes: &[u8]) -> (u64, u64)
     read_two_words(bytes)
 }
 
-// Up to 15 bytes as a number of 128 bits, in two words. A function of its own, since
-// `read_partial_words` proves its second clause from this one.
+// The little-endian number of fewer than 16 bytes as two words, the lower first.
+//
+// `read_partial_words` proves its second clause from this function's only one.
 #[inline(always)]
 #[tactic(auto, using(crate::proofs::NumberLemmas::few_le, crate::proofs::NumberLemmas::last_le))]
 fn read_two_words(bytes: &[u8]) -> (u64, u64)

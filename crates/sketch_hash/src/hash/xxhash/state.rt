@@ -2,9 +2,11 @@
 
 ghost use Rattle.std.specs.Prelude.{◌≡◌, ℕ, ◌+◌, ◌%◌, ◌<◌, ◌≤◌, List, ◌++◌, length};
 ghost use Rattle.sketch_hash.specs.States.{xxh64_state_of, Xxh64StateStands};
-ghost use Rattle.sketch_hash.specs.Xxh64.{xxh64_after, Xxh64Stands};
+ghost use Rattle.sketch_hash.specs.Xxh64.{xxh64, xxh64_after, xxh64_answer, Xxh64Stands};
 
-use super::lanes::{ScalarLanes, consume};
+use super::lanes::{ScalarLanes, consume, merge};
+use super::steps::{PRIME5, avalanche};
+use super::tail::fold_tail;
 use super::{STRIPE, XxHash64};
 use crate::hash::copy::copy_small;
 use std::simd::prelude::*;
@@ -48,6 +50,38 @@ impl XxHash64State {
         }
     }
 
+    /// The 64-bit hash of all bytes so far, as of a hasher that resumes the state.
+    ///
+    /// It reads the waiting bytes in place, where a hasher would copy them first.
+    #[inline(always)]
+    #[tactic(auto, using(crate::proofs::Xxh64Answers::for_finish64))]
+    pub fn finish(&self) -> u64
+        ensures answer { result ≡ xxh64_answer (xxh64_state_of self.now) }
+        ensures stands { (seed : ℕ) (bytes : List ℕ) → Xxh64StateStands self.now seed bytes →
+            result ≡ xxh64 seed bytes }
+    {
+        let hash = if self.total < STRIPE as u64 {
+            self.seed.wrapping_add(PRIME5)
+        } else {
+            merge(self.lanes())
+        };
+        let hash = hash.wrapping_add(self.total);
+        avalanche(fold_tail(hash, &self.waiting[..self.waiting_count()]))
+    }
+
+    #[inline(always)]
+    fn lanes(&self) -> ScalarLanes
+        ensures { result ≡ record { v1 = self.now.v1; v2 = self.now.v2; v3 = self.now.v3;
+            v4 = self.now.v4 } }
+    {
+        ScalarLanes {
+            v1: self.v1,
+            v2: self.v2,
+            v3: self.v3,
+            v4: self.v4,
+        }
+    }
+
     // How many bytes of `waiting` count.
     #[inline(always)]
     fn waiting_count(&self) -> usize
@@ -77,13 +111,7 @@ impl XxHash64State {
     {
         let count = self.waiting_count();
         self.total = self.total.wrapping_add(bytes.len() as u64);
-        let lanes = ScalarLanes {
-            v1: self.v1,
-            v2: self.v2,
-            v3: self.v3,
-            v4: self.v4,
-        };
-        let lanes = consume(lanes, &mut self.waiting, count, bytes);
+        let lanes = consume(self.lanes(), &mut self.waiting, count, bytes);
         self.v1 = lanes.v1;
         self.v2 = lanes.v2;
         self.v3 = lanes.v3;
