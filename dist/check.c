@@ -11,18 +11,21 @@ static void same(const char *what, uint64_t answer, uint64_t published) {
     printf("%s is %016" PRIx64 ". ", what, answer);
 }
 
-/* SMHasher's verification value: 32 bits of the hash of the hashes of 256 keys. Key i is the bytes from 0 to i - 1. */
+/* SMHasher's verification value: 32 bits of the hash of the hashes of 256 keys, the lowest byte of
+ * each word first. Key i is the bytes from 0 to i - 1. */
 static void verification_values(void) {
-    static unsigned char key[256];
-    static uint64_t xxh64[256], murmur[257][2];
+    static unsigned char key[256], xxh64[256][8], murmur[256][16];
+    uint64_t hash[2];
     for (size_t i = 0; i < 256; i++) {
         key[i] = (unsigned char)i;
-        xxh64[i] = sketch_xxh64(key, i, 256 - i);
-        sketch_murmur3_x64_128(key, i, 256 - i, murmur[i]);
+        hash[0] = sketch_xxh64(key, i, 256 - i);
+        for (int byte = 0; byte < 8; byte++) xxh64[i][byte] = (unsigned char)(hash[0] >> 8 * byte);
+        sketch_murmur3_x64_128(key, i, 256 - i, hash);
+        sketch_murmur3_x64_128_bytes(hash, murmur[i]);
     }
-    sketch_murmur3_x64_128(murmur, sizeof *murmur * 256, 0, murmur[256]);
+    sketch_murmur3_x64_128(murmur, sizeof murmur, 0, hash);
     same("XXH64's verification value", (uint32_t)sketch_xxh64(xxh64, sizeof xxh64, 0), 0x024b7cf4);
-    same("Murmur's verification value", (uint32_t)murmur[256][0], 0x6384ba69);
+    same("Murmur's verification value", (uint32_t)hash[0], 0x6384ba69);
 }
 
 /* The filter of 32 bytes with the keys a0 to a9, as Arrow writes it. */

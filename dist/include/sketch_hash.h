@@ -1,4 +1,4 @@
-/* sketch_hash 3.0.0: XXH64, MurmurHash3_x64_128 and the Bloom filter of Apache Parquet, from
+/* sketch_hash 3.1.0: XXH64, MurmurHash3_x64_128 and the Bloom filter of Apache Parquet, from
  * functions that are proved. Licence: Apache-2.0.
  *
  * Proved, of the source that sketch_hash.c is printed from: for every seed, a digest is the hash
@@ -17,16 +17,22 @@
  *
  * What a caller must ensure, which no compiler checks:
  *   - A pointer with a length or a count points to that much memory, which is aligned for its type
- *     and may be NULL only if that is 0. A length is below 2^63, a count below 2^60, and of
- *     pairs, as `out` of sketch_murmur3_x64_128_each32 has them, below 2^59.
+ *     and may be NULL only if that is 0. So a length is below 2^63, a count below 2^60, and of
+ *     pairs, as `out` of sketch_murmur3_x64_128_each32 has them, below 2^59; with sizes of 32 bits
+ *     below 2^31, 2^28 and 2^27.
  *   - Any other pointer, wrong_offset too, is valid and not NULL.
  *   - What a call writes does not overlap anything else that it is given, and nobody else reads or
  *     writes it during the call. Nobody else writes what a call reads.
  *   - A state starts with its _INIT or its _reset.
  *
  * A state or a filter is plain data: copy it, save it, forget it. There is nothing to free. 2.x
- * and 3.x read each other's states. Threads may share what they only read.
+ * and 3.x read each other's states, on processors of one byte order: the numbers of a state are the
+ * machine's. A filter and its header are the same bytes everywhere. Threads may share what they
+ * only read.
  */
+#if defined SKETCH_HASH_INLINE && defined SKETCH_HASH_H && !defined SKETCH_HASH_IS_INLINE
+#error "define SKETCH_HASH_INLINE before sketch_hash.h is included for the first time"
+#endif
 #ifndef SKETCH_HASH_H
 #define SKETCH_HASH_H
 
@@ -51,6 +57,9 @@ template <typename Number> constexpr uint64_t u64(Number number) {
 
 /* What each call is declared with. SKETCH_HASH_INLINE makes it static, for a program that includes
  * sketch_hash.c, so that its compiler can inline calls. */
+#ifdef SKETCH_HASH_INLINE
+#define SKETCH_HASH_IS_INLINE
+#endif
 #ifndef SKETCH_HASH_API
 #ifdef SKETCH_HASH_INLINE
 #define SKETCH_HASH_API static inline
@@ -64,7 +73,7 @@ extern "C" {
 #endif
 
 /** The version of this header: major * 10000 + minor * 100 + patch. */
-#define SKETCH_HASH_VERSION 30000
+#define SKETCH_HASH_VERSION 30100
 
 /** Returns the version of the library. */
 SKETCH_HASH_API uint32_t sketch_hash_version(void);

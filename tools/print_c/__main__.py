@@ -1,149 +1,159 @@
-"""Prints a module of LLVM, which the kit makes of a proved crate and its clang optimizes, as one file of C11:
+"""Prints the module that the kit makes of the proved crate as one file of C:
 
-    python3 tools/print_c MODULE.ll HEADER >FILE.c
+    python3 tools/print_c CLANG MODULE HEADER CRATES >FILE.c
 
-HEADER declares the functions that others call. The instructions and calls that it knows are those of today's text, in
-module.py and values.py; any other stops it. Memory is read and written by memcpy, so alignment and aliasing are as in the
-module.
+CLANG is the kit's, and optimizes the module. HEADER declares the functions that others call. CRATES is the folder of the
+source, from which names and comments are. The instructions and calls that it knows are those of module.py and values.py; any
+other stops it. The layout is clang-format's.
+
+In order: keep.py optimizes the module and keeps its functions; module.py reads it; program.py finds names and kinds of
+pointers, with source.py. For each function reshape.py changes its blocks, flow.py finds its loops, values.py and body.py make
+statements, copies.py joins names, loops.py tidies, names.py gives names, text.py and expression.py write.
 """
 import collections
 import pathlib
-import re
 import sys
 
+import copies
+import expression as e
+import keep
+import loops
+import names
+import text
 from body import Body
-from expression import HEAD, atom, cast
-from module import Module, Struct, Unknown, bare
-from statements import Let, Text, with_type, wrap
-from values import TYPES, VECTORS, struct_name
+from expression import Writer, made
+from module import Module, Unknown
+from program import Program, part_of
+from reshape import reshape
+from source import Sources
+from values import VECTORS
 
-Declaration = collections.namedtuple("Declaration", "type parameters")  # of which each is a name, and how it is declared
-# These work on blocks of eight words, for which processors with AVX2 have instructions.
-CHOSEN = re.compile(r"skh_(find|insert)_hashes|sketch_bloom_(contains|insert)(_hash|_each_u32|_each_u64)?")
+WIDTH = 100
 
 
-class Signatures:
-    """The names of a module's functions and constants in C. `declared` are the functions that a header declares."""
+def comment(about):
+    lines, line = [], "/*"
+    for word in about.split():
+        if len(line) + 1 + len(word) > WIDTH - 3:
+            lines.append(line)
+            line = " *"
+        line += " " + word
+    return [*lines, line + " */"] if about else []
 
-    def __init__(self, module, header):
-        self.names = {}
-        header = re.sub(r"/\*.*?\*/", "", header, flags=re.S)
-        self.declared = {}
-        for type, name, parameters in re.findall(r"^SKETCH_HASH_API (\w+) (\w+)\(([^;{}]*)\);", header, re.M):
-            texts = [" ".join(text.split()) for text in parameters.split(",")]
-            pairs = [(re.search(r"(\w+)\)?(?:\[\d+\])?$", text)[1], text) for text in texts]
-            self.declared[name] = Declaration(type, pairs)
+
+class Printer:
+    def __init__(self, module, header, sources):
+        self.program, self.sources = Program(module, header, sources), sources
+        self.writer = Writer(sources.named, sources.sums)
+        self.program.parameter_names = {}
         for function in module.functions:
-            if function.is_internal:
-                self.names[function.name] = self.new("skh_" + path_of(function.name).split("::")[-1])
-            elif function.name not in self.declared:
-                raise Unknown(f"the header does not declare {function.name}")
-        for name in module.constants:
-            self.names[name] = self.new("skh_bytes")
+            known = [name.text for name in self.program.parameters(function)]
+            vectors = [None] if self.program.has_vectors(function.name) else []
+            self.program.parameter_names[self.program.names[function.name]] = vectors + known
 
-    def new(self, name):
-        number, found = 1, name
-        while found in self.names.values():
-            number += 1
-            found = f"{name}_{number}"
-        return found
+    def function(self, function):
+        program, name = self.program, self.program.names[function.name]
+        declared = program.declared.get(function.name)
+        parameters = program.parameters(function)
+        body = Body(function, program, program.result_type(function))
+        for own, variable in zip(function.parameters, parameters):
+            kind = variable.type
+            value = e.name(variable)
+            body.values[own.token] = made("place", kind, value, None, 0) if own.type == "ptr" else value
+        statements = body.statements_of_all()
+        names.hint_from_use(statements, program)
+        arrays = [variable for variable, _ in body.arrays]
+        pointers = [each for each in parameters if declared and isinstance(each.type, e.Pointer)]
+        copies.share(statements, parameters, [*arrays, *pointers])
+        loops.tidy(statements)
+        names.hint_from_use(statements, program)
+        names.hint_loops(statements, function.source)
+        names.give(statements, parameters, arrays, program.names.values())
+        text.declare(statements, {*parameters, *arrays})
+        lines = [*self.array_lines(body.arrays), *text.Text(self.writer, statements).lines(statements)]
+        if declared:
+            head = ", ".join(each for _, each in declared.parameters) or "void"
+        else:
+            head = ", ".join(text.declared(each.type, each.text) for each in parameters)
+        return "\n".join([*comment(declared.about if declared else function.source.about),
+                          *self.with_head(function, name, head, [each.text for each in parameters], lines), ""])
 
-    def name(self, name):
-        return self.names.get(name, name)
+    def array_lines(self, arrays):
+        for variable, count in arrays:
+            kind = variable.type.kind
+            unit = {"u32": 4, "u64": 8}.get(kind, 1)
+            yield f"{text.NUMBERS[kind]} {variable.text}[{count // unit}];"
 
-    def constant(self, token):
-        return self.names[bare(token)]
+    def with_head(self, function, name, parameters, arguments, lines):
+        type, storage = self.program.result_type(function), "SKETCH_HASH_API"
+        if function.is_internal:
+            storage = {"always": "SKH_INLINE", "never": "static SKH_NOINLINE"}.get(function.source.inline, "static")
+        if function.name not in self.program.of_vectors:
+            return [f"{storage} {type} {name}({parameters}) {{", *lines, "}"]
+        vectors = f"bool {VECTORS.args[0]}, "
+        if not self.program.is_entry(function.name):
+            return [f"{storage} {type} {name}({vectors}{parameters}) {{", *lines, "}"]
+        give = "" if type == "void" else "return"
+        return [f"SKH_INLINE {type} {name}_any({vectors}{parameters}) {{", *lines, "}", "",
+                f"SKH_CHOOSE({storage}, {type}, {give}, {name}, ({parameters}), ({', '.join(arguments)}))"]
 
-    def result(self, body, operand):
-        value, declared = body.value(operand), self.declared.get(body.function.name)
-        if isinstance(value, list):
-            return f"({struct_name(operand.type)}){{ {', '.join(map(str, value))} }}"
-        if declared and declared.type == "int":
-            return str(cast("int", value))
-        return str(value)
+    def in_order(self):
+        """The functions, each after those that it calls, part by part, and then those of the header in its order."""
+        program, parts, done = self.program, collections.defaultdict(list), set()
 
+        def visit(name):
+            if name not in done:
+                done.add(name)
+                for callee in program.callees[name]:
+                    visit(callee)
+                function = program.functions[name]
+                if function.is_internal:
+                    parts[part_of(keep.path_of(name))[1]].append(function)
 
-def path_of(name):
-    """A function's path in Rattle, without type arguments."""
-    return re.sub(r"::<.*", "", name)
+        calls = [program.functions[name] for name in program.declared if name in program.functions]
+        for function in calls:
+            visit(function.name)
+        ordered, waiting, known = [], [*parts], set()
+        while waiting:  # next a part whose functions call none of a later one
+            title = next((each for each in waiting if all(
+                callee in known or program.functions[callee] in parts[each] for function in parts[each]
+                for callee in program.callees[function.name])), None)
+            if title is None:
+                raise Unknown(f"print_c does not know an order of {waiting}")
+            waiting.remove(title)
+            ordered.append((title, parts[title]))
+            known |= {function.name for function in parts[title]}
+        return [*ordered, ("Calls", calls)]
 
+    def constants(self, functions, done):
+        """What the source gives names to, and these functions use first."""
+        for value in dict.fromkeys(self.writer.used):
+            if value not in done:
+                yield f"#define {self.sources.named[value]} 0x{value:x}u"
+        for name, data in self.program.module.constants.items():
+            if name not in done and any(operand.token in (f"@{name}", f'@"{name}"') for function in functions
+                                        for step in function.steps() for operand in step.operands):
+                yield f"static const unsigned char {self.program.names[name]}[] = {{{', '.join(map(str, data))}}};"
+                done.add(name)
+        done.update(self.writer.used)
 
-def written(module):
-    """The pointers that are written through: (function, value)."""
-    found, by_name = set(), {function.name: function for function in module.functions}
-    has_changed = True
-    while has_changed:
-        before = len(found)
-        for function in module.functions:
-            for step in function.steps():
-                marked = []
-                if step.operation == "store":
-                    marked = [step.operands[1]]
-                elif step.operation == "call" and step.more.startswith("llvm.mem"):
-                    marked = [step.operands[0]]
-                elif step.operation == "call" and step.more in by_name:
-                    pairs = zip(step.operands, by_name[step.more].parameters)
-                    marked = [given for given, own in pairs if (step.more, own.token) in found]
-                elif (function.name, step.result) in found:
-                    marked = step.operands
-                found |= {(function.name, value.token) for value in marked if value.type == "ptr"}
-        has_changed = len(found) > before
-    return found
-
-
-def own_declaration(made):
-    """Of a function that no header declares: its parameters get names."""
-    pairs = []
-    for own in made.function.parameters:
-        name, type = made.name(own.type), made.type_of(own.type, own.token)
-        made.values[own.token] = atom(name)
-        pairs.append((name, with_type(type, name)))
-    return Declaration(made.type_of(made.function.type), pairs)
-
-
-def pointers_to_bytes(made, declared):
-    """What a function begins with that a header declares: its parameters that are pointers, as pointers to bytes."""
-    for own, (name, text) in zip(made.function.parameters, declared.parameters):
-        made.values[own.token] = atom(name)
-        if own.type == "ptr" and made.users[own.token]:
-            type, alias = made.type_of("ptr", own.token), made.name("ptr")
-            if text.startswith("const") and not type.startswith("const"):
-                raise Unknown(f"{made.function.name} writes to {name}")
-            made.values[own.token] = atom(alias)
-            yield Let(alias, type, name if "void *" in text else f"({type}){name}")
-
-
-def print_function(function, signatures, written):
-    made, name = Body(function, signatures, written), signatures.name(function.name)
-    declared, opening = signatures.declared.get(function.name), []
-    about, storage = [], "SKETCH_HASH_API"
-    if declared:
-        opening = [*pointers_to_bytes(made, declared)]
-    else:
-        declared, about, storage = own_declaration(made), [f"/* {path_of(function.name)} */"], "static SKH_NOINLINE"
-    lines = Text(made, opening + made.statements_of_all())
-    type, parameters = declared.type, ", ".join(text for _, text in declared.parameters)
-    head, last = f"{storage} {type} {name}({parameters})", []
-    if CHOSEN.fullmatch(name):
-        head = f"SKH_INLINE {type} {name}_any(bool {VECTORS}, {parameters})"
-        give, names = "" if type == "void" else "return", ", ".join(name for name, _ in declared.parameters)
-        last = ["", *wrap(f"SKH_CHOOSE({storage}, {type}, {give}, {name}, ({parameters}), ({names}))", 0)]
-    arrays = [f"    unsigned char {name}[{type.count}];" for name, type in made.arrays]
-    return "\n".join([*about, *wrap(f"{head} {{", 0), *arrays, *lines.all(), "}", *last, ""])
+    def text(self, head):
+        out, done = [head], set()
+        for title, group in self.in_order():
+            functions = [self.function(function) for function in group]
+            constants = [*self.constants(group, done)]
+            out += [f"/* ---- {title} */\n", *constants, *([""] if constants else []), *functions]
+        return "\n".join(out)
 
 
-def print_module(module, header):
-    signatures, marked = Signatures(module, header), written(module)
-    constants = []
-    for name, data in module.constants.items():
-        constants += wrap(f"static const unsigned char {signatures.names[name]}[] = {{{', '.join(map(str, data))}}};", 0)
-    structs = {step.type for function in module.functions for step in function.steps() if isinstance(step.type, Struct)}
-    structs = ["\n".join([f"{struct_name(type)} {{", *(f"    {TYPES[each]} f{i};" for i, each in enumerate(type.fields)), "};"])
-               for type in sorted(structs)]
-    functions = [print_function(function, signatures, marked) for function in module.functions]
-    return "\n".join([HEAD, *constants, *structs, "", *functions])
+def main(clang, module, header, crates):
+    sources = Sources(pathlib.Path(crates))
+    module = Module(keep.optimize(clang, pathlib.Path(module).read_bytes(), sources))
+    for function in module.functions:
+        reshape(function)
+    head = (pathlib.Path(__file__).parent / "head.c").read_text()
+    return Printer(module, pathlib.Path(header).read_text(), sources).text(head)
 
 
 if __name__ == "__main__":
-    module, header = (pathlib.Path(path).read_text() for path in sys.argv[1:])
-    sys.stdout.write(print_module(Module(module), header))
+    sys.stdout.write(main(*sys.argv[1:]))

@@ -1,18 +1,31 @@
 """The body of a function: its blocks as statements in each other, with a goto where that is not possible."""
 import collections
 
-from expression import atom, names_in
+import expression as e
+from expression import FIELDS, Name, cast, made, negation, number, struct_of
 from module import Unknown
-from statements import Jump, Label, Loop, Set, Switch, branch
-from values import Values
+from statements import Assign, Break, Goto, If, Label, Loop, Return, ends
+from values import Values, as_bool
+
+STATUSES = {0: "SKETCH_OK", -1: "SKETCH_ERROR_LENGTH", -2: "SKETCH_ERROR_OFFSET", -3: "SKETCH_ERROR_COUNT"}
+
+
+def branch(condition, then, otherwise):
+    """The shorter way out is first. But what a bound allows stays within its test."""
+    is_bound = condition.op in ("<", ">", "<=", ">=") and not any(map(e.is_number, condition.args))
+    if not then or ends(otherwise) and (not ends(then) or len(otherwise) < len(then) and not is_bound):
+        condition, then, otherwise = negation(condition), otherwise, then
+    if ends(then):
+        return [If(condition, then, []), *otherwise]
+    return [If(condition, then, otherwise)]
 
 
 class Body(Values):
-    """`kinds` are the types of the names of values that several ways lead to; `targets` the labels that a goto needs."""
+    """`result_type` is the type in C that the function returns."""
 
-    def __init__(self, function, signatures, written):
-        super().__init__(function, signatures, written)
-        self.kinds, self.targets = {}, set()
+    def __init__(self, function, program, result_type):
+        super().__init__(function, program)
+        self.result_type = result_type
         self.homes = collections.defaultdict(list)
         for label in self.flow.order[1:]:
             if self.is_apart(label):
@@ -28,11 +41,11 @@ class Body(Values):
             return True
         if self.flow.left_by(label) is None or self.is_edge(label):
             return False
-        return not (self.blocks[label][-1].operation == "ret" and len(self.blocks[label]) <= 2)
+        return not (self.blocks[label][-1].operation == "ret" and len(self.blocks[label]) <= 3)
 
     def tree(self, label, follow, around):
         """The code of a block and of all that only it leads to. `follow` is what stands after it, and `around` what stands
-        after each loop and switch that it is in."""
+        after each loop that it is in."""
         placed, body = self.homes[label], self.flow.loops.get(label, ())
         inside, after = [each for each in placed if each in body], [each for each in placed if each not in body]
 
@@ -40,7 +53,7 @@ class Body(Values):
             if not body:
                 return self.block(label, next, around)
             within = [*around, next]
-            return [Loop(self.sequence(lambda last: self.block(label, last, within), inside, label, within))]
+            return [Loop(None, self.sequence(lambda last: self.block(label, last, within), inside, label, within))]
 
         return self.sequence(code, after, follow, around)
 
@@ -53,25 +66,36 @@ class Body(Values):
         return out
 
     def block(self, label, follow, around):
-        last = self.blocks[label][-1]
-        out = self.statements(label)
+        last, out = self.blocks[label][-1], self.statements(label)
         if last.operation == "ret":
-            if last.type == "void":
-                return out + ([] if follow is None and not around else [Jump("return")])
-            return out + [Jump(f"return {self.signatures.result(self, last.operands[0])}")]
-        if last.operation == "switch":
-            return out + self.switch(label, last, follow, around)
+            return out + [Return(None if last.type == "void" else self.result(last.operands[0]))]
+        if last.operation != "br":
+            raise Unknown(f"print_c does not know {last.operation}")
         if len(self.flow.after[label]) == 1:
             return out + self.go(label, last.more[0], follow, around)
         condition = self.value(last.operands[0])
         then, otherwise = (self.go(label, target, follow, around) for target in last.more)
         return out + branch(condition, then, otherwise)
 
-    def switch(self, label, last, follow, around):
-        value, *cases = map(self.value, last.operands)
-        keys, targets = [*(f"case {case}" for case in cases), "default"], [*last.more[1:], last.more[0]]
-        bodies = [self.go(label, target, None, [*around, follow]) for target in targets]
-        return [Switch(str(value), [*zip(keys, bodies)])]
+    def result(self, operand):
+        value = self.values[operand.token] if isinstance(self.values.get(operand.token), list) else self.value(operand)
+        if isinstance(value, list):
+            return self.struct(value)
+        if self.result_type == "int":
+            return status(value)
+        if self.result_type == "size_t" and e.is_number(value, (1 << 64) - 1):
+            return e.text("SIZE_MAX", "size_t")
+        return as_bool(value) if self.result_type == "bool" else e.uncast(value)
+
+    def struct(self, values):
+        type = struct_of(self.function.source)
+        fields = FIELDS[type]
+        if all(each.op == "field" and each.args[1] == key and each.args[0] == values[0].args[0]
+               for each, (_, key) in zip(values, fields)) and values[0].args[0].type == type:
+            return values[0].args[0]
+        if fields[0][0] == "bool":
+            values = [as_bool(values[0]), values[1]]
+        return made("struct", type, *values)
 
     def go(self, source, target, follow, around):
         """What a branch from one block to another does: it sets what the other one begins with, and goes there."""
@@ -83,13 +107,8 @@ class Body(Values):
         if is_back:
             raise Unknown(f"print_c does not know a way back to {target} before the end of its loop")
         if around and around[-1] == target:
-            return out + [Jump("break")]
-        self.targets.add(target)
-        return out + [Jump(f"goto {self.label(target)}")]
-
-    def label(self, label):
-        """Its number in the order of blocks."""
-        return f"L{self.flow.place[label]}"
+            return out + [Break()]
+        return out + [Goto(target)]
 
     def moves(self, source, target):
         """A name gets its value when no other value needs what it was."""
@@ -97,20 +116,62 @@ class Body(Values):
         for step in self.blocks[target]:
             if step.operation == "phi" and self.users[step.result]:
                 operand = step.operands[step.more.index(source)]
-                name, value = str(self.values[step.result]), str(self.value(operand))
-                pending |= {name: value} if name != value and operand.token != "poison" else {}
+                if operand.token != "poison":
+                    self.move_to(self.values[step.result], self.value(operand), pending)
         while pending:
             free = [name for name in pending
-                    if not any(name in names_in(value) for other, value in pending.items() if other != name)]
+                    if not any(name in e.names_in(value) for other, value in pending.items() if other != name)]
             if not free:
-                raise Unknown(f"print_c does not know values that change places: {pending}")
-            out.append(Set(free[0], pending.pop(free[0])))
+                raise Unknown(f"print_c does not know values that change places in {self.function.name}")
+            name = min(free, key=lambda each: pending[each].op in "+-" and pending[each].args[0] == e.name(each))
+            out.append(Assign(name, e.uncast(pending.pop(name))))
         return out
+
+    def move_to(self, own, value, pending):
+        if isinstance(own, list):  # a struct
+            value = value[0].args[0] if isinstance(value, list) else value
+            own = own[0].args[0]
+        elif own.op == "place":
+            own, value = own.args[0], self.address(value)
+        elif own.type == "bool":
+            value = as_bool(value)
+        if value != own:
+            pending[own.args[0]] = value
 
     def statements_of_all(self):
         for label in self.flow.order:
             for step in self.blocks[label]:
                 if step.operation == "phi" and self.users[step.result]:
-                    name = self.name(step.type)
-                    self.kinds[name], self.values[step.result] = self.type_of(step.type, step.result), atom(name)
+                    self.values[step.result] = self.phi(step)
         return self.tree(self.flow.order[0], None, [])
+
+    def phi(self, step):
+        if step.type == "ptr":
+            kind = self.program.kinds[self.function.name, step.result]
+            return made("place", kind, e.name(Name(kind)), None, 0)
+        kinds = {"i1": "bool", "i8": "uint8_t", "i32": "uint32_t", "i64": "uint64_t", "i128": "skh_uint128"}
+        if step.type in kinds:
+            return e.name(Name(kinds[step.type]))
+        type = self.struct_of_phi(step)
+        result = e.name(Name(type))
+        return [e.field(result, key, of) for of, key in FIELDS[type]]
+
+    def struct_of_phi(self, step):
+        """The struct that the calls return which it chooses from."""
+        for operand in step.operands:
+            made_by = self.made[operand.token]
+            if made_by.operation == "call":
+                return struct_of(self.program.functions[made_by.more].source)
+        raise Unknown(f"print_c does not know a choice of {step.type}")
+
+
+def status(value):
+    """A result of a call, which is an int."""
+    if value.op == "number":
+        signed = value.args[0] - (1 << 32) if value.args[0] >> 31 else value.args[0]
+        return e.text(STATUSES[signed], "int") if signed in STATUSES else number(signed, "uint32_t")
+    if value.op == "?:":
+        return e.choice(value.args[0], *map(status, value.args[1:]), "int")
+    if value.op == "cast" and value.args[0].type == "bool":
+        return value.args[0]
+    return value if value.type == "int" else cast("int", value)

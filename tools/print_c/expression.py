@@ -1,86 +1,278 @@
-"""Expressions of C, with the brackets that compilers want and no others."""
+"""Expressions of C as trees, and their text with as few brackets as one writes."""
 import collections
-import pathlib
-import re
 
-# What each printed file begins with, after its first comment.
-HEAD = (pathlib.Path(__file__).parent / "head.c").read_text()
+# `type` is one of C, or the kind of a pointer; `reads` says whether it reads memory.
+Expression = collections.namedtuple("Expression", "op args type reads")
+# What a pointer points into: bytes; native numbers of a width, which `const` may keep from being written; pairs of numbers; a
+# state of the header, or a size.
+Pointer = collections.namedtuple("Pointer", "kind is_const")
 
-# How tightly an operator binds. A name, a call and a number are ATOM.
-ATOM, UNARY, TIMES, SUM, SHIFT, ORDER, EQUAL, AND, XOR, OR, BOTH, EITHER, CHOICE = range(13, 0, -1)
-LEVELS = {"*": TIMES, "/": TIMES, "+": SUM, "-": SUM, "<<": SHIFT, ">>": SHIFT, "<": ORDER, "<=": ORDER, ">": ORDER,
-          ">=": ORDER, "==": EQUAL, "!=": EQUAL, "&": AND, "^": XOR, "|": OR, "&&": BOTH, "||": EITHER}
+
+class State:
+    """A struct of the header: `fields` maps the place of each number to its name; `end` is that of the bytes after them."""
+
+    def __init__(self, name, fields):
+        self.name, self.fields, self.end = name, fields, 8 * len(fields)
+
+
+LEVELS = [("*", "/"), ("+", "-"), ("<<", ">>"), ("<", "<=", ">", ">="), ("==", "!="), ("&",), ("^",), ("|",), ("&&",), ("||",),
+          ("?:",)]
+LEVEL = {op: 3 + place for place, ops in enumerate(LEVELS) for op in ops}
+ATOM, UNARY = 0, 1
 NEGATED = {"==": "!=", "!=": "==", "<": ">=", ">=": "<", ">": "<=", "<=": ">"}
-WARNED = {SHIFT, AND, XOR, OR, BOTH, EITHER}  # compilers warn of another operator within, if it has no brackets
+COMMUTES = {"+", "*", "&", "|", "^", "&&", "||"}
+WIDTHS = {"bool": 1, "uint8_t": 8, "uint16_t": 16, "uint32_t": 32, "uint64_t": 64, "size_t": 64}
+
+WIDE = "skh_uint128"
+TYPES = {"i1": "bool", "i8": "uint8_t", "i16": "uint16_t", "i32": "uint32_t", "i64": "uint64_t", "i128": WIDE, "void": "void"}
+# The fields of a result that is two numbers.
+FIELDS = {"struct skh_pair": (("uint64_t", "first"), ("uint64_t", "second")),
+          "struct skh_option": (("bool", "is_some"), ("uint64_t", "value")),
+          "struct skh_result": (("bool", "is_error"), ("uint64_t", "value"))}
 
 
-class Expression(collections.namedtuple("Expression", "text level reads parts offset", defaults=(False, (), 0))):
-    """`reads`: it depends on memory. `parts`: an operator and its operands. `offset`: what is to be added to a pointer."""
-
-    def __str__(self):
-        return self.flat().text
-
-    def flat(self):
-        """The same with its offset as part of the text."""
-        if not self.offset:
-            return self
-        return Expression(f"{self.within(SUM)} {'-' if self.offset < 0 else '+'} {abs(self.offset)}", SUM, self.reads)
-
-    def within(self, level, is_last=False):
-        """Its text as an operand of another operator of this level."""
-        needs = self.level < level + is_last or level in WARNED and self.level < UNARY
-        return f"({self.text})" if needs else self.text
+def struct_of(source):
+    """The struct that a function of the source returns."""
+    kind = source.result.partition("<")[0]
+    return {"Option": "struct skh_option", "Result": "struct skh_result"}.get(kind, "struct skh_pair")
 
 
-def atom(text):
-    return Expression(text, ATOM)
+class Name:
+    """A variable. `hints` are texts for its name, each with a number: the least is the best."""
+
+    def __init__(self, type, text=None):
+        self.type, self.text, self.hints = type, text, []
+        self.is_parameter = text is not None
+
+    def hint(self, rank, text):
+        self.hints.append((rank, text))
+
+    def is_certain(self):
+        """Whether the source gives it its name."""
+        return self.is_parameter or any(rank < 2 for rank, _ in self.hints)
 
 
-NAMED = dict((int(digits, 16), name) for name, digits in re.findall(r"^#define (SKH_\w+) (0x\w+)u$", HEAD, re.M))
+def name(variable):
+    return Expression("name", (variable,), variable.type, False)
 
 
-def number(value, width):
-    """By its name if it has one; else small numbers in decimal, and large ones in hexadecimal."""
-    value %= 1 << width
-    if value in NAMED and width == 64:
-        return atom(NAMED[value])
-    if width == 1:
-        return atom("true" if value else "false")
-    is_of_bits = value & (value + 1) == 0 or value & (value - 1) == 0  # one bit, or all below one
-    return atom(str(value) if value <= 1024 or value < 1 << 16 and not is_of_bits else f"0x{value:x}u")
+def number(value, type="uint64_t"):
+    return Expression("number", (value & (1 << WIDTHS[type]) - 1,), type, False)
 
 
-def binary(operator, one, other):
-    level, one, other = LEVELS[operator], one.flat(), other.flat()
-    is_free = operator in ("*", "+", "&", "^", "|", "&&", "||")  # brackets between two of these change nothing
-    left = one.text if one.parts[:1] == (operator,) and is_free else one.within(level)
-    right = other.text if other.parts[:1] == (operator,) and is_free else other.within(level, True)
-    return Expression(f"{left} {operator} {right}", level, one.reads or other.reads, (operator, one, other))
+def text(word, type):
+    return Expression("text", (word,), type, False)
+
+
+def call(function, type, *arguments, reads=False):
+    return Expression("call", (function, *arguments), type, reads or any(each.reads for each in arguments))
+
+
+def made(op, type, *arguments):
+    return Expression(op, arguments, type, any(each.reads for each in arguments if isinstance(each, Expression)))
+
+
+def field(value, key, type):
+    return Expression("field", (value, key), type, value.reads)
+
+
+def is_number(value, *numbers):
+    return value.op == "number" and (not numbers or value.args[0] in numbers)
 
 
 def cast(type, value):
-    value = value.flat()
-    return Expression(f"({type}){value.within(UNARY)}", UNARY, value.reads)
+    if value.type == type:
+        return value
+    if value.op == "number" and type in WIDTHS:
+        return number(value.args[0], type)
+    if value.op == "cast" and WIDTHS.get(value.args[0].type, 99) >= WIDTHS.get(value.type, 0) >= WIDTHS.get(type, 0):
+        return cast(type, value.args[0])
+    return made("cast", type, value)
 
 
-def call(name, *values):
-    return Expression(f"{name}({', '.join(map(str, values))})", ATOM, any(value.reads for value in values))
+def uncast(value):
+    """A value that is given to something of its type, which is enough to make it wider."""
+    is_wider = value.op == "cast" and WIDTHS.get(value.args[0].type, 99) < WIDTHS.get(value.type, 0)
+    return value.args[0] if is_wider else value
+
+
+def binary(op, one, other, type=None):
+    if op in COMMUTES and is_number(one) and not is_number(other):
+        one, other = other, one
+    return made(op, type or one.type, one, other)
+
+
+def comparison(op, one, other):
+    if is_number(one) and not is_number(other):
+        one, other, op = other, one, {"<": ">", ">": "<", "<=": ">=", ">=": "<="}.get(op, op)
+    if one.type == "bool" and is_number(other, 0, 1) and op in ("==", "!="):
+        return one if (op == "==") == is_number(other, 1) else negation(one)
+    return made(op, "bool", one, other)
+
+
+def choice(condition, one, other, type):
+    """One of two values, without what the condition says already."""
+    if is_number(condition):
+        return one if condition.args[0] else other
+    if one == other:
+        return one
+    if type == "bool" and is_number(other, 0):
+        return conjunction(condition, one)
+    if type == "bool" and is_number(one, 1):
+        return negation(conjunction(negation(condition), negation(other)))
+    if condition.op in ("!", "!="):
+        condition, one, other = negation(condition), other, one
+    return made("?:", type, condition, one, other)
+
+
+def conjunction(one, other):
+    if is_number(one):
+        return other if one.args[0] else one
+    if is_number(other):
+        return one if other.args[0] else other
+    return made("&&", "bool", one, other)
+
+
+def disjunction(one, other):
+    """One or the other, of which the second is only asked if the first is not so."""
+    if is_number(one) or is_number(other):
+        return negation(conjunction(negation(one), negation(other)))
+    if one.op == "&&" and negation(one.args[0]) == other:
+        return disjunction(other, one.args[1])
+    return made("||", "bool", one, other)
 
 
 def negation(value):
-    if value.parts[:1] == ("!",):
-        return value.parts[1]
-    if value.parts and value.parts[0] in NEGATED:
-        operator, one, other = value.parts
-        return binary(NEGATED[operator], one, other)
-    return Expression(f"!{value.within(UNARY)}", UNARY, value.reads, ("!", value))
+    if value.op == "!":
+        return value.args[0]
+    if value.op in NEGATED:
+        return made(NEGATED[value.op], "bool", *value.args)
+    if value.op in ("&&", "||"):
+        return made("||" if value.op == "&&" else "&&", "bool", *map(negation, value.args))
+    if is_number(value):
+        return number(1 - value.args[0], "bool")
+    return made("!", "bool", value)
 
 
-def choice(condition, one, other):
-    one, other = one.flat(), other.flat()
-    text = f"{condition.within(CHOICE + 1)} ? {one.within(CHOICE + 1)} : {other.within(CHOICE)}"
-    return Expression(text, CHOICE, condition.reads or one.reads or other.reads)
+def parts(value):
+    """It, and all expressions in it."""
+    yield value
+    for each in value.args:
+        if isinstance(each, Expression):
+            yield from parts(each)
 
 
-def names_in(text):
-    return set(re.findall(r"\b[A-Za-z_]\w*\b", text))
+def names_in(value):
+    return {each.args[0] for each in parts(value) if each.op == "name"}
+
+
+def replaced(value, put):
+    """The expression with `put(name)` in place of each name, if it is not None."""
+    if value.op == "name":
+        return put(value.args[0]) or value
+    args = tuple(replaced(each, put) if isinstance(each, Expression) else each for each in value.args)
+    reads = value.reads or any(each.reads for each in args if isinstance(each, Expression))
+    return value._replace(args=args, reads=reads) if args != value.args else value
+
+
+def size_of(value):
+    return sum(1 for _ in parts(value))
+
+
+class Writer:
+    """Writes expressions. `named` maps a number to the name that the source gives it, and `sums` one to how the source
+    computes it. `used` are the numbers whose names it wrote."""
+
+    def __init__(self, named, sums):
+        self.named, self.sums, self.used = named, sums, []
+
+    def number(self, value, type):
+        if type == "bool":
+            return "true" if value else "false"
+        width = WIDTHS[type]
+        if value in self.named:
+            self.used.append(value)
+            return self.named[value]
+        if value in self.sums:
+            return self.sums[value]
+        for one, name in self.named.items():
+            rest = value - one & (1 << width) - 1
+            if width == 64 and (rest < 64 or rest in self.named):
+                self.used += [one] + [rest] * (rest in self.named)
+                return f"{name} + {self.named.get(rest, rest)}"
+        if width == 64 and value == (1 << 64) - 1:
+            return "UINT64_MAX"
+        if width == 64 and value >> 63 and (1 << 64) - value <= 1 << 16:
+            return f"~(uint64_t){(1 << 64) - value - 1}"
+        if value >= 1 << 16 and value & value - 1 == 0:
+            one = "(uint64_t)1" if width == 64 else "1u"
+            return f"{one} << {value.bit_length() - 1}"
+        if width == 64 and value > 0xffff and value & value + 1 == 0:
+            return f"0x{value:x}u"
+        return str(value) if value < 1 << 16 else f"0x{value:x}u"
+
+    def level(self, value):
+        if value.op == "number":
+            found = self.number(value.args[0], value.type)
+            return LEVEL["<<"] if "<<" in found else LEVEL["+"] if " + " in found else ATOM if found[0] != "~" else UNARY
+        if value.op in LEVEL:
+            return LEVEL[value.op]
+        return UNARY if value.op in ("!", "~", "cast") else ATOM
+
+    def within(self, value, level):
+        found = self.write(value)
+        return f"({found})" if self.level(value) > level else found
+
+    def write(self, value):
+        op, args = value.op, value.args
+        if op == "name":
+            return args[0].text
+        if op == "text":
+            return args[0]
+        if op == "number":
+            return self.number(args[0], value.type)
+        if op == "call":
+            return f"{args[0]}({', '.join(map(self.write, args[1:]))})"
+        if op == "struct":
+            return self.struct(value.type, *args)
+        if op == "field":
+            return f"{self.within(args[0], ATOM)}.{args[1]}"
+        if op == "arrow":
+            return f"{self.within(args[0], ATOM)}->{args[1]}"
+        if op == "index":
+            return f"{self.within(args[0], ATOM)}[{self.write(args[1])}]"
+        if op == "deref":
+            return f"*{self.within(args[0], UNARY)}"
+        if op == "cast":
+            return f"({value.type}){self.within(args[0], UNARY)}"
+        if op in ("!", "~"):
+            return f"{op}{self.within(args[0], UNARY)}"
+        if op == "?:":
+            level = LEVEL["?:"]
+            texts = self.within(args[0], level - 1), self.within(args[1], level - 1), self.within(args[2], level)
+            return "{} ? {} : {}".format(*texts)
+        return self.binary(op, *args)
+
+    def struct(self, type, one, other):
+        if type == "struct skh_pair":
+            return f"skh_pair_of({self.write(one)}, {self.write(other)})"
+        names = {"struct skh_option": ("none", "some"), "struct skh_result": ("ok", "error")}[type]
+        if not is_number(one):
+            return f"{type.removeprefix('struct ')}_of({self.write(one)}, {self.write(other)})"
+        name = names[one.args[0]]
+        return f"skh_{name}({'' if name == 'none' else self.write(other)})"
+
+    def binary(self, op, one, other):
+        level = LEVEL[op]
+        is_sum = op == "+" and is_number(other)  # of numbers that have names
+        most = level - (not is_sum and (op not in COMMUTES or other.op != op))
+        left = self.within(one, -1 if self.needs_brackets(op, one) else level)
+        right = self.within(other, -1 if self.needs_brackets(op, other) else most)
+        return f"{left} {op} {right}"
+
+    def needs_brackets(self, op, value):
+        """Whether few know which of the two operators is first."""
+        bits = {"&", "|", "^", "<<", ">>"}
+        if op in bits and value.op in LEVEL and value.op != op and LEVEL[value.op] < LEVEL[op]:
+            return value.op in {"+", "-", "*", "/"} | bits
+        return op == "||" and value.op == "&&"

@@ -1,15 +1,16 @@
-#ifdef __cplusplus
-#error "sketch_hash.c is C: compile it as C, and include its header in C++"
-#endif
 #include "sketch_hash.h"
+#include <limits.h>
 #include <stdbool.h>
+#ifdef __wasm__ /* where each of these is an instruction, and no C library is needed */
+#define memcpy __builtin_memcpy
+#define memmove __builtin_memmove
+#define memset __builtin_memset
+#else
 #include <string.h>
-
-#if defined __BYTE_ORDER__ && __BYTE_ORDER__ != __ORDER_LITTLE_ENDIAN__
-#error "sketch_hash needs a little-endian processor"
 #endif
-#if SIZE_MAX != UINT64_MAX || UINTPTR_MAX != UINT64_MAX
-#error "sketch_hash needs pointers of 64 bits"
+
+#if CHAR_BIT != 8
+#error "sketch_hash needs bytes of 8 bits"
 #endif
 
 #if defined __GNUC__ || defined __clang__
@@ -49,42 +50,69 @@ __attribute__((constructor)) static void skh_find_avx2(void) {
     STORAGE TYPE NAME PARAMETERS { GIVE NAME##_any(true, SKH_GIVEN ARGUMENTS); }
 #endif
 
-/* As XXH64's specification and MurmurHash3's code name them. */
-#define SKH_PRIME64_1 0x9e3779b185ebca87u
-#define SKH_PRIME64_2 0xc2b2ae3d27d4eb4fu
-#define SKH_PRIME64_3 0x165667b19e3779f9u
-#define SKH_PRIME64_4 0x85ebca77c2b2ae63u
-#define SKH_PRIME64_5 0x27d4eb2f165667c5u
-#define SKH_C1 0x87c37b91114253d5u
-#define SKH_C2 0x4cf5ad432745937fu
+/* A caller may give NULL for no bytes. C allows neither an offset from it nor a copy of no bytes,
+ * so it is replaced by an address at which nothing is read or written. */
+static inline const unsigned char *skh_slice(const void *at) {
+    return at == NULL ? (const unsigned char *)4096 : (const unsigned char *)at;
+}
+static inline unsigned char *skh_slice_mut(void *at) {
+    return at == NULL ? (unsigned char *)4096 : (unsigned char *)at;
+}
 
+/* A number of an array, in the machine's byte order. The array may have another type, such as
+ * double, and need not be aligned. */
+SKH_INLINE uint32_t skh_get32(const void *at) {
+    uint32_t number;
+    memcpy(&number, at, sizeof number);
+    return number;
+}
+SKH_INLINE uint64_t skh_get64(const void *at) {
+    uint64_t number;
+    memcpy(&number, at, sizeof number);
+    return number;
+}
+SKH_INLINE void skh_set64(void *at, uint64_t number) { memcpy(at, &number, sizeof number); }
+
+/* A number of bytes, the lowest first on every processor. */
+#if defined _WIN32 || defined __BYTE_ORDER__ && __BYTE_ORDER__ == __ORDER_LITTLE_ENDIAN__
 SKH_INLINE uint16_t skh_load16(const unsigned char *at) {
     uint16_t number;
     memcpy(&number, at, sizeof number);
     return number;
 }
-
-SKH_INLINE uint32_t skh_load32(const unsigned char *at) {
-    uint32_t number;
-    memcpy(&number, at, sizeof number);
-    return number;
-}
-
-SKH_INLINE uint64_t skh_load64(const unsigned char *at) {
-    uint64_t number;
-    memcpy(&number, at, sizeof number);
-    return number;
-}
-
+SKH_INLINE uint32_t skh_load32(const unsigned char *at) { return skh_get32(at); }
+SKH_INLINE uint64_t skh_load64(const unsigned char *at) { return skh_get64(at); }
 SKH_INLINE void skh_store16(unsigned char *at, uint16_t number) {
     memcpy(at, &number, sizeof number);
 }
 SKH_INLINE void skh_store32(unsigned char *at, uint32_t number) {
     memcpy(at, &number, sizeof number);
 }
-SKH_INLINE void skh_store64(unsigned char *at, uint64_t number) {
-    memcpy(at, &number, sizeof number);
+SKH_INLINE void skh_store64(unsigned char *at, uint64_t number) { skh_set64(at, number); }
+#else
+SKH_INLINE uint16_t skh_load16(const unsigned char *at) {
+    return (uint16_t)(at[0] | at[1] << 8);
 }
+SKH_INLINE uint32_t skh_load32(const unsigned char *at) {
+    return skh_load16(at) | (uint32_t)skh_load16(at + 2) << 16;
+}
+SKH_INLINE uint64_t skh_load64(const unsigned char *at) {
+    return skh_load32(at) | (uint64_t)skh_load32(at + 4) << 32;
+}
+SKH_INLINE void skh_store16(unsigned char *at, uint16_t number) {
+    at[0] = (unsigned char)number;
+    at[1] = (unsigned char)(number >> 8);
+}
+SKH_INLINE void skh_store32(unsigned char *at, uint32_t number) {
+    skh_store16(at, (uint16_t)number);
+    skh_store16(at + 2, (uint16_t)(number >> 16));
+}
+SKH_INLINE void skh_store64(unsigned char *at, uint64_t number) {
+    skh_store32(at, (uint32_t)number);
+    skh_store32(at + 4, (uint32_t)(number >> 32));
+}
+#endif
+
 /* By its builtin, since clang makes a second product of x * y << n if it sees the shift. */
 #if defined __clang__
 SKH_INLINE uint64_t skh_rotate64(uint64_t x, uint64_t n) { return __builtin_rotateleft64(x, n); }
@@ -121,10 +149,8 @@ SKH_INLINE bool skh_any(bool has_vectors, uint32_t a, uint32_t b, uint32_t c, ui
 }
 
 SKH_INLINE uint64_t skh_least64(uint64_t x, uint64_t y) { return x < y ? x : y; }
-SKH_INLINE uint64_t skh_most64(uint64_t x, uint64_t y) { return x > y ? x : y; }
-SKH_INLINE uint64_t skh_less64(uint64_t x, uint64_t y) {
-    return x > y ? x - y : 0;
-} /* x - y, but not below 0 */
+/* x - y, but not below 0. */
+SKH_INLINE uint64_t skh_less64(uint64_t x, uint64_t y) { return x > y ? x - y : 0; }
 
 /* How many bits are set. */
 SKH_INLINE uint32_t skh_ones32(uint32_t x) {
@@ -133,18 +159,18 @@ SKH_INLINE uint32_t skh_ones32(uint32_t x) {
     return ((x + (x >> 4)) & 0x0f0f0f0fu) * 0x01010101u >> 24;
 }
 
-/* Numbers of 128 bits. */
-#ifdef __SIZEOF_INT128__
+/* Numbers of 128 bits. In WebAssembly the compiler's own need functions that a module lacks. */
+#if defined __SIZEOF_INT128__ && !defined __wasm__
 __extension__ typedef unsigned __int128 skh_uint128;
 SKH_INLINE skh_uint128 skh_wide(uint64_t high, uint64_t low) {
     return (skh_uint128)high << 64 | low;
 }
 SKH_INLINE uint64_t skh_wide_low(skh_uint128 x) { return (uint64_t)x; }
+SKH_INLINE uint64_t skh_wide_high(skh_uint128 x) { return (uint64_t)(x >> 64); }
+SKH_INLINE skh_uint128 skh_wide_not(skh_uint128 x) { return ~x; }
 SKH_INLINE skh_uint128 skh_wide_left(skh_uint128 x, uint64_t n) { return x << n; }
 SKH_INLINE skh_uint128 skh_wide_right(skh_uint128 x, uint64_t n) { return x >> n; }
 SKH_INLINE skh_uint128 skh_wide_and(skh_uint128 x, skh_uint128 y) { return x & y; }
-SKH_INLINE skh_uint128 skh_wide_or(skh_uint128 x, skh_uint128 y) { return x | y; }
-SKH_INLINE skh_uint128 skh_wide_xor(skh_uint128 x, skh_uint128 y) { return x ^ y; }
 SKH_INLINE skh_uint128 skh_wide_add(skh_uint128 x, skh_uint128 y) { return x + y; }
 SKH_INLINE skh_uint128 skh_wide_mul(skh_uint128 x, skh_uint128 y) { return x * y; }
 SKH_INLINE bool skh_wide_above(skh_uint128 x, skh_uint128 y) { return x > y; }
@@ -157,6 +183,8 @@ SKH_INLINE skh_uint128 skh_wide(uint64_t high, uint64_t low) {
     return x;
 }
 SKH_INLINE uint64_t skh_wide_low(skh_uint128 x) { return x.low; }
+SKH_INLINE uint64_t skh_wide_high(skh_uint128 x) { return x.high; }
+SKH_INLINE skh_uint128 skh_wide_not(skh_uint128 x) { return skh_wide(~x.high, ~x.low); }
 SKH_INLINE skh_uint128 skh_wide_left(skh_uint128 x, uint64_t n) {
     if (n == 0) return x;
     return n < 64 ? skh_wide(x.high << n | x.low >> (64 - n), x.low << n)
@@ -169,12 +197,6 @@ SKH_INLINE skh_uint128 skh_wide_right(skh_uint128 x, uint64_t n) {
 }
 SKH_INLINE skh_uint128 skh_wide_and(skh_uint128 x, skh_uint128 y) {
     return skh_wide(x.high & y.high, x.low & y.low);
-}
-SKH_INLINE skh_uint128 skh_wide_or(skh_uint128 x, skh_uint128 y) {
-    return skh_wide(x.high | y.high, x.low | y.low);
-}
-SKH_INLINE skh_uint128 skh_wide_xor(skh_uint128 x, skh_uint128 y) {
-    return skh_wide(x.high ^ y.high, x.low ^ y.low);
 }
 SKH_INLINE skh_uint128 skh_wide_add(skh_uint128 x, skh_uint128 y) {
     uint64_t low = x.low + y.low;
@@ -190,3 +212,34 @@ SKH_INLINE bool skh_wide_above(skh_uint128 x, skh_uint128 y) {
     return x.high != y.high ? x.high > y.high : x.low > y.low;
 }
 #endif
+
+/* What a function returns that gives two numbers, a number or none, and a number or an error. */
+struct skh_pair {
+    uint64_t first, second;
+};
+struct skh_option {
+    bool is_some;
+    uint64_t value;
+};
+struct skh_result {
+    bool is_error;
+    uint64_t value;
+};
+SKH_INLINE struct skh_pair skh_pair_of(uint64_t first, uint64_t second) {
+    const struct skh_pair pair = {first, second};
+    return pair;
+}
+SKH_INLINE struct skh_option skh_some(uint64_t value) {
+    const struct skh_option option = {true, value};
+    return option;
+}
+SKH_INLINE struct skh_option skh_none(void) {
+    const struct skh_option option = {false, 0};
+    return option;
+}
+SKH_INLINE struct skh_result skh_result_of(bool is_error, uint64_t value) {
+    const struct skh_result result = {is_error, value};
+    return result;
+}
+SKH_INLINE struct skh_result skh_ok(uint64_t value) { return skh_result_of(false, value); }
+SKH_INLINE struct skh_result skh_error(uint64_t value) { return skh_result_of(true, value); }

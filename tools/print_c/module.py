@@ -19,8 +19,8 @@ FLAGS = {"nuw", "nsw", "exact", "disjoint", "samesign", "nneg", "inbounds"}
 CASTS = {"zext", "sext", "trunc", "ptrtoaddr", "bitcast"}
 # Their result has the type of the first operand, or they have none.
 OTHERS = {"add", "sub", "mul", "and", "or", "xor", "shl", "lshr", "udiv", "freeze", "insertelement", "insertvalue", "store",
-          "br", "switch", "ret"}
-ORDERS = {"eq": "==", "ne": "!=", "ult": "<", "ule": "<=", "ugt": ">", "uge": ">=", "slt": "<"}
+          "br", "switch", "ret", "load", "getelementptr", "icmp", "select", "alloca", "phi", "extractvalue", "shufflevector"}
+ORDERS = {"eq", "ne", "ult", "ule", "ugt", "uge", "slt", "sgt"}
 CONSTANTS = {"true", "false", "null", "poison", "zeroinitializer", "splat", "ptrtoaddr"}
 
 
@@ -141,6 +141,8 @@ def instruction(text):
         line.attributes()
         type, function = line.type(), bare(line.take())
         return Instruction(result, operation, type, line.in_brackets(), function)
+    if operation not in CASTS | OTHERS:
+        line.stop()
     more = line.take(*ORDERS) if operation == "icmp" else None
     operands = line.operands()
     type = operands[0].type
@@ -163,8 +165,6 @@ def instruction(text):
         type = type.fields[int(operands[1].token)]
     elif operation == "shufflevector":
         type = Vector(operands[2].type.count, type.element)
-    elif operation not in OTHERS:
-        line.stop()
     if operation in ("br", "switch"):
         more = [token for type, token in operands if type == "label"]
         operands = [operand for operand in operands if operand.type != "label"]
@@ -172,13 +172,15 @@ def instruction(text):
 
 
 class Function:
-    """`blocks` maps a label to instructions, in the order of the text; the first is the entry."""
+    """`blocks` maps a label to instructions, in the order of the text; the first is the entry. `reads` and `writes` say what it
+    does with memory."""
 
     def __init__(self, head, lines):
         line = Line(head)
         line.take("define")
         self.is_internal = line.has("internal")
         line.attributes()
+        self.group = head.strip().rpartition("#")[2]
         self.type, self.name = line.type(), bare(line.take())
         self.parameters = line.in_brackets()
         self.blocks, label = {}, "entry"
@@ -205,3 +207,8 @@ class Module:
             self.constants[name.strip('"')] = [int(code, 16) if code else ord(character) for code, character in pieces]
         self.functions = [Function(found[1], found[2].split("\n"))
                           for found in re.finditer(r"^(define .*?)\{\n(.*?)^\}$", text, re.M | re.S)]
+        attributes = dict(re.findall(r"^attributes #(\d+) = \{ (.*) \}$", text, re.M))
+        for function in self.functions:
+            memory = re.search(r"memory\(([^)]*)\)", attributes.get(function.group, ""))
+            function.writes = not memory or "write" in memory[1]
+            function.reads = not memory or memory[1] != "none"

@@ -1,32 +1,22 @@
-"""The instructions of a block as expressions and statements of C. A value that is used once stands where it is used; one that
-is used more often gets a name."""
+"""The instructions of a block as expressions and statements. A value that is used once stands where it is used, one that is
+used more often gets a name."""
 import collections
 import itertools
-import re
 
-import expression
-from expression import Expression, atom, binary, call, cast, choice, negation, number
+import expression as e
+from expression import (FIELDS, TYPES, WIDE, Name, Pointer, State, binary, call, cast, comparison, made, negation, number,
+                        struct_of)
 from flow import Flow
-from module import ORDERS, Operand, Struct, Unknown, Vector
-from statements import Let, Say
+from module import Operand, Struct, Unknown, Vector
+from statements import Assign, Do
 
-WIDE = "skh_uint128"
-VECTORS = "has_vectors"  # the first parameter of a function that works on vectors
-TYPES = {"i1": "bool", "i8": "uint8_t", "i16": "uint16_t", "i32": "uint32_t", "i64": "uint64_t", "i128": WIDE, "void": "void"}
-LETTERS = {"i1": "c", "i8": "b", "i16": "s", "i32": "w", "i64": "x", "i128": "y", "ptr": "p"}
-SIGNS = {"add": "+", "sub": "-", "mul": "*", "udiv": "/", "shl": "<<", "lshr": ">>", "and": "&", "or": "|",
-         "xor": "^"}
+SIGNS = {"add": "+", "sub": "-", "mul": "*", "udiv": "/", "shl": "<<", "lshr": ">>", "and": "&", "or": "|", "xor": "^"}
+ORDERS = {"eq": "==", "ne": "!=", "ult": "<", "ule": "<=", "ugt": ">", "uge": ">="}
 NUMBERS = {"true": 1, "false": 0, "poison": 0, "zeroinitializer": 0}
-INTRINSICS = {"fshl": "rotate", "umin": "least", "umax": "most", "usub.sat": "less", "ctpop": "ones"}
-LONGEST = 120  # of an expression without a name
-
-
-def width_of(type):
-    return 64 if type == "ptr" else int(type[1:])
-
-
-def struct_name(type):
-    return "struct skh_" + "_".join(TYPES[field].replace("_t", "") for field in type.fields)
+INTRINSICS = {"fshl": "rotate", "umin": "least", "usub.sat": "less", "ctpop": "ones"}
+UNITS = {"u32": 4, "u64": 8, "words": 8, "pairs": 16}
+LARGEST = 14  # the most parts of an expression that stands in another
+VECTORS = e.text("has_vectors", "bool")
 
 
 def words_of(type):
@@ -35,20 +25,18 @@ def words_of(type):
 
 
 class Values:
-    """The values of a function. `arrays` are what it keeps on the stack."""
+    """The values of a function, by their names in the module. `arrays` are what it has on the stack."""
 
-    def __init__(self, function, signatures, written):
-        self.function, self.signatures, self.written = function, signatures, written
+    def __init__(self, function, program):
+        self.function, self.program = function, program
         self.blocks, self.flow = function.blocks, Flow(function.blocks)
-        self.values, self.counts, self.arrays = {}, collections.Counter(), []
+        self.values, self.arrays = {}, []
         self.made = {step.result: step for step in function.steps() if step.result}
         self.find_users()
         self.loop_of = {}
         for label in self.flow.order:
             around = [head for head, body in self.flow.loops.items() if label in body]
             self.loop_of[label] = max(around, key=self.flow.place.get, default=None)
-
-    # ---- which values are used where
 
     def find_users(self):
         """Of each value the instructions that use it, each with the block in which it must be known."""
@@ -65,34 +53,22 @@ class Values:
                         if isinstance(token, str) and token[0] == "%":
                             self.users[token].append((step, place))
 
-    # ---- values
-
-    def name(self, type):
-        letter = LETTERS[type]
-        self.counts[letter] += 1
-        return f"{letter}{self.counts[letter]}"
-
-    def type_of(self, type, token=None):
-        if isinstance(type, Struct):
-            return struct_name(type)
-        if type == "ptr":
-            return "unsigned char *" if (self.function.name, token) in self.written else "const unsigned char *"
-        return TYPES[type]
+    # ---- operands
 
     def value(self, operand):
         type, token = operand
-        if isinstance(token, tuple):
-            return cast("uint64_t", cast("uintptr_t", atom(self.signatures.constant(token[1]))))
         if token[0] == "%":
             return self.values[token]
         if token[0] == "@":
-            return atom(self.signatures.constant(token))
-        if type == "ptr":
-            return atom("NULL")
+            return made("place", Pointer("bytes", True), e.text(self.program.constant(token), None), None, 0)
+        if token == "null":
+            return e.text("NULL", None)
         n = NUMBERS[token] if token in NUMBERS else int(token)
         if type == "i128":
-            return call("skh_wide", number(n >> 64, 64), number(n, 64))
-        return number(n, width_of(type))
+            return call("skh_wide", WIDE, number(n >> 64), number(n))
+        if type not in TYPES:
+            raise Unknown(f"print_c does not know the value {token} of {type}")
+        return number(n, TYPES[type])
 
     def words(self, operand):
         type, token = operand
@@ -100,70 +76,164 @@ class Values:
         if isinstance(token, list):
             if type.element == "i8":
                 if set(token) != {"-1"}:
-                    raise Unknown(f"the vector {token}")
-                return [number(-1, 32)] * count
+                    raise Unknown(f"print_c does not know the vector {token}")
+                return [number(-1, "uint32_t")] * count
             return [self.value(Operand(element, each)) for each in token]
         if token in ("poison", "zeroinitializer"):
-            return [number(0, width_of(element))] * count
+            return [number(0, TYPES[element])] * count
         return self.values[token]
 
     def constant(self, operand):
-        """The number that it is, or None."""
-        if isinstance(operand.token, str) and re.fullmatch(r"-?\d+", operand.token):
-            return int(operand.token)
-        return None
+        return int(operand.token) if isinstance(operand.token, str) and operand.token.lstrip("-").isdigit() else None
 
-    # ---- statements of a block
+    # ---- which values get names
 
-    def give(self, instruction, value, label, is_cheap=False):
-        """Keeps it until it is used, or gives it a name."""
-        token, type = instruction.result, instruction.type
+    def give(self, step, value, label, most=0):
+        """`most`: a value of fewer parts is written again wherever it is used."""
         if isinstance(value, list):
-            element = words_of(type)[1]
-            self.values[token] = [word if self.is_short(word, instruction, label) else self.named(element, word)
-                                  for word in value]
-        elif is_cheap and not value.reads and len(str(value)) < 40 or self.is_short(value, instruction, label):
-            self.values[token] = value
+            element = TYPES[words_of(step.type)[1]]
+            self.values[step.result] = [word if self.is_short(word, step, label) else self.named(word, element)
+                                        for word in value]
+        elif not value.reads and e.size_of(value) < most or self.is_short(value, step, label):
+            self.values[step.result] = value
         else:
-            self.values[token] = self.named(type, value, token)
+            self.values[step.result] = self.named(value)
         if any(word.reads for word in (value if isinstance(value, list) else [value])):
-            self.pending[token] = type
+            self.pending.append(step.result)
 
-    def is_short(self, value, instruction, label):
-        """Whether it needs no name: it is one, or it can stand where it is used."""
-        if re.fullmatch(r"\w+", value.text) and not value.offset:
+    def is_short(self, value, step, label):
+        """Whether it needs no name: it has one, or it can stand where it is used."""
+        if value.op in ("name", "number", "text", "arrow") and not value.reads:
             return True
-        users = self.users[instruction.result]
-        if len(users) != 1 or len(value.text) > LONGEST:
+        users = self.users[step.result]
+        if len(users) != 1 or e.size_of(value) > LARGEST:
             return False
         ((_, place),) = users
         return place == label or not value.reads and self.loop_of[place] == self.loop_of[label]
 
-    def named(self, type, value, token=None):
-        name = self.name(type)
-        self.say(Let(name, self.type_of(type, token), str(value)))
-        return atom(name)
-
-    def say(self, statement):
-        self.out.append(statement)
+    def named(self, value, type=None):
+        """A name for a value, which is written first."""
+        type = type or value.type
+        if value.op == "place":
+            value = self.address(value)
+        variable = Name(type)
+        if value.op == "call" and value.args[0].startswith("skh_slice"):
+            variable.hint(6, f"{value.args[1].args[0].text}_bytes")
+        self.out.append(Assign(variable, e.uncast(value)))
+        found = e.name(variable)
+        return made("place", type, found, None, 0) if isinstance(type, Pointer) else found
 
     def before_a_write(self):
-        """What is still to be read for a later statement is read now."""
-        for token, type in self.pending.items():
+        """What was read for a later statement is read now."""
+        for token in self.pending:
             value = self.values[token]
             if isinstance(value, list):
-                self.values[token] = [self.named(words_of(type)[1], word) for word in value]
+                self.values[token] = [self.named(word) if word.reads else word for word in value]
             elif value.reads:
-                self.values[token] = self.named(type, value, token)
-        self.pending = {}
+                self.values[token] = self.named(value)
+        self.pending = []
+
+    # ---- pointers
+
+    def address(self, place):
+        """A pointer as an expression, in units of what it points into."""
+        base, symbolic, constant = place.args
+        kind = place.type.kind
+        if kind == "pairs" and symbolic is not None:
+            base, symbolic, kind = made("index", place.type, base, divided(symbolic, 16)), None, "u64"
+        unit = 1 if isinstance(kind, State) else UNITS.get(kind, 1)
+        if constant % unit:
+            raise Unknown(f"print_c does not know a part of a number in {self.function.name}")
+        found = base if symbolic is None else made("+", place.type, base, divided(symbolic, unit))
+        if not constant:
+            return found
+        return made("+" if constant > 0 else "-", place.type, found, number(abs(constant) // unit))
+
+    def moved(self, step):
+        """A pointer and an offset in bytes."""
+        base, offset = self.value(step.operands[0]), self.value(step.operands[1])
+        start, symbolic, before = base.args
+        constant = self.constant(step.operands[1])
+        if self.is_stand_in(step):
+            if base.type.kind != "bytes":
+                return base
+            name = "skh_slice" if base.type.is_const else "skh_slice_mut"
+            return base._replace(args=(call(name, base.type, start), None, 0))
+        if constant is not None:
+            return base._replace(args=(start, symbolic, before + constant))
+        if symbolic is not None or before:
+            base = self.values[step.operands[0].token] = self.named(base)
+            start, symbolic, before = base.args
+        return made("place", base.type, start, offset, before)
+
+    def is_stand_in(self, step):
+        """Whether it gives a null pointer another address, which a slice of no bytes has in the module."""
+        select = self.made.get(step.operands[1].token)
+        if select is None or select.operation != "select" or self.constant(select.operands[1]) != 4096:
+            return False
+        asked = self.made.get(select.operands[0].token)
+        return asked is not None and (asked.operation, asked.more, asked.operands[0].token) == (
+            "icmp", "eq", step.operands[0].token)
+
+    def target(self, place, type):
+        """What a load of this type reads, or a store writes; or None where a function does it."""
+        base, symbolic, constant = place.args
+        kind = place.type.kind
+        if isinstance(kind, State):  # a state
+            is_field = type == "i64" and constant in kind.fields
+            return made("arrow", TYPES[type], base, kind.fields[constant]) if is_field else None
+        if kind == "size" or kind == "u64" and symbolic is None and constant == 0 and base.args[0].is_parameter:
+            return made("deref", TYPES[type], base)
+        if kind == "words" and type == "i64":
+            return made("index", TYPES[type], base, number(constant // 8))
+        if type == "i8":
+            index = symbolic or number(constant)
+            return made("index", "uint8_t", base, binary("+", index, number(constant)) if symbolic and constant else index)
+        return None
+
+    def function_for(self, place, verb, type):
+        """The one that reads or writes a number of this type."""
+        width = int(type[1:])
+        if place.type.kind in ("u32", "u64", "pairs", "words"):
+            if width != (32 if place.type.kind == "u32" else 64):
+                raise Unknown(f"print_c does not know {type} in an array of {place.type.kind}")
+            return f"skh_{'get' if verb == 'load' else 'set'}{width}"
+        return f"skh_{verb}{width}"
+
+    def in_bytes(self, place):
+        """A pointer into the bytes of a state."""
+        base, symbolic, constant = place.args
+        kind = place.type.kind
+        if not isinstance(kind, State) or constant < kind.end:
+            return place
+        waiting = made("arrow", Pointer("bytes", place.type.is_const), base, "waiting")
+        return made("place", waiting.type, waiting, symbolic, constant - kind.end)
+
+    def load(self, type, place):
+        place = self.in_bytes(place)
+        found = self.target(place, type)
+        if found is None:
+            found = call(self.function_for(place, "load", type), TYPES[type], self.address(place))
+        return found._replace(reads=True)
+
+    def store(self, type, place, value):
+        place = self.in_bytes(place)
+        target = self.target(place, type)
+        if target is not None:
+            if place.type.kind == "size":
+                value = cast("size_t", value)
+            return Do(made("=", None, target, cast("uint8_t", value) if type == "i8" else value))
+        return Do(call(self.function_for(place, "store", type), None, self.address(place), value))
+
+    # ---- statements
 
     def statements(self, label):
         """Those of a block before its last instruction."""
-        self.out, self.pending = [], {}
+        self.out, self.pending = [], []
         for step in self.blocks[label][:-1]:
             for operand in step.operands:
-                if isinstance(operand.token, str):
-                    self.pending.pop(operand.token, None)  # the statement or the value takes it over
+                if isinstance(operand.token, str) and operand.token in self.pending:
+                    self.pending.remove(operand.token)  # the statement or the value takes it over
             self.instruction(step, label)
         return self.out
 
@@ -178,78 +248,140 @@ class Values:
         elif operation == "extractvalue":
             self.values[step.result] = self.values[step.operands[0].token][int(step.operands[1].token)]
         elif operation == "alloca":
-            name = f"room{len(self.arrays) + 1}"
-            self.arrays.append((name, step.more))
-            self.values[step.result] = atom(name)
+            self.array(step)
         elif operation == "store":
-            self.store(step)
-        elif operation == "call" and (step.more.startswith("llvm.mem") or not step.more.startswith("llvm.")):
-            self.call(step)
+            self.store_step(step)
+        elif operation == "call" and step.more.startswith("llvm.mem"):
+            self.move(step)
+        elif operation == "call" and not step.more.startswith("llvm."):
+            self.call(step, label)
         elif isinstance(step.type, Vector) or any(isinstance(each.type, Vector) for each in step.operands):
             self.give(step, self.vector(step), label)
+        elif operation == "getelementptr":
+            self.pointer(step, label)
         else:
-            value = self.scalar(step)
-            is_place = operation == "getelementptr" and value.level == expression.ATOM
-            self.give(step, value, label, is_place or operation in ("freeze", "zext", "trunc"))
+            users = {user.operation for user, _ in self.users[step.result]}
+            is_offset = operation == "shl" and users == {"getelementptr"}
+            is_amount = step.type == "i128" and users <= {"shl", "lshr"}
+            most = 8 if is_offset or is_amount else 4 if operation in ("freeze", "zext", "trunc") else 0
+            self.give(step, self.scalar(step), label, most)
 
-    def load(self, type, address):
-        if type == "i8":
-            if address.level == expression.ATOM:
-                return Expression(f"{address.text}[{address.offset}]", expression.ATOM, True)
-            if address.parts[:1] == ("+",) and not address.offset and address.parts[1].level == expression.ATOM:
-                return Expression(f"{address.parts[1]}[{address.parts[2]}]", expression.ATOM, True)
-            return Expression(f"*({address})", expression.UNARY, True)
-        if type == "ptr":
-            raise Unknown("print_c does not know a pointer in memory")
-        return call(f"skh_load{width_of(type)}", address)._replace(reads=True)
+    def array(self, step):
+        kind = self.program.kinds[self.function.name, step.result]
+        variable = Name(kind)
+        variable.is_parameter = False
+        self.arrays.append((variable, step.more.count))
+        self.values[step.result] = made("place", kind, e.name(variable), None, 0)
 
-    def address(self, operand):
-        """A pointer that is used more than once."""
-        value = self.value(operand)
-        if value.level != expression.ATOM:
-            self.values[operand.token] = value = self.named("ptr", value, operand.token)
-        return value
+    def pointer(self, step, label):
+        value = self.moved(step)
+        base, symbolic, constant = value.args
+        is_plain = symbolic is None and base.op in ("name", "arrow")
+        users = self.users[step.result]
+        is_once = len(users) == 1 and self.loop_of[users[0][1]] == self.loop_of[label]
+        if is_plain or is_once or value.type.kind in ("pairs", "u32", "u64") and e.size_of(symbolic) < 6:
+            self.values[step.result] = value
+        else:
+            self.values[step.result] = self.named(value)
 
-    def store(self, step):
+    def store_step(self, step):
         value, address = step.operands
-        at = self.address(address) if isinstance(value.type, Vector) else self.value(address)
-        if isinstance(value.type, Vector):
-            count, element = words_of(value.type)
-            words, size = self.words(value), width_of(element) // 8
+        place = self.value(address)
+        if not isinstance(value.type, Vector):
+            what = self.value(value)
             self.before_a_write()
-            if any(word.reads for word in words):
-                words = [self.named(element, word) if word.reads else word for word in words]
-            for i, word in enumerate(words):
-                self.say(Say(f"skh_store{8 * size}({at._replace(offset=at.offset + size * i)}, {word})"))
+            self.out.append(self.store(value.type, self.value(address), what))
             return
-        what = self.value(value)
+        count, element = words_of(value.type)
+        words, size = self.words(value), int(element[1:]) // 8
+        if place.args[1] is not None:
+            place = self.values[address.token] = self.named(place)
+        base, _, constant = place.args
         self.before_a_write()
-        if value.type in ("i8", "i1"):
-            self.say(Say(f"{self.load('i8', at)} = {what}"))
-        else:
-            self.say(Say(f"skh_store{width_of(value.type)}({at}, {what})"))
+        words = self.words(value)
+        own = [self.load(element, place._replace(args=(base, None, constant + size * i))) for i in range(count)]
+        for i, word in enumerate(words):
+            reads = [each for each in e.parts(word) if each.reads and each.op == "call" and each.args[0].startswith("skh_load")]
+            if any(each != own[i] for each in reads):
+                words = [self.named(word) if word.reads else word for word in words]
+                break
+        for i, word in enumerate(words):
+            self.out.append(self.store(element, place._replace(args=(base, None, constant + size * i)), word))
 
-    def call(self, step):
-        values = [self.value(each) for each in step.operands]
+    def move(self, step):
+        """What copies or fills bytes."""
+        name = "memset" if "memset" in step.more else "memmove" if "memmove" in step.more else "memcpy"
+        to, what, count = (self.value(each) for each in step.operands[:3])
         self.before_a_write()
-        if step.more.startswith("llvm.mem"):
-            name = "memset" if "memset" in step.more else "memmove" if "memmove" in step.more else "memcpy"
-            self.say(Say(str(call(name, *values[:3]))))
-            return
-        done = call(self.signatures.name(step.more), *values)
+        to, state = self.in_bytes(to), to.type.kind
+        if name == "memset" and isinstance(state, State) and isinstance(to.type.kind, State):
+            base, _, at = to.args
+            end = at + count.args[0]
+            while at < state.end:
+                self.out.append(self.store("i64", to._replace(args=(base, None, at)), number(0)))
+                at += 8
+            to, count = self.in_bytes(to._replace(args=(base, None, at))), number(end - at)
+        if name != "memset":
+            what = self.address(self.in_bytes(what))
+        self.out.append(Do(call(name, None, self.address(to), what, count)))
+
+    def call(self, step, label):
+        callee = self.program.functions[step.more]
+        if callee.writes:
+            self.before_a_write()
+        kinds = [self.program.kinds.get((callee.name, own.token)) for own in callee.parameters]
+        name = self.program.names[step.more]
+        for operand, text in zip(step.operands, self.program.parameter_names[name][self.program.has_vectors(step.more):]):
+            self.set_apart(operand, name, text)
+        arguments = [e.uncast(self.argument(each, kind)) for each, kind in zip(step.operands, kinds)]
+        if self.program.has_vectors(step.more):
+            arguments.insert(0, VECTORS)
+        is_struct = isinstance(step.type, Struct)
+        type = struct_of(callee.source) if is_struct else self.program.result_type(callee)
+        done = call(name, type, *arguments, reads=callee.reads)
         if step.type == "void" or not self.users[step.result]:
-            self.say(Say(str(done)))
-        elif isinstance(step.type, Struct):
-            self.counts["r"] += 1
-            self.say(Let(f"r{self.counts['r']}", struct_name(step.type), str(done)))
-            self.values[step.result] = [atom(f"r{self.counts['r']}.f{i}") for i in range(len(step.type.fields))]
+            self.out.append(Do(done))
+            return
+        bound = self.program.binding(self, step)
+        if is_struct:
+            result = self.named(done, type)
+            self.hint(result, bound, step)
+            self.values[step.result] = [e.field(result, key, of) for of, key in FIELDS[type]]
+        elif callee.writes or bound or not self.is_short(done, step, label):
+            self.values[step.result] = self.named(done)
+            self.hint(self.values[step.result], bound, step)
         else:
-            self.values[step.result] = self.named(step.type, done, step.result)
+            self.values[step.result] = done
+            if done.reads:
+                self.pending.append(step.result)
+
+    def set_apart(self, operand, name, text):
+        """A call within a call of the same function gets a name."""
+        value = self.values.get(operand.token) if isinstance(operand.token, str) else None
+        if isinstance(value, e.Expression) and any(each.op == "call" and each.args[0] == name for each in e.parts(value)):
+            self.values[operand.token] = found = self.named(value)
+            found.args[0].hint(4, text)
+
+    def hint(self, result, bound, step):
+        variable = result.args[0] if result.op == "name" else result.args[0].args[0]
+        if bound:
+            variable.hint(1, bound)
+        if isinstance(step.type, Struct):
+            variable.hint(9, variable.type.removeprefix("struct skh_"))
+
+    def argument(self, operand, kind):
+        value = self.value(operand)
+        if value.op != "place":
+            return value
+        if kind and isinstance(kind.kind, State):
+            return self.address(value)
+        return self.address(self.in_bytes(value))
 
     # ---- values that an instruction gives
 
     def scalar(self, step):
-        values, operation, type = [self.value(each) for each in step.operands], step.operation, step.type
+        operation, type = step.operation, step.type
+        values = [self.value(each) for each in step.operands]
         if "i128" in (type, step.operands[0].type) and operation != "select":
             return self.wide(step, *values)
         if operation in SIGNS:
@@ -258,119 +390,166 @@ class Values:
             return self.comparison(step, *values)
         if operation == "load":
             return self.load(type, values[0])
-        if operation == "getelementptr":
-            return self.place(step, *values)
         if operation in ("zext", "trunc"):
-            if type == "i1":
-                return binary("!=", binary("&", values[0], number(1, 64)), number(0, 64))
-            return cast(TYPES[type], values[0])
+            return as_bool(values[0]) if type == "i1" else cast(TYPES[type], values[0])
         if operation == "sext" and step.operands[0].type == "i1":
-            return Expression(f"-{cast(TYPES[type], values[0])}", expression.UNARY, values[0].reads)
-        if operation == "ptrtoaddr":
-            return cast("uint64_t", cast("uintptr_t", values[0]))
+            return self.signed(step, values[0])
         if operation == "freeze":
             return values[0]
         if operation == "select":
-            if type == "i1" and step.operands[1].token == "true":
-                return binary("||", values[0], values[2])
-            return choice(*values)
+            return self.select(step, *values)
         if operation == "call":
             return self.intrinsic(step, values)
         raise Unknown(f"print_c does not know {operation} of {type}")
 
+    def signed(self, step, value):
+        """All bits, if it is true."""
+        return e.choice(value, number(-1, TYPES[step.type]), number(0, TYPES[step.type]), TYPES[step.type])
+
+    def select(self, step, condition, one, other):
+        if one.op == "place":
+            raise Unknown("print_c does not know a choice between pointers")
+        return e.choice(condition, one, other, TYPES[step.type])
+
     def arithmetic(self, step, one, other):
-        operation, type, width = step.operation, step.type, width_of(step.type)
-        constant = self.constant(step.operands[1])
-        if type == "i1":
-            if operation == "xor" and step.operands[1].token == "true":
-                return negation(one)
-            operation = {"add": "xor", "sub": "xor", "mul": "and"}.get(operation, operation)
-            return binary(SIGNS[operation], one, other)
-        if operation == "add" and constant is not None and -(1 << 20) < constant < 0:
-            operation, other = "sub", number(-constant, width)
-        if operation == "shl" and self.constant(step.operands[0]) is not None:
-            one = cast(TYPES[type], one)
-        found = binary(SIGNS[operation], one, other)
-        return cast(TYPES[type], found) if width < 32 else found
+        operation, type = step.operation, TYPES[step.type]
+        if step.type == "i1":
+            if operation == "xor":
+                return negation(one) if e.is_number(other, 1) else comparison("!=", one, other)
+            return (e.conjunction if operation == "and" else e.disjunction)(one, other)
+        if operation == "add" and e.is_number(other) and self.program.is_better_negated(other.args[0], type):
+            operation, other = "sub", number(-other.args[0], type)
+        if operation == "xor" and e.is_number(other, (1 << e.WIDTHS[type]) - 1):
+            return made("~", type, one)
+        if operation in ("shl", "lshr"):
+            one, other = cast(type, unsized(one)), other.args[0] if other.op == "cast" else other
+            if e.is_number(one):
+                one = made("cast", type, one)
+        else:
+            one, other = operands(operation, unsized(one), unsized(other), type)
+        if e.WIDTHS[type] >= 32 or operation in ("and", "lshr") or operation in ("or", "xor") and one.op != "cast":
+            return binary(SIGNS[operation], one, other, type)
+        one = one.args[0] if one.op == "cast" and one.type == type else one
+        return made("cast", type, binary(SIGNS[operation], one, other, one.type))
 
     def wide(self, step, one, other=None):
         """Numbers of 128 bits, by functions, since not each compiler has them."""
         operation = step.operation
         if operation == "zext":
-            return call("skh_wide", number(0, 64), one)._replace(parts=("wide", one))
+            return call("skh_wide", WIDE, number(0), one)
         if operation == "trunc" and step.type == "i64":
-            return call("skh_wide_low", one)
+            if is_shift(one, "right", 64):
+                return call("skh_wide_high", "uint64_t", one.args[1])
+            return call("skh_wide_low", "uint64_t", one)
         if operation in ("shl", "lshr"):
-            constant = self.constant(step.operands[1])
-            amount = other.parts[1] if other.parts else call("skh_wide_low", other)
-            amount = amount if constant is None else number(constant, 64)
-            return call("skh_wide_left" if operation == "shl" else "skh_wide_right", one, amount)
-        if operation in ("add", "mul", "and", "or", "xor"):
-            return call(f"skh_wide_{operation}", one, other)
-        if operation == "icmp" and step.more == "ugt":
-            return call("skh_wide_above", one, other)
+            amount = other.args[2] if other.op == "call" else call("skh_wide_low", "uint64_t", other)
+            return call("skh_wide_left" if operation == "shl" else "skh_wide_right", WIDE, one, amount)
+        if operation == "or" and is_shift(one, "left", 64) and other.args[0] == "skh_wide":
+            return call("skh_wide", WIDE, one.args[1].args[2], other.args[2])
+        if operation == "xor" and step.operands[1].token == "-1":
+            return call("skh_wide_not", WIDE, one)
+        if operation in ("add", "mul", "and"):
+            return call(f"skh_wide_{operation}", WIDE, one, other)
+        if operation == "icmp" and step.more in ("ugt", "ule", "ult", "uge"):
+            found = call("skh_wide_above", "bool", *((one, other) if step.more in ("ugt", "ule") else (other, one)))
+            return found if step.more in ("ugt", "ult") else negation(found)
         raise Unknown(f"print_c does not know {operation} of 128 bits")
 
     def comparison(self, step, one, other):
-        type = step.operands[0].type
-        if step.more == "slt":
-            one, other = (cast(f"int{type[1:]}_t", each) for each in (one, other))
-        elif type == "ptr" and step.more not in ("eq", "ne"):
-            one, other = (cast("uintptr_t", each) for each in (one, other))
-        return binary(ORDERS[step.more], one, other)
+        type, order = step.operands[0].type, step.more
+        if (order, step.operands[1].token) in (("sgt", "-1"), ("slt", "0")):
+            half = number(1 << int(type[1:]) - 1, TYPES[type])
+            return comparison("<" if order == "sgt" else ">=", one, half)
+        if type == "ptr" or order not in ORDERS:
+            return self.of_pointer(step, one)
+        both = one.op == "|" and e.is_number(other, 0) and order in ("eq", "ne")
+        if both and all(each.op == "name" for each in one.args):
+            found = made("&&", "bool", *(comparison("==", each, other) for each in one.args))
+            return found if order == "eq" else negation(found)
+        return comparison(ORDERS[order], *operands(None, one, other, TYPES[type]))
 
-    def place(self, step, base, offset):
-        """A pointer and an offset in bytes."""
-        constant = self.constant(step.operands[1])
-        if constant is not None:
-            return base._replace(offset=base.offset + constant)
-        stand_in = self.stand_in(step)
-        if stand_in:
-            return stand_in
-        return binary("+", base, offset)
-
-    def stand_in(self, step):
-        """In place of a null pointer a caller's slice of no bytes has the address 4096."""
-        select = self.made.get(step.operands[1].token)
-        if select is None or select.operation != "select" or self.constant(select.operands[1]) != 4096:
-            return None
-        asked = self.made.get(select.operands[0].token)
-        if asked is None or (asked.operation, asked.more, asked.operands[0].token) != ("icmp", "eq", step.operands[0].token):
-            return None
-        base, other = self.value(step.operands[0]), cast(self.type_of("ptr", step.result), atom("4096"))
-        return choice(binary("==", base, atom("NULL")), other, base)
+    def of_pointer(self, step, one):
+        users = [user for user, _ in self.users[step.result]]
+        if step.more == "eq" and step.operands[1].token == "null" and all(user.operation == "select" for user in users):
+            return number(0, "bool")  # of a stand-in, which needs no test of its own
+        raise Unknown(f"print_c does not know the comparison {step.more} of {step.operands[0].type}")
 
     def intrinsic(self, step, values):
         kind = step.more[len("llvm."):].rpartition(".")[0]
         if kind not in INTRINSICS or kind == "fshl" and step.operands[0] != step.operands[1]:
             raise Unknown(f"print_c does not know the call of {step.more}")
-        return call(f"skh_{INTRINSICS[kind]}{step.type[1:]}", *(values[::2] if kind == "fshl" else values))
+        type = TYPES[step.type]
+        return call(f"skh_{INTRINSICS[kind]}{step.type[1:]}", type, *(values[::2] if kind == "fshl" else values))
 
     def vector(self, step):
         operation, type = step.operation, step.type
         if operation == "load":
-            at, (count, element) = self.address(step.operands[0]), words_of(type)
-            size = width_of(element) // 8
-            return [self.load(element, at._replace(offset=at.offset + size * i)) for i in range(count)]
+            place = self.value(step.operands[0])
+            if place.args[1] is not None:
+                place = self.values[step.operands[0].token] = self.named(place)
+            base, _, constant = place.args
+            count, element = words_of(type)
+            size = int(element[1:]) // 8
+            return [self.load(element, place._replace(args=(base, None, constant + size * i))) for i in range(count)]
         if operation == "call" and step.more == "llvm.vector.reduce.or.v32i8":
             asked = [(user.operation, user.more, user.operands[1].token) for user, _ in self.users[step.result]]
             if set(asked) - {("icmp", "eq", "0"), ("icmp", "ne", "0")}:
                 raise Unknown("print_c knows llvm.vector.reduce.or only if it is compared with 0")
-            return call("skh_any", atom(VECTORS), *self.words(step.operands[0]))
+            return call("skh_any", "bool", VECTORS, *self.words(step.operands[0]))
         if operation in SIGNS:
+            of = TYPES[words_of(type)[1]]
             pairs = zip(self.words(step.operands[0]), self.words(step.operands[1]))
-            is_not = operation == "xor" and step.operands[1].token == ["-1"] * type.count
-            if is_not:
-                return [Expression(f"~{one.within(expression.UNARY)}", expression.UNARY, one.reads) for one, _ in pairs]
+            if operation == "xor" and step.operands[1].token == ["-1"] * type.count:
+                return [made("~", of, one) for one, _ in pairs]
             if operation == "shl" and step.operands[0].token == ["1"] * type.count:
-                return [call("skh_bit", atom(VECTORS), other) for _, other in pairs]
+                return [call("skh_bit", of, VECTORS, other) for _, other in pairs]
             return [binary(SIGNS[operation], one, other) for one, other in pairs]
         if operation == "insertelement":
             words = [*self.words(step.operands[0])]
             words[int(step.operands[2].token)] = self.value(step.operands[1])
             return words
         if operation == "shufflevector" and step.operands[2].token == "zeroinitializer":
-            return [self.named(type.element, self.words(step.operands[0])[0])] * type.count
+            return [self.named(self.words(step.operands[0])[0])] * type.count
         if operation == "bitcast" and (step.operands[0].type.element, type.element) == ("i32", "i8"):
             return self.words(step.operands[0])
         raise Unknown(f"print_c does not know {operation} of {type}")
+
+
+def divided(offset, unit):
+    """An offset in bytes as one in units."""
+    if unit == 1:
+        if offset.op == "<<" and e.is_number(offset.args[1]):
+            return binary("*", number(1 << offset.args[1].args[0]), offset.args[0])
+        return offset
+    if offset.op == "<<" and e.is_number(offset.args[1]) and 1 << offset.args[1].args[0] >= unit:
+        rest = (1 << offset.args[1].args[0]) // unit
+        return offset.args[0] if rest == 1 else binary("*", number(rest), offset.args[0])
+    raise Unknown("print_c does not know an offset that is no multiple of a number's width")
+
+
+def as_bool(value):
+    if value.type == "bool":
+        return value
+    if value.op == "cast" and value.args[0].type == "bool":
+        return value.args[0]
+    if e.is_number(value):
+        return number(value.args[0] & 1, "bool")
+    return comparison("!=", binary("&", value, number(1, value.type)), number(0, value.type))
+
+
+def unsized(value):
+    """A size may have 32 bits, and sums are of 64."""
+    return cast("uint64_t", value) if value.type == "size_t" else value
+
+
+def operands(operation, one, other, type):
+    """Two numbers without a cast that C makes itself, as it does if the other one is of that type."""
+    def bare(value, beside):
+        is_wider = beside.type == type and beside.op not in ("number", "cast")
+        return value.args[0] if value.op == "cast" and value.type == type == "uint64_t" and is_wider else value
+
+    return bare(one, other), bare(other, one)
+
+
+def is_shift(value, direction, places):
+    return value.op == "call" and value.args[0] == f"skh_wide_{direction}" and e.is_number(value.args[2], places)

@@ -35,10 +35,10 @@ static void stream(const unsigned char *bytes, size_t length, uint64_t seed) {
     add(pair[1]);
     add(sketch_xxh64_u64(seed, length));
     /* The whole states, but for bytes of the buffer that are not in use. */
-    memset(x.waiting + x.total % 32, 0, 32 - x.total % 32);
-    memset(m.waiting + m.total % 16, 0, 16 - m.total % 16);
-    add(sketch_xxh64(&x, sizeof x, 0));
-    add(sketch_xxh64(&m, sizeof m, 0));
+    const uint64_t words[] = {x.seed, x.v1, x.v2, x.v3, x.v4, x.total, m.h1, m.h2, m.total};
+    for (size_t i = 0; i < sizeof words / sizeof *words; i++) add(words[i]);
+    add(sketch_xxh64(x.waiting, x.total % 32, 0));
+    add(sketch_xxh64(m.waiting, m.total % 16, 0));
 }
 
 static void fill(unsigned char *bytes, size_t length) {
@@ -51,8 +51,11 @@ static void any_state(const unsigned char *bytes, size_t length) {
     sketch_xxh64_state_t *x = malloc(sizeof *x);
     sketch_murmur3_x64_128_state_t *m = malloc(sizeof *m);
     uint64_t pair[2];
-    fill((unsigned char *)x, sizeof *x);
-    fill((unsigned char *)m, sizeof *m);
+    uint64_t *words[] = {&x->seed,  &x->v1, &x->v2, &x->v3,   &x->v4,
+                         &x->total, &m->h1, &m->h2, &m->total};
+    for (size_t i = 0; i < sizeof words / sizeof *words; i++) *words[i] = random64();
+    fill(x->waiting, sizeof x->waiting);
+    fill(m->waiting, sizeof m->waiting);
     sketch_xxh64_update(x, bytes, length);
     sketch_murmur3_x64_128_update(m, bytes, length);
     sketch_murmur3_x64_128_digest(m, pair);

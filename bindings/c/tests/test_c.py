@@ -25,7 +25,8 @@ def archive(tmp_path_factory):
     def archive(*command):
         if command not in made:
             made[command] = tmp_path_factory.mktemp("archive") / "sketch_hash.o"
-            output(*command, *STD, "-I", INCLUDE, "-c", TEXT, "-o", made[command])
+            language = ["-xc++", "-std=c++11", "-Wpedantic", *STRICT] if "++" in command[0] else STD
+            output(*command, *language, "-I", INCLUDE, "-c", TEXT, "-o", made[command])
         return made[command]
 
     return archive
@@ -67,9 +68,17 @@ BUILDS = {  # a compiler with its options, and what runs the program
     "musl": (["musl-gcc", "-O2"], []),
     "musl, static": (["musl-gcc", "-O2", "-static"], []),
     "windows": (["x86_64-w64-mingw32-gcc", "-O2"], ["wine"]),
+    "g++": (["g++", "-O2"], []),
+    "clang++": (["clang++", "-O2"], []),
     "aarch64": (["aarch64-linux-gnu-gcc", "-O2"], ["qemu-aarch64", "-L", "/usr/aarch64-linux-gnu"]),
     "riscv64": (["riscv64-linux-gnu-gcc", "-O2"], ["qemu-riscv64", "-L", "/usr/riscv64-linux-gnu"]),
     "ppc64le": (["powerpc64le-linux-gnu-gcc", "-O2"], ["qemu-ppc64le", "-L", "/usr/powerpc64le-linux-gnu"]),
+    "32 bits: i686": (["i686-linux-gnu-gcc", "-O2", "-static"], []),
+    "32 bits: armv7": (["arm-linux-gnueabihf-gcc", "-O2", "-static"], ["qemu-arm"]),
+    "big-endian: s390x": (["s390x-linux-gnu-gcc", "-O2", "-static"], ["qemu-s390x"]),
+    "big-endian: powerpc64": (["powerpc64-linux-gnu-gcc", "-O2", "-static"], ["qemu-ppc64"]),
+    "big-endian, 32 bits: mips": (["mips-linux-gnu-gcc", "-O2", "-static"], ["qemu-mips"]),
+    "gcc, without a known byte order": (["gcc", "-O2", "-U__BYTE_ORDER__"], []),
 }
 
 
@@ -96,7 +105,8 @@ def built(need, archive, tmp_path, request):
         need(compiler, *runner[:1], *(f"{peer}.h" for peer in peers))
         source, program = (DIST if name == "check" else HERE) / f"{name}.c", tmp_path / f"{name}.exe"
         linked = [archive(compiler, *options), *(f"-l{peer}" for peer in peers)]
-        output(compiler, "-o", program, source, *options, *STRICT, "-I", INCLUDE, *linked)
+        of_c = {"g++": "gcc", "clang++": "clang"}.get(compiler, compiler)
+        output(of_c, "-o", program, source, *options, *STRICT, "-I", INCLUDE, *linked)
         return [*(request.getfixturevalue("wine") if runner == ["wine"] else runner), program]
 
     return built
@@ -135,8 +145,6 @@ def test_a_program_may_include_the_text(compiler, name, built, need, tmp_path):
 
 
 TARGETS = ["x86_64-apple-macosx11", "arm64-apple-macosx11", "x86_64-pc-windows-msvc", "aarch64-pc-windows-msvc"]
-REFUSED = {"s390x-linux-gnu": "little-endian", "powerpc64-linux-gnu": "little-endian", "i386-linux-gnu": "64 bits",
-           "arm-linux-gnueabi": "64 bits"}
 
 
 def compiled_for(target, folder):
@@ -154,11 +162,32 @@ def test_text_compiles_for_other_systems(target, need, tmp_path):
     assert done.returncode == 0, done.stderr
 
 
-@pytest.mark.parametrize("target", REFUSED)
-def test_other_processors_get_an_error_that_says_why(target, need, tmp_path):
-    need("clang")
-    done = compiled_for(target, tmp_path)
-    assert done.returncode and re.search(f"#error.*|error: .*{REFUSED[target]}", done.stderr) and REFUSED[target] in done.stderr
+CXX = [(compiler, f"c++{standard}") for compiler in ("g++", "clang++") for standard in ("11", "14", "17", "20", "2b")]
+
+
+@pytest.mark.parametrize("compiler, standard", CXX)
+def test_a_program_of_cxx_may_include_the_text(compiler, standard, need, tmp_path):
+    """It and the text compile without a warning, and it exports no call."""
+    need(compiler, "nm")
+    (tmp_path / "program.cc").write_text("""#define SKETCH_HASH_INLINE
+#include "sketch_hash.c"
+int main() {
+    sketch_xxh64_state_t state = SKETCH_XXH64_INIT(7);
+    sketch_xxh64_update(&state, "fox", 3);
+    return sketch_xxh64_digest(&state) != sketch_xxh64("fox", 3, 7);
+}
+""")
+    options = [f"-std={standard}", "-Wpedantic", *STRICT, "-O2", "-I", INCLUDE, "-I", DIST]
+    output(compiler, *options, "-o", tmp_path / "program", tmp_path / "program.cc")
+    output(tmp_path / "program")
+    assert not re.search(r" T sketch_", output("nm", tmp_path / "program"))
+
+
+def test_inlining_is_chosen_before_the_header_is_included(need, tmp_path):
+    need("gcc")
+    (tmp_path / "late.c").write_text('#include "sketch_hash.h"\n#define SKETCH_HASH_INLINE\n#include "sketch_hash.c"\n')
+    command = ["gcc", "-I", INCLUDE, "-I", DIST, "-c", tmp_path / "late.c", "-o", tmp_path / "late.o"]
+    assert "define SKETCH_HASH_INLINE before" in subprocess.run(command, stderr=subprocess.PIPE, text=True).stderr
 
 
 @pytest.mark.parametrize("name, args", [("compare", []), ("columns", []), ("states", ["10000"])])

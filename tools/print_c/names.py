@@ -1,0 +1,89 @@
+"""Names for variables: what the source calls them where that is certain, and else a letter for the type, with a number."""
+import collections
+import re
+
+import expression as e
+from expression import FIELDS, Pointer
+from statements import Assign, Do, For, every
+
+LETTERS = {"bool": "b", "uint8_t": "byte", "uint16_t": "w", "uint32_t": "w", "uint64_t": "x", "skh_uint128": "y"}
+
+
+def hint_from_use(statements, program):
+    """A value that is passed on has the name of the parameter; one that is stored to a field, or read from one, that of it."""
+    for statement in every(statements):
+        if isinstance(statement, Assign) and statement.value.op == "arrow":
+            statement.name.hint(3, statement.value.args[1])
+        if isinstance(statement, Do) and statement.value.op == "=":
+            target, value = statement.value.args
+            if target.op == "arrow" and value.op == "name":
+                value.args[0].hint(3, target.args[1])
+        for value in statement.expressions():
+            for each in e.parts(value):
+                if each.op == "call" and each.args[0] in program.parameter_names:
+                    hint_arguments(each, program.parameter_names[each.args[0]])
+                if each.op == "struct" and each.args[0].op == "name" and each.type != "struct skh_pair":
+                    each.args[0].args[0].hint(6, FIELDS[each.type][0][1])
+        if isinstance(statement, Assign):
+            of_many(statement)
+
+
+def of_many(statement):
+    """A number of an array of many has the name of one, and so has a pointer to a part of it."""
+    value = statement.value
+    if value.op == "call" and re.match(r"skh_get\d", value.args[0]):
+        value = value.args[1]
+    elif not isinstance(statement.name.type, Pointer):
+        return
+    while value.op == "+":
+        value = value.args[0]
+    many = re.fullmatch(r"(\w+)s", value.args[0].text or "") if value.op == "name" else None
+    if many and many[1] not in ("byte", "bit"):
+        statement.name.hint(6, many[1])
+
+
+def hint_arguments(call, names):
+    for text, value in zip(names, call.args[1:]):
+        if value.op == "name" and text:
+            value.args[0].hint(5, text)
+
+
+def hint_loops(statements, source):
+    """Names of loops: the source's, if it has as many, and else i, j, k."""
+    loops = [each for each in every(statements) if isinstance(each, For)]
+    known = re.findall(r"\bfor (\w+) in [^{\n]*\.\.", source.body) if source else []
+    for at, loop in enumerate(loops):
+        depth = sum(loop in [*every(other.body)] for other in loops)
+        loop.name.hint(2, known[at] if len(known) == len(loops) else "ijk"[depth])
+
+
+def give(statements, parameters, arrays, reserved):
+    """Gives each name its text."""
+    taken = {each.text for each in parameters} | set(reserved)
+    known = {each.text for each in parameters}
+    order = list(dict.fromkeys([*arrays, *(each.name for each in every(statements) if isinstance(each, (Assign, For)))]))
+    order = [name for name in order if not name.is_parameter]
+    wishes = {name: [text for rank, text in sorted(name.hints) if rank < 4 or text not in known] for name in order}
+    wanted = collections.Counter(texts[0] for texts in wishes.values() if texts)
+    counts = collections.Counter()
+    for name in order:
+        hints, free = wishes[name], None
+        if hints and wanted[hints[0]] > 1 and not isinstance(name.type, Pointer) and len(hints[0]) > 1:
+            free = numbered(hints[0], taken, 1)
+        elif hints:
+            free = next((text for text in hints if text not in taken), None) or numbered(hints[0], taken)
+        if free is None:
+            letter = "p" if isinstance(name.type, Pointer) else LETTERS.get(name.type) or name.type.removeprefix("struct skh_")
+            counts[letter] += 1
+            free = numbered(letter, taken, 1 if len(letter) == 1 else 0)
+        name.text = free
+        taken.add(free)
+
+
+def numbered(text, taken, start=2):
+    if start == 0 and text not in taken:
+        return text
+    number, text = max(start, 1), text + "_" * text[-1].isdigit()
+    while f"{text}{number}" in taken:
+        number += 1
+    return f"{text}{number}"
