@@ -31,6 +31,13 @@ function textsOf(bytes, offsets) {
 
 const ERROR_OFFSET = -2;
 
+// The length of a filter as a number. The library counts in 32 bits here, and would cut a longer one.
+function lengthOf(number) {
+    const length = checked(number, 'a length');
+    if (length < 2n ** 32n) return Number(length);
+    throw new RangeError('a Bloom filter must have a positive multiple of 32 bytes, below 2^37, and here below 2^32');
+}
+
 // Throws the error that a status of the library stands for.
 function check(status, wrongOffset) {
     if (status === 0) return;
@@ -109,9 +116,9 @@ export function filtersOf(module, { xxh64 }) {
             const args = columns.map(({ bytes, count }) => {
                 const [address] = module.put(bytes, next);
                 next += bytes.length;
-                return [address, BigInt(count)];
+                return [address, count];
             });
-            check(call(BigInt(at), ...args), module.words(1)[0]);
+            check(call(at, ...args), module.size);
             return module.memory.slice(at, at + resultBytes);
         } finally {
             blocks.release(block);
@@ -123,7 +130,7 @@ export function filtersOf(module, { xxh64 }) {
             const seedWord = checked(seed, 'a seed');
             const { ends, columns, count } = textsOf(bytes, offsets);
             return new BigUint64Array(overColumns(columns, count * width, (out, ofOffsets, ofBytes) =>
-                callFor(name, ends)(...ofBytes, ...ofOffsets, seedWord, out, BigInt(count), BigInt(result))).buffer);
+                callFor(name, ends)(...ofBytes, ...ofOffsets, seedWord, out, count, result)).buffer);
         };
     }
 
@@ -131,7 +138,7 @@ export function filtersOf(module, { xxh64 }) {
         const seedWord = checked(seed, 'a seed');
         const numbers = columnOf(values, WIDE, 'numbers');
         return new BigUint64Array(overColumns([numbers], 8 * numbers.count, (out, ofNumbers) =>
-            calls.sketch_xxh64_each_u64(...ofNumbers, seedWord, out, BigInt(numbers.count))).buffer);
+            calls.sketch_xxh64_each_u64(...ofNumbers, seedWord, out, numbers.count)).buffer);
     }
 
     // The bits are at the start of a block of the module's memory. It is free again when the filter was freed, or
@@ -140,9 +147,8 @@ export function filtersOf(module, { xxh64 }) {
         #block; #length;
 
         constructor(length) {
-            const bytes = checked(length, 'a length');
-            check(calls.sketch_bloom_check(bytes));
-            this.#length = Number(bytes);
+            this.#length = lengthOf(length);
+            check(calls.sketch_bloom_check(this.#length));
             this.#block = blocks.allocate(this.#length);
             unreachable.register(this, this.#block, this);
             this.#bytes().fill(0);
@@ -157,20 +163,20 @@ export function filtersOf(module, { xxh64 }) {
 
         // A view that a later call may detach.
         #bytes() {
-            const start = Number(this.#bits[0]);
+            const [start] = this.#bits;
             return module.memory.subarray(start, start + this.#length);
         }
 
         static bytesFor(keys, oneIn) {
             const length = calls.sketch_bloom_bytes_for(checked(keys, 'keys'), checked(oneIn, 'oneIn, as 100 for 1 %,'));
-            if (length) return Number(length);
+            if (length) return length >>> 0; // a result is signed
             throw new RangeError('no Bloom filter of at most 128 MiB keeps this rate for so many keys, or oneIn is 0');
         }
 
         static blockOffset(length, hash) {
-            const offset = calls.sketch_bloom_block_offset(checked(length, 'a length'), checked(hash, 'a hash'));
-            if (offset < 0n) throw new RangeError(`a filter must have a positive multiple of 32 bytes, not ${length}`);
-            return Number(offset);
+            const offset = calls.sketch_bloom_block_offset(lengthOf(length), checked(hash, 'a hash')) >>> 0;
+            if (offset < length) return offset;
+            throw new RangeError(`a filter must have a positive multiple of 32 bytes, not ${length}`);
         }
 
         // A subclass's constructor may take other arguments, so it is not called.
@@ -185,16 +191,16 @@ export function filtersOf(module, { xxh64 }) {
 
         static fromParquet(bytes) {
             const all = view(bytes);
-            const header = calls.sketch_bloom_header_read(...module.put(all.subarray(0, PIECE), input), BigInt(result));
+            const header = calls.sketch_bloom_header_read(...module.put(all.subarray(0, PIECE), input), result);
             if (!header) throw new RangeError('the input does not begin with the whole header of a Bloom filter');
-            const last = Number(header + module.words(1)[0]);
+            const last = header + Number(module.words(1)[0]);
             if (last > all.length) throw new RangeError('the input ends before the Bloom filter does');
-            return BloomFilter.fromBytes.call(this, all.subarray(Number(header), last));
+            return BloomFilter.fromBytes.call(this, all.subarray(header, last));
         }
 
         get #bits() {
             if (!this.#block) throw new TypeError('the filter was freed');
-            return [BigInt(this.#block.start), BigInt(this.#length)];
+            return [this.#block.start, this.#length];
         }
 
         get length() { return this.#length; }
@@ -227,7 +233,7 @@ export function filtersOf(module, { xxh64 }) {
         addEach(bytes, offsets) {
             const { ends, columns } = textsOf(bytes, offsets);
             overColumns(columns, 0, (_, ofOffsets, ofBytes) =>
-                callFor('sketch_bloom_insert_each', ends)(...this.#bits, ...ofBytes, ...ofOffsets, BigInt(result)));
+                callFor('sketch_bloom_insert_each', ends)(...this.#bits, ...ofBytes, ...ofOffsets, result));
             return this;
         }
 
@@ -235,7 +241,7 @@ export function filtersOf(module, { xxh64 }) {
             const { ends, columns, count } = textsOf(bytes, offsets);
             const call = callFor('sketch_bloom_contains_each', ends);
             return overColumns(columns, count, (found, ofOffsets, ofBytes) =>
-                call(...this.#bits, ...ofBytes, ...ofOffsets, found, BigInt(count), BigInt(result)));
+                call(...this.#bits, ...ofBytes, ...ofOffsets, found, count, result));
         }
 
         #addValues(call, values) {
@@ -245,7 +251,7 @@ export function filtersOf(module, { xxh64 }) {
 
         #hasValues(call, values) {
             return overColumns([values], values.count, (found, ofValues) =>
-                call(...this.#bits, ...ofValues, found, BigInt(values.count)));
+                call(...this.#bits, ...ofValues, found, values.count));
         }
 
         addEachNumber(numbers) {
@@ -292,13 +298,13 @@ export function filtersOf(module, { xxh64 }) {
         }
 
         foldTo(oneIn) {
-            return this.#shrink(Number(calls.sketch_bloom_fold_to(...this.#bits, checked(oneIn, 'oneIn, as 100 for 1 %,'))));
+            return this.#shrink(calls.sketch_bloom_fold_to(...this.#bits, checked(oneIn, 'oneIn, as 100 for 1 %,')) >>> 0);
         }
 
         toBytes() { return this.#bytes().slice(); }
 
         toParquet() {
-            const header = Number(calls.sketch_bloom_header_write(BigInt(this.#length), BigInt(input), BigInt(PIECE)));
+            const header = calls.sketch_bloom_header_write(BigInt(this.#length), input, PIECE);
             if (!header) throw new RangeError('the filter is too long for a header of Parquet');
             const bytes = new Uint8Array(header + this.#length);
             bytes.set(module.memory.subarray(input, input + header));

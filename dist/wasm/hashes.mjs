@@ -1,21 +1,17 @@
 // The WebAssembly module of sketch_hash, and its hashes. Licence: Apache-2.0. Programs import sketch_hash.mjs.
 
-const VERSION = '3.0.0';
+const VERSION = '3.1.0';
 const PAGE = 65536;
 /** Bytes of a long input that are copied into the module's memory at a time. */
 export const PIECE = 4 * PAGE;
 
-const UNABLE = 'This engine lacks WebAssembly with 64-bit memories. Chrome and Edge have them from 133 on, Firefox '
-    + 'from 134 on, Node from 24 on, Node 20 and 22 with --experimental-wasm-memory64; Safari has none.';
-
-// A module that has such a memory and nothing else.
-const MEMORY64 = Uint8Array.of(0, 0x61, 0x73, 0x6d, 1, 0, 0, 0, 5, 3, 1, 4, 0);
-
 /** The module at a URL or in bytes. */
 export async function moduleFrom(source = new URL('sketch_hash.wasm', import.meta.url)) {
     const bytes = source instanceof URL || typeof source === 'string' ? await read(source) : source;
-    if (!globalThis.WebAssembly?.validate(MEMORY64)) throw new Error(UNABLE);
-    if (!WebAssembly.validate(bytes)) throw new Error('what was loaded is not a WebAssembly module, or is truncated');
+    if (!globalThis.WebAssembly) throw new Error('this engine has no WebAssembly');
+    if (!WebAssembly.validate(bytes)) {
+        throw new Error('what was loaded is not a WebAssembly module, is truncated, or this engine is too old for it');
+    }
     const { exports } = (await WebAssembly.instantiate(bytes, {})).instance;
     const [major, minor, patch] = VERSION.split('.').map(Number);
     if (exports.sketch_hash_version?.() !== 10000 * major + 100 * minor + patch) {
@@ -27,7 +23,9 @@ export async function moduleFrom(source = new URL('sketch_hash.wasm', import.met
 async function read(place) {
     const url = new URL(place, import.meta.url);
     if (url.protocol === 'file:' && globalThis.process?.versions?.node) {
-        return (await import('node:fs/promises')).readFile(url);
+        // Bundlers would look for a constant name, and a page has no such module.
+        const name = ['node:fs', 'promises'].join('/');
+        return (await import(/* webpackIgnore: true */ /* @vite-ignore */ name)).readFile(url);
     }
     const response = await fetch(url);
     if (!response.ok) throw new Error(`${url}: ${response.status} ${response.statusText}`);
@@ -38,7 +36,7 @@ async function read(place) {
 class Module {
     constructor(calls) {
         this.calls = calls;
-        this.result = (Number(calls.__heap_base.value) + 15) & ~15;
+        this.result = (calls.__heap_base.value + 15) & ~15;
         this.state = this.result + 16;
         this.input = this.state + 80;
         this.end = this.input + PIECE;
@@ -50,31 +48,27 @@ class Module {
     reserve(length) {
         if (this.memory.length >= length) return;
         try {
-            this.#grow(Math.ceil((length - this.memory.length) / PAGE));
+            this.calls.memory.grow(Math.ceil((length - this.memory.length) / PAGE));
         } catch (error) {
             throw new RangeError('no memory is left: call free() on each filter that is no longer used', { cause: error });
         }
         this.memory = new Uint8Array(this.calls.memory.buffer);
     }
 
-    #grow(pages) {
-        try {
-            this.calls.memory.grow(BigInt(pages));
-        } catch (error) {
-            if (!(error instanceof TypeError)) throw error;
-            this.calls.memory.grow(pages); // Node 20 and 22 count pages as numbers
-        }
-    }
-
     /** Copies bytes to an address, and returns it and their length as arguments of a call. */
     put(bytes, at) {
         this.memory.set(bytes, at);
-        return [BigInt(at), BigInt(bytes.length)];
+        return [at, bytes.length];
     }
 
     /** The words of the last result. */
     words(count) {
         return new BigUint64Array(this.memory.buffer, this.result, count);
+    }
+
+    /** The size that the last call wrote. */
+    get size() {
+        return new Uint32Array(this.memory.buffer, this.result, 1)[0];
     }
 }
 
@@ -122,7 +116,7 @@ export function hashesOf(module) {
     const hex = (hash, digits) => hash.toString(16).padStart(digits, '0');
 
     function inMemoryOrder() {
-        calls.sketch_murmur3_x64_128_bytes(BigInt(result), BigInt(state));
+        calls.sketch_murmur3_x64_128_bytes(result, state);
         return module.memory.slice(state, state + 16);
     }
 
@@ -139,7 +133,7 @@ export function hashesOf(module) {
 
         reset(seed = this.#seed) {
             this.#seed = checked(seed, 'a seed');
-            this.#kind.reset(BigInt(state), this.#seed);
+            this.#kind.reset(state, this.#seed);
             this.#saved = module.memory.slice(state, state + this.#kind.size);
             return this;
         }
@@ -153,7 +147,7 @@ export function hashesOf(module) {
             const all = view(bytes);
             this.#restore();
             for (let at = 0; at < all.length; at += PIECE) {
-                this.#kind.update(BigInt(state), ...module.put(all.subarray(at, at + PIECE), input));
+                this.#kind.update(state, ...module.put(all.subarray(at, at + PIECE), input));
             }
             this.#saved.set(module.memory.subarray(state, state + this.#kind.size));
             return this;
@@ -183,14 +177,14 @@ export function hashesOf(module) {
         digits: 16,
         reset: calls.sketch_xxh64_reset,
         update: calls.sketch_xxh64_update,
-        digest: () => unsigned(calls.sketch_xxh64_digest(BigInt(state))),
+        digest: () => unsigned(calls.sketch_xxh64_digest(state)),
     };
     const murmurKind = {
         size: 40,
         digits: 32,
         reset: calls.sketch_murmur3_x64_128_reset,
         update: calls.sketch_murmur3_x64_128_update,
-        digest: () => { calls.sketch_murmur3_x64_128_digest(BigInt(state), BigInt(result)); return pair(); },
+        digest: () => { calls.sketch_murmur3_x64_128_digest(state, result); return pair(); },
     };
 
     class Xxh64 extends Stream { constructor(seed) { super(xxh64Kind, seed); } }
@@ -216,7 +210,7 @@ export function hashesOf(module) {
         const all = view(bytes);
         if (all.length > PIECE) return new Murmur128(seed).update(all).digest();
         const seedWord = checked(seed, 'a seed');
-        calls.sketch_murmur3_x64_128(...module.put(all, input), seedWord, BigInt(result));
+        calls.sketch_murmur3_x64_128(...module.put(all, input), seedWord, result);
         return pair();
     }
 

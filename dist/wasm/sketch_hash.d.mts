@@ -143,7 +143,7 @@ export interface BloomFilterConstructor {
  * not from 0 to 2^64 - 1, or if there is no memory. A seed is 0 if left out.
  */
 export interface Library {
-    /** The module's version, as '3.0.0'. */
+    /** The module's version, as '3.1.0'. */
     readonly version: string;
 
     /** XXH64 of the bytes. */
@@ -180,6 +180,6 @@ export interface Library {
  * Loads the module from sketch_hash.wasm in the folder of this file, from another URL, which may be relative to this
  * file, or from its bytes.
  *
- * @throws {Error} if the engine lacks 64-bit memories, or what is loaded cannot be read, or is not a module
+ * @throws {Error} if the engine has no WebAssembly, or what is loaded cannot be read, or is not this module
  */
 export function load(source?: URL | string | Input): Promise<Library>;

@@ -128,10 +128,13 @@ test('a filter for keys has at most 128 MiB', () => {
     assert.throws(() => BloomFilter.forKeys(1e9, 100), /^RangeError: no Bloom filter of at most 128 MiB/);
 });
 
-for (const length of [0, 31, 33, 2 ** 37]) {
+// 2^32 + 32 is 32 in the module's 32 bits.
+for (const length of [0, 31, 33, 2 ** 32, 2 ** 32 + 32, 2 ** 37]) {
     test(`the length ${length} is an error`, () => {
-        assert.throws(() => new BloomFilter(length), /^RangeError: .* positive multiple of 32 bytes, below 2\^37$/);
-        if (length < 2 ** 37) assert.throws(() => BloomFilter.fromBytes(new Uint8Array(length)), RangeError);
+        const message = /^RangeError: .* positive multiple of 32 bytes, below 2\^37/;
+        assert.throws(() => new BloomFilter(length), message);
+        assert.throws(() => BloomFilter.blockOffset(length, 7n), /^RangeError: .* positive multiple of 32 bytes/);
+        if (length < 2 ** 32) assert.throws(() => BloomFilter.fromBytes(new Uint8Array(length)), RangeError);
     });
 }
 

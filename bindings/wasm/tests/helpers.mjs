@@ -1,10 +1,6 @@
 // What the tests share: the module, as it is loaded by default, the version of the package, and inputs.
 import { readFileSync } from 'node:fs';
-import v8 from 'node:v8';
 import { load } from '../../../dist/wasm/sketch_hash.mjs';
-
-const memory64 = Uint8Array.of(0, 0x61, 0x73, 0x6d, 1, 0, 0, 0, 5, 3, 1, 4, 0);
-if (!WebAssembly.validate(memory64)) v8.setFlagsFromString('--experimental-wasm-memory64'); // Node 20 and 22
 
 export const library = await load();
 export const { version } = JSON.parse(readFileSync(new URL('../../../dist/wasm/package.json', import.meta.url)));

@@ -12,7 +12,7 @@ HERE = pathlib.Path(__file__).resolve().parent
 
 @pytest.mark.parametrize("name", sorted(path.name for path in HERE.glob("*.test.mjs")))
 def test_module_works_under_node(name, need):
-    need("node 20")
+    need("node 18")
     done = subprocess.run(["node", "--test", HERE / name], capture_output=True, text=True)
     assert done.returncode == 0, done.stdout
 
@@ -30,7 +30,7 @@ def test_types_take_what_they_say(need, tmp_path):
 @pytest.fixture
 def project(need, tmp_path):
     """A project that has the package from dist/, as `npm install` copies it."""
-    need("node 20", "npm")
+    need("node 18", "npm")
     subprocess.run(["npm", "pack", "--silent", "--pack-destination", tmp_path, DIST / "wasm"], check=True)
     folder = tmp_path / "node_modules/sketch-hash"
     folder.mkdir(parents=True)
@@ -53,10 +53,40 @@ def test_the_package_has_its_notice_and_types_for_older_compilers(need, project)
 def test_program_of_the_page_prints_what_its_comments_say(project):
     (program,) = re.findall(r"^```js\n(.*?)^```", (DIST / "wasm/README.md").read_text(), re.M | re.S)
     (project / "page.mjs").write_text(program)
-    major = int(re.match(r"v(\d+)", subprocess.check_output(["node", "--version"], text=True))[1])
-    flags = ["--experimental-wasm-memory64"] if major < 24 else []
     expected = [comment.split(":")[0] for comment in re.findall(r"^console\.log\(.*\); // (.*)$", program, re.M)]
-    assert subprocess.check_output(["node", *flags, "page.mjs"], cwd=project, text=True).splitlines() == expected
+    assert subprocess.check_output(["node", "page.mjs"], cwd=project, text=True).splitlines() == expected
+
+
+def test_the_module_is_what_the_command_of_the_page_makes(need, tmp_path):
+    """The same module by the same compiler; by another one a module with the same calls, which node runs."""
+    need("clang", "wasm-ld", "node 18")
+    (command,) = re.findall(r"^    (clang --target=wasm32 .*(?:\n        .*)*)", (DIST / "wasm/README.md").read_text(), re.M)
+    shutil.copytree(DIST, tmp_path / "dist")
+    made = tmp_path / "dist/wasm/sketch_hash.wasm"
+    made.unlink()
+    subprocess.run(command, shell=True, check=True, cwd=tmp_path / "dist/wasm")
+    shipped = (DIST / "wasm/sketch_hash.wasm").read_bytes()
+    assert made.read_bytes() == shipped or version_of("clang")[0] != 14
+    program = "import { load } from './sketch_hash.mjs'; console.log((await load()).xxh64Hex(new Uint8Array(100)));"
+    run = ["node", "--input-type=module", "--eval", program]
+    outputs = {subprocess.check_output(run, cwd=folder, text=True) for folder in (DIST / "wasm", tmp_path / "dist/wasm")}
+    assert len(outputs) == 1
+
+
+@pytest.mark.parametrize("bundler", ["esbuild", "webpack"])
+def test_a_bundler_makes_a_program_of_the_module(bundler, need, project):
+    """For a browser, where it finds no module of Node. The bundle runs in Node with the module's bytes."""
+    need(bundler)
+    (project / "in.mjs").write_text("import { load } from 'sketch-hash'; globalThis.loaded = load;")
+    options = {"esbuild": "in.mjs --bundle --format=iife --outfile=out.cjs",
+               "webpack": "--mode=production --target=web --entry=./in.mjs --output-path=. --output-filename=out.cjs"}
+    done = subprocess.run([bundler, *options[bundler].split()], cwd=project, capture_output=True, text=True)
+    assert done.returncode == 0, done.stdout + done.stderr
+    module = project / "node_modules/sketch-hash/sketch_hash.wasm"
+    program = f"""globalThis.document = {{ currentScript: {{ tagName: 'SCRIPT', src: 'https://localhost/' }} }};
+        require('./out.cjs');
+        loaded(require('fs').readFileSync('{module}')).then(({{ xxh64Hex }}) => console.log(xxh64Hex(new Uint8Array())));"""
+    assert subprocess.check_output(["node", "--eval", program], cwd=project, text=True) == "ef46db3751d8e999\n"
 
 
 def test_the_page_is_made_of_the_texts_that_are_edited(need, tmp_path):

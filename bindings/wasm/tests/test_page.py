@@ -272,11 +272,11 @@ def changed_page(chromium, tmp_path, old, new):
     return Page(chromium, (tmp_path / "page.html").as_uri(), tmp_path)
 
 
-def test_an_engine_without_64_bit_memories_is_an_error(chromium, tmp_path):
-    """The page asks for a kind of memory that no engine knows. Files before and after the message have no hash."""
-    page = changed_page(chromium, tmp_path, "5, 3, 1, 4, 0)", "5, 3, 1, 99, 0)")
+def test_an_engine_without_webassembly_is_an_error(chromium, tmp_path):
+    """Files before and after the message have no hash."""
+    page = changed_page(chromium, tmp_path, "if (!globalThis.WebAssembly)", "if (true)")
     page.choose(early=FOX)
-    page.wait(lambda: "Firefox from 134" in page.one("#unable").text)
+    page.wait(lambda: "this engine has no WebAssembly" in page.one("#unable").text)
     page.choose(late=FOX)
     for name in ("early", "late"):
         page.wait_for(name, "cannot be hashed here")
