@@ -90,9 +90,7 @@ SKH_INLINE void skh_store32(unsigned char *at, uint32_t number) {
 }
 SKH_INLINE void skh_store64(unsigned char *at, uint64_t number) { skh_set64(at, number); }
 #else
-SKH_INLINE uint16_t skh_load16(const unsigned char *at) {
-    return (uint16_t)(at[0] | at[1] << 8);
-}
+SKH_INLINE uint16_t skh_load16(const unsigned char *at) { return (uint16_t)(at[0] | at[1] << 8); }
 SKH_INLINE uint32_t skh_load32(const unsigned char *at) {
     return skh_load16(at) | (uint32_t)skh_load16(at + 2) << 16;
 }
