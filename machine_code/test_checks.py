@@ -1,4 +1,4 @@
-"""What the check passes, and what it refuses: libraries, wrong definitions, planted code, and operations that are changed."""
+"""What the check passes, and what it refuses: libraries, wrong definitions, and planted code."""
 import contextlib
 import functools
 import pathlib
@@ -8,18 +8,16 @@ from functools import partial
 
 import calls
 import checks
-import columns
 import filters
 import hashes
 import headers
 import library
 import loops
 import pytest
-import rates
 from conftest import DIST
 from definitions import FILTER, MURMUR, XXH64, of_hash
 from machine import Array
-from values import Stop, add, complement, extend, mul, number, sub, unknown
+from values import Stop, add, extend, mul, number, sub, unknown
 
 TEXT = DIST / "sketch_hash.c"
 COMPILERS = {"gcc": "gcc", "clang": "clang", "aarch64": "aarch64-linux-gnu-gcc"}
@@ -127,7 +125,7 @@ def few_calls(machine, hash):
 ], ids=["XXH64", "Murmur", "filter", "header"])
 def test_a_changed_number_of_a_definition_is_noticed(definitions, runs, library_of):
     used = library_of("gcc")
-    runs = runs(lambda: checks.MACHINES[used.processor](used))
+    runs = runs(checks.machine_of(used))
     definitions.forget()
     assert checks.faults_of(runs) == {}
     missed, count = [], 0
@@ -170,8 +168,7 @@ def machine_of(need, tmp_path):
         text = f"{syntax}.globl sketch_hash_version\nsketch_hash_version:\n{code}\n"
         subprocess.run([ASSEMBLERS[processor], "-o", tmp_path / "code.o", "-"], input=text, text=True, check=True)
         subprocess.run([*LINKERS[processor], "-shared", "-o", tmp_path / "code", tmp_path / "code.o"], check=True)
-        planted = library.read(tmp_path / "code")
-        return lambda: checks.MACHINES[planted.processor](planted)
+        return checks.machine_of(library.read(tmp_path / "code"))
 
     return run
 
@@ -194,14 +191,15 @@ RIGHT = [
     # A move of 64 bits clears the rest of a vector.
     ("x86-64", f"movq xmm1, xmm0; movq rax, xmm1; movq rcx, xmm0; sub rax, rcx; add eax, {calls.VERSION}; ret"),
     ("x86-64", f"movq xmm1, xmm0; pextrq rax, xmm1, 1; add eax, {calls.VERSION}; ret"),
+    ("x86-64", f"mov rcx, [rsp-8]; {VERSION}"),  # nothing has written it
     # A flag of the library.
-    *((processor, f"cmp byte ptr [rip+1f], 1; sbb ecx, ecx; sub ecx, ecx; {VERSION}; .data; 1: .byte 0")
+    *((processor, f"cmp byte ptr [rip+1f], 1; sbb ecx, ecx; sub ecx, ecx; {VERSION}; .section .bss; 1: .byte 0")
       for processor in ("x86-64", "Windows")),
 ]
 WRONG = [
     ("x86-64", LOOKED_UP + ", ".join(map(str, [*BITS[:31], 5])), "outside"),
     ("x86-64", LOOKED_UP.replace("27", "26") + ", ".join(map(str, BITS * 2)), "outside"),
-    ("x86-64", f"push rbx; {VERSION}", "the end of a call"), ("x86-64", f"mov rbx, rdi; {VERSION}", "rbx is not restored"),
+    ("x86-64", f"push rbx; {VERSION}", "no function"), ("x86-64", f"mov rbx, rdi; {VERSION}", "rbx is not restored"),
     ("x86-64", f"mov r12d, r12d; {VERSION}", "r12 is not restored"),
     ("x86-64", f"mov rcx, [rsp]; push rcx; {VERSION}", "the stack pointer is not restored"),
     ("x86-64", f"sub rsp, 16; movaps [rsp], xmm0; add rsp, 16; {VERSION}", "not aligned"),
@@ -210,12 +208,12 @@ WRONG = [
     ("x86-64", f"mov [rsp-136], rcx; {VERSION}", "outside"),
     ("x86-64", f"push rcx; pop rcx; sub rsp, 8192; {VERSION}", "leaves the stack"),
     ("x86-64", f"sub rsp, 8192; push rcx; {VERSION}", "leaves the stack"),
-    ("x86-64", f"mov rcx, [rsp-8]; {VERSION}", "outside"), ("x86-64", f"mov [rsp], rcx; {VERSION}", "outside"),
+    ("x86-64", "mov eax, [rsp-8]; ret", "the result"), ("x86-64", f"mov [rsp], rcx; {VERSION}", "outside"),
     ("x86-64", f"mov [rsp+8], rcx; {VERSION}", "outside"), ("x86-64", f"mov rcx, [rdi]; {VERSION}", "outside"),
     ("x86-64", f"lea rcx, [rip]; mov byte ptr [rcx], 1; {VERSION}", "outside"),
     ("Windows", f"mov [rsp-8], rcx; {VERSION}", "outside"),
     ("Windows", f"mov rsi, rcx; {VERSION}", "rsi is not restored"),
-    ("Windows", f"movaps xmm6, xmm0; {VERSION}", "ymm6 is not restored"),
+    ("Windows", f"movaps xmm6, xmm0; {VERSION}", "xmm6 is not restored"),
     *(("x86-64", f"{before}; jc 1f; 1: {VERSION}", "carry|not known") for before in (
         "imul rcx, rdx", "cmp rcx, rdx; inc rcx", "shl rcx, 3", "cmp rcx, rcx; rol rcx, 3", "ror rcx, 3", "add rcx, rdx",
         "mov rax, rdx",
@@ -225,22 +223,22 @@ WRONG = [
     ("x86-64", f"cmp rcx, rdx; jle 1f; 1: {VERSION}", "signed"), ("x86-64", f"test edi, edi; jg 1f; ud2; 1: {VERSION}", "ud2"),
     ("x86-64", f"mov ecx, {calls.VERSION}; mov rax, rdi; mov al, cl; ret", "the result"), ("x86-64", "ret", "the result"),
     ("x86-64", f"1: jmp 1b; {VERSION}", "no end"), ("x86-64", "ud2", "not known"), ("x86-64", f"std; {VERSION}", "not known"),
-    *(("x86-64", f"{code}; {VERSION}", "not understood") for code in (
-        "jmp rcx", "pop rcx; add rsp, 8; jmp rcx", "mov ah, 1", "mov rcx, ds:16")),
+    ("x86-64", f"jmp rcx; {VERSION}", "no function"),
+    ("x86-64", f"pop rcx; add rsp, 8; jmp rcx; {VERSION}", "leaves the stack"),
+    *(("x86-64", f"{code}; {VERSION}", "not understood") for code in ("mov ah, 1", "mov rcx, ds:16")),
     ("x86-64", f"push rbp; mov rbp, rsp; and rsp, -32; movaps [rsp-8], xmm0; mov rsp, rbp; pop rbp; {VERSION}", "not aligned"),
     ("x86-64", f"xor ecx, ecx; mov rcx, [rcx+16]; {VERSION}", "outside"),
     ("x86-64", f"mov edx, 2; mov ecx, edi; shl edx, cl; {VERSION}", "a shift"),
-    ("x86-64", f"vpshufd ymm0, ymm1, 1; {VERSION}", "256 bits"),
     ("x86-64", f"mov eax, {calls.VERSION}; ret 8", "takes more"),
     ("x86-64", f"vpsllvd xmm0, xmm1, xmm2; {VERSION}", "a shift that"),
-    ("aarch64", f"rbit x1, x0; {ARM}", "is not known"),
+    ("aarch64", f"cls x1, x0; {ARM}", "is not known"),
     ("aarch64", f"movi v0.16b, #128; movi v1.16b, #255; sshl v0.4s, v0.4s, v1.4s; {ARM}", "a signed shift to the right"),
     ("aarch64", f"mov x19, x0; {ARM}", "x19 is not restored"), ("aarch64", f"fmov d8, d0; {ARM}", "v8 is not restored"),
     ("aarch64", f"sub sp, sp, #16; {ARM}", "the stack pointer is not restored"),
     ("aarch64", f"str x0, [sp, #-16]; {ARM}", "outside"),
     ("aarch64", f"sub sp, sp, #8; str x0, [sp]; add sp, sp, #8; {ARM}", "not aligned"),
     ("aarch64", f"ldr x1, [sp, #-16]; {ARM}", "below"),
-    ("aarch64", f"mov x30, x0; {ARM}", "the end of a call"), ("aarch64", f"adds x1, x1, x2; b.cs 1f; 1: {ARM}", "carry"),
+    ("aarch64", f"mov x30, x0; {ARM}", "no function"), ("aarch64", f"adds x1, x1, x2; b.cs 1f; 1: {ARM}", "carry"),
     ("aarch64", f"tst x1, x2; b.hi 1f; 1: {ARM}", "carry"), ("aarch64", f"cmp x1, x2; b.vs 1f; 1: {ARM}", "not understood"),
 ]
 
@@ -307,61 +305,3 @@ def test_accesses_that_perhaps_overlap_are_refused():
     for offset in number(8), add(mul(far, number(2)), number(9)):
         with refused("overlaps"):
             written.load(offset, 2)
-
-
-# ---- each operation with another result
-
-# Those whose result does not matter in some library.
-SAME = {"movaps": "it clears what is written before it is read", "punpcklqdq": "both halves are compared with 0",
-        "movdqa": "it clears what is written before it is read", "sbb": "only its carry is used",
-        "pcmpeqb": "a second one takes the complement"}
-
-
-def some_runs(machine):
-    """Of each kind of call a few, which are fast."""
-    for hash in calls.NAMES:
-        for rest in (0, 3, 5, 9, 15):
-            yield partial(loops.prove, partial(hashes.OneCall, machine, hash, rest), (1, 2, 4))
-            yield hashes.OneCall(machine, hash, rest, 1).few
-        for fill in (0, 5):
-            yield partial(loops.prove, partial(hashes.Update, machine, hash, fill, 7), (1, 2, 4))
-            yield partial(calls.check_call, machine, f"{calls.NAMES[hash]}_digest", hashes.digest, hash, fill, 1)
-        yield partial(calls.check_call, machine, f"{calls.NAMES[hash]}_reset", hashes.reset, hash)
-    for module in columns, filters, rates, headers:
-        for function, run in module.checks(machine):
-            if function not in ("bloom_insert", "bloom_contains", "bloom_bytes_for"):
-                yield run
-
-
-@pytest.mark.parametrize("name", ["gcc", "aarch64"])
-def test_each_operation_that_is_changed_is_noticed(name, library_of, monkeypatch):
-    """Its result is the complement; of a comparison the conditions are."""
-    used = library_of(name)
-    kind = checks.MACHINES[used.processor]
-    operations, executed, runs = kind.operations, {}, []
-
-    def machine():
-        runs.append(kind(used))
-        return runs[-1]
-
-    for check in some_runs(machine):
-        runs.clear()
-        loops.on_each_path(check)
-        for at in {at for run in runs for at in run.executed}:
-            executed.setdefault(kind.name_of(used.instructions[at][0]), []).append(check)
-    missed = []
-    for operation in operations.keys() & executed.keys():
-        right = operations[operation]
-        monkeypatch.setitem(operations, operation, partial(changed, kind, operation, right))
-        if not any(checks.faults_of([check]) for check in dict.fromkeys(executed[operation])):
-            missed.append(operation)
-        monkeypatch.setitem(operations, operation, right)
-    assert len(operations.keys() & executed.keys()) > 15 and set(missed) <= SAME.keys()
-
-
-def changed(kind, operation, right, run, *values):
-    result = right(run, *values)
-    if operation in kind.comparisons:
-        what, x, y, last = run.flags
-        run.flags = what, complement(x) if what == "bits" else x, complement(y), last and complement(last)
-    return complement(result) if result else result
