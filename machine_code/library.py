@@ -252,9 +252,12 @@ def read(path):
     try:
         if data.startswith((ELF, b"!<arch>")):
             data = linked(path, data)
-        return Library(data)
+        library = Library(data)
     except (struct.error, ValueError, KeyError, IndexError, TypeError) as error:
         raise Stop(f"it is truncated or damaged: {error}") from None
+    if not any(name.startswith("sketch_") for name in library.functions):
+        raise Stop("it has no function of the header")
+    return library
 
 
 def linked(path, data):

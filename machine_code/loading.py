@@ -1,8 +1,8 @@
 """What the loader runs before the first call: the constructors. They may set bytes of the library to 1, on a processor on
 which the code may run that these bytes select."""
-from machine import CALLER, IN_IMAGE, IMAGE, place_of
 from loops import on_each_path
-from values import Stop, add, cut, number, number_in, unknown
+from machine import IN_IMAGE
+from values import Stop, cut, number_in, unknown
 
 
 def flags_of(kind, library):

@@ -20,11 +20,13 @@ from machine import Array
 from values import Stop, add, extend, mul, number, sub, unknown
 
 TEXT = DIST / "sketch_hash.c"
-COMPILERS = {"gcc": "gcc", "clang": "clang", "aarch64": "aarch64-linux-gnu-gcc"}
+HARDENED = "-fstack-protector-strong -fstack-clash-protection -D_FORTIFY_SOURCE=3 -fno-plt -Wl,-z,relro,-z,now".split()
+COMPILERS = {"gcc": ["gcc", *HARDENED, "-fcf-protection=full"], "clang": ["clang", "-march=x86-64-v3"],
+             "aarch64": ["aarch64-linux-gnu-gcc", *HARDENED, "-mbranch-protection=standard"]}
 
 
 def build(compiler, path, *change):
-    subprocess.run([compiler, "-O2", "-fPIC", "-shared", *change, "-I", DIST / "include", TEXT, "-o", path], check=True)
+    subprocess.run([*compiler, "-O2", "-fPIC", "-shared", *change, "-I", DIST / "include", TEXT, "-o", path], check=True)
 
 
 @pytest.fixture(scope="session")
@@ -32,7 +34,7 @@ def library_of(tmp_path_factory, need):
     """Of what a compiler makes of the text."""
     @functools.cache
     def run(name):
-        need(COMPILERS[name])
+        need(COMPILERS[name][0])
         path = tmp_path_factory.mktemp("library") / "library.so"
         build(COMPILERS[name], path)
         return library.read(path)
@@ -64,20 +66,37 @@ CHECK = pathlib.Path(__file__).with_name("check")
 ])
 def test_the_command_says_whether_a_function_is_as_defined(change, status, output, need, tmp_path):
     need("gcc")
-    build("gcc", tmp_path / "library.so", *change)
+    build(["gcc"], tmp_path / "library.so", *change)
     run = subprocess.run([CHECK, "--only", "sketch_hash_version", tmp_path / "library.so"], capture_output=True, text=True)
-    assert run.returncode == status and output in run.stdout and not run.stderr
+    assert run.returncode == status and output in run.stdout
+    assert re.fullmatch(r"1 of 1: sketch_hash_version: (not )?as defined, \d+ s\n", run.stderr)
 
 
 @pytest.mark.parametrize("only, data, reason", [
-    ("other", TEXT.with_name("linux-x86_64").joinpath("sketchsum").read_bytes(), "no function has other in its name"),
-    ("", None, "No such file"), ("", b"text", "ELF, PE or Mach-O"), ("", b"!<arch>\n", "no object file"),
+    ("other", None, "no function has other in its name"), ("", b"text", "ELF, PE or Mach-O"),
+    ("", b"!<arch>\n", "no object file"), ("", b"MZ", "truncated"), *(("", size, "truncated") for size in (40, 70, 500, 2000)),
 ])
-def test_a_check_of_nothing_fails(only, data, reason, tmp_path):
-    if data is not None:
-        (tmp_path / "library").write_bytes(data)
-    run = subprocess.run([CHECK, "--only", only, tmp_path / "library"], capture_output=True, text=True)
-    assert (run.returncode, run.stdout) == (2, "") and reason in run.stderr.splitlines()[-1]
+def test_a_check_of_nothing_fails(only, data, reason, need, tmp_path):
+    need("gcc")
+    build(["gcc"], tmp_path / "library")
+    if data:
+        whole = (tmp_path / "library").read_bytes()
+        (tmp_path / "library").write_bytes(whole[:data] if isinstance(data, int) else data)
+    must_fail(only, tmp_path / "library", reason)
+
+
+def must_fail(only, path, reason):
+    run = subprocess.run([CHECK, "--only", only, path], capture_output=True, text=True)
+    assert (run.returncode, run.stdout, run.stderr.count("\n")) == (2, "", 1) and reason in run.stderr
+
+
+def test_what_is_no_library_fails(need, tmp_path):
+    need("gcc")
+    must_fail("", tmp_path / "missing", "No such file")
+    must_fail("", DIST / "linux-x86_64/sketchsum", "no function of the header")
+    (tmp_path / "code.c").write_text("extern int other[]; int *sketch_hash_version(void) { return other; }")
+    subprocess.run(["gcc", "-c", "-fno-pie", tmp_path / "code.c", "-o", tmp_path / "code.o"], check=True)
+    must_fail("", tmp_path / "code.o", "ld cannot link it")
 
 
 @pytest.mark.parametrize("header", ["int sketch_other(void);", ""])
@@ -153,7 +172,7 @@ def is_noticed(runs):
 # ---- planted code
 
 ASSEMBLERS = {"x86-64": "as", "aarch64": "aarch64-linux-gnu-as", "Windows": "x86_64-w64-mingw32-as"}
-LINKERS = {"x86-64": ["ld"], "aarch64": ["aarch64-linux-gnu-ld"],
+LINKERS = {"x86-64": ["ld", "-z", "notext"], "aarch64": ["aarch64-linux-gnu-ld"],
            "Windows": ["x86_64-w64-mingw32-ld", "--export-all-symbols", "-e", "0"]}
 VERSION = f"mov eax, {calls.VERSION}; ret"
 ARM = f"mov w0, #{calls.VERSION & 0xFFFF}; movk w0, #{calls.VERSION >> 16}, lsl #16; ret"
@@ -167,7 +186,10 @@ def machine_of(need, tmp_path):
         syntax = "" if processor == "aarch64" else ".intel_syntax noprefix\n"
         text = f"{syntax}.globl sketch_hash_version\nsketch_hash_version:\n{code}\n"
         subprocess.run([ASSEMBLERS[processor], "-o", tmp_path / "code.o", "-"], input=text, text=True, check=True)
-        subprocess.run([*LINKERS[processor], "-shared", "-o", tmp_path / "code", tmp_path / "code.o"], check=True)
+        (tmp_path / "versions").write_text("V1 { global: sketch_hash_version; }; V2 { };")
+        options = ["--version-script", tmp_path / "versions"] if ".symver" in code else []
+        link = [*LINKERS[processor], "-shared", *options, "-o", tmp_path / "code", tmp_path / "code.o"]
+        subprocess.run(link, check=True)
         return checks.machine_of(library.read(tmp_path / "code"))
 
     return run
@@ -177,7 +199,23 @@ def machine_of(need, tmp_path):
 BITS = [1 << i for i in range(32)]
 LOOKED_UP = f"lea rcx, [rip+1f]; mov eax, edi; shr eax, 27; mov eax, [rcx+rax*4]; {VERSION}; 1: .long "
 
+OTHER = f"cmp eax, ecx; jne 1f; {VERSION}; 1: mov eax, 1; ret"  # a wrong result, unless they are equal
+SCRATCH = {"x86-64": "rax rcx rdx rsi rdi r8 r9 r10 r11", "Windows": "rax rcx rdx r8 r9 r10 r11"}
+KEPT = {"x86-64": "rbx rbp r12 r13 r14 r15", "Windows": "rbx rbp rsi rdi r12 r13 r14 r15"}
+GUARD = "adrp x1, :got:__stack_chk_guard; ldr x1, [x1, :got_lo12:__stack_chk_guard]"
+COPY = "sub rsp, 40; mov [rsp+16], rdi; mov rdi, rsp; lea rsi, [rsp+16]; mov edx, 8; call memcpy@PLT; add rsp, 40"
+FLAG = (f"cmp byte ptr [rip+flag], 1; je 1f; 1: {VERSION}; .section .init_array, \"aw\"; .quad set; "
+        ".bss; flag: .byte 0; .text; set:")
+
 RIGHT = [
+    *((processor, "".join(f"not {name}; " for name in names.split()) + VERSION) for processor, names in SCRATCH.items()),
+    ("x86-64", "".join(f"pxor xmm{n}, xmm{n}; " for n in range(16)) + VERSION),
+    ("aarch64", "".join(f"mvn x{n}, x{n}; " for n in range(19)) + ARM), ("x86-64", f"{COPY}; {VERSION}"),
+    ("x86-64", f"mov rax, fs:0x28; mov [rsp-8], rax; sub rax, fs:0x28; jne 1f; {VERSION}; 1: call __stack_chk_fail@PLT"),
+    ("x86-64", f"sub rsp, 24; mov rdi, rsp; mov edx, 9; call [rip+memset@GOTPCREL]; add rsp, 24; {VERSION}"),
+    ("aarch64", f"paciasp; autiasp; {ARM}"), ("aarch64", f"cmp x1, x1; cbz xzr, 1f; 1: b.ne 2f; {ARM}; 2: udf #0"),
+    ("aarch64", f"{GUARD}; ldr x2, [x1]; ldr x3, [x1]; sub x2, x2, x3; cbnz x2, 1f; {ARM}; 1: udf #0"),
+    ("x86-64", f"lea rax, [rip+1f]; jmp [rip+2f]; 1: {VERSION}; .data; 2: .quad 1b"), ("x86-64", f"{FLAG} ret"),
     ("x86-64", f"test edi, edi; jle 1f; 1: {VERSION}"),
     ("x86-64", LOOKED_UP + ", ".join(map(str, BITS))),
     ("x86-64", f"push rbx; mov rbx, rdi; pop rbx; {VERSION}"), ("x86-64", f"mov [rsp-128], rax; mov rcx, [rsp-128]; {VERSION}"),
@@ -197,10 +235,41 @@ RIGHT = [
       for processor in ("x86-64", "Windows")),
 ]
 WRONG = [
+    *((processor, f"not {name}; {VERSION}", f"{name} is not restored")
+      for processor, names in KEPT.items() for name in names.split()),
+    *(("Windows", f"pcmpeqb xmm{n}, xmm{n}; {VERSION}", f"xmm{n} is not restored") for n in range(6, 16)),
+    *(("aarch64", f"mvn x{n}, x{n}; {ARM}", f"x{n} is not restored") for n in range(19, 30)),
+    *(("aarch64", f"movi v{n}.16b, #1; {ARM}", f"v{n} is not restored") for n in range(8, 16)),
+    # What the loader gives.
+    ("x86-64", f"mov rax, [rsp]; mov ecx, 0xCA11E4; {OTHER}", "the result"),
+    ("x86-64", f"lea rax, [rip+1f]; shr rax, 40; mov ecx, 1; {OTHER}", "the result"),
+    ("x86-64", f"movzx eax, byte ptr [rip+2f]; mov ecx, 1; {OTHER}; .data; 2: .byte 2", "the result"),
+    ("x86-64", f"mov eax, [rip+2f]; and eax, 0xfefefefe; xor ecx, ecx; {OTHER}; .data; 2: .long 2", "the result"),
+    ("x86-64", f"movabs rax, offset 1f; 1: {VERSION}", "changes an instruction"),
+    ("x86-64", f"{VERSION}; .type sketch_hash_version, @gnu_indirect_function", "indirect"),
+    ("x86-64", f"{VERSION}; other: ret; .globl other; .symver other, sketch_hash_version@@V2; "
+               ".symver sketch_hash_version, sketch_hash_version@V1", "two versions"),
+    ("x86-64", f"{FLAG} mov byte ptr [rip+flag], 1; ret", "does not allow"),
+    ("x86-64", f"{FLAG} call puts@PLT", "a call of puts"),
+    ("x86-64", f"{FLAG} mov byte ptr [rip+flag], 2; ret", "does not allow"), ("x86-64", f"{FLAG} jmp set", "no end"),
+    ("x86-64", f"{FLAG} xor ecx, ecx; xgetbv; ret", "must not be"), ("x86-64", f"cpuid; {VERSION}", "must not be|depends"),
+    ("x86-64", f"mov fs:0x28, rcx; {VERSION}", "outside"), ("x86-64", "mov rax, fs:0x28; ret", "the result"),
+    ("aarch64", f"{GUARD}; str x0, [x1]; {ARM}", "outside"), ("aarch64", f"paciasp; {ARM}", "no function"),
+    ("aarch64", f"paciasp; sub sp, sp, #16; autiasp; add sp, sp, #16; {ARM}", "a signature"),
+    # Calls of the C library.
+    ("x86-64", f"mov r8d, 1; {COPY}; mov eax, r8d; mov ecx, 1; {OTHER}", "the result"),
+    ("x86-64", f"{COPY}; {VERSION}".replace("edx, 8", "rdx, rdi"), "the size"),
+    ("x86-64", f"call puts@PLT; {VERSION}", "of puts"),
+    ("x86-64", f"{COPY}; {VERSION}".replace("+16]; mov edx", "+4]; mov edx"), "where it is from"),
+    ("x86-64", f"{COPY}; {VERSION}".replace("rdi, rsp", "rdi, rcx"), "outside"),
+    ("x86-64", f"{COPY}; {VERSION}".replace("edx, 8; call memcpy", "edx, 8; mov ecx, 7; call __memcpy_chk"), "does not fit"),
+    ("x86-64", "sub rsp, 256; mov [rsp], rdi; add rsp, 256; sub rsp, 256; mov rax, [rsp]; add rsp, 256; "
+               f"mov rcx, rdi; {OTHER}", "the result"),
+    ("x86-64", f"vmovdqa ymm0, [rsp-40]; {VERSION}", "not aligned"),
+    ("x86-64", f"movapd xmm0, [rdi]; {VERSION}", "not aligned"),
     ("x86-64", LOOKED_UP + ", ".join(map(str, [*BITS[:31], 5])), "outside"),
     ("x86-64", LOOKED_UP.replace("27", "26") + ", ".join(map(str, BITS * 2)), "outside"),
-    ("x86-64", f"push rbx; {VERSION}", "no function"), ("x86-64", f"mov rbx, rdi; {VERSION}", "rbx is not restored"),
-    ("x86-64", f"mov r12d, r12d; {VERSION}", "r12 is not restored"),
+    ("x86-64", f"push rbx; {VERSION}", "no function"),
     ("x86-64", f"mov rcx, [rsp]; push rcx; {VERSION}", "the stack pointer is not restored"),
     ("x86-64", f"sub rsp, 16; movaps [rsp], xmm0; add rsp, 16; {VERSION}", "not aligned"),
     ("x86-64", f"movaps xmm0, [rsp]; {VERSION}", "not aligned"), ("x86-64", f"paddd xmm0, [rsp-16]; {VERSION}", "not aligned"),
@@ -212,8 +281,6 @@ WRONG = [
     ("x86-64", f"mov [rsp+8], rcx; {VERSION}", "outside"), ("x86-64", f"mov rcx, [rdi]; {VERSION}", "outside"),
     ("x86-64", f"lea rcx, [rip]; mov byte ptr [rcx], 1; {VERSION}", "outside"),
     ("Windows", f"mov [rsp-8], rcx; {VERSION}", "outside"),
-    ("Windows", f"mov rsi, rcx; {VERSION}", "rsi is not restored"),
-    ("Windows", f"movaps xmm6, xmm0; {VERSION}", "xmm6 is not restored"),
     *(("x86-64", f"{before}; jc 1f; 1: {VERSION}", "carry|not known") for before in (
         "imul rcx, rdx", "cmp rcx, rdx; inc rcx", "shl rcx, 3", "cmp rcx, rcx; rol rcx, 3", "ror rcx, 3", "add rcx, rdx",
         "mov rax, rdx",
@@ -233,7 +300,6 @@ WRONG = [
     ("x86-64", f"vpsllvd xmm0, xmm1, xmm2; {VERSION}", "a shift that"),
     ("aarch64", f"cls x1, x0; {ARM}", "is not known"),
     ("aarch64", f"movi v0.16b, #128; movi v1.16b, #255; sshl v0.4s, v0.4s, v1.4s; {ARM}", "a signed shift to the right"),
-    ("aarch64", f"mov x19, x0; {ARM}", "x19 is not restored"), ("aarch64", f"fmov d8, d0; {ARM}", "v8 is not restored"),
     ("aarch64", f"sub sp, sp, #16; {ARM}", "the stack pointer is not restored"),
     ("aarch64", f"str x0, [sp, #-16]; {ARM}", "outside"),
     ("aarch64", f"sub sp, sp, #8; str x0, [sp]; add sp, sp, #8; {ARM}", "not aligned"),
@@ -245,9 +311,8 @@ WRONG = [
 
 @pytest.mark.parametrize("processor, code, reason", [*((*row, None) for row in RIGHT), *WRONG], ids=str)
 def test_code_that_breaks_a_rule_is_refused(processor, code, reason, machine_of):
-    machine = machine_of(processor, code)
     with refused(reason):
-        calls.check_call(machine, "hash_version", calls.Call, [], [], number(calls.VERSION, 32))
+        calls.check_call(machine_of(processor, code), "hash_version", calls.Call, [], [], number(calls.VERSION, 32))
 
 
 @pytest.mark.parametrize("function, arguments, reason", [
@@ -305,3 +370,11 @@ def test_accesses_that_perhaps_overlap_are_refused():
     for offset in number(8), add(mul(far, number(2)), number(9)):
         with refused("overlaps"):
             written.load(offset, 2)
+        with refused("overlaps"):
+            written.store(offset, unknown("two", 16))
+
+
+def test_what_is_finished_is_not_accessed_again():
+    written = array()
+    written.first = number(8)
+    assert written.offset_of(add(calls.out, number(8)), 8) and written.offset_of(add(calls.out, number(7)), 8) is None

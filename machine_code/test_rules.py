@@ -12,7 +12,7 @@ import library
 import pytest
 import x86
 from machine import IMAGE, IN_IMAGE
-from values import Stop, add, cut, join, number, number_in
+from values import Stop, add, cut, number, number_in
 
 SEED, TRIALS = 1, 5
 DRIVER = """#include <stdio.h>
@@ -83,8 +83,9 @@ def vector_forms(op, numbers, has_512):
         operands += [item for other in low for item in (f"{x},{other}", f"{other},{x}", f"{x},{y},{other}")]
         operands += [f"{start},{n}" for n in numbers for start in (
             x, f"{x},{y}", f"{x},{memory}", f"{x},{y},{z}", f"{x},{y},{memory}", f"xmm2,{y}", f"ymm2,{y}", f"{at(128)},{y}")]
-        operands += [f"{start},{n}" for n in numbers[:4] for start in (f"{x},{y},xmm2", f"{x},{y},ymm2", f"{x},{y},eax",
-                                                                   f"{x},{y},rax", f"eax,{y}", f"rax,{y}", f"{at(8)},{y}")]
+        starts = [f"{x},{y},{other}" for other in ("xmm2", "ymm2", "eax", "rax")]
+        starts += [f"{to},{y}" for to in ("eax", "rax", at(8))]
+        operands += [f"{start},{n}" for n in numbers[:4] for start in starts]
         if has_512:
             operands += [f"{x}{{k1}},{y}", f"{x}{{k1}}{{z}},{y}", f"{x}{{k2}},{y},{z}", f"k1,{y},{z}", f"k1,{y},{memory}",
                          f"k1,{x}", f"{x},k1", f"{x},{y},DWORD BCST [r15+384]", f"{x},{y},QWORD BCST [r15+384]"]
@@ -134,8 +135,9 @@ def aarch64_forms():
     for op, kind in itertools.product([*sorted(operations), "smov", "bfi", "bfxil", "bfc", "ccmp", "movk"], "xw"):
         one, two, three, four = (f"{kind}{n}" for n in (1, 2, 3, 4))
         operands = [f"{one},{two}", f"{one},{two},{three}", f"{one},{two},{three},{four}", f"{one},{two},sp", "x1,w2,w3",
-                    "x1,w2,w3,x4", "x1,w2", f"{one},{two},{three},lsl #3", f"{one},{two},{three},lsr #7", f"{one},{two},{three},asr #5",
-                    f"{one},{two},lsl #4", f"{one},#77,lsl #16", f"{one},#0xff00", "d0,d1", "d0,x1", "x1,d0", "s0,w1",
+                    "x1,w2,w3,x4", "x1,w2", f"{one},{two},{three},lsl #3", f"{one},{two},{three},lsr #7",
+                    f"{one},{two},{three},asr #5", f"{one},{two},lsl #4", f"{one},#77,lsl #16", f"{one},#0xff00",
+                    "d0,d1", "d0,x1", "x1,d0", "s0,w1",
                     "w1,s0", "v0.d[1],x1", "x1,v0.d[1]", "w1,v0.s[1]", "w1,v0.b[3]", "x1,v0.h[2]", "v0.b[1],w1",
                     "v0.s[1],v1.s[2]",
                     "s0,v1.s[2]", "d0,v1.d[1]"]
@@ -185,8 +187,8 @@ def aarch64_vectors(op):
         operands = [f"{one},{two}", f"{one},{two},{three}", f"{one},{two},v2.{shape[-1]}[1]", f"{one},w1", f"{one},x1",
                     f"{one},v1.{shape[-1]}[1]", f"{one},{{v1.16b}},{three}", f"{one},{{v0.16b,v1.16b}},{three}",
                     f"{one},#0x5a,lsl #8", f"{one},#0x5a,msl #8", f"{one},#0xff00ff00ff00ff00"]
-        operands += [f"{letter}0,{two}" for letter in letters] + [f"{start},#{n}" for n in (0, 1, 3, 7, 8, 15, 31)
-                                                                 for start in (one, f"{one},{two}", f"{one},{two},{three}")]
+        operands += [f"{letter}0,{two}" for letter in letters]
+        operands += [f"{item},#{n}" for n in (0, 1, 3, 7, 8, 15, 31) for item in (one, f"{one},{two}", f"{one},{two},{three}")]
         for other in half + double:
             operands += [f"{one},v1.{other}", f"{one},v1.{other},v2.{other}", f"{one},{two},v2.{other}", f"{one},v1.{other},#3",
                          f"{one},v1.{other},v2.{other[-1]}[1]"]
@@ -206,7 +208,8 @@ def aarch64_processor():
              "l": lambda f: f >> 31 ^ f >> 28}
     tools = ["aarch64-linux-gnu-as", "aarch64-linux-gnu-ld", "aarch64-linux-gnu-gcc"]
     registers, vectors = [f"x{n}" for n in range(1, 7)], ["v0", "v1", "v2"]
-    return Processor(aarch64.Aarch64, tools, registers, [], vectors, 16, "x9", MEMORY + 16, flags, "", "mov x14,x30; bl load", "b save\n" + ARM_LOAD, aarch64_forms())
+    return Processor(aarch64.Aarch64, tools, registers, [], vectors, 16, "x9", MEMORY + 16, flags, "",
+                     "mov x14,x30; bl load", "b save\n" + ARM_LOAD, aarch64_forms())
 
 
 # ---- what both do

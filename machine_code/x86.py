@@ -633,7 +633,7 @@ class X86(Machine):
     @staticmethod
     def processors():
         """Each that constructors may meet, and whether code for AVX2 may run on it."""
-        for leaves, osxsave, saved, avx2 in itertools.product((0, 1, 6, 7, 20), (0, 1), range(4), (0, 1)):
+        for leaves, osxsave, saved, avx2 in itertools.product((0, 6, 7), (0, 1), range(4), (0, 1)):
             found = {"leaves": leaves, "osxsave": osxsave, "saved": saved, "avx2": avx2}
             yield found, leaves >= 7 and osxsave and saved == 3 and avx2
 
