@@ -184,7 +184,7 @@ class Library:
 
     def read_macho(self):
         self.set_processor(self.unpack("I", 4)[0])
-        at = 32
+        at, imports = 32, []
         for _ in range(self.unpack("I", 16)[0]):
             command, size = self.unpack("II", at)
             if command == 0x19:  # a segment
@@ -194,12 +194,22 @@ class Library:
                     self.add(flags >> 31, self.unpack("I", at + 60)[0] & 2 > 0, address, offset, stored, length)
                     if flags & 0xFF == 9:
                         self.constructors += self.unpack(f"{length // 8}Q", offset)
+                    if flags & 0xFF in (6, 7):  # pointers to symbols, of which it has the first one's index
+                        (first,) = self.unpack("I", section + 68)
+                        imports += [(address + 8 * i, first + i) for i in range(length // 8)]
+            if command == 0xB:
+                (indirect,) = self.unpack("I", at + 56)
             if command == 2:  # symbols
                 symbols, count, names = self.unpack("3I", at + 8)
                 for name, kind, _, _, value in struct.iter_unpack("<IBBHQ", self.data[symbols : symbols + 16 * count]):
                     if kind & 0xF == 0xF:
                         self.export(self.text(names + name + 1), value)
             at += size
+        for place, i in imports:
+            (symbol,) = self.unpack("I", indirect + 4 * i)
+            if symbol < count:
+                name, kind, _, _, value = self.unpack("IBBHQ", symbols + 16 * symbol)
+                self.pointers[place] = (None, value) if kind & 0xE else (self.text(names + name + 1), 0)
 
     # ---- instructions and memory
 

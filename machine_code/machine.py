@@ -456,4 +456,5 @@ def with_size(function):
 
 
 EXTERNAL = {"memcpy": copy, "memmove": move, "memset": fill}
+EXTERNAL["bzero"] = lambda machine, to, size, *_: fill(machine, to, number(0), size)
 EXTERNAL |= {f"__{name}_chk": with_size(function) for name, function in EXTERNAL.items()}

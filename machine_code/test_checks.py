@@ -250,6 +250,7 @@ WRONG = [
     ("x86-64", f"{VERSION}; other: ret; .globl other; .symver other, sketch_hash_version@@V2; "
                ".symver sketch_hash_version, sketch_hash_version@V1", "two versions"),
     ("x86-64", f"{FLAG} mov byte ptr [rip+flag], 1; ret", "does not allow"),
+    ("x86-64", f"{FLAG} ret".replace("cmp", "vpaddd ymm0, ymm0, ymm0; cmp"), "perhaps has none"),
     ("x86-64", f"{FLAG} call puts@PLT", "a call of puts"),
     ("x86-64", f"{FLAG} mov byte ptr [rip+flag], 2; ret", "does not allow"), ("x86-64", f"{FLAG} jmp set", "no end"),
     ("x86-64", f"{FLAG} xor ecx, ecx; xgetbv; ret", "must not be"), ("x86-64", f"cpuid; {VERSION}", "must not be|depends"),

@@ -428,6 +428,8 @@ READ_ONLY = {"cmp", "test", "ptest", "bt", *(f"{name}{letter}" for name in ("kor
 SHIFTS = "shl", "shr", "sar", "rol", "ror"
 UNALIGNED = re.compile("movup.|movdqu.*|lddqu")
 OF_LOW_HALF = {"movss": "movd", "movsd": "movq", "movlps": "movq", "movlpd": "movq", "movhps": "pextrq", "movhpd": "pextrq"}
+# Those of AVX2 that have 128 bits too, or another name than an integer's.
+AVX2 = re.compile("ps[lr][la]v|pbroadcast|pblendd|perm(2i|d|q|ps|pd)|(extract|insert|broadcast)i")
 STRINGS = {"BYTE": 1, "WORD": 2, "DWORD": 4, "QWORD": 8}
 
 
@@ -532,6 +534,8 @@ class X86(Machine):
         width = max(item[2] or 0 for item in operands)
         if not UNALIGNED.fullmatch(name) and (not is_avx or name[:4] in ("mova", "movd") and name[3] in "ad"):
             self.must_be_aligned_vectors(operands)
+        if is_avx and self.library.constructors and (name[0] == "p" and width > 128 and name != "ptest" or AVX2.match(name)):
+            self.must_have_avx2()
         used = operands[-READS[name] :]
         takes_ints = name in PLAIN and name not in SAME
         values = [item[1] if item[0] == "number" and takes_ints else self.read(item, width) for item in used]
@@ -545,6 +549,12 @@ class X86(Machine):
             if operands[0][3] and name not in MASKS:
                 result = self.masked(name, operands[0], result, width)
             self.write(operands[0], result, is_avx)
+
+    def must_have_avx2(self):
+        """If constructors set a flag, code for AVX2 runs only where the flag is 1."""
+        flags = [is_zero(unknown(("static", at), 1)) for at in self.library.flags]
+        if flags and number(0, 1) not in flags:
+            raise Stop("an instruction of AVX2 where the processor perhaps has none")
 
     def must_be_aligned_vectors(self, operands):
         for kind, what, size, _ in operands:
