@@ -2,19 +2,21 @@
 import functools
 import re
 
-from machine import CALLER, Machine, if_equal, logic, plain, shift_one, shifted
-from values import (Stop, add, bitwise, complement, cut, extend, join, known, lanes, mul, number, number_in, repeat,
-                    replace, rotate_right, shift_left, shift_right, sign_extend, sub, unknown, width_of)
+from machine import CALLER, IMAGE, Machine, external, if_equal, logic, place_of, plain, shift_one, shifted
+from values import (Stop, add, bitwise, complement, cut, extend, is_zero, join, kinds, known, lanes, mul, number, number_in,
+                    repeat, replace, rotate_right, shift_left, shift_right, sign_extend, signed, sub, unknown, width_of)
 
 CONDITIONS = {"eq": "e", "ne": "ne", "cc": "b", "cs": "ae", "hi": "a", "ls": "be", "mi": "s", "pl": "ns", "lt": "l", "ge": "ge",
               "le": "le", "gt": "g"}
 WIDTHS = {"b": 8, "h": 16, "s": 32, "d": 64, "q": 128, "w": 32, "x": 64}
+EXTENSIONS = {f"{kind}xt{letter}": (kind == "s", WIDTHS[letter]) for kind in "us" for letter in "bhwx"}
+HINTS = "nop", "bti", "hint", "prfm"  # of them none changes a register or memory
 
 
 @functools.cache
 def split(text):
-    """The operands. What is in brackets is one; so is a shift with the register before it."""
-    return re.split(r",\s*(?=\S)(?![^\[]*\])(?!(?:ls[lr]|ror|uxtw)\b)", text) if text else []
+    """The operands. What is in brackets or braces is one; so is a shift with the register before it."""
+    return re.split(r",\s*(?=\S)(?![^\[]*\])(?![^{]*})(?!(?:[lam]sl|[la]sr|ror|[us]xt[bhwx])\b)", text) if text else []
 
 
 def shift_lane(x, n):
@@ -32,8 +34,9 @@ def signed_shift_lane(x, n):
     return shift_lane(x, n)
 
 
-def signed_byte(x):
-    return sign_extend(cut(x, 0, 8), width_of(x))
+def arithmetic(x, n):
+    n = min(n, width_of(x) - 1)
+    return sign_extend(cut(x, n, width_of(x) - n), width_of(x))
 
 
 def by_numbers(function):
@@ -41,53 +44,165 @@ def by_numbers(function):
     return lambda x, *numbers: function(x, *(known(n, "a place") for n in numbers))
 
 
+def on_numbers(function, is_signed=False):
+    """All operands are known."""
+    def run(*values):
+        numbers = [known(sign_extend(x, 64) if is_signed else x, "a number") for x in values]
+        return number(function(*(map(signed, numbers) if is_signed else numbers)), width_of(values[0]))
+
+    return run
+
+
+def negative(x):
+    return sub(number(0, width_of(x)), x)
+
+
 def plus_one(x):
     return add(x, number(1, width_of(x)))
 
 
-def add_with_carry(m, x, y):
-    """The carry of a subtraction is the opposite of x86-64's."""
-    return add(add(x, y), extend(Machine.condition(m, "b" if m.flags[0] == "add" else "ae"), width_of(x)))
+def with_carry(sign):
+    """The carry of a subtraction is the opposite of x86-64's. Of numbers that are known it sets conditions too."""
+    def run(m, x, y):
+        carry = Machine.condition(m, "b" if m.flags[0] == "add" else "ae")
+        y = y if sign > 0 else complement(y)
+        result, numbers = add(add(x, y), extend(carry, width_of(x))), [number_in(item) for item in (x, y, carry)]
+        if None not in numbers:
+            m.compare("bits", is_zero(result), number(sum(numbers) >> width_of(x) == 0, 1), None)
+        else:
+            m.compare(None, x, y, None)
+        return result
+
+    return run
 
 
-def divided(x, y):
-    """A division by 0 gives 0."""
-    divisor = known(y, "a divisor")
-    return number(known(x, "a dividend") // divisor if divisor else 0, width_of(x))
+def without_flags(run):
+    def keeps(m, *values):
+        before, result = m.flags, run(m, *values)
+        m.flags = before
+        return result
+
+    return keeps
 
 
-# What an instruction computes from its operands but the first, which it writes. Those of LANES do it for each lane of vectors.
+def wide(is_signed, combine):
+    """Of two words of 32 bits, all 64 bits of what is combined."""
+    change = sign_extend if is_signed else extend
+    return lambda x, y, *more: combine(change(cut(x, 0, 32), 64), change(cut(y, 0, 32), 64), *more)
+
+
+def reversed_in(size, group=None):
+    """Pieces of `size` bits in the opposite order, within each group of bits."""
+    return lambda x: join(*(cut(x, at + low, size) for at in range(0, width_of(x), group or width_of(x))
+                            for low in range((group or width_of(x)) - size, -1, -size)))
+
+
 PLAIN = {
-    "add": add, "sub": sub, "mul": mul, "madd": lambda x, y, z: add(mul(x, y), z), "mvn": complement,
-    "neg": lambda x: sub(number(0, width_of(x)), x),
+    "add": add, "sub": sub, "mul": mul, "mvn": complement, "neg": negative,
+    "madd": lambda x, y, z: add(mul(x, y), z), "msub": lambda x, y, z: sub(z, mul(x, y)),
+    "mneg": lambda x, y: negative(mul(x, y)), "umull": wide(False, mul), "smull": wide(True, mul),
+    "umaddl": wide(False, lambda x, y, z: add(mul(x, y), z)), "smaddl": wide(True, lambda x, y, z: add(mul(x, y), z)),
+    "umulh": on_numbers(lambda x, y: x * y >> 64), "smulh": on_numbers(lambda x, y: x * y >> 64, True),
+    "udiv": on_numbers(lambda x, y: x // y if y else 0),
     "bic": lambda x, y: bitwise("and", x, complement(y)), "orn": lambda x, y: bitwise("or", x, complement(y)),
-    "ubfx": by_numbers(lambda x, at, width: extend(cut(x, at, width), width_of(x))), "sxtb": signed_byte,
+    "eon": lambda x, y: bitwise("xor", x, complement(y)),
+    "ubfx": by_numbers(lambda x, at, width: extend(cut(x, at, width), width_of(x))),
     "sbfx": by_numbers(lambda x, at, width: sign_extend(cut(x, at, width), width_of(x))),
     "ubfiz": by_numbers(lambda x, at, width: replace(number(0, width_of(x)), at, cut(x, 0, width))),
+    "sbfiz": by_numbers(lambda x, at, width: shift_left(sign_extend(cut(x, 0, width), width_of(x)), at)),
     "extr": lambda x, y, n: cut(join(y, x), known(n, "a place"), width_of(x)),
-    "lsl": shifted(shift_left), "lsr": shifted(shift_right), "ror": shifted(rotate_right),
+    "lsl": shifted(shift_left), "lsr": shifted(shift_right), "asr": shifted(arithmetic), "ror": shifted(rotate_right),
     "cinc": lambda x, holds: plus_one(x) if holds else x, "cinv": lambda x, holds: complement(x) if holds else x,
-    "csel": lambda x, y, holds: x if holds else y,
-    "csinc": lambda x, y, holds: x if holds else plus_one(y),
+    "cneg": lambda x, holds: negative(x) if holds else x, "csel": lambda x, y, holds: x if holds else y,
+    "csinc": lambda x, y, holds: x if holds else plus_one(y), "csneg": lambda x, y, holds: x if holds else negative(y),
     "csinv": lambda x, y, holds: x if holds else complement(y), "csetm": lambda holds: number(-holds),
-    "ushl": shift_lane, "sshl": signed_shift_lane, "ushr": by_numbers(lambda x, n: shift_right(x, min(n, width_of(x)))),
-    "umulh": lambda x, y: number(known(x, "a factor") * known(y, "a factor") >> 64),
-    "udiv": divided,
-    "cnt": lambda x: number(bin(known(x, "a byte")).count("1"), 8),
-    "cmeq": if_equal,
+    "cset": lambda bit: bit, "clz": lambda x: number(width_of(x) - known(x, "a number").bit_length(), width_of(x)),
+    "rbit": reversed_in(1), "rev": reversed_in(8), "rev16": reversed_in(8, 16), "rev32": reversed_in(8, 32),
+    "adrp": lambda x: add(IMAGE, x), "adr": lambda x: add(IMAGE, x),
     **{name: functools.partial(bitwise, op) for name, op in (("and", "and"), ("orr", "or"), ("eor", "xor"))},
-    **dict.fromkeys(("mov", "fmov", "adrp", "adr", "umov", "cset"), lambda x: x),
+    **dict.fromkeys(("mov", "fmov", "umov"), lambda x: x),
+    **{name: lambda x, width=width, is_signed=is_signed: (sign_extend if is_signed else extend)(cut(x, 0, width), 64)
+       for name, (is_signed, width) in EXTENSIONS.items() if width < 32 or name == "sxtw"},
 }
 OPERATIONS = {name: plain(function) for name, function in PLAIN.items()} | {
-    "adds": Machine.sum, "subs": Machine.subtract, "cmp": Machine.subtract, "ands": logic("and"), "tst": logic("and"),
-    "adcs": lambda m, x, y: m.compare(None, x, y, add_with_carry(m, x, y)), "adc": add_with_carry,
+    "adds": Machine.sum, "subs": Machine.subtract, "cmp": Machine.subtract, "cmn": Machine.sum, "ands": logic("and"),
+    "tst": logic("and"), "negs": lambda m, x: m.subtract(number(0, width_of(x)), x),
+    "bics": lambda m, x, y: logic("and")(m, x, complement(y)),
+    "adcs": with_carry(1), "sbcs": with_carry(-1), "adc": without_flags(with_carry(1)), "sbc": without_flags(with_carry(-1)),
 }
-LANES = "add", "sub", "mul", "ushl", "sshl", "cmeq", "cnt"
+COMPARISONS = "cmp", "cmn", "tst"
+
+
+# ---- vectors: what an instruction does with each lane of its operands but the first, or with them whole
+
+def selected(mask, x, y):
+    """The bits of x where a mask has ones, and those of y where it has none."""
+    return bitwise("or", bitwise("and", mask, x), bitwise("and", complement(mask), y))
+
+
+def shifted_in(function, mask):
+    """A shift whose empty bits are those of the first operand."""
+    def run(before, x, n):
+        n = known(n, "a shift")
+        kept = number(mask(n, width_of(x)), width_of(x))
+        return bitwise("or", bitwise("and", before, kept), function(x, min(n, width_of(x))))
+
+    return run
+
+
+def paired(size, function, *values):
+    """Of neighbours, first those of one operand and then those of the other."""
+    return lanes(2 * size, lambda pair: function(cut(pair, 0, size), cut(pair, size, size)), join(*values))
+
+
+def picked(first, step, size, x, y):
+    """Lanes of x and y in turn."""
+    places = {"zip": lambda n: [(i // 2 + first * n // 2, i % 2) for i in range(n)],
+              "uzp": lambda n: [((2 * i + first) % n, 2 * i // n) for i in range(n)],
+              "trn": lambda n: [(i // 2 * 2 + first, i % 2) for i in range(n)]}[step](width_of(x) // size)
+    return join(*(cut((x, y)[which], size * i, size) for i, which in places))
+
+
+right = by_numbers(lambda x, n: shift_right(x, min(n, width_of(x))))
+LANES = {
+    "add": add, "sub": sub, "mul": mul, "neg": negative, "ushl": shift_lane, "sshl": signed_shift_lane, "cmeq": if_equal,
+    "ushr": right, "sshr": by_numbers(arithmetic), "shl": by_numbers(lambda x, n: shift_left(x, n)),
+    "cnt": on_numbers(lambda x: bin(x).count("1")), "cmtst": lambda x, y: complement(if_equal(
+        bitwise("and", x, y), number(0, width_of(x)))),
+    "umax": on_numbers(max), "umin": on_numbers(min), "smax": on_numbers(max, True), "smin": on_numbers(min, True),
+    "cmhi": on_numbers(lambda x, y: -(x > y)), "cmhs": on_numbers(lambda x, y: -(x >= y)),
+    "cmgt": on_numbers(lambda x, y: -(x > y), True), "cmge": on_numbers(lambda x, y: -(x >= y), True),
+}
+# Those that read the first operand too.
+CHANGES = {
+    "mla": lambda before, x, y: add(before, mul(x, y)), "mls": lambda before, x, y: sub(before, mul(x, y)),
+    "usra": lambda before, x, n: add(before, right(x, n)), "bsl": selected,
+    "bit": lambda before, x, mask: selected(mask, x, before), "bif": lambda before, x, mask: selected(mask, before, x),
+    "sli": shifted_in(shift_left, lambda n, width: (1 << n) - 1),
+    "sri": shifted_in(shift_right, lambda n, width: (1 << width) - (1 << width - n)),
+}
+# Those whose result has lanes of twice the size: of the lower half of the operands, or with a "2" of the higher one.
+LONG = {"mull": mul, "addl": add, "subl": sub, "shll": by_numbers(shift_left), "xtl": lambda x: x,
+        "mlal": lambda before, x, y: add(before, mul(x, y)), "mlsl": lambda before, x, y: sub(before, mul(x, y)),
+        "addw": add, "subw": sub}
+NARROW = {"xtn": lambda x: x, "shrn": right}
+ACROSS = {"addv": add, "uaddlv": add, "umaxv": on_numbers(max), "uminv": on_numbers(min), "addp": add}
+WHOLE = "mov", "and", "orr", "eor", "bic", "mvn", "orn"
+# Those that are given the size of a lane.
+SHAPED = {
+    "dup": lambda size, x: x, "movi": lambda size, x: x, "mvni": lambda size, x: complement(x),
+    "ext": lambda size, x, y, n: cut(join(x, y), 8 * known(cut(n, 0, 8), "a place"), width_of(x)),
+    "addp": lambda size, x, y: paired(size, add, x, y),
+    "uaddlp": lambda size, x: paired(size // 2, lambda x, y: add(extend(x, size), extend(y, size)), x),
+    **{f"{step}{n}": functools.partial(picked, n - 1, step) for step in ("zip", "uzp", "trn") for n in (1, 2)},
+    **{f"rev{group}": lambda size, x, group=group: reversed_in(size, group)(x) for group in (16, 32, 64)},
+}
 
 
 class Aarch64(Machine):
-    operations, comparisons, name_of = OPERATIONS, ("cmp", "tst"), staticmethod(str)
-    pointer, popped, entry = "sp", 0, 0
+    operations, comparisons, name_of = OPERATIONS, COMPARISONS, staticmethod(str)
+    pointer, popped, entry, result_register = "sp", 0, 0, "x0"
+    argument_registers = [f"x{n}" for n in range(8)]
 
     def set_up(self):
         self.red_zone = 128 if self.library.format == "macho" else 0
@@ -95,14 +210,21 @@ class Aarch64(Machine):
         self.kept = dict.fromkeys([f"x{n}" for n in range(own, 30)], 64) | dict.fromkeys([f"v{n}" for n in range(8, 16)], 64)
         self.registers = {f"x{n}": unknown(("before", n), 64) for n in range(31)}
         self.registers |= {f"v{n}": unknown(("before", "v", n), 128) for n in range(32)}
-        self.registers |= {"x30": CALLER, "sp": self.stack}
+        self.registers["sp"] = self.stack
+        self.map(external("__stack_chk_guard"), [unknown("guard", 64)])
 
     def pass_arguments(self, arguments):
-        self.registers |= zip((f"x{n}" for n in range(8)), arguments)
+        self.registers |= zip(self.argument_registers, arguments)
+        self.registers["x30"] = CALLER
         self.map(self.stack, arguments[8:], writable=True)
 
-    def result(self):
-        return self.registers["x0"]
+    def return_address(self):
+        return self.registers["x30"]
+
+    @staticmethod
+    def processors():
+        """The text has no constructor for this processor."""
+        yield None, False
 
     # ---- operands
 
@@ -112,36 +234,42 @@ class Aarch64(Machine):
         return ("x" if kind in "wx" else "v") + index, int(lane or 1) * WIDTHS[letter or kind]
 
     def read(self, text, width=64):
-        """A number, or a register that may be shifted, or extended with zeros before."""
+        """A number, or a register that may be shifted, or extended before."""
         name, _, change = text.partition(", ")
         if name in CONDITIONS:
             return CONDITIONS[name]
         if name[0] == "#" or name[0].isdigit():
             value = number(int(name.strip("#"), 0), width)
-        elif name in ("xzr", "wzr", "sp"):
+        elif name in ("xzr", "wzr", "sp", "wsp"):
             value = self.registers["sp"] if name == "sp" else number(0, WIDTHS[name[0]])
         else:
             register, size = self.register(name)
             place = re.search(r"\[(\d+)\]", name)
             value = cut(self.registers[register], size * int(place[1]) if place else 0, size)
         how, _, n = change.partition(" #")
-        if how == "uxtw":
-            how, value = "lsl", extend(value, 64)
+        if how == "msl":
+            return bitwise("or", shift_left(value, int(n)), number((1 << int(n)) - 1, width))
+        if how in EXTENSIONS:
+            is_signed, own = EXTENSIONS[how]
+            how, value = "lsl", (sign_extend if is_signed else extend)(cut(value, 0, min(own, width_of(value))), width)
         return OPERATIONS[how](self, value, number(int(n or "0", 0))) if how else value
 
     def write(self, name, value):
-        """A write of a part clears the rest."""
+        """A write of a part clears the rest, but one of a lane keeps it."""
         if name == "sp":
             self.registers["sp"] = value
         elif name not in ("xzr", "wzr"):
             register, width = self.register(name)
             value = cut(value, 0, min(width, width_of(value)))
-            self.registers[register] = extend(value, width_of(self.registers[register]))
+            place = re.search(r"\[(\d+)\]", name)
+            before = self.registers[register]
+            whole = replace(before, width * int(place[1]), value) if place else extend(value, width_of(before))
+            self.registers[register] = whole
 
     def address(self, operands):
         """The address, and the register that changes, with what it is after the access."""
         if operands[0][0] != "[":
-            return number(int(operands[0], 16)), None
+            return add(IMAGE, number(int(operands[0], 16))), None
         base, _, offset = operands[0].strip("[]!").partition(", ")
         start = self.read(base)
         if base == "sp":
@@ -149,12 +277,15 @@ class Aarch64(Machine):
         at = add(start, self.read(offset)) if offset else start
         if operands[0].endswith("!"):
             self.write(base, at)  # now, since the stack is used from there on
+            if base == "sp":
+                self.move_stack()
         return at, (base, add(start, self.read(operands[1]))) if len(operands) > 1 else None
 
     def condition(self, name):
         """Those of a carry have x86-64's names only after a subtraction."""
         if self.flags and self.flags[0] == "add" and name in ("b", "ae"):
-            return super().condition({"b": "ae", "ae": "b"}[name])
+            carry = super().condition("b")
+            return carry if name == "ae" else complement(carry)
         if name in ("b", "be", "a", "ae") and (not self.flags or self.flags[0] not in ("sub", "bits")):
             raise Stop("a carry that is not understood")
         return super().condition(name)
@@ -163,48 +294,64 @@ class Aarch64(Machine):
 
     def step(self, op, text):
         operands = split(text)
-        if op == "nop":
+        if op in HINTS:
             return
-        if op in ("b", "bl", "ret", "cbz", "cbnz", "tbz", "tbnz") or op[:2] == "b.":
+        if op in ("b", "bl", "br", "blr", "ret", "cbz", "cbnz", "tbz", "tbnz") or op[:2] == "b.":
             self.jump(op, operands)
-        elif op in ("bfi", "bfxil"):
+        elif op in ("paciasp", "autiasp"):
+            self.sign(op)
+        elif op in ("bfi", "bfxil", "bfc"):
             self.insert_field(op, *operands)
         elif op == "ccmp":
             self.compare_if(*operands)
+        elif op[:3] in ("ld1", "st1"):
+            self.access_vectors(op, operands)
         elif op[:2] in ("ld", "st"):
             self.access(op, operands)
         elif op == "movk":
             _, _, place = operands[1].partition(", lsl #")
             part = self.read(operands[1].partition(",")[0], 16)
             self.write(operands[0], replace(self.read(operands[0]), int(place or 0), part))
-        elif op == "mov" and "[" in operands[0] and operands[0][0] == "v":
-            register, size = self.register(operands[0])
-            at = size * int(re.search(r"\[(\d+)\]", operands[0])[1])
-            self.registers[register] = replace(self.registers[register], at, cut(self.read(operands[1]), 0, size))
-        elif operands[0][0] == "v":
+        elif op in ACROSS and operands[0][0] != "v":
+            self.across(op, *operands)
+        elif operands[0][0] == "v" and "[" not in operands[0]:
             self.write(operands[0], self.vector(op, operands))
-        elif op == "addv" and operands[0][0] == "b":
-            value = self.read(operands[1])
-            self.write(operands[0], functools.reduce(add, (cut(value, at, 8) for at in range(0, width_of(value), 8))))
         else:
-            width = width_of(self.read(operands[0]))
-            values = [self.read(item, width) for item in operands[op not in ("cmp", "tst") :]]
-            if values[-1] in CONDITIONS.values():
-                values[-1] = self.condition(values[-1]) if op == "cset" else self.holds(values[-1])
-            if op not in OPERATIONS:
-                raise Stop("the instruction is not known")
-            result = OPERATIONS[op](self, *values)
-            if op not in ("cmp", "tst"):
-                self.write(operands[0], result)
+            self.compute(op, operands)
+
+    def compute(self, op, operands):
+        width = width_of(self.read(operands[0]))
+        own = 32 if op in ("umull", "smull") else width
+        values = [self.read(item, own) for item in operands[op not in COMPARISONS :]]
+        if values[-1] in CONDITIONS.values():
+            values[-1] = self.condition(values[-1]) if op == "cset" else self.holds(values[-1])
+        if op == "smov":
+            op, values = "mov", [sign_extend(values[0], width)]
+        if op not in OPERATIONS:
+            raise Stop("the instruction is not known")
+        result = OPERATIONS[op](self, *values)
+        if op not in COMPARISONS:
+            self.write(operands[0], result)
+
+    def sign(self, op):
+        """`paciasp` signs where a call returns to, with the stack pointer; `autiasp` takes the signature off if it is right."""
+        value, stack = self.registers["x30"], place_of(self.registers["sp"])
+        if op == "paciasp":
+            self.registers["x30"] = unknown(("signed", value, stack), 64)
+            return
+        kind, name, *_ = kinds[value[0][0]] if len(value) == 1 else (None, None)
+        if kind != "unknown" or name[0] != "signed" or name[2] != stack:
+            raise Stop("a signature that is not right")
+        self.registers["x30"] = name[1]
 
     def jump(self, op, operands):
         taken, before = True, self.flags
-        if op == "ret":
-            self.next = known(self.read(*operands or ["x30"]), "the end of a call")
-            return
-        if op == "bl":
-            self.registers["x30"] = number(self.next)
-        elif op[:2] == "b.":
+        target = self.read(*operands or ["x30"]) if op in ("br", "blr", "ret") else None
+        if op in ("bl", "blr"):
+            self.registers["x30"] = add(IMAGE, number(self.next))
+        if target is not None:
+            return self.go_to(target)
+        if op[:2] == "b.":
             taken = self.holds(CONDITIONS[op[2:]])
         elif op[:2] in ("cb", "tb"):
             value = self.read(operands[0])
@@ -215,9 +362,11 @@ class Aarch64(Machine):
         if taken:
             self.next = int(operands[-1], 16)
 
-    def insert_field(self, op, to, source, at, width):
-        x, y, at, width = self.read(to), self.read(source), int(at.strip("#"), 0), int(width.strip("#"), 0)
-        self.write(to, replace(x, at, cut(y, 0, width)) if op == "bfi" else replace(x, 0, cut(y, at, width)))
+    def insert_field(self, op, to, *operands):
+        *source, at, width = operands
+        at, width = (int(item.strip("#"), 0) for item in (at, width))
+        x, y = self.read(to), self.read(*source or ["xzr"])
+        self.write(to, replace(x, 0, cut(y, at, width)) if op == "bfxil" else replace(x, at, cut(y, 0, width)))
 
     def compare_if(self, x, y, flags, name):
         """Compares if a condition holds; else the flags N, Z, C, V are these. Of them Z and C are understood."""
@@ -229,34 +378,86 @@ class Aarch64(Machine):
             self.flags = "bits", number(bits >> 2 & 1, 1), number(1 - (bits >> 1 & 1), 1), None
 
     def access(self, op, operands):
-        is_signed = op in ("ldrsb", "ldursb")
-        op = op.replace("sb", "b") if is_signed else op
-        count = {"ldr": 1, "ldur": 1, "ldp": 2, "str": 1, "stur": 1, "stp": 2}[op.rstrip("bh")]
-        names = operands[:count]
-        size = WIDTHS[op[-1]] if op[-1] in "bh" else WIDTHS[names[0][0]]
-        values = [cut(self.read(item), 0, size) for item in names] if op[0] == "s" else []
-        at, later = self.address(operands[count:])
+        kind, is_pair, is_signed, letter = re.fullmatch(r"(ld|st)u?(p|r|ur)(s?)([bhw]?)", op).groups()
+        names = operands[: 2 if is_pair == "p" else 1]
+        size = WIDTHS[letter] if letter else WIDTHS[names[0][0]]
+        values = [cut(self.read(item), 0, size) for item in names] if kind == "st" else []
+        at, later = self.address(operands[len(names) :])
         if values:
             self.store(at, join(*values))
         else:
+            loaded = self.load(at, size // 8 * len(names))
             for i, name in enumerate(names):
-                value = self.load(add(at, number(size // 8 * i)), size // 8)
-                self.write(name, signed_byte(extend(value, WIDTHS[name[0]])) if is_signed else value)
+                value = cut(loaded, size * i, size)
+                self.write(name, sign_extend(value, WIDTHS[name[0]]) if is_signed else value)
         if later:
             self.write(*later)
 
+    def access_vectors(self, op, operands):
+        """Whole vectors, or one lane; `ld1r` repeats what it loads."""
+        inside, lane = re.fullmatch(r"{(.*)}(\[\d+\])?", operands[0]).groups()
+        first, last = re.match(r"v(\d+)", inside)[1], re.findall(r"v(\d+)", inside)[-1]
+        shape = re.search(r"\.(\w+)", inside)[0]
+        names = [f"v{n % 32}{shape}{lane or ''}" for n in range(int(first), int(first) + (int(last) - int(first)) % 32 + 1)]
+        size = WIDTHS[shape[-1]] if lane or op == "ld1r" else self.register(names[0])[1]
+        at, later = self.address(operands[1:])
+        if op == "st1":
+            self.store(at, join(*(cut(self.read(name), 0, size) for name in names)))
+        else:
+            loaded = self.load(at, size // 8 * len(names))
+            for i, name in enumerate(names):
+                value = cut(loaded, size * i, size)
+                self.write(name, repeat(value, self.register(name)[1] // size) if op == "ld1r" else value)
+        if later:
+            self.write(*later)
+
+    def across(self, op, to, source):
+        """One number of all lanes."""
+        _, width = self.register(to)
+        size = WIDTHS[source[-1]]
+        value = self.read(source)
+        self.write(to, functools.reduce(ACROSS[op], (
+            extend(cut(value, at, size), width) for at in range(0, width_of(value), size))))
+
     def vector(self, op, operands):
         count, size = re.fullmatch(r"v\d+\.(\d+)(\w)", operands[0]).groups()
-        count, size = int(count), WIDTHS[size]
-        values = [self.read(item, size if item[0] == "#" else 64) for item in operands[1:]]
-        if op == "mul" and "[" in operands[2]:  # by one lane
-            values[1] = repeat(values[1], count)
-        if op in ("dup", "movi"):
-            return repeat(cut(values[0], 0, size), count)
-        if op == "ext":
-            return cut(join(*values[:2]), 8 * known(values[2], "a place"), count * size)
-        if op == "ushr":
-            return lanes(size, lambda lane: OPERATIONS[op](self, lane, values[1]), values[0])
-        if op in LANES:
-            return lanes(size, functools.partial(OPERATIONS[op], self), *values)
-        return {item: OPERATIONS[item] for item in ("mov", "and", "orr", "eor", "bic", "mvn", "orn")}[op](self, *values)
+        count, size, before = int(count), WIDTHS[size], self.read(operands[0])
+        sign, name, high = re.fullmatch(r"([us]?)(\w+?)(2?)", op).groups()
+        values = [self.read(item, size if item[0] == "#" else 64) for item in operands[1:] if item[0] != "{"]
+        if sign and name in LONG:
+            return self.long(sign, name, high, size, before, operands[1:], values)
+        if sign + name in NARROW:
+            values = [cut(NARROW[name](cut(values[0], at, 2 * size), *values[1:]), 0, size) for at in range(0, 128, 2 * size)]
+            return join(cut(before, 0, 64) if high else (), *values)
+        values = [repeat(cut(value, 0, size), count) if item[0] in "#wx" or item[-1] == "]" else value
+                  for item, value in zip(operands[-len(values) :], values)]
+        if op in SHAPED:
+            return SHAPED[op](size, *values)
+        if op == "tbl":
+            return self.looked_up(operands[1], *values)
+        if op in ("orr", "bic") and len(values) == 1:
+            values = [before, *values]
+        if op in CHANGES or op in LANES:
+            return lanes(size, *([CHANGES[op], before] if op in CHANGES else [LANES[op]]), *values)
+        if op not in WHOLE:
+            raise Stop("the instruction is not known")
+        return OPERATIONS[op](self, *values)
+
+    def long(self, sign, name, high, size, before, operands, values):
+        change = sign_extend if sign == "s" else extend
+
+        def widened(item, value):
+            if item[0] == "#" or "[" in item:
+                return repeat(change(value, size), 128 // size)
+            return lanes(size // 2, lambda lane: change(lane, size), cut(value, 64 if high else 0, 64))
+
+        wide = [value if name in ("addw", "subw") and i == 0 else widened(item, value)
+                for i, (item, value) in enumerate(zip(operands, values))]
+        return lanes(size, LONG[name], *[before] * (name in ("mlal", "mlsl")), *wide)
+
+    def looked_up(self, table, order):
+        """Bytes of some registers; one that is not in them is 0."""
+        first, last = (int(n) for n in (re.findall(r"v(\d+)", table) * 2)[:: max(1, len(re.findall("v", table)) * 2 - 1)])
+        data = join(*(self.registers[f"v{n % 32}"] for n in range(first, first + (last - first) % 32 + 1)))
+        return lanes(8, lambda n: cut(data, 8 * known(n, "a place"), 8) if known(n, "a place") < width_of(data) // 8
+                     else number(0, 8), order)

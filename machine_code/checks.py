@@ -7,6 +7,7 @@ import hashes
 import headers
 import keys
 import library
+import loading
 import rates
 from aarch64 import Aarch64
 from loops import on_each_path
@@ -16,11 +17,20 @@ from x86 import X86
 MACHINES = {"x86-64": X86, "aarch64": Aarch64}
 
 
+def machine_of(built):
+    """What makes a machine for each call of a library, once its constructors have run."""
+    def machine():
+        kind = MACHINES[built.processor]
+        if built.flags is None:
+            built.flags = loading.flags_of(kind, built)
+        return kind(built)
+
+    return machine
+
+
 def checks_of(built):
     """By function what runs each of its checks, which raises Stop if something is wrong."""
-    def machine():
-        return MACHINES[built.processor](built)
-
+    machine = machine_of(built)
     found = collections.defaultdict(list)
     for module in hashes, columns, keys, filters, rates, headers:
         for function, run in module.checks(machine):

@@ -7,7 +7,8 @@ from values import (Stop, Undecided, add, are_equal, bitwise, complement, cut, e
                     is_not_negative, is_zero, join, known, linear, number, number_in, power_of_two, repeat, shift_left,
                     signed, sub, total, unknown, unknowns_in, width_of)
 
-CALLER = number(0xCA11E4)  # where a call returns to
+IMAGE = extend(join(number(0, 12), unknown("image", 50, 1)))  # where the library is
+CALLER = extend(unknown("caller", 62, 1))  # where a call returns to
 STACK = 4096  # how much of it a call may use
 LIMIT = 1_000_000  # how many instructions a run may execute
 OPPOSITE = {"ne": "e", "ae": "b", "a": "be", "ns": "s", "ge": "l"}
@@ -60,6 +61,15 @@ def place_of(address):
     """An address as what it is relative to, and an offset."""
     n, factors = linear(address)
     return tuple(sorted(factors.items())), signed(n)
+
+
+IN_IMAGE = place_of(IMAGE)[0]
+
+
+@functools.cache
+def external(name):
+    """The address of a function or of data of another library; of "", which is none, 0."""
+    return extend(unknown(("external", name), 62, 1)) if name else number(0)
 
 
 class Setting(Undecided):
@@ -143,8 +153,9 @@ class Machine:
         rest = facts.get("alignment")  # of the stack pointer modulo 64, if a path has chosen it
         stack = unknown("stack", 62, 1 << 20) if rest is None else join(number(rest, 6), unknown("stack", 56, 1 << 14))
         self.stack = extend(stack)
-        self.top = place_of(self.stack)[1]
+        self.base, self.top = place_of(self.stack)
         self.set_up()
+        self.end = self.top - self.red_zone  # the lowest byte that the call may use now
 
     def map(self, address, values, writable=False):
         """Memory with these values, each of some bytes."""
@@ -161,7 +172,7 @@ class Machine:
         return array
 
     def is_in_stack(self, base):
-        return base == place_of(self.stack)[0]
+        return base == self.base
 
     def in_array(self, address, size):
         for array in self.arrays:
@@ -172,34 +183,48 @@ class Machine:
 
     def byte(self, base, at):
         """A value and the bit of it from which on it has this byte."""
-        if self.is_in_stack(base) and at < self.end_of_stack():
-            raise Stop("a read below the stack")
         if (base, at) in self.bytes:
             return self.bytes[base, at]
-        if not base and any(at in addresses for addresses in self.library.statics):
-            return extend(unknown(("static", at), 1), 8), 0  # a flag of the library, which no call writes
-        offset = None if base else self.library.offset_of(at)
-        if offset is None:
+        if base == self.base and self.end <= at < self.top:
+            return self.anything(at), 0  # nothing has written it
+        if base != IN_IMAGE:
+            is_below = base == self.base and at < self.end
+            raise Stop("a read below the stack" if is_below else "a read outside of what the call is given")
+        return self.byte_of_image(at)
+
+    def anything(self, name, width=8):
+        """A value that no other value is known to equal."""
+        return unknown(("anything", name, len(self.executed)), width)
+
+    def byte_of_image(self, at):
+        if at in self.library.flags:
+            return extend(unknown(("static", at), 1), 8), 0
+        for place in range(at - 7, at + 1):
+            if place in self.library.pointers:
+                symbol, n = self.library.pointers[place]
+                return add(IMAGE if symbol is None else external(symbol), number(n)), 8 * (at - place)
+        found = self.library.byte(at)
+        if found is None:
             raise Stop("a read outside of what the call is given")
-        return number(self.library.data[offset], 8), 0
+        return number(found[0], 8), 0
 
     def bit_of_table(self, address, size):
         """A word of a table of the library that has 2^i at index i, at an unknown index of five bits; else None."""
-        start, factors = linear(address)
+        start, factors = linear(sub(address, IMAGE))
         pieces = [piece for piece, factor in factors.items() if piece[2] == 5 and factor == size == 4]
         if len(factors) != 1 or not pieces:
             return None
-        places = [self.library.offset_of(start + 4 * i) for i in range(32)]
-        if None in places or any(self.library.unpack("I", place) != (1 << i,) for i, place in enumerate(places)):
+        table = [self.byte_of_image(start + i) for i in range(128)]
+        if table != [(number(1 << i >> bit & 255, 8), 0) for i in range(32) for bit in (0, 8, 16, 24)]:
             return None
         return power_of_two((pieces[0],), 32)
 
     def load(self, address, size):
-        bit = self.bit_of_table(address, size)
+        (base, start), parts = place_of(address), []
+        bit = self.bit_of_table(address, size) if len(base) == 2 and size == 4 else None
         if bit is not None:
             return bit
-        (base, start), parts = place_of(address), []
-        if not base or self.is_in_stack(base) or any((base, start + i) in self.bytes for i in range(size)):
+        if base in (IN_IMAGE, self.base) or any((base, start + i) in self.bytes for i in range(size)):
             found = [self.byte(base, start + i) for i in range(size)]
         else:
             array, offset = self.in_array(address, size)
@@ -214,9 +239,8 @@ class Machine:
     def store(self, address, value):
         (base, start), size = place_of(address), width_of(value) // 8
         places = [(base, start + i) for i in range(size)]
-        if self.is_in_stack(base):
-            end = self.end_of_stack()
-            is_allowed = all(end <= at < self.top or (base, at) in self.writable for _, at in places)
+        if base == self.base:
+            is_allowed = all(self.end <= at < self.top or (base, at) in self.writable for _, at in places)
         else:
             is_allowed = all(place in self.writable for place in places)
         if is_allowed:
@@ -227,11 +251,15 @@ class Machine:
             raise Stop("a write to what the call may only read")
         array.store(offset, value)
 
-    def end_of_stack(self):
+    def move_stack(self):
+        """After the stack pointer has changed: what is below the stack may change at any time."""
         base, at = place_of(self.registers[self.pointer])
-        if not self.is_in_stack(base) or not -STACK <= at - self.top <= 0:
+        if base != self.base or not -STACK <= at - self.top <= 0:
             raise Stop("the stack pointer leaves the stack")
-        return at - self.red_zone
+        end, self.end = self.end, at - self.red_zone
+        if self.end > end:
+            for below in range(end, self.end):
+                self.bytes.pop((base, below), None)
 
     def must_know_alignment(self):
         """The stack pointer is a multiple of 16 before a call, and modulo 64 any of these."""
@@ -240,10 +268,11 @@ class Machine:
 
     def must_be_aligned(self, address, size=16):
         base, at = place_of(address)
-        if base and self.is_in_stack(base) and size > 16:
+        if base == self.base and size > 16:
             self.must_know_alignment()
-        rest = at if not base or "alignment" in facts else at - self.top + self.entry
-        if base and not self.is_in_stack(base) or rest % size:
+        if base == self.base and "alignment" not in facts:
+            at += self.entry - self.top
+        if base not in (self.base, IN_IMAGE) or at % size:
             raise Stop("an access that is perhaps not aligned")
 
     # ---- conditions, by the names that x86-64 has for them
@@ -268,7 +297,10 @@ class Machine:
         if name == "l":
             raise Stop("a signed comparison that is not understood")
         if what == "bits":
-            return {"e": x, "b": y, "be": bitwise("or", x, y)}[name]
+            found = {"e": x, "b": y, "be": x and bitwise("or", x, y)}.get(name)
+            if not found:
+                raise Stop(f"the condition {name} is not known here")
+            return found
         if name == "e":
             return are_equal(x, y) if what == "sub" else are_equal(result, number(0, width_of(result)))
         if what == "sub":
@@ -304,22 +336,58 @@ class Machine:
             raise Stop("the header has another number of parameters")
         if f"sketch_{function}" not in self.library.functions:
             raise Stop("the library does not have it")
+        self.begin_at(self.library.functions[f"sketch_{function}"], arguments)
+
+    def begin_at(self, address, arguments):
+        self.registers[self.pointer], self.end = self.stack, self.top - self.red_zone
         self.pass_arguments(arguments)
-        self.before, self.at = dict(self.registers), self.library.functions[f"sketch_{function}"]
+        self.before, self.at = dict(self.registers), address
 
     def go(self, head=None, arrivals=1):
         """Runs to the end of the call, or up to an instruction, arriving there so often. Returns whether it did."""
-        while self.at != number_in(CALLER):
-            if self.at not in self.library.instructions or len(self.executed) > LIMIT:
-                raise Stop("a jump to where no instruction is" if len(self.executed) <= LIMIT else "no end")
-            self.execute(*self.library.instructions[self.at])
+        while self.at != CALLER:
+            instruction = self.library.instruction(self.at)
+            if not instruction or len(self.executed) > LIMIT:
+                raise Stop("no end" if instruction else "a jump to where no instruction is")
+            before = self.registers[self.pointer]
+            self.execute(*instruction)
             self.at = self.next
+            if self.registers[self.pointer] is not before and self.at != CALLER:
+                self.move_stack()
             if self.at == head:
                 arrivals -= 1
                 if not arrivals:
                     return True
         self.must_have_restored()
         return False
+
+    def go_to(self, address):
+        """A jump to an instruction of the library, to the caller, or to a function of another library, which returns."""
+        base, at = place_of(address)
+        if base == IN_IMAGE:
+            self.next = at
+        elif address == CALLER:
+            self.next = CALLER
+        else:
+            names = [name[1] for name in unknowns_in(address) if name[0] == "external" and external(name[1]) == address]
+            if not names:
+                raise Stop("a jump to where no function is known")
+            self.call_external(*names)
+
+    def call_external(self, name):
+        """What it may change is anything after it."""
+        if name not in EXTERNAL:
+            raise Stop(f"a call of {name}")
+        result = EXTERNAL[name](self, *(self.registers[register] for register in self.argument_registers))
+        back = self.return_address()
+        for register, value in self.registers.items():
+            kept = width_of(value) if register == self.pointer else self.kept.get(register, 0)
+            rest = width_of(value) - kept
+            self.registers[register] = join(cut(value, 0, kept), self.anything(register, rest)) if rest else value
+        pointer = place_of(self.registers[self.pointer])[1]
+        self.bytes = {place: byte for place, byte in self.bytes.items() if place[0] != self.base or place[1] >= pointer}
+        self.registers[self.result_register], self.flags = result, None
+        self.go_to(back)
 
     def execute(self, op, operands, following):
         self.next = following
@@ -342,7 +410,7 @@ class Machine:
     # ---- what it must leave
 
     def must_return(self, value):
-        if value is not None and cut(self.result(), 0, width_of(value)) != value:
+        if value is not None and cut(self.registers[self.result_register], 0, width_of(value)) != value:
             raise Stop("the result is not what the definitions say")
 
     def must_have(self, address, values):
@@ -352,3 +420,41 @@ class Machine:
             if value is not None and self.load(address, size) != value:
                 raise Stop("what is written is not what the definitions say")
             address = add(address, number(size))
+
+
+# ---- functions of the C library, as its standard defines them
+
+def copy(machine, to, source, size, *_):
+    (base, at), (other, start), n = place_of(to), place_of(source), known(size, "the size of a copy")
+    if base == other and abs(at - start) < n and at != start:
+        raise Stop("a copy to where it is from")
+    return move(machine, to, source, size)
+
+
+def move(machine, to, source, size, *_):
+    n = known(size, "the size of a copy")
+    if n:
+        machine.store(to, machine.load(source, n))
+    return to
+
+
+def fill(machine, to, byte, size, *_):
+    n = known(size, "the size of a copy")
+    if n:
+        machine.store(to, repeat(cut(byte, 0, 8), n))
+    return to
+
+
+def with_size(function):
+    """As its fortified form: it is given how much there is, too."""
+    def run(machine, to, what, size, room, *_):
+        if is_below(room, size):
+            raise Stop("a copy that does not fit")
+        return function(machine, to, what, size)
+
+    return run
+
+
+EXTERNAL = {"memcpy": copy, "memmove": move, "memset": fill}
+EXTERNAL["bzero"] = lambda machine, to, size, *_: fill(machine, to, number(0), size)
+EXTERNAL |= {f"__{name}_chk": with_size(function) for name, function in EXTERNAL.items()}

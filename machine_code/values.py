@@ -191,6 +191,10 @@ def collect(factors, a, low, width, factor):
         factors[None] = factors.get(None, 0) + kinds[a][1] * factor
         for piece, own in kinds[a][2]:
             collect(factors, *piece, own * factor)
+    elif kinds[a][0] == "xor" and width > 1 and kinds[a][2] == (1 << kinds[a][1]) - 1 and len(kinds[a][3]) == 1:
+        factors[None] = factors.get(None, 0) + ((1 << width) - 1) * factor  # a complement: this less what it is of
+        for piece in cut(kinds[a][3][0], low, width):
+            collect(factors, *piece, -factor)
     else:
         factors[a, low, width] = factors.get((a, low, width), 0) + factor
 
@@ -262,12 +266,26 @@ def total(n, factors):
     n, factors = n % WORD, {piece: factor % WORD for piece, factor in factors.items() if factor % WORD}
     if not factors:
         return number(n)
+    if len(factors) > 1 and (whole := with_next_bits(factors)):
+        return total(n + whole.pop(None, 0), whole)
     bits = functools.reduce(lambda x, y: x | y, factors.values())
     common = (bits & -bits).bit_length() - 1
     if common:  # no piece reaches the lowest bits: they are the number's
         above = total(signed(n) >> common, {piece: signed(factor) >> common for piece, factor in factors.items()})
         return join(number(n, common), cut(above, 0, 64 - common))
     return side_by_side(n, factors) or sum_atom(n, factors)
+
+
+def with_next_bits(factors):
+    """The same with two pieces as one, if they are neighbours in an atom and their factors say so; else None."""
+    starts = {piece[:2]: piece for piece in factors}
+    for (a, low, width), factor in factors.items():
+        after = starts.get((a, low + width))
+        if after and factors[after] == (factor << width) % WORD:
+            whole = {piece: own for piece, own in factors.items() if piece not in ((a, low, width), after)}
+            collect(whole, a, low, width + after[2], factor)
+            return whole
+    return None
 
 
 def side_by_side(n, factors):

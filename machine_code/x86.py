@@ -1,31 +1,38 @@
 """The instructions of x86-64 that the libraries have, in objdump's Intel syntax."""
 import functools
+import itertools
 import re
 
-from machine import CALLER, Machine, count_of, if_equal, logic, plain, reads, shift_one, shifted
-from values import (Stop, add, bitwise, complement, cut, extend, is_zero, join, known, lanes, mul, number, number_in, repeat,
-                    rotate_right, shift_left, shift_right, sign_extend, sub, unknown, width_of)
+from machine import CALLER, IMAGE, Machine, count_of, if_equal, logic, plain, reads, shift_one, shifted
+from values import (BITS, Stop, Undecided, add, bitwise, complement, cut, extend, is_zero, join, kinds, known, lanes, mul,
+                    number, number_in, repeat, replace, rotate_right, shift_left, shift_right, sign_extend, signed, sub,
+                    unknown, width_of)
 
 REGISTERS = {f"r{n}{end}": (f"r{n}", width) for n in range(8, 16) for end, width in (("", 64), ("d", 32), ("w", 16), ("b", 8))}
 for item in "ax bx cx dx si di bp sp".split():
     names = (f"r{item}", 64), (f"e{item}", 32), (item, 16), (f"{item.rstrip('x')}l", 8)
     REGISTERS |= {name: (f"r{item}", width) for name, width in names}
-REGISTERS |= {f"{kind}mm{n}": (f"ymm{n}", width) for n in range(16) for kind, width in (("x", 128), ("y", 256))}
-SIZES = {"BYTE": 8, "WORD": 16, "DWORD": 32, "QWORD": 64, "XMMWORD": 128, "YMMWORD": 256}
+REGISTERS |= {f"{kind}mm{n}": (f"xmm{n}", width) for n in range(32) for kind, width in (("x", 128), ("y", 256), ("z", 512))}
+REGISTERS |= {f"k{n}": (f"k{n}", 64) for n in range(8)}
+SIZES = {"BYTE": 8, "WORD": 16, "DWORD": 32, "QWORD": 64, "XMMWORD": 128, "YMMWORD": 256, "ZMMWORD": 512}
+LETTERS = {"b": 8, "w": 16, "d": 32, "q": 64}
+GUARD = "fs:0x28"  # the stack's, at the thread's own address
+PREFIXES = "data16", "cs", "bnd", "notrack", "ds", "repz"  # of them none changes what the instruction does
 
 
 @functools.cache
 def decode(text):
-    """The operands: registers and memory, each with its width, and numbers."""
+    """The operands: registers, memory and its broadcasts, each with its width and its mask, and numbers."""
     found = []
     for item in text.split(",") if text else []:
-        memory = re.fullmatch(r"(?:(\w+) PTR )?\[(.*)\]", item)
+        item, *mask = re.findall(r"^[^{]+|(?<={)\w+(?=})", item)
+        memory = re.fullmatch(rf"(?:(\w+) (PTR|BCST) )?(?:\[(.*)\]|({GUARD}))", item)
         if memory:
-            terms = re.findall(r"([+-]?)(\w+)(?:\*(\d))?", memory[2])
+            terms = re.findall(r"([+-]?)(\w+)(?:\*(\d))?", memory[3] or "guard")
             terms = tuple((name, (-1 if sign == "-" else 1) * int(factor or 1)) for sign, name, factor in terms)
-            found.append(("memory", terms, SIZES.get(memory[1])))
+            found.append(("broadcast" if memory[2] == "BCST" else "memory", terms, SIZES.get(memory[1]), mask))
         else:
-            found.append(("register", *REGISTERS[item]) if item in REGISTERS else ("number", int(item, 16), None))
+            found.append(("register", *REGISTERS[item], mask) if item in REGISTERS else ("number", int(item, 16), None, mask))
     return found
 
 
@@ -43,8 +50,10 @@ def shift(function):
 def rotate(sign):
     """It changes the carry alone, and with a count of 0 not even that."""
     def run(m, x, count):
-        m.flags = ("other", *m.flags[1:]) if m.flags and m.flags[0] not in (None, "bits") else None
-        return rotate_right(x, sign * known(count_of(x, count), "a shift") % width_of(x))
+        n = known(count_of(x, count), "a shift")
+        if n:
+            m.flags = ("other", *m.flags[1:]) if m.flags and m.flags[0] not in (None, "bits") else None
+        return rotate_right(x, sign * n % width_of(x))
 
     return run
 
@@ -70,12 +79,40 @@ def with_carry(sign):
 
 def double_shift(m, low, high, at):
     """Bits of two values side by side."""
+    if at not in range(width_of(low) + 1):
+        raise Stop("a shift by more than there is")
     return m.compare(None, low, high, cut(join(low, high), at, width_of(low)))
 
 
 def is_covered(m, x, y):
-    """`ptest`: whether the values have no bit in common, and whether x has all bits of y."""
+    """Whether the values have no bit in common, and whether x has all bits of y."""
     return m.compare("bits", is_zero(bitwise("and", x, y)), is_zero(bitwise("and", complement(x), y)), None)
+
+
+def test_bit(change):
+    """The carry is the bit with a number; the other conditions are not known after it."""
+    def run(m, x, n):
+        n = cut(n, 0, (width_of(x) - 1).bit_length())
+        if number_in(n) is None:
+            m.flags = None
+            return change(x, shift_one(number(1, width_of(x)), extend(n, 32)))
+        m.compare("bits", None, cut(x, number_in(n), 1), None)
+        return change(x, number(1 << number_in(n), width_of(x)))
+
+    return run
+
+
+def count_bits(function):
+    """Of a number that is known."""
+    return lambda m, x: m.compare(None, x, x, number(function(known(x, "a number"), width_of(x)), width_of(x)))
+
+
+def lowest_bit(n, width):
+    return (n & -n).bit_length() - 1 if n else width
+
+
+def zero_above(m, x, n):
+    return m.compare("other", x, None, extend(cut(x, 0, min(known(cut(n, 0, 8), "a place"), width_of(x))), width_of(x)))
 
 
 CONDITIONAL = {
@@ -84,16 +121,43 @@ CONDITIONAL = {
     "imul": lambda m, x, y: m.compare(None, x, y, mul(x, y)), "and": logic("and"), "test": logic("and"), "or": logic("or"),
     "xor": logic("xor"), "andn": lambda m, x, y: logic("and")(m, complement(x), y), "ptest": is_covered,
     "shl": shift(shift_left), "shr": shift(shift_right), "rol": rotate(-1), "ror": rotate(1),
+    "sar": shift(lambda x, n: arithmetic(x, n)),
     "shld": lambda m, x, y, n: double_shift(m, y, x, width_of(x) - known(count_of(x, n), "a shift")),
     "shrd": lambda m, x, y, n: double_shift(m, x, y, known(count_of(x, n), "a shift")),
+    "bt": test_bit(lambda x, bit: x), "bts": test_bit(lambda x, bit: bitwise("or", x, bit)),
+    "btr": test_bit(lambda x, bit: bitwise("and", x, complement(bit))), "btc": test_bit(lambda x, bit: bitwise("xor", x, bit)),
+    "popcnt": count_bits(lambda n, width: bin(n).count("1")), "tzcnt": count_bits(lowest_bit),
+    "lzcnt": count_bits(lambda n, width: width - n.bit_length()), "bzhi": zero_above,
+    "blsr": lambda m, x: m.compare("other", x, None, bitwise("and", x, sub(x, number(1, width_of(x))))),
+    "blsi": lambda m, x: m.compare("other", x, None, bitwise("and", x, sub(number(0, width_of(x)), x))),
+    "blsmsk": lambda m, x: m.compare("other", x, None, bitwise("xor", x, sub(x, number(1, width_of(x))))),
 }
 
 
-# ---- and those that set none
+def test_mask(size):
+    """Whether two masks have no bit, and whether they have all."""
+    def run(m, x, y):
+        either = bitwise("or", cut(x, 0, size), cut(y, 0, size))
+        return m.compare("bits", is_zero(either), is_zero(complement(either)), None)
 
-def shift_lane(x, count):
-    """By a number of the other lane, which is not taken modulo 32."""
-    return shift_one(x, count) if number_in(count) is None else shift_left(x, min(number_in(count), width_of(x)))
+    return run
+
+
+for letter, size in LETTERS.items():
+    CONDITIONAL |= {f"kortest{letter}": test_mask(size), f"ktest{letter}": lambda m, x, y, size=size: is_covered(
+        m, *(cut(item, 0, size) for item in (x, y)))}
+
+
+# ---- and those that set none. A number that the instruction has is an int.
+
+def shift_lane(function):
+    """By a number of the other lane, which is not taken modulo its width. 1 can be shifted by an unknown number."""
+    def run(x, count):
+        if number_in(count) is None and function is shift_left:
+            return shift_one(x, count)
+        return function(x, min(known(count, "a shift"), width_of(x)))
+
+    return run
 
 
 def arithmetic(x, n):
@@ -101,27 +165,79 @@ def arithmetic(x, n):
     return sign_extend(cut(x, n, width_of(x) - n), width_of(x))
 
 
+def rotate_lane(sign):
+    return lambda x, n: rotate_right(x, sign * (known(n, "a shift") if isinstance(n, tuple) else n) % width_of(x))
+
+
+def each(size, function):
+    """A function of a lane of each operand."""
+    return reads(function), lambda *values: lanes(size, function, *values)
+
+
+def each_by(size, function):
+    """All by one number, of which 64 bits count."""
+    return 2, lambda x, n: lanes(
+        size, lambda lane: function(lane, min(n if isinstance(n, int) else known(cut(n, 0, 64), "a shift"), size)), x)
+
+
+def in_blocks(function, bits=128):
+    """AVX does it for each 128 bits."""
+    def run(*values):
+        width = max(width_of(value) for value in values if not isinstance(value, int))
+        places = range(0, max(width, bits), bits)
+        return join(*(function(*(value if isinstance(value, int) else cut(value, at, bits) for value in values))
+                      for at in places))
+
+    return reads(function), run
+
+
+def picked(size, count, x, y=None):
+    """Lanes by an order of some bits each: half of x, and half of y."""
+    def run(order):
+        bits = count.bit_length() - 1
+        return join(*(cut(x if y is None or i < count // 2 else y, size * (order >> bits * i & count - 1), size)
+                      for i in range(count)))
+
+    return run
+
+
 def interleaved(size, half):
     """The lanes of the lower halves, or of the higher ones, in turn."""
-    return lambda x, y: join(*(cut(value, at, size) for at in range(64 * half, 64 * half + 64, size) for value in (x, y)))
+    return in_blocks(lambda x, y: join(*(cut(value, at, size) for at in range(64 * half, 64 * half + 64, size)
+                                         for value in (x, y))))
 
 
-def shuffled(x, y, order):
-    """Two lanes of x, and then two of y."""
-    order = known(order, "an order")
-    return join(*(cut(x if i < 2 else y, 32 * (order >> 2 * i & 3), 32) for i in range(4)))
+def shuffled_half(half):
+    """The words of one half by an order; the other half stays."""
+    return in_blocks(lambda x, n: replace(x, 64 * half, picked(16, 4, cut(x, 64 * half, 64))(n)))
 
 
-def blended(x, y, choice):
-    """Of each 32 bits y, if the choice has this bit, else x."""
-    bits = known(choice, "a choice")
-    return join(*(cut(y if bits >> i & 1 else x, 32 * i, 32) for i in range(width_of(x) // 32)))
+def shuffled_bytes(x, order):
+    places = [known(cut(order, at, 8), "an order") for at in range(0, 128, 8)]
+    return join(*(number(0, 8) if n >> 7 else cut(x, 8 * (n & 15), 8) for n in places))
 
 
-def packed(x, y):
-    """A byte of each signed word that is known, or the nearest one."""
-    words = [known(cut(value, at, 16), "a word") for value in (x, y) for at in range(0, 128, 16)]
-    return join(*(number(0 if word >> 15 else min(word, 255), 8) for word in words))
+def blended(size):
+    """Of each lane y, if the choice has this bit, else x."""
+    return lambda x, y, bits: join(*(cut(y if bits >> i & 1 else x, size * i, size) for i in range(width_of(x) // size)))
+
+
+def chosen(x, y, z):
+    """Of each lane y, if z has its highest bit, else x."""
+    bits = repeat(cut(z, width_of(z) - 1, 1), width_of(z))
+    return bitwise("or", bitwise("and", y, bits), bitwise("and", x, complement(bits)))
+
+
+def packed(size, is_signed):
+    """Half of each signed lane that is known, or the nearest one."""
+    least, most = (-(1 << size - 1), (1 << size - 1) - 1) if is_signed else (0, (1 << size) - 1)
+
+    def run(x, y):
+        halves = [cut(value, at, 2 * size) for value in (x, y) for at in range(0, 128, 2 * size)]
+        lanes = [known(sign_extend(half, 64), "a lane") for half in halves]
+        return join(*(number(max(least, min(signed(lane), most)), size) for lane in lanes))
+
+    return in_blocks(run)
 
 
 def differences(x, y):
@@ -130,63 +246,197 @@ def differences(x, y):
     return number(sum(abs(one - other) for one, other in pairs))
 
 
-def lanewise(size, function):
-    return lambda x, y: lanes(size, function, x, y)
+def pair_products(x, y):
+    """The sum of the products of two signed words."""
+    words = [[sign_extend(cut(value, at, 16), 32) for value in (x, y)] for at in (0, 16)]
+    return add(*(mul(*pair) for pair in words))
 
 
-def each_by(size, function):
-    """All by one number, of which 64 bits count."""
-    return lambda x, n: lanes(size, lambda lane: function(lane, min(known(cut(n, 0, 64), "a shift"), size)), x)
+def on_numbers(function, is_signed=False):
+    """Of two lanes that are known."""
+    def run(x, y):
+        pair = [known(sign_extend(item, 64) if is_signed else item, "a lane") for item in (x, y)]
+        return number(function(*(map(signed, pair) if is_signed else pair)), width_of(x))
+
+    return run
 
 
-def part(size):
-    return lambda x, n: cut(x, size * known(n, "a place"), size)
+def to_whole(x):
+    """A float as a whole number. One with the exponent n, and nothing else, is 2 to the power of n."""
+    exponent = sub(x, number(127 << 23, 32))
+    if cut(exponent, 0, 23) != number(0, 23) or cut(exponent, 28, 4) != number(0, 4):
+        raise Stop("a float that is no power of two")
+    return shift_one(number(1, 32), extend(cut(exponent, 23, 5)))
+
+
+def looked_up(size, order, table):
+    """Lanes of a table by an order, of which so many bits count as it needs."""
+    bits = (width_of(table) // size - 1).bit_length()
+    return lanes(size, lambda lane: cut(table, size * known(cut(lane, 0, bits), "an order"), size), order)
+
+
+def permuted(size):
+    def run(x, y):
+        return in_blocks(lambda x, n: picked(64, 4, x)(n), 256)[1](x, y) if isinstance(y, int) else looked_up(size, x, y)
+
+    return 2, run
+
+
+def halves(x, y, n):
+    """Each half of the result is one of the four, or nothing."""
+    return join(*(number(0, 128) if n >> at & 8 else cut(join(x, y), 128 * (n >> at & 3), 128) for at in (0, 4)))
+
+
+def shuffled_blocks(x, y, n):
+    count = width_of(x) // 128
+    return picked(128, count, x, y)(n if count == 4 else n & 3)
+
+
+@functools.cache
+def ternaries():
+    """Functions of three bits, by the number that an instruction gives them: the plainest is taken."""
+    columns, found = (0xF0, 0xCC, 0xAA), {}
+    signs = sorted(itertools.product((0, 255), repeat=4), key=lambda item: sum(map(bool, item)))
+    for last, *first in signs:
+        for order, one, other in itertools.product(itertools.permutations(range(3)), BITS, BITS):
+            x, y, z = (columns[i] ^ first[i] for i in order)
+            found.setdefault(last ^ BITS[other](BITS[one](x, y), z), (last, first, order, one, other))
+    return found
+
+
+def ternary(x, y, z, n):
+    values = x, y, z
+    if n in ternaries():
+        last, first, order, one, other = ternaries()[n]
+        x, y, z = (complement(values[i]) if first[i] else values[i] for i in order)
+        result = bitwise(other, bitwise(one, x, y), z)
+        return complement(result) if last else result
+    terms = (functools.reduce(functools.partial(bitwise, "and"), (
+        item if i >> at & 1 else complement(item) for item, at in zip(values, (2, 1, 0)))) for i in range(8) if n >> i & 1)
+    return functools.reduce(functools.partial(bitwise, "or"), terms, number(0, width_of(x)))
 
 
 def lowest(size):
-    return lambda x: cut(x, 0, min(size, width_of(x)))
+    return 1, lambda x: cut(x, 0, min(size, width_of(x)))
 
 
 def signs(size):
-    return lambda x: lanes(size, lambda lane: cut(lane, size - 1, 1), x)
+    return 1, lambda x: lanes(size, lambda lane: cut(lane, size - 1, 1), x)
 
 
-SAME = dict.fromkeys("mov movabs movzx movups movdqu movaps movdqa".split(), lambda x: x)
-# AVX does these for each half of 256 bits.
-OF_128_BITS = {
-    "pshufd": lambda x, order: shuffled(x, x, order), "shufps": shuffled, "packuswb": packed,
-    "psrldq": lambda x, n: shift_right(x, 8 * min(known(n, "a shift"), 16)), "punpckhdq": interleaved(32, 1),
-    **{f"punpckl{name}": interleaved(size, 0) for name, size in (("bw", 8), ("wd", 16), ("dq", 32), ("qdq", 64))},
+def part(size):
+    return 2, lambda x, n: cut(x, size * (n % (width_of(x) // size)), size)
+
+
+def insert(size):
+    return 3, lambda x, y, n: replace(x, size * (n % (width_of(x) // size)), cut(y, 0, size))
+
+
+def spread(size):
+    return 1, lambda x: repeat(cut(x, 0, size), 512 // size)
+
+
+SAME = dict.fromkeys("mov movabs movzx movups movupd movdqu movaps movapd movdqa lddqu".split(), (1, lambda x: x))
+SAME |= {f"movdq{kind}": (1, lambda x: x) for kind in ("u8", "u16", "u32", "u64", "a32", "a64")}
+PLAIN = SAME | {
+    "not": (1, complement), "bswap": (1, lambda x: join(*(cut(x, at, 8) for at in range(width_of(x) - 8, -1, -8)))),
+    "rorx": (2, lambda x, n: rotate_right(x, n % width_of(x))),
+    "shlx": (2, shifted(shift_left)), "shrx": (2, shifted(shift_right)),
+    "sarx": (2, shifted(arithmetic)), "movd": lowest(32), "movq": lowest(64),
+    "movss": (2, lambda x, y: replace(x, 0, cut(y, 0, 32))), "movsd": (2, lambda x, y: replace(x, 0, cut(y, 0, 64))),
+    "movhlps": (2, lambda x, y: replace(x, 0, cut(y, 64, 64))), "movmskps": signs(32), "movmskpd": signs(64),
+    "pmovmskb": signs(8), "psadbw": each(64, differences), "pmaddwd": each(32, pair_products), "cvttps2dq": each(32, to_whole),
+    "pmuludq": each(64, lambda x, y: mul(extend(cut(x, 0, 32)), extend(cut(y, 0, 32)))),
+    "pshufd": in_blocks(lambda x, n: picked(32, 4, x)(n)), "shufps": in_blocks(lambda x, y, n: picked(32, 4, x, y)(n)),
+    "shufpd": (3, lambda x, y, n: join(*(cut(y if i & 1 else x, (i & ~1) * 64 + 64 * (n >> i & 1), 64)
+                                         for i in range(width_of(x) // 64)))),
+    "pshuflw": shuffled_half(0), "pshufhw": shuffled_half(1), "pshufb": in_blocks(shuffled_bytes),
+    "pslldq": in_blocks(lambda x, n: shift_left(x, 8 * min(n, 16))),
+    "psrldq": in_blocks(lambda x, n: shift_right(x, 8 * min(n, 16))),
+    "palignr": in_blocks(lambda x, y, n: cut(extend(join(y, x), 512), 8 * min(n, 32), 128)),
+    "packuswb": packed(8, False), "packusdw": packed(16, False), "packsswb": packed(8, True), "packssdw": packed(16, True),
+    "pblendw": in_blocks(blended(16)), "pblendd": (3, blended(32)), "blendps": (3, blended(32)), "blendpd": (3, blended(64)),
+    "pblendvb": each(8, chosen), "blendvps": each(32, chosen), "blendvpd": each(64, chosen),
+    "permq": permuted(64), "permpd": permuted(64), "permd": permuted(32), "permps": permuted(32),
+    "perm2i128": (3, halves), "perm2f128": (3, halves), "permilps": in_blocks(lambda x, n: picked(32, 4, x)(n)),
+    **{f"unpck{half}{name}": interleaved(size, half == "h") for half in "lh" for name, size in (("ps", 32), ("pd", 64))},
+    "movlhps": interleaved(64, 0), "movhps": (2, lambda x, y: join(cut(x, 0, 64), cut(y, 0, 64))),
+    "movlps": (2, lambda x, y: replace(x, 0, cut(y, 0, 64))), "broadcastss": spread(32), "broadcastsd": spread(64),
+    "kunpckbw": (2, lambda x, y: extend(join(cut(y, 0, 8), cut(x, 0, 8)))),
+    "kunpckwd": (2, lambda x, y: extend(join(cut(y, 0, 16), cut(x, 0, 16)))),
+    "kunpckdq": (2, lambda x, y: join(cut(y, 0, 32), cut(x, 0, 32))),
+    **{f"shuf{kind}": (3, shuffled_blocks) for kind in ("i32x4", "i64x2", "f32x4", "f64x2")},
+    **{f"punpck{half}{name}": interleaved(size, half == "h") for half in "lh"
+       for name, size in (("bw", 8), ("wd", 16), ("dq", 32), ("qdq", 64))},
 }
-PLAIN = SAME | OF_128_BITS | {
-    "not": complement, "movd": lowest(32), "movq": lowest(64), "movss": lambda x, y: join(cut(y, 0, 32), cut(x, 32, 96)),
-    "rorx": lambda x, n: rotate_right(x, known(n, "a shift")), "shlx": shifted(shift_left), "shrx": shifted(shift_right),
-    "movhlps": lambda x, y: join(cut(y, 64, 64), cut(x, 64, 64)), "pandn": lambda x, y: bitwise("and", complement(x), y),
-    "extracti128": part(128), "movmskps": signs(32), "pmovmskb": signs(8), "psadbw": lanewise(64, differences),
-    "pmovzxbd": lambda x: lanes(8, lambda lane: extend(lane, 32), x), "psllvd": lanewise(32, shift_lane),
-    "pmovsxbd": lambda x: lanes(8, lambda lane: sign_extend(lane, 32), x), "psrad": each_by(32, arithmetic),
-    "pmuludq": lanewise(64, lambda x, y: mul(extend(cut(x, 0, 32)), extend(cut(y, 0, 32)))), "pmulld": lanewise(32, mul),
-    "pblendd": blended,
-    **{name: functools.partial(bitwise, op) for op in ("and", "or", "xor") for name in (f"p{op}", f"{op}ps")},
+PLAIN |= {"movhpd": PLAIN["movhps"], "movlpd": PLAIN["movlps"]}
+for kind, (size, names) in itertools.product("if", {128: ("128", "32x4", "64x2"), 256: ("32x8", "64x4")}.items()):
+    for name in names:
+        name = kind + name
+        PLAIN |= {f"extract{name}": part(size), f"insert{name}": insert(size), f"broadcast{name}": spread(size)}
+for op in "and", "or", "xor", "andn":
+    run = functools.partial(bitwise, op) if op != "andn" else lambda x, y: bitwise("and", complement(x), y)
+    PLAIN |= {name: (2, run) for name in (f"p{op}", f"{op}ps", f"{op}pd", f"p{op}d", f"p{op}q")}
+    PLAIN |= {f"k{op}{letter}": (2, lambda x, y, run=run, size=size: extend(run(cut(x, 0, size), cut(y, 0, size))))
+              for letter, size in LETTERS.items()}
+# By the ends of their names.
+FAMILIES = {
+    "padd bwdq": lambda n: each(n, add), "psub bwdq": lambda n: each(n, sub),
+    "pmull wdq": lambda n: each(n, mul), "pcmpeq bwdq": lambda n: each(n, if_equal),
+    "pcmpgt bwdq": lambda n: each(n, on_numbers(lambda x, y: -(x > y), True)), "pminu bwdq": lambda n: each(n, on_numbers(min)),
+    "pmaxu bwdq": lambda n: each(n, on_numbers(max)), "psllv wdq": lambda n: each(n, shift_lane(shift_left)),
+    "psrlv wdq": lambda n: each(n, shift_lane(shift_right)), "psrav wdq": lambda n: each(n, shift_lane(arithmetic)),
+    "prolv dq": lambda n: each(n, rotate_lane(-1)), "prorv dq": lambda n: each(n, rotate_lane(1)),
+    "prol dq": lambda n: (2, lambda x, k: lanes(n, lambda lane: rotate_lane(-1)(lane, k), x)),
+    "pror dq": lambda n: (2, lambda x, k: lanes(n, lambda lane: rotate_lane(1)(lane, k), x)),
+    "psll wdq": lambda n: each_by(n, shift_left), "psrl wdq": lambda n: each_by(n, shift_right),
+    "psra wdq": lambda n: each_by(n, arithmetic), "pextr bwdq": part, "pinsr bwdq": insert, "pbroadcast bwdq": spread,
+    "pternlog dq": lambda n: (4, ternary),
+    "align dq": lambda n: (3, lambda x, y, k: cut(join(y, x), n * (k % (width_of(x) // n)), width_of(x))),
+    "permt2 wdq": lambda n: (3, lambda x, order, y: looked_up(n, order, join(x, y))),
+    "permi2 wdq": lambda n: (3, lambda order, x, y: looked_up(n, order, join(x, y))),
+    "kmov bwdq": lowest, "knot bwdq": lambda n: (1, lambda x: extend(complement(cut(x, 0, n)))),
+    "kxnor bwdq": lambda n: (2, lambda x, y: extend(complement(bitwise("xor", cut(x, 0, n), cut(y, 0, n))))),
+    "kshiftl bwdq": lambda n: (2, lambda x, k: extend(shift_left(cut(x, 0, n), min(k, n)))),
+    "kshiftr bwdq": lambda n: (2, lambda x, k: extend(shift_right(cut(x, 0, n), min(k, n)))),
+    "pmovm2 bwdq": lambda n: (1, lambda x: join(*(repeat(cut(x, i, 1), n) for i in range(512 // n)))),
+    "ptestm bwdq": lambda n: each(n, lambda x, y: complement(is_zero(bitwise("and", x, y)))),
+    "ptestnm bwdq": lambda n: each(n, lambda x, y: is_zero(bitwise("and", x, y))),
+    "pcmpneq bwdq": lambda n: each(n, lambda x, y: complement(is_zero(bitwise("xor", x, y)))),
 }
-for letter, size in ("b", 8), ("w", 16), ("d", 32), ("q", 64):
-    PLAIN |= {f"padd{letter}": lanewise(size, add), f"psub{letter}": lanewise(size, sub),
-              f"psll{letter}": each_by(size, shift_left), f"psrl{letter}": each_by(size, shift_right),
-              f"pcmpeq{letter}": lanewise(size, if_equal), f"pextr{letter}": part(size),
-              f"pbroadcast{letter}": lambda x, size=size: repeat(cut(x, 0, size), 256 // size)}
-OPERATIONS = {name: plain(function) for name, function in PLAIN.items()} | CONDITIONAL
+for family, make in FAMILIES.items():
+    name, letters = family.split()
+    PLAIN |= {f"{name}{letter}": make(LETTERS[letter]) for letter in letters}
+PLAIN |= {f"pmov{letter}2m": signs(size) for letter, size in LETTERS.items()}
+for one, other in itertools.combinations(LETTERS, 2):
+    small, large = LETTERS[one], LETTERS[other]
+    PLAIN |= {
+        f"pmovzx{one}{other}": (1, lambda x, n=small, m=large: lanes(n, lambda lane: extend(lane, m), x)),
+        f"pmovsx{one}{other}": (1, lambda x, n=small, m=large: lanes(n, lambda lane: sign_extend(lane, m), x)),
+        f"pmov{other}{one}": (1, lambda x, n=small, m=large: lanes(m, lambda lane: cut(lane, 0, n), x))}
+# A comparison whose result is a mask.
+MASKS = {f"pcmp{name}{letter}": each(size, lambda x, y, test=test: cut(test(x, y), 0, 1))
+         for name, test in (("eq", if_equal), ("gt", on_numbers(lambda x, y: -(x > y), True)))
+         for letter, size in LETTERS.items()}
+# What can be done for some lanes alone, with the size of a lane.
+MASKED = {f"mov{name}{size}": size for name in ("dqu", "dqa") for size in (8, 16, 32, 64)}
+MASKED |= {f"p{op}{letter}": LETTERS[letter] for op in ("add", "sub", "and", "or", "xor", "ternlog") for letter in "dq"}
+OPERATIONS = {name: plain(function) for name, (_, function) in PLAIN.items()} | CONDITIONAL
 # How many operands an instruction reads: the last ones.
-READS = {name: reads(function) for name, function in PLAIN.items()}
-READS |= {name: reads(function) - 1 for name, function in CONDITIONAL.items()}
-READ_ONLY = "cmp", "test", "ptest", "vptest"  # the first operand is not written
-FILLS = {f"stos {name} PTR es:[rdi],{register}": size
-         for name, register, size in (("BYTE", "al", 1), ("DWORD", "eax", 4), ("QWORD", "rax", 8))}
-UNALIGNED = "movups", "movdqu"
+READS = {name: count for name, (count, _) in PLAIN.items()} | {name: reads(run) - 1 for name, run in CONDITIONAL.items()}
+READ_ONLY = {"cmp", "test", "ptest", "bt", *(f"{name}{letter}" for name in ("kortest", "ktest") for letter in LETTERS)}
+SHIFTS = "shl", "shr", "sar", "rol", "ror"
+UNALIGNED = re.compile("movup.|movdqu.*|lddqu")
+OF_LOW_HALF = {"movss": "movd", "movsd": "movq", "movlps": "movq", "movlpd": "movq", "movhps": "pextrq", "movhpd": "pextrq"}
+# Those of AVX2 that have 128 bits too, or another name than an integer's.
+AVX2 = re.compile("ps[lr][la]v|pbroadcast|pblendd|perm(2i|d|q|ps|pd)|(extract|insert|broadcast)i")
+STRINGS = {"BYTE": 1, "WORD": 2, "DWORD": 4, "QWORD": 8}
 
 
 class X86(Machine):
     operations, comparisons = OPERATIONS, READ_ONLY
-    pointer, popped, entry = "rsp", 8, 8  # the caller pushed where to return to: rsp is 16 * n + 8
+    pointer, popped, entry, result_register = "rsp", 8, 8, "rax"  # the caller pushed where to return to: rsp is 16 * n + 8
+    processor = None  # while constructors run: what cpuid and xgetbv say
 
     @staticmethod
     def name_of(op):
@@ -198,35 +448,47 @@ class X86(Machine):
         self.red_zone = 0 if is_windows else 128
         self.argument_registers = ("rcx rdx r8 r9" if is_windows else "rdi rsi rdx rcx r8 r9").split()
         self.kept = dict.fromkeys("rbx rbp r12 r13 r14 r15".split() + ["rsi", "rdi"] * is_windows, 64)
-        self.kept |= {f"ymm{n}": 128 for n in range(6, 16) if is_windows}
-        names = dict.fromkeys(name for name, _ in REGISTERS.values())
-        self.registers = {name: unknown(("before", name), 256 if "mm" in name else 64) for name in names} | {"rsp": self.stack}
+        self.kept |= {f"xmm{n}": 128 for n in range(6, 16) if is_windows}
+        has_512 = self.library.uses(r"zmm|[xy]mm(1[6-9]|[23])|\bk[0-7]\b")
+        self.registers = {name: unknown(("before", name), 64) for name, width in REGISTERS.values()
+                          if name[0] == "r" or name[0] == "k" and has_512}
+        width, count = (512, 32) if has_512 else (256, 16)
+        self.registers |= {f"xmm{n}": unknown(("before", f"xmm{n}"), width) for n in range(count)}
+        self.registers["rsp"] = self.stack
         self.map(self.stack, [CALLER])
+        self.guard = extend(unknown("thread", 62, 1))
+        self.map(self.guard, [unknown("guard", 64)])
         self.home = [unknown(("home", i), 64) for i in range(4 if is_windows else 0)]
 
     def pass_arguments(self, arguments):
         self.registers |= zip(self.argument_registers, arguments)
         self.map(add(self.stack, number(8)), self.home + arguments[len(self.argument_registers) :], writable=True)
 
-    def result(self):
-        return self.registers["rax"]
+    # ---- operands
 
     def address(self, terms):
         at = number(0)
         for name, factor in terms:
-            value = self.registers[name] if name in REGISTERS else number(self.next if name == "rip" else int(name, 16))
+            value = self.registers[name] if name in REGISTERS else self.place(name)
             at = add(at, mul(value, number(factor)))
         return at
 
+    def place(self, name):
+        if name == "guard":
+            return self.guard
+        return add(IMAGE, number(self.next)) if name == "rip" else number(int(name, 16))
+
     def read(self, operand, width):
-        kind, what, own = operand
+        kind, what, own, _ = operand
         if kind == "memory":
             return self.load(self.address(what), (own or width) // 8)
+        if kind == "broadcast":
+            return repeat(self.load(self.address(what), own // 8), width // own)
         return number(what, width) if kind == "number" else cut(self.registers[what], 0, own)
 
     def write(self, operand, value, clears):
         """A write of 32 or 64 bits clears the higher ones; one of 8 or 16 keeps them, and SSE's of 128, but not AVX's."""
-        kind, what, width = operand
+        kind, what, width, _ = operand
         value = cut(extend(value, max(width, width_of(value))), 0, width)
         if kind == "memory":
             self.store(self.address(what), value)
@@ -235,89 +497,124 @@ class X86(Machine):
             rest = cut(before, width, width_of(before) - width)
             self.registers[what] = extend(value, width_of(before)) if clears or width in (32, 64) else join(value, rest)
 
+    def masked(self, name, operand, value, width):
+        """Lanes whose bit is not set stay, or are cleared."""
+        size, bits, before = MASKED[name], self.registers[operand[3][0]], self.read(operand, width)
+        return join(*(cut(value, at, size) if self.is_set(cut(bits, at // size, 1)) else number(0, size)
+                      if "z" in operand[3] else cut(before, at, size) for at in range(0, operand[2], size)))
+
+    @staticmethod
+    def is_set(bit):
+        if number_in(bit) is not None:
+            return number_in(bit)
+        zero = bit if kinds[bit[0][0]][0] == "is zero" else complement(bit)
+        raise Undecided("a mask", *(({zero: number(n, 1)}, []) for n in (0, 1)))
+
+    # ---- instructions
+
     def step(self, op, text):
-        if re.match(r"((data16|cs) )*nop( |$)|xchg ax,ax$", f"{op} {text}"):
+        while op in PREFIXES and text:
+            op, _, text = text.partition(" ")
+            text = text.strip()
+        if op in ("nop", "endbr64", *PREFIXES) or (op, text) == ("xchg", "ax,ax"):
             return
-        if op == "vzeroupper":
-            self.registers |= {name: extend(cut(item, 0, 128), 256) for name, item in self.registers.items() if name[0] == "y"}
-            return
-        if op == "rep" and text in FILLS:
-            return self.fill(FILLS[text])
-        if op == "call" or op[0] == "j":
-            return self.jump(op, int(text, 16))
-        if op in ("mul", "div"):
-            return (self.multiply if op == "mul" else self.divide)(*decode(text))
-        if op == "leave":
-            self.registers["rsp"], op, text = self.registers["rbp"], "pop", "rbp"
-        if op in ("push", "pop", "ret"):
-            return self.use_stack(op, *decode(text))
+        special = SPECIAL.get("j" if op[0] == "j" else op)
+        if special:
+            return special(self, op, text)
         name, operands = self.name_of(op), decode(text)
-        is_avx = name != op
-        if name not in OPERATIONS and name != "lea" and op[:3] != "set" and op[:4] != "cmov":
+        is_avx = name != op or op[0] == "k"
+        if name in OF_LOW_HALF and "PTR" in text and not (len(operands) == 2 and name[3] == "h" and operands[1][0] == "memory"):
+            if len(operands) == 2 and (operands[0][0] == "memory" or name[3] == "s"):  # to memory, or from there, it is a move
+                name = OF_LOW_HALF[name]
+                operands = [*operands, ("number", 1, None, [])] if name == "pextrq" else operands
+        if name in SHIFTS and len(operands) == 1:
+            operands = [*operands, ("number", 1, None, [])]
+        if name not in OPERATIONS or name[:2] == "bt" and operands[0][0] == "memory" and operands[1][0] == "register":
             raise Stop("the instruction is not known")
-        if name in ("shl", "shr", "rol", "ror") and len(operands) == 1:
-            operands = [*operands, ("number", 1, None)]
         width = max(item[2] or 0 for item in operands)
-        if name in OF_128_BITS and width > 128:
-            raise Stop("a vector of 256 bits")
-        if name == "movss" and "PTR" in text:  # to memory or from there it is a move
-            name = "movd"
-        if name not in UNALIGNED and (not is_avx or name in ("movaps", "movdqa")):
+        if not UNALIGNED.fullmatch(name) and (not is_avx or name[:4] in ("mova", "movd") and name[3] in "ad"):
             self.must_be_aligned_vectors(operands)
-        if op[:3] == "set" or op[:4] == "cmov":
-            values = [self.read(item, width) for item in operands[op[0] == "s" :]]
-            result = self.condition(op[3:]) if op[0] == "s" else values[self.holds(op[4:])]
-        elif op == "lea":
-            result = self.address(operands[1][1])
-        else:
-            result = OPERATIONS[name](self, *(self.read(item, width) for item in operands[-READS[name] :]))
+        if is_avx and self.library.constructors and (name[0] == "p" and width > 128 and name != "ptest" or AVX2.match(name)):
+            self.must_have_avx2()
+        used = operands[-READS[name] :]
+        takes_ints = name in PLAIN and name not in SAME
+        values = [item[1] if item[0] == "number" and takes_ints else self.read(item, width) for item in used]
+        run = self.operations[name]
+        if operands[0][1][0] == "k" and name in MASKS:
+            run = plain(MASKS[name][1])
+        result = run(self, *values)
         if name == "and" and operands[0][1] == "rsp":
             self.must_know_alignment()
-        if op not in READ_ONLY:
+        if name not in READ_ONLY:
+            if operands[0][3] and name not in MASKS:
+                result = self.masked(name, operands[0], result, width)
             self.write(operands[0], result, is_avx)
 
+    def must_have_avx2(self):
+        """If constructors set a flag, code for AVX2 runs only where the flag is 1."""
+        flags = [is_zero(unknown(("static", at), 1)) for at in self.library.flags]
+        if flags and number(0, 1) not in flags:
+            raise Stop("an instruction of AVX2 where the processor perhaps has none")
+
     def must_be_aligned_vectors(self, operands):
-        for kind, what, size in operands:
+        for kind, what, size, _ in operands:
             if kind == "memory" and size and size > 64:
                 self.must_be_aligned(self.address(what), size // 8)
 
-    def fill(self, size):
+    def choose(self, op, text):
+        """`set..` and `cmov..`."""
+        operands = decode(text)
+        values = [self.read(item, operands[0][2]) for item in operands]
+        self.write(operands[0], self.condition(op[3:]) if op[0] == "s" else values[self.holds(op[4:])], False)
+
+    def load_address(self, op, text):
+        to, source = decode(text)
+        self.write(to, self.address(source[1]), False)
+
+    def move_extended(self, op, text):
+        """With the sign. `cqo` and `cdq` fill the other register with it."""
+        names = {"cdqe": "rax,eax", "cwde": "eax,ax", "cqo": "rdx,rax", "cdq": "edx,eax"}
+        to, source = decode(text or names[op])
+        value = self.read(source, to[2])
+        if op in ("cqo", "cdq"):
+            value = repeat(cut(value, source[2] - 1, 1), source[2])
+        self.write(to, sign_extend(value, to[2]), False)
+
+    def exchange(self, op, text):
+        operands = decode(text)
+        values = [self.read(item, operands[0][2]) for item in operands]
+        for operand, value in zip(operands, values[::-1]):
+            self.write(operand, value, False)
+
+    def repeated(self, op, text):
         """So many numbers in memory; the caller has cleared the flag of direction."""
+        kind, name = re.match(r"(stos|movs) (\w+) PTR es:\[rdi\]", text).groups()
+        size = STRINGS[name]
         for _ in range(known(self.registers["rcx"], "a number of words")):
-            self.store(self.registers["rdi"], cut(self.registers["rax"], 0, 8 * size))
-            self.registers["rdi"] = add(self.registers["rdi"], number(size))
+            is_move = kind == "movs"
+            value = self.load(self.registers["rsi"], size) if is_move else cut(self.registers["rax"], 0, 8 * size)
+            self.store(self.registers["rdi"], value)
+            for register in ("rdi", "rsi")[: 1 + is_move]:
+                self.registers[register] = add(self.registers[register], number(size))
         self.registers["rcx"] = number(0)
 
-    def multiply(self, operand):
-        """All 128 bits of a product of numbers that are known. Nobody asks for its conditions."""
-        product = known(self.registers["rax"], "a factor") * known(self.read(operand, 64), "a factor")
-        self.registers["rax"], self.registers["rdx"] = number(product & 2 ** 64 - 1), number(product >> 64)
-        self.flags = None
+    def multiply(self, op, text):
+        """Twice the bits of a product. `mulx` names where they are written, and sets no conditions."""
+        *to, operand = decode(text)
+        width = operand[2]
+        to = to or [("register", name, width, []) for name in ("rdx", "rax")]
+        x, y = self.read(operand, width), cut(self.registers["rdx" if op == "mulx" else "rax"], 0, width)
+        if width < 32:
+            raise Stop("a product of other widths")
+        numbers = number_in(x), number_in(y)
+        high = unknown(("high", x, y), width) if None in numbers else number(numbers[0] * numbers[1] >> width, width)
+        for operand, value in zip(to[::-1], (mul(x, y), high)):
+            self.write(operand, value, False)
+        self.flags = self.flags if op == "mulx" else None
 
-    def jump(self, op, target):
-        if op == "call":
-            self.push(number(self.next))
-        if op in ("call", "jmp") or self.holds(op[1:]):
-            self.next = target
-
-    def push(self, value):
-        self.registers["rsp"] = sub(self.registers["rsp"], number(8))
-        self.store(self.registers["rsp"], value)
-
-    def use_stack(self, op, operand=None):
-        if op == "push":
-            return self.push(self.read(operand, 64))
-        value = self.load(self.registers["rsp"], 8)
-        self.registers["rsp"] = add(self.registers["rsp"], number(8))
-        if op == "ret" and operand:
-            raise Stop("a return that takes more from the stack")
-        if op == "pop":
-            self.write(operand, value, True)
-        else:
-            self.next = known(value, "the end of a call")
-
-    def divide(self, operand):
+    def divide(self, op, text):
         """Of numbers that are known. The quotient has no more bits than the divisor."""
+        (operand,) = decode(text)
         width = operand[2]
         divisor = known(self.read(operand, width), "a divisor")
         low, high = (known(cut(self.registers[name], 0, width), "a dividend") for name in ("rax", "rdx"))
@@ -326,3 +623,78 @@ class X86(Machine):
         quotient, rest = divmod(high << width | low, divisor)
         self.registers["rax"], self.registers["rdx"] = number(quotient), number(rest)
         self.flags = None
+
+    def ask_processor(self, op, _):
+        """What a processor says while constructors run. Anything else that it says is unknown."""
+        leaf = known(cut(self.registers["rax" if op == "cpuid" else "rcx"], 0, 32), "a leaf")
+        if self.processor is None or op == "xgetbv" and (leaf or not self.processor["osxsave"]):
+            raise Stop("the processor is asked while it must not be")
+        answers = {name: self.anything(name, 32) for name in ("rax", "rbx", "rcx", "rdx")[:: 1 if op == "cpuid" else 3]}
+        if op == "xgetbv":
+            answers["rax"] = replace(answers["rax"], 1, number(self.processor["saved"], 2))
+        elif leaf == 0:
+            answers["rax"] = number(self.processor["leaves"], 32)
+        elif leaf == 1:
+            answers["rcx"] = replace(answers["rcx"], 27, number(self.processor["osxsave"], 1))
+        elif leaf == 7 and self.processor["leaves"] >= 7 and known(cut(self.registers["rcx"], 0, 32), "a leaf") == 0:
+            answers["rbx"] = replace(answers["rbx"], 5, number(self.processor["avx2"], 1))
+        self.registers |= {name: extend(value) for name, value in answers.items()}
+
+    @staticmethod
+    def processors():
+        """Each that constructors may meet, and whether code for AVX2 may run on it."""
+        for leaves, osxsave, saved, avx2 in itertools.product((0, 6, 7), (0, 1), range(4), (0, 1)):
+            found = {"leaves": leaves, "osxsave": osxsave, "saved": saved, "avx2": avx2}
+            yield found, leaves >= 7 and osxsave and saved == 3 and avx2
+
+    # ---- the stack, and jumps
+
+    def jump(self, op, text):
+        is_plain = re.fullmatch("(0x)?[0-9a-f]+", text)
+        target = None if is_plain else self.read(decode(text)[0], 64)
+        if op == "call":
+            self.push(add(IMAGE, number(self.next)))
+        if op in ("call", "jmp") or self.holds(op[1:]):
+            self.next = int(text, 16) if is_plain else self.next
+            if target is not None:
+                self.go_to(target)
+
+    def push(self, value):
+        self.registers["rsp"] = sub(self.registers["rsp"], number(8))
+        self.move_stack()
+        self.store(self.registers["rsp"], value)
+
+    def pop(self):
+        value = self.load(self.registers["rsp"], 8)
+        self.registers["rsp"] = add(self.registers["rsp"], number(8))
+        return value
+
+    return_address = pop
+
+    def use_stack(self, op, text):
+        operands = decode(text)
+        if op == "push":
+            self.push(self.read(operands[0], 64))
+        elif op == "leave":
+            self.registers["rsp"] = self.registers["rbp"]
+            self.registers["rbp"] = self.pop()
+        elif op == "pop":
+            self.write(operands[0], self.pop(), True)
+        elif operands:
+            raise Stop("a return that takes more from the stack")
+        else:
+            self.go_to(self.pop())
+
+    def clear_upper(self, op, _):
+        self.registers |= {f"xmm{n}": extend(cut(value, 0, 128), width_of(value))
+                           for n in range(16) for value in [self.registers[f"xmm{n}"]]}
+
+
+CONDITIONS = "e ne b ae be a s ns l ge le g".split()
+SPECIAL = {
+    "lea": X86.load_address, "xchg": X86.exchange, "rep": X86.repeated, "div": X86.divide, "vzeroupper": X86.clear_upper,
+    **dict.fromkeys(("mul", "mulx"), X86.multiply), **dict.fromkeys(("call", "j"), X86.jump),
+    **dict.fromkeys(("cpuid", "xgetbv"), X86.ask_processor), **dict.fromkeys(("push", "pop", "ret", "leave"), X86.use_stack),
+    **dict.fromkeys(("movsx", "movsxd", "cdqe", "cwde", "cqo", "cdq"), X86.move_extended),
+    **{f"{kind}{name}": X86.choose for kind in ("set", "cmov") for name in CONDITIONS},
+}

@@ -1,0 +1,323 @@
+"""Each form of each instruction that the tool knows, on numbers, beside the processor: x86-64's own, and qemu's aarch64."""
+import collections
+import itertools
+import pathlib
+import random
+import re
+import struct
+import subprocess
+
+import aarch64
+import library
+import pytest
+import x86
+from machine import IMAGE, IN_IMAGE
+from values import Stop, add, cut, number, number_in
+
+SEED, TRIALS = 1, 5
+DRIVER = """#include <stdio.h>
+extern void (*const forms[])(void *);
+static _Alignas(64) unsigned char state[576];
+int main(void) {
+    unsigned long index;
+    while (fread(&index, sizeof index, 1, stdin) && fread(state, sizeof state, 1, stdin)) {
+        forms[index](state);
+        fwrite(state, sizeof state, 1, stdout);
+    }
+}
+"""
+SIZE, MEMORY, VECTORS, FLAGS, MASKS = 576, 384, 160, 144, 128  # where these are in a state; registers are before them
+FIELDS = "machine tools registers masks vectors size place offset flags begin load save forms"
+Processor = collections.namedtuple("Processor", FIELDS)
+
+
+# ---- x86-64
+
+WIDTHS = {8: ["al", "cl", "dl"], 16: ["ax", "cx", "dx"], 32: ["eax", "ecx", "edx"], 64: ["rax", "rcx", "rdx"]}
+NAMES = {8: "BYTE", 16: "WORD", 32: "DWORD", 64: "QWORD", 128: "XMMWORD", 256: "YMMWORD", 512: "ZMMWORD"}
+KINDS = {128: "x", 256: "y", 512: "z"}
+
+
+def at(width, offset=MEMORY):
+    return f"{NAMES[width]} PTR [r15+{offset}]"
+
+
+def x86_forms(has_512):
+    """Operands of all kinds for each operation; the assembler takes those that there are."""
+    numbers = "0", "1", "27", "64", "150", "228"
+    for op, width in itertools.product([*x86.CONDITIONAL, *x86.PLAIN, "mul", "div", "mulx", "xchg", "movsx", "movsxd"], WIDTHS):
+        one, two, three = WIDTHS[width]
+        memory = at(width)
+        operands = [one, memory, f"{one},{two}", f"{one},{memory}", f"{memory},{two}", f"{one},{one}", f"{one},{two},{three}",
+                    f"{two},{memory},{three}", f"{one},{memory}"]
+        starts = one, memory, f"{one},{two}", f"{memory},{two}"
+        operands += [f"{start},{n}" for start in starts for n in (*numbers, "cl", "-3")]
+        operands += [f"{one},{other}" for less in WIDTHS for other in (WIDTHS[less][1], at(less))]
+        operands += [f"{one},{big}" for big in ("0x7fff", "-0x8000", "0x12345678", "-0x70000000", "0x123456789abcdef0")]
+        yield from (f"{op} {item}" for item in operands)
+    for cc, width in itertools.product(x86.CONDITIONS, WIDTHS):
+        one, two, _ = WIDTHS[width]
+        yield from (f"cmov{cc} {one},{two}", f"cmov{cc} {one},{at(width)}", f"set{cc} {one}", f"set{cc} {at(width)}",
+                    f"test {one},{two}; j{cc} 1f; not {two}; 1:", f"add {one},{two}; j{cc} 1f; not {two}; 1:")
+    places = "rcx+rdx*4+17", "rcx-5", "rdx*8", "rbx+rsi-0x1000"
+    yield from (f"lea {one},[{place}]" for one, *_ in WIDTHS.values() for place in places)
+    yield from ("push rax; pop rcx", "push -5; pop rcx", "cdqe", "cwde", "cqo", "cdq", "xchg ax,ax", "endbr64", "vzeroupper",
+                "push rbp; mov rbp,rsp; push rax; leave; mov ebp,0", "call 1f; not rax; 1: pop rcx; mov ecx,0",
+                "lea rax,[rip+here]; lea rcx,[rip+here+8]; sub rax,rcx; mov ecx,0",
+                "lea rax,[rip+1f]; jmp rax; not rcx; 1: mov eax,0")
+    powers = ((127 + n) << 23 for n in (0, 1, 20, 30, 31))  # as floats
+    yield from (f"mov eax,{power}; movd xmm1,eax; pshufd xmm1,xmm1,0; cvttps2dq xmm0,xmm1" for power in powers)
+    for letter, what in itertools.product("bwdq", ("stos", "movs")):
+        yield f"lea rdi,[r15+392]; lea rsi,[r15+480]; and ecx,7; rep {what}{letter}; mov esi,0"
+    for op in x86.PLAIN | x86.CONDITIONAL:
+        yield from vector_forms(op, numbers, has_512)
+
+
+def vector_forms(op, numbers, has_512):
+    plain, mixed = [op, f"v{op}"], ["rax", "eax", at(8), at(16), at(32), at(64), at(128), at(128, MEMORY + 3), "k1", "k2"]
+    for name, (width, kind) in itertools.product(plain, KINDS.items()):
+        x, y, z = (f"{kind}mm{n}" for n in range(3))
+        memory, low = at(width), ["xmm1", "ymm1", *mixed]
+        operands = [f"{x},{y}", f"{x},{x}", f"{x},{y},{z}", f"{x},{y},{memory}", f"{x},{memory}", f"{memory},{x}",
+                    f"{x},{y},xmm2", f"{x},{at(256)}", f"{x},{y},{z},xmm0", f"{x},{y},{z},{x}", f"{x},{y},xmm0"]
+        operands += [item for other in low for item in (f"{x},{other}", f"{other},{x}", f"{x},{y},{other}")]
+        operands += [f"{start},{n}" for n in numbers for start in (
+            x, f"{x},{y}", f"{x},{memory}", f"{x},{y},{z}", f"{x},{y},{memory}", f"xmm2,{y}", f"ymm2,{y}", f"{at(128)},{y}")]
+        starts = [f"{x},{y},{other}" for other in ("xmm2", "ymm2", "eax", "rax")]
+        starts += [f"{to},{y}" for to in ("eax", "rax", at(8))]
+        operands += [f"{start},{n}" for n in numbers[:4] for start in starts]
+        if has_512:
+            operands += [f"{x}{{k1}},{y}", f"{x}{{k1}}{{z}},{y}", f"{x}{{k2}},{y},{z}", f"k1,{y},{z}", f"k1,{y},{memory}",
+                         f"k1,{x}", f"{x},k1", f"{x},{y},DWORD BCST [r15+384]", f"{x},{y},QWORD BCST [r15+384]"]
+        yield from (f"{name} {item}" for item in operands)
+    if has_512 and op[0] == "k":
+        operands = "k1,k2", "k1,k2,k1", "k2,rax", "k2,eax", "rax,k1", "eax,k1", "k1,k2,3", "k1,k2,200"
+        yield from (f"{op} {item}" for item in operands)
+
+
+X86_LOAD = """load: pop r14; push rbx; push rbp; push r12; push r13; push r15; mov r15,rdi; push r14
+{vectors}
+mov rax,[r15]; mov rcx,[r15+8]; mov rdx,[r15+16]; mov rbx,[r15+24]; mov rsi,[r15+32]; mov r9,[r15+40]; mov r10,[r15+48]
+pop r14; cmp r9,r10; jmp r14
+save: pushfq; pop r14; mov [r15],rax; mov [r15+8],rcx; mov [r15+16],rdx; mov [r15+24],rbx; mov [r15+32],rsi; mov [r15+144],r14
+{saved}
+vzeroupper; pop r15; pop r13; pop r12; pop rbp; pop rbx; ret
+"""
+
+
+def x86_processor():
+    flags = set(pathlib.Path("/proc/cpuinfo").read_text().split())
+    has_512 = {"avx512f", "avx512bw", "avx512dq", "avx512vl"} <= flags
+    if not has_512:
+        print("this processor has no AVX-512: its forms are not compared")
+    kind, size, move = ("z", 64, "vmovdqu64") if has_512 else ("y", 32, "vmovdqu")
+    load = "; ".join(f"{move} {kind}mm{n},[r15+{VECTORS + 64 * n}]" for n in range(3))
+    saved = "; ".join(f"{move} [r15+{VECTORS + 64 * n}],{kind}mm{n}" for n in range(3))
+    if has_512:
+        load, saved = (f"{text}; kmovq {one}; kmovq {other}" for text, one, other in (
+            (load, "k1,[r15+128]", "k2,[r15+136]"), (saved, "[r15+128],k1", "[r15+136],k2")))
+    flags = {"e": lambda f: f >> 6, "b": lambda f: f, "be": lambda f: f | f >> 6, "s": lambda f: f >> 7,
+             "l": lambda f: f >> 7 ^ f >> 11}
+    return Processor(
+        x86.X86, ["as", "ld", "gcc"], ["rax", "rcx", "rdx", "rbx", "rsi", "r9", "r10"], ["k1", "k2"] * has_512,
+        [f"xmm{n}" for n in range(3)], size, "r15", 0, flags, ".intel_syntax noprefix\n",
+        "call load", "jmp save\n" + X86_LOAD.format(vectors=load, saved=saved), x86_forms(has_512))
+
+
+# ---- aarch64
+
+SHAPES = "8b", "16b", "4h", "8h", "2s", "4s", "2d"
+
+
+def aarch64_forms():
+    numbers = "#0", "#1", "#5", "#12", "#31", "#63"
+    operations = aarch64.OPERATIONS.keys() - {"adr", "adrp"}
+    for op, kind in itertools.product([*sorted(operations), "smov", "bfi", "bfxil", "bfc", "ccmp", "movk"], "xw"):
+        one, two, three, four = (f"{kind}{n}" for n in (1, 2, 3, 4))
+        operands = [f"{one},{two}", f"{one},{two},{three}", f"{one},{two},{three},{four}", f"{one},{two},sp", "x1,w2,w3",
+                    "x1,w2,w3,x4", "x1,w2", f"{one},{two},{three},lsl #3", f"{one},{two},{three},lsr #7",
+                    f"{one},{two},{three},asr #5", f"{one},{two},lsl #4", f"{one},#77,lsl #16", f"{one},#0xff00",
+                    "d0,d1", "d0,x1", "x1,d0", "s0,w1",
+                    "w1,s0", "v0.d[1],x1", "x1,v0.d[1]", "w1,v0.s[1]", "w1,v0.b[3]", "x1,v0.h[2]", "v0.b[1],w1",
+                    "v0.s[1],v1.s[2]",
+                    "s0,v1.s[2]", "d0,v1.d[1]"]
+        operands += [f"{one},{two},{n}" for n in numbers] + [f"{one},{two},{n},{m}" for n in numbers for m in numbers[1:4]]
+        operands += [f"{one},{two},{three},{n}" for n in numbers] + [f"{one},{n},{m}" for n in numbers for m in numbers[1:4]]
+        operands += [f"{one},{two},{other}3,{how}" for how in aarch64.EXTENSIONS for other in "wx"]
+        operands += [f"{one},{two},{other}3,{how} #2" for how in aarch64.EXTENSIONS for other in "wx"]
+        yield from (f"{op} {item}" for item in operands)
+        for name in aarch64.CONDITIONS:
+            yield from (f"{op} {item},{name}" for item in (one, f"{one},{two}", f"{one},{two},{three}", f"{one},{two},#5",
+                                                           f"{one},{two},#0", f"{one},#3,#4"))
+    for name in aarch64.CONDITIONS:
+        tests = "cmp x1,x2", "cmp w2,#0", "adds x3,x1,x2", "ands x3,x1,x2"
+        yield from (f"{test}; b.{name} 1f; mvn x1,x1; 1:" for test in tests)
+    for op in "cbz x1,", "cbnz w1,", "tbz x1,#3,", "tbnz x1,#40,":
+        yield f"{op}1f; mvn x2,x2; 1:"
+    yield from ("nop", "bti c", "paciasp; autiasp", "adr x1,1f; br x1; mvn x2,x2; 1: mov x1,#0", "bl 1f; mvn x2,x2; 1:",
+                "adrp x1,here; add x1,x1,:lo12:here; adr x2,here; sub x1,x1,x2; mov x2,#0")
+    yield from memory_forms()
+    ends = [f"{sign}{name}{high}" for sign in "us" for name in aarch64.LONG for high in ("", "2")]
+    ends += [f"{name}{high}" for name in aarch64.NARROW for high in ("", "2")]
+    for op in [*aarch64.LANES, *aarch64.CHANGES, *ends, *aarch64.ACROSS, *aarch64.SHAPED, *aarch64.WHOLE, "tbl"]:
+        yield from aarch64_vectors(op)
+
+
+def memory_forms():
+    for name in "ldr str ldur stur ldrb strb ldrh strh ldrsb ldrsh ldrsw ldurb sturh ldursw".split():
+        for to, place in itertools.product(("x1", "w1", "q0", "d0", "s0", "b0"), ("[x9]", "[x9,#16]", "[x9,#-1]", "[x9,x10]")):
+            yield f"{name} {to},{place}"
+        yield from (f"mov x8,x9; {name} {to},{place}; sub x8,x8,x9; mov x1,x8"
+                    for to in ("w2", "q0") for place in ("[x8,#16]!", "[x8],#16"))
+    for name, pair in itertools.product(("ldp", "stp", "ldpsw"), ("x1,x2", "w1,w2", "q0,q1", "d0,d1", "s0,s1")):
+        yield f"{name} {pair},[x9,#16]"
+    for name, shape in itertools.product(("ld1", "st1", "ld1r"), SHAPES):
+        yield from (f"{name} {{v0.{shape}}},[x9]", f"{name} {{v0.{shape},v1.{shape}}},[x9]",
+                    f"mov x8,x9; {name} {{v0.{shape}}},[x8],#16",
+                    f"{name} {{v0.{shape[-1]}}}[1],[x9]")
+
+
+def aarch64_vectors(op):
+    letters = "bhsdq"
+    for shape in SHAPES:
+        one, two, three = (f"v{n}.{shape}" for n in range(3))
+        size = letters.index(shape[-1])
+        half = [f"{other}" for other in SHAPES if letters.index(other[-1]) == size - 1]
+        double = [f"{other}" for other in SHAPES if letters.index(other[-1]) == size + 1]
+        operands = [f"{one},{two}", f"{one},{two},{three}", f"{one},{two},v2.{shape[-1]}[1]", f"{one},w1", f"{one},x1",
+                    f"{one},v1.{shape[-1]}[1]", f"{one},{{v1.16b}},{three}", f"{one},{{v0.16b,v1.16b}},{three}",
+                    f"{one},#0x5a,lsl #8", f"{one},#0x5a,msl #8", f"{one},#0xff00ff00ff00ff00"]
+        operands += [f"{letter}0,{two}" for letter in letters]
+        operands += [f"{item},#{n}" for n in (0, 1, 3, 7, 8, 15, 31) for item in (one, f"{one},{two}", f"{one},{two},{three}")]
+        for other in half + double:
+            operands += [f"{one},v1.{other}", f"{one},v1.{other},v2.{other}", f"{one},{two},v2.{other}", f"{one},v1.{other},#3",
+                         f"{one},v1.{other},v2.{other[-1]}[1]"]
+        yield from (f"{op} {item}" for item in operands)
+
+
+ARM_LOAD = """load: mov x15,x30; sub sp,sp,#32; stp x19,x14,[sp]; mov x9,x0; mov x10,#24
+ldr q0,[x9,#160]; ldr q1,[x9,#224]; ldr q2,[x9,#288]; ldp x1,x2,[x9]
+ldp x3,x4,[x9,#16]; ldp x5,x6,[x9,#32]; add x9,x9,#400; cmp x5,x6; ret
+save: mrs x7,nzcv; sub x9,x9,#400; str x7,[x9,#144]; stp x1,x2,[x9]; stp x3,x4,[x9,#16]
+str q0,[x9,#160]; str q1,[x9,#224]; str q2,[x9,#288]; ldp x19,x30,[sp]; add sp,sp,#32; ret
+"""
+
+
+def aarch64_processor():
+    flags = {"e": lambda f: f >> 30, "b": lambda f: ~f >> 29, "be": lambda f: ~f >> 29 | f >> 30, "s": lambda f: f >> 31,
+             "l": lambda f: f >> 31 ^ f >> 28}
+    tools = ["aarch64-linux-gnu-as", "aarch64-linux-gnu-ld", "aarch64-linux-gnu-gcc"]
+    registers, vectors = [f"x{n}" for n in range(1, 7)], ["v0", "v1", "v2"]
+    return Processor(aarch64.Aarch64, tools, registers, [], vectors, 16, "x9", MEMORY + 16, flags, "",
+                     "mov x14,x30; bl load", "b save\n" + ARM_LOAD, aarch64_forms())
+
+
+# ---- what both do
+
+def assembled(processor, tmp):
+    """The forms that the assembler takes, in a library and in a program."""
+    assembler, linker, compiler = processor.tools
+    forms = list(dict.fromkeys(processor.forms))
+    for _ in range(4):
+        lines = [f".globl sketch_i{i}, sketch_e{i}; t{i}: {processor.load}; sketch_i{i}: {form}; sketch_e{i}: b_save"
+                 for i, form in enumerate(forms)]
+        jump, _, rest = processor.save.partition("\n")
+        text = processor.begin + "\n".join(lines).replace("b_save", jump) + f"\n{rest}\n.section .data.rel.ro,\"aw\"\n"
+        text += ".globl forms\nforms: " + "\n".join(f".quad t{i}" for i in range(len(forms)))
+        text += "\n.bss\n.balign 64\n.globl sketch_state\nsketch_state: here: .skip 576\n"
+        run = subprocess.run([assembler, "-o", tmp / "forms.o", "-"], input=text, text=True, capture_output=True)
+        wrong = {int(n) - 1 - processor.begin.count("\n") for n in re.findall(r"^[^:]*:(\d+): Error", run.stderr, re.M)}
+        if not wrong:
+            assert run.returncode == 0, run.stderr[:1000]
+            break
+        forms = [form for i, form in enumerate(forms) if i not in wrong]
+    (tmp / "driver.c").write_text(DRIVER)
+    objects = ["-z", "noexecstack", tmp / "forms.o"]
+    subprocess.run([linker, "-shared", *objects, "-o", tmp / "forms.so"], check=True)
+    subprocess.run([compiler, "-static", *objects, tmp / "driver.c", "-o", tmp / "driver"], check=True)
+    return forms
+
+
+def some_state(pick, processor):
+    """Random words, of which a third are small or extreme."""
+    words = [pick.getrandbits(64) for _ in range(SIZE // 8)]
+    for i in pick.sample(range(SIZE // 8), SIZE // 24):
+        words[i] = pick.choice([0, 1, 2 ** 64 - 1, 2 ** 63, 2 ** 31, 2 ** 32 - 1, 128, 255, words[i] >> 58, words[i] >> 32])
+    return struct.pack(f"<{SIZE // 8}Q", *words)
+
+
+def executed(processor, built, form, state):
+    """The machine after a form, or None if the tool stops there."""
+    machine = processor.machine(built)
+    place = add(IMAGE, number(built.functions["sketch_state"]))
+    words = struct.unpack(f"<{SIZE // 8}Q", state)
+    machine.map(add(place, number(MEMORY)), [number(word) for word in words[MEMORY // 8 :]], writable=True)
+    names = processor.registers + processor.masks
+    for name, word in zip(names, words[: len(processor.registers)] + words[MASKS // 8 :]):
+        machine.registers[name] = number(word)
+    for i, name in enumerate(processor.vectors):
+        data = state[VECTORS + 64 * i :][: processor.size]
+        machine.registers[name] = number(int.from_bytes(data, "little"), 8 * processor.size)
+    machine.registers[processor.place] = add(place, number(processor.offset))
+    machine.subtract(*(machine.registers[name] for name in processor.registers[-2:]))
+    machine.at, end = (built.functions[f"sketch_{letter}{form}"] for letter in "ie")
+    try:
+        while machine.at != end:
+            machine.execute(*built.instruction(machine.at))
+            machine.at = machine.next
+            machine.move_stack()
+    except Stop:
+        return None
+    return machine
+
+
+def differences(processor, built, machine, after):
+    """What the processor has otherwise."""
+    words = struct.unpack(f"<{SIZE // 8}Q", after)
+    numbers = dict(zip(processor.registers[:-2] + processor.masks, words[: len(processor.registers) - 2] + words[MASKS // 8 :]))
+    for i, name in enumerate(processor.vectors):
+        numbers[name] = int.from_bytes(after[VECTORS + 64 * i :][: processor.size], "little")
+    wrong = [name for name, n in numbers.items() if number_in(machine.registers[name]) != n]
+    start = built.functions["sketch_state"]
+    memory = [number_in(cut(*machine.bytes[IN_IMAGE, start + i], 8)) for i in range(MEMORY, SIZE)]
+    wrong += ["memory"] * (memory != list(after[MEMORY:]))
+    for name, bit in processor.flags.items():
+        try:
+            found = number_in(machine.condition(name))
+        except Stop:
+            continue
+        wrong += [f"condition {name}"] * (found != bit(words[FLAGS // 8]) & 1)
+    return wrong
+
+
+def compared(processor, tmp, run):
+    """The forms that are not as the processor does them, and the operations that some form has executed."""
+    forms, pick = assembled(processor, tmp), random.Random(SEED)
+    built = library.read(tmp / "forms.so")
+    built.flags, trials = set(), []
+    for form, _ in itertools.product(range(len(forms)), range(TRIALS)):
+        state = some_state(pick, processor)
+        machine = executed(processor, built, form, state)
+        if machine:
+            trials.append((form, state, machine))
+    data = b"".join(struct.pack("<Q", form) + state for form, state, _ in trials)
+    output = subprocess.run([*run, tmp / "driver"], input=data, stdout=subprocess.PIPE, check=True).stdout
+    assert len(output) == SIZE * len(trials)
+    wrong = {}
+    for i, (form, _, machine) in enumerate(trials):
+        found = differences(processor, built, machine, output[SIZE * i : SIZE * i + SIZE])
+        if found:
+            wrong.setdefault(forms[form], found)
+    names = {processor.machine.name_of(built.instructions[at][0]) for _, _, machine in trials for at in machine.executed}
+    return wrong, names
+
+
+@pytest.mark.parametrize("make, tools, run, operations", [
+    (x86_processor, ["linux-x86_64", "gcc", "objdump"], [], x86.OPERATIONS),
+    (aarch64_processor, ["aarch64-linux-gnu-gcc", "aarch64-linux-gnu-objdump", "qemu-aarch64"], ["qemu-aarch64"],
+     aarch64.OPERATIONS),
+], ids=["x86-64", "aarch64"])
+def test_each_instruction_does_what_the_processor_does(make, tools, run, operations, need, tmp_path):
+    need(*tools)
+    wrong, names = compared(make(), tmp_path, run)
+    assert wrong == {} and operations.keys() - names == set()
