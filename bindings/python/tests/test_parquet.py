@@ -19,6 +19,7 @@ import sys
 import time
 import tracemalloc
 import uuid
+import warnings
 
 import pytest
 from helpers import in_threads, rate_of
@@ -448,12 +449,57 @@ def test_progress_is_drawn_as_tqdm_does(copy):
     assert drawn == [6] * 6
 
 
+@pytest.mark.parametrize("progress", [
+    lambda steps, total: [step for step in steps for _ in "ab"], lambda steps, total: [], lambda steps, total: reversed(steps),
+], ids=["each twice", "none", "in another order"])
+def test_a_bar_that_lies_changes_no_file(progress, copy, tmp_path):
+    parquet.add_filters(copy, tmp_path / "a", ["plain", "b"])
+    parquet.add_filters(copy, tmp_path / "b", ["plain", "b"], progress=progress)
+    assert (tmp_path / "a").read_bytes() == (tmp_path / "b").read_bytes()
+
+
+def clear_filter(file):
+    """Of b in the row group 1."""
+    place = parquet.open(file).footer.find(["b"])[0].place(1)[0] + 15
+    with open(file, "r+b") as opened:
+        opened.seek(place)
+        opened.write(bytes(32))
+
+
+@pytest.mark.parametrize("name, text", [
+    ("list.list.element", "lists and maps"), ("decimal30", "decimals in FIXED_LEN_BYTE_ARRAY"),
+    ("time_us", "times with a time zone"), ("string", None), ("struct.x", None), ("time_ms", None),
+])
+def test_filters_that_duckdb_does_not_use_are_noted(name, text, copy, tmp_path):
+    file = tmp_path / "a.parquet"
+    file.write_bytes(changed(FILTERS, lambda fields: set_zone(fields, b"time_us")).read())
+    with warnings.catch_warnings(record=True) as notes:
+        warnings.simplefilter("always")
+        parquet.add_filters(file, file, [name], replace=True)
+    expected = [f"the filters of {name} help little: DuckDB 2.0 uses none of {text}"] if text else []
+    assert [str(note.message) for note in notes] == expected
+
+
+def set_zone(fields, name):
+    element, = (element for element in fields[2][1][1] if element[4][1] == name)
+    element[10][1][7][1][1] = TType.BOOL, True
+
+
+def test_filters_that_cannot_be_checked_are_named(tmp_path):
+    (tmp_path / "a").write_bytes(changed(FILTERS, annotate(converted=integer(21))).read())
+    with pytest.warns(UserWarning, match="^the filters of decimal30 are not checked: it is INTERVAL: DuckDB 2.0 loses rows"):
+        with contextlib.suppress(ImportError):  # of pyarrow
+            parquet.check_filters(tmp_path / "a")
+
+
 def test_a_filter_is_as_small_as_its_error_rate_allows(copy, tmp_path):
     sizes = []
     for rate in (0.5, 0.01, 1e-6):
         parquet.add_filters(copy, tmp_path / "b.parquet", ["plain"], error_rate=rate)
         sizes.append(parquet.filters(tmp_path / "b.parquet")[0, "plain"])
     assert sizes == sorted(sizes) and sizes[0] == 32 < sizes[2]
+    with pytest.raises(TypeError):
+        parquet.add_filters(copy, tmp_path / "c", ["plain"], max_bytes=33.5)
 
 
 def test_a_file_is_replaced_with_its_mode_and_behind_its_link(copy, tmp_path):
@@ -560,7 +606,8 @@ def sign(fields):
     (["int96"], None, "must not be INT96"), (["x.y"], None, "the name of a column must be that of one alone"),
     (["none"], None, "the column must be one of"), ([], None, "one or more, each once"),
     (["plain", "plain"], None, "one or more, each once"), ("plain", None, "columns must be a list of names"),
-], ids=range(11))
+    ({"plain": {"ndv": 9, "fpp": 0.2}}, None, "columns must be a list of names, .* nor a dict"),
+], ids=range(12))
 def test_what_cannot_have_filters_is_an_error_and_the_target_stays(names, change, text, copy, tmp_path):
     if change:
         copy.write_bytes(changed(ODD, change).read())
@@ -568,6 +615,50 @@ def test_what_cannot_have_filters_is_an_error_and_the_target_stays(names, change
     with pytest.raises((TypeError, ValueError), match=text):
         parquet.add_filters(copy, copy, names)
     assert copy.read_bytes() == before and os.listdir(tmp_path) == ["a.parquet"]
+
+
+def annotate(**fields):
+    """Changes fields of the element of the schema of the column decimal30, which has 16 bytes a value."""
+    numbers = {"type": 1, "converted": 6, "precision": 8, "logical": 10}
+
+    def change(footer):
+        element, = (element for element in footer[2][1][1] if element[4][1] == b"decimal30")
+        for number in (6, 8, 10):
+            element.pop(number, None)
+        changed = {**element, **{numbers[name]: value for name, value in fields.items()}}
+        element.clear()
+        element.update(sorted(changed.items()))
+    return change
+
+
+def integer(value):
+    return TType.I32, value
+
+
+def logical(number, **fields):
+    return TType.STRUCT, {number: (TType.STRUCT, {1: integer(2), 2: integer(fields.get("digits", 30))} if fields else {})}
+
+
+DECIMAL = 5
+
+
+@pytest.mark.parametrize("change, text", [
+    (annotate(converted=integer(21)), "INTERVAL: DuckDB 2.0 loses rows"),
+    (annotate(converted=integer(DECIMAL), precision=integer(39)), "a DECIMAL of more than 38 digits: DuckDB 2.0 reads"),
+    (annotate(logical=logical(DECIMAL, digits=39)), "a DECIMAL of more than 38 digits"),
+    (annotate(converted=integer(DECIMAL)), "a DECIMAL of more than 38 digits"),  # or of an unknown number
+    (annotate(type=integer(6), converted=integer(DECIMAL), precision=integer(30)), "a DECIMAL in BYTE_ARRAY, which has"),
+    (annotate(logical=logical(17)), "of the logical type 17, whose equal values"),
+    (annotate(logical=logical(16)), "a part of a VARIANT"),
+], ids=range(7))
+def test_a_column_whose_equal_values_may_have_other_bytes_gets_no_filter(change, text, tmp_path):
+    file = tmp_path / "a.parquet"
+    file.write_bytes(changed(FILTERS, change).read())
+    before = file.read_bytes()
+    for options in ({"replace": True}, {"skip_existing": True}):
+        with pytest.raises(ValueError, match=f"^the column decimal30 must not be {text}"):
+            parquet.add_filters(file, file, ["decimal30"], **options)
+    assert file.read_bytes() == before
 
 
 def test_an_encrypted_footer_is_an_error(copy):
@@ -790,10 +881,7 @@ def test_the_command_adds_and_checks(pa, tmp_path):
     assert run("check", file).stdout == f"{file}: 6 filters have all values\n"
     assert run("add", "-c", "plain", "--skip-existing", "--jobs", 2, tmp_path / "a").stdout == f"{file}: nothing to add\n"
     assert run("add", "-c", "plain", "-m", "64", "--replace", file).stdout == f"{file}: 141 bytes of filters\n"
-    place = parquet.open(file).footer.find(["b"])[0].place(1)[0] + 15
-    with open(file, "r+b") as opened:  # an empty filter
-        opened.seek(place)
-        opened.write(bytes(32))
+    clear_filter(file)
     done = run("check", file, str(FILTERS))
     assert done.returncode == 4 and done.stdout == f"{FILTERS}: {3 * len(VALUES)} filters have all values\n"
     assert f"{file}: the filter of b in row group 1 lacks a value" in done.stderr

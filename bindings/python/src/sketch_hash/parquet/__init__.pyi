@@ -31,7 +31,7 @@ class BloomFilterReader:
     def read_filter(self, row_group: int, column: str) -> BloomFilter | None: ...
 
 def add_filters(
-    source: _Path, target: _Path, columns: Iterable[str], *, error_rate: SupportsFloat = 0.01,
+    source: _Path, target: _Path, columns: Iterable[str], *, error_rate: SupportsFloat | None = None,
     max_bytes: int | None = None, replace: bool = False, skip_existing: bool = False,
     progress: Callable[..., Iterable[Any]] | None = None,
 ) -> int: ...

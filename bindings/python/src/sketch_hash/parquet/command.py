@@ -56,7 +56,7 @@ def stop(*_):
 
 def add_options(command):
     command.add_argument("-c", "--column", action="append", required=True, help="as id or address.city; may be repeated")
-    command.add_argument("-e", "--error-rate", type=float, default=0.01, help="0.01 if left out")
+    command.add_argument("-e", "--error-rate", type=float, help="as 0.01; about 1 %% if left out")
     command.add_argument("-m", "--max-bytes", type=int, help="of a filter, whatever its error rate then is")
     command.add_argument("-o", "--output", help="the file to write, if there is one FILE")
     existing = command.add_mutually_exclusive_group()

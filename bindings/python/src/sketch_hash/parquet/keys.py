@@ -16,7 +16,7 @@ MOST_BYTES = 1024  # of a decimal. Arrow's have up to 32.
 def keys_of(value, column):
     """The keys of a value: several for some floats, none if the column cannot have the value."""
     kind = column.kind
-    reason = kind.why_no_filter()
+    reason = kind.why_no_key()
     if reason:
         raise TypeError(f"the column {column.name} must not be {reason}")
     if isinstance(value, bool) or is_missing(value):
@@ -90,8 +90,6 @@ def of_float(value, format):
 
 
 def of_integer(number, kind):
-    if kind.type == BYTE_ARRAY:
-        raise TypeError("decimals in BYTE_ARRAY have several forms")
     width, order = {INT32: (4, "little"), INT64: (8, "little")}.get(kind.type, (kind.length, "big"))
     if not 0 < width <= MOST_BYTES:
         raise ValueError(f"whole numbers must have 1 to {MOST_BYTES} bytes in the file, not {width}")

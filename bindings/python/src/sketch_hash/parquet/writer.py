@@ -1,7 +1,7 @@
 """Filters that are added to finished files, and checked. pyarrow reads the values."""
+import operator
 import os
 import warnings
-from operator import itemgetter
 
 from .. import BloomFilter, xxh64_intdigest
 from .files import open_file, replaced
@@ -9,13 +9,14 @@ from .pyarrow_values import stored_values
 from .reader import BloomFilterReader, all_places, false_positive_rate, places_of
 
 MOST_BYTES = 128 << 20  # of a filter that Arrow reads
+ABOUT_ONE_PERCENT = 1 / 28  # at most: of 8 to 16 bits for each value, since sizes are powers of two
 
 
 class FilterError(ValueError):
     """A filter lacks a value of its row group, so queries lose rows."""
 
 
-def add_filters(source, target, columns, *, error_rate=0.01, max_bytes=None, replace=False, skip_existing=False,
+def add_filters(source, target, columns, *, error_rate=None, max_bytes=None, replace=False, skip_existing=False,
                 progress=None):
     """Writes the Parquet file `source` to `target`, which may be the same, with filters for each row group.
 
@@ -24,18 +25,19 @@ def add_filters(source, target, columns, *, error_rate=0.01, max_bytes=None, rep
     time: it is written to its folder as .sketch_hash-.., and then renamed. progress, as tqdm.tqdm, draws a bar.
 
     A filter begins large enough for all values at error_rate, the share of other keys that it finds on average, or with
-    max_bytes. It is halved while its rate by its bits stays at most error_rate.
+    max_bytes. It is halved while its rate by its bits stays at most error_rate. If that is left out, the rate is about 1 %:
+    from 0.1 to 3.6 %, with one to two bytes for each different value.
     replace replaces filters that are there, and moves those that are the last before the footer, so that a file does not
     grow with each call. skip_existing keeps them, and adds those that are missing. A UserWarning names each column whose
-    filters help little.
+    filters help little, or are not used by DuckDB.
 
-    Raises ValueError if a column has filters, and neither of the two is given; if the footer is encrypted or signed, or a
-    file is not a regular one; if folders show that the target belongs to a table of Delta Lake or Iceberg; if another call
-    replaces the target at the same time, or a file changes meanwhile. Then the target stays as it is. Raises
-    NotImplementedError if the system is not POSIX.
+    Raises ValueError if an engine may hold values of a column equal whose bytes differ, as of INTERVAL; if a column has
+    filters, and neither of the two is given; if the footer is encrypted or signed, or a file is not a regular one; if folders
+    show that the target belongs to a table of Delta Lake or Iceberg; if another call replaces the target at the same time,
+    or a file changes meanwhile. Then the target stays as it is. Raises NotImplementedError if the system is not POSIX.
     """
-    if isinstance(columns, str):
-        raise TypeError("columns must be a list of names, not one name")
+    if isinstance(columns, str) or hasattr(columns, "keys"):
+        raise TypeError("columns must be a list of names, not one name, nor a dict: error_rate is for all columns of a call")
     if replace and skip_existing:
         raise ValueError("filters that are there must be replaced or skipped, not both")
     names, builder = list(columns), Builder(error_rate, max_bytes)
@@ -47,9 +49,7 @@ def add_filters(source, target, columns, *, error_rate=0.01, max_bytes=None, rep
         total = sum(len(groups) for _, groups in todo)
         if total == 0 and os.path.exists(target) and os.path.samefile(source, target):
             return 0
-        steps = new_filters(file, todo, builder)
-        if progress:
-            steps = progress(steps, total=total)
+        steps = drawn(new_filters(file, todo, builder), progress, total)
         end, kept = unused_end(reader, chosen) if replace else (reader.footer.start, [])
         with replaced(target, reader.source.status.st_mode & 0o777) as output:
             size = write(reader, output, end, kept, steps)
@@ -76,6 +76,15 @@ def write(reader, output, end, kept, steps):
     return size
 
 
+def drawn(steps, progress, total):
+    """The steps, while a bar is drawn. The bar gets numbers alone, so it can neither repeat a step nor leave one out."""
+    bar = iter(progress(range(total), total=total) if progress else ())
+    for step in steps:
+        next(bar, None)
+        yield step
+    next(bar, None)
+
+
 def copy(source, output, begin, end):
     while begin < end:
         piece = source.read(begin, min(end - begin, 1 << 20))
@@ -89,7 +98,7 @@ def check_columns(footer, names, columns):
     if not names or len({column.index for column in columns}) < len(names):
         raise ValueError("the columns must be one or more, each once")
     for column in columns:
-        reason = column.kind.why_no_filter()
+        reason = column.why_no_filter()
         if reason:
             raise ValueError(f"the column {column.name} must not be {reason}")
 
@@ -113,7 +122,7 @@ def unused_end(reader, replaced_columns):
         end = max((column.end(group) for column in footer.columns() for group in range(footer.groups)), default=0)
     except ValueError:  # a filter or a part of the footer is damaged, or belongs to another file
         return footer.start, []
-    filters.sort(key=itemgetter(1))
+    filters.sort(key=operator.itemgetter(1))
     while filters and filters[-1][1] == begin:
         begin = filters[-1][0]
         run.append(filters.pop())
@@ -138,11 +147,13 @@ class Builder:
     """Builds filters with an error rate, and notes the columns whose filters help little."""
 
     def __init__(self, error_rate, max_bytes):
-        BloomFilter.for_keys(1, error_rate=error_rate)  # raises if it is no rate
-        if max_bytes is not None and max_bytes < 32:
+        self.error_rate = ABOUT_ONE_PERCENT if error_rate is None else error_rate
+        BloomFilter.for_keys(1, error_rate=self.error_rate)  # raises if it is no rate
+        self.is_limited, self.notes = max_bytes is not None, []
+        limit = operator.index(max_bytes) if self.is_limited else MOST_BYTES
+        if limit < 32:
             raise ValueError(f"max_bytes must be at least 32, not {max_bytes}")
-        self.error_rate, self.is_limited, self.notes = error_rate, max_bytes is not None, []
-        self.max_bytes = 1 << min(max_bytes or MOST_BYTES, MOST_BYTES).bit_length() - 1
+        self.max_bytes = 1 << min(limit, MOST_BYTES).bit_length() - 1
 
     def build(self, column, group, batches):
         """A filter of all values, and whether it finds most other keys too."""
@@ -165,7 +176,9 @@ class Builder:
         return (filter, False) if filter.num_bytes <= self.max_bytes else (BloomFilter(self.max_bytes), True)
 
     def note(self, column, built):
-        full = [is_full for _, is_full in built]
+        reason, full = column.why_unused(), [is_full for _, is_full in built]
+        if built and reason:
+            self.notes.append(f"the filters of {column.name} help little: DuckDB 2.0 uses none of {reason}")
         others = {hash for hash, _ in built[:max(len(built) - 1, 2)]}  # the last row group may have less rows
         if built and all(full):
             self.notes.append(f"the filters of {column.name} help little: max_bytes is too small for them")
@@ -180,12 +193,16 @@ def check_filters(source, *, progress=None):
     """
     with open_file(source) as file:
         reader, count = BloomFilterReader(file), 0
-        todo = [(column, groups) for column in reader.footer.columns() if (groups := column.groups_with_filters())]
+        todo = []
+        for column in reader.footer.columns():
+            groups, reason = column.groups_with_filters(), column.why_no_filter()
+            if groups and reason:
+                warnings.warn(f"the filters of {column.name} are not checked: it is {reason}", stacklevel=2)
+            elif groups:
+                todo.append((column, groups))
         steps = ((column, group, batches) for column, groups in todo
                  for group, batches in stored_values(file, column, groups))
-        if progress:
-            steps = progress(steps, total=sum(len(groups) for _, groups in todo))
-        for column, group, batches in steps:
+        for column, group, batches in drawn(steps, progress, sum(len(groups) for _, groups in todo)):
             place, = places_of(reader.source, column, [group])
             filter = BloomFilter.from_bytes(reader.source.read(*place))
             for batch in batches:
