@@ -273,12 +273,14 @@ class Footer:
             yield Column(self, index, elements[-1], path)
 
     def with_filters(self, places):
-        """The end of the file, if filters are at other places: (column, row group, offset, length)."""
-        edits, pieces, end = [], [], 0
+        """The end of the file, if filters are at other places: (column, row group, offset, length), of which the last one
+        counts; or at none, if these are None."""
+        edits, pieces, end = {}, [], 0
         for column, group, offset, length in places:
             reader = column.metadata(group)
-            edits.append((reader.at, with_place(reader, offset, length), reader.at))
-        for begin, metadata, next_end in sorted(edits):
+            begin = reader.at
+            edits[begin] = with_place(reader, offset, length), reader.at
+        for begin, (metadata, next_end) in sorted(edits.items()):
             pieces += self.data[end:begin], metadata
             end = next_end
         return end_of_file(b"".join([*pieces, self.data[end:]]))
@@ -308,9 +310,10 @@ def some_of(columns):
 
 
 def with_place(reader, offset, length):
-    """A ColumnMetaData with another place of its filter."""
+    """A ColumnMetaData with another place of its filter, or without one."""
     fields = [(number, kind, reader.bytes_of(kind)) for number, kind in reader.fields() if number not in (OFFSET, LENGTH)]
-    fields += (OFFSET, I64, zigzag(offset)), (LENGTH, I32, zigzag(length))
+    if offset is not None:
+        fields += (OFFSET, I64, zigzag(offset)), (LENGTH, I32, zigzag(length))
     writer = Writer()
     for field in sorted(fields, key=operator.itemgetter(0)):
         writer.field(*field)

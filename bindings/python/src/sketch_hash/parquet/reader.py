@@ -5,9 +5,10 @@ import itertools
 import math
 
 from .. import BloomFilter, xxh64_intdigest
-from .files import Source, open_file
+from .files import Source
 from .footer import Footer
 from .keys import keys_of
+from .stores import place_of
 
 SET_BITS = bytes(bin(byte).count("1") for byte in range(256))
 
@@ -18,10 +19,10 @@ class BloomFilterReader:
     Threads may share a reader. It is a context manager, and closes a file that it has opened.
     """
 
-    def __init__(self, file):
+    def __init__(self, file, *, filesystem=None):
         with contextlib.ExitStack() as stack:
             if not hasattr(file, "read"):
-                file = stack.enter_context(open_file(file))
+                file = stack.enter_context(place_of(file, filesystem).open())
             self.source = Source(file)
             self.footer = Footer(self.source)
             self.asked = {}  # the columns by the names that were asked for, and the places of their filters
