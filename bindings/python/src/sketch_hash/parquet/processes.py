@@ -116,6 +116,7 @@ def each(task, files, jobs, failed):
         try:
             result = worker.run(file)
         except (EOFError, OSError):
+            time.sleep(0.2)  # the signal that ended it may be on its way to this process too
             with CHANGES:  # which a stopped run never gives back: so it says nothing of those that it ends
                 return failed(file, "its process was killed")
         idle.put(worker)
