@@ -244,6 +244,38 @@ def test_nanoseconds_of_a_command_line_count():
     pytest.raises(ValueError, keys, "ns", "2026-01-01 01:01:01.0000030070").match("cannot have")
 
 
+@pytest.mark.parametrize("name", ["int8", "uint16", "uint32", "int64", "uint64", "string", "binary", "decimal9"])
+def test_many_values_have_the_answers_of_each(name):
+    """Whole numbers and texts are hashed as a column."""
+    numbers = "int" in name
+    values = [VALUES[name](i) for i in range(24)] + [VALUES[name](99) for _ in range(9)]
+    each = [parquet.may_contain(FILTERS, name, value) for value in values]
+    with parquet.open(FILTERS) as reader:
+        assert reader.may_contain(name, values) == reader.may_contain(name, iter(values)) == each
+        assert reader.contains_each(name, values) == [bytes(group in some for some in each) for group in range(3)]
+        if numbers:
+            assert reader.may_contain(name, numpy.array(values)) == each
+            assert reader.may_contain(name, [values[0], 2**70]) == [each[0], []]
+        for wrong in (None, True, 0.5):
+            with pytest.raises(TypeError):
+                reader.may_contain(name, [values[0], wrong])
+
+
+def test_dates_of_numpy_are_those_of_python():
+    for name, value in (("date", DAY), ("ms", moment(second=3)), ("ns", moment(second=1, microsecond=3))):
+        for unit in ("D", "s", "ms", "us", "ns", "25s"):
+            date = numpy.datetime64(value).astype(f"datetime64[{unit}]")
+            same = date.item() if unit != "ns" else date.astype("datetime64[us]").item()
+            if isinstance(same, datetime.datetime) or name == "date":
+                expected = parquet.may_contain(FILTERS, name, same) if type(same) is type(value) else None
+                assert expected in (None, parquet.may_contain(FILTERS, name, date))
+    assert parquet.may_contain(FILTERS, "ns", numpy.datetime64("2026-01-01T01:01:01.000003001")) == []
+    assert parquet.may_contain(FILTERS, "ns", numpy.datetime64("9999-01-01T00:00", "s")) == []
+    for name, value in (("us_utc", numpy.datetime64("2026-01-01T01:01:01")), ("ns", numpy.datetime64("NaT"))):
+        with pytest.raises(TypeError):
+            parquet.may_contain(FILTERS, name, value)
+
+
 @pytest.mark.parametrize("call, error, text", [
     (lambda: parquet.may_contain(FILTERS, "none", 1), ValueError, "must be one of int8, (\\w+, ){9}.., not none"),
     (lambda: parquet.open(FILTERS).may_contain("string", "fox"), TypeError, "must be a list of values, as .42., not one"),
@@ -863,6 +895,7 @@ def test_the_command_shows_and_asks():
     assert found.stdout == f"{FILTERS}: 1 of 3 row groups: 1\n" and absent.stdout == ""
     assert (found.returncode, absent.returncode, wrong.returncode) == (0, 3, 1)
     assert "the column int32 cannot have 'fox'" in wrong.stderr
+    assert run("ask", FILTERS, "int32", "8_000").returncode == run("ask", FILTERS, "decimal9", "0_1").returncode == 1
     assert run("ask", ODD, "plain", "dog").stdout == f"{ODD}: 3 of 3 row groups, 3 without a filter: 0 1 2\n"
 
 
