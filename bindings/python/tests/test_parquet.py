@@ -3,8 +3,10 @@ import array
 import contextlib
 import datetime
 import decimal
+import fcntl
 import gzip
 import io
+import json
 import mmap
 import os
 import pathlib
@@ -924,3 +926,171 @@ def test_the_command_adds_and_checks(pa, tmp_path):
     done = run("check", file, str(FILTERS))
     assert done.returncode == 4 and done.stdout == f"{FILTERS}: {3 * len(VALUES)} filters have all values\n"
     assert f"{file}: the filter of b in row group 1 lacks a value" in done.stderr
+
+
+# ---- What a file keeps, and what runs leave
+
+def test_a_file_keeps_its_owner_mode_and_attributes(copy, tmp_path):
+    os.chmod(copy, 0o2640)
+    with contextlib.suppress(OSError):  # a file system may have no attributes
+        os.setxattr(copy, "user.origin", b"fox")
+    if os.geteuid() == 0:
+        os.chown(copy, 1234, 2345)
+        os.chmod(copy, 0o2640)
+    before = copy.stat()
+    attributes = {name: os.getxattr(copy, name) for name in os.listxattr(copy)}
+    parquet.add_filters(copy, copy, ["plain"])
+    after = copy.stat()
+    assert (after.st_uid, after.st_gid, after.st_mode) == (before.st_uid, before.st_gid, before.st_mode)
+    assert {name: os.getxattr(copy, name) for name in os.listxattr(copy)} == attributes and after.st_ino != before.st_ino
+
+
+def test_what_a_user_may_not_keep_is_noted(copy, monkeypatch):
+    def may_not(*args):
+        raise PermissionError
+
+    monkeypatch.setattr(os, "fchown", may_not)
+    with pytest.warns(UserWarning, match="^the new file lacks what this user may not set: owner, group$"):
+        parquet.add_filters(copy, copy, ["plain"])
+    assert len(parquet.filters(copy)) == 3
+
+
+def test_what_killed_runs_left_is_removed_by_the_next(copy, tmp_path):
+    names = [f".sketch_hash-{i:016x}" for i in range(4)]
+    for name in names[:2]:
+        (tmp_path / name).write_bytes(b"left")
+    (tmp_path / names[2]).mkdir()
+    (tmp_path / ".sketch_hash-notes").write_bytes(b"of the user")
+    with open(tmp_path / names[3], "wb") as alive:
+        fcntl.flock(alive, fcntl.LOCK_EX)
+        parquet.add_filters(copy, copy, ["plain"])
+    assert {*os.listdir(tmp_path)} == {"a.parquet", names[2], names[3], ".sketch_hash-notes"}
+
+
+def test_a_lock_that_only_readers_have_does_no_harm(copy):
+    with open(copy, "rb") as other:
+        fcntl.flock(other, fcntl.LOCK_SH)
+        parquet.add_filters(copy, copy, ["plain"])
+    with open(copy, "rb") as other:
+        fcntl.flock(other, fcntl.LOCK_EX)
+        with pytest.raises(ValueError, match="^the file is locked by another program, or another run is replacing it$"):
+            parquet.add_filters(copy, copy, ["b"])
+
+
+@pytest.mark.parametrize("name", ["metadata", "_delta_log"])
+def test_a_folder_that_cannot_be_read_may_be_that_of_a_table(name, copy, tmp_path, monkeypatch):
+    def list_other_folders(folder, *args, listdir=os.listdir):
+        if str(folder).endswith(name):
+            raise PermissionError(13, "Permission denied", folder)
+        return listdir(folder, *args)
+
+    monkeypatch.setattr(os, "listdir", list_other_folders)
+    with pytest.raises(ValueError, match=f"^the file to replace may be of a table, since .*{name} cannot be read: write to"):
+        parquet.add_filters(copy, copy, ["plain"])
+    assert copy.read_bytes() == ODD.read_bytes()
+
+
+@pytest.mark.parametrize("mode", ["rb", "r+b"])
+@pytest.mark.parametrize("buffering", [-1, 0])
+def test_forked_processes_may_ask_one_open_file(mode, buffering, tmp_path):
+    """They share its position."""
+    code = f"""import os, sys
+from sketch_hash import parquet
+with open({str(shutil.copy(FILTERS, tmp_path / "a"))!r}, {mode!r}, buffering={buffering}) as file, parquet.open(file) as reader:
+    children = []
+    for _ in range(3):
+        children.append(os.fork())
+        if children[-1] == 0:
+            wrong = sum(i // 8 not in reader.may_contain("int32", [i * 1000])[0] for _ in range(99) for i in (0, 8, 16))
+            os._exit(min(wrong, 9))
+    assert [os.waitpid(child, 0)[1] for child in children] == [0, 0, 0]"""
+    subprocess.run([sys.executable, "-c", code], check=True, env={**os.environ, "PYTHONPATH": os.pathsep.join(sys.path)})
+
+
+def test_filters_are_removed(copy, tmp_path):
+    parquet.add_filters(copy, copy, ["plain", "b"])
+    assert parquet.remove_filters(copy, tmp_path / "c", ["b"]) == 3
+    assert {name for _, name in parquet.filters(tmp_path / "c")} == {"plain"}
+    assert parquet.remove_filters(copy, copy) == 6 and parquet.remove_filters(copy, copy) == 0
+    assert split(copy) == split(ODD) and parquet.may_contain(copy, "plain", "none") == [0, 1, 2]
+    for names, text in ((["none"], "must be one of"), ("plain", "must be a list of names")):
+        with pytest.raises((TypeError, ValueError), match=text):
+            parquet.remove_filters(copy, copy, names)
+
+
+def test_a_folder_means_the_files_below_it(copy, tmp_path):
+    source, target = tmp_path / "source", tmp_path / "target"
+    for name in ("a.parquet", "year=2026/b.parquet", "_x/c.parquet", "e.txt"):
+        (source / name).parent.mkdir(exist_ok=True, parents=True)
+        shutil.copy(ODD, source / name)
+    size = parquet.add_filters(source, target, ["plain"])
+    found = sorted(path.relative_to(target) for path in target.rglob("*.parquet"))
+    assert [*map(str, found)] == ["a.parquet", "year=2026/b.parquet"] and size == 2 * sum(
+        num_bytes + 15 for num_bytes in parquet.filters(target / "a.parquet").values())
+    parquet.add_filters(source, source, ["plain"])
+    assert parquet.remove_filters(source, source) == 6
+    (source / "a.parquet").write_bytes(b"junk")
+    with pytest.raises(ValueError, match="^.*a.parquet: the file must be a Parquet file"):
+        parquet.add_filters(source, source, ["plain"])
+
+
+def test_the_command_prints_json_or_nothing(copy, tmp_path):
+    rows = [json.loads(line) for line in run("show", FILTERS, ODD, "--json").stdout.splitlines()]
+    assert [row["status"] for row in rows] == [0, 3] and rows[1]["filters"] == []
+    assert {(row["row_group"], row["column"]): row["bytes"] for row in rows[0]["filters"]} == parquet.filters(FILTERS)
+    done = run("ask", tmp_path / "none", FILTERS, "int32", "8000", "--json")
+    error, row = map(json.loads, done.stdout.splitlines())
+    assert error["status"] == done.returncode == 1 and "No such file" in error["error"]
+    assert row == {"file": str(FILTERS), "status": 0, "row_groups": [1], "num_row_groups": 3, "without_filter": 0}
+    done = run("show", FILTERS, "--quiet")
+    assert (done.returncode, done.stdout, done.stderr) == (0, "", "")
+
+
+def test_the_command_removes(tmp_path):
+    file = shutil.copy(FILTERS, tmp_path / "a.parquet")
+    assert run("remove", "-c", "int8", "-c", "string", tmp_path).stdout == f"{file}: 6 filters removed\n"
+    assert run("remove", file, "-o", tmp_path / "b.parquet").stdout == f"{file}: {3 * len(VALUES) - 6} filters removed\n"
+    assert parquet.filters(tmp_path / "b.parquet") == {}
+    assert run("remove", file, "-o", "-").returncode == 2
+
+
+@pytest.mark.parametrize("outputs, status", [(">&-", 0), ("2>&-", 0), (">&- 2>&- <&-", 0), (">/dev/full", 1)])
+def test_closed_or_full_outputs_stop_no_file(outputs, status, tmp_path):
+    for name in ("a.parquet", "b.parquet"):
+        shutil.copy(FILTERS, tmp_path / name)
+    command = f"{sys.executable} -m sketch_hash.parquet remove {tmp_path} {outputs}"
+    assert subprocess.run(["sh", "-c", command], stderr=subprocess.DEVNULL).returncode == status
+    assert parquet.filters(tmp_path / "a.parquet") == parquet.filters(tmp_path / "b.parquet") == {}
+
+
+def test_a_name_does_not_end_a_line(tmp_path):
+    shutil.copy(ODD, tmp_path / "a\n\x1b[1m\u00e9.parquet")
+    assert run("check", tmp_path).stdout == f"{tmp_path}/a\\n\\x1b[1m\u00e9.parquet: no filters\n"
+
+
+@pytest.mark.parametrize("jobs", [10**20, 3])
+def test_as_many_processes_work_as_there_are_files_at_most(jobs, tmp_path):
+    for name in ("a.parquet", "b.parquet", "c.parquet"):
+        shutil.copy(FILTERS, tmp_path / name)
+    done = run("show", tmp_path, "--jobs", jobs)
+    assert done.returncode == 0 and len(done.stdout.splitlines()) == 9 * len(VALUES)
+
+
+@pytest.mark.parametrize("seconds", [0.2, 0.3, 0.4, 0.5, 0.6, 0.8])
+def test_a_run_that_is_stopped_at_any_moment_ends_and_leaves_no_file(seconds, tmp_path):
+    (tmp_path / "code").mkdir()
+    (tmp_path / "code/sitecustomize.py").write_text("""import time
+from sketch_hash.parquet import pyarrow_values
+pyarrow_values.stored_values = lambda *_: time.sleep(60)""")
+    (tmp_path / "files").mkdir()
+    names = [f"{i}.parquet" for i in range(6)]
+    for name in names:
+        shutil.copy(ODD, tmp_path / "files" / name)
+    command = [sys.executable, "-m", "sketch_hash.parquet", "add", "-c", "plain", "--jobs", "2", tmp_path / "files"]
+    path = os.pathsep.join([str(tmp_path / "code"), *sys.path])
+    process = subprocess.Popen(command, env={**os.environ, "PYTHONPATH": path}, start_new_session=True,
+                               stderr=subprocess.DEVNULL, preexec_fn=as_in_a_terminal)
+    time.sleep(seconds)
+    os.killpg(process.pid, signal.SIGINT)
+    process.wait(5)
+    until(lambda: sorted(os.listdir(tmp_path / "files")) == names)

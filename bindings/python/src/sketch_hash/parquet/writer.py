@@ -40,8 +40,7 @@ def add_filters(source, target, columns, *, filesystem=None, error_rate=None, ma
     show that the target belongs to a table of Delta Lake or Iceberg; if another call replaces the target at the same time,
     or a file changes meanwhile. Then the target stays as it is. Raises NotImplementedError if the system is not POSIX.
     """
-    if isinstance(columns, str) or hasattr(columns, "keys"):
-        raise TypeError("columns must be a list of names, not one name, nor a dict: error_rate is for all columns of a call")
+    check_names(columns)
     if replace and skip_existing:
         raise ValueError("filters that are there must be replaced or skipped, not both")
     names, notes = list(columns), {}
@@ -71,11 +70,12 @@ def remove_filters(source, target, columns=None, *, filesystem=None):
 
     The source and the target are those of add_filters, whose errors it raises.
     """
-    notes = {}
+    check_names(columns)
+    notes, names = {}, None if columns is None else [*columns]
 
     def remove(source, target):
         with opened(source) as reader:
-            chosen = [*reader.footer.columns()] if columns is None else reader.footer.find([*columns])
+            chosen = [*reader.footer.columns()] if names is None else reader.footer.find(names)
             check_not_signed(reader.footer)
             count = sum(len(column.groups_with_filters()) for column in chosen)
             if count or not source.is_same(target):
@@ -154,6 +154,11 @@ def copy(source, output, begin, end):
         piece = source.read(begin, min(end - begin, 1 << 20))
         output.write(piece)
         begin += len(piece)
+
+
+def check_names(columns):
+    if isinstance(columns, str) or hasattr(columns, "keys"):
+        raise TypeError("columns must be a list of names, not one name, nor a dict: error_rate is for all columns of a call")
 
 
 def check_not_signed(footer):
