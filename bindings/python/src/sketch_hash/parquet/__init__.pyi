@@ -34,7 +34,8 @@ class BloomFilterReader:
 
 def add_filters(
     source: _Path, target: _Path, columns: Iterable[str], *, filesystem: Any = None,
-    error_rate: SupportsFloat | None = None, max_bytes: SupportsIndex | None = None, replace: bool = False, skip_existing: bool = False,
+    error_rate: SupportsFloat | None = None, max_bytes: SupportsIndex | None = None, replace: bool = False,
+    skip_existing: bool = False,
     progress: Callable[..., Iterable[Any]] | None = None,
 ) -> int: ...
 def check_filters(

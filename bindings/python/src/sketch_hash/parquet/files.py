@@ -235,8 +235,8 @@ def xattr_of(number, name):
 
 @contextlib.contextmanager
 def replaced(target, mode):
-    """A new file, which replaces the target once it is written and synced, and a list of what it then lacks of it. If there
-    is no target yet, it gets the mode.
+    """A new file, which replaces the target once it is written and synced, and notes of what that has then lost. If there is
+    no target yet, it gets the mode.
 
     Others may write to the folder, so what a name leads to may change at any time. The folder and each file are opened
     once, and used by their descriptors. Just before the target is replaced, both names must lead to what they led to.
@@ -244,7 +244,7 @@ def replaced(target, mode):
     if fcntl is None:
         raise NotImplementedError("only POSIX systems can replace a file")
     path = os.path.realpath(target)
-    name, lost = os.path.basename(path) or os.curdir, []
+    name, notes = os.path.basename(path) or os.curdir, []
     with contextlib.ExitStack() as stack:
         folder = os.open(os.path.dirname(path), os.O_RDONLY | os.O_DIRECTORY)
         stack.callback(os.close, folder)
@@ -264,12 +264,14 @@ def replaced(target, mode):
             raise
         output = stack.enter_context(open(number, "wb"))
         try:
-            yield output, lost
+            yield output, notes
             output.flush()
-            if before:
-                lost += copy_attributes(old, number)
-            else:
+            if not before:
                 os.fchmod(number, mode)
+            elif lost := copy_attributes(old, number):
+                notes.append(f"the new file lacks what this user may not set: {', '.join(lost)}")
+            if status_of(f".{name}.crc", folder):
+                notes.append(f"Hadoop's checksum .{name}.crc is that of the old file: delete it")
             os.fsync(number)
             expected = {name: before, temporary: os.fstat(number)}
             if any(version_of(status_of(path, folder)) != version_of(status) for path, status in expected.items()):

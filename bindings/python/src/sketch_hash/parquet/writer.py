@@ -56,7 +56,7 @@ def add_filters(source, target, columns, *, filesystem=None, error_rate=None, ma
                 return 0
             steps = drawn(new_filters(reader.source.file, todo, builder), progress, total)
             size, lost = rewrite(reader, source, target, chosen if replace else [], steps)
-        notes.update(dict.fromkeys(builder.notes + lost))
+        notes.update(dict.fromkeys(builder.notes + lost))  # each once, also of many files
         return size
 
     size = sum(in_each_file(add, place_of(source, filesystem), place_of(target, filesystem)))
@@ -115,12 +115,12 @@ def in_each_file(call, source, *target):
 
 
 def rewrite(reader, source, target, replaced_columns, steps):
-    """Writes the target with new filters. Returns how many bytes these have, and notes of what the target lost."""
+    """Writes the target with new filters. Returns how many bytes these have, and notes of what the target has lost."""
     end, kept = unused_end(reader, replaced_columns) if replaced_columns else (reader.footer.start, [])
-    with target.replaced(reader.source) as (output, lost):
+    with target.replaced(reader.source) as (output, notes):
         size = write(reader, output, end, kept, replaced_columns, steps)
         source.check_unchanged(reader.source)
-    return size, [f"the new file lacks what this user may not set: {', '.join(lost)}"] if lost else []
+    return size, notes
 
 
 def write(reader, output, end, kept, removed, steps):
