@@ -4,6 +4,8 @@
 const at = (name) => document.getElementById(name);
 const jobs = new Map(); // id -> { file or text, card, id }
 let ids = 0;
+// A browser sees no bytes in a FIFO, a device or a file of /proc, and no difference to an empty file.
+const EMPTY = 'an empty file, or one that could not be read, as a FIFO or a device: its size is 0';
 
 const source = `${at('library').textContent}\n${at('worker').textContent}`;
 const blob = new Blob([source], { type: 'text/javascript' });
@@ -90,7 +92,7 @@ function start(job) {
 function show(job, data) {
     if (data.xxh64) {
         fill(job, data);
-        end(job, '');
+        end(job, job.file?.size === 0 ? EMPTY : '');
     } else if (data.fault) {
         end(job, `cannot be read: ${data.fault}`);
     } else if (data.stopped) {

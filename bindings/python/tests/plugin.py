@@ -1,4 +1,6 @@
 """What pytest does for the tests of the Python package: fixtures, and tests that fail or are skipped if it is not built."""
+import pathlib
+import shutil
 import sys
 import threading
 import time
@@ -17,6 +19,15 @@ def pa(need):
     import pyarrow.compute
     import pyarrow.parquet
     return pyarrow
+
+
+@pytest.fixture
+def copy(tmp_path, monkeypatch):
+    """A copy of a file without filters. Values of its columns are not read: they are texts."""
+    from parquet_files import ODD, texts
+    from sketch_hash.parquet import writer
+    monkeypatch.setattr(writer, "stored_values", texts)
+    return pathlib.Path(shutil.copy(ODD, tmp_path / "a.parquet"))
 
 
 @pytest.fixture

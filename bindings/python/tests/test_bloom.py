@@ -321,6 +321,32 @@ def test_the_last_code_of_a_buffer_may_call_the_filter_that_was_its_view(end, ca
     subprocess.run([sys.executable, "-c", code], check=True, capture_output=True)
 
 
+@pytest.mark.parametrize("make, end", [
+    ("bytearray(1 << 20)", "memory.clear()"), ("mmap.mmap(-1, 1 << 20)", "memory.close()"),
+    ("array.array('B', bytes(1 << 20))", "memory.append(0)"), ("numpy.zeros(1 << 20, 'u1')", "memory.resize(9)"),
+], ids=["bytearray", "mmap", "array", "numpy"])
+def test_who_releases_all_memoryviews_does_not_free_the_memory_of_a_view(make, end):
+    """As a program does that shall close a shared memory. In a process of its own, since others have memoryviews too."""
+    code = f"""if True:
+        import array, gc, mmap, numpy, sketch_hash
+        memory = {make}
+        bloom = sketch_hash.BloomFilter.view(memoryview(memory)[4096:])
+        def release(objects):
+            for found in objects:
+                if type(found) is memoryview:
+                    found.release()
+        release(gc.get_objects())
+        release(gc.get_referents(bloom, *gc.get_referents(bloom)))
+        try:
+            {end}
+        except (BufferError, ValueError):
+            bloom.add("fox")
+        assert "fox" in bloom
+        bloom.release()
+        {end}"""
+    subprocess.run([sys.executable, "-c", code], check=True)
+
+
 def test_a_view_outlives_the_memoryview_that_it_was_made_of():
     memory = memoryview(bytearray(bits()))
     view = BloomFilter.view(memory[:512])

@@ -94,7 +94,8 @@ def test_sanitizers_find_nothing_in_the_glue(source, tmp_path):
     flags = "-fsanitize=address,undefined -fno-sanitize-recover=all -fno-omit-frame-pointer -g"
     assert install(source, installed, CFLAGS=flags, LDFLAGS=flags).returncode == 0
     asan = subprocess.check_output(["gcc", "-print-file-name=libasan.so"], text=True).strip()
-    tests = [HERE / f"test_{name}.py" for name in ("arrow", "bloom", "columns", "hashes", "parquet", "sharing")]
+    tests = [HERE / f"test_{name}.py" for name in (
+        "arrow", "bloom", "columns", "hashes", "parquet", "parquet_written", "sharing")]
     options = ["-q", "-x", "-p", "no:cacheprovider", "-p", "no:xdist", "-k", "not longer_than_4"]
     done = run([sys.executable, "-m", "pytest", *options, *tests], PYTHONPATH=str(installed), LD_PRELOAD=asan,
                ASAN_OPTIONS="detect_leaks=0:allocator_may_return_null=1", PYTHONMALLOC="malloc")

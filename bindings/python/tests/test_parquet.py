@@ -1,4 +1,4 @@
-"""Filters of Parquet files. data/ has two files that pyarrow 25 wrote."""
+"""Filters of Parquet files that are read."""
 import array
 import contextlib
 import datetime
@@ -7,57 +7,25 @@ import gzip
 import io
 import mmap
 import os
-import pathlib
 import random
-import re
 import shutil
-import signal
-import socket
-import stat
 import subprocess
 import sys
 import time
 import tracemalloc
-import uuid
 
 import pytest
 from helpers import in_threads, rate_of
+from parquet_files import DATA, DAY, FILTERS, ODD, UTC, VALUES, changed, moment, set_path
 from sketch_hash import BloomFilter, column, parquet, xxh64_intdigest
-from sketch_hash.parquet import writer
 from sketch_hash.parquet.files import Source
-from sketch_hash.parquet.footer import BYTE_ARRAY, LENGTH, OFFSET, VALUES as VALUE_COUNT
-from sketch_hash.parquet.keys import keys_of, parse
-from sketch_hash.parquet.pyarrow_values import stored_values
+from sketch_hash.parquet.footer import LENGTH, OFFSET
 from sketch_hash.parquet.reader import contain_hashes, false_positive_rate
 from thrift_tree import TType, chunk_of, join, metadata_of, split
 
 numpy = pytest.importorskip("numpy")
 pytestmark = pytest.mark.filterwarnings("ignore:the filters of")
 
-DATA = pathlib.Path(__file__).parent / "data"
-FILTERS, ODD = DATA / "filters.parquet", DATA / "odd.parquet"  # 24 rows in 3 row groups; those at 5 modulo 8 are null
-DAY, UTC = datetime.date(2026, 1, 1), datetime.timezone.utc
-
-
-def moment(**fields):
-    return datetime.datetime(2026, 1, 1, 1, 1, **fields)
-
-
-# The value in row i.
-VALUES = {
-    "int8": lambda i: i - 12, "uint16": lambda i: 65535 - i, "int32": lambda i: i * 1000,
-    "uint32": lambda i: 2**32 - 1 - i, "int64": lambda i: 2**40 + i, "uint64": lambda i: 2**64 - 1 - i,
-    "float": lambda i: i / 4, "double": lambda i: i / 10, "string": lambda i: f"fox {i}",
-    "binary": lambda i: b"\xff%d" % i, "fixed": lambda i: b"%04d" % i, "date": lambda i: DAY + datetime.timedelta(i),
-    "time_ms": lambda i: datetime.time(1, 2, i, 3000), "time_us": lambda i: datetime.time(1, 2, 3, i),
-    "ms": lambda i: moment(second=i), "us_utc": lambda i: moment(second=1, microsecond=i, tzinfo=UTC),
-    "ns": lambda i: moment(second=1, microsecond=i), "decimal9": lambda i: decimal.Decimal(i) / 100,
-    "decimal30": lambda i: decimal.Decimal(i - 3) / 100, "uuid": lambda i: uuid.UUID(int=i),
-    "list.list.element": lambda i: i + 100, "struct.x": lambda i: i, "struct.y": str,
-}
-
-
-# ---- Without pyarrow
 
 @pytest.mark.parametrize("name, value", VALUES.items(), ids=VALUES)
 def test_a_value_is_in_its_row_group(name, value):
@@ -227,20 +195,36 @@ def test_nanoseconds_of_pandas_count():
     assert 0 in parquet.may_contain(FILTERS, "ns", datetime.datetime(2026, 1, 1, 1, 1, 1, 3))
 
 
-def test_nanoseconds_of_a_command_line_count():
-    """Python's fromisoformat drops them."""
-    columns = {leaf.name: leaf for leaf in parquet.open(FILTERS).footer.columns()}
+@pytest.mark.parametrize("name", ["int8", "uint16", "uint32", "int64", "uint64", "string", "binary", "decimal9"])
+def test_many_values_have_the_answers_of_each(name):
+    """Whole numbers and texts are hashed as a column."""
+    numbers = "int" in name
+    values = [VALUES[name](i) for i in range(24)] + [VALUES[name](99) for _ in range(9)]
+    each = [parquet.may_contain(FILTERS, name, value) for value in values]
+    with parquet.open(FILTERS) as reader:
+        assert reader.may_contain(name, values) == reader.may_contain(name, iter(values)) == each
+        assert reader.contains_each(name, values) == [bytes(group in some for some in each) for group in range(3)]
+        if numbers:
+            assert reader.may_contain(name, numpy.array(values)) == each
+            assert reader.may_contain(name, [values[0], 2**70]) == [each[0], []]
+        for wrong in (None, True, 0.5):
+            with pytest.raises(TypeError):
+                reader.may_contain(name, [values[0], wrong])
 
-    def keys(name, text):
-        return keys_of(parse(text, columns[name]), columns[name])
 
-    whole = keys("ns", "2026-01-01 01:01:01.000003")
-    for digits, more in (("007", 7), ("07", 70), ("999", 999), ("000", 0)):
-        assert keys("ns", f"2026-01-01 01:01:01.000003{digits}") == [
-            (int.from_bytes(whole[0], "little") + more).to_bytes(8, "little")]
-    assert keys("us_utc", "2026-01-01T01:01:01.000003000") == keys("us_utc", "2026-01-01T01:01:01.000003000Z") != []
-    assert keys("us_utc", "2026-01-01T01:01:01.0000031") == keys("time_us", "01:02:03.000003001") == []
-    pytest.raises(ValueError, keys, "ns", "2026-01-01 01:01:01.0000030070").match("cannot have")
+def test_dates_of_numpy_are_those_of_python():
+    for name, value in (("date", DAY), ("ms", moment(second=3)), ("ns", moment(second=1, microsecond=3))):
+        for unit in ("D", "s", "ms", "us", "ns", "25s"):
+            date = numpy.datetime64(value).astype(f"datetime64[{unit}]")
+            same = date.item() if unit != "ns" else date.astype("datetime64[us]").item()
+            if isinstance(same, datetime.datetime) or name == "date":
+                expected = parquet.may_contain(FILTERS, name, same) if type(same) is type(value) else None
+                assert expected in (None, parquet.may_contain(FILTERS, name, date))
+    assert parquet.may_contain(FILTERS, "ns", numpy.datetime64("2026-01-01T01:01:01.000003001")) == []
+    assert parquet.may_contain(FILTERS, "ns", numpy.datetime64("9999-01-01T00:00", "s")) == []
+    for name, value in (("us_utc", numpy.datetime64("2026-01-01T01:01:01")), ("ns", numpy.datetime64("NaT"))):
+        with pytest.raises(TypeError):
+            parquet.may_contain(FILTERS, name, value)
 
 
 @pytest.mark.parametrize("call, error, text", [
@@ -257,13 +241,6 @@ def test_nanoseconds_of_a_command_line_count():
 def test_an_invalid_query_raises(call, error, text):
     with pytest.raises(error, match=text):
         call()
-
-
-def changed(file, change):
-    """A file in memory, after a change of the tree of its footer."""
-    before, fields = split(file)
-    change(fields)
-    return io.BytesIO(join(before, fields))
 
 
 @pytest.mark.parametrize("change", [
@@ -293,13 +270,6 @@ def test_a_row_group_in_another_file_is_an_error(tmp_path):
         with pytest.raises(ValueError, match="^the column int8 must be in this file alone, not in those that the footer"):
             call()
     assert parquet.may_contain(file, "int32", 8000) == [1]
-
-
-def set_path(fields, group, column):
-    chunk = chunk_of(fields, group, column)
-    fields = {1: (TType.STRING, b"b.parquet"), **chunk}
-    chunk.clear()
-    chunk.update(fields)
 
 
 def test_an_encrypted_column_has_no_filter_to_read():
@@ -403,397 +373,18 @@ def test_a_damaged_footer_raises_value_and_type_errors_alone():
                 pass
 
 
-# ---- Files that are written: the values come from here, and not from pyarrow
-
-def texts(file, any_column, groups):
-    """As stored_values, for any column."""
-    for group in groups:
-        yield group, [column([f"fox {i}"]) for i in range(8 * group, 8 * group + 8)]
-
-
-@pytest.fixture
-def copy(tmp_path, monkeypatch):
-    monkeypatch.setattr(writer, "stored_values", texts)
-    return pathlib.Path(shutil.copy(ODD, tmp_path / "a.parquet"))
-
-
-def meanwhile(monkeypatch, act):
-    """Runs act() when values are to be read."""
-    monkeypatch.setattr(writer, "stored_values", lambda *args: [act(), texts(*args)][1])
-
-
-def test_all_but_the_places_of_the_filters_stays_as_it_is(copy, tmp_path):
-    target = tmp_path / "b.parquet"
-    assert parquet.add_filters(copy, target, ["plain", "b"]) == sum(parquet.filters(target).values()) + 15 * 6
-    assert copy.read_bytes() == ODD.read_bytes()
-    (before, old), (after, new) = split(ODD), split(target)
-    assert after[: len(before)] == before
-    for index, leaf in enumerate(parquet.open(target).footer.columns()):
-        for group in range(3):
-            metadata, has_filter = metadata_of(new, group, index), leaf.name in ("plain", "b")
-            assert (metadata.pop(OFFSET, None) is not None) == (metadata.pop(LENGTH, None) is not None) == has_filter
-    assert new == old
-    assert [parquet.may_contain(target, "plain", f"fox {i}") for i in (3, 9, 20)] == [[0], [1], [2]]
-
-
-def test_progress_is_drawn_as_tqdm_does(copy):
-    drawn = []
-
-    def progress(steps, total):
-        for step in steps:
-            drawn.append(total)
-            yield step
-
-    parquet.add_filters(copy, copy, ["plain", "b"], progress=progress)
-    assert drawn == [6] * 6
-
-
-def test_a_filter_is_as_small_as_its_error_rate_allows(copy, tmp_path):
-    sizes = []
-    for rate in (0.5, 0.01, 1e-6):
-        parquet.add_filters(copy, tmp_path / "b.parquet", ["plain"], error_rate=rate)
-        sizes.append(parquet.filters(tmp_path / "b.parquet")[0, "plain"])
-    assert sizes == sorted(sizes) and sizes[0] == 32 < sizes[2]
-
-
-def test_a_file_is_replaced_with_its_mode_and_behind_its_link(copy, tmp_path):
-    copy.chmod(0o640)
-    (tmp_path / "link").symlink_to(copy)
-    parquet.add_filters(tmp_path / "link", tmp_path / "link", ["plain"])
-    assert (tmp_path / "link").is_symlink() and stat.S_IMODE(copy.stat().st_mode) == 0o640
-    assert set(os.listdir(tmp_path)) == {"a.parquet", "link"} and len(parquet.filters(copy)) == 3
-    with pytest.raises(ValueError, match="^the column plain has filters: replace them by replace=True"):
-        parquet.add_filters(copy, copy, ["plain"])
-    parquet.add_filters(copy, copy, ["b"])
-    parquet.add_filters(copy, copy, ["plain"], replace=True)
-    assert len(parquet.filters(copy)) == 6
-
-
-def test_a_file_does_not_grow_with_each_night(copy):
-    parquet.add_filters(copy, copy, ["plain", "b"])
-    after, filters = copy.read_bytes(), parquet.filters(copy)
-    for names in (["b"], ["plain"], ["plain", "b"], ["b"]):
-        parquet.add_filters(copy, copy, names, replace=True)
-        assert len(copy.read_bytes()) == len(after) and parquet.filters(copy) == filters
-        assert all(i // 8 in parquet.may_contain(copy, name, f"fox {i}") for i in range(24) for name in ("plain", "b"))
-    parquet.add_filters(copy, copy, ["plain", "b"], replace=True)
-    assert copy.read_bytes() == after  # of the first night
-
-
-def move_pages(fields):
-    metadata_of(fields, 2, 0)[9] = TType.I64, 10**6
-
-
-def share_filter(fields):
-    metadata_of(fields, 2, 0).update({number: metadata_of(fields, 2, 5)[number] for number in (OFFSET, LENGTH)})
-
-
-@pytest.mark.parametrize("change", [
-    move_pages, share_filter, lambda fields: metadata_of(fields, 1, 0).update({OFFSET: (TType.I64, -1)}),
-    lambda fields: set_path(fields, 2, 0), lambda fields: chunk_of(fields, 2, 0).update(
-        {4: (TType.I64, 10**6), 5: (TType.I32, 100)}),
-], ids=["pages", "filter of two columns", "damaged filter", "other file", "index"])
-def test_bytes_that_the_footer_needs_are_not_cut_off(change, copy):
-    """The columns plain and b are the sixth and seventh."""
-    parquet.add_filters(copy, copy, ["plain", "b"])
-    copy.write_bytes(changed(copy, change).read())
-    before = copy.read_bytes()[:parquet.open(copy).footer.start]
-    parquet.add_filters(copy, copy, ["plain", "b"], replace=True, error_rate=1e-6)
-    assert copy.read_bytes().startswith(before) and parquet.may_contain(copy, "b", "fox 9") == [1]
-
-
-def test_filters_that_are_there_are_skipped(copy):
-    parquet.add_filters(copy, copy, ["plain"])
-    status = copy.stat()
-    assert parquet.add_filters(copy, copy, ["plain"], skip_existing=True) == 0 and copy.stat() == status
-    copy.write_bytes(changed(copy, lambda fields: [metadata_of(fields, 1, 5).pop(field) for field in (OFFSET, LENGTH)]).read())
-    parquet.add_filters(copy, copy, ["plain", "b"], skip_existing=True)
-    assert len(parquet.filters(copy)) == 6 and parquet.may_contain(copy, "plain", "fox 9") == [1]
-    with pytest.raises(ValueError, match="replaced or skipped, not both"):
-        parquet.add_filters(copy, copy, ["plain"], skip_existing=True, replace=True)
-
-
-@pytest.mark.parametrize("mark", ["_delta_log/0.json", "data/_delta_log/0.json", "metadata/v1.metadata.json"])
-def test_a_file_of_a_table_is_not_changed_in_place(mark, copy, tmp_path):
-    for folder in ((tmp_path / "data"), (tmp_path / mark).parent):
-        folder.mkdir(exist_ok=True)
-    (tmp_path / mark).touch()
-    table = copy.rename(tmp_path / "data/a.parquet")
-    with pytest.raises(ValueError, match="^the file to replace must not be of a table, as that of Delta Lake or Iceberg in"):
-        parquet.add_filters(table, table, ["plain"])
-    assert table.read_bytes() == ODD.read_bytes() and parquet.add_filters(table, tmp_path / "data/b.parquet", ["plain"]) > 0
-
-
-def count(values):
-    return lambda fields: [metadata_of(fields, group, 5).update({VALUE_COUNT: (TType.I64, values)}) for group in range(3)]
-
-
-def test_a_filter_is_no_larger_than_it_may_be(copy, tmp_path, monkeypatch):
-    copy.write_bytes(changed(ODD, count(2**40)).read())
-    assert parquet.add_filters(copy, tmp_path / "b", ["plain"]) < 1000  # the values are few
-    with pytest.warns(UserWarning, match="^the filters of plain help little: max_bytes is too small for them$"):
-        monkeypatch.setattr(writer, "stored_values", lambda *_: ((i, [column(map(str, range(999)))]) for i in range(3)))
-        parquet.add_filters(copy, tmp_path / "b", ["plain"], max_bytes=255)
-    assert set(parquet.filters(tmp_path / "b").values()) == {128}
-    monkeypatch.setattr(writer, "MOST_BYTES", 64)
-    with pytest.raises(ValueError, match="^the column plain has too many values in row group 0 for a filter of 128 MiB"):
-        parquet.add_filters(copy, tmp_path / "c", ["plain"])
-    with pytest.raises(ValueError, match="^max_bytes must be at least 32, not 31$"):
-        parquet.add_filters(copy, tmp_path / "c", ["plain"], max_bytes=31)
-
-
-def test_a_column_whose_row_groups_are_alike_is_named(copy, monkeypatch):
-    monkeypatch.setattr(writer, "stored_values", lambda *_: ((i, [column(["x", "y"][:3 - i])]) for i in range(3)))
-    with pytest.warns(UserWarning, match="^the filters of plain help little: all row groups have the same values$"):
-        parquet.add_filters(copy, copy, ["plain"])
-
-
-def sign(fields):
-    fields[8] = TType.STRUCT, {1: (TType.STRUCT, {})}
-
-
-@pytest.mark.parametrize("names, change, text", [
-    (["plain"], sign, "the footer must not be signed: each change"),
-    (["plain"], lambda fields: chunk_of(fields, 1, 5).pop(3), "the column plain must not be encrypted"),
-    (["plain"], lambda fields: set_path(fields, 1, 5), "the column plain must be in this file alone, not in those"),
-    (["bool"], None, "must not be BOOLEAN"), (["half"], None, "must not be FLOAT16: DuckDB"),
-    (["int96"], None, "must not be INT96"), (["x.y"], None, "the name of a column must be that of one alone"),
-    (["none"], None, "the column must be one of"), ([], None, "one or more, each once"),
-    (["plain", "plain"], None, "one or more, each once"), ("plain", None, "columns must be a list of names"),
-], ids=range(11))
-def test_what_cannot_have_filters_is_an_error_and_the_target_stays(names, change, text, copy, tmp_path):
-    if change:
-        copy.write_bytes(changed(ODD, change).read())
-    before = copy.read_bytes()
-    with pytest.raises((TypeError, ValueError), match=text):
-        parquet.add_filters(copy, copy, names)
-    assert copy.read_bytes() == before and os.listdir(tmp_path) == ["a.parquet"]
-
-
-def test_an_encrypted_footer_is_an_error(copy):
-    copy.write_bytes(ODD.read_bytes()[:-4] + b"PARE")
-    for call in (lambda: parquet.add_filters(copy, copy, ["plain"]), lambda: parquet.filters(copy)):
-        with pytest.raises(ValueError, match="^the footer must not be encrypted$"):
-            call()
-
-
-def test_an_error_while_values_are_read_leaves_the_target(copy, tmp_path, monkeypatch):
-    monkeypatch.setattr(writer, "stored_values", lambda *_: iter([(0, [5])]))
-    with pytest.raises(TypeError):
-        parquet.add_filters(copy, copy, ["plain"])
-    assert copy.read_bytes() == ODD.read_bytes() and os.listdir(tmp_path) == ["a.parquet"]
-
-
-def test_a_file_that_changes_meanwhile_is_an_error(copy, tmp_path, monkeypatch):
-    meanwhile(monkeypatch, lambda: os.replace(shutil.copy(FILTERS, tmp_path / "b"), copy))
-    with pytest.raises(ValueError, match="^the file must not change while it is read$"):
-        parquet.add_filters(copy, copy, ["plain"])
-    assert copy.read_bytes() == FILTERS.read_bytes() and os.listdir(tmp_path) == ["a.parquet"]
-
-
-@pytest.mark.parametrize("old", [b"old", None])
-def test_a_target_that_changes_meanwhile_is_not_overwritten(old, copy, tmp_path, monkeypatch):
-    target = tmp_path / "b.parquet"
-    if old:
-        target.write_bytes(old)
-
-    meanwhile(monkeypatch, lambda: target.write_bytes(b"other data"))
-    with pytest.raises(ValueError, match="^the file to replace must not change while its successor is written$"):
-        parquet.add_filters(copy, target, ["plain"])
-    assert target.read_bytes() == b"other data" and set(os.listdir(tmp_path)) == {"a.parquet", "b.parquet"}
-
-
-def test_of_two_runs_on_one_file_the_second_fails(copy, monkeypatch):
-    def second_run():
-        monkeypatch.setattr(writer, "stored_values", texts)
-        with pytest.raises(ValueError, match="^another run is replacing the file$"):
-            parquet.add_filters(copy, copy, ["b"])
-
-    meanwhile(monkeypatch, second_run)
-    parquet.add_filters(copy, copy, ["plain"])
-    parquet.add_filters(copy, copy, ["b"])
-    assert {name for _, name in parquet.filters(copy)} == {"plain", "b"}
-
-
-def test_of_two_runs_on_one_file_the_first_fails_if_there_are_no_locks(copy, monkeypatch):
-    def second_run():
-        monkeypatch.setattr(writer, "stored_values", texts)
-        parquet.add_filters(copy, copy, ["b"])
-
-    meanwhile(monkeypatch, second_run)
-    monkeypatch.setattr("fcntl.flock", lambda *_: os.stat("/none"))
-    with pytest.raises(ValueError, match="must not change"):
-        parquet.add_filters(copy, copy, ["plain"])
-    assert {name for _, name in parquet.filters(copy)} == {"b"}
-
-
-def test_what_others_put_in_place_of_the_new_file_is_not_touched(copy, tmp_path, monkeypatch):
-    secret = tmp_path / "secret"
-    secret.write_bytes(b"key")
-    secret.chmod(0o600)
-
-    def put_a_link():
-        new, = tmp_path.glob(".sketch_hash-*")
-        new.unlink()
-        new.symlink_to(secret)
-
-    meanwhile(monkeypatch, put_a_link)
-    with pytest.raises(ValueError, match="^the file to replace must not change"):
-        parquet.add_filters(copy, copy, ["plain"])
-    assert secret.read_bytes() == b"key" and stat.S_IMODE(secret.stat().st_mode) == 0o600
-    assert copy.read_bytes() == ODD.read_bytes() and not copy.is_symlink()
-
-
-def test_a_folder_that_cannot_be_synced_is_an_error_at_once(copy, tmp_path, monkeypatch):
-    def open_in_such_a_folder(path, *args, open=os.open, **kwargs):
-        if os.path.isdir(path):
-            raise PermissionError(13, "Permission denied", path)
-        return open(path, *args, **kwargs)
-
-    monkeypatch.setattr(os, "open", open_in_such_a_folder)
-    with pytest.raises(PermissionError):
-        parquet.add_filters(copy, copy, ["plain"])
-    assert copy.read_bytes() == ODD.read_bytes() and os.listdir(tmp_path) == ["a.parquet"]
-
-
-def test_an_error_names_the_folder_that_cannot_be_written_to(copy, tmp_path, monkeypatch):
-    def open_but_create_nothing(path, flags, *args, open=os.open, **kwargs):
-        if flags & os.O_CREAT:
-            raise PermissionError(13, "Permission denied", path)
-        return open(path, flags, *args, **kwargs)
-
-    monkeypatch.setattr(os, "open", open_but_create_nothing)
-    with pytest.raises(PermissionError, match=re.escape(f"{tmp_path}/.sketch_hash-")):
-        parquet.add_filters(copy, copy, ["plain"])
-
-
-@pytest.mark.parametrize("make", [os.mkdir, os.mkfifo, lambda path: socket.socket(socket.AF_UNIX).bind(str(path))],
-                         ids=["folder", "FIFO", "socket"])
-def test_only_a_regular_file_is_read_or_replaced(make, copy, tmp_path):
-    special = tmp_path / "b"
-    make(special)
-    kind = stat.S_IFMT(special.stat().st_mode)
-    with pytest.raises(ValueError, match="^the file to replace must be a regular file$"):
-        parquet.add_filters(copy, special, ["plain"])
-    for call in (lambda: parquet.add_filters(special, copy, ["plain"]), lambda: parquet.filters(special)):
-        with pytest.raises((OSError, ValueError)):
-            call()
-    assert stat.S_IFMT(special.stat().st_mode) == kind and set(os.listdir(tmp_path)) == {"a.parquet", "b"}
-
-
-def test_a_killed_run_leaves_the_target(copy, tmp_path):
-    code = f"""import os, test_parquet; from sketch_hash import parquet; from sketch_hash.parquet import files, writer
-writer.stored_values, files.Source.check_unchanged = test_parquet.texts, lambda *_: os.kill(os.getpid(), 9)
-parquet.add_filters({str(copy)!r}, {str(copy)!r}, ["plain"])"""
-    done = subprocess.run([sys.executable, "-c", code], env={**os.environ, "PYTHONPATH": os.pathsep.join(sys.path)})
-    assert done.returncode == -signal.SIGKILL and copy.read_bytes() == ODD.read_bytes()
-    assert sorted(name[:13] for name in os.listdir(tmp_path)) == [".sketch_hash-", "a.parquet"]
-
-
-@pytest.mark.parametrize("send, number, status", [
-    (os.kill, signal.SIGTERM, 143), (os.killpg, signal.SIGTERM, 143), (os.killpg, signal.SIGINT, 130),
-    (os.kill, signal.SIGKILL, -9),
-])
-def test_a_stopped_run_of_several_processes_leaves_all_files(send, number, status, tmp_path):
-    """Those in work and those that wait, and no new one."""
-    (tmp_path / "code").mkdir()
-    (tmp_path / "code/sitecustomize.py").write_text("""import time
-from sketch_hash.parquet import writer
-writer.stored_values = lambda *_: time.sleep(60)""")
-    (tmp_path / "files").mkdir()
-    names = [f"{i}.parquet" for i in range(6)]
-    for name in names:
-        shutil.copy(ODD, tmp_path / "files" / name)
-    command = [sys.executable, "-m", "sketch_hash.parquet", "add", "-c", "plain", "--jobs", "2", tmp_path / "files"]
-    path = os.pathsep.join([str(tmp_path / "code"), *sys.path])
-    process = subprocess.Popen(command, env={**os.environ, "PYTHONPATH": path}, start_new_session=True)
-    until(lambda: len(os.listdir(tmp_path / "files")) == len(names) + 2)
-    send(process.pid, number)
-    assert process.wait(30) == status
-    until(lambda: sorted(os.listdir(tmp_path / "files")) == names)
-    assert all((tmp_path / "files" / name).read_bytes() == ODD.read_bytes() for name in names)
-
-
-def until(is_so):
-    end = time.monotonic() + 30
-    while not is_so():
-        assert time.monotonic() < end
-        time.sleep(0.02)
-
-
-def test_a_missing_pyarrow_is_named(copy, tmp_path, monkeypatch):
-    monkeypatch.setattr(writer, "stored_values", stored_values)
-    monkeypatch.setitem(sys.modules, "pyarrow", None)
-    with pytest.raises(ImportError, match="^this call needs pyarrow: pip install pyarrow$"):
-        parquet.add_filters(copy, tmp_path / "b.parquet", ["plain"])
-    assert os.listdir(tmp_path) == ["a.parquet"]
-
-
-def run(*args):
-    command = [sys.executable, "-m", "sketch_hash.parquet", *map(str, args)]
-    return subprocess.run(command, capture_output=True, text=True)
-
-
-@pytest.mark.parametrize("args, status, text", [
-    (["add", "-c", "bool", ODD], 1, "odd.parquet: the column bool must not be BOOLEAN"),
-    (["check", DATA / "none"], 1, "none: .*No such file"), ([], 2, "usage"),
-    (["add", "-c", "x", "-o", "y", ODD, ODD], 2, "--output must come with one FILE"),
-    (["add", "-c", "x", "-e", "2", ODD], 2, "error_rate must be above 0 and below 1"),
-    (["add", "-c", "x", "-m", "5", ODD], 2, "max_bytes must be at least 32, not 5"),
-], ids=range(6))
-def test_the_command_reports_errors(args, status, text):
-    done = run(*args)
-    assert done.returncode == status and done.stdout == ""
-    assert re.search(text, done.stderr)
-
-
-def test_a_command_line_has_the_values_of_each_type():
-    texts = {"time_ms": "01:02:00.003", "ms": "2026-01-01 01:01:00", "us_utc": "2026-01-01T01:01:01", "fixed": b"0000".hex()}
-    for leaf in parquet.open(FILTERS).footer.columns():
-        if leaf.name != "binary":
-            value = VALUES[leaf.name](0)
-            assert keys_of(parse(texts.get(leaf.name, str(value)), leaf), leaf) == keys_of(value, leaf)
-            if leaf.kind.type != BYTE_ARRAY:
-                pytest.raises(ValueError, parse, "dog", leaf).match("cannot have 'dog'$")
-
-
-def test_the_command_shows_and_asks():
-    done = run("show", FILTERS)
-    rows = [line.split("\t") for line in done.stdout.splitlines()]
-    assert {(int(group), name): int(num_bytes) for _, group, name, num_bytes, _ in rows} == parquet.filters(FILTERS)
-    assert done.returncode == 0 and all(float(rate) < 0.01 for *_, rate in rows)
-    found, absent, wrong = (run("ask", FILTERS, "int32", text) for text in ("8000", "5", "fox"))
-    assert found.stdout == f"{FILTERS}: 1 of 3 row groups: 1\n" and absent.stdout == f"{FILTERS}: 0 of 3 row groups\n"
-    assert (found.returncode, absent.returncode, wrong.returncode) == (0, 3, 1)
-    assert "the column int32 cannot have 'fox'" in wrong.stderr
-    assert run("ask", ODD, "plain", "dog").stdout == f"{ODD}: 3 of 3 row groups, 3 without a filter: 0 1 2\n"
-
-
-def test_the_command_takes_folders_and_its_status_tells_what_is_wrong(tmp_path):
-    for name in ("a.parquet", "year=2026/b.parquet", "_x/c.parquet", ".d.parquet", "e.txt"):
-        (tmp_path / name).parent.mkdir(exist_ok=True)
-        shutil.copy(ODD, tmp_path / name)
-    done = run("check", tmp_path, "--jobs", 2)
-    assert done.stdout == f"{tmp_path}/a.parquet: no filters\n{tmp_path}/year=2026/b.parquet: no filters\n"
-    assert done.returncode == 3 and done.stderr == ""
-    (tmp_path / "a.parquet").write_bytes(b"junk")
-    done = run("show", tmp_path, tmp_path / "none")
-    assert done.returncode == 1 and len(done.stderr.splitlines()) == 2 and done.stdout.endswith("b.parquet: no filters\n")
-    (tmp_path / "empty").mkdir()
-    done = run("add", "-c", "plain", tmp_path / "empty")
-    assert done.returncode == 3 and "no file ends in .parquet" in done.stderr
-
-
-def test_the_command_adds_and_checks(pa, tmp_path):
-    file = str(shutil.copy(ODD, tmp_path / "a"))
-    assert run("add", "-c", "plain", "-c", "b", "-e", "0.1", file).stdout == f"{file}: 282 bytes of filters\n"
-    assert run("check", file).stdout == f"{file}: 6 filters have all values\n"
-    assert run("add", "-c", "plain", "--skip-existing", "--jobs", 2, tmp_path / "a").stdout == f"{file}: nothing to add\n"
-    assert run("add", "-c", "plain", "-m", "64", "--replace", file).stdout == f"{file}: 141 bytes of filters\n"
-    place = parquet.open(file).footer.find(["b"])[0].place(1)[0] + 15
-    with open(file, "r+b") as opened:  # an empty filter
-        opened.seek(place)
-        opened.write(bytes(32))
-    done = run("check", file, str(FILTERS))
-    assert done.returncode == 4 and done.stdout == f"{FILTERS}: {3 * len(VALUES)} filters have all values\n"
-    assert f"{file}: the filter of b in row group 1 lacks a value" in done.stderr
+@pytest.mark.parametrize("mode", ["rb", "r+b"])
+@pytest.mark.parametrize("buffering", [-1, 0])
+def test_forked_processes_may_ask_one_open_file(mode, buffering, tmp_path):
+    """They share its position."""
+    code = f"""import os, sys
+from sketch_hash import parquet
+with open({str(shutil.copy(FILTERS, tmp_path / "a"))!r}, {mode!r}, buffering={buffering}) as file, parquet.open(file) as reader:
+    children = []
+    for _ in range(3):
+        children.append(os.fork())
+        if children[-1] == 0:
+            wrong = sum(i // 8 not in reader.may_contain("int32", [i * 1000])[0] for _ in range(99) for i in (0, 8, 16))
+            os._exit(min(wrong, 9))
+    assert [os.waitpid(child, 0)[1] for child in children] == [0, 0, 0]"""
+    subprocess.run([sys.executable, "-c", code], check=True, env={**os.environ, "PYTHONPATH": os.pathsep.join(sys.path)})

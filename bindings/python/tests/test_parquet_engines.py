@@ -1,8 +1,6 @@
-"""Filters of Parquet files beside those of pyarrow, and in queries of DuckDB."""
-import subprocess
-
+"""Filters of Parquet files beside those of pyarrow."""
 import pytest
-from helpers import TYPES, column_of
+from helpers import TYPES, column_of, rate_of
 from sketch_hash import parquet
 from sketch_hash.parquet.pyarrow_values import stored_values
 
@@ -35,6 +33,17 @@ def test_filters_are_those_of_pyarrow(name, pa, tmp_path):
         assert parquet.check_filters(ours) == parquet.check_filters(theirs) == 3
 
 
+@pytest.mark.parametrize("rows", [100_000, 122_880, 1 << 20])
+def test_filters_of_usual_row_groups_are_as_small_as_those_of_pyarrow(rows, pa, tmp_path):
+    table = pa.table({"x": range(rows)})
+    pa.parquet.write_table(table, tmp_path / "plain", row_group_size=rows)
+    pa.parquet.write_table(table, tmp_path / "theirs", row_group_size=rows, bloom_filter_options={"x": True})
+    parquet.add_filters(tmp_path / "plain", tmp_path / "ours", ["x"])
+    assert parquet.read_filter(tmp_path / "ours", 0, "x") == parquet.read_filter(tmp_path / "theirs", 0, "x")
+    parquet.add_filters(tmp_path / "plain", tmp_path / "ours", ["x"], error_rate=0.01)
+    assert rate_of(parquet.read_filter(tmp_path / "ours", 0, "x")) <= 0.01
+
+
 def test_nested_columns_have_filters_of_their_values(pa, tmp_path):
     rows = [None if i % 5 == 2 else [{"a": i, "m": [(str(i), None if i % 3 else i)]}] * (i % 3) for i in range(100)]
     type = pa.list_(pa.struct([("a", pa.int32()), ("m", pa.map_(pa.string(), pa.int64()))]))
@@ -63,36 +72,3 @@ def test_long_texts_are_read_a_few_at_a_time(is_list, pa, tmp_path):
     assert max(sizes) < 1 << 26 and sum(sizes) > 5000 * 40_000
     parquet.add_filters(tmp_path / "a", tmp_path / "a", [column.name])
     assert parquet.may_contain(tmp_path / "a", column.name, "x" * 40_000) == [0]
-
-
-def duckdb(folder, *queries):
-    """The rows of the answers, in which only the first column counts."""
-    command = ["duckdb", "-csv", "-noheader", "-nullvalue", "none", "-separator", "|", "-c", ";".join(queries)]
-    output = subprocess.run(command, cwd=folder, capture_output=True, text=True)
-    assert output.returncode == 0, output.stderr[-500:]
-    return output.stdout.splitlines()
-
-
-def test_duckdb_finds_the_same_rows_and_prunes(need, pa, tmp_path):
-    need("duckdb")
-    types = [type for type in ALL_TYPES if type not in ("binary", "binary(4)", "date64", "duration('s')")]
-    table = pa.table({f"c{i}": column_of(pa, type) for i, type in enumerate(types)})
-    pa.parquet.write_table(table, tmp_path / "plain.parquet", row_group_size=700, write_statistics=False)
-    parquet.add_filters(tmp_path / "plain.parquet", tmp_path / "filters.parquet", table.column_names)
-    rows = (0, 1234, 2998)
-    values = duckdb(tmp_path, *(f"select {name}::varchar from 'plain.parquet' limit 1 offset {row}"
-                                for name in table.column_names for row in rows))
-    assert "none" not in values
-    asked = [f"select count(*) from '{{0}}' where {name} = '{value}'"
-             for i, name in enumerate(table.column_names) for value in values[3 * i : 3 * i + 3]]
-    plain = duckdb(tmp_path, *(query.format("plain.parquet") for query in asked))
-    filtered = duckdb(tmp_path, *(query.format("filters.parquet") for query in asked))
-    assert filtered == plain and "0" not in plain
-
-    probe = "select bloom_filter_excludes from parquet_bloom_probe('filters.parquet', '{}', {})"
-    for name, type, value in ((f"c{i}", type, v) for i, type in enumerate(types)
-                              for v in (5, 99999, "0007", "dog") if (type == "string") == isinstance(v, str)):
-        if type in ("int32", "int64", "string"):
-            excluded = duckdb(tmp_path, probe.format(name, repr(value)))
-            groups = parquet.may_contain(tmp_path / "filters.parquet", name, value)
-            assert [i for i, answer in enumerate(excluded) if answer == "false"] == groups and len(groups) < 6

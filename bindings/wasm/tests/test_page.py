@@ -126,6 +126,7 @@ def test_a_file_has_three_hashes_and_a_size(length, page):
     page.wait_for_hashes("file", hashes(data))
     assert page.in_card("file", ".size").text == ("64.0 MiB" if length > 43 else f"{length} bytes")
     assert not page.in_card("file", "progress").is_displayed()
+    assert ("could not be read" in page.in_card("file", ".status").text) == (length == 0)
 
 
 def test_many_files_are_hashed(page):

@@ -1,9 +1,9 @@
 """The Bloom filter of Apache Parquet."""
 cimport cython
-from cpython.buffer cimport PyBUF_C_CONTIGUOUS, PyBUF_SIMPLE, PyBUF_WRITABLE, PyBuffer_FillInfo
+from cpython.buffer cimport PyBUF_C_CONTIGUOUS, PyBUF_FULL_RO, PyBUF_SIMPLE, PyBUF_WRITABLE, PyBuffer_FillInfo
 from cpython.bytearray cimport PyByteArray_AS_STRING, PyByteArray_FromStringAndSize
 from cpython.bytes cimport PyBytes_AS_STRING, PyBytes_FromStringAndSize
-from cpython.ref cimport Py_DECREF
+from cpython.ref cimport Py_DECREF, Py_INCREF
 from libc.stdint cimport uint32_t, uint64_t, uintptr_t
 from libc.string cimport memcpy
 
@@ -142,7 +142,44 @@ cdef BloomFilter copy_of(const void *bits, size_t length):
     return filter
 
 
-# The garbage collector breaks a cycle at another object, so the memory of the bits lives as long as the filter.
+# The garbage collector breaks a cycle at another object, so an export lives as long as the filter that has it.
+@cython.final
+@cython.no_gc_clear
+cdef class Export:
+    """Keeps the memory of a memoryview, which anyone may release who finds it.
+
+    It exports the memory of the owner again. That the export refers to the owner is hidden from the garbage collector, which
+    sees `owner` instead: so a cycle is found. An owner whose memory is another one each time is not asked again: then the
+    memoryview itself is exported, and a cycle is not found, since CPython crashes if one is cleared with exports.
+    """
+
+    cdef View memory
+    cdef object owner  # or None
+
+    def __cinit__(self, view):
+        cdef View *seen = PyMemoryView_GET_BUFFER(view)
+        try:
+            PyObject_GetBuffer(view.obj, &self.memory, PyBUF_FULL_RO)
+        except (BufferError, TypeError, ValueError):
+            self.memory.obj = NULL
+        if self.memory.obj is not NULL and is_within(seen, &self.memory):
+            self.owner = <object>self.memory.obj
+            Py_DECREF(self.owner)
+        else:
+            PyBuffer_Release(&self.memory)
+            PyObject_GetBuffer(view, &self.memory, PyBUF_FULL_RO)
+
+    def __dealloc__(self):
+        if self.owner is not None:
+            Py_INCREF(self.owner)
+        PyBuffer_Release(&self.memory)
+
+
+cdef bint is_within(const View *part, const View *memory) noexcept:
+    cdef uintptr_t begin = <uintptr_t>part.buf, start = <uintptr_t>memory.buf
+    return PyBuffer_IsContiguous(memory, c"A") and start <= begin and begin + part.len <= start + memory.len
+
+
 @cython.final
 @cython.no_gc_clear
 cdef class BloomFilter:
@@ -181,11 +218,10 @@ cdef class BloomFilter:
         return 0
 
     cdef int adopt_memoryview(self, object memory) except -1:
-        """As adopt, but nothing is exported: CPython crashes if the garbage collector clears a memoryview with exports."""
         cdef View bits = PyMemoryView_GET_BUFFER(memory)[0]
         bits.obj = NULL
         check_length(bits.len)
-        self.swap_memory(&bits, memory)
+        self.swap_memory(&bits, Export(memory))
         PyBuffer_Release(&bits)
         return 0
 

@@ -1,21 +1,24 @@
 """Bloom filters of Parquet files: added to a finished file, read, and asked for values.
 
-add_filters and check_filters need pyarrow, which reads the values. All else needs Python alone.
+add_filters and check_filters need pyarrow, which reads the values, and so do URIs and file systems. All else needs Python
+alone.
 """
 from .reader import BloomFilterReader
-from .writer import FilterError, add_filters, check_filters
+from .writer import FilterError, add_filters, check_filters, remove_filters
 
 __all__ = [
     "BloomFilterReader", "FilterError", "add_filters", "check_filters", "filters", "may_contain", "open", "read_filter",
+    "remove_filters",
 ]
 
 
-def open(file):
-    """A BloomFilterReader of a path, or of an open binary file, which stays open.
+def open(file, *, filesystem=None):
+    """A BloomFilterReader of a path, a URI, a path in a filesystem of pyarrow or fsspec, or an open binary file, which stays
+    open.
 
     Its calls are those of this module without the file, but may_contain takes many values: use it to ask a file often.
     """
-    return BloomFilterReader(file)
+    return BloomFilterReader(file, filesystem=filesystem)
 
 
 def filters(file):

@@ -4,61 +4,72 @@ Exit status: 0 if all is done, 1 if a file failed (the others are done), 2 if th
 (a file without filters; with ask, no row group that may have the value), 4 if a filter lacks a value, so queries lose rows.
 """
 import argparse
-import concurrent.futures
 import functools
-import multiprocessing
+import json
 import os
-import signal
 import sys
-import threading
 import warnings
 
 from .keys import parse
+from .processes import each, end, end_of_signal, on_stop
 from .reader import BloomFilterReader, all_places, false_positive_rate
-from .writer import Builder, FilterError, add_filters, check_filters
+from .stores import place_of
+from .writer import Builder, FilterError, add_filters, check_filters, remove_filters
 
 DONE, FAILED, _, NOTHING, WRONG = range(5)
-CLEAR = "\r\x1b[K" if sys.stderr.isatty() else ""  # the line of a bar
+CLEAR = "\r\x1b[K" if sys.stderr and sys.stderr.isatty() else ""  # the line of a bar
+COMMANDS = {
+    "add": "adds filters to files, in place or to another one",
+    "remove": "removes filters",
+    "check": "reads all values, and looks them up in the filters",
+    "show": "prints for each filter: file, row group, column, bytes, false positive rate by its bits",
+    "ask": "prints the row groups that may have a value, of each file that has some",
+}
 
 
 def main():
+    on_stop(end_of_signal)
+    open_outputs()
     parser = argparse.ArgumentParser(prog="python3 -m sketch_hash.parquet", description=__doc__,
                                      formatter_class=argparse.RawDescriptionHelpFormatter)
     commands = parser.add_subparsers(dest="command", required=True)
-    for name, call, text in (
-        ("add", add, "adds filters to files, in place or to another one"),
-        ("check", check, "reads all values, and looks them up in the filters"),
-        ("show", show, "prints for each filter: file, row group, column, bytes, false positive rate by its bits"),
-        ("ask", ask, "prints the row groups that may have a value"),
-    ):
-        command = commands.add_parser(name, help=text, description=text)
-        command.set_defaults(call=call)
-        command.add_argument("files", nargs="+", metavar="FILE", help="or a folder")
-        command.add_argument("--jobs", type=int, default=1, metavar="N", help="how many processes work; 1 if left out")
+    for name, text in COMMANDS.items():
+        add_common_options(commands.add_parser(name, help=text, description=text))
     add_options(commands.choices["add"])
+    commands.choices["remove"].add_argument("-c", "--column", action="append", help="all columns if left out")
+    for name in ("add", "remove"):
+        commands.choices[name].add_argument("-o", "--output", help="the file to write, if there is one FILE")
     commands.choices["ask"].add_argument("column", metavar="COLUMN")
     commands.choices["ask"].add_argument("value", metavar="VALUE", help="as 42, 2026-01-31, fox; hexadecimal for fixed bytes")
     args = parser.parse_args()
-    if args.command == "add":
-        check_options(args, parser)
-    if args.jobs < 1:
-        parser.error("--jobs must be at least 1")
-    sys.stdout.reconfigure(errors="surrogateescape")  # a name may be any bytes
-    signal.signal(signal.SIGTERM, stop)
-    return run(args)
+    check_options(args, parser)
+    files = list(dict.fromkeys(files_of(args.files)))
+    if getattr(args, "output", None) and files != args.files:
+        parser.error("--output must come with one FILE")
+    return run(args, files)
 
 
-def stop(*_):
-    """Ends the process, and removes the file in work. A second signal must not interrupt that."""
-    signal.signal(signal.SIGTERM, signal.SIG_IGN)
-    sys.exit(128 + signal.SIGTERM)
+def open_outputs():
+    """Closed ones become /dev/null: else the next files would take their places. A name may be any bytes."""
+    while (number := os.open(os.devnull, os.O_RDWR)) <= 2:
+        pass
+    os.close(number)
+    sys.stdout, sys.stderr = (stream or open(os.devnull, "w") for stream in (sys.stdout, sys.stderr))
+    sys.stdout.reconfigure(errors="surrogateescape")
+
+
+def add_common_options(command):
+    command.add_argument("files", nargs="+", metavar="FILE", help="or a folder")
+    command.add_argument("--jobs", type=int, default=1, metavar="N", help="how many processes work; 1 if left out")
+    output = command.add_mutually_exclusive_group()
+    output.add_argument("--quiet", action="store_true", help="prints errors and warnings alone")
+    output.add_argument("--json", action="store_true", help="prints a JSON object for each file, in a line")
 
 
 def add_options(command):
     command.add_argument("-c", "--column", action="append", required=True, help="as id or address.city; may be repeated")
-    command.add_argument("-e", "--error-rate", type=float, default=0.01, help="0.01 if left out")
+    command.add_argument("-e", "--error-rate", type=float, help="as 0.01; about 1 %% if left out")
     command.add_argument("-m", "--max-bytes", type=int, help="of a filter, whatever its error rate then is")
-    command.add_argument("-o", "--output", help="the file to write, if there is one FILE")
     existing = command.add_mutually_exclusive_group()
     existing.add_argument("--replace", action="store_true", help="replaces filters that a file has")
     existing.add_argument("--skip-existing", action="store_true", help="keeps them, and adds those that are missing")
@@ -66,133 +77,132 @@ def add_options(command):
 
 def check_options(args, parser):
     """Ends the program if no file could be changed with such options."""
-    if args.output and (len(args.files) > 1 or os.path.isdir(args.files[0])):
-        parser.error("--output must come with one FILE")
-    try:
-        Builder(args.error_rate, args.max_bytes)
-    except ValueError as error:
-        parser.error(str(error))
+    if args.jobs < 1:
+        parser.error("--jobs must be at least 1")
+    if getattr(args, "output", None) == "-":
+        parser.error("--output must be a file: ./- is one of that name")
+    if args.command == "add":
+        try:
+            Builder(args.error_rate, args.max_bytes)
+        except ValueError as error:
+            parser.error(str(error))
 
 
-def run(args):
-    statuses, files = set(), list(dict.fromkeys(files_of(args.files)))
+def run(args, files):
+    statuses = set()
     if not files:
-        print("sketch_hash.parquet: no file ends in .parquet", file=sys.stderr)
-    try:
-        for status, text in each(functools.partial(run_on, args), files, args.jobs):
-            statuses.add(status)
-            if status in (FAILED, WRONG):
-                print(f"{CLEAR}sketch_hash.parquet: {text}", file=sys.stderr)
-            elif text:
-                print(text, flush=True)
-    except KeyboardInterrupt:
-        return 128 + signal.SIGINT
-    except BrokenPipeError:  # as of head
-        os.dup2(os.open(os.devnull, os.O_WRONLY), sys.stdout.fileno())
-        return FAILED
-    except concurrent.futures.BrokenExecutor:
-        print(f"{CLEAR}sketch_hash.parquet: a process was killed, so files are left", file=sys.stderr)
-        statuses.add(FAILED)
+        print_error("no file ends in .parquet")
+    for result in each(functools.partial(run_on, args), files, min(args.jobs, max(len(files), 1)), failed):
+        statuses.add(result["status"])
+        try:
+            report(args, result)
+        except BrokenPipeError:  # as of head
+            end(FAILED)
+        except OSError as error:
+            print_error(f"the output cannot be written: {error.strerror}")
+            os.dup2(os.open(os.devnull, os.O_WRONLY), sys.stdout.fileno())
+            statuses.add(FAILED)
     order = (WRONG, FAILED, DONE, NOTHING) if args.command == "ask" else (WRONG, FAILED, NOTHING, DONE)
     return next((status for status in order if status in statuses), NOTHING)
 
 
-def each(task, files, jobs):
-    """The result for each file. A forked process would share locks with the threads of its parent, so none is."""
-    if jobs == 1:
-        yield from map(task, files)
-        return
-    with concurrent.futures.ProcessPoolExecutor(jobs, multiprocessing.get_context("spawn"), begin_worker) as pool:
-        try:
-            yield from pool.map(functools.partial(as_worker, task), files)
-        except BaseException:
-            for worker in multiprocessing.active_children():
-                worker.terminate()
-            raise
+def report(args, result):
+    text = result.pop("text", None)
+    if args.json:
+        print(json.dumps(result), flush=True)
+    elif "error" in result:
+        print_error(f"{shown(result['file'])}: {result['error']}")
+    elif result.get("notes") or text and not args.quiet:
+        print("; ".join([*[text] * bool(text), *result.get("notes", [])]), flush=True)
 
 
-def begin_worker():
-    """The process that started this one ends it by SIGTERM. If it was killed, this one would wait for work for ever."""
-    def stop_with_parent():
-        multiprocessing.parent_process().join()
-        os.kill(os.getpid(), signal.SIGTERM)
-
-    signal.signal(signal.SIGINT, signal.SIG_IGN)  # Ctrl-C sends it to both
-    signal.signal(signal.SIGTERM, stop)
-    threading.Thread(target=stop_with_parent, daemon=True).start()
-
-
-def as_worker(task, file):
+def print_error(text):
     try:
-        return task(file)
-    except SystemExit:
-        os._exit(FAILED)  # else the pool gives this process the next file
+        print(f"{CLEAR}sketch_hash.parquet: {text}", file=sys.stderr, flush=True)
+    except OSError:
+        pass
+
+
+def shown(name):
+    """A name without what moves the cursor of a terminal, or ends a line."""
+    return "".join(c if c.isprintable() or "\ud800" <= c <= "\udfff" else repr(c)[1:-1] for c in name)
 
 
 def files_of(paths):
-    """The files at paths and below folders, as in pyarrow's datasets without names that begin with . or _. A folder that
-    cannot be read is returned itself, and to open it fails."""
+    """The files at paths and below folders, of which those of a store are URIs."""
     for path in paths:
-        if not os.path.isdir(path):
-            yield path
-            continue
-        unread = []
-        for folder, folders, names in os.walk(path, onerror=lambda error: unread.append(error.filename)):
-            folders[:] = sorted(name for name in folders if name[0] not in "._")
-            yield from (os.path.join(folder, name) for name in sorted(names)
-                        if name.endswith(".parquet") and name[0] not in "._")
-        yield from unread
+        try:
+            place = place_of(path)
+            names = [*place.names()] if place.is_folder() else [os.curdir]
+        except Exception:  # to open it fails again, and is reported
+            names = [os.curdir]
+        yield from (path if name == os.curdir else os.path.join(path, name) for name in names)
+
+
+def failed(file, reason):
+    return {"file": file, "status": FAILED, "error": reason}
 
 
 def run_on(args, file):
-    """The exit status for a file, and the line about it. The others go on if it fails."""
+    """What is reported about a file. The others go on if it fails."""
     try:
-        return args.call(args, file)
+        with warnings.catch_warnings(record=True) as caught:
+            warnings.simplefilter("always")
+            status, text, details = CALLS[args.command](args, file)
+        notes = [str(note.message) for note in caught if note.category is UserWarning]
+        return {"file": file, "status": status, "text": text, **details, **({"notes": notes} if notes else {})}
     except FilterError as error:
-        return WRONG, f"{file}: {error}"
+        return {"file": file, "status": WRONG, "error": str(error)}
     except Exception as error:
-        return FAILED, f"{file}: {' '.join(str(error).split()) or type(error).__name__}"
+        return failed(file, " ".join(str(error).split()) or type(error).__name__)
 
 
 def add(args, file):
-    with warnings.catch_warnings(record=True) as notes:
-        warnings.simplefilter("always")
-        size = add_filters(
-            file, args.output or file, args.column, error_rate=args.error_rate, max_bytes=args.max_bytes,
-            replace=args.replace, skip_existing=args.skip_existing, progress=bar_of(file))
-    texts = [str(note.message) for note in notes if note.category is UserWarning]
-    return DONE, "; ".join([f"{file}: {size} bytes of filters" if size else f"{file}: nothing to add", *texts])
+    size = add_filters(
+        file, args.output or file, args.column, error_rate=args.error_rate, max_bytes=args.max_bytes,
+        replace=args.replace, skip_existing=args.skip_existing, progress=bar_of(file))
+    return DONE, f"{shown(file)}: {size} bytes of filters" if size else f"{shown(file)}: nothing to add", {"bytes": size}
+
+
+def remove(args, file):
+    count = remove_filters(file, args.output or file, args.column)
+    return DONE, f"{shown(file)}: {count} filters removed", {"filters": count}
 
 
 def check(args, file):
     count = check_filters(file, progress=bar_of(file))
-    return (DONE, f"{file}: {count} filters have all values") if count else (NOTHING, f"{file}: no filters")
+    text = f"{shown(file)}: {count} filters have all values" if count else f"{shown(file)}: no filters"
+    return DONE if count else NOTHING, text, {"filters": count}
 
 
 def show(args, file):
-    lines = []
     with BloomFilterReader(file) as reader:
-        for column, group, (begin, num_bytes) in all_places(reader.source, reader.footer):
-            rate = false_positive_rate(reader.source.read(begin, num_bytes))
-            lines.append(f"{file}\t{group}\t{column.name}\t{num_bytes}\t{rate:.3g}")
-    return (DONE, "\n".join(lines)) if lines else (NOTHING, f"{file}: no filters")
+        found = [{"row_group": group, "column": column.name, "bytes": num_bytes,
+                  "rate": false_positive_rate(reader.source.read(begin, num_bytes))}
+                 for column, group, (begin, num_bytes) in all_places(reader.source, reader.footer)]
+    lines = [f"{shown(file)}\t{row['row_group']}\t{shown(row['column'])}\t{row['bytes']}\t{row['rate']:.3g}" for row in found]
+    return DONE if found else NOTHING, "\n".join(lines) or f"{shown(file)}: no filters", {"filters": found}
 
 
 def ask(args, file):
     with BloomFilterReader(file) as reader:
         column, = reader.footer.find([args.column])
         groups, = reader.may_contain(args.column, [parse(args.value, column)])
-        text = f"{file}: {len(groups)} of {reader.num_row_groups} row groups"
         without = sum(column.place(group)[0] is None for group in groups)
+        text = f"{shown(file)}: {len(groups)} of {reader.num_row_groups} row groups"
         text += f", {without} without a filter" if without else ""
-    return (DONE, f"{text}: {' '.join(map(str, groups))}") if groups else (NOTHING, text)
+        details = {"row_groups": groups, "num_row_groups": reader.num_row_groups, "without_filter": without}
+    return (DONE, f"{text}: {' '.join(map(str, groups))}", details) if groups else (NOTHING, None, details)
+
+
+CALLS = {"add": add, "remove": remove, "check": check, "show": show, "ask": ask}
 
 
 def bar_of(file):
     """What draws on a terminal how many filters of a file are done."""
     def bar(steps, total):
         for done, step in enumerate(steps):
-            print(f"{CLEAR}{file[-60:]}: {done} of {total} filters", end="", file=sys.stderr, flush=True)
+            print(f"{CLEAR}{shown(file[-60:])}: {done} of {total} filters", end="", file=sys.stderr, flush=True)
             yield step
         print(CLEAR, end="", file=sys.stderr, flush=True)
 

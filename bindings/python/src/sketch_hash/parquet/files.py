@@ -3,6 +3,7 @@ import contextlib
 import io
 import os
 import pathlib
+import re
 import secrets
 import stat
 import threading
@@ -13,6 +14,7 @@ except ImportError:  # not a POSIX system
     fcntl = None
 
 MOST_READ, MOST_PARTS = 1 << 24, 1000  # bytes that are read at a time, and parts of them
+PREFIX = ".sketch_hash-"  # of the name of a new file that is not in place yet
 # Of open files, by their addresses.
 LOCKS = [threading.Lock() for _ in range(61)]
 
@@ -29,16 +31,20 @@ def open_file(path):
 class Source:
     """Reads an open file at any place, also if several threads do so.
 
-    A file that open() opened to be read keeps its position. For another one a seek and a read must not be mixed with
-    those of other threads, so calls on one file take turns. Its fileno(), as that of a GzipFile, may be of another file.
+    A file that open() opened keeps its position, also for forked processes. For another one a seek and a read must not be
+    mixed with those of other threads, so calls on one file take turns. Its fileno(), as that of a GzipFile, may be of another
+    file.
     """
 
     def __init__(self, file):
         self.file = file
-        self.is_local = isinstance(file, io.BufferedReader) and isinstance(file.raw, io.FileIO) and hasattr(os, "pread")
+        self.is_local = hasattr(os, "pread") and isinstance(file, (io.BufferedReader, io.BufferedRandom, io.FileIO)) and (
+            isinstance(getattr(file, "raw", file), io.FileIO))
         # To read so many bytes more is faster than to read twice: to copy memory than a system call, or than a request.
         self.gap = 1 << 13 if self.is_local else 1 << 20
         if self.is_local:
+            if file.writable():
+                file.flush()
             self.status = os.fstat(file.fileno())
             self.size = self.status.st_size
         else:
@@ -105,26 +111,132 @@ def status_of(name, folder):
 
 
 def check_no_table(path):
-    """Raises ValueError if folders show that a file is of a table of Delta Lake or Iceberg, which record its size."""
-    for folder in (*pathlib.Path(path).absolute().parents, *pathlib.Path(path).resolve().parents):
-        if (folder / "_delta_log").is_dir() or any((folder / "metadata").glob("*.metadata.json*")):
+    """Raises ValueError if folders show that a file is of a table of Delta Lake or Iceberg, which record its size, or if
+    they cannot be read."""
+    for folder in {*pathlib.Path(path).absolute().parents, *pathlib.Path(path).resolve().parents}:
+        try:
+            is_table = "_delta_log" in names_in(folder / "_delta_log", "_delta_log") or any(
+                ".metadata.json" in name for name in names_in(folder / "metadata"))
+        except OSError as error:
+            raise ValueError(f"the file to replace may be of a table, since {error.filename} cannot be read: write to another "
+                             "file") from error
+        if is_table:
             raise ValueError(f"the file to replace must not be of a table, as that of Delta Lake or Iceberg in {folder}, "
                              "which records the sizes of its files: write to another file")
 
 
+def names_in(folder, *more):
+    """The names in a folder and more ones, or none if it does not exist."""
+    try:
+        return [*os.listdir(folder), *more]
+    except (FileNotFoundError, NotADirectoryError):
+        return []
+
+
 def lock(number):
-    """Keeps other runs from replacing the same file. Where there are no locks, the later of two runs fails at its end."""
+    """Keeps other runs from replacing the same file. Where there are no locks, the later of two runs fails at its end.
+
+    A program that only reads may have a shared lock, which no run has: it does no harm.
+    """
     try:
         fcntl.flock(number, fcntl.LOCK_EX | fcntl.LOCK_NB)
     except BlockingIOError:
-        raise ValueError("another run is replacing the file") from None
+        try:
+            fcntl.flock(number, fcntl.LOCK_SH | fcntl.LOCK_NB)
+        except BlockingIOError:
+            raise ValueError("the file is locked by another program, or another run is replacing it") from None
     except OSError:
         pass
 
 
+# New files that are not in place yet, each as the descriptor of its folder and its name.
+UNFINISHED = set()
+# Of who creates or renames a file or starts a process. A run that is stopped takes it, and never gives it back.
+CHANGES = threading.Lock()
+
+
+def remove_unfinished():
+    """Removes the new files that this process has begun. CHANGES must be taken."""
+    for folder, name in UNFINISHED:
+        with contextlib.suppress(OSError):
+            os.unlink(name, dir_fd=folder)
+
+
+def create(folder):
+    """A new file in a folder, locked as long as this run lives, so that another run can tell: its descriptor and its name."""
+    flags = os.O_RDWR | os.O_CREAT | os.O_EXCL | os.O_NOFOLLOW
+    while True:
+        name = PREFIX + secrets.token_hex(8)
+        with CHANGES:
+            number = os.open(name, flags, 0o600, dir_fd=folder)
+            UNFINISHED.add((folder, name))
+        with contextlib.suppress(OSError):
+            fcntl.flock(number, fcntl.LOCK_EX)
+        if os.fstat(number).st_nlink:
+            return number, name
+        os.close(number)  # another run has removed it before it was locked
+        UNFINISHED.discard((folder, name))
+
+
+def sweep(folder):
+    """Removes what killed runs left in a folder: new files that nobody has locked."""
+    for name in os.listdir(folder):
+        if re.fullmatch(re.escape(PREFIX) + "[0-9a-f]{16}", name):
+            with contextlib.suppress(OSError):
+                number = os.open(name, os.O_RDWR | os.O_NOFOLLOW | os.O_NONBLOCK, dir_fd=folder)
+                try:
+                    fcntl.flock(number, fcntl.LOCK_EX | fcntl.LOCK_NB)
+                    if stat.S_ISREG(os.fstat(number).st_mode):
+                        os.unlink(name, dir_fd=folder)
+                finally:
+                    os.close(number)
+
+
+def copy_attributes(old, new):
+    """Gives a file the owner, the group, the mode, the ACL and the other extended attributes of another one, as far as the
+    user may. Returns the names of those that it does not get."""
+    status, lost = os.fstat(old), []
+    for name, owner, group in (("owner", status.st_uid, -1), ("group", -1, status.st_gid)):
+        try:
+            os.fchown(new, owner, group)
+        except OSError:
+            lost.append(name)
+    if hasattr(os, "listxattr"):
+        lost += copy_xattrs(old, new)
+    os.fchmod(new, status.st_mode & (0o777 if {"owner", "group"} & {*lost} else 0o7777))
+    return lost
+
+
+def copy_xattrs(old, new):
+    try:
+        names = os.listxattr(old)
+    except OSError:  # the file system has none
+        return []
+    for name in {*os.listxattr(new)} - {*names}:  # as an ACL that the folder gives to new files
+        with contextlib.suppress(OSError):
+            os.removexattr(new, name)
+    lost = []
+    for name in names:
+        try:
+            value = os.getxattr(old, name)
+            if value != xattr_of(new, name):
+                os.setxattr(new, name, value)
+        except OSError:
+            lost.append("ACL" if name == "system.posix_acl_access" else name)
+    return lost
+
+
+def xattr_of(number, name):
+    try:
+        return os.getxattr(number, name)
+    except OSError:
+        return None
+
+
 @contextlib.contextmanager
 def replaced(target, mode):
-    """A new file, which replaces the target once it is written and synced.
+    """A new file, which replaces the target once it is written and synced, and notes of what that has then lost. If there is
+    no target yet, it gets the mode.
 
     Others may write to the folder, so what a name leads to may change at any time. The folder and each file are opened
     once, and used by their descriptors. Just before the target is replaced, both names must lead to what they led to.
@@ -132,11 +244,11 @@ def replaced(target, mode):
     if fcntl is None:
         raise NotImplementedError("only POSIX systems can replace a file")
     path = os.path.realpath(target)
-    name, temporary = os.path.basename(path) or os.curdir, f".sketch_hash-{secrets.token_hex(8)}"
+    name, notes = os.path.basename(path) or os.curdir, []
     with contextlib.ExitStack() as stack:
         folder = os.open(os.path.dirname(path), os.O_RDONLY | os.O_DIRECTORY)
         stack.callback(os.close, folder)
-        before = status_of(name, folder)
+        before, old = status_of(name, folder), None
         if before and not stat.S_ISREG(before.st_mode):
             raise ValueError("the file to replace must be a regular file")
         if before:
@@ -144,24 +256,32 @@ def replaced(target, mode):
             old = os.open(name, os.O_RDONLY | os.O_NOFOLLOW | os.O_NONBLOCK, dir_fd=folder)
             stack.callback(os.close, old)
             lock(old)
-        flags = os.O_RDWR | os.O_CREAT | os.O_EXCL | os.O_NOFOLLOW
+        sweep(folder)
         try:
-            number = os.open(temporary, flags, 0o600, dir_fd=folder)
+            number, temporary = create(folder)
         except OSError as error:
-            error.filename = os.path.join(os.path.dirname(path), temporary)  # so that a message names the folder
+            error.filename = os.path.dirname(path)
             raise
         output = stack.enter_context(open(number, "wb"))
         try:
-            yield output
+            yield output, notes
             output.flush()
-            os.fchmod(output.fileno(), mode)
-            os.fsync(output.fileno())
-            expected = {name: before, temporary: os.fstat(output.fileno())}
+            if not before:
+                os.fchmod(number, mode)
+            elif lost := copy_attributes(old, number):
+                notes.append(f"the new file lacks what this user may not set: {', '.join(lost)}")
+            if status_of(f".{name}.crc", folder):
+                notes.append(f"Hadoop's checksum .{name}.crc is that of the old file: delete it")
+            os.fsync(number)
+            expected = {name: before, temporary: os.fstat(number)}
             if any(version_of(status_of(path, folder)) != version_of(status) for path, status in expected.items()):
                 raise ValueError("the file to replace must not change while its successor is written")
-            os.replace(temporary, name, src_dir_fd=folder, dst_dir_fd=folder)
+            with CHANGES:
+                os.replace(temporary, name, src_dir_fd=folder, dst_dir_fd=folder)
+                UNFINISHED.discard((folder, temporary))
         except BaseException:
-            with contextlib.suppress(OSError):
+            with CHANGES, contextlib.suppress(OSError):
+                UNFINISHED.discard((folder, temporary))
                 os.unlink(temporary, dir_fd=folder)
             raise
         os.fsync(folder)

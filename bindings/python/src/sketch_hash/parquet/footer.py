@@ -11,7 +11,7 @@ from ._thrift import BINARY, I32, I64, LIST, STRUCT, TRUE, Reader, Writer, list_
 # Numbers of the fields, as parquet.thrift gives them, in FileMetaData, SchemaElement, RowGroup, ColumnChunk and
 # ColumnMetaData.
 VERSION, SCHEMA, ALL_ROWS, ROW_GROUPS, CREATED_BY, ENCRYPTION = 1, 2, 3, 4, 6, 8
-TYPE, TYPE_LENGTH, REPETITION, NAME, CHILDREN, CONVERTED, SCALE, LOGICAL = 1, 2, 3, 4, 5, 6, 7, 10
+TYPE, TYPE_LENGTH, REPETITION, NAME, CHILDREN, CONVERTED, SCALE, PRECISION, LOGICAL = 1, 2, 3, 4, 5, 6, 7, 8, 10
 COLUMNS, BYTE_SIZE, ROWS = 1, 2, 3
 FILE_PATH, FILE_OFFSET, METADATA = 1, 2, 3
 VALUES, BYTES, STATISTICS, OFFSET, LENGTH = 5, 7, 12, 14, 15
@@ -25,23 +25,27 @@ MOST_NAMES = 10  # in a message
 
 BOOLEAN, INT32, INT64, INT96, FLOAT, DOUBLE, BYTE_ARRAY, FIXED = range(8)
 MILLIS, MICROS, NANOS = 10**6, 10**3, 1  # in nanoseconds
+REPEATED = 2
 # The types that readers know by annotations: of LogicalType, and of the older ConvertedType.
-NAMES = {5: "decimal", 6: "date", 7: "time", 8: "timestamp", 10: "integer", 14: "uuid", 15: "float16"}
-OLD = {5: "decimal", 6: "date", 7: "time", 8: "time", 9: "timestamp", 10: "timestamp"}
+NAMES = {1: "string", 4: "enum", 5: "decimal", 6: "date", 7: "time", 8: "timestamp", 10: "integer", 11: "null", 12: "json",
+         13: "bson", 14: "uuid", 15: "float16"}
+OLD = {5: "decimal", 6: "date", 7: "time", 8: "time", 9: "timestamp", 10: "timestamp", 21: "interval"}
+TIME, VARIANT = 7, 16  # of LogicalType
+MOST_DIGITS = 38  # of a decimal that DuckDB does not read as a DOUBLE
 
 
 class Kind:
     """What the annotations of a column say about its values. `leaf` reads its element of the schema."""
 
     def __init__(self, leaf):
-        fields = leaf.struct({TYPE: I32, TYPE_LENGTH: I32, CONVERTED: I32, SCALE: I32, LOGICAL: STRUCT})
+        fields = leaf.struct({TYPE: I32, TYPE_LENGTH: I32, CONVERTED: I32, SCALE: I32, PRECISION: I32, LOGICAL: STRUCT})
         old, number, details = fields.get(CONVERTED), None, None
         if LOGICAL in fields:
             leaf.at = fields[LOGICAL]
             number, details = union(leaf)
         self.type, self.length = fields[TYPE], fields.get(TYPE_LENGTH, 0)
-        self.name = OLD.get(old) if number is None else NAMES.get(number)
-        self.scale = fields.get(SCALE, 0)
+        self.name, self.number = OLD.get(old) if number is None else NAMES.get(number), number
+        self.scale, self.digits = fields.get(SCALE, 0), fields.get(PRECISION, 0)
         self.is_unsigned, self.is_utc = old in range(11, 15), True
         self.unit = MILLIS if old in (7, 9) else MICROS
         if details is None:
@@ -54,11 +58,19 @@ class Kind:
             details.at = fields.get(2, details.at)
             self.unit = {1: MILLIS, 2: MICROS, 3: NANOS}.get(union(details)[0]) if 2 in fields else None
         elif self.name == "decimal":
-            self.scale = details.struct({1: I32}).get(1, 0)
+            fields = details.struct({1: I32, 2: I32})
+            self.scale, self.digits = fields.get(1, 0), fields.get(2, 0)
 
-    def why_no_filter(self):
+    def why_no_key(self):
+        """Why values that are equal in an engine may have different bytes, so that a filter would lose rows; or None."""
         if self.name == "float16":
             return "FLOAT16: DuckDB 2.0 loses rows of such columns, whoever wrote their filters"
+        if self.name == "interval":
+            return "INTERVAL: DuckDB 2.0 loses rows of such columns, since 30 days equal a month"
+        if self.name == "decimal" and self.type == BYTE_ARRAY:
+            return "a DECIMAL in BYTE_ARRAY, which has several forms of a value"
+        if self.number not in (None, *NAMES):
+            return f"of the logical type {self.number}, whose equal values may have different bytes"
         return {BOOLEAN: "BOOLEAN, which has no filters", INT96: "INT96, whose values readers convert"}.get(self.type)
 
 
@@ -83,6 +95,29 @@ class Column:
     def kind(self):
         self.annotations = self.annotations or Kind(Reader(self.footer.data, self.path[-1]))
         return self.annotations
+
+    def why_no_filter(self):
+        """Why a filter would lose rows in an engine, or why the column can have none; or None."""
+        types = [union(Reader(self.footer.data, fields[LOGICAL]))[0] for fields in self.elements() if LOGICAL in fields]
+        if VARIANT in types:
+            return "a part of a VARIANT, whose values may be in several columns"
+        kind = self.kind
+        if kind.name == "decimal" and not 0 < kind.digits <= MOST_DIGITS:
+            return f"a DECIMAL of more than {MOST_DIGITS} digits: DuckDB 2.0 reads it as DOUBLE, and loses rows"
+        return kind.why_no_key()
+
+    def why_unused(self):
+        """The columns whose filters DuckDB does not use, of which this is one; or None."""
+        kind = self.kind
+        if any(fields.get(REPETITION) == REPEATED for fields in self.elements()):
+            return "lists and maps"
+        if kind.name == "decimal" and kind.type == FIXED:
+            return "decimals in FIXED_LEN_BYTE_ARRAY"
+        return "times with a time zone" if kind.number == TIME and kind.is_utc else None
+
+    def elements(self):
+        """The fields of the elements of the schema that the column is in, and its own."""
+        return [Reader(self.footer.data, at).struct({REPETITION: I32, LOGICAL: STRUCT}) for at in self.path[1:]]
 
     def chunk(self, group):
         """The fields of a row group's ColumnChunk. METADATA is missing if the column is encrypted."""
@@ -238,12 +273,14 @@ class Footer:
             yield Column(self, index, elements[-1], path)
 
     def with_filters(self, places):
-        """The end of the file, if filters are at other places: (column, row group, offset, length)."""
-        edits, pieces, end = [], [], 0
+        """The end of the file, if filters are at other places: (column, row group, offset, length), of which the last one
+        counts; or at none, if these are None."""
+        edits, pieces, end = {}, [], 0
         for column, group, offset, length in places:
             reader = column.metadata(group)
-            edits.append((reader.at, with_place(reader, offset, length), reader.at))
-        for begin, metadata, next_end in sorted(edits):
+            begin = reader.at
+            edits[begin] = with_place(reader, offset, length), reader.at
+        for begin, (metadata, next_end) in sorted(edits.items()):
             pieces += self.data[end:begin], metadata
             end = next_end
         return end_of_file(b"".join([*pieces, self.data[end:]]))
@@ -273,9 +310,10 @@ def some_of(columns):
 
 
 def with_place(reader, offset, length):
-    """A ColumnMetaData with another place of its filter."""
+    """A ColumnMetaData with another place of its filter, or without one."""
     fields = [(number, kind, reader.bytes_of(kind)) for number, kind in reader.fields() if number not in (OFFSET, LENGTH)]
-    fields += (OFFSET, I64, zigzag(offset)), (LENGTH, I32, zigzag(length))
+    if offset is not None:
+        fields += (OFFSET, I64, zigzag(offset)), (LENGTH, I32, zigzag(length))
     writer = Writer()
     for field in sorted(fields, key=operator.itemgetter(0)):
         writer.field(*field)

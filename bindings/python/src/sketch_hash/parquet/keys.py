@@ -1,4 +1,5 @@
 """The bytes that a Parquet file stores for a value."""
+import array
 import datetime
 import decimal
 import math
@@ -6,17 +7,20 @@ import numbers
 import operator
 import re
 import struct
+import sys
 import uuid
 
+from .. import column as texts_of
 from .footer import BYTE_ARRAY, DOUBLE, FIXED, FLOAT, INT32, INT64
 
 MOST_BYTES = 1024  # of a decimal. Arrow's have up to 32.
+NUMBERS = INT32, INT64, FLOAT, DOUBLE
 
 
 def keys_of(value, column):
     """The keys of a value: several for some floats, none if the column cannot have the value."""
     kind = column.kind
-    reason = kind.why_no_filter()
+    reason = kind.why_no_key()
     if reason:
         raise TypeError(f"the column {column.name} must not be {reason}")
     if isinstance(value, bool) or is_missing(value):
@@ -33,6 +37,26 @@ def keys_of(value, column):
         return of_bytes(value, kind)
     except TypeError as error:
         raise TypeError(f"a value of {type(value).__name__} cannot be in {column.name}: {error}") from None
+
+
+def column_of(values, kind):
+    """The keys of many values as a column, or None if they are not all whole numbers or texts that have one key each."""
+    types = {*map(type, values)}
+    if kind.why_no_key():
+        return None
+    if kind.type == BYTE_ARRAY and types <= {str, bytes}:
+        return texts_of(values)
+    if kind.type not in (INT32, INT64) or kind.name not in (None, "integer") or types != {int}:
+        return None
+    width = 4 if kind.type == INT32 else 8
+    letter = {4: "i", 8: "q"}[width]
+    try:
+        stored = array.array(letter.upper() if kind.is_unsigned else letter, values)
+    except OverflowError:
+        return None
+    if sys.byteorder == "big":
+        stored.byteswap()
+    return stored.tobytes(), array.array("Q", range(0, width * len(values) + 1, width))
 
 
 class Timestamp(datetime.datetime):
@@ -52,6 +76,8 @@ def parse(text, column):
     try:
         if len(digits) > 3:
             raise ValueError("finer than a nanosecond")
+        if "_" in text and (kind.name == "decimal" or kind.type in NUMBERS):
+            raise ValueError("Python's parsers ignore it")
         value = PARSERS.get(kind.name, PARSERS.get(kind.type, str))("".join(parts[::2]))
     except (ArithmeticError, ValueError):
         raise ValueError(f"the column {column.name} cannot have {text!r}") from None
@@ -65,7 +91,7 @@ def parse(text, column):
 def is_missing(value):
     try:
         return value is None or bool(value != value)
-    except (ArithmeticError, ValueError):  # a signaling NaN, or an array
+    except (ArithmeticError, TypeError, ValueError):  # a signaling NaN, pandas.NA, or an array
         return True
 
 
@@ -90,8 +116,6 @@ def of_float(value, format):
 
 
 def of_integer(number, kind):
-    if kind.type == BYTE_ARRAY:
-        raise TypeError("decimals in BYTE_ARRAY have several forms")
     width, order = {INT32: (4, "little"), INT64: (8, "little")}.get(kind.type, (kind.length, "big"))
     if not 0 < width <= MOST_BYTES:
         raise ValueError(f"whole numbers must have 1 to {MOST_BYTES} bytes in the file, not {width}")
@@ -129,7 +153,28 @@ def unscaled(value, scale):
     return int(shown) * 10**shift * (-1 if sign else 1)
 
 
+def is_numpy_date(value):
+    return getattr(getattr(value, "dtype", None), "kind", None) == "M"
+
+
+def of_numpy_date(value, unit):
+    """In a unit of nanoseconds since 1970, or None if it is no whole number of them. Arithmetic of numpy would overflow."""
+    steps, step = re.fullmatch(r".*\[(\d*)(\w+)\]", str(value.dtype)).groups()
+    if step in ("Y", "M", "W"):
+        return of_numpy_date(value.astype("datetime64[D]"), unit)
+    if step not in PICOSECONDS:
+        raise TypeError(f"a date of numpy must not be in {step}")
+    count = int(steps or 1) * int(value.astype("int64")) * PICOSECONDS[step]
+    return None if count % (1000 * unit) else count // (1000 * unit)
+
+
+PICOSECONDS = {"D": 86400 * 10**12, "h": 3600 * 10**12, "m": 60 * 10**12, "s": 10**12, "ms": 10**9, "us": 10**6, "ns": 1000,
+               "ps": 1}
+
+
 def days(value, kind):
+    if is_numpy_date(value):
+        return of_numpy_date(value, 86400 * 10**9)
     if not isinstance(value, datetime.date) or isinstance(value, datetime.datetime):
         raise TypeError("it must be a datetime.date")
     return value.toordinal() - datetime.date(1970, 1, 1).toordinal()
@@ -142,6 +187,8 @@ def in_unit(delta, value, kind):
 
 
 def since_1970(value, kind):
+    if is_numpy_date(value) and not kind.is_utc:
+        return of_numpy_date(value, kind.unit)
     if not isinstance(value, datetime.datetime) or (value.tzinfo is not None) != kind.is_utc:
         raise TypeError(f"it must be a datetime.datetime {'with' if kind.is_utc else 'without'} a time zone")
     epoch = datetime.datetime(1970, 1, 1, tzinfo=datetime.timezone.utc if kind.is_utc else None)

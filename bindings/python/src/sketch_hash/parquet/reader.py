@@ -4,10 +4,11 @@ import contextlib
 import itertools
 import math
 
-from .. import BloomFilter, xxh64_intdigest
-from .files import Source, open_file
+from .. import BloomFilter, xxh64_each, xxh64_intdigest
+from .files import Source
 from .footer import Footer
-from .keys import keys_of
+from .keys import column_of, keys_of
+from .stores import place_of
 
 SET_BITS = bytes(bin(byte).count("1") for byte in range(256))
 
@@ -18,10 +19,10 @@ class BloomFilterReader:
     Threads may share a reader. It is a context manager, and closes a file that it has opened.
     """
 
-    def __init__(self, file):
+    def __init__(self, file, *, filesystem=None):
         with contextlib.ExitStack() as stack:
             if not hasattr(file, "read"):
-                file = stack.enter_context(open_file(file))
+                file = stack.enter_context(place_of(file, filesystem).open())
             self.source = Source(file)
             self.footer = Footer(self.source)
             self.asked = {}  # the columns by the names that were asked for, and the places of their filters
@@ -60,21 +61,52 @@ class BloomFilterReader:
         column cannot have, such as 2**40 in INT32, is in no row group. For a number that FLOAT cannot have, such as 0.1, both
         neighbours are looked up, since an engine may convert it to either.
         """
-        if isinstance(values, (str, bytes)) or not hasattr(values, "__iter__"):
-            raise TypeError("values must be a list of values, as [42], not one value")
+        values = listed(values)
+        groups = [[] for _ in values]
+        owners = [*range(len(values))]  # numbers of a range would be made again for each row group
+        for group, answers in enumerate(self.contains_each(column, values)):
+            for i in itertools.compress(owners, answers):
+                groups[i].append(group)
+        return groups
+
+    def contains_each(self, column, values):
+        """For each row group whether it may have each value, as may_contain: bytes of 0 and 1. For many values this takes
+        much less time than their lists."""
+        values = listed(values)
         if column not in self.asked:
             found, = self.footer.find([column])
             self.asked[column] = found, places_of(self.source, found, range(self.num_row_groups))
         found, places = self.asked[column]
-        keys = [keys_of(value, found) for value in (values.to_pylist() if hasattr(values, "to_pylist") else values)]
-        owners = [i for i, some in enumerate(keys) for _ in some]
-        hashes = array.array("Q", [xxh64_intdigest(key) for some in keys for key in some])
-        groups = [[] for _ in keys]
-        for group, answers in enumerate(contain_hashes(self.source, places, hashes)):
-            for i in dict.fromkeys(itertools.compress(owners, answers)):
-                groups[i].append(group)
+        owners, hashes = hashes_of(values, found)
+        answers = [*contain_hashes(self.source, places, hashes)]
         self.source.check_unchanged()  # other bytes would be a filter without the values
-        return groups
+        return answers if owners is None else [of_owners(owners, some, len(values)) for some in answers]
+
+
+def listed(values):
+    if isinstance(values, (str, bytes)) or not hasattr(values, "__iter__"):
+        raise TypeError("values must be a list of values, as [42], not one value")
+    if hasattr(values, "to_pylist"):
+        return values.to_pylist()
+    return values.tolist() if getattr(getattr(values, "dtype", None), "kind", None) in ("i", "u") else [*values]
+
+
+def hashes_of(values, column):
+    """For each key of the values the index of its value, or None if each value has one key; and its XXH64."""
+    keys = column_of(values, column.kind) if len(values) > 1 else None
+    if keys:
+        return None, xxh64_each(keys)
+    keys = [keys_of(value, column) for value in values]
+    owners = [i for i, some in enumerate(keys) for _ in some]
+    return owners, array.array("Q", [xxh64_intdigest(key) for some in keys for key in some])
+
+
+def of_owners(owners, answers, count):
+    """The answers for values, from those for their keys."""
+    found = bytearray(count)
+    for i in itertools.compress(owners, answers):
+        found[i] = 1
+    return bytes(found)
 
 
 def all_places(source, footer):
@@ -109,7 +141,7 @@ def place_of_bits(column, offset, length, head):
 
 
 def contain_hashes(source, places, hashes):
-    """For each row group whether its filter may have each hash.
+    """For each row group whether its filter may have each hash, as a byte of 0 or 1.
 
     A small filter is read whole. Of another one a block is read for each hash. As a filter alone it has the hash if the
     whole filter has.
@@ -118,11 +150,11 @@ def contain_hashes(source, places, hashes):
     pieces = map(BloomFilter.view, source.read_each(ranges_of(filter(None, places), hashes, small)))
     for place in places:
         if place is None:
-            yield itertools.repeat(True)
+            yield b"\1" * len(hashes)
         elif place[1] <= small:
-            yield next(pieces).contains_hashes(hashes)
+            yield next(pieces).contains_hashes(hashes).tobytes()
         else:
-            yield [next(pieces).contains_hashes(hashes[i:i + 1])[0] for i in range(len(hashes))]
+            yield bytes(next(pieces).contains_hashes(hashes[i:i + 1])[0] for i in range(len(hashes)))
 
 
 def ranges_of(places, hashes, small):

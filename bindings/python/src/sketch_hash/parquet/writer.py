@@ -1,67 +1,131 @@
 """Filters that are added to finished files, and checked. pyarrow reads the values."""
-import os
+import contextlib
+import operator
 import warnings
-from operator import itemgetter
 
 from .. import BloomFilter, xxh64_intdigest
-from .files import open_file, replaced
 from .pyarrow_values import stored_values
 from .reader import BloomFilterReader, all_places, false_positive_rate, places_of
+from .stores import place_of
 
 MOST_BYTES = 128 << 20  # of a filter that Arrow reads
+ABOUT_ONE_PERCENT = 1 / 28  # at most: of 8 to 16 bits for each value, since sizes are powers of two
 
 
 class FilterError(ValueError):
     """A filter lacks a value of its row group, so queries lose rows."""
 
 
-def add_filters(source, target, columns, *, error_rate=0.01, max_bytes=None, replace=False, skip_existing=False,
-                progress=None):
+def add_filters(source, target, columns, *, filesystem=None, error_rate=None, max_bytes=None, replace=False,
+                skip_existing=False, progress=None):
     """Writes the Parquet file `source` to `target`, which may be the same, with filters for each row group.
 
     columns is a list of names; that of a nested column is "a.b". All before the footer is copied as it is; in the
-    footer only the places of the filters change. Returns how many bytes the new filters have. A target is whole at any
-    time: it is written to its folder as .sketch_hash-.., and then renamed. progress, as tqdm.tqdm, draws a bar.
+    footer only the places of the filters change. Returns how many bytes the new filters have. progress, as tqdm.tqdm, draws
+    a bar.
+
+    Both are paths, or URIs, or paths in a filesystem of pyarrow or fsspec. If the source is a folder, all files below it that
+    end in .parquet are written to the target, a folder too. A target is whole at any time: a new file is written to its folder
+    as .sketch_hash-.., and then renamed. If a store cannot rename files, it is written at once.
 
     A filter begins large enough for all values at error_rate, the share of other keys that it finds on average, or with
-    max_bytes. It is halved while its rate by its bits stays at most error_rate.
+    max_bytes. It is halved while its rate by its bits stays at most error_rate. If that is left out, the rate is about 1 %:
+    from 0.1 to 3.6 %, with one to two bytes for each different value.
     replace replaces filters that are there, and moves those that are the last before the footer, so that a file does not
     grow with each call. skip_existing keeps them, and adds those that are missing. A UserWarning names each column whose
-    filters help little.
+    filters help little, or are not used by DuckDB, and what of the owner, the mode and the attributes of the target was lost.
 
-    Raises ValueError if a column has filters, and neither of the two is given; if the footer is encrypted or signed, or a
-    file is not a regular one; if folders show that the target belongs to a table of Delta Lake or Iceberg; if another call
-    replaces the target at the same time, or a file changes meanwhile. Then the target stays as it is. Raises
-    NotImplementedError if the system is not POSIX.
+    Raises ValueError if an engine may hold values of a column equal whose bytes differ, as of INTERVAL; if a column has
+    filters, and neither of the two is given; if the footer is encrypted or signed, or a file is not a regular one; if folders
+    show that the target belongs to a table of Delta Lake or Iceberg; if another call replaces the target at the same time,
+    or a file changes meanwhile. Then the target stays as it is. Raises NotImplementedError if the system is not POSIX.
     """
-    if isinstance(columns, str):
-        raise TypeError("columns must be a list of names, not one name")
+    check_names(columns)
     if replace and skip_existing:
         raise ValueError("filters that are there must be replaced or skipped, not both")
-    names, builder = list(columns), Builder(error_rate, max_bytes)
-    with open_file(source) as file:
-        reader = BloomFilterReader(file)
-        chosen = reader.footer.find(names)
-        check_columns(reader.footer, names, chosen)
-        todo = [(column, groups_to_fill(column, replace, skip_existing)) for column in chosen]
-        total = sum(len(groups) for _, groups in todo)
-        if total == 0 and os.path.exists(target) and os.path.samefile(source, target):
-            return 0
-        steps = new_filters(file, todo, builder)
-        if progress:
-            steps = progress(steps, total=total)
-        end, kept = unused_end(reader, chosen) if replace else (reader.footer.start, [])
-        with replaced(target, reader.source.status.st_mode & 0o777) as output:
-            size = write(reader, output, end, kept, steps)
-            reader.source.check_unchanged(source)
-    for note in builder.notes:
-        warnings.warn(note, stacklevel=2)
+    names, notes = list(columns), {}
+
+    def add(source, target):
+        builder = Builder(error_rate, max_bytes)
+        with opened(source) as reader:
+            chosen = reader.footer.find(names)
+            check_columns(reader.footer, names, chosen)
+            todo = [(column, groups_to_fill(column, replace, skip_existing)) for column in chosen]
+            total = sum(len(groups) for _, groups in todo)
+            if total == 0 and source.is_same(target):
+                return 0
+            steps = drawn(new_filters(reader.source.file, todo, builder), progress, total)
+            size, lost = rewrite(reader, source, target, chosen if replace else [], steps)
+        notes.update(dict.fromkeys(builder.notes + lost))  # each once, also of many files
+        return size
+
+    size = sum(in_each_file(add, place_of(source, filesystem), place_of(target, filesystem)))
+    warn(notes)
     return size
 
 
-def write(reader, output, end, kept, steps):
-    """Writes a file: all up to an end, filters that are kept, new ones, the footer."""
-    places = []
+def remove_filters(source, target, columns=None, *, filesystem=None):
+    """Writes the Parquet file `source` to `target`, which may be the same, without the filters of some columns, or without
+    any. Returns how many it had. Those that are the last before the footer leave no bytes.
+
+    The source and the target are those of add_filters, whose errors it raises.
+    """
+    check_names(columns)
+    notes, names = {}, None if columns is None else [*columns]
+
+    def remove(source, target):
+        with opened(source) as reader:
+            chosen = [*reader.footer.columns()] if names is None else reader.footer.find(names)
+            check_not_signed(reader.footer)
+            count = sum(len(column.groups_with_filters()) for column in chosen)
+            if count or not source.is_same(target):
+                notes.update(dict.fromkeys(rewrite(reader, source, target, chosen, ())[1]))
+        return count
+
+    count = sum(in_each_file(remove, place_of(source, filesystem), place_of(target, filesystem)))
+    warn(notes)
+    return count
+
+
+def warn(notes):
+    for note in notes:
+        warnings.warn(note, stacklevel=3)
+
+
+@contextlib.contextmanager
+def opened(place):
+    with place.open() as file:
+        yield BloomFilterReader(file)
+
+
+def in_each_file(call, source, *target):
+    """The results of a call for a file, or for each one below a folder."""
+    if not source.is_folder():
+        yield call(source, *target)
+        return
+    for name in source.names():
+        places = [place.below(name) for place in (source, *target)]
+        if not places[0].is_same(places[-1]):
+            places[-1].make_folder()
+        try:
+            yield call(*places)
+        except ValueError as error:
+            error.args = f"{places[0]}: {error}",
+            raise
+
+
+def rewrite(reader, source, target, replaced_columns, steps):
+    """Writes the target with new filters. Returns how many bytes these have, and notes of what the target has lost."""
+    end, kept = unused_end(reader, replaced_columns) if replaced_columns else (reader.footer.start, [])
+    with target.replaced(reader.source) as (output, notes):
+        size = write(reader, output, end, kept, replaced_columns, steps)
+        source.check_unchanged(reader.source)
+    return size, notes
+
+
+def write(reader, output, end, kept, removed, steps):
+    """Writes a file: all up to an end, filters that are kept, new ones, the footer without others of the columns removed."""
+    places = [(column, group, None, None) for column in removed for group in column.groups_with_filters()]
     copy(reader.source, output, 0, end)
     for start, stop, column, group in kept:
         places.append((column, group, output.tell(), stop - start))
@@ -76,6 +140,15 @@ def write(reader, output, end, kept, steps):
     return size
 
 
+def drawn(steps, progress, total):
+    """The steps, while a bar is drawn. The bar gets numbers alone, so it can neither repeat a step nor leave one out."""
+    bar = iter(progress(range(total), total=total) if progress else ())
+    for step in steps:
+        next(bar, None)
+        yield step
+    next(bar, None)
+
+
 def copy(source, output, begin, end):
     while begin < end:
         piece = source.read(begin, min(end - begin, 1 << 20))
@@ -83,13 +156,22 @@ def copy(source, output, begin, end):
         begin += len(piece)
 
 
-def check_columns(footer, names, columns):
+def check_names(columns):
+    if isinstance(columns, str) or hasattr(columns, "keys"):
+        raise TypeError("columns must be a list of names, not one name, nor a dict: error_rate is for all columns of a call")
+
+
+def check_not_signed(footer):
     if footer.is_signed:
         raise ValueError("the footer must not be signed: each change would break its signature")
+
+
+def check_columns(footer, names, columns):
+    check_not_signed(footer)
     if not names or len({column.index for column in columns}) < len(names):
         raise ValueError("the columns must be one or more, each once")
     for column in columns:
-        reason = column.kind.why_no_filter()
+        reason = column.why_no_filter()
         if reason:
             raise ValueError(f"the column {column.name} must not be {reason}")
 
@@ -113,7 +195,7 @@ def unused_end(reader, replaced_columns):
         end = max((column.end(group) for column in footer.columns() for group in range(footer.groups)), default=0)
     except ValueError:  # a filter or a part of the footer is damaged, or belongs to another file
         return footer.start, []
-    filters.sort(key=itemgetter(1))
+    filters.sort(key=operator.itemgetter(1))
     while filters and filters[-1][1] == begin:
         begin = filters[-1][0]
         run.append(filters.pop())
@@ -138,11 +220,13 @@ class Builder:
     """Builds filters with an error rate, and notes the columns whose filters help little."""
 
     def __init__(self, error_rate, max_bytes):
-        BloomFilter.for_keys(1, error_rate=error_rate)  # raises if it is no rate
-        if max_bytes is not None and max_bytes < 32:
+        self.error_rate = ABOUT_ONE_PERCENT if error_rate is None else error_rate
+        BloomFilter.for_keys(1, error_rate=self.error_rate)  # raises if it is no rate
+        self.is_limited, self.notes = max_bytes is not None, []
+        limit = operator.index(max_bytes) if self.is_limited else MOST_BYTES
+        if limit < 32:
             raise ValueError(f"max_bytes must be at least 32, not {max_bytes}")
-        self.error_rate, self.is_limited, self.notes = error_rate, max_bytes is not None, []
-        self.max_bytes = 1 << min(max_bytes or MOST_BYTES, MOST_BYTES).bit_length() - 1
+        self.max_bytes = 1 << min(limit, MOST_BYTES).bit_length() - 1
 
     def build(self, column, group, batches):
         """A filter of all values, and whether it finds most other keys too."""
@@ -165,7 +249,9 @@ class Builder:
         return (filter, False) if filter.num_bytes <= self.max_bytes else (BloomFilter(self.max_bytes), True)
 
     def note(self, column, built):
-        full = [is_full for _, is_full in built]
+        reason, full = column.why_unused(), [is_full for _, is_full in built]
+        if built and reason:
+            self.notes.append(f"the filters of {column.name} help little: DuckDB 2.0 uses none of {reason}")
         others = {hash for hash, _ in built[:max(len(built) - 1, 2)]}  # the last row group may have less rows
         if built and all(full):
             self.notes.append(f"the filters of {column.name} help little: max_bytes is too small for them")
@@ -173,24 +259,38 @@ class Builder:
             self.notes.append(f"the filters of {column.name} help little: all row groups have the same values")
 
 
-def check_filters(source, *, progress=None):
+def check_filters(source, *, filesystem=None, progress=None):
     """Reads all values of the columns that have filters. Raises FilterError, a ValueError, if a filter lacks one.
 
-    Returns how many filters there are. progress, as tqdm.tqdm, draws a bar.
+    Returns how many filters there are. The source is that of add_filters. progress, as tqdm.tqdm, draws a bar. A UserWarning
+    names each column whose filters cannot be checked, since its equal values may have different bytes.
     """
-    with open_file(source) as file:
-        reader, count = BloomFilterReader(file), 0
-        todo = [(column, groups) for column in reader.footer.columns() if (groups := column.groups_with_filters())]
-        steps = ((column, group, batches) for column, groups in todo
-                 for group, batches in stored_values(file, column, groups))
-        if progress:
-            steps = progress(steps, total=sum(len(groups) for _, groups in todo))
-        for column, group, batches in steps:
-            place, = places_of(reader.source, column, [group])
-            filter = BloomFilter.from_bytes(reader.source.read(*place))
-            for batch in batches:
-                if filter.contains_each(batch).tobytes().count(1) != len(batch) - batch.null_count:
-                    raise FilterError(f"the filter of {column.name} in row group {group} lacks a value, so queries lose rows: "
-                                      "replace it by replace=True, or --replace")
-            count += 1
+    notes = {}
+
+    def check(source):
+        with opened(source) as reader:
+            todo = []
+            for column in reader.footer.columns():
+                groups, reason = column.groups_with_filters(), column.why_no_filter()
+                if groups and reason:
+                    notes[f"the filters of {column.name} are not checked: it is {reason}"] = None
+                elif groups:
+                    todo.append((column, groups))
+            steps = ((column, group, batches) for column, groups in todo
+                     for group, batches in stored_values(reader.source.file, column, groups))
+            for column, group, batches in drawn(steps, progress, sum(len(groups) for _, groups in todo)):
+                check_filter(reader.source, column, group, batches)
+        return sum(len(groups) for _, groups in todo)
+
+    count = sum(in_each_file(check, place_of(source, filesystem)))
+    warn(notes)
     return count
+
+
+def check_filter(source, column, group, batches):
+    place, = places_of(source, column, [group])
+    filter = BloomFilter.from_bytes(source.read(*place))
+    for batch in batches:
+        if filter.contains_each(batch).tobytes().count(1) != len(batch) - batch.null_count:
+            raise FilterError(f"the filter of {column.name} in row group {group} lacks a value, so queries lose rows: "
+                              "replace it by replace=True, or --replace")
