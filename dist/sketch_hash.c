@@ -3,7 +3,7 @@
  * crate     sketch_c, and those that it depends on, of which PROVED says more
  * text      f942f1210f0de4ca766e5c04b18d186dfd987da81adf098621d61365b05db5fb
  * prover    rattle-kit-13f logic dac8208d650f15bf
- * compiler  clang version 22.1.8, of the kit: its module, optimized, is what is printed
+ * compiler  clang version 22.1.8, of the kit, which optimizes what is printed
  * licence   Apache-2.0
  */
 #include "sketch_hash.h"
@@ -29,8 +29,9 @@
 #define SKH_INLINE static inline
 #endif
 
-/* A function of which there is a second one for processors with AVX2, where the compiler can make it and the program was not
- * compiled for these processors alone. Before the constructor has run, the first one is called. */
+/* A function of which there is a second one for processors with AVX2, where the compiler can make
+ * it and the program was not compiled for these processors alone. Before the constructor has run,
+ * the first one is called. */
 #if defined __GNUC__ && defined __x86_64__ && !defined __AVX2__
 #include <cpuid.h>
 static bool skh_has_avx2;

@@ -21,8 +21,9 @@
 #define SKH_INLINE static inline
 #endif
 
-/* A function of which there is a second one for processors with AVX2, where the compiler can make it and the program was not
- * compiled for these processors alone. Before the constructor has run, the first one is called. */
+/* A function of which there is a second one for processors with AVX2, where the compiler can make
+ * it and the program was not compiled for these processors alone. Before the constructor has run,
+ * the first one is called. */
 #if defined __GNUC__ && defined __x86_64__ && !defined __AVX2__
 #include <cpuid.h>
 static bool skh_has_avx2;
