@@ -1,10 +1,10 @@
-"""The body of a function: its blocks as statements in each other, with a goto where that is not possible."""
+"""The body of a function: its blocks as statements in each other."""
 import collections
 
 import expression as e
 from expression import FIELDS, Name, cast, made, negation, number, struct_of
 from module import Unknown
-from statements import Assign, Break, Goto, If, Label, Loop, Return, ends
+from statements import Assign, Break, If, Loop, Return, ends
 from values import Values, as_bool
 
 STATUSES = {0: "SKETCH_OK", -1: "SKETCH_ERROR_LENGTH", -2: "SKETCH_ERROR_OFFSET", -3: "SKETCH_ERROR_COUNT"}
@@ -36,7 +36,7 @@ class Body(Values):
         return len(self.blocks[label]) == 1 and len(self.flow.after[label]) == 1
 
     def is_apart(self, label):
-        """Whether its code stands behind a label of its own, and not where a branch goes to it."""
+        """Whether its code is after the branches that go to it, and not in one of them."""
         if self.flow.is_merge(label):
             return True
         if self.flow.left_by(label) is None or self.is_edge(label):
@@ -62,7 +62,7 @@ class Body(Values):
         follows = [*placed, follow]
         out = first(follows[0])
         for label, next in zip(placed, follows[1:]):
-            out += [Label(label), *self.tree(label, next, around)]
+            out += self.tree(label, next, around)
         return out
 
     def block(self, label, follow, around):
@@ -108,7 +108,7 @@ class Body(Values):
             raise Unknown(f"print_c does not know a way back to {target} before the end of its loop")
         if around and around[-1] == target:
             return out + [Break()]
-        return out + [Goto(target)]
+        raise Unknown(f"print_c does not know how to reach {target} of {self.function.name} without a goto")
 
     def moves(self, source, target):
         """A name gets its value when no other value needs what it was."""

@@ -3,17 +3,15 @@ source, and never both are needed."""
 import collections
 
 import expression as e
-from statements import Assign, Break, Do, Goto, If, Label, Loop, every
+from statements import Assign, Break, Do, If, Loop, every
 
 
 class Graph:
     """The statements as nodes: the names that each one uses, the one that it sets, and the nodes that may come next."""
 
     def __init__(self, statements):
-        self.used, self.set, self.copied, self.after, self.labels, self.gotos, self.choices = [], [], [], [], {}, [], []
+        self.used, self.set, self.copied, self.after, self.choices = [], [], [], [], []
         self.add_all(statements, [], [])
-        for node, label in self.gotos:
-            self.after[node].append(self.labels[label])
 
     def add(self, before, values=(), own=None, copied=None):
         self.used.append(set().union(*map(e.names_in, values)))
@@ -35,9 +33,6 @@ class Graph:
                 self.choices += [(statement.name, arm.args[0]) for arm in arms if arm.op == "name"]
             elif isinstance(statement, Do):
                 before = [self.add(before, [statement.value])]
-            elif isinstance(statement, Label):
-                self.labels[statement.name] = self.add(before)
-                before = [self.labels[statement.name]]
             elif isinstance(statement, If):
                 node = self.add(before, [statement.condition])
                 before = [each for inner in statement.inner() for each in self.add_all(inner, [node], breaks)]
@@ -51,8 +46,6 @@ class Graph:
                 node = self.add(before, statement.expressions())
                 if isinstance(statement, Break):
                     breaks.append(node)
-                elif isinstance(statement, Goto):
-                    self.gotos.append((node, statement.label))
                 before = []
         return before
 

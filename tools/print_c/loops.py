@@ -4,14 +4,13 @@ import collections
 
 import expression as e
 from expression import comparison, is_number, made, negation, number
-from statements import Assign, Break, For, Goto, If, Label, Loop, Return, ends, every, lists_in
+from statements import Assign, Break, For, If, Loop, Return, ends, every, lists_in
 
 TESTS = {"!": negation, "&&": e.conjunction, "||": e.disjunction}
 LARGEST = 20  # the most parts of an expression that others were joined to
 
 
 def tidy(statements):
-    drop_labels(statements)
     for change in (branches, branch_at_choices, loops):
         for inner in lists_in(statements):
             change(inner)
@@ -26,12 +25,6 @@ def tidy(statements):
     for inner in lists_in(statements):
         counts(inner, statements)
     last_returns(statements)
-
-
-def drop_labels(statements):
-    wanted = {each.label for each in every(statements) if isinstance(each, Goto)}
-    for inner in lists_in(statements):
-        inner[:] = [each for each in inner if not isinstance(each, Label) or each.name in wanted]
 
 
 def branches(statements):
@@ -104,7 +97,7 @@ def loops(statements):
             out = []
         if len(first.then) == 1 and isinstance(first.then[0], Break):
             loop.condition, loop.body = negation(first.condition), loop.body[1:]
-        elif isinstance(first.then[-1], (Return, Goto)) and not out:
+        elif isinstance(first.then[-1], Return) and not out:
             loop.condition, loop.body = negation(first.condition), loop.body[1:]
             statements[at + 1:at + 1] = first.then
 

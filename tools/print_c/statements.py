@@ -35,14 +35,6 @@ class Break(Statement):
     fields = ()
 
 
-class Goto(Statement):
-    fields = ("label",)
-
-
-class Label(Statement):
-    fields = ("name",)
-
-
 class Declare(Statement):
     fields = ("names",)
 
@@ -70,7 +62,7 @@ def ends(statements):
     last = statements[-1]
     if isinstance(last, If):
         return ends(last.then) and ends(last.otherwise)
-    return isinstance(last, (Return, Break, Goto))
+    return isinstance(last, (Return, Break))
 
 
 def every(statements):

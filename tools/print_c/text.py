@@ -101,12 +101,6 @@ class Text:
         else:
             yield f"{self.write(value)};"
 
-    def write_goto(self, statement):
-        yield f"goto {statement.label};"
-
-    def write_label(self, statement):
-        yield f"{statement.name}:;"
-
     def block(self, head, statements):
         yield f"{head} {{"
         yield from self.lines(statements)
