@@ -122,7 +122,7 @@ def share(statements, parameters, fixed):
     for own, arm in graph.choices:
         groups.join(arm, own)
     for own, used in zip(graph.set, graph.used):
-        for each in sorted(used, key=lambda each: each.text or "") if own else []:
+        for each in e.in_order(used) if own else []:
             if groups.wish(own) is not None and groups.wish(own) == groups.wish(each):
                 groups.join(each, own)
     for name, leader in groups.group.items():

@@ -1,5 +1,6 @@
 """Expressions of C as trees, and their text with as few brackets as one writes."""
 import collections
+import itertools
 
 # `type` is one of C, or the kind of a pointer; `reads` says whether it reads memory.
 Expression = collections.namedtuple("Expression", "op args type reads")
@@ -40,8 +41,10 @@ def struct_of(source):
 class Name:
     """A variable. `hints` are texts for its name, each with a number: the least is the best."""
 
+    numbers = itertools.count()
+
     def __init__(self, type, text=None):
-        self.type, self.text, self.hints = type, text, []
+        self.type, self.text, self.hints, self.number = type, text, [], next(self.numbers)
         self.is_parameter = text is not None
 
     def hint(self, rank, text):
@@ -164,6 +167,11 @@ def parts(value):
 
 def names_in(value):
     return {each.args[0] for each in parts(value) if each.op == "name"}
+
+
+def in_order(names):
+    """As they were made, so that the text is the same in each run."""
+    return sorted(names, key=lambda name: name.number)
 
 
 def replaced(value, put):

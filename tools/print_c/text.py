@@ -30,7 +30,7 @@ def mentions(statements, path=()):
         names = set().union(*map(e.names_in, statement.expressions()))
         if isinstance(statement, (Assign, For)):
             names.add(statement.name)
-        for name in names:
+        for name in e.in_order(names):
             yield name, path, statement
         for inner in statement.inner():
             yield from mentions(inner, path)
