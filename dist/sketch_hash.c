@@ -126,7 +126,8 @@ SKH_INLINE uint64_t skh_rotate64(uint64_t x, uint64_t n) { return __builtin_rota
 #else
 SKH_INLINE uint64_t skh_rotate64(uint64_t x, uint64_t n) { return x << n | x >> (64 - n); }
 #endif
-/* Bit n. Without AVX2 gcc makes no vector of shifts, and a look-up takes two thirds of the time of a shift. */
+/* Bit n. Without AVX2 gcc makes no vector of shifts, and a look-up takes two thirds of the time of
+ * a shift. */
 SKH_INLINE uint32_t skh_bit(bool has_vectors, uint32_t n) {
 #ifndef __clang__
     static const uint32_t bits[32] = {
