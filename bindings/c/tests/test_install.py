@@ -111,7 +111,7 @@ def test_check_fails_for_a_wrong_answer(dist, need, tmp_path):
     need("make", "gcc")
     copy = shutil.copytree(dist, tmp_path / "dist", ignore=shutil.ignore_patterns("*.o", "*.a", "*.so.*"))
     text = (copy / "sketch_hash.c").read_text()
-    (copy / "sketch_hash.c").write_text(text.replace("SKH_PRIME64_5 0x27d4eb2f165667c5u", "SKH_PRIME64_5 0x27d4eb2f165667c4u"))
+    (copy / "sketch_hash.c").write_text(text.replace("SKH_PRIME5 0x27d4eb2f165667c5u", "SKH_PRIME5 0x27d4eb2f165667c4u"))
     done = subprocess.run(["make", "-C", copy, "check"], capture_output=True, text=True)
     assert done.returncode and "FAILED: these answers are not the published ones" in done.stdout
 
