@@ -1323,8 +1323,8 @@ SKETCH_HASH_API int sketch_murmur3_x64_128_each64(const void *input, size_t leng
 }
 
 /* Returns how many bytes the smallest filter has whose false positive rate is at most one in
- * `one_in`, within 2^-22, once it has `keys` keys: a power of two, 32 bytes to 128 MiB. 0 if
- * there is none. */
+ * `one_in`, within 2^-22 and by a Poisson model of its blocks, once it has `keys` keys: a power
+ * of two, 32 bytes to 128 MiB. 0 if there is none. */
 SKETCH_HASH_API size_t sketch_bloom_bytes_for(uint64_t keys, uint64_t one_in) {
     const struct skh_option option = skh_bloom_bytes_for(keys, one_in);
     return option.is_some ? option.value : 0;

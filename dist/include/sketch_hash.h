@@ -218,8 +218,8 @@ SKETCH_HASH_API int sketch_murmur3_x64_128_each64(const void *input, size_t leng
  * with the lowest first. */
 
 /** Returns how many bytes the smallest filter has whose false positive rate is at most one in
- * `one_in`, within 2^-22, once it has `keys` keys: a power of two, 32 bytes to 128 MiB. 0 if there
- * is none. */
+ * `one_in`, within 2^-22 and by a Poisson model of its blocks, once it has `keys` keys: a power of
+ * two, 32 bytes to 128 MiB. 0 if there is none. */
 SKETCH_HASH_API size_t sketch_bloom_bytes_for(uint64_t keys, uint64_t one_in);
 
 /** Returns 0 if a filter may have this length, or SKETCH_ERROR_LENGTH. */
@@ -316,8 +316,9 @@ SKETCH_HASH_API int sketch_bloom_fold(void *bits, size_t length);
  * `length`, have no meaning: from then on a call with the old length misses keys. Returns `length` if
  * it folds nothing, as with a `one_in` of 0, and 0 if no filter has `length` bytes.
  *
- * The rate is the probability that a key is found that was not inserted: the mean, over the blocks,
- * of the product of the shares of set bits in the eight words. */
+ * The rate is the mean, over the blocks, of the product of the shares of set bits in the eight
+ * words. So it is the probability that a key is found that was not inserted, if the eight bits of a
+ * hash were independent. They come from 32 bits of it: below about one in 10^7 that is not so. */
 SKETCH_HASH_API size_t sketch_bloom_fold_to(void *bits, size_t length, uint64_t one_in);
 
 /** Returns the offset of the block of an XXH64 `hash` in a filter of `length` bytes, or SIZE_MAX if
