@@ -68,6 +68,53 @@ template <typename Number> constexpr uint64_t u64(Number number) {
 #endif
 #endif
 
+/* Two copies of the library in one program are apart if each is compiled, and its header included,
+ * with a SKETCH_HASH_NAMESPACE of its own, such as mine_: the calls are then mine_sketch_xxh64 and
+ * so on, also where the program writes sketch_xxh64. */
+#ifdef SKETCH_HASH_NAMESPACE
+#define SKETCH_HASH_JOIN(prefix, name) prefix##name
+#define SKETCH_HASH_JOINED(prefix, name) SKETCH_HASH_JOIN(prefix, name)
+#define SKETCH_HASH_NAMED(name) SKETCH_HASH_JOINED(SKETCH_HASH_NAMESPACE, name)
+#define sketch_hash_version SKETCH_HASH_NAMED(sketch_hash_version)
+#define sketch_xxh64 SKETCH_HASH_NAMED(sketch_xxh64)
+#define sketch_xxh64_u64 SKETCH_HASH_NAMED(sketch_xxh64_u64)
+#define sketch_xxh64_reset SKETCH_HASH_NAMED(sketch_xxh64_reset)
+#define sketch_xxh64_update SKETCH_HASH_NAMED(sketch_xxh64_update)
+#define sketch_xxh64_digest SKETCH_HASH_NAMED(sketch_xxh64_digest)
+#define sketch_murmur3_x64_128 SKETCH_HASH_NAMED(sketch_murmur3_x64_128)
+#define sketch_murmur3_x64_128_reset SKETCH_HASH_NAMED(sketch_murmur3_x64_128_reset)
+#define sketch_murmur3_x64_128_update SKETCH_HASH_NAMED(sketch_murmur3_x64_128_update)
+#define sketch_murmur3_x64_128_digest SKETCH_HASH_NAMED(sketch_murmur3_x64_128_digest)
+#define sketch_murmur3_x64_128_bytes SKETCH_HASH_NAMED(sketch_murmur3_x64_128_bytes)
+#define sketch_xxh64_each32 SKETCH_HASH_NAMED(sketch_xxh64_each32)
+#define sketch_xxh64_each64 SKETCH_HASH_NAMED(sketch_xxh64_each64)
+#define sketch_xxh64_each_u64 SKETCH_HASH_NAMED(sketch_xxh64_each_u64)
+#define sketch_murmur3_x64_128_each32 SKETCH_HASH_NAMED(sketch_murmur3_x64_128_each32)
+#define sketch_murmur3_x64_128_each64 SKETCH_HASH_NAMED(sketch_murmur3_x64_128_each64)
+#define sketch_bloom_bytes_for SKETCH_HASH_NAMED(sketch_bloom_bytes_for)
+#define sketch_bloom_check SKETCH_HASH_NAMED(sketch_bloom_check)
+#define sketch_bloom_insert SKETCH_HASH_NAMED(sketch_bloom_insert)
+#define sketch_bloom_contains SKETCH_HASH_NAMED(sketch_bloom_contains)
+#define sketch_bloom_insert_hash SKETCH_HASH_NAMED(sketch_bloom_insert_hash)
+#define sketch_bloom_contains_hash SKETCH_HASH_NAMED(sketch_bloom_contains_hash)
+#define sketch_bloom_insert_each32 SKETCH_HASH_NAMED(sketch_bloom_insert_each32)
+#define sketch_bloom_insert_each64 SKETCH_HASH_NAMED(sketch_bloom_insert_each64)
+#define sketch_bloom_insert_each_u32 SKETCH_HASH_NAMED(sketch_bloom_insert_each_u32)
+#define sketch_bloom_insert_each_u64 SKETCH_HASH_NAMED(sketch_bloom_insert_each_u64)
+#define sketch_bloom_insert_each_hash SKETCH_HASH_NAMED(sketch_bloom_insert_each_hash)
+#define sketch_bloom_contains_each32 SKETCH_HASH_NAMED(sketch_bloom_contains_each32)
+#define sketch_bloom_contains_each64 SKETCH_HASH_NAMED(sketch_bloom_contains_each64)
+#define sketch_bloom_contains_each_u32 SKETCH_HASH_NAMED(sketch_bloom_contains_each_u32)
+#define sketch_bloom_contains_each_u64 SKETCH_HASH_NAMED(sketch_bloom_contains_each_u64)
+#define sketch_bloom_contains_each_hash SKETCH_HASH_NAMED(sketch_bloom_contains_each_hash)
+#define sketch_bloom_merge SKETCH_HASH_NAMED(sketch_bloom_merge)
+#define sketch_bloom_fold SKETCH_HASH_NAMED(sketch_bloom_fold)
+#define sketch_bloom_fold_to SKETCH_HASH_NAMED(sketch_bloom_fold_to)
+#define sketch_bloom_block_offset SKETCH_HASH_NAMED(sketch_bloom_block_offset)
+#define sketch_bloom_header_write SKETCH_HASH_NAMED(sketch_bloom_header_write)
+#define sketch_bloom_header_read SKETCH_HASH_NAMED(sketch_bloom_header_read)
+#endif
+
 #ifdef __cplusplus
 extern "C" {
 #endif

@@ -211,6 +211,28 @@ def test_text_exports_the_calls_and_takes_only_memory_functions(compiler, archiv
     assert {name for kind, name in names if kind == "U"} <= {"memcpy", "memmove", "memset", "_GLOBAL_OFFSET_TABLE_"}
 
 
+def test_two_copies_of_two_versions_do_not_mix(need, tmp_path):
+    """As two libraries that each embed the text give them to one program: as objects, and in archives."""
+    need("gcc", "ar")
+    shutil.copytree(DIST, tmp_path / "old")
+    for name in ("sketch_hash.c", "include/sketch_hash.h"):
+        path = tmp_path / "old" / name
+        path.write_text(re.sub(r"(return |VERSION )\d{5}", r"\g<1>20900", path.read_text()))
+    parts = []
+    for name, folder in (("old", tmp_path / "old"), ("new", DIST)):
+        (tmp_path / f"{name}.c").write_text(f'#include "sketch_hash.h"\nint {name}(void);\n'
+                                            f"int {name}(void) {{ return sketch_hash_version() == SKETCH_HASH_VERSION; }}\n")
+        options = ["gcc", *STD, f"-DSKETCH_HASH_NAMESPACE={name}_", "-I", folder / "include", "-c"]
+        output(*options, folder / "sketch_hash.c", "-o", tmp_path / f"text_{name}.o")
+        output(*options, tmp_path / f"{name}.c", "-o", tmp_path / f"{name}.o")
+        output("ar", "rc", tmp_path / f"lib{name}.a", tmp_path / f"text_{name}.o", tmp_path / f"{name}.o")
+        parts += [tmp_path / f"lib{name}.a"]
+    (tmp_path / "main.c").write_text("int old(void), new(void);\nint main(void) { return !(old() && new()); }\n")
+    for given in (parts, parts[::-1], [*tmp_path.glob("*.o")]):
+        output("gcc", "-o", tmp_path / "program", tmp_path / "main.c", *given)
+        output(tmp_path / "program")
+
+
 def test_a_plugin_does_not_export_the_calls_that_it_embeds(need, tmp_path):
     """With the option of dist/README.md. Exported calls could replace those of another version in the same process."""
     need("gcc", "nm")
