@@ -98,8 +98,6 @@ class Values:
             self.values[step.result] = value
         else:
             self.values[step.result] = self.named(value)
-        if any(word.reads for word in (value if isinstance(value, list) else [value])):
-            self.pending.append(step.result)
 
     def is_short(self, value, step, label):
         """Whether it needs no name: it has one, or it can stand where it is used."""
@@ -128,8 +126,8 @@ class Values:
         for token in self.pending:
             value = self.values[token]
             if isinstance(value, list):
-                self.values[token] = [self.named(word) if word.reads else word for word in value]
-            elif value.reads:
+                self.values[token] = [self.named(word) if word and word.reads else word for word in value]
+            else:
                 self.values[token] = self.named(value)
         self.pending = []
 
@@ -235,6 +233,9 @@ class Values:
                 if isinstance(operand.token, str) and operand.token in self.pending:
                     self.pending.remove(operand.token)  # the statement or the value takes it over
             self.instruction(step, label)
+            value = self.values.get(step.result)
+            if any(word and word.reads for word in (value if isinstance(value, list) else [value])):
+                self.pending.append(step.result)
         return self.out
 
     def instruction(self, step, label):
@@ -352,8 +353,6 @@ class Values:
             self.hint(self.values[step.result], bound, step)
         else:
             self.values[step.result] = done
-            if done.reads:
-                self.pending.append(step.result)
 
     def set_apart(self, operand, name, text):
         """A call within a call of the same function gets a name."""

@@ -1,4 +1,4 @@
--- The false positive rate of a filter, exactly.
+-- The false positive rate of a filter by a Poisson model of its blocks, without rounding.
 --
 -- As `Size.antt` says, a block of a filter of z blocks with n values has k of them in proportion to
 -- w(k) = n^k / (z^k k!), and then has another value with a probability of c(k) = (1 - (31/32)^k)^8.

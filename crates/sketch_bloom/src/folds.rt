@@ -37,8 +37,9 @@ pub fn fold(filter: &mut [u8]) -> Result<(), Fault>
 /// in `one_in`. Returns the length of the folded filter, which is the first part of `filter`. The
 /// bytes after it have no meaning.
 ///
-/// The rate is the probability that a key that was not inserted is found: the mean, over the
-/// blocks, of the product of the shares of set bits in the eight words.
+/// The rate is the mean, over the blocks, of the product of the shares of set bits in the eight
+/// words. So it is the probability that a key that was not inserted is found, if the eight bits of
+/// a hash were independent. They come from 32 bits of it: below about one in 10^7 that is not so.
 ///
 /// # Errors
 ///

@@ -71,8 +71,12 @@ impl XxHash64State {
 
     #[inline(always)]
     fn lanes(&self) -> ScalarLanes
-        ensures { result ≡ record { v1 = self.now.v1; v2 = self.now.v2; v3 = self.now.v3;
-            v4 = self.now.v4 } }
+        ensures { result ≡ record {
+          v1 = self.now.v1;
+          v2 = self.now.v2;
+          v3 = self.now.v3;
+          v4 = self.now.v4;
+        } }
     {
         ScalarLanes {
             v1: self.v1,
