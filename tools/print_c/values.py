@@ -428,7 +428,8 @@ class Values:
             one, other = operands(operation, unsized(one), unsized(other), type)
         if e.WIDTHS[type] >= 32 or operation in ("and", "lshr") or operation in ("or", "xor") and one.op != "cast":
             return binary(SIGNS[operation], one, other, type)
-        one = one.args[0] if one.op == "cast" and one.type == type else one
+        if one.op == "cast" and one.type == type and operation != "udiv":
+            one = one.args[0]  # what it drops, the cast of the result drops too
         return made("cast", type, binary(SIGNS[operation], one, other, one.type))
 
     def wide(self, step, one, other=None):
