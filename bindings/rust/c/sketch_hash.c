@@ -1,0 +1,1 @@
+../../../dist/sketch_hash.c

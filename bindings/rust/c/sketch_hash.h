@@ -1,0 +1,1 @@
+../../../dist/include/sketch_hash.h
