@@ -76,7 +76,7 @@ def test_package_builds_on_its_own(target, tmp_path):
         file.extractall(tmp_path / "packed")
     (folder,) = (tmp_path / "packed").iterdir()
     for name in ("sketch_hash.c", "include/sketch_hash.h"):
-        assert (folder / "c" / pathlib.Path(name).name).read_bytes() == (DIST / name).read_bytes()
+        assert (folder / "c" / name).read_bytes() == (DIST / name).read_bytes()
     for name in ("LICENSE", "NOTICE"):
         assert (folder / name).read_bytes() == (ROOT / name).read_bytes()
     cargo("test", "--test", "columns", folder=folder)

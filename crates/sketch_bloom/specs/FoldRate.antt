@@ -22,8 +22,8 @@ found_by_blocks filter zero = 0
 found_by_blocks filter (suc n) = found_by_blocks filter n + found_by_words filter n 8
 
 -- A key that was not inserted is found with a probability of at most one in `one_in`, if its block
--- and its bit in each word were independent, and each as likely. The eight bits come from 32 bits of
--- a hash, so below about one in 10^7 they are not. No rate is at most one in 0.
+-- and its bit in each word were independent, and each as likely. The eight bits come from 32 bits
+-- of a hash, so below about one in 10^7 they are not. No rate is at most one in 0.
 pub record HasRateOf (one_in : ℕ) (filter : List ℕ) : Type 0 where
   pub positive : 0 < one_in
   pub rate : let blocks = length filter / 32 in

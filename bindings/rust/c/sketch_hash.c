@@ -1,1 +1,0 @@
-../../../dist/sketch_hash.c

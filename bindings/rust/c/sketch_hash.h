@@ -1,1 +1,0 @@
-../../../dist/include/sketch_hash.h
