@@ -5,8 +5,8 @@ import re
 
 from machine import CALLER, IMAGE, Machine, count_of, if_equal, logic, plain, reads, shift_one, shifted
 from values import (BITS, Stop, Undecided, add, are_equal, bitwise, complement, cut, extend, is_zero, join, kinds, known,
-                    lanes, mul, number, number_in, repeat, replace, rotate_right, shift_left, shift_right, sign_extend, signed, sub,
-                    unknown, width_of)
+                    lanes, mul, number, number_in, repeat, replace, rotate_right, shift_left, shift_right, sign_extend, signed,
+                    sub, unknown, width_of)
 
 REGISTERS = {f"r{n}{end}": (f"r{n}", width) for n in range(8, 16) for end, width in (("", 64), ("d", 32), ("w", 16), ("b", 8))}
 for item in "ax bx cx dx si di bp sp".split():
