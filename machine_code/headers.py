@@ -1,10 +1,10 @@
-"""The header of a filter, written for every argument, and read on some inputs. Its number has one to five bytes."""
+"""The header of a filter, written and read for every argument. Its number has one to five bytes."""
 from functools import partial
 
 from calls import Call, Memory, check_call, input, out, some
 from definitions import Definitions, as_value
 from filters import WRONG_LENGTHS
-from values import cut, extend, join, known, number, unknown
+from values import add, complement, cut, extend, join, number, unknown
 
 HEADER = Definitions("sketch_bloom/specs/Header.antt")
 SIZES = range(1, 6)  # of the number
@@ -42,34 +42,65 @@ def write(machine):
         check(length, extend(unknown("room", 60)), [])
 
 
-# ---- read, on inputs that are known
+# ---- read: an input begins with the header of a length, or one of these things is wrong: how much there is, the first byte,
+# the number, a byte after it
 
-LENGTHS = [32, 64, 4096, 8160, 8192, 2 ** 20 - 32, 2 ** 20, 2 ** 27 - 32, 2 ** 27, 2 ** 31 - 32]
-# Numbers, as bytes, that no header has: of no filter, odd, with a last byte that says nothing, above 32 bits, too long.
-NUMBERS = [[0], [1], [0x41], [0x60], [0xC1, 0x01], [0xC0, 0], [0x80, 0x80, 0], [0xC0, 0xFF, 0xFF, 0xFF, 0x10],
-           [0xC0, 0x80, 0x80, 0x80, 0], [0x80] * 5 + [1], [0xC0] * 6]
+def read_call(data, size, length):
+    """Some bytes, of which an input begins with so many, and the length that must be found."""
+    old, result = unknown("old length", 64), number(0) if length is None else number(len(data))
+    return Call([input, size, out], [Memory(input, data), Memory(out, [old], [old if length is None else length])], result)
 
 
-def read_call(machine, data, length):
-    """An input that begins with the header of a length, or with none if that is None, after which there is anything."""
-    n, old, after = len(data), unknown("old length", 64), some("after", 8)
-    header = header_of(number(length)) if length else []
-    memory = [Memory(input, [*(number(byte, 8) for byte in data), *after])]
-    memory.append(Memory(out, [old], [number(length) if length else old]))
-    for size in (n, n + 8) if length else (n,):
-        check_call(machine, "bloom_header_read", Call, [input, number(size), out], memory, number(len(header)))
+def others(byte):
+    """All that differ from a byte, by the lowest bit that does."""
+    for i in range(8):
+        yield join(cut(byte, 0, i), complement(cut(byte, i, 1)), unknown("rest", 7 - i))
+
+
+def digits(size, top, ends=True):
+    """All numbers of so many bytes whose highest digit that is not 0 is this one; -1 is none. The last byte may not end it."""
+    values = [unknown(("digit", i), 7, int(i == top)) if i <= top else number(0, 7) for i in range(size)]
+    return [join(value, number(not ends or i < size - 1, 1)) for i, value in enumerate(values)]
+
+
+def any_numbers():
+    for size in SIZES:
+        yield from (digits(size, top) for top in range(-1, size))
+    yield from (digits(5, top, ends=False) for top in range(-1, 5))
+
+
+def wrong_numbers():
+    """With a last byte that is 0, or that does not end it; no multiple of 64; or above 32 bits."""
+    for size in SIZES:
+        yield from (digits(size, top) for top in range(-1, size - 1))
+        for i in range(6):
+            first, *rest = digits(size, size - 1)
+            yield [join(number(1 << i, i + 1), unknown("rest", 6 - i), cut(first, 7, 1)), *rest]
+    yield from ([*digits(4, 3, ends=False), join(unknown("low", i), number(1, 1), unknown("high", 6 - i), number(0, 1))]
+                for i in (4, 5, 6))
+    yield from (digits(5, top, ends=False) for top in range(-1, 5))
 
 
 def read(machine):
-    for length in LENGTHS:
-        header = [known(byte, "a header") for byte in header_of(number(length))]
-        read_call(machine, header, length)
-        for n in range(len(header)):
-            read_call(machine, header[:n], None)
-            for difference in (1, 0x20, 0x80, 0xFF) if n == 0 or n >= len(header) - 13 else ():  # not in the number
-                read_call(machine, [*header[:n], header[n] ^ difference, *header[n + 1 :]], None)
-    for bytes in NUMBERS:
-        read_call(machine, [0x15, *bytes, *header[-13:]], None)
+    def check(data, length, size=None):
+        size = number(size) if size is not None else add(number(len(data)), extend(unknown("more", 60)))
+        check_call(machine, "bloom_header_read", read_call, data, size, length)
+
+    first, after = number(0x15, 8), some("after", 13)
+    for bytes in any_numbers():
+        data = [*some("first", 1), *bytes, *after]
+        for n in range(len(data)):
+            check(data[:n], None, n)
+        for other in others(first):
+            check([other, *bytes, *after], None)
+    for bytes in wrong_numbers():
+        check([first, *bytes, *after], None)
+    for size in SIZES:
+        header = header_of(length_of(size))
+        check(header, length_of(size))
+        for n in range(1 + size, len(header)):
+            for other in others(header[n]):
+                check([*header[:n], other, *after[: len(header) - n - 1]], None)
 
 
 def checks(machine):

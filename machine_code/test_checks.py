@@ -114,6 +114,16 @@ def test_the_definitions_give_the_published_answers(hash):
     assert answers["verification"] and all(answers.values())
 
 
+def test_the_definitions_of_filters_give_the_published_answers():
+    files = (f"sketch_bloom/specs/{name}.antt" for name in ("Filter", "Header", "KnownAnswers"))
+    known, bits = of_hash("Xxh64", *files), 0
+    answers = {name: dict(known.claims(name)) for name in ("BlockAnswers", "HeaderAnswers")}
+    assert all(found and all(found.values()) for found in answers.values())
+    for hash in (known.hash_of([*text]) for text in (b"hello", b"filter", b"parquet", b"bloom")):
+        bits |= sum(1 << 256 * known.block_of(32, hash) + 32 * w + known.mask_bit(hash, w) for w in range(8))
+    assert bits.to_bytes(1024, "little") == bytes(known.of_parquet_mr)
+
+
 # ---- wrong definitions
 
 # Changes of one number of a definition that change nothing.
@@ -204,8 +214,11 @@ SCRATCH = {"x86-64": "rax rcx rdx rsi rdi r8 r9 r10 r11", "Windows": "rax rcx rd
 KEPT = {"x86-64": "rbx rbp r12 r13 r14 r15", "Windows": "rbx rbp rsi rdi r12 r13 r14 r15"}
 GUARD = "adrp x1, :got:__stack_chk_guard; ldr x1, [x1, :got_lo12:__stack_chk_guard]"
 COPY = "sub rsp, 40; mov [rsp+16], rdi; mov rdi, rsp; lea rsi, [rsp+16]; mov edx, 8; call memcpy@PLT; add rsp, 40"
-FLAG = (f"cmp byte ptr [rip+flag], 1; je 1f; 1: {VERSION}; .section .init_array, \"aw\"; .quad set; "
+FLAG = (f"cmp byte ptr [rip+flag], 1; jne 1f; 1: {VERSION}; .section .init_array, \"aw\"; .quad set; "
         ".bss; flag: .byte 0; .text; set:")
+DETECT = ("push rbx; xor eax, eax; cpuid; cmp eax, 7; jb 9f; mov eax, 1; cpuid; bt ecx, 27; jnc 9f; xor ecx, ecx; xgetbv; "
+          "and eax, 6; cmp eax, 6; jne 9f; mov eax, 7; xor ecx, ecx; cpuid; shr ebx, 5; and ebx, 1; mov [rip+flag], bl; "
+          "9: pop rbx; ret")
 
 RIGHT = [
     *((processor, "".join(f"not {name}; " for name in names.split()) + VERSION) for processor, names in SCRATCH.items()),
@@ -215,7 +228,8 @@ RIGHT = [
     ("x86-64", f"sub rsp, 24; mov rdi, rsp; mov edx, 9; call [rip+memset@GOTPCREL]; add rsp, 24; {VERSION}"),
     ("aarch64", f"paciasp; autiasp; {ARM}"), ("aarch64", f"cmp x1, x1; cbz xzr, 1f; 1: b.ne 2f; {ARM}; 2: udf #0"),
     ("aarch64", f"{GUARD}; ldr x2, [x1]; ldr x3, [x1]; sub x2, x2, x3; cbnz x2, 1f; {ARM}; 1: udf #0"),
-    ("x86-64", f"lea rax, [rip+1f]; jmp [rip+2f]; 1: {VERSION}; .data; 2: .quad 1b"), ("x86-64", f"{FLAG} ret"),
+    ("x86-64", f"lea rax, [rip+1f]; jmp [rip+2f]; 1: {VERSION}; .data; 2: .quad 1b"), ("x86-64", f"{FLAG} {DETECT}"),
+    ("x86-64", f"{FLAG} {DETECT}".replace("jne 1f; 1:", "jne 1f; vpaddd ymm0, ymm0, ymm0; 1:")),
     ("x86-64", f"test edi, edi; jle 1f; 1: {VERSION}"),
     ("x86-64", LOOKED_UP + ", ".join(map(str, BITS))),
     ("x86-64", f"push rbx; mov rbx, rdi; pop rbx; {VERSION}"), ("x86-64", f"mov [rsp-128], rax; mov rcx, [rsp-128]; {VERSION}"),
@@ -250,7 +264,8 @@ WRONG = [
     ("x86-64", f"{VERSION}; other: ret; .globl other; .symver other, sketch_hash_version@@V2; "
                ".symver sketch_hash_version, sketch_hash_version@V1", "two versions"),
     ("x86-64", f"{FLAG} mov byte ptr [rip+flag], 1; ret", "does not allow"),
-    ("x86-64", f"{FLAG} ret".replace("cmp", "vpaddd ymm0, ymm0, ymm0; cmp"), "perhaps has none"),
+    ("x86-64", f"{FLAG} {DETECT}".replace("1: mov", "1: vpaddd ymm0, ymm0, ymm0; mov"), "perhaps has none"),
+    ("x86-64", f"{FLAG} {DETECT}".replace("cmp eax, 6", "test eax, eax"), "does not allow"),
     ("x86-64", f"{FLAG} call puts@PLT", "a call of puts"),
     ("x86-64", f"{FLAG} mov byte ptr [rip+flag], 2; ret", "does not allow"), ("x86-64", f"{FLAG} jmp set", "no end"),
     ("x86-64", f"{FLAG} xor ecx, ecx; xgetbv; ret", "must not be"), ("x86-64", f"cpuid; {VERSION}", "must not be|depends"),

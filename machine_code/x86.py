@@ -4,9 +4,9 @@ import itertools
 import re
 
 from machine import CALLER, IMAGE, Machine, count_of, if_equal, logic, plain, reads, shift_one, shifted
-from values import (BITS, Stop, Undecided, add, bitwise, complement, cut, extend, is_zero, join, kinds, known, lanes, mul,
-                    number, number_in, repeat, replace, rotate_right, shift_left, shift_right, sign_extend, signed, sub,
-                    unknown, width_of)
+from values import (BITS, Stop, Undecided, add, are_equal, bitwise, complement, cut, extend, is_zero, join, kinds, known,
+                    lanes, mul, number, number_in, repeat, replace, rotate_right, shift_left, shift_right, sign_extend, signed,
+                    sub, unknown, width_of)
 
 REGISTERS = {f"r{n}{end}": (f"r{n}", width) for n in range(8, 16) for end, width in (("", 64), ("d", 32), ("w", 16), ("b", 8))}
 for item in "ax bx cx dx si di bp sp".split():
@@ -552,8 +552,8 @@ class X86(Machine):
 
     def must_have_avx2(self):
         """If constructors set a flag, code for AVX2 runs only where the flag is 1."""
-        flags = [is_zero(unknown(("static", at), 1)) for at in self.library.flags]
-        if flags and number(0, 1) not in flags:
+        flags = [extend(unknown(("static", at), 1), 8) for at in self.library.flags]
+        if flags and not any(number_in(is_zero(flag)) == 0 or number_in(are_equal(flag, number(1, 8))) for flag in flags):
             raise Stop("an instruction of AVX2 where the processor perhaps has none")
 
     def must_be_aligned_vectors(self, operands):
