@@ -2,6 +2,7 @@
 used more often gets a name."""
 import collections
 import itertools
+import re
 
 import expression as e
 from expression import (FIELDS, TYPES, WIDE, Name, Pointer, State, binary, call, cast, comparison, made, negation, number,
@@ -488,6 +489,9 @@ class Values:
             if place.args[1] is not None:
                 place = self.values[step.operands[0].token] = self.named(place)
             base, _, constant = place.args
+            blocks = re.findall(r"let (\w+) = \w+::from_slice\(", self.function.source.body if self.function.source else "")
+            if len(blocks) == 1 and base.op == "name":
+                base.args[0].hint(1, blocks[0])
             count, element = words_of(type)
             size = int(element[1:]) // 8
             return [self.load(element, place._replace(args=(base, None, constant + size * i))) for i in range(count)]
