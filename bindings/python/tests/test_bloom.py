@@ -323,12 +323,12 @@ def test_the_last_code_of_a_buffer_may_call_the_filter_that_was_its_view(end, ca
 
 @pytest.mark.parametrize("make, end", [
     ("bytearray(1 << 20)", "memory.clear()"), ("mmap.mmap(-1, 1 << 20)", "memory.close()"),
-    ("array.array('B', bytes(1 << 20))", "memory.append(0)"), ("numpy.zeros(1 << 20, 'u1')", "memory.resize(9)"),
-], ids=["bytearray", "mmap", "array", "numpy"])
+    ("array.array('B', bytes(1 << 20))", "memory.append(0)"),
+], ids=["bytearray", "mmap", "array"])
 def test_who_releases_all_memoryviews_does_not_free_the_memory_of_a_view(make, end):
     """As a program does that shall close a shared memory. In a process of its own, since others have memoryviews too."""
     code = f"""if True:
-        import array, gc, mmap, numpy, sketch_hash
+        import array, gc, mmap, sketch_hash
         memory = {make}
         bloom = sketch_hash.BloomFilter.view(memoryview(memory)[4096:])
         def release(objects):
@@ -339,7 +339,7 @@ def test_who_releases_all_memoryviews_does_not_free_the_memory_of_a_view(make, e
         release(gc.get_referents(bloom, *gc.get_referents(bloom)))
         try:
             {end}
-        except (BufferError, ValueError):
+        except BufferError:
             bloom.add("fox")
         assert "fox" in bloom
         bloom.release()

@@ -100,7 +100,7 @@ def test_the_command_takes_folders_and_its_status_tells_what_is_wrong(tmp_path):
         (tmp_path / name).parent.mkdir(exist_ok=True)
         shutil.copy(ODD, tmp_path / name)
     done = run("check", tmp_path, "--jobs", 2)
-    assert done.stdout == f"{tmp_path}/a.parquet: no filters\n{tmp_path}/year=2026/b.parquet: no filters\n"
+    assert done.stdout == f"{tmp_path}/a.parquet: no filters to check\n{tmp_path}/year=2026/b.parquet: no filters to check\n"
     assert done.returncode == 3 and done.stderr == ""
     (tmp_path / "a.parquet").write_bytes(b"junk")
     done = run("show", tmp_path, tmp_path / "none")
@@ -153,7 +153,7 @@ def test_closed_or_full_outputs_stop_no_file(outputs, status, tmp_path):
 
 def test_a_name_does_not_end_a_line(tmp_path):
     shutil.copy(ODD, tmp_path / "a\n\x1b[1m\u00e9.parquet")
-    assert run("check", tmp_path).stdout == f"{tmp_path}/a\\n\\x1b[1m\u00e9.parquet: no filters\n"
+    assert run("check", tmp_path).stdout == f"{tmp_path}/a\\n\\x1b[1m\u00e9.parquet: no filters to check\n"
 
 
 @pytest.mark.parametrize("jobs", [10**20, 3])

@@ -2,6 +2,7 @@
 import pytest
 from helpers import TYPES, column_of, rate_of
 from sketch_hash import parquet
+from sketch_hash.parquet import stores, writer
 from sketch_hash.parquet.pyarrow_values import stored_values
 
 pytest.importorskip("numpy")
@@ -72,3 +73,66 @@ def test_long_texts_are_read_a_few_at_a_time(is_list, pa, tmp_path):
     assert max(sizes) < 1 << 26 and sum(sizes) > 5000 * 40_000
     parquet.add_filters(tmp_path / "a", tmp_path / "a", [column.name])
     assert parquet.may_contain(tmp_path / "a", column.name, "x" * 40_000) == [0]
+
+
+@pytest.fixture
+def store(pa):
+    """A store in memory, of pyarrow: a folder with two files."""
+    import pyarrow.fs
+    store, _ = pyarrow.fs.FileSystem.from_uri("mock:///")
+    table = pa.table({"x": range(3000), "y": map(str, range(3000))})
+    for folder in ("data", "data/year=2026"):
+        store.create_dir(folder)
+        pa.parquet.write_table(table, f"{folder}/a.parquet", filesystem=store, row_group_size=1000)
+    return store
+
+
+def names_in(store):
+    from pyarrow.fs import FileSelector
+    return sorted(info.path for info in store.get_file_info(FileSelector("", recursive=True)) if info.is_file)
+
+
+@pytest.mark.parametrize("renames", [True, False])
+def test_files_of_a_store_get_filters(renames, store, pa, monkeypatch):
+    monkeypatch.setattr(stores, "NO_RENAME", set() if renames else {"mock"})
+    before, names = pa.parquet.read_table("data/a.parquet", filesystem=store), names_in(store)
+    assert parquet.add_filters("data/a.parquet", "data/a.parquet", ["x"], filesystem=store) > 0
+    assert parquet.add_filters("data", "data", ["x", "y"], skip_existing=True, filesystem=store) > 0
+    assert parquet.check_filters("data", filesystem=store) == 12 and names_in(store) == names
+    with parquet.open("data/year=2026/a.parquet", filesystem=store) as reader:
+        assert [2] in reader.may_contain("y", [str(i) for i in range(2900, 3000)]) and len(reader.filters()) == 6
+    assert pa.parquet.read_table("data/a.parquet", filesystem=store).equals(before)
+    assert parquet.remove_filters("data", "data", ["y"], filesystem=store) == 6
+    assert parquet.add_filters("data/a.parquet", "new.parquet", ["y"], filesystem=store) > 0
+    assert names_in(store) == [*names, "new.parquet"]
+
+
+def test_an_error_leaves_a_file_of_a_store(store, monkeypatch):
+    names, before = names_in(store), store.open_input_file("data/a.parquet").read()
+
+    def change(*args):
+        with store.open_output_stream("data/a.parquet") as file:
+            file.write(before + b"more")
+        return iter(())
+
+    monkeypatch.setattr(writer, "stored_values", change)
+    with pytest.raises(ValueError, match="^the file must not change while it is read$"):
+        parquet.add_filters("data/a.parquet", "b.parquet", ["x"], filesystem=store)
+    assert names_in(store) == names
+    store.create_dir("data/_delta_log")
+    store.open_output_stream("data/_delta_log/0.json").close()
+    monkeypatch.undo()
+    with pytest.raises(ValueError, match="must not be of a table"):
+        parquet.add_filters("data/year=2026/a.parquet", "data/year=2026/a.parquet", ["x"], filesystem=store)
+
+
+def test_a_uri_or_a_folder_of_pyarrow_may_be_a_local_file(pa, tmp_path):
+    import pyarrow.fs
+    pa.parquet.write_table(pa.table({"x": range(3000)}), tmp_path / "a.parquet")
+    here = pyarrow.fs.SubTreeFileSystem(str(tmp_path), pyarrow.fs.LocalFileSystem())
+    assert parquet.add_filters("a.parquet", "b.parquet", ["x"], filesystem=here) > 0
+    assert parquet.check_filters((tmp_path / "b.parquet").as_uri()) == 1
+    with pytest.raises(TypeError, match="^filesystem must be one of pyarrow.fs or of fsspec, not int$"):
+        parquet.open("a.parquet", filesystem=5)
+    with pytest.raises(ValueError, match="none://a"):
+        parquet.check_filters("none://a")

@@ -171,7 +171,7 @@ def remove(args, file):
 
 def check(args, file):
     count = check_filters(file, progress=bar_of(file))
-    text = f"{shown(file)}: {count} filters have all values" if count else f"{shown(file)}: no filters"
+    text = f"{shown(file)}: {count} filters have all values" if count else f"{shown(file)}: no filters to check"
     return DONE if count else NOTHING, text, {"filters": count}
 
 

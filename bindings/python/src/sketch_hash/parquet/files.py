@@ -157,7 +157,7 @@ CHANGES = threading.Lock()
 
 def remove_unfinished():
     """Removes the new files that this process has begun. CHANGES must be taken."""
-    for folder, name in UNFINISHED:
+    for folder, name in [*UNFINISHED]:
         with contextlib.suppress(OSError):
             os.unlink(name, dir_fd=folder)
 

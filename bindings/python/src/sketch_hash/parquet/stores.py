@@ -151,7 +151,7 @@ class Stored:
             yield output, []
             if self.version() != before:
                 raise ValueError("the file to replace must not change while its successor is written")
-            if not self.is_renamed(output):
+            if not self.write_and_rename(output):
                 self.write(self.path, output)
 
     def check_no_table(self):
@@ -165,8 +165,8 @@ class Stored:
                 raise ValueError(f"the file to replace must not be of a table, as that of Delta Lake or Iceberg in {folder}, "
                                  "which records the sizes of its files: write to another file")
 
-    def is_renamed(self, output):
-        """Writes another file and renames it, if the store can rename files."""
+    def write_and_rename(self, output):
+        """Returns False, and leaves nothing, if the store cannot rename files."""
         handler = getattr(self.filesystem, "handler", None)
         protocols = handler.fs.protocol if hasattr(handler, "fs") else self.filesystem.type_name
         if NO_RENAME & {*([protocols] if isinstance(protocols, str) else protocols)}:
