@@ -175,7 +175,8 @@ test('a subclass may have a constructor of its own', () => {
 });
 
 // As another thread may let it grow: whenever its length is read.
-test('a column may grow during a call', () => {
+const canGrow = SharedArrayBuffer.prototype.grow !== undefined; // not in Node 18
+test('a column may grow during a call', { skip: !canGrow }, () => {
     const buffer = new SharedArrayBuffer(4096, { maxByteLength: 2 ** 20 });
     const column = (type, name) => Object.defineProperty(new type(buffer), name, {
         get() {

@@ -14,6 +14,7 @@ export const bytes = (text) => new TextEncoder().encode(text);
 export function detachedViews(kind) {
     const givenAway = new kind(new ArrayBuffer(16));
     structuredClone(givenAway.buffer, { transfer: [givenAway.buffer] });
+    if (!ArrayBuffer.prototype.resize) return [givenAway]; // Node 18
     const buffer = new ArrayBuffer(16, { maxByteLength: 16 });
     const shrunk = new kind(buffer, 8);
     buffer.resize(0);
