@@ -206,8 +206,12 @@ def signed(n):
 def exact(n, factors, uses_bounds=False):
     """The same number and factors as integers whose sum is from 0 to 2^64 - 1, so that nothing is lost modulo 2^64; and its
     least and greatest value. None if there are none. What an atom is made of must not depend on bounds, which a path has."""
-    factors = {(a, low, min(width, 65 - (factor & -factor).bit_length())): factor
-               for (a, low, width), factor in factors.items()}
+    counting = {}  # without the bits of a piece that count nothing modulo 2^64
+    for (a, low, width), factor in factors.items():
+        if factor % WORD:
+            piece = a, low, min(width, 65 - (factor & -factor).bit_length())
+            counting[piece] = counting.get(piece, 0) + factor
+    factors = counting
     for reading, more in ((lambda k: k % WORD, 0), (signed, 0), (signed, WORD)):
         own = {piece: reading(factor) for piece, factor in factors.items()}
         least, most = limits(reading(n) + more, own)

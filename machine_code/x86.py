@@ -433,6 +433,28 @@ AVX2 = re.compile("ps[lr][la]v|pbroadcast|pblendd|perm(2i|d|q|ps|pd)|(extract|in
 STRINGS = {"BYTE": 1, "WORD": 2, "DWORD": 4, "QWORD": 8}
 
 
+@functools.cache
+def plan(op, text):
+    """Of an instruction: its operation and operands, those that are read and whether each is an int, the largest width, and
+    whether it is AVX's, needs aligned vectors, and needs AVX2."""
+    name, operands = X86.name_of(op), decode(text)
+    is_avx, memory = name != op or op[0] == "k", [item[0] == "memory" for item in operands]
+    # To memory, or from there, it is a move; but one to the higher half of a register keeps the other half.
+    if name in OF_LOW_HALF and len(operands) == 2 and (memory[0] or memory[1] and name[3] == "s"):
+        name = OF_LOW_HALF[name]
+        operands = [*operands, ("number", 1, None, [])] if name == "pextrq" else operands
+    if name in SHIFTS and len(operands) == 1:
+        operands = [*operands, ("number", 1, None, [])]
+    if name not in OPERATIONS or name[:2] == "bt" and memory[0] and operands[1][0] == "register":
+        raise Stop("the instruction is not known")
+    width = max(item[2] or 0 for item in operands)
+    is_aligned = not UNALIGNED.fullmatch(name) and (not is_avx or name[:4] in ("mova", "movd") and name[3] in "ad")
+    is_avx2 = is_avx and bool(name[0] == "p" and width > 128 and name != "ptest" or AVX2.match(name))
+    takes_ints = name in PLAIN and name not in SAME
+    used = [(item, item[0] == "number" and takes_ints) for item in operands[-READS[name] :]]
+    return name, operands, used, width, is_avx, is_aligned, is_avx2
+
+
 class X86(Machine):
     operations, comparisons = OPERATIONS, READ_ONLY
     pointer, popped, entry, result_register = "rsp", 8, 8, "rax"  # the caller pushed where to return to: rsp is 16 * n + 8
@@ -489,13 +511,15 @@ class X86(Machine):
     def write(self, operand, value, clears):
         """A write of 32 or 64 bits clears the higher ones; one of 8 or 16 keeps them, and SSE's of 128, but not AVX's."""
         kind, what, width, _ = operand
-        value = cut(extend(value, max(width, width_of(value))), 0, width)
+        if (size := width_of(value)) != width:
+            value = cut(extend(value, max(width, size)), 0, width)
         if kind == "memory":
-            self.store(self.address(what), value)
-        else:
-            before = self.registers[what]
-            rest = cut(before, width, width_of(before) - width)
-            self.registers[what] = extend(value, width_of(before)) if clears or width in (32, 64) else join(value, rest)
+            return self.store(self.address(what), value)
+        before = self.registers[what]
+        if (whole := width_of(before)) > width:
+            keeps = not clears and width not in (32, 64)
+            value = join(value, cut(before, width, whole - width)) if keeps else extend(value, whole)
+        self.registers[what] = value
 
     def masked(self, name, operand, value, width):
         """Lanes whose bit is not set stay, or are cleared."""
@@ -521,27 +545,13 @@ class X86(Machine):
         special = SPECIAL.get("j" if op[0] == "j" else op)
         if special:
             return special(self, op, text)
-        name, operands = self.name_of(op), decode(text)
-        is_avx = name != op or op[0] == "k"
-        if name in OF_LOW_HALF and "PTR" in text and not (len(operands) == 2 and name[3] == "h" and operands[1][0] == "memory"):
-            if len(operands) == 2 and (operands[0][0] == "memory" or name[3] == "s"):  # to memory, or from there, it is a move
-                name = OF_LOW_HALF[name]
-                operands = [*operands, ("number", 1, None, [])] if name == "pextrq" else operands
-        if name in SHIFTS and len(operands) == 1:
-            operands = [*operands, ("number", 1, None, [])]
-        if name not in OPERATIONS or name[:2] == "bt" and operands[0][0] == "memory" and operands[1][0] == "register":
-            raise Stop("the instruction is not known")
-        width = max(item[2] or 0 for item in operands)
-        if not UNALIGNED.fullmatch(name) and (not is_avx or name[:4] in ("mova", "movd") and name[3] in "ad"):
+        name, operands, used, width, is_avx, is_aligned, is_avx2 = plan(op, text)
+        if is_aligned:
             self.must_be_aligned_vectors(operands)
-        if is_avx and self.library.constructors and (name[0] == "p" and width > 128 and name != "ptest" or AVX2.match(name)):
+        if is_avx2 and self.library.constructors:
             self.must_have_avx2()
-        used = operands[-READS[name] :]
-        takes_ints = name in PLAIN and name not in SAME
-        values = [item[1] if item[0] == "number" and takes_ints else self.read(item, width) for item in used]
-        run = self.operations[name]
-        if operands[0][1][0] == "k" and name in MASKS:
-            run = plain(MASKS[name][1])
+        values = [item[1] if is_int else self.read(item, width) for item, is_int in used]
+        run = plain(MASKS[name][1]) if operands[0][1][0] == "k" and name in MASKS else self.operations[name]
         result = run(self, *values)
         if name == "and" and operands[0][1] == "rsp":
             self.must_know_alignment()
