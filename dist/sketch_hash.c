@@ -1,7 +1,7 @@
 /* sketch_hash.c 3.1.0: printed from proved text. Do not edit it: tools/print_c prints it.
  *
  * crate     sketch_c, and those that it depends on, of which PROVED says more
- * text      f942f1210f0de4ca766e5c04b18d186dfd987da81adf098621d61365b05db5fb
+ * text      6c6dceb670f4848f44cd82b498df2c0e39ed64a58fcd33e87f4daa6b652bb5d3
  * prover    rattle-kit-13f logic dac8208d650f15bf
  * compiler  clang version 22.1.8, of the kit, which optimizes what is printed
  * licence   Apache-2.0
@@ -1019,33 +1019,33 @@ SKH_INLINE uint64_t skh_bloom_block_start(uint64_t bytes, uint64_t hash) {
 SKH_INLINE void skh_bloom_insert_into(bool has_vectors, unsigned char *filter,
                                       uint64_t filter_length, uint64_t hash) {
     const uint64_t start = skh_bloom_block_start(filter_length, hash);
-    unsigned char *const p1 = filter + start;
+    unsigned char *const block = filter + start;
     const uint32_t w1 = (uint32_t)hash;
-    skh_store32(p1, skh_load32(p1) | skh_bit(has_vectors, (w1 * SKH_SALT0) >> 27));
-    skh_store32(p1 + 4, skh_load32(p1 + 4) | skh_bit(has_vectors, (w1 * SKH_SALT1) >> 27));
-    skh_store32(p1 + 8, skh_load32(p1 + 8) | skh_bit(has_vectors, (w1 * SKH_SALT2) >> 27));
-    skh_store32(p1 + 12, skh_load32(p1 + 12) | skh_bit(has_vectors, (w1 * SKH_SALT3) >> 27));
-    skh_store32(p1 + 16, skh_load32(p1 + 16) | skh_bit(has_vectors, (w1 * SKH_SALT4) >> 27));
-    skh_store32(p1 + 20, skh_load32(p1 + 20) | skh_bit(has_vectors, (w1 * SKH_SALT5) >> 27));
-    skh_store32(p1 + 24, skh_load32(p1 + 24) | skh_bit(has_vectors, (w1 * SKH_SALT6) >> 27));
-    skh_store32(p1 + 28, skh_load32(p1 + 28) | skh_bit(has_vectors, (w1 * SKH_SALT7) >> 27));
+    skh_store32(block, skh_load32(block) | skh_bit(has_vectors, (w1 * SKH_SALT0) >> 27));
+    skh_store32(block + 4, skh_load32(block + 4) | skh_bit(has_vectors, (w1 * SKH_SALT1) >> 27));
+    skh_store32(block + 8, skh_load32(block + 8) | skh_bit(has_vectors, (w1 * SKH_SALT2) >> 27));
+    skh_store32(block + 12, skh_load32(block + 12) | skh_bit(has_vectors, (w1 * SKH_SALT3) >> 27));
+    skh_store32(block + 16, skh_load32(block + 16) | skh_bit(has_vectors, (w1 * SKH_SALT4) >> 27));
+    skh_store32(block + 20, skh_load32(block + 20) | skh_bit(has_vectors, (w1 * SKH_SALT5) >> 27));
+    skh_store32(block + 24, skh_load32(block + 24) | skh_bit(has_vectors, (w1 * SKH_SALT6) >> 27));
+    skh_store32(block + 28, skh_load32(block + 28) | skh_bit(has_vectors, (w1 * SKH_SALT7) >> 27));
 }
 
 /* Whether the eight bits of a hash are set. */
 SKH_INLINE bool skh_bloom_is_in(bool has_vectors, const unsigned char *filter,
                                 uint64_t filter_length, uint64_t hash) {
     const uint64_t start = skh_bloom_block_start(filter_length, hash);
-    const unsigned char *const p1 = filter + start;
+    const unsigned char *const block = filter + start;
     const uint32_t w1 = (uint32_t)hash;
     const bool b1 =
-        skh_any(has_vectors, ~skh_load32(p1) & skh_bit(has_vectors, (w1 * SKH_SALT0) >> 27),
-                ~skh_load32(p1 + 4) & skh_bit(has_vectors, (w1 * SKH_SALT1) >> 27),
-                ~skh_load32(p1 + 8) & skh_bit(has_vectors, (w1 * SKH_SALT2) >> 27),
-                ~skh_load32(p1 + 12) & skh_bit(has_vectors, (w1 * SKH_SALT3) >> 27),
-                ~skh_load32(p1 + 16) & skh_bit(has_vectors, (w1 * SKH_SALT4) >> 27),
-                ~skh_load32(p1 + 20) & skh_bit(has_vectors, (w1 * SKH_SALT5) >> 27),
-                ~skh_load32(p1 + 24) & skh_bit(has_vectors, (w1 * SKH_SALT6) >> 27),
-                ~skh_load32(p1 + 28) & skh_bit(has_vectors, (w1 * SKH_SALT7) >> 27));
+        skh_any(has_vectors, ~skh_load32(block) & skh_bit(has_vectors, (w1 * SKH_SALT0) >> 27),
+                ~skh_load32(block + 4) & skh_bit(has_vectors, (w1 * SKH_SALT1) >> 27),
+                ~skh_load32(block + 8) & skh_bit(has_vectors, (w1 * SKH_SALT2) >> 27),
+                ~skh_load32(block + 12) & skh_bit(has_vectors, (w1 * SKH_SALT3) >> 27),
+                ~skh_load32(block + 16) & skh_bit(has_vectors, (w1 * SKH_SALT4) >> 27),
+                ~skh_load32(block + 20) & skh_bit(has_vectors, (w1 * SKH_SALT5) >> 27),
+                ~skh_load32(block + 24) & skh_bit(has_vectors, (w1 * SKH_SALT6) >> 27),
+                ~skh_load32(block + 28) & skh_bit(has_vectors, (w1 * SKH_SALT7) >> 27));
     return !b1;
 }
 
