@@ -68,15 +68,23 @@ def test_builds_with_core_and_alloc_alone(tmp_path):
 
 
 def test_package_builds_on_its_own(target, tmp_path):
-    """As `cargo package` makes it of the checkout, and as `cargo vendor` copies it: with files in place of links."""
-    copy = shutil.copytree(HERE, tmp_path / "bindings/rust", ignore=shutil.ignore_patterns("target"))
+    """After docs/maintaining.md's commands have put the text and the licence into the package's folder."""
+    ignored = shutil.ignore_patterns("c", "target", "LICENSE", "NOTICE")
+    copy = shutil.copytree(HERE, tmp_path / "bindings/rust", ignore=ignored)
+    page = (ROOT / "docs/maintaining.md").read_text()
+    (commands,) = re.findall(r"^    (mkdir bindings/rust/c .*\n    cp .* bindings/rust)$", page, re.M)
+    shutil.copytree(DIST, tmp_path / "dist")
+    for name in ("LICENSE", "NOTICE"):
+        shutil.copy(ROOT / name, tmp_path)
+    subprocess.run(["bash", "-ec", commands], cwd=tmp_path, check=True)
+    shutil.rmtree(tmp_path / "dist")
     cargo("package", "--no-verify", folder=copy)
     (package,) = (target / "package").glob("*.crate")
     with tarfile.open(package) as file:
         file.extractall(tmp_path / "packed")
     (folder,) = (tmp_path / "packed").iterdir()
     for name in ("sketch_hash.c", "include/sketch_hash.h"):
-        assert (folder / "c" / name).read_bytes() == (DIST / name).read_bytes()
+        assert (folder / "c" / pathlib.Path(name).name).read_bytes() == (DIST / name).read_bytes()
     for name in ("LICENSE", "NOTICE"):
         assert (folder / name).read_bytes() == (ROOT / name).read_bytes()
     cargo("test", "--test", "columns", folder=folder)
