@@ -21,12 +21,15 @@
 #error "sketch_hash needs bytes of 8 bits"
 #endif
 
+/* SKH_REQUIRES says what all callers ensure, as is proved, so that the compiler can use it. */
 #if defined __GNUC__ || defined __clang__
 #define SKH_NOINLINE __attribute__((noinline))
 #define SKH_INLINE static inline __attribute__((always_inline))
+#define SKH_REQUIRES(condition) ((condition) ? (void)0 : __builtin_unreachable())
 #else
 #define SKH_NOINLINE
 #define SKH_INLINE static inline
+#define SKH_REQUIRES(condition) ((void)0)
 #endif
 
 /* A function of which there is a second one for processors with AVX2, where the compiler can make
@@ -522,12 +525,14 @@ SKH_INLINE uint64_t skh_xxh64_hash_long(const unsigned char *bytes, uint64_t byt
  * no loop: keys of 32 bytes are 10 % faster. */
 static SKH_NOINLINE uint64_t skh_xxh64_hash_one_stripe(const unsigned char *bytes,
                                                        uint64_t bytes_length, uint64_t seed) {
+    SKH_REQUIRES(bytes_length >= 32 && bytes_length <= 63);
     return skh_xxh64_hash_long(bytes, bytes_length, seed);
 }
 
 /* The hash of 64 bytes and more. */
 static SKH_NOINLINE uint64_t skh_xxh64_hash_stripes(const unsigned char *bytes,
                                                     uint64_t bytes_length, uint64_t seed) {
+    SKH_REQUIRES(bytes_length >= 64);
     return skh_xxh64_hash_long(bytes, bytes_length, seed);
 }
 

@@ -70,13 +70,25 @@ class Printer:
         names.hint_loops(statements, function.source)
         names.give(statements, parameters, arrays, program.names.values())
         text.declare(statements, {*parameters, *arrays})
-        lines = [*self.array_lines(body.arrays), *text.Text(self.writer, statements).lines(statements)]
+        lines = [*self.array_lines(body.arrays), *self.requirements(function, parameters),
+                 *text.Text(self.writer, statements).lines(statements)]
         if declared:
             head = ", ".join(each for _, each in declared.parameters) or "void"
         else:
             head = ", ".join(text.declared(each.type, each.text) for each in parameters)
         return "\n".join([*comment(declared.about if declared else function.source.about),
                           *self.with_head(function, name, head, [each.text for each in parameters], lines), ""])
+
+    def requirements(self, function, parameters):
+        """What `requires` says of the numbers that a function is given. One that is inlined has it from its caller."""
+        if not function.is_internal or function.source.inline != "never":
+            return
+        every = keep.parameters_in_c(function.source, self.sources.structs)
+        for own, variable in zip(function.parameters, parameters):
+            least, most = function.source.ranges.get(every[int(own.token[2:])][2], (0, None))
+            bounds = [f"{variable.text} >= {least}"] * (least > 0) + [f"{variable.text} <= {most}"] * (most is not None)
+            if bounds:
+                yield f"SKH_REQUIRES({' && '.join(bounds)});"
 
     def array_lines(self, arrays):
         for variable, count in arrays:
