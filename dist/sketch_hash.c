@@ -21,15 +21,18 @@
 #error "sketch_hash needs bytes of 8 bits"
 #endif
 
-/* SKH_REQUIRES says what all callers ensure, as is proved, so that the compiler can use it. */
+/* SKH_REQUIRES says what all callers ensure, as is proved, so that the compiler can use it, and
+ * SKH_EXPECT what mostly holds. */
 #if defined __GNUC__ || defined __clang__
 #define SKH_NOINLINE __attribute__((noinline))
 #define SKH_INLINE static inline __attribute__((always_inline))
 #define SKH_REQUIRES(condition) ((condition) ? (void)0 : __builtin_unreachable())
+#define SKH_EXPECT(condition) (__builtin_expect(condition, 1))
 #else
 #define SKH_NOINLINE
 #define SKH_INLINE static inline
 #define SKH_REQUIRES(condition) ((void)0)
+#define SKH_EXPECT(condition) (condition)
 #endif
 
 /* A function of which there is a second one for processors with AVX2, where the compiler can make
@@ -342,7 +345,7 @@ SKH_INLINE void skh_copy_small(unsigned char *buffer, uint64_t at, const unsigne
 /* Checks the offset at index `i`, which must not be below the last one, and returns its place. */
 SKH_INLINE struct skh_result skh_check_offset32(uint64_t bytes_length, const uint32_t *offsets,
                                                 uint64_t offsets_count, uint64_t i, uint64_t last) {
-    if (offsets_count > i) {
+    if (SKH_EXPECT(offsets_count > i)) {
         const uint64_t offset = skh_get32(offsets + i);
         const bool is_error = last > offset || bytes_length < offset;
         return skh_result_of(is_error, is_error ? i : offset);
@@ -370,7 +373,7 @@ SKH_INLINE struct skh_result skh_check_offsets32(uint64_t bytes_length, const ui
 /* Checks the offset at index `i`, which must not be below the last one, and returns its place. */
 SKH_INLINE struct skh_result skh_check_offset64(uint64_t bytes_length, const uint64_t *offsets,
                                                 uint64_t offsets_count, uint64_t i, uint64_t last) {
-    if (offsets_count > i) {
+    if (SKH_EXPECT(offsets_count > i)) {
         const uint64_t offset = skh_get64(offsets + i);
         const bool is_error = offset < last || bytes_length < offset;
         return skh_result_of(is_error, is_error ? i : offset);

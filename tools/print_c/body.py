@@ -11,9 +11,11 @@ STATUSES = {0: "SKETCH_OK", -1: "SKETCH_ERROR_LENGTH", -2: "SKETCH_ERROR_OFFSET"
 
 
 def branch(condition, then, otherwise):
-    """The shorter way out is first. But what a bound allows stays within its test."""
-    is_bound = condition.op in ("<", ">", "<=", ">=") and not any(map(e.is_number, condition.args))
-    if not then or ends(otherwise) and (not ends(then) or len(otherwise) < len(then) and not is_bound):
+    """The shorter way out is first. But what a bound allows stays within its test, which mostly holds."""
+    is_shorter = ends(then) and ends(otherwise) and len(otherwise) < len(then)
+    if is_shorter and condition.op in ("<", ">", "<=", ">=") and not any(map(e.is_number, condition.args)):
+        return [If(e.call("SKH_EXPECT", "bool", condition), then, []), *otherwise]
+    if not then or ends(otherwise) and (not ends(then) or is_shorter):
         condition, then, otherwise = negation(condition), otherwise, then
     if ends(then):
         return [If(condition, then, []), *otherwise]

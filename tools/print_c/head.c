@@ -13,15 +13,18 @@
 #error "sketch_hash needs bytes of 8 bits"
 #endif
 
-/* SKH_REQUIRES says what all callers ensure, as is proved, so that the compiler can use it. */
+/* SKH_REQUIRES says what all callers ensure, as is proved, so that the compiler can use it, and
+ * SKH_EXPECT what mostly holds. */
 #if defined __GNUC__ || defined __clang__
 #define SKH_NOINLINE __attribute__((noinline))
 #define SKH_INLINE static inline __attribute__((always_inline))
 #define SKH_REQUIRES(condition) ((condition) ? (void)0 : __builtin_unreachable())
+#define SKH_EXPECT(condition) (__builtin_expect(condition, 1))
 #else
 #define SKH_NOINLINE
 #define SKH_INLINE static inline
 #define SKH_REQUIRES(condition) ((void)0)
+#define SKH_EXPECT(condition) (condition)
 #endif
 
 /* A function of which there is a second one for processors with AVX2, where the compiler can make
