@@ -4,9 +4,9 @@ import itertools
 import re
 
 from machine import CALLER, IMAGE, Machine, count_of, if_equal, logic, plain, reads, shift_one, shifted
-from values import (BITS, Stop, Undecided, add, are_equal, bitwise, complement, cut, extend, is_zero, join, kinds, known,
-                    lanes, mul, number, number_in, repeat, replace, rotate_right, shift_left, shift_right, sign_extend, signed,
-                    sub, unknown, width_of)
+from values import (BITS, Stop, Undecided, add, are_equal, bitwise, complement, cut, extend, is_below, is_zero, join, kinds,
+                    known, lanes, mul, number, number_in, repeat, replace, rotate_right, shift_left, shift_right, sign_extend,
+                    signed, sub, unknown, width_of)
 
 REGISTERS = {f"r{n}{end}": (f"r{n}", width) for n in range(8, 16) for end, width in (("", 64), ("d", 32), ("w", 16), ("b", 8))}
 for item in "ax bx cx dx si di bp sp".split():
@@ -252,13 +252,20 @@ def pair_products(x, y):
     return add(*(mul(*pair) for pair in words))
 
 
-def on_numbers(function, is_signed=False):
+def on_numbers(function):
     """Of two lanes that are known."""
-    def run(x, y):
-        pair = [known(sign_extend(item, 64) if is_signed else item, "a lane") for item in (x, y)]
-        return number(function(*(map(signed, pair) if is_signed else pair)), width_of(x))
+    return lambda x, y: number(function(*(known(item, "a lane") for item in (x, y))), width_of(x))
 
-    return run
+
+def if_greater(x, y):
+    """All bits if the first of two lanes is the greater one, as numbers with a sign, else none."""
+    width = width_of(x)
+    one, other = (known(cut(lane, width - 1, 1), "a lane's sign") for lane in (x, y))
+    if one == other:
+        is_greater = is_below(*(extend(cut(lane, 0, width - 1)) for lane in (y, x)))
+    else:
+        is_greater = one < other
+    return number(-is_greater, width)
 
 
 def to_whole(x):
@@ -383,7 +390,7 @@ for op in "and", "or", "xor", "andn":
 FAMILIES = {
     "padd bwdq": lambda n: each(n, add), "psub bwdq": lambda n: each(n, sub),
     "pmull wdq": lambda n: each(n, mul), "pcmpeq bwdq": lambda n: each(n, if_equal),
-    "pcmpgt bwdq": lambda n: each(n, on_numbers(lambda x, y: -(x > y), True)), "pminu bwdq": lambda n: each(n, on_numbers(min)),
+    "pcmpgt bwdq": lambda n: each(n, if_greater), "pminu bwdq": lambda n: each(n, on_numbers(min)),
     "pmaxu bwdq": lambda n: each(n, on_numbers(max)), "psllv wdq": lambda n: each(n, shift_lane(shift_left)),
     "psrlv wdq": lambda n: each(n, shift_lane(shift_right)), "psrav wdq": lambda n: each(n, shift_lane(arithmetic)),
     "prolv dq": lambda n: each(n, rotate_lane(-1)), "prorv dq": lambda n: each(n, rotate_lane(1)),
@@ -416,7 +423,7 @@ for one, other in itertools.combinations(LETTERS, 2):
         f"pmov{other}{one}": (1, lambda x, n=small, m=large: lanes(m, lambda lane: cut(lane, 0, n), x))}
 # A comparison whose result is a mask.
 MASKS = {f"pcmp{name}{letter}": each(size, lambda x, y, test=test: cut(test(x, y), 0, 1))
-         for name, test in (("eq", if_equal), ("gt", on_numbers(lambda x, y: -(x > y), True)))
+         for name, test in (("eq", if_equal), ("gt", if_greater))
          for letter, size in LETTERS.items()}
 # What can be done for some lanes alone, with the size of a lane.
 MASKED = {f"mov{name}{size}": size for name in ("dqu", "dqa") for size in (8, 16, 32, 64)}
