@@ -1,52 +1,48 @@
 //! Items that are written, and read back as a list.
 
-ghost use Rattle.std.specs.Prelude.{◌≡◌, ◌≤◌, ◌++◌, [], map, length, IfOk, IsOk, IsTrue};
+ghost use Rattle.std.specs.Prelude.{ℕ, List, ◌≡◌, ◌↔◌, ◌<◌, ◌≤◌, ◌++◌, length, map, take, IsErr, IsOk, IsOkAnd, MatchResult};
 ghost use Rattle.std.specs.List.{All};
-ghost use Rattle.datasketches.specs.Items.{InType, item_kind, spell_all};
+ghost use Rattle.datasketches.specs.Items.{InType, item_kind, spell_all, widths};
+ghost use Rattle.datasketches.specs.declared.codec.Item.{Item};
 
 use datasketches::codec::{Item, Kind, Short, SketchBytes, SketchSlice, Stopped};
 use datasketches::laws;
-use std::alloc::AllocError;
 
-/// Writes items and the rest after them to an empty writer, reads the items back into the places,
-/// and returns whether the rest remains. It always does.
+/// Writes the bytes of the items, in order, after those that the writer has.
 ///
 /// # Errors
 ///
-/// Returns `AllocError` if they do not fit the writer's capacity and there is no memory.
-#[tactic(auto, using(datasketches::proofs::CallerLemmas::items_fit))]
-pub fn round_trip(
-    writer: SketchBytes,
-    items: &[Item],
-    kinds: &[Kind],
-    rest: &[u8],
-    places: &mut [Item],
-) -> Result<bool, AllocError>
-    requires empty { writer.bytes ≡ [] }
-    requires kinds { kinds.now ≡ map item_kind items.now }
-    requires places { length places.old ≡ length items.now }
-    ensures back { IfOk result (λ is_rest. IsTrue is_rest × (places.new ≡ items.now)) }
-    ensures room { length (spell_all items.now ++ rest.now) ≤ writer.room → IsOk result }
+/// Returns [`Stopped`] with the number of items written if the next one does not fit the writer's
+/// capacity and there is no memory. Those items stay written.
+pub fn write_all(writer: &mut SketchBytes, items: &[Item]) -> Result<(), Stopped>
+    ensures written { MatchResult result
+        (λ _. All InType items.now
+        × (writer.new.bytes ≡ writer.old.bytes ++ spell_all items.now))
+        (λ stopped. writer.new.bytes
+        ≡ writer.old.bytes ++ spell_all (take stopped.accepted items.now)) }
+    ensures room { length (writer.old.bytes ++ spell_all items.now) ≤ writer.old.room →
+        IsOk result }
 {
-    laws::items_law();
-    let bytes = write_all(writer, items, rest)?;
-    let mut reader = SketchSlice::new(&bytes);
-    if let Err(Short { .. }) = reader.read_items(kinds, places) {
-        unreachable!();
-    }
-    Ok(reader.remaining() == rest)
+    writer.write_items(items)
 }
 
-// The bytes of items, and the rest after them.
-fn write_all(mut writer: SketchBytes, items: &[Item], rest: &[u8]) -> Result<Vec<u8>, AllocError>
-    requires { writer.bytes ≡ [] }
-    ensures bytes { IfOk result (λ bytes. All InType items.now
-        × (bytes.items ≡ spell_all items.now ++ rest.now)) }
-    ensures room { length (spell_all items.now ++ rest.now) ≤ writer.room → IsOk result }
+/// Reads one item of each kind into the places, and returns the bytes that remain. From bytes that
+/// begin with those of items it reads these items, in order, whatever follows.
+///
+/// # Errors
+///
+/// Returns [`Short`] if and only if there are fewer bytes than items of these kinds have.
+#[tactic(auto, using(datasketches::proofs::CallerLemmas::items_fit))]
+pub fn read_all<'a>(bytes: &'a [u8], kinds: &[Kind], places: &mut [Item]) -> Result<&'a [u8], Short>
+    requires { length kinds.now ≡ length places.old }
+    ensures back { (items : List Item) (rest : List ℕ) → All InType items →
+        kinds.now ≡ map item_kind items → bytes.now ≡ spell_all items ++ rest →
+        IsOkAnd result (λ remaining. (places.new ≡ items) × (remaining.now ≡ rest)) }
+    ensures short { IsErr result ↔ (length bytes.now < widths kinds.now) }
 {
-    if let Err(Stopped { .. }) = writer.write_items(items) {
-        return Err(AllocError);
-    }
-    writer.write(rest)?;
-    Ok(writer.into_bytes())
+    laws::items_law();
+    let mut reader = SketchSlice::new(bytes);
+    reader.read_items(kinds, places)?;
+    let read = bytes.len() - reader.remaining().len();
+    Ok(&bytes[read..])
 }

@@ -4,7 +4,7 @@ use crate::bloom_filter::{
     contains_inserted, fill, is_same_filter, load, merge_in_place, save, see_in_place, shrink,
 };
 use crate::custom_types::{BigEndian, Point};
-use crate::items::round_trip;
+use crate::items::{read_all, write_all};
 use crate::keys::{
     hash_texts, is_same_key, is_same_number, is_same_number_by_murmur, pair_of, pair_of_value,
 };
@@ -13,7 +13,7 @@ use crate::preamble::{check_preamble, write_preamble};
 use crate::streams::{
     checkpoint, has_same_pair, has_same_xxh64, is_same_seed, murmur_of_pieces, xxh64_from,
 };
-use datasketches::codec::{Item, Kind, SketchBytes};
+use datasketches::codec::{Item, Kind, Short, SketchBytes};
 use datasketches::hash::XxHash64;
 use datasketches::hash::value::raw_bytes;
 use sketch_bloom::BloomFilter;
@@ -72,9 +72,15 @@ fn items_and_a_preamble_are_read_back(rt: HostRuntime) -> Result<(), Fail> {
     let items = [Item::U8(1), Item::U32Be(2)];
     let mut places = [Item::U8(0); 2];
     let kinds = [Kind::U8, Kind::U32Be];
-    let writer = SketchBytes::with_capacity(rt.alloc(), 7)?;
-    assert!(rt; round_trip(writer, &items, &kinds, &[7, 8], &mut places)?);
+    let mut writer = SketchBytes::with_capacity(rt.alloc(), 7)?;
+    assert_eq!(rt; write_all(&mut writer, &items), Ok(()));
+    writer.write(&[7, 8])?;
+    let bytes = writer.into_bytes();
+    let rest = read_all(&bytes, &kinds, &mut places);
+    assert_eq!(rt; rest, Ok([7, 8].as_slice()));
     assert_eq!(rt; places, items);
+    let rest = read_all(&bytes[..4], &kinds, &mut places);
+    assert_eq!(rt; rest, Err(Short { read: 1 }));
     let preamble = write_preamble(rt.alloc(), 9001)?;
     assert_eq!(rt; preamble.as_slice(), [1, 3, 7, 0xcc, 0x93].as_slice());
     assert!(rt; check_preamble(rt.alloc(), &preamble, 9001).is_ok());
