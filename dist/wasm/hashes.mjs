@@ -20,8 +20,11 @@ export async function moduleFrom(source = new URL('sketch_hash.wasm', import.met
     return new Module(exports);
 }
 
+// In a variable, since webpack takes what stands before import.meta.url for the name of a file.
+const HERE = import.meta.url;
+
 async function read(place) {
-    const url = new URL(place, import.meta.url);
+    const url = new URL(place, HERE);
     if (url.protocol === 'file:' && globalThis.process?.versions?.node) {
         // Bundlers would look for a constant name, and a page has no such module.
         const name = ['node:fs', 'promises'].join('/');

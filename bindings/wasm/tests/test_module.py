@@ -75,7 +75,8 @@ def test_the_module_is_what_the_command_of_the_page_makes(need, tmp_path):
 
 @pytest.mark.parametrize("bundler", ["esbuild", "webpack"])
 def test_a_bundler_makes_a_program_of_the_module(bundler, need, project):
-    """For a browser, where it finds no module of Node. The bundle runs in Node with the module's bytes."""
+    """For a browser, where it finds no module of Node. The bundle runs in Node: with the module's bytes, and with webpack also
+    with the file that this puts beside the bundle."""
     need(bundler)
     (project / "in.mjs").write_text("import { load } from 'sketch-hash'; globalThis.loaded = load;")
     options = {"esbuild": "in.mjs --bundle --format=iife --outfile=out.cjs",
@@ -83,10 +84,15 @@ def test_a_bundler_makes_a_program_of_the_module(bundler, need, project):
     done = subprocess.run([bundler, *options[bundler].split()], cwd=project, capture_output=True, text=True)
     assert done.returncode == 0, done.stdout + done.stderr
     module = project / "node_modules/sketch-hash/sketch_hash.wasm"
-    program = f"""globalThis.document = {{ currentScript: {{ tagName: 'SCRIPT', src: 'https://localhost/' }} }};
+    program = f"""const src = 'https://localhost/';
+        globalThis.document = {{ baseURI: src, currentScript: {{ tagName: 'SCRIPT', src }} }};
         require('./out.cjs');
-        loaded(require('fs').readFileSync('{module}')).then(({{ xxh64Hex }}) => console.log(xxh64Hex(new Uint8Array())));"""
-    assert subprocess.check_output(["node", "--eval", program], cwd=project, text=True) == "ef46db3751d8e999\n"
+        const bytes = require('fs').readFileSync('{module}');
+        globalThis.fetch = async (url) => {{ console.log(new URL(url).href.startsWith(src)); return new Response(bytes); }};
+        const print = ({{ xxh64Hex }}) => console.log(xxh64Hex(new Uint8Array()));
+        loaded(bytes).then(print).then(() => '{bundler}' === 'webpack' && loaded().then(print));"""
+    printed = subprocess.check_output(["node", "--eval", program], cwd=project, text=True).splitlines()
+    assert printed == ["ef46db3751d8e999"] + ["true", "ef46db3751d8e999"] * (bundler == "webpack")
 
 
 def test_the_page_is_made_of_the_texts_that_are_edited(need, tmp_path):
