@@ -105,11 +105,12 @@ vzeroupper; pop r15; pop r13; pop r12; pop rbp; pop rbx; ret
 """
 
 
+def has_avx512():
+    return {"avx512f", "avx512bw", "avx512dq", "avx512vl"} <= set(pathlib.Path("/proc/cpuinfo").read_text().split())
+
+
 def x86_processor():
-    flags = set(pathlib.Path("/proc/cpuinfo").read_text().split())
-    has_512 = {"avx512f", "avx512bw", "avx512dq", "avx512vl"} <= flags
-    if not has_512:
-        print("this processor has no AVX-512: its forms are not compared")
+    has_512 = has_avx512()
     kind, size, move = ("z", 64, "vmovdqu64") if has_512 else ("y", 32, "vmovdqu")
     load = "; ".join(f"{move} {kind}mm{n},[r15+{VECTORS + 64 * n}]" for n in range(3))
     saved = "; ".join(f"{move} [r15+{VECTORS + 64 * n}],{kind}mm{n}" for n in range(3))
@@ -320,4 +321,8 @@ def compared(processor, tmp, run):
 def test_each_instruction_does_what_the_processor_does(make, tools, run, operations, need, tmp_path):
     need(*tools)
     wrong, names = compared(make(), tmp_path, run)
-    assert wrong == {} and operations.keys() - names == set()
+    assert wrong == {}
+    missing = operations.keys() - names
+    if missing and make is x86_processor and not has_avx512():
+        pytest.skip(f"this processor has no AVX-512: {len(missing)} of {len(operations)} instructions were not compared")
+    assert missing == set()
