@@ -34,24 +34,29 @@ def test_nanoseconds_of_a_command_line_count():
     pytest.raises(ValueError, keys, "ns", "2026-01-01 01:01:01.0000030070").match("cannot have")
 
 
-@pytest.mark.parametrize("send, number, status", [
-    (os.kill, signal.SIGTERM, 143), (os.killpg, signal.SIGTERM, 143), (os.killpg, signal.SIGINT, 130),
-    (os.kill, signal.SIGKILL, -9),
-])
-def test_a_stopped_run_of_several_processes_leaves_all_files(send, number, status, tmp_path):
-    """Those in work and those that wait, and no new one."""
+def start_long_run(tmp_path, module, **options):
+    """A run of several processes on files that each take a minute. Returns it and the names of the files."""
     (tmp_path / "code").mkdir()
-    (tmp_path / "code/sitecustomize.py").write_text("""import time
-from sketch_hash.parquet import writer
-writer.stored_values = lambda *_: time.sleep(60)""")
+    (tmp_path / "code/sitecustomize.py").write_text(f"""import time
+from sketch_hash.parquet import {module}
+{module}.stored_values = lambda *_: time.sleep(60)""")
     (tmp_path / "files").mkdir()
     names = [f"{i}.parquet" for i in range(6)]
     for name in names:
         shutil.copy(ODD, tmp_path / "files" / name)
     command = [sys.executable, "-m", "sketch_hash.parquet", "add", "-c", "plain", "--jobs", "2", tmp_path / "files"]
     path = os.pathsep.join([str(tmp_path / "code"), *sys.path])
-    process = subprocess.Popen(command, env={**os.environ, "PYTHONPATH": path}, start_new_session=True,
-                               preexec_fn=as_in_a_terminal)
+    return subprocess.Popen(command, env={**os.environ, "PYTHONPATH": path}, start_new_session=True,
+                            preexec_fn=as_in_a_terminal, **options), names
+
+
+@pytest.mark.parametrize("send, number, status", [
+    (os.kill, signal.SIGTERM, 143), (os.killpg, signal.SIGTERM, 143), (os.killpg, signal.SIGINT, 130),
+    (os.kill, signal.SIGKILL, -9),
+])
+def test_a_stopped_run_of_several_processes_leaves_all_files(send, number, status, tmp_path):
+    """Those in work and those that wait, and no new one."""
+    process, names = start_long_run(tmp_path, "writer")
     until(lambda: len(os.listdir(tmp_path / "files")) == len(names) + 2)
     send(process.pid, number)
     assert process.wait(30) == status
@@ -166,18 +171,7 @@ def test_as_many_processes_work_as_there_are_files_at_most(jobs, tmp_path):
 
 @pytest.mark.parametrize("seconds", [0.2, 0.3, 0.4, 0.5, 0.6, 0.8])
 def test_a_run_that_is_stopped_at_any_moment_ends_and_leaves_no_file(seconds, tmp_path):
-    (tmp_path / "code").mkdir()
-    (tmp_path / "code/sitecustomize.py").write_text("""import time
-from sketch_hash.parquet import pyarrow_values
-pyarrow_values.stored_values = lambda *_: time.sleep(60)""")
-    (tmp_path / "files").mkdir()
-    names = [f"{i}.parquet" for i in range(6)]
-    for name in names:
-        shutil.copy(ODD, tmp_path / "files" / name)
-    command = [sys.executable, "-m", "sketch_hash.parquet", "add", "-c", "plain", "--jobs", "2", tmp_path / "files"]
-    path = os.pathsep.join([str(tmp_path / "code"), *sys.path])
-    process = subprocess.Popen(command, env={**os.environ, "PYTHONPATH": path}, start_new_session=True,
-                               stderr=subprocess.DEVNULL, preexec_fn=as_in_a_terminal)
+    process, names = start_long_run(tmp_path, "pyarrow_values", stderr=subprocess.DEVNULL)
     time.sleep(seconds)
     os.killpg(process.pid, signal.SIGINT)
     process.wait(5)
