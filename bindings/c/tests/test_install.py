@@ -13,7 +13,8 @@ SHARED = f"libsketch_hash.so.{MAJOR}"
 
 INSTALLED = {
     "include/sketch_hash.h", "lib/libsketch_hash.a", "lib/libsketch_hash.so", f"lib/{SHARED}",
-    "lib/pkgconfig/sketch_hash.pc",
+    "lib/pkgconfig/sketch_hash.pc", "lib/cmake/sketch_hash/sketch_hash-config.cmake",
+    "lib/cmake/sketch_hash/sketch_hash-config-version.cmake",
     *(f"share/doc/sketch_hash/{name}" for name in ("LICENSE", "NOTICE", "PROVED", "README.md")),
 }
 
@@ -128,22 +129,36 @@ def test_shared_library_has_a_version_for_each_call_and_a_name(compiler, make, d
     assert make("clean").returncode == 0
 
 
-# ---- pkg-config and CMake
+# ---- pkg-config, CMake and Meson
 
-def program_of_the_readme(kind):
-    (program,) = re.findall(rf"^```{kind}\n(.*?)^```", (DIST / "README.md").read_text(), re.M | re.S)
-    return program
+def block_of_the_readme(kind):
+    (block,) = re.findall(rf"^```{kind}\n(.*?)^```", (DIST / "README.md").read_text(), re.M | re.S)
+    return block
 
 
-def test_pkg_config_finds_the_library(prefix, need, tmp_path, monkeypatch):
+def test_pkg_config_finds_the_library(installed, need, tmp_path, monkeypatch):
     need("pkg-config")
-    monkeypatch.setenv("PKG_CONFIG_LIBDIR", str(prefix / "lib/pkgconfig"))
-    monkeypatch.setenv("LD_LIBRARY_PATH", str(prefix / "lib"))
-    (tmp_path / "filter.c").write_text(program_of_the_readme("c bloom"))
+    monkeypatch.setenv("PKG_CONFIG_LIBDIR", str(installed / "lib/pkgconfig"))
+    monkeypatch.setenv("LD_LIBRARY_PATH", str(installed / "lib"))
+    (tmp_path / "filter.c").write_text(block_of_the_readme("c bloom"))
     flags = shlex.split(output("pkg-config", "--cflags", "--libs", "sketch_hash"))
     output("gcc", "-Wall", "-Wextra", "-Werror", "-o", tmp_path / "filter", tmp_path / "filter.c", *flags)
     assert output(tmp_path / "filter") == "certainly not\n"
     assert output("pkg-config", "--static", "--libs-only-l", "sketch_hash").split() == ["-lsketch_hash"]
+
+
+@pytest.fixture(params=["make", "cmake"])
+def installed(request, make, need, tmp_path):
+    """A prefix with a blank, into which make or CMake has installed: the same files."""
+    prefix = tmp_path / "installed here"
+    if request.param == "make":
+        assert make("install", f"PREFIX={prefix}").returncode == 0
+    else:
+        need("cmake", "gcc")
+        cmake(DIST, tmp_path / "build", f"-DCMAKE_INSTALL_PREFIX={prefix}", "-DCMAKE_INSTALL_LIBDIR=lib")
+        output("cmake", "--install", tmp_path / "build")
+    assert files_in(prefix) == INSTALLED
+    return prefix
 
 
 def cmake(source, build, *args):
@@ -151,44 +166,78 @@ def cmake(source, build, *args):
     output("cmake", "--build", build)
 
 
-# The program is linked with each of the libraries: as they are installed, or from the folder that is given.
-PROJECT = """
-cmake_minimum_required(VERSION 3.13)
-project(fox C)
-if(sketch_hash_folder)
-    add_subdirectory("${sketch_hash_folder}" sketch_hash EXCLUDE_FROM_ALL)
-else()
-    foreach(other ${other_versions})
-        find_package(sketch_hash ${other} QUIET)
-        if(sketch_hash_FOUND)
-            message(FATAL_ERROR "${version} was taken for ${other}")
-        endif()
-    endforeach()
-    find_package(sketch_hash ${version} REQUIRED)
-endif()
-add_executable(fox fox.c)
-target_link_libraries(fox sketch_hash::sketch_hash)
-add_executable(fox_static fox.c)
-target_link_libraries(fox_static sketch_hash::sketch_hash_static)
-"""
+def cmake_project(tmp_path, find, *args, target="sketch_hash::sketch_hash"):
+    """What the program of the page prints, built in a project that finds the library by the lines `find`."""
+    (tmp_path / "CMakeLists.txt").write_text("\n".join([
+        "cmake_minimum_required(VERSION 3.14)", "project(fox C)", "add_executable(fox fox.c)", *find,
+        f"target_link_libraries(fox {target})"]))
+    (tmp_path / "fox.c").write_text(block_of_the_readme("c"))
+    cmake(tmp_path, tmp_path / "b", "-DCMAKE_BUILD_TYPE=Release", f"-DCMAKE_INSTALL_PREFIX={tmp_path}/nothing", *args)
+    return output(tmp_path / "b/fox")
 
 
-@pytest.mark.parametrize("way", ["find_package", "add_subdirectory"])
-def test_cmake_builds_with_both_libraries(way, need, tmp_path):
+FOX = "0b242d361fda71bc\n"
+
+
+@pytest.mark.parametrize("target", ["sketch_hash::sketch_hash", "sketch_hash::sketch_hash_static"])
+def test_cmake_finds_the_library(target, installed, tmp_path):
+    """And none that is of another version."""
+    others = " ".join([f"{MAJOR - 1}.0", f"{MAJOR}.{MINOR + 1}", f"{MAJOR + 1}.0"])
+    find = [f"foreach(other {others})", "find_package(sketch_hash ${other} QUIET)", "if(sketch_hash_FOUND)",
+            'message(FATAL_ERROR "taken for ${other}")', "endif()", "endforeach()",
+            f"find_package(sketch_hash {MAJOR}.{MINOR} REQUIRED)"]
+    assert cmake_project(tmp_path, find, f"-DCMAKE_PREFIX_PATH={installed}", target=target) == FOX
+
+
+@pytest.mark.parametrize("target", ["sketch_hash::sketch_hash", "sketch_hash::sketch_hash_static"])
+def test_cmake_finds_the_static_library_alone(target, installed, tmp_path):
+    for name in ("libsketch_hash.so", SHARED):
+        (installed / "lib" / name).unlink()
+    find = ["find_package(sketch_hash REQUIRED)"]
+    assert cmake_project(tmp_path, find, f"-DCMAKE_PREFIX_PATH={installed}", target=target) == FOX
+    assert "libsketch_hash" not in output("ldd", tmp_path / "b/fox")
+
+
+@pytest.mark.parametrize("shared", [None, "ON", "OFF"])
+def test_cmake_takes_the_folder_as_a_part_of_a_project(shared, need, tmp_path):
+    """BUILD_SHARED_LIBS says which library is linked, and installing the project does not install the library."""
     need("cmake", "gcc")
-    project, args = tmp_path / "project", [f"-Dsketch_hash_folder={DIST}"]
-    project.mkdir()
-    (project / "CMakeLists.txt").write_text(PROJECT)
-    (project / "fox.c").write_text(program_of_the_readme("c"))
-    if way == "find_package":
-        prefix = tmp_path / "a prefix"
-        cmake(DIST, tmp_path / "build", f"-DCMAKE_INSTALL_PREFIX={prefix}", "-DCMAKE_INSTALL_LIBDIR=lib")
-        output("cmake", "--install", tmp_path / "build")
-        others = f"{MAJOR - 1}.0;{MAJOR}.{MINOR + 1};{MAJOR + 1}.0"
-        args = [f"-DCMAKE_PREFIX_PATH={prefix}", "-DCMAKE_FIND_USE_CMAKE_SYSTEM_PATH=OFF",
-                f"-Dversion={MAJOR}.{MINOR}", f"-Dother_versions={others}"]
-        expected = {f"lib/{SHARED}", "lib/libsketch_hash.a", "include/sketch_hash.h"}
-        assert expected < files_in(prefix)
-    cmake(project, project / "build", *args)
-    for name in ("fox", "fox_static"):
-        assert output(project / "build" / name) == "0b242d361fda71bc\n"
+    args = [f"-DBUILD_SHARED_LIBS={shared}"] if shared else []
+    find = [f'add_subdirectory("{DIST}" sketch_hash)', "install(TARGETS fox)"]
+    assert cmake_project(tmp_path, find, *args) == FOX
+    assert ("libsketch_hash" in output("ldd", tmp_path / "b/fox")) == (shared != "OFF")
+    output("cmake", "--install", tmp_path / "b")
+    assert files_in(tmp_path / "nothing") == {"bin/fox"}
+
+
+def test_cmake_fetches_the_repository(need, tmp_path):
+    """By the lines of the page, from a repository of this folder."""
+    need("cmake 3.18", "gcc", "git")
+    source = shutil.copytree(DIST, tmp_path / "source/dist", ignore=shutil.ignore_patterns("wasm", "linux-x86_64")).parent
+    commit = ["-c", "user.name=a", "-c", "user.email=a", "commit", "--quiet", "--message", "a"]
+    for command in (["init", "--quiet", "--initial-branch", "main"], ["add", "."], commit):
+        output("git", "-C", source, *command)
+    (tmp_path / "project").mkdir()
+    find = block_of_the_readme("cmake").replace("URL", source.as_uri()).splitlines()
+    assert cmake_project(tmp_path / "project", find) == FOX
+
+
+def test_meson_builds_the_lines_of_the_page(need, tmp_path):
+    need("meson", "gcc")
+    shutil.copytree(DIST, tmp_path / "sketch_hash", ignore=shutil.ignore_patterns("wasm", "linux-x86_64"))
+    (tmp_path / "meson.build").write_text("project('fox', 'c')\n" + block_of_the_readme("meson"))
+    (tmp_path / "fox.c").write_text(block_of_the_readme("c"))
+    output("meson", "setup", tmp_path / "build", tmp_path)
+    output("meson", "compile", "-C", tmp_path / "build")
+    assert output(tmp_path / "build/fox") == FOX
+
+
+def test_a_shared_library_hides_the_archive_in_it(make, dist, need, tmp_path):
+    """Else it would answer the calls of another version in the program. And the archive's code can be moved."""
+    need("nm")
+    assert make().returncode == 0
+    (tmp_path / "plugin.c").write_text('#include "sketch_hash.h"\nuint64_t plugin(void) { return sketch_xxh64("fox", 3, 0); }')
+    archive = dist / "libsketch_hash.a"
+    output("gcc", "-fPIC", "-shared", "-I", DIST / "include", "-o", tmp_path / "plugin.so", tmp_path / "plugin.c", archive)
+    exported = output("nm", "-D", "--defined-only", tmp_path / "plugin.so")
+    assert " T plugin" in exported and "sketch_" not in exported
