@@ -11,7 +11,7 @@ def text_of(name):
 
 
 @pytest.mark.parametrize("name", [
-    "README.md", "bindings/python/src/sketch_hash/__init__.py", "bindings/rust/Cargo.toml", "dist/CMakeLists.txt",
+    "README.md", "bindings/python/src/sketch_hash/__init__.py", "Cargo.toml", "dist/CMakeLists.txt",
     "dist/Makefile", "dist/README.md", "dist/include/sketch_hash.h", "dist/linux-x86_64/sketchsum.1",
     "dist/sketch_hash-config-version.cmake", "dist/sketch_hash.pc.in", "dist/wasm/hashes.mjs", "dist/wasm/package.json",
 ])

@@ -4,12 +4,10 @@ import pathlib
 import re
 import shutil
 import subprocess
-import tarfile
 
 import pytest
-from conftest import CARGO_CONFIG, DEBIAN_CRATES, DIST, ROOT
+from conftest import CARGO_CONFIG, DEBIAN_CRATES, ROOT
 
-HERE = pathlib.Path(__file__).resolve().parent
 pytestmark = pytest.mark.xdist_group("cargo")  # cargo locks the folder that it builds into
 
 
@@ -21,10 +19,11 @@ def target(need, tmp_path_factory, monkeypatch):
     folder.mkdir(exist_ok=True)
     (folder / "config.toml").write_text(CARGO_CONFIG)
     monkeypatch.setenv("CARGO_TARGET_DIR", str(folder))
+    monkeypatch.setenv("CARGO_HOME", str(folder / "home"))  # what cargo fetches
     return folder
 
 
-def cargo(*args, folder=HERE, **environment):
+def cargo(*args, folder=ROOT, **environment):
     """Runs cargo, which must succeed."""
     done = try_cargo(*args, folder=folder, **environment)
     assert done.returncode == 0, done.stdout + done.stderr
@@ -32,7 +31,7 @@ def cargo(*args, folder=HERE, **environment):
 
 def try_cargo(*args, folder, **environment):
     config = pathlib.Path(os.environ["CARGO_TARGET_DIR"], "config.toml")
-    command = ["cargo", args[0], "--config", config, "--offline", "--quiet", *args[1:]]
+    command = ["cargo", args[0], "--config", config, "--quiet", *args[1:]]
     return subprocess.run(command, cwd=folder, env={**os.environ, **environment}, capture_output=True, text=True)
 
 
@@ -49,8 +48,8 @@ def test_calls_access_only_what_they_are_given(need):
 
 def test_clippy_and_the_oldest_rust_find_nothing(need):
     need("cargo-clippy")
-    oldest = re.search(r'^rust-version = "(.*)"$', (HERE / "Cargo.toml").read_text(), re.M)[1]
-    assert f"Rust {oldest} or newer" in (HERE / "README.md").read_text()
+    oldest = re.search(r'^rust-version = "(.*)"$', (ROOT / "Cargo.toml").read_text(), re.M)[1]
+    assert f"Rust {oldest} or newer" in (ROOT / "bindings/rust/README.md").read_text()
     cargo("clippy", "--all-targets", "--", "-D", "warnings")
 
 
@@ -64,46 +63,78 @@ def test_builds_with_core_and_alloc_alone(tmp_path):
         for library in pathlib.Path(sysroot, "lib/rustlib", triple, "lib").glob(f"lib{name}-*"):
             shutil.copy(library, copy)
     args = ["--edition", "2021", "--crate-type", "lib", "--emit", "metadata", "--out-dir", tmp_path]
-    subprocess.run(["rustc", "--sysroot", tmp_path, *args, HERE / "src/lib.rs"], check=True)
+    subprocess.run(["rustc", "--sysroot", tmp_path, *args, ROOT / "bindings/rust/src/lib.rs"], check=True)
 
 
-def test_package_builds_on_its_own(target, tmp_path):
-    """After docs/maintaining.md's commands have put the text and the licence into the package's folder."""
-    ignored = shutil.ignore_patterns("c", "target", "LICENSE", "NOTICE")
-    copy = shutil.copytree(HERE, tmp_path / "bindings/rust", ignore=ignored)
-    page = (ROOT / "docs/maintaining.md").read_text()
-    (commands,) = re.findall(r"^    (mkdir bindings/rust/c .*\n    cp .* bindings/rust)$", page, re.M)
-    shutil.copytree(DIST, tmp_path / "dist")
-    for name in ("LICENSE", "NOTICE"):
-        shutil.copy(ROOT / name, tmp_path)
-    subprocess.run(["bash", "-ec", commands], cwd=tmp_path, check=True)
-    shutil.rmtree(tmp_path / "dist")
-    cargo("package", "--no-verify", folder=copy)
-    (package,) = (target / "package").glob("*.crate")
-    with tarfile.open(package) as file:
-        file.extractall(tmp_path / "packed")
-    (folder,) = (tmp_path / "packed").iterdir()
-    for name in ("sketch_hash.c", "include/sketch_hash.h"):
-        assert (folder / "c" / pathlib.Path(name).name).read_bytes() == (DIST / name).read_bytes()
-    for name in ("LICENSE", "NOTICE"):
-        assert (folder / name).read_bytes() == (ROOT / name).read_bytes()
-    cargo("test", "--test", "columns", folder=folder)
+@pytest.fixture(scope="session")
+def repository(tmp_path_factory):
+    """A repository of git with this one's files as they are, from which cargo takes a crate."""
+    folder = tmp_path_factory.mktemp("repository")
+    listed = subprocess.check_output(["git", "ls-files", "-co", "--exclude-standard"], cwd=ROOT, text=True)
+    for name in ["Cargo.toml", "LICENSE", "NOTICE", "dist", "bindings/rust"]:
+        for file in re.findall(rf"^{name}(?:/.*)?$", listed, re.M):
+            (folder / file).parent.mkdir(parents=True, exist_ok=True)
+            shutil.copy(ROOT / file, folder / file)
+    author = ["-c", "user.name=a", "-c", "user.email=a"]
+    for command in (["init", "--quiet"], ["add", "."], [*author, "commit", "--quiet", "--message", "a"]):
+        subprocess.run(["git", "-C", folder, *command], check=True)
+    return folder
+
+
+def new_crate(folder, dependency, *lines):
+    """A crate that depends on this one."""
+    manifest = ["[package]", 'name = "plugin"', 'edition = "2021"', *lines, "[dependencies]", f"sketch-hash = {dependency}"]
+    (folder / "Cargo.toml").write_text("\n".join(manifest))
+    (folder / "src").mkdir()
+    return folder / "src"
+
+
+def test_package_has_its_files_and_builds_on_its_own(target, repository):
+    """cargo itself builds what it packs."""
+    cargo("package", folder=repository)
+    (packed,) = target.glob("package/sketch-hash-*/")
+    for name in ("dist/sketch_hash.c", "dist/include/sketch_hash.h", "LICENSE", "NOTICE"):
+        assert (packed / name).read_bytes() == (ROOT / name).read_bytes()
+    cargo("test", "--test", "columns", folder=packed)
+
+
+def test_a_vendored_crate_builds(repository, tmp_path):
+    """From git; cc is vendored too."""
+    source = new_crate(tmp_path, f'{{ git = "{repository.as_uri()}" }}')
+    (source / "main.rs").write_text('fn main() { assert_eq!(sketch_hash::xxh64(b"", 0), 0xef46_db37_51d8_e999); }')
+    done = try_cargo("vendor", "--respect-source-config", folder=tmp_path)
+    assert done.returncode == 0, done.stderr
+    assert {path.name for path in (tmp_path / "vendor").iterdir()} == {"cc", "sketch-hash"}
+    (tmp_path / "config.toml").write_text(done.stdout)
+    cargo("run", "--config", tmp_path / "config.toml", folder=tmp_path)
+
+
+def test_states_and_filters_are_saved_by_serde(need, tmp_path):
+    need(*DEBIAN_CRATES.glob("serde_json-*") or [DEBIAN_CRATES / "serde_json"])
+    source = new_crate(tmp_path, f'{{ path = "{ROOT}", features = ["serde"] }}\nserde_json = "1"')
+    (source / "main.rs").write_text("""
+        use sketch_hash::{BloomFilter, Murmur3X64_128, Xxh64};
+        fn main() {
+            let (mut one, mut two) = (Xxh64::new(7), Murmur3X64_128::new(7));
+            one.update(b"fox");
+            two.update(b"fox");
+            let mut filter = BloomFilter::with_len(96).unwrap();
+            filter.insert(b"fox");
+            let saved = serde_json::to_string(&(&one, &two, &filter)).unwrap();
+            assert!((one, two, filter) == serde_json::from_str(&saved).unwrap());
+            let short = serde_json::from_str::<Xxh64>("[1, 2]").unwrap_err().to_string();
+            assert!(short.contains("Xxh64 is not saved in this number of bytes: 2"), "{short}");
+            assert!(serde_json::from_str::<Murmur3X64_128>("[1]").is_err());
+            assert!(serde_json::from_str::<BloomFilter>("[1]").is_err());
+        }
+    """)
+    cargo("run", folder=tmp_path)
 
 
 def test_a_cdylib_exports_none_of_the_calls(target, need, tmp_path):
     need("nm", "linux-x86_64")
-    manifest = f"""
-        [package]
-        name = "plugin"
-        edition = "2021"
-        [lib]
-        crate-type = ["cdylib"]
-        [dependencies]
-        sketch-hash = {{ path = "{HERE}" }}
-    """
-    (tmp_path / "Cargo.toml").write_text(manifest)
-    (tmp_path / "src").mkdir()
-    (tmp_path / "src/lib.rs").write_text('#[no_mangle] extern "C" fn plugin() -> u64 { sketch_hash::xxh64(b"fox", 0) }')
+    source = new_crate(tmp_path, f'{{ path = "{ROOT}" }}', "[lib]", 'crate-type = ["cdylib"]')
+    (source / "lib.rs").write_text('#[no_mangle] extern "C" fn plugin() -> u64 { sketch_hash::xxh64(b"fox", 0) }')
     cargo("build", folder=tmp_path)
     exported = subprocess.check_output(["nm", "-D", target / "debug/libplugin.so"], text=True)
     assert " T plugin" in exported and "sketch_" not in exported

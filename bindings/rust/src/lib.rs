@@ -13,6 +13,8 @@ mod calls;
 mod columns;
 mod error;
 mod murmur;
+#[cfg(feature = "serde")]
+mod saved;
 mod xxh64;
 
 pub use bloom::BloomFilter;
