@@ -327,8 +327,8 @@ BROKEN = {  # a format, a length, buffers, other fields, what it must have
     "no values": ("i", 3, [None, None], {}, "memory for its values"),
     "no offsets": ("u", 3, [None, None, b"foxdogcat"], {}, "memory for its values"),
     "no text": ("u", 3, [None, OFFSETS, None], {}, "memory for its texts"),
-    "negative offset": ("u", 2, [None, struct.pack("<3i", -1, 0, 3), b"fox"], {}, "offsets"),
-    "falling": ("u", 2, [None, struct.pack("<3i", 0, 3, 2), b"fox"], {}, "offsets"),
+    "negative offset": ("u", 2, [None, struct.pack("<3i", -1, 0, 3), b"fox"], {}, "offsets|the offset at 0"),
+    "falling": ("u", 2, [None, struct.pack("<3i", 0, 3, 2), b"fox"], {}, "offsets|the offset at 1"),
     "falling 64": ("U", 2, [None, struct.pack("<3q", 0, 3, -2**63), b"fox"], {}, "offsets"),
     "view length": ("vu", 1, [None, VIEW.pack(-1, b"", 0, 0), b""], {}, "views"),
     "view text": ("vu", 1, [None, VIEW.pack(13, b"", 1, 0), bytes(20), struct.pack("<q", 20)], {}, "views"),
@@ -353,7 +353,7 @@ def test_a_broken_array_is_an_error_and_nothing_added(format, length, buffers, f
                 if chunks:
                     continue  # such an array is the end of a stream
                 array.release, producer.releases[-1] = None, 1
-            with pytest.raises(ValueError, match=f"^an Arrow array must (have )?({text})"):
+            with pytest.raises(ValueError, match=f"^(an Arrow array must )?(have )?({text})"):
                 call(make(producer.schema(format), *chunks, array))
     assert bloom == BloomFilter(32)
 

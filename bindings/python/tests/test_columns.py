@@ -103,12 +103,17 @@ def test_an_invalid_column_raises(calls, keys, text):
             call(keys)
 
 
-@pytest.mark.parametrize("keys", [
-    memoryview(bytearray(20))[4:12].cast("Q"), (b"", memoryview(bytearray(20))[2:10].cast("I")),
-], ids=["numbers", "offsets"])
-def test_numbers_must_be_aligned(keys):
-    with pytest.raises(ValueError, match="^a column of numbers must be aligned to their width: pass a copy$"):
-        xxh64_each(keys)
+@pytest.mark.parametrize("letter", "iqd")
+def test_numbers_need_not_be_aligned(letter):
+    """As Dask hands them over."""
+    numbers = array.array(letter, [3, 5, 7])
+    moved = memoryview(b"-" + numbers.tobytes())[1:].cast(letter)
+    bloom, expected = BloomFilter(1024), BloomFilter(1024)
+    bloom.add_each(moved)
+    expected.add_each(numbers)
+    assert bloom == expected and bloom.contains_each(moved).tolist() == [True] * 3
+    offsets = memoryview(b"-" + array.array("I", [0, 3, 6]).tobytes())[1:].cast("I")
+    assert xxh64_each((b"foxdog", offsets)) == xxh64_each(sketch_hash.column(["fox", "dog"]))
 
 
 @pytest.mark.parametrize("data", [

@@ -1,6 +1,8 @@
 """The Arrow C data interface: https://arrow.apache.org/docs/format/CDataInterface.html"""
 from libc.stdint cimport int64_t, uint64_t
 
+from ._keys cimport Content, Keys
+
 
 cdef struct ArrowSchema:
     const char *format
@@ -47,6 +49,7 @@ cdef struct Chunk:
     Values rows, dictionary
     Values *keys  # the rows, or the dictionary whose codes they are
     bint has_nulls
+    Content content  # which call takes the rows in place, or HASHES
     Chunk *next
 
 
@@ -63,16 +66,18 @@ cdef class Arrow:
     cdef size_t count, num_bytes  # how many keys, and about how many bytes to read
     cdef const Chunk *chunk  # of the next rows
     cdef size_t row, done  # which of its rows is next, and how many rows are before it in all chunks
+    cdef size_t work  # about how many bytes the call has read
 
     cdef int import_array(self, object schema, object array) except -1
     cdef int import_stream(self, object capsule) except -1
     cdef int check_stream(self, int status) except -1
     cdef int read_schema(self) except -1
-    cdef int append(self, ArrowArray *array) except -1
+    cdef int append(self, ArrowArray *array, bint is_alone) except -1
     cdef int refuse_nulls(self) except -1
     cdef bint overlaps(self, const void *memory, size_t length) noexcept nogil
-    cdef size_t block(self) noexcept nogil
     cdef void advance(self, size_t count) noexcept nogil
-    cdef void hash(self, int words, uint64_t seed, uint64_t *out) noexcept nogil
-    cdef int insert(self, void *bits, size_t length) noexcept nogil
-    cdef int contains(self, const void *bits, size_t length, unsigned char *found) noexcept nogil
+    cdef bint has_rows(self) noexcept nogil
+    cdef void take_keys(self, Keys *keys, uint64_t *hashes) noexcept nogil
+    cdef int hash(self, int words, uint64_t seed, uint64_t *out, size_t *wrong) noexcept nogil
+    cdef int insert(self, void *bits, size_t length, size_t *wrong) noexcept nogil
+    cdef int contains(self, const void *bits, size_t length, unsigned char *found, size_t *wrong) noexcept nogil

@@ -7,12 +7,16 @@ from libc.stdlib cimport calloc, free
 from libc.string cimport memcpy, memset
 
 from ._common cimport overlap
+from ._keys cimport (
+    HASHES, NUMBERS32, NUMBERS64, OFFSETS32, OFFSETS64, Content, Keys, contains_keys, hash_keys, insert_keys,
+)
 from ._library cimport *
 
 import os
 import re
 
 # A call looks for signals, as of Ctrl-C, after so many rows, or bytes of keys: a column may claim 2**59 rows without memory.
+# Rows that are looked up are hashed in blocks.
 cdef enum:
     BLOCK = 1024
     MANY = 1 << 24
@@ -108,29 +112,42 @@ cdef inline size_t key_at(const Values *values, size_t i, const char **key, int3
     return length
 
 
+cdef Content content_of(const Chunk *chunk) noexcept nogil:
+    """Which call takes the rows in place. It is HASHES if each row must be looked up."""
+    cdef const Values *rows = &chunk.rows
+    cdef bint is_aligned = (rows.width == 4 or rows.width == 8) and <uintptr_t>rows.memory % rows.width == 0
+    if is_aligned and chunk.keys is rows and not chunk.has_nulls:
+        if rows.layout == OFFSETS:
+            return OFFSETS32 if rows.width == 4 else OFFSETS64
+        if rows.layout == FIXED:
+            return NUMBERS32 if rows.width == 4 else NUMBERS64
+    return HASHES
+
+
+cdef size_t keys_in_place(const Chunk *chunk, size_t row, Keys *keys) noexcept nogil:
+    """The rest of the chunk's rows. Returns how many bytes the texts have."""
+    cdef const Values *rows = &chunk.rows
+    keys.content, keys.items, keys.count = chunk.content, rows.length - row, rows.length - row
+    keys.numbers = rows.memory + (rows.offset + row) * rows.width
+    if rows.layout != OFFSETS:
+        return 0
+    keys.text, keys.reach = rows.text, number_at(rows, rows.length)
+    keys.items += 1
+    return number_at(rows, rows.length) - number_at(rows, row)
+
+
 cdef size_t hash_rows(
-    const Chunk *chunk, size_t start, size_t *count, int words, uint64_t seed, uint64_t *out
+    const Chunk *chunk, size_t row, size_t *count, int words, uint64_t seed, uint64_t *out
 ) noexcept nogil:
-    """Writes a word of XXH64 or two of Murmur for each of `count` rows, and 0 for a null. It may stop at fewer rows, since
-    each may be the same long text. Returns about how many bytes they have."""
+    """Looks each row up, and writes a word of XXH64 or two of Murmur, or 0 for a null. It may stop before `count` rows,
+    since each may be the same long text. Returns how many bytes they have."""
     cdef const char *key
     cdef int32_t widened
-    cdef const Values *rows = &chunk.rows
-    cdef size_t i, length, wrong, num_bytes = (MANY_BYTES // MANY) * count[0]
-    cdef const char *place = rows.memory + (rows.offset + start) * rows.width
-    cdef bint is_coded = chunk.keys is not rows, is_aligned = <uintptr_t>place & (rows.width - 1) == 0
-    # One call for many texts takes a fifth less time, and for many numbers a third.
-    if count[0] and is_aligned and not is_coded and not chunk.has_nulls:
-        if rows.layout == OFFSETS:
-            length = number_at(rows, rows.length)
-            hash_texts(words, rows.width, rows.text, length, place, count[0] + 1, seed, out, count[0], &wrong)
-            return num_bytes + number_at(rows, start + count[0]) - number_at(rows, start)
-        if rows.layout == FIXED and rows.width == 8 and words == 1:
-            sketch_xxh64_each_u64(<uint64_t *>place, count[0], seed, out, count[0])
-            return num_bytes
-    for i in range(start, start + count[0]):
+    cdef size_t i, length, num_bytes = 0
+    cdef bint is_coded = chunk.keys is not &chunk.rows
+    for i in range(row, row + count[0]):
         if num_bytes >= MANY_BYTES:
-            count[0] = i - start
+            count[0] = i - row
             break
         if chunk.has_nulls and is_null(chunk, i):
             out[0] = 0
@@ -151,8 +168,7 @@ ctypedef fused Offset:
 
 
 cdef bint has_wrong_offset(const char *offsets, size_t count, Offset before) noexcept nogil:
-    """Whether an offset is below the one before it. All chunks are checked before the first is used, so that a call that
-    raises changes nothing."""
+    """Whether an offset is below the one before it."""
     cdef Offset offset
     cdef size_t i
     for i in range(count):
@@ -223,13 +239,14 @@ cdef int read_values(const ArrowArray *array, tuple type, Values *values) except
     return 0
 
 
-cdef size_t check_values(const Values *values) except? 0:
+cdef size_t check_values(const Values *values, bint are_offsets_checked) except? 0:
     """Returns about how many bytes there are to read."""
     cdef size_t num_bytes = values.length * (8 + values.width), begin, end
     cdef const char *first
     cdef bint is_wrong
+    cdef bint is_checked = values.layout == VIEWS or values.layout == OFFSETS and not are_offsets_checked
     what = "have views within its texts" if values.layout == VIEWS else "have offsets from 0 on that do not fall"
-    for begin in range(0, values.length if values.layout in (OFFSETS, VIEWS) else 0, MANY):
+    for begin in range(0, values.length if is_checked else 0, MANY):
         end = min(begin + MANY, values.length)
         first = values.memory + (values.offset + begin) * values.width
         with nogil:
@@ -242,6 +259,7 @@ cdef size_t check_values(const Values *values) except? 0:
         require(not is_wrong, what)
         PyErr_CheckSignals()
     if values.layout == OFFSETS and values.length:
+        require(number_at(values, values.length) >= 0, what)
         length = number_at(values, values.length) - number_at(values, 0)
         require(values.text is not NULL or length == 0, "have memory for its texts")
         num_bytes += length
@@ -312,7 +330,7 @@ cdef class Arrow:
         exported_schema.release = NULL
         self.read_schema()
         require(exported_array.release is not NULL, "not be released")
-        return self.append(exported_array)
+        return self.append(exported_array, is_alone=True)
 
     cdef int import_stream(self, object capsule) except -1:
         """Imports all arrays of a stream, which may wait for a thread that needs the GIL."""
@@ -334,7 +352,7 @@ cdef class Arrow:
             self.check_stream(status)
             if array.release is NULL:
                 return 0
-            self.append(&array)
+            self.append(&array, is_alone=False)
             PyErr_CheckSignals()
 
     cdef int check_stream(self, int status) except -1:
@@ -356,8 +374,9 @@ cdef class Arrow:
             self.keys = type_of(of_keys.format.decode())
         return 0
 
-    cdef int append(self, ArrowArray *array) except -1:
-        """Takes an array, and checks it."""
+    cdef int append(self, ArrowArray *array, bint is_alone) except -1:
+        """Takes an array, and checks it. All are checked before the first is used, so that a call that raises changes
+        nothing. Of texts that are one array without nulls, the call that takes them checks the offsets."""
         cdef Chunk *chunk = <Chunk *>calloc(1, sizeof(Chunk))
         if chunk is NULL:
             with nogil:  # what is released may wait for a thread that needs the GIL
@@ -379,9 +398,11 @@ cdef class Arrow:
             check_codes(&chunk.rows, chunk.dictionary.length)
         chunk.has_nulls = (chunk.rows.valid is not NULL or chunk.keys.valid is not NULL
                            or chunk.keys.layout == NOTHING)
+        chunk.content = content_of(chunk)
         self.count += chunk.rows.length
         require(self.count < MOST_ROWS, "have less than 2**59 values")
-        self.num_bytes += chunk.rows.length * 8 + check_values(chunk.keys)
+        is_one_call = is_alone and chunk.content in (OFFSETS32, OFFSETS64)
+        self.num_bytes += chunk.rows.length * 8 + check_values(chunk.keys, is_one_call)
         return 0
 
     cdef int refuse_nulls(self) except -1:
@@ -405,58 +426,80 @@ cdef class Arrow:
             chunk = chunk.next
         return False
 
-    cdef size_t block(self) noexcept nogil:
-        """How many rows a loop takes next: few enough for their hashes to stay in the cache. Of nulls it is all."""
-        cdef size_t count = self.chunk.rows.length - self.row
-        return count if self.chunk.keys.layout == NOTHING else min(<size_t>BLOCK, count)
-
     cdef void advance(self, size_t count) noexcept nogil:
         self.row += count
         self.done += count
+        self.work += count * (MANY_BYTES // MANY)
         while self.chunk is not NULL and self.row == self.chunk.rows.length:
             self.chunk, self.row = self.chunk.next, 0
 
-    cdef void hash(self, int words, uint64_t seed, uint64_t *out) noexcept nogil:
-        """Writes the hashes of the next rows."""
-        cdef size_t num_bytes = 0, count
-        while self.chunk is not NULL and num_bytes < MANY_BYTES:
-            count = self.block()
-            num_bytes += hash_rows(self.chunk, self.row, &count, words, seed, out + words * self.done)
-            self.advance(count)
+    cdef bint has_rows(self) noexcept nogil:
+        """Whether there are more rows for this call, which goes past those that are only nulls."""
+        while self.chunk is not NULL and (self.row == self.chunk.rows.length or self.chunk.keys.layout == NOTHING):
+            self.advance(self.chunk.rows.length - self.row)
+        return self.chunk is not NULL and self.work < MANY_BYTES
 
-    cdef int insert(self, void *bits, size_t length) noexcept nogil:
-        """Inserts the keys of the next rows. What is only null is skipped at once."""
+    cdef void take_keys(self, Keys *keys, uint64_t *hashes) noexcept nogil:
+        """The next rows, in place, or as hashes. These are few enough to stay in the cache."""
+        cdef size_t count
+        if self.chunk.content != HASHES:
+            self.work += keys_in_place(self.chunk, self.row, keys)
+        else:
+            count = min(<size_t>BLOCK, self.chunk.rows.length - self.row)
+            self.work += hash_rows(self.chunk, self.row, &count, 1, 0, hashes)
+            keys.content, keys.numbers, keys.items, keys.count = HASHES, hashes, count, count
+
+    cdef int insert(self, void *bits, size_t length, size_t *wrong) noexcept nogil:
+        """Inserts the keys of the next rows."""
         cdef uint64_t hashes[BLOCK]
-        cdef size_t num_bytes = 0, count, kept, i
-        while self.chunk is not NULL and num_bytes < MANY_BYTES:
-            count = self.block()
-            if self.chunk.keys.layout != NOTHING:
-                num_bytes += hash_rows(self.chunk, self.row, &count, 1, 0, hashes)
-                kept = count
-                if self.chunk.has_nulls:
-                    kept = 0
-                    for i in range(count):
-                        hashes[kept] = hashes[i]
-                        kept += not is_null(self.chunk, self.row + i)
-                status = sketch_bloom_insert_each_hash(bits, length, hashes, kept)
-                if status:
-                    return status
-            self.advance(count)
-        return 0
+        cdef Keys keys
+        cdef size_t i
+        cdef int status = 0
+        self.work = 0
+        while status == 0 and self.has_rows():
+            self.take_keys(&keys, hashes)
+            if self.chunk.has_nulls:
+                keys.items = 0
+                for i in range(keys.count):
+                    hashes[keys.items] = hashes[i]
+                    keys.items += not is_null(self.chunk, self.row + i)
+            status = insert_keys(bits, length, &keys, wrong)
+            self.advance(keys.count)
+        return status
 
-    cdef int contains(self, const void *bits, size_t length, unsigned char *found) noexcept nogil:
+    cdef int contains(self, const void *bits, size_t length, unsigned char *found, size_t *wrong) noexcept nogil:
         """Writes 1 for each key of the next rows that the filter may contain. All bytes are 0 before."""
         cdef uint64_t hashes[BLOCK]
-        cdef size_t num_bytes = 0, count, i
+        cdef Keys keys
         cdef unsigned char *to
-        while self.chunk is not NULL and num_bytes < MANY_BYTES:
-            count, to = self.block(), found + self.done
-            if self.chunk.keys.layout != NOTHING:
-                num_bytes += hash_rows(self.chunk, self.row, &count, 1, 0, hashes)
-                status = sketch_bloom_contains_each_hash(bits, length, hashes, count, to, count)
-                if status:
-                    return status
-                for i in range(count if self.chunk.has_nulls else 0):
-                    to[i] &= not is_null(self.chunk, self.row + i)
+        cdef size_t i
+        cdef int status = 0
+        self.work = 0
+        while status == 0 and self.has_rows():
+            self.take_keys(&keys, hashes)
+            to = found + self.done
+            status = contains_keys(bits, length, &keys, to, wrong)
+            for i in range(keys.count if self.chunk.has_nulls else 0):
+                to[i] &= not is_null(self.chunk, self.row + i)
+            self.advance(keys.count)
+        return status
+
+    cdef int hash(self, int words, uint64_t seed, uint64_t *out, size_t *wrong) noexcept nogil:
+        """Writes a word of XXH64 or two of Murmur for each of the next rows, none of which is null."""
+        cdef Keys keys
+        cdef Content content
+        cdef uint64_t *to
+        cdef size_t count
+        cdef int status = 0
+        self.work = 0
+        while status == 0 and self.has_rows():
+            content, to = self.chunk.content, out + words * self.done
+            count = self.chunk.rows.length - self.row
+            if content in (OFFSETS32, OFFSETS64) or content == NUMBERS64 and words == 1:
+                self.work += keys_in_place(self.chunk, self.row, &keys)
+                status = hash_keys(&keys, words, seed, to, wrong)
+            else:
+                count = min(count, <size_t>MANY)
+                self.work += hash_rows(self.chunk, self.row, &count, words, seed, to)
             self.advance(count)
-        return 0
+        return status

@@ -7,13 +7,12 @@ from cpython.ref cimport Py_DECREF, Py_INCREF
 from libc.stdint cimport uint32_t, uint64_t, uintptr_t
 from libc.string cimport memcpy
 
-from ._columns cimport (
-    ARROW, NUMBERS32, NUMBERS64, OFFSETS32, OFFSETS64, Column, check_offsets, hashes_of, keys_of,
-)
+from ._columns cimport Column, check_offsets, hashes_of, keys_of
 from ._common cimport (
     LONG, Lock, PyBuffer_Release, PyObject_GetBuffer, View, acquire, get_bytes, overlap, refuse_addresses, release, wait,
     word_of,
 )
+from ._keys cimport contains_keys, insert_keys
 from ._library cimport *
 
 import operator
@@ -80,41 +79,18 @@ cdef int get_key(object key, View *memory) except -1:
     return 0
 
 
-cdef int insert_column(void *bits, size_t length, Column keys, size_t *wrong) noexcept nogil:
-    cdef void *numbers = keys.numbers.buf
-    if keys.content == ARROW:
-        return keys.arrow.insert(bits, length)
-    if keys.content == OFFSETS32:
-        return sketch_bloom_insert_each32(
-            bits, length, keys.data.buf, keys.reach, <uint32_t *>numbers, keys.items, wrong)
-    if keys.content == OFFSETS64:
-        return sketch_bloom_insert_each64(
-            bits, length, keys.data.buf, keys.reach, <uint64_t *>numbers, keys.items, wrong)
-    if keys.content == NUMBERS32:
-        return sketch_bloom_insert_each_u32(bits, length, <uint32_t *>numbers, keys.count)
-    if keys.content == NUMBERS64:
-        return sketch_bloom_insert_each_u64(bits, length, <uint64_t *>numbers, keys.count)
-    return sketch_bloom_insert_each_hash(bits, length, <uint64_t *>numbers, keys.count)
+cdef int insert_column(void *bits, size_t length, Column column, size_t *wrong) noexcept nogil:
+    if column.arrow is None:
+        return insert_keys(bits, length, &column.keys, wrong)
+    return column.arrow.insert(bits, length, wrong)
 
 
 cdef int contains_column(
-    const void *bits, size_t length, Column keys, unsigned char *found, size_t *wrong
+    const void *bits, size_t length, Column column, unsigned char *found, size_t *wrong
 ) noexcept nogil:
-    cdef void *numbers = keys.numbers.buf
-    cdef size_t items = keys.items, count = keys.count
-    if keys.content == ARROW:
-        return keys.arrow.contains(bits, length, found)
-    if keys.content == OFFSETS32:
-        return sketch_bloom_contains_each32(
-            bits, length, keys.data.buf, keys.reach, <uint32_t *>numbers, items, found, count, wrong)
-    if keys.content == OFFSETS64:
-        return sketch_bloom_contains_each64(
-            bits, length, keys.data.buf, keys.reach, <uint64_t *>numbers, items, found, count, wrong)
-    if keys.content == NUMBERS32:
-        return sketch_bloom_contains_each_u32(bits, length, <uint32_t *>numbers, items, found, count)
-    if keys.content == NUMBERS64:
-        return sketch_bloom_contains_each_u64(bits, length, <uint64_t *>numbers, items, found, count)
-    return sketch_bloom_contains_each_hash(bits, length, <uint64_t *>numbers, items, found, count)
+    if column.arrow is None:
+        return contains_keys(bits, length, &column.keys, found, wrong)
+    return column.arrow.contains(bits, length, found, wrong)
 
 
 cdef int check_length(object length) except -1:

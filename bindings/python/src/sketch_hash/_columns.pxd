@@ -1,18 +1,16 @@
 """Columns: many keys in a call."""
 from ._arrow cimport Arrow
 from ._common cimport View
-
-cdef enum Content:
-    OFFSETS32, OFFSETS64, NUMBERS32, NUMBERS64, HASHES, ARROW
+from ._keys cimport Keys
 
 
 cdef class Column:
     cdef object texts  # what data is of: of bytes it is no buffer that could keep them
+    cdef object aligned  # a copy of the numbers, if they are not
     cdef View data, numbers  # the bytes of texts; their offsets, or else the numbers
+    cdef Keys keys  # in the two, or else
     cdef Arrow arrow
-    cdef Content content
-    cdef size_t reach  # how many bytes an offset can reach
-    cdef size_t items, count  # how many numbers or offsets there are, and how many keys
+    cdef size_t count  # of keys
 
     cdef Py_ssize_t size(self) noexcept
     cdef bint check_signals_if_more(self) except -1

@@ -10,6 +10,7 @@ from libc.string cimport strchr, strlen, strspn
 
 from ._arrow cimport Arrow, exports_arrow
 from ._common cimport LONG, PyBuffer_Release, PyObject_GetBuffer, View, get_bytes, overlap, word_of
+from ._keys cimport HASHES, NUMBERS32, NUMBERS64, OFFSETS32, OFFSETS64, Keys, hash_keys
 from ._library cimport *
 
 import array
@@ -25,18 +26,18 @@ cdef class Column:
         PyBuffer_Release(&self.numbers)
 
     cdef Py_ssize_t size(self) noexcept:
-        return self.arrow.num_bytes if self.content == ARROW else self.data.len + self.numbers.len
+        return self.data.len + self.numbers.len if self.arrow is None else self.arrow.num_bytes
 
     cdef bint check_signals_if_more(self) except -1:
         """Returns whether rows are left for another call. If so, it runs signal handlers first, and raises what they raise.
         They may call the object whose lock the last call held, so that is released before."""
-        if self.content != ARROW or self.arrow.chunk is NULL:
+        if self.arrow is None or self.arrow.chunk is NULL:
             return False
         PyErr_CheckSignals()
         return True
 
     cdef bint overlaps(self, const void *memory, size_t length) noexcept:
-        if self.content == ARROW:
+        if self.arrow is not None:
             return self.arrow.overlaps(memory, length)
         return (overlap(self.data.buf, self.data.len, memory, length)
                 or overlap(self.numbers.buf, self.numbers.len, memory, length))
@@ -85,7 +86,7 @@ cdef Column keys_of(object keys):
 cdef Column hashes_of(object hashes):
     """The hashes of keys of a filter."""
     column = numbers_of(hashes, hash_rule)
-    column.content = HASHES
+    column.keys.content = HASHES
     return column
 
 
@@ -120,7 +121,6 @@ cdef bint is_arrow(object keys) except -1:
 cdef Column arrow_of(object keys):
     cdef Column column = Column.__new__(Column)
     column.arrow = Arrow(keys)
-    column.content = ARROW
     column.count = column.arrow.count
     return column
 
@@ -131,19 +131,20 @@ cdef Column pair_of(object pair):
     column.texts = (<tuple>pair)[0]
     get_bytes(column.texts, &column.data)
     letter = get_numbers(column, (<tuple>pair)[1], offset_rule)
-    column.content = OFFSETS32 if column.numbers.itemsize == 4 else OFFSETS64
-    column.count = column.items - 1 if column.items else 0
-    column.reach = column.data.len
-    if column.reach > INT32_MAX and column.content == OFFSETS32 and (letter == c"i" or letter == c"l"):
-        column.reach = INT32_MAX  # as sketch_hash.h says: a negative offset is then past the end
+    cdef Keys *keys = &column.keys
+    keys.content = OFFSETS32 if column.numbers.itemsize == 4 else OFFSETS64
+    keys.count = column.count = keys.items - 1 if keys.items else 0
+    keys.text, keys.reach = column.data.buf, column.data.len
+    if keys.reach > INT32_MAX and keys.content == OFFSETS32 and (letter == c"i" or letter == c"l"):
+        keys.reach = INT32_MAX  # as sketch_hash.h says: a negative offset is then past the end
     return column
 
 
 cdef Column numbers_of(object numbers, NumberRule rule):
     cdef Column column = Column.__new__(Column)
     get_numbers(column, numbers, rule)
-    column.content = NUMBERS32 if column.numbers.itemsize == 4 else NUMBERS64
-    column.count = column.items
+    column.keys.content = NUMBERS32 if column.numbers.itemsize == 4 else NUMBERS64
+    column.keys.count = column.count = column.keys.items
     return column
 
 
@@ -163,13 +164,15 @@ cdef char get_numbers(Column column, object numbers, NumberRule rule) except 0:
     if letter == 0 or strchr(rule.letters, letter) is NULL or memory.itemsize < rule.narrowest:
         is_small = letter and strchr("bBhHiI", letter) is not NULL and not isinstance(numbers, (bytes, bytearray))
         raise TypeError(rule.text + rule.cast if is_small else rule.text)
-    if memory.len and <uintptr_t>memory.buf % memory.itemsize:
-        raise ValueError("a column of numbers must be aligned to their width: pass a copy")
-    column.items = memory.len // memory.itemsize
+    column.keys.items = memory.len // memory.itemsize
+    column.keys.numbers = memory.buf
+    if memory.len and <uintptr_t>memory.buf % memory.itemsize:  # as Dask hands arrays over
+        column.aligned = PyBytes_FromStringAndSize(<char *>memory.buf, memory.len)
+        column.keys.numbers = PyBytes_AS_STRING(column.aligned)
     if letter == c"d":
-        refuse_nan(<double *>memory.buf, column.items)
+        refuse_nan(<double *>column.keys.numbers, column.keys.items)
     elif letter == c"f":
-        refuse_nan(<float *>memory.buf, column.items)
+        refuse_nan(<float *>column.keys.numbers, column.keys.items)
     return letter
 
 
@@ -216,32 +219,28 @@ cdef int check_offsets(int status, size_t wrong) except -1:
     return 0
 
 
-cdef int hash_keys(Column keys, int words, uint64_t seed, void *out, size_t *wrong) noexcept nogil:
-    """Writes a word of XXH64 or two of Murmur for each key."""
-    if keys.content == ARROW:
-        keys.arrow.hash(words, seed, <uint64_t *>out)
-        return 0
-    if keys.content == NUMBERS64:
-        return sketch_xxh64_each_u64(<uint64_t *>keys.numbers.buf, keys.items, seed, out, keys.count)
-    return hash_texts(words, 4 if keys.content == OFFSETS32 else 8, keys.data.buf, keys.reach, keys.numbers.buf,
-                      keys.items, seed, out, keys.count, wrong)
+cdef int hash_column(Column column, int words, uint64_t seed, void *out, size_t *wrong) noexcept nogil:
+    if column.arrow is None:
+        return hash_keys(&column.keys, words, seed, out, wrong)
+    return column.arrow.hash(words, seed, <uint64_t *>out, wrong)
 
 
-cdef object hash_each(Column keys, int words, object seed):
+cdef object hash_each(Column column, int words, object seed):
+    """A word of XXH64 or two of Murmur for each key."""
     cdef uint64_t number = word_of(seed, "a seed")
     cdef size_t wrong = 0
-    if keys.content == ARROW:
-        keys.arrow.refuse_nulls()
-    hashes = bytearray(8 * words * keys.count)
+    if column.arrow is not None:
+        column.arrow.refuse_nulls()
+    hashes = bytearray(8 * words * column.count)
     cdef void *out = PyByteArray_AS_STRING(hashes)
     while True:
-        if keys.size() < LONG:
-            status = hash_keys(keys, words, number, out, &wrong)
+        if column.size() < LONG:
+            status = hash_column(column, words, number, out, &wrong)
         else:
             with nogil:
-                status = hash_keys(keys, words, number, out, &wrong)
+                status = hash_column(column, words, number, out, &wrong)
         check_offsets(status, wrong)
-        if not keys.check_signals_if_more():
+        if not column.check_signals_if_more():
             break
     return memoryview(hashes).cast("Q")
 

@@ -51,17 +51,3 @@ cdef extern from "sketch_hash.h" nogil:
     size_t sketch_bloom_block_offset(size_t, uint64_t)
     size_t sketch_bloom_header_write(uint64_t, unsigned char *, size_t)
     size_t sketch_bloom_header_read(const void *, size_t, uint64_t *)
-
-
-cdef inline int hash_texts(
-    int words, size_t width, const void *text, size_t length, const void *offsets, size_t items, uint64_t seed, void *out,
-    size_t count, size_t *wrong
-) noexcept nogil:
-    """Writes a word of XXH64 or two of Murmur for each text. The width is that of an offset."""
-    if words == 1 and width == 4:
-        return sketch_xxh64_each32(text, length, <uint32_t *>offsets, items, seed, out, count, wrong)
-    if words == 1:
-        return sketch_xxh64_each64(text, length, <uint64_t *>offsets, items, seed, out, count, wrong)
-    if width == 4:
-        return sketch_murmur3_x64_128_each32(text, length, <uint32_t *>offsets, items, seed, out, count, wrong)
-    return sketch_murmur3_x64_128_each64(text, length, <uint64_t *>offsets, items, seed, out, count, wrong)
