@@ -1,5 +1,6 @@
 """Builds the calls over the library for C, whose text is in `c`. In the repository it is copied from `dist`, as the
 licence is."""
+import os
 import pathlib
 import re
 import shutil
@@ -25,6 +26,9 @@ if (dist / "sketch_hash.c").is_file():
 # Other extensions, or a program that embeds Python, may have another version's calls under the same names. So the names
 # of the library stay inside of each module.
 exports = ["-Xlinker", f"--version-script={here}/exports.map"] if sys.platform == "linux" else []
+# Python's own flags have -g, whose output is five sixths of a module.
+if exports and "-g" not in os.environ.get("CFLAGS", "").split():
+    exports += ["-Xlinker", "--strip-debug"]
 library = "sketch_hash", {"sources": ["c/sketch_hash.c"], "include_dirs": ["c"]}
 modules = [
     Extension(".".join(path.with_suffix("").parts[1:]), [str(path)], include_dirs=["c"], extra_link_args=exports)
