@@ -1,6 +1,9 @@
 //! The preamble of a serialized sketch, read and written.
 
-ghost use Rattle.std.specs.Prelude.{◌≡◌, ◌<◌, ◌≤◌, length, IfOk, MatchResult};
+ghost use Rattle.std.specs.Prelude.{◌≡◌, ◌⊎◌, ◌<◌, ◌≤◌, length, MatchResult};
+ghost use Rattle.datasketches.specs.ErrorValue.{memory_error};
+ghost use Rattle.datasketches.specs.Refusals.{Refuses};
+ghost use Rattle.datasketches.specs.SeedHash.{seed_hash, zero_seed_hash_text};
 ghost use Rattle.examples.specs.{HasPreamble, number_at};
 
 use datasketches::codec::assert::{
@@ -54,7 +57,10 @@ pub fn check_preamble(alloc: Global, bytes: &[u8], seed: u64) -> Result<(), Erro
 ///
 /// Returns `InvalidArgument` if the seed's hash is zero, and `OutOfMemory` if there is no memory.
 pub fn write_preamble(alloc: Global, seed: u64) -> Result<Vec<u8>, Error>
-    ensures { IfOk result (λ bytes. HasPreamble seed bytes.items) }
+    ensures { MatchResult result
+        (λ bytes. HasPreamble seed bytes.items)
+        (λ error. (error ≡ memory_error) ⊎ ((seed_hash seed ≡ 0)
+        × Refuses ErrorKind.InvalidArgument (zero_seed_hash_text seed) error)) }
 {
     let hash = compute_seed_hash(alloc, seed, ErrorKind::InvalidArgument)?;
     let mut writer = SketchBytes::with_capacity(alloc, 5)?;

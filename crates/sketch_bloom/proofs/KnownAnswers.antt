@@ -6,9 +6,10 @@ use Rattle.datasketches.specs.Xxh64 as the_xxh64
 use Rattle.datasketches.specs.Xxh64.{round, steps, eight_step, four_step, byte_step, tail_step, avalanche, xxh64}
 use Rattle.sketch_bloom.proofs.BlockLemmas.{bytes_of, inserted, joined_in, mask_bits}
 use Rattle.sketch_bloom.proofs.LawLemmas.{insert_law}
+use Rattle.sketch_bloom.specs.ExactRate.{found_to, weights_to}
 use Rattle.sketch_bloom.specs.Filter.{block_of, hash_of}
 use Rattle.sketch_bloom.specs.Header.{varint}
-use Rattle.sketch_bloom.specs.KnownAnswers.{BlockAnswers, FilterAnswer, HeaderAnswers}
+use Rattle.sketch_bloom.specs.KnownAnswers.{BlockAnswers, FilterAnswer, HeaderAnswers, SizeAnswers, rate}
 use Rattle.sketch_bloom.specs.Laws.{StandsFor, empty_filter}
 
 -- a filter of 32 blocks into which a value is inserted
@@ -67,4 +68,15 @@ header_answers = record {
   last_of_18_bytes = refl;
   first_of_19_bytes = refl;
   of_19_bytes = refl;
+}
+
+pub size_answers : SizeAnswers
+unfolding found_to weights_to rate
+size_answers = record {
+  of_6_bits = refl;
+  of_10_5_bits = refl;
+  of_16_9_bits = refl;
+  of_26_4_bits = refl;
+  of_41_bits = refl;
+  largest = refl;
 }

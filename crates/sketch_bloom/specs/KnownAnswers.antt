@@ -1,9 +1,11 @@
--- What the definitions give for a filter and headers that are published, and for other numbers of
--- blocks.
-use Rattle.std.specs.Prelude.{◌≡◌, ℕ, ◌-◌, ◌*◌, ◌^◌, List, [], ◌∷◌, ◌++◌, codes, map, replicate}
+-- What the definitions give for a filter, headers and rates that are published, and for other
+-- numbers of blocks.
+use Rattle.std.specs.Prelude.{◌≡◌, ℕ, ◌-◌, ◌*◌, ◌/◌, ◌^◌, List, [], ◌∷◌, ◌++◌, codes, map, replicate}
+use Rattle.sketch_bloom.specs.ExactRate.{found_to, weights_to}
 use Rattle.sketch_bloom.specs.Filter.{block_of, hash_of}
 use Rattle.sketch_bloom.specs.Header.{header}
 use Rattle.sketch_bloom.specs.Laws.{StandsFor}
+use Rattle.sketch_bloom.specs.Size.{max_log2_blocks}
 
 -- blocks without values
 abbrev pub empty_blocks : ℕ → List ℕ
@@ -59,3 +61,19 @@ pub record HeaderAnswers : Type 0 where
   pub first_of_19_bytes :
       header (2 ^ 27) ≡ 0x15 ∷ 0x80 ∷ 0x80 ∷ 0x80 ∷ 0x80 ∷ 0x01 ∷ last_fields
   pub of_19_bytes : header (2 ^ 31 - 32) ≡ 0x15 ∷ 0xc0 ∷ 0xff ∷ 0xff ∷ 0xff ∷ 0x0f ∷ last_fields
+
+-- the exact rate by the terms 0 to 255, in parts of 10 ^ 10, rounded down
+unfoldable pub rate : ℕ → ℕ → ℕ
+rate keys blocks =
+    found_to keys blocks 255 * 10 ^ 10 / (weights_to keys blocks 255 * (32 ^ 8) ^ 255)
+
+-- The rates that Parquet's specification has for 6, 10.5, 16.9, 26.4 and 41 bits a value: 10 %,
+-- 1 %, 0.1 %, 0.01 % and 0.001 %. A program in Python gives the digits. The largest filter that
+-- Arrow reads has 128 MiB.
+pub record SizeAnswers : Type 0 where
+  pub of_6_bits : rate 128 3 ≡ 993387417
+  pub of_10_5_bits : rate 512 21 ≡ 101285016
+  pub of_16_9_bits : rate 2560 169 ≡ 9969374
+  pub of_26_4_bits : rate 320 33 ≡ 988476
+  pub of_41_bits : rate 256 41 ≡ 99816
+  pub largest : 32 * 2 ^ max_log2_blocks ≡ 128 * 2 ^ 20

@@ -25,7 +25,6 @@ fn kinds_print_their_names_at_any_width(rt: HostRuntime) {
     assert_text(&rt, format!(in alloc; "{a:?} {b:?} {c:?}"), names);
     let bare = Error::new(OutOfMemory, String::new(alloc));
     assert_text(&rt, format!(in alloc; "{bare:20}"), "OutOfMemory");
-    assert_line(&rt, bare, "OutOfMemory");
 }
 
 // The alternate form of an error with two contexts.
@@ -51,7 +50,6 @@ fn errors_print_their_contexts_at_any_width(rt: HostRuntime) -> Result<(), Fail>
     let error = error.with_context(alloc, "index", 42u8)?;
     let error = error.with_context(alloc, "file", "foo")?;
     let line = "InvalidData, context: { index: 42, file: foo } => parsing failed";
-    assert_text(&rt, format!(in alloc; "{error:20}"), line);
     assert_text(&rt, format!(in alloc; "{error:>99}"), line);
     assert_line(&rt, error, line);
     let bare = Error::new(InvalidData, String::new(alloc)).with_context(alloc, "a", 1u8)?;
@@ -69,6 +67,9 @@ fn errors_print_their_contexts_for_debugging(rt: HostRuntime) -> Result<(), Fail
     assert_text(&rt, format!(in alloc; "{error:?}"), "InvalidData => m\n");
     let fields = "Error {\n    kind: InvalidData,\n    message: \"m\",\n    context: [],\n}";
     assert_text(&rt, format!(in alloc; "{error:#?}"), fields);
+    let bare = Error::from(AllocError);
+    let fields = "Error {\n    kind: OutOfMemory,\n    message: \"\",\n    context: [],\n}";
+    assert_text(&rt, format!(in alloc; "{bare:#?}"), fields);
     let error = error.with_context(alloc, "index", 42u8)?;
     let error = error.with_context(alloc, "file", "foo")?;
     assert_text(&rt, format!(in alloc; "{error:#?}"), FIELDS);
@@ -76,11 +77,11 @@ fn errors_print_their_contexts_for_debugging(rt: HostRuntime) -> Result<(), Fail
 }
 
 #[test]
-fn errors_print_the_given_message(rt: HostRuntime) -> Result<(), AllocError> {
+fn errors_print_their_message_at_any_width(rt: HostRuntime) -> Result<(), AllocError> {
     let wrong = error_of(rt.alloc(), InvalidArgument, "something went wrong")?;
-    assert_line(&rt, wrong, "InvalidArgument => something went wrong");
-    let bad = error_of(rt.alloc(), InvalidArgument, "bad input")?;
-    assert!(rt; bad.kind() == InvalidArgument && bad.message() == "bad input");
+    assert!(rt; wrong.kind() == InvalidArgument && wrong.message() == "something went wrong");
+    let text = format!(in rt.alloc(); "{wrong:99}");
+    assert_text(&rt, text, "InvalidArgument => something went wrong");
     let bad = Error::invalid_argument(String::from_str(rt.alloc(), "bad input")?);
     assert_line(&rt, bad, "InvalidArgument => bad input");
     let bad = Error::deserial(String::from_str(rt.alloc(), "bad input")?);

@@ -1,11 +1,14 @@
 //! Known answers of both hashes, and a membership table in bytes of version 1, which has no count.
 
 use crate::tests::{FOX, FOX_MURMUR};
-use datasketches::error::Error;
+use datasketches::error::{Error, ErrorKind};
 use datasketches::hash::value::raw_bytes;
 use datasketches::hash::{Hasher, MurmurHash3X64128, XxHash64};
 use datasketches::known_answers::TEST_BUFFER;
 use sketch_member::MemberTable;
+use std::alloc::Global;
+use std::io::Eprint;
+use std::process::Abort;
 
 // What Murmur answers under seed 0: the input, and the two words.
 const MURMUR: [(&[u8], (u64, u64)); 6] = [
@@ -67,20 +70,38 @@ fn xxh64_vectors(rt: HostRuntime) {
 // A table of 64 bits and one hash that has the empty text.
 const VERSION_1: &[u8] = b"\x02\x01\xc8\x06\x01\0\0\0\0\0\0\0\0\0\0\0\0\0\0\x02\0\0\0\0";
 
-#[test]
-fn an_insert_leaves_the_count_unknown(rt: HostRuntime) -> Result<(), Error> {
-    let mut table = MemberTable::from_bytes(rt.alloc(), VERSION_1)?;
+fn try_insert(rt: &impl Abort, alloc: Global) -> Result<(), Error> {
+    let mut table = MemberTable::from_bytes(alloc, VERSION_1)?;
     table.insert(&raw_bytes::from_str(""));
     assert_eq!(rt; table.count(), None);
     Ok(())
 }
 
-#[test]
-fn a_table_written_and_read_again_has_its_value_and_no_count(rt: HostRuntime) -> Result<(), Error> {
-    let table = MemberTable::from_bytes(rt.alloc(), VERSION_1)?;
-    let written = table.to_bytes(rt.alloc())?;
-    let again = MemberTable::from_bytes(rt.alloc(), &written)?;
+fn try_copy(rt: &impl Abort, alloc: Global) -> Result<(), Error> {
+    let table = MemberTable::from_bytes(alloc, VERSION_1)?;
+    let written = table.to_bytes(alloc)?;
+    let again = MemberTable::from_bytes(alloc, &written)?;
     assert!(rt; again.contains(&raw_bytes::from_str("")));
     assert_eq!(rt; again.count(), None);
     Ok(())
+}
+
+#[test]
+fn an_insert_leaves_the_count_unknown(rt: HostRuntime) -> Result<(), Error> {
+    try_insert(&rt, rt.alloc())
+}
+
+#[test]
+fn a_table_written_and_read_again_has_its_value_and_no_count(rt: HostRuntime) -> Result<(), Error> {
+    try_copy(&rt, rt.alloc())
+}
+
+#[test]
+fn tables_of_version_1_without_memory(rt: HostRuntime) {
+    for tried in [try_insert(&rt, rt.alloc()), try_copy(&rt, rt.alloc())] {
+        if let Err(error) = tried {
+            let _ = rt.eprintln("out of memory");
+            assert!(rt; error.kind() == ErrorKind::OutOfMemory && error.message().is_empty());
+        }
+    }
 }
