@@ -14,7 +14,8 @@ use Rattle.sketch_bloom.proofs.SizeLemmas.{unit_is_positive}
 
 -- In calls below, `_` stands for a number that the facts determine.
 --
--- Each term bounds an error in parts of 2 ^ 100: of the weights, of c(k), of the last division.
+-- Each term bounds an error in parts of 2 ^ 100: of the weights, of c(k), of the last division. That
+-- of the weights' sum to the term 383, in parts of 2 ^ 40, is 383 * 384 = 147072.
 abbrev most_above : ℕ
 most_above = 2 ^ 60 * 147072 + 2 ^ 54 + 1
 
