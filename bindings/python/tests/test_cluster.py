@@ -1,4 +1,4 @@
-"""The programs of docs/cluster.md, on a cluster of four workers of which one is killed meanwhile."""
+"""The programs for clusters, with four workers of which one is killed meanwhile."""
 import os
 import re
 import signal
@@ -14,18 +14,16 @@ numpy = pytest.importorskip("numpy")
 
 @pytest.fixture
 def run(need, tmp_path):
-    """Runs a program of the page, and kills a worker once another has a result of it."""
+    """Runs a program, and kills a worker once another has a result of it."""
     need("python:distributed")
     import sketch_hash
     from distributed import Client, LocalCluster
     package = os.path.dirname(os.path.dirname(sketch_hash.__file__))
 
     def run(name, *args):
-        (code,) = re.findall(rf"^```python {name}\n(.*?)^```", (ROOT / "docs/cluster.md").read_text(), re.M | re.S)
-        (tmp_path / f"{name}.py").write_text(code)
         has_results = lambda dask_scheduler: any(task.state == "memory" for task in dask_scheduler.tasks.values())
         with LocalCluster(n_workers=4, threads_per_worker=1, dashboard_address=None) as cluster, Client(cluster) as client:
-            command = [sys.executable, f"{name}.py", cluster.scheduler_address, *args]
+            command = [sys.executable, ROOT / "bindings/python/examples" / name, cluster.scheduler_address, *args]
             program = subprocess.Popen(command, cwd=tmp_path, env={**os.environ, "PYTHONPATH": package},
                                        stdout=subprocess.PIPE, stderr=subprocess.PIPE, text=True)
             while program.poll() is None and not client.run_on_scheduler(has_results):
@@ -44,7 +42,7 @@ def test_each_file_of_a_data_set_gets_its_filters(run, pa, tmp_path):
         path = tmp_path / f"data/day={i}/part.parquet"
         path.parent.mkdir(parents=True)
         pa.parquet.write_table(pa.table({"id": [f"{i}-{n}" for n in range(20_000)]}), path)
-    lines = run("add", tmp_path / "data", "id").splitlines()
+    lines = run("add_on_cluster.py", tmp_path / "data", "id").splitlines()
     assert len(lines) == 12
     assert [check_filters(path) for path in (tmp_path / "data").rglob("*.parquet")] == [1] * 12
 
@@ -57,7 +55,7 @@ def test_a_join_sends_only_rows_that_can_match(run, tmp_path):
         (tmp_path / name).mkdir()
         for i, keys in enumerate(parts):
             numpy.save(tmp_path / name / f"{i}.npy", keys)
-    output = run("join", "small", "large")
+    output = run("join_on_cluster.py", "small", "large")
     plain = tables["large"][numpy.isin(tables["large"], tables["small"])]
     assert sorted(numpy.load(tmp_path / "joined.npy")) == sorted(plain) and len(plain) == 1600
     travelled = int(re.fullmatch(r"(\d+) of 3200000 rows travelled, and 1600 match\n", output)[1])
