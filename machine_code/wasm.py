@@ -9,8 +9,8 @@ import itertools
 from machine import CALLER, STACK, Machine, fill, move, shift_one
 from module import COMPARISONS, NUMERIC
 from values import (NUMBER, Stop, Undecided, add, are_equal, assume_at_most, bitwise, collect, complement, cut, exact, extend,
-                    facts, greatest, is_below, is_not_negative, is_zero, join, kinds, known, limits, linear, mul, number, number_in,
-                    ranges, rotate_right, shift_right, sign_extend, sub, total, unknown, width_of)
+                    facts, greatest, is_below, is_not_negative, is_zero, join, kinds, known, limits, linear, mul, number,
+                    number_in, ranges, rotate_right, shift_right, sign_extend, sub, total, unknown, width_of)
 
 HALF = 1 << 32
 
