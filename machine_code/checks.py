@@ -12,19 +12,22 @@ import rates
 from aarch64 import Aarch64
 from loops import on_each_path
 from values import Stop
+from wasm import Wasm
 from x86 import X86
 
-MACHINES = {"x86-64": X86, "aarch64": Aarch64}
+MACHINES = {"x86-64": X86, "aarch64": Aarch64, "wasm": Wasm}
 
 
 def machine_of(built):
     """What makes a machine for each call of a library, once its constructors have run."""
+    kind = MACHINES[built.processor]
+
     def machine():
-        kind = MACHINES[built.processor]
         if built.flags is None:
             built.flags = loading.flags_of(kind, built)
         return kind(built)
 
+    machine.size = kind.size
     return machine
 
 

@@ -88,7 +88,7 @@ class Bits:
     does not matter which of them are the same block. `hash` gives that of the key with an index."""
 
     def __init__(self, hash, is_writable):
-        self.hash, self.is_writable = hash, is_writable
+        self.hash, self.is_writable, self.at, self.length = hash, is_writable, bits, any_length
         self.begin(number(0))
 
     def begin(self, first):
@@ -226,7 +226,7 @@ def wrong_result(is_insert):
 
 def keys_of_wrong_lengths(machine, is_insert):
     prove_each_rest(partial(KeyOfWrongLength, machine, is_insert, number(33)), 32)
-    for length, n in itertools.product(WRONG_LENGTHS, (0, 7, 40)):
+    for length, n in itertools.product(lengths_of_none(machine), (0, 7, 40)):
         KeyOfWrongLength(machine, is_insert, length, n, 1).few()
 
 
@@ -248,24 +248,22 @@ def one_hash(machine, is_insert):
 
 # ---- lengths that no filter has: none, too many blocks, and no multiple of 32. Then nothing is read or written.
 
-def lengths_of_none(name):
-    return [number(0), join(number(0, 5), unknown(f"too many {name}", 59, 1 << 32)),
-            *(join(number(n, 5), unknown(f"any {name}", 59)) for n in range(1, 32))]
-
-
-WRONG_LENGTHS = lengths_of_none("blocks")
+def lengths_of_none(machine, name="blocks"):
+    too_many = [join(number(0, 5), unknown(f"too many {name}", 59, 1 << 32))] * (machine.size == 64)
+    return [number(0), *too_many, *(join(number(n, 5), unknown(f"any {name}", 59)) for n in range(1, 32))]
 
 
 def wrong_lengths(machine, function, result):
     """The other arguments are anything."""
-    for length in WRONG_LENGTHS:
+    for length in lengths_of_none(machine):
         check_call(machine, function, Call, arguments_of(function, length=length), [], result)
 
 
 def merges_of_two_lengths(machine):
     """Of a wrong one with itself, with another wrong one, and with a right one; and of two right ones that differ."""
-    pairs = [(length, length) for length in WRONG_LENGTHS]
-    pairs += itertools.product(WRONG_LENGTHS, [*lengths_of_none("other blocks"), any_length])
+    wrong = lengths_of_none(machine)
+    pairs = [(length, length) for length in wrong]
+    pairs += itertools.product(wrong, [*lengths_of_none(machine, "other blocks"), any_length])
     more = add(any_length, join(number(0, 5), unknown("more", 58, 1), number(0, 1)))
     odd = [join(number(n, 5), unknown("any blocks", 58), number(0, 1)) for n in range(1, 32)]
     for other in [number(0), more, *odd]:
@@ -276,8 +274,8 @@ def merges_of_two_lengths(machine):
 
 def wrong_folds(machine):
     """By pairs of blocks: a rest, or too many."""
-    lengths = [join(number(rest, 6), unknown("pairs", 58, 0 if rest else 1 << 31)) for rest in range(64)]
-    for length in [number(0), *lengths]:
+    too_many = [join(number(0, 6), unknown("pairs", 58, 1 << 31))] * (machine.size == 64)
+    for length in [number(0), *too_many, *(join(number(rest, 6), unknown("pairs", 58)) for rest in range(1, 64))]:
         check_call(machine, "bloom_fold", Call, [bits, length], [], LENGTH)
 
 
@@ -313,12 +311,11 @@ def column(call, lengths):
     filter = run.give(Bits(lambda index: FILTER.hash_of(keys[index[0][1]]), call.is_insert))
     run.map(input, data)
     run.map(values, [number(offset, call.width) for offset in offsets])
-    run.map(fault, [old_fault], writable=True)
+    run.map(fault, [cut(old_fault, 0, run.size)], writable=True)
     run.map(out, old, writable=True)
     run.begin(call.function, call.arguments(*map(number, (len(data), n, len(offsets)))))
     run.go()
-    run.must_return(OK)
-    run.must_have(fault, [old_fault])
+    call.must_succeed(run)
     filter.must_have_reached(n)
     run.must_have(out, old if call.is_insert else [filter.contains(number(i)) for i in range(n)])
 
@@ -332,7 +329,7 @@ def checks(machine):
     yield "bloom_merge", partial(merges_of_two_lengths, machine)
     yield "bloom_fold", partial(prove_each_rest, partial(Fold, machine))
     yield "bloom_fold", partial(wrong_folds, machine)
-    wrong_results = {"bloom_check": LENGTH, "bloom_block_offset": number(-1), "bloom_fold_to": number(0)}
+    wrong_results = {"bloom_check": LENGTH, "bloom_block_offset": number(-1, machine.size), "bloom_fold_to": number(0)}
     for is_insert in (True, False):
         name = name_of(is_insert)
         yield name, partial(prove_each_rest, partial(Key, machine, is_insert), 32)

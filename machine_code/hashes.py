@@ -122,8 +122,9 @@ def bytes_call():
 
 def reset(hash):
     """The waiting bytes become zeros too, so that the state equals one that the header initializes."""
-    before, after = saved(calls.any_state(hash, unknown("total", 64))), calls.fields(hash, of(hash, "start")(seed))
-    return Call([state, seed], [Memory(state, before, [value or number(0, 8) for value in after])])
+    other = unknown("other seed", 64)
+    before, after = saved(calls.any_state(hash, unknown("total", 64))), calls.fields(hash, of(hash, "start")(other))
+    return Call([state, other], [Memory(state, before, [value or number(0, 8) for value in after])])
 
 
 def answering(hash, after, arguments, memory):

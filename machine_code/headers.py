@@ -3,7 +3,7 @@ from functools import partial
 
 from calls import Call, Memory, check_call, input, out, some
 from definitions import Definitions, as_value
-from filters import WRONG_LENGTHS
+from filters import lengths_of_none
 from values import add, complement, cut, extend, join, number, unknown
 
 HEADER = Definitions("sketch_bloom/specs/Header.antt")
@@ -38,7 +38,7 @@ def write(machine):
         check(length_of(size), extend(unknown("room", 60, len(header))), header)
         for room in range(len(header)):
             check(length_of(size), number(room), [])
-    for length in [*WRONG_LENGTHS, TOO_LONG]:
+    for length in [*lengths_of_none(machine), TOO_LONG]:
         check(length, extend(unknown("room", 60)), [])
 
 

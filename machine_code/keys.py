@@ -25,7 +25,7 @@ class ColumnCall:
         self.input = run.give(Array("input", input, self.length))
         self.offsets = run.give(Array("offsets", values, mul(offset_count, number(self.width // 8))))
         self.target = run.give(Array("old", out, mul(count, number(self.size)), True))
-        run.map(fault, [old_fault], writable=True)
+        run.map(fault, [cut(old_fault, 0, run.size)], writable=True)
         run.begin(self.function, self.arguments(self.length, count, offset_count))
         return run
 
@@ -60,12 +60,12 @@ class ColumnCall:
     def must_fail(self, run, index):
         """Nothing else is written."""
         run.must_return(OFFSET)
-        run.must_have(fault, [index])
+        run.must_have(fault, [cut(index, 0, run.size)])
         self.target.must_have_written([])
 
     def must_succeed(self, run):
         run.must_return(OK)
-        run.must_have(fault, [old_fault])
+        run.must_have(fault, [cut(old_fault, 0, run.size)])
 
 
 class Offsets(Subject):

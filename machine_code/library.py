@@ -7,6 +7,7 @@ import struct
 import subprocess
 import tempfile
 
+from module import MAGIC, Module
 from values import Stop
 
 HEADER = (pathlib.Path(__file__).parents[1] / "dist/include/sketch_hash.h").read_text()
@@ -45,7 +46,7 @@ class Library:
         magics = {b"\x7fELF\2\1": self.read_elf, b"MZ": self.read_pe, b"\xcf\xfa\xed\xfe": self.read_macho}
         read = next((item for magic, item in magics.items() if data.startswith(magic)), None)
         if not read:
-            raise Stop("it is no library in ELF, PE or Mach-O, of 64 bits")
+            raise Stop("it is no library in ELF, PE or Mach-O, of 64 bits, and no WebAssembly module")
         self.format = read.__name__.partition("_")[2]
         read()
         self.instructions = {}
@@ -262,7 +263,7 @@ def read(path):
     try:
         if data.startswith((ELF, b"!<arch>")):
             data = linked(path, data)
-        library = Library(data)
+        library = Module(data) if data.startswith(MAGIC) else Library(data)
     except (struct.error, ValueError, KeyError, IndexError, TypeError) as error:
         raise Stop(f"it is truncated or damaged: {error}") from None
     if not any(name.startswith("sketch_") for name in library.functions):

@@ -1,4 +1,4 @@
-"""What the two processors have in common: memory, conditions, and a run from a call to its return."""
+"""What the processors have in common: memory, conditions, and a run from a call to its return."""
 import functools
 import inspect
 
@@ -10,7 +10,6 @@ from values import (Stop, Undecided, add, are_equal, bitwise, complement, cut, e
 IMAGE = extend(join(number(0, 12), unknown("image", 50, 1)))  # where the library is
 CALLER = extend(unknown("caller", 62, 1))  # where a call returns to
 STACK = 4096  # how much of it a call may use
-LIMIT = 1_000_000  # how many instructions a run may execute
 OPPOSITE = {"ne": "e", "ae": "b", "a": "be", "ns": "s", "ge": "l"}
 
 
@@ -147,15 +146,20 @@ def of_place(base, n):
 class Machine:
     """One call. A subclass has the registers and the instructions of a processor."""
 
+    size, image, limit = 64, IMAGE, 1_000_000  # bits of a size; where the library is; how many instructions a run may have
+
     def __init__(self, library):
         self.library, self.registers, self.bytes, self.writable, self.arrays = library, {}, {}, set(), []
         self.flags, self.at, self.next, self.executed = None, None, None, []
-        rest = facts.get("alignment")  # of the stack pointer modulo 64, if a path has chosen it
-        stack = unknown("stack", 62, 1 << 20) if rest is None else join(number(rest, 6), unknown("stack", 56, 1 << 14))
-        self.stack = extend(stack)
+        self.stack = self.stack_pointer()
         self.base, self.top = place_of(self.stack)
         self.set_up()
         self.end = self.top - self.red_zone  # the lowest byte that the call may use now
+
+    def stack_pointer(self):
+        """Before the call. A path may have chosen what it is modulo 64."""
+        rest = facts.get("alignment")
+        return extend(unknown("stack", 62, 1 << 20) if rest is None else join(number(rest, 6), unknown("stack", 56, 1 << 14)))
 
     def map(self, address, values, writable=False):
         """Memory with these values, each of some bytes."""
@@ -187,7 +191,7 @@ class Machine:
             return self.bytes[base, at]
         if base == self.base and self.end <= at < self.top:
             return self.anything(at), 0  # nothing has written it
-        if base != IN_IMAGE:
+        if base != place_of(self.image)[0]:
             is_below = base == self.base and at < self.end
             raise Stop("a read below the stack" if is_below else "a read outside of what the call is given")
         return self.byte_of_image(at)
@@ -210,7 +214,7 @@ class Machine:
 
     def bit_of_table(self, address, size):
         """A word of a table of the library that has 2^i at index i, at an unknown index of five bits; else None."""
-        start, factors = linear(sub(address, IMAGE))
+        start, factors = linear(sub(address, self.image))
         pieces = [piece for piece, factor in factors.items() if piece[2] == 5 and factor == size == 4]
         if len(factors) != 1 or not pieces:
             return None
@@ -224,7 +228,7 @@ class Machine:
         bit = self.bit_of_table(address, size) if len(base) == 2 and size == 4 else None
         if bit is not None:
             return bit
-        if base in (IN_IMAGE, self.base) or any((base, start + i) in self.bytes for i in range(size)):
+        if base in (place_of(self.image)[0], self.base) or any((base, start + i) in self.bytes for i in range(size)):
             found = [self.byte(base, start + i) for i in range(size)]
         else:
             array, offset = self.in_array(address, size)
@@ -319,7 +323,9 @@ class Machine:
         if number_in(bit) is None and name in ("e", "ne"):
             zero, value = self.condition("e"), self.flags[3]
             kind = Setting if all(name[0] == "static" for name in unknowns_in(zero)) else Undecided
-            raise kind("whether a value is 0", ({zero: number(1, 1), value: number(0)}, []), ({zero: number(0, 1)}, []))
+            yes, no = number(1, 1), number(0, 1)
+            raise kind("whether a value is 0", ({zero: yes, complement(zero): no, value: number(0)}, []),
+                       ({zero: no, complement(zero): yes}, []))
         return known(bit, "a branch")
 
     def subtract(self, x, y):
@@ -339,15 +345,15 @@ class Machine:
         self.begin_at(self.library.functions[f"sketch_{function}"], arguments)
 
     def begin_at(self, address, arguments):
-        self.registers[self.pointer], self.end = self.stack, self.top - self.red_zone
+        self.registers[self.pointer], self.end, self.at = self.stack, self.top - self.red_zone, address
         self.pass_arguments(arguments)
-        self.before, self.at = dict(self.registers), address
+        self.before = dict(self.registers)
 
     def go(self, head=None, arrivals=1):
         """Runs to the end of the call, or up to an instruction, arriving there so often. Returns whether it did."""
         while self.at != CALLER:
             instruction = self.library.instruction(self.at)
-            if not instruction or len(self.executed) > LIMIT:
+            if not instruction or len(self.executed) > self.limit:
                 raise Stop("no end" if instruction else "a jump to where no instruction is")
             before = self.registers[self.pointer]
             self.execute(*instruction)
@@ -364,7 +370,7 @@ class Machine:
     def go_to(self, address):
         """A jump to an instruction of the library, to the caller, or to a function of another library, which returns."""
         base, at = place_of(address)
-        if base == IN_IMAGE:
+        if base == place_of(self.image)[0]:
             self.next = at
         elif address == CALLER:
             self.next = CALLER

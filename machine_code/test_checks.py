@@ -31,9 +31,11 @@ def build(compiler, path, *change):
 
 @pytest.fixture(scope="session")
 def library_of(tmp_path_factory, need):
-    """Of what a compiler makes of the text."""
+    """Of what a compiler makes of the text, or the WebAssembly module."""
     @functools.cache
     def run(name):
+        if name == "wasm":
+            return library.read(DIST / "wasm/sketch_hash.wasm")
         need(COMPILERS[name][0])
         path = tmp_path_factory.mktemp("library") / "library.so"
         build(COMPILERS[name], path)
@@ -52,7 +54,7 @@ def refused(reason):
     return contextlib.nullcontext() if reason is None else pytest.raises(Stop, match=reason)
 
 
-@pytest.mark.parametrize("name", COMPILERS)
+@pytest.mark.parametrize("name", [*COMPILERS, "wasm"])
 def test_the_machine_code_is_as_defined(name, library_of):
     faults = {function: checks.faults_of(runs) for function, runs in checks.checks_of(library_of(name)).items()}
     found = {function: {*reasons} for function, reasons in faults.items() if reasons}
@@ -78,7 +80,8 @@ def test_the_command_says_whether_a_function_is_as_defined(change, status, outpu
 
 @pytest.mark.parametrize("only, data, reason", [
     ("other", None, "no function has other in its name"), ("", b"text", "ELF, PE or Mach-O"),
-    ("", b"!<arch>\n", "no object file"), ("", b"MZ", "truncated"), *(("", size, "truncated") for size in (40, 70, 500, 2000)),
+    ("", b"!<arch>\n", "no object file"), ("", b"\0asm\2\0\0\0", "no WebAssembly module"), ("", b"MZ", "truncated"),
+    *(("", size, "truncated") for size in (40, 70, 500, 2000)),
 ])
 def test_a_check_of_nothing_fails(only, data, reason, need, tmp_path):
     need("gcc")

@@ -356,7 +356,9 @@ def is_below(x, y):
 def assume_at_most(x, y, less=0):
     """From now on x is at most y, less a number."""
     n, factors = gap_of(x, y)
-    assume([*assumed, ({}, [in_lowest_terms(n - less, factors)])])
+    bound = in_lowest_terms(n - less, factors)
+    if bound not in bounds:
+        assume([*assumed, ({}, [bound])])
 
 
 def gap_of(x, y):
@@ -440,5 +442,7 @@ def is_zero(value):
                 pieces.add((a, low, width))
     if not pieces:
         return number(1, 1)
-    result = atom(("is zero", join(*((item,) for item in sorted(pieces)))), 1)
+    one, *others = pieces
+    is_bit = not others and one[2] == 1
+    result = complement((one,)) if is_bit else atom(("is zero", join(*((item,) for item in sorted(pieces)))), 1)
     return facts.get(result, result)

@@ -1,0 +1,202 @@
+"""WebAssembly: each instruction beside Node, the rules for unknowns beside numbers, and changed modules, which are refused."""
+import itertools
+import json
+import random
+import subprocess
+
+import checks
+import library
+import pytest
+import values
+import wasm
+from conftest import DIST
+from module import ARITHMETIC, BINARY, COMPARISONS, LOADS, NUMERIC, STORES, Module
+from test_checks import must_fail, refused
+from test_values import number_of
+from values import Stop, add, cut, extend, mul, number, number_in, shift_right, sub, unknown
+
+EXTREME = [0, 1, 2, 31, 32, 63, 127, 128, 255, 2 ** 31 - 1, 2 ** 31, 2 ** 32 - 1, 2 ** 32, 2 ** 32 + 1,
+           2 ** 63 - 1, 2 ** 63, 2 ** 64 - 1]
+TRIALS = 40
+PUT, GOT = "i32.const 64; local.get {}; i64.store 0", "i32.const 64; i64.load 0"
+LOWER = "global.get __stack_pointer; i32.const {}; i32.sub; global.set __stack_pointer"
+OTHER_FORMS = [
+    "local.get 0; local.get 1; local.get 0; local.get 1; i64.lt_u; i64.select",
+    "block; local.get 0; i64.eqz; br_if 0; local.get 1; local.set 0; end_block; local.get 0",
+    "local.get 1; i64.const 7; i64.and; local.set 1; loop; local.get 0; i64.const 3; i64.mul; local.set 0; local.get 1; "
+    "i64.const -1; i64.add; local.tee 1; i64.const 0; i64.gt_s; br_if 0; end_loop; local.get 0",
+    "block; block; block; local.get 0; i32.wrap_i64; br_table {0, 1, 2}; end_block; i64.const 5; return; end_block; "
+    "i64.const 6; return; end_block; local.get 1",
+    "block; local.get 1; local.set 0; br 0; local.get 0; drop; block; br 1; end_block; end_block; local.get 0; return; drop",
+    "local.get 0; local.get 1; i64.add; local.get 0; local.get 1; call i64.sub; call i64.mul; local.get 2; i64.xor",
+    "block; local.get 0; i64.eqz; i32.eqz; i32.eqz; br_if 0; local.get 1; local.get 0; i64.ne; i64.extend_i32_u; return; "
+    "end_block; i64.const 9",
+    f"{LOWER.format(16)}; global.get __stack_pointer; local.get 0; i64.store 8; global.get __stack_pointer; i64.load32_u 10; "
+    + LOWER.format(-16),
+    f"{PUT.format(0)}; i32.const 66; i32.const 64; i32.const 5; memory.copy 0, 0; {GOT}",
+    f"{PUT.format(0)}; i32.const 65; local.get 1; i32.wrap_i64; i32.const 3; memory.fill 0; {GOT}", "nop; unreachable",
+]
+
+
+def numeric_form(name):
+    """Of an instruction, with all bits of both operands."""
+    kind, what = name.split(".")
+    source = {"wrap_i64": "i64", "extend_i32_s": "i32", "extend_i32_u": "i32"}.get(what, kind)
+    operands = [f"local.get {i}" + "; i32.wrap_i64" * (source == "i32") for i in range(1 + (what in BINARY))]
+    return "; ".join([*operands, name, *["i64.extend_i32_u"] * (kind == "i32" or what in COMPARISONS)])
+
+
+def memory_forms():
+    for width, size, sign in LOADS.values():
+        part = f"{8 * size}_{sign}" if 8 * size < width else ""
+        yield f"{PUT.format(0)}; i32.const 60; i{width}.load{part} 7" + "; i64.extend_i32_u" * (width == 32)
+    for width, size in ((64 if op in (0x37, 0x3C, 0x3D, 0x3E) else 32, size) for op, size in STORES.items()):
+        part = 8 * size if 8 * size < width else ""
+        yield f"{PUT.format(1)}; i32.const 61; local.get 0{'; i32.wrap_i64' * (width == 32)}; i{width}.store{part} 5; {GOT}"
+
+
+@pytest.fixture
+def assembled(need, tmp_path):
+    """A module of functions of two numbers of 64 bits, by name."""
+    def run(forms):
+        need("clang", "wasm-ld")
+        types = [f".functype {name} (i64, i64) -> (i64)" for name in forms]
+        bodies = [f".globl {name}; {name}: .functype {name} (i64, i64) -> (i64); .local i64; {form}; end_function"
+                  for name, form in forms.items()]
+        text, path = "\n".join([".globaltype __stack_pointer, i32", *types, *bodies, ""]), tmp_path / "forms.wasm"
+        options = ["--target=wasm32", "-mbulk-memory", "-msign-ext", "-xassembler", "-c", "-", "-o", tmp_path / "forms.o"]
+        subprocess.run(["clang", *options], input=text, text=True, check=True)
+        subprocess.run(["wasm-ld", "--no-entry", "--export-all", tmp_path / "forms.o", "-o", path], check=True)
+        return path
+
+    return run
+
+
+NODE = """const fs = require('node:fs');
+const { exports } = new WebAssembly.Instance(new WebAssembly.Module(fs.readFileSync(process.argv[1])));
+const answer = ([name, x, y]) => {
+    try { return String(BigInt.asUintN(64, exports[name](BigInt(x), BigInt(y)))); } catch { return null; }
+};
+console.log(JSON.stringify(JSON.parse(fs.readFileSync(0)).map(answer)));
+"""
+
+
+def answer(built, name, numbers, names):
+    machine = wasm.Wasm(built)
+    machine.map(number(64), [number(0)] * 2, writable=True)
+    machine.begin_at(built.functions[name], [number(n) for n in numbers])
+    try:
+        machine.go()
+        return str(number_in(machine.registers[0]))
+    except Stop as stop:
+        if "a trap" not in str(stop):
+            raise
+    finally:
+        names |= {built.instructions[at][0] for at in machine.executed}
+
+
+def test_each_instruction_does_what_node_does(need, assembled):
+    need("node")
+    forms = {name: numeric_form(name) for name in wasm.OPERATIONS}
+    forms |= {f"form_{i}": form for i, form in enumerate([*memory_forms(), *OTHER_FORMS])}
+    path, pick, names = assembled(forms), random.Random(1), set()
+    cases = [(name, [pick.choice([*EXTREME, pick.getrandbits(64)]) if pick.random() < .6 else pick.getrandbits(64)
+                     for _ in range(2)]) for name in forms for _ in range(TRIALS)]
+    texts = json.dumps([[name, *map(str, numbers)] for name, numbers in cases])
+    node = subprocess.run(["node", "-e", NODE, path], input=texts, stdout=subprocess.PIPE, text=True, check=True)
+    built = Module(path.read_bytes())
+    wrong = [(forms[name], numbers, expected, found) for (name, numbers), expected in zip(cases, json.loads(node.stdout))
+             if (found := answer(built, name, numbers, names)) != expected]
+    assert wrong == [] and names == {*wasm.OPERATIONS, *wasm.STEPS}
+
+
+def test_a_rule_gives_for_unknowns_what_it_gives_for_numbers():
+    """Of two that are below 2^32 as far as bounds say, one that is at most the first, one of five bits and one of all bits."""
+    pick, last, done = random.Random(2), wasm.HALF - 1, 0
+    unknowns = [extend(unknown(("number", i), width)) for i, width in enumerate((62, 62, 62, 5, 32, 64))]
+    rows = [(0, last, 0, 0, 0, 0), (last, 0, last, 31, 0, 1), (last, 1, last - 1, 1, 1, 2 ** 64 - 1), (1, 2, 0, 5, 9, 2 ** 32),
+            (2 ** 31, 2 ** 31, 1, 30, 1, 2 ** 63), (2 ** 31 - 1, 5, 7, 0, 5, 3)]
+    worlds = [{value[0][0]: n for value, n in zip(unknowns, row)} for row in rows]
+    numbers = [number(n) for n in (0, 1, last, wasm.HALF + 1, -8)]
+    first, second, less, few, any, _ = unknowns
+    with values.assuming():
+        wasm.assume_half(first)
+        wasm.assume_half(second)
+        values.assume_at_most(less, first)
+        part = shift_right(mul(any, few), 5)
+        pool = [*unknowns, *numbers, *(add(first, n) for n in numbers), add(first, second), sub(first, less), sub(less, first),
+                mul(few, number(8)), extend(cut(first, 0, 32)), part, add(first, part)]
+        for name in wasm.OPERATIONS:
+            for operands in itertools.product(pool, repeat=1 + (name[4:] in BINARY)):
+                try:
+                    value = wasm.OPERATIONS[name](*operands)
+                except Stop:
+                    continue
+                for world in worlds:
+                    known = [number(number_of(operand, world, pick)) for operand in operands]
+                    size = 1 << (32 if name[:3] == "i32" else 64)
+                    right = number_in(wasm.OPERATIONS[name](*known)) % size
+                    assert number_of(value, world, pick) % size == right, (name, operands, world)
+                done += 1
+    assert done > 10000
+
+
+# ---- changed modules, truncated ones, and one with an instruction that is not known
+
+MODULE = (DIST / "wasm/sketch_hash.wasm").read_bytes()
+NAMES = {name: code for code, name in NUMERIC.items()}
+# Numbers that may be others: no length is so large, and no filter is at NULL.
+SAME_NUMBERS = 0xFFFFFFFE, 4096
+SMALLER = {0x28: 0x2F, 0x29: 0x35, 0x36: 0x3B, 0x37: 0x3E}  # a load or a store of fewer bytes
+
+
+def changes(built, function):
+    """Of each instruction of a function another one with the same types, or another number."""
+    start = built.functions[f"sketch_{function}"]
+    end = min([at for at, _ in built.bodies if at > start], default=len(MODULE))
+    for at, (name, operands, _) in built.instructions.items():
+        what, code = name[4:], MODULE[at]
+        group = next((group for group in (COMPARISONS[1:], ARITHMETIC[3:]) if what in group), None)
+        if not start <= at < end:
+            continue
+        if group and name in NAMES:
+            yield at, NAMES[f"{name[:4]}{group[(group.index(what) + 1) % len(group)]}"]
+        elif code in SMALLER:
+            yield at, SMALLER[code]
+        elif name == "const" and operands[1] not in SAME_NUMBERS:
+            yield at + 1, MODULE[at + 1] ^ 1
+
+
+@pytest.mark.parametrize("function", ["xxh64_u64", "xxh64_reset", "bloom_check", "bloom_insert_hash", "bloom_contains_hash"])
+def test_a_changed_instruction_is_noticed(function):
+    missed = []
+    for at, byte in changes(Module(MODULE), function):
+        changed = Module(MODULE[:at] + bytes([byte]) + MODULE[at + 1 :])
+        if not any(checks.faults_of([run]) for run in checks.checks_of(changed)[function]):
+            missed.append((f"{at:x}", byte))
+    assert missed == []
+
+
+@pytest.mark.parametrize("size", [9, 40, 300, len(MODULE) // 2])
+def test_a_truncated_module_fails(size, tmp_path):
+    (tmp_path / "module.wasm").write_bytes(MODULE[:size])
+    must_fail("", tmp_path / "module.wasm", "truncated")
+
+
+@pytest.mark.parametrize("code, reason", [
+    (LOWER.format(16), "the stack pointer is not restored"), ("i32.const 96; i64.load 0; drop", "a read outside"),
+    ("i32.const 96; local.get 0; i64.store 0", "an access outside"), ("i32.const -8; i64.load 72; drop", "a read outside"),
+    ("global.get __stack_pointer; i32.const 256; i32.sub; i64.load 0; drop", "a read below the stack"),
+    ("local.get 0; i32.wrap_i64; i64.load 0; drop", "outside"), ("i32.const 64; i64.load 0; drop", None),
+])
+def test_code_that_breaks_a_rule_is_refused(code, reason, assembled):
+    built = library.read(assembled({"sketch_code": f"{code}; local.get 0"}))
+    with refused(reason):
+        answer(built, "sketch_code", [2 ** 31, 0], set())
+
+
+def test_an_instruction_that_is_not_known_stops_its_function_alone(assembled):
+    built = library.read(assembled({"sketch_wrong": "f64.const 1.0; drop; local.get 0", "sketch_right": "local.get 0"}))
+    assert answer(built, "sketch_right", [5, 6], set()) == "5"
+    with refused("opcode 0x44.*is not known"):
+        answer(built, "sketch_wrong", [5, 6], set())

@@ -1,0 +1,321 @@
+"""The instructions of WebAssembly with 32-bit addresses, as `module.py` decodes them.
+
+A value of i32 is kept in 64 bits, of which the lowest 32 count: so sums and products are those of 64 bits. What reads the
+other bits, such as a comparison or an address, takes `narrow` of it: the same number, from 0 to 2^32 - 1.
+"""
+import functools
+import itertools
+
+from machine import CALLER, STACK, Machine, fill, move, shift_one
+from module import COMPARISONS, NUMERIC
+from values import (NUMBER, Stop, Undecided, add, are_equal, assume_at_most, bitwise, collect, complement, cut, exact, extend,
+                    facts, greatest, is_below, is_not_negative, is_zero, join, kinds, known, limits, linear, mul, number,
+                    number_in, ranges, rotate_right, shift_right, sign_extend, sub, total, unknown, width_of)
+
+HALF = 1 << 32
+
+
+def signed_half(n):
+    return (n + HALF // 2) % HALF - HALF // 2
+
+
+def is_half(n, factors):
+    """Whether a sum of integers is below 2^32."""
+    return is_not_negative(HALF - 1 - n, {piece: -factor for piece, factor in factors.items()}, 3)
+
+
+def assume_half(value):
+    """A value of i32, an address, or the end of an array, which is below 2^32 by the caller's promise."""
+    assume_at_most(value, number(HALF - 1))
+
+
+def has_half(value):
+    """Whether it has zeros above its lowest 32 bits."""
+    a, n, width = value[-1]
+    return a == NUMBER and n == 0 and width >= 32
+
+
+def narrow(value):
+    """The lowest 32 bits, extended: as a sum, if one is known that does not wrap."""
+    if has_half(value):
+        return value
+    n, factors = linear(value)
+    small = {piece: signed_half(factor) for piece, factor in factors.items() if factor % HALF}
+    for piece in small:
+        know_product(piece)
+    for start in (signed_half(n) + more for more in (0, HALF, -HALF)):
+        if is_not_negative(start, small) and is_half(start, small):
+            return total(start, small)
+    lowest = {}  # of each piece the bits that count
+    for (a, low, width), factor in factors.items():
+        if factor % HALF:
+            collect(lowest, a, low, min(width, 32), factor)
+    return extend(cut(total(n % HALF + lowest.pop(None, 0), lowest), 0, 32))
+
+
+def know_product(piece):
+    """What is above so many bits of a product is below one factor, if the other one has no more bits."""
+    a, low, _ = piece
+    kind, *factors = kinds[a]
+    if kind == "sum" and kinds[a][1] == 0 and len(kinds[a][2]) == 1:
+        ((own, factor),) = kinds[a][2]
+        kind, factors = "product", [extend((own,)), number(factor)]
+    for x, y in itertools.permutations(factors) if kind == "product" else ():
+        if greatest(y) >> low == 0 and limits(*linear(x))[0] > 0:
+            assume_at_most((piece,), x, 1)
+
+
+def with_next_bits(value):
+    """The same lowest 32 bits: of what was stored, those above count nothing."""
+    a, low, width = value[-1]
+    more = 0 if a == NUMBER else min(32, ranges[a][1].bit_length() - low - width)
+    return extend(join(value[:-1], ((a, low, width + max(more, 0)),)))
+
+
+# ---- numeric instructions, of values of 64 bits. Those of i32 that are not in ANY_BITS are given 32 bits, extended.
+
+def on_numbers(function):
+    return lambda width, *operands: number(function(width, *(known(item, "a number") for item in operands)))
+
+
+def divisor(n):
+    if not n:
+        raise Stop("a trap: a division by 0")
+    return n
+
+
+def sign(width, x):
+    bit = cut(x, width - 1, 1)
+    bit = facts.get(bit, bit)
+    if number_in(bit) is None:
+        raise Undecided("a sign", *(({bit: number(n, 1)}, []) for n in (0, 1)))
+    return number_in(bit)
+
+
+def signed_below(width, x, y):
+    signs = [sign(width, item) for item in (x, y)]
+    return is_below(x, y) if signs[0] == signs[1] else bool(signs[0])
+
+
+def count_in(width, n):
+    """By how many bits something is shifted."""
+    return known(cut(n, 0, width.bit_length() - 1), "a shift")
+
+
+def shift_left(width, x, n):
+    """An unknown number shifts 1 alone."""
+    n = cut(n, 0, width.bit_length() - 1)
+    if number_in(n) is not None:
+        return mul(x, number(1 << number_in(n)))
+    if number_in(x) != 1:
+        raise Stop("a shift that is not understood")
+    return extend(shift_one(number(1, 32), extend(n, 32)))
+
+
+def product(width, x, y):
+    """With a number as the definitions have it, which is not negative."""
+    return mul(x, number(number_in(y) % (1 << width)) if number_in(y) is not None else y)
+
+
+def intersection(width, x, y):
+    """Of a number below 2^32 a mask of 32 bits takes what it would with ones above."""
+    n, whole = number_in(y), exact(*linear(x), True)
+    if n is not None and HALF // 2 <= n < HALF and whole and is_half(*whole[:2]):
+        y = number(n - HALF)
+    return bitwise("and", x, y)
+
+
+def bit_by_bit(op):
+    def run(width, x, y):
+        if width == 64:
+            return bitwise(op, x, y)
+        result = bitwise(op, narrow(x), narrow(y))
+        if not has_half(result):
+            assume_half(result)  # as both are
+        return result
+
+    return run
+
+
+def signed_part(size):
+    return lambda width, x: sign_extend(cut(x, 0, size), 64)
+
+
+def of_sum(function):
+    return lambda width, x, y: function(x, y)
+
+
+def comparison(name):
+    """lt, gt, le or ge, of numbers with a sign or without."""
+    def run(width, x, y):
+        pair = (y, x) if name[:2] in ("gt", "le") else (x, y)
+        return number((signed_below(width, *pair) if name[3] == "s" else is_below(*pair)) == (name[1] == "t"))
+
+    return run
+
+
+ANY_BITS = {
+    "add": of_sum(add), "sub": of_sum(sub), "mul": product, "shl": shift_left, "wrap_i64": lambda width, x: x,
+    "and": intersection, "or": bit_by_bit("or"), "xor": bit_by_bit("xor"),
+    "rotl": lambda width, x, n: extend(rotate_right(cut(x, 0, width), -count_in(width, n) % width)),
+    "rotr": lambda width, x, n: extend(rotate_right(cut(x, 0, width), count_in(width, n))),
+    "shr_s": lambda width, x, n: sign_extend(cut(x, count_in(width, n), width - count_in(width, n)), 64),
+    **{f"extend{size}_s": signed_part(size) for size in (8, 16, 32)}, "extend_i32_s": signed_part(32),
+}
+EXACT = {
+    "eqz": lambda width, x: extend(is_zero(x)), "eq": lambda width, x, y: extend(are_equal(x, y)),
+    "ne": lambda width, x, y: extend(complement(are_equal(x, y))),
+    "shr_u": lambda width, x, n: shift_right(x, count_in(width, n)), "extend_i32_u": lambda width, x: narrow(x),
+    "div_u": on_numbers(lambda width, x, y: x // divisor(y)), "rem_u": on_numbers(lambda width, x, y: x % divisor(y)),
+    "popcnt": on_numbers(lambda width, x: bin(x).count("1")), "clz": on_numbers(lambda width, x: width - x.bit_length()),
+    "ctz": on_numbers(lambda width, x: (x & -x).bit_length() - 1 if x else width),
+    **{name: comparison(name) for name in COMPARISONS[3:]},
+}
+
+
+def operation(name):
+    width, what = int(name[1:3]), name[4:]
+    if what in ANY_BITS:
+        return functools.partial(ANY_BITS[what], width)
+    if width == 64:
+        return functools.partial(EXACT[what], width)
+    return lambda *operands: EXACT[what](width, *map(narrow, operands))
+
+
+OPERATIONS = {name: operation(name) for name in NUMERIC.values() if {name[4:]} & {*ANY_BITS, *EXACT}}
+
+
+class Wasm(Machine):
+    """Registers are globals, and the locals and the value stack of each function that runs, from its frame on. A frame has the
+    number of its first register; a function that is called has there where it returns to, and the frame of its caller."""
+
+    size, image, limit = 32, number(0), 10_000_000
+    pointer, popped, entry, red_zone, result_register = ("global", 0), 0, 0, 128, 0
+
+    def set_up(self):
+        (width, is_mutable, _), *_ = self.library.globals
+        if width != 32 or not is_mutable:
+            raise Stop("the first global is no stack pointer")
+        self.kept = {("global", i): 64 for i, item in enumerate(self.library.globals) if item[1] and i}
+        self.registers = {("global", i): number(n) for i, (_, _, n) in enumerate(self.library.globals)}
+        self.compared = {}  # by a number that is 1 if two are equal, or if they are not: which of both, and the two
+
+    def stack_pointer(self):
+        return extend(join(number(0, 4), unknown("stack", 28, STACK)))
+
+    def give(self, array):
+        assume_half(add(array.at, array.length))
+        return super().give(array)
+
+    def map(self, address, values, writable=False):
+        assume_half(add(address, number(sum(map(width_of, values)) // 8)))
+        super().map(address, values, writable)
+
+    def pass_arguments(self, arguments):
+        widths, _, _ = self.library.entries[self.at]
+        if len(widths) != len(arguments):
+            raise Stop("it has another number of parameters than in the header")
+        for width, value in zip(widths, arguments):
+            if width == 32:
+                assume_half(value)
+        self.registers |= enumerate(arguments)
+        self.enter(0, 0, CALLER)
+
+    def enter(self, frame, caller, back):
+        parameters, _, count = self.library.entries[self.at]
+        self.registers |= {frame + i: number(0) for i in range(len(parameters), count)}
+        self.registers |= {"frame": number(frame), ("frame", frame): number(caller), ("back", frame): back}
+
+    # ---- instructions
+
+    def step(self, op, operands):
+        frame = known(self.registers["frame"], "a frame")
+        if op in OPERATIONS:
+            at, count = operands
+            values = [self.registers[frame + at + i] for i in range(count)]
+            self.registers[frame + at] = result = OPERATIONS[op](*values)
+            if op[4:] in ("eqz", "eq", "ne") and number_in(result) is None:
+                self.note(result, op[4:] != "ne", *map(narrow, values) if op[:3] == "i32" else values)
+        elif op in STEPS:
+            STEPS[op](self, frame, *operands)
+        else:
+            raise Stop("the instruction is not known")
+
+    def note(self, result, is_equal, x, y=number(0)):
+        if y == number(0) and x in self.compared:
+            is_other, x, y = self.compared[x]
+            is_equal ^= is_other
+        self.compared[result] = is_equal, x, y
+
+    def decide(self, value):
+        """Whether it is not 0."""
+        is_equal, x, y = self.compared.get(value) or (False, narrow(value), number(0))
+        self.subtract(x, y)
+        return self.holds("e" if is_equal else "ne")
+
+    def move(self, frame, to, source):
+        self.registers[frame + to] = self.registers[frame + source]
+
+    def constant(self, frame, to, n):
+        self.registers[frame + to] = number(n)
+
+    def get_global(self, frame, to, i):
+        self.registers[frame + to] = self.registers["global", i]
+
+    def set_global(self, frame, source, i):
+        self.registers["global", i] = self.registers[frame + source]
+
+    def select(self, frame, to):
+        if not self.decide(self.registers[frame + to + 2]):
+            self.registers[frame + to] = self.registers[frame + to + 1]
+
+    def address(self, frame, at, offset):
+        """Their sum does not wrap: an address above all memory is a trap."""
+        return add(narrow(self.registers[frame + at]), number(offset))
+
+    def load_value(self, frame, at, offset, width, size, sign):
+        value = self.load(self.address(frame, at, offset), size)
+        extended = sign_extend(value, 64) if sign == "s" else extend(value)
+        self.registers[frame + at] = with_next_bits(value) if width == 8 * size == 32 else extended
+
+    def store_value(self, frame, at, offset, size):
+        self.store(self.address(frame, at, offset), cut(self.registers[frame + at + 1], 0, 8 * size))
+
+    def many(self, run, frame, at):
+        run(self, *(narrow(self.registers[frame + at + i]) for i in range(3)))
+
+    def jump(self, frame, targets):
+        self.next = targets[0][0]
+
+    def jump_if(self, frame, targets, condition):
+        if self.decide(self.registers[frame + condition]):
+            self.jump(frame, targets)
+
+    def jump_by(self, frame, targets, choice):
+        """To the target with an index, or to the last one."""
+        i, last = narrow(self.registers[frame + choice]), len(targets) - 1
+        chosen = next((n for n in range(last) if self.decide(extend(are_equal(i, number(n))))), last)
+        self.jump(frame, targets[chosen:])
+
+    def call(self, frame, at, index):
+        back, self.at = number(self.next), self.library.bodies[index][0]
+        self.enter(frame + at, frame, back)
+        self.next = self.at
+
+    def leave(self, frame, at, results):
+        if results:
+            value = self.registers[frame + at]
+            self.registers[frame] = narrow(value) if results == [32] else value
+        self.registers["frame"] = self.registers["frame", frame]
+        self.go_to(self.registers["back", frame])
+
+    def trap(self, frame):
+        raise Stop("a trap")
+
+
+STEPS = {
+    "move": Wasm.move, "const": Wasm.constant, "global.get": Wasm.get_global, "global.set": Wasm.set_global,
+    "select": Wasm.select, "load": Wasm.load_value, "store": Wasm.store_value, "br": Wasm.jump, "br_if": Wasm.jump_if,
+    "br_table": Wasm.jump_by, "call": Wasm.call, "return": Wasm.leave, "unreachable": Wasm.trap,
+    "memory.copy": lambda m, *places: m.many(move, *places), "memory.fill": lambda m, *places: m.many(fill, *places),
+}
