@@ -81,10 +81,16 @@ class Offsets(Subject):
             return self.call.begin(add(count, sub(self.missing, number(1))), count)
         return self.call.begin(count, add(add(count, number(1)), extend(unknown("more", 59))))
 
+    def reach(self, count, done):
+        return self.supposing(self.start(count), number(0), number(0), ["right"] * done)
+
     def suggestion(self, count):
-        run, before = self.start(count), number(0)
-        for i in range(12):
-            before = self.suppose("right", number(i), before)
+        return self.reach(count, 12)
+
+    def supposing(self, run, first, before, ways):
+        """Of the offsets from the first one on. Returns the machine."""
+        for i, way in enumerate(ways):
+            before = self.suppose(way, add(first, number(i)), before)
         return run
 
     def suppose(self, way, index, before):
@@ -108,52 +114,56 @@ class Offsets(Subject):
     def ways(self):
         return "right", "below", "above"
 
-    def entered(self, done):
-        if done:
-            raise Stop("an offset is read before the loop")
-
     def assume(self, run, words, turns, done, way):
         assume_at_most(words[0], self.call.length)
         if way:
-            self.suppose(way, turns, words[0])
+            self.suppose(way, add(turns, number(done)), words[0])
 
     def step(self, words, turns, done, way):
         if way != "right":
             raise Stop("a wrong offset does not end the call")
-        return [self.call.offset(turns)]
+        return [self.call.offset(add(turns, number(done)))]
 
-    def leave(self, run, turns, way):
+    def leave(self, run, turns, done, way):
         if way == "right":
             raise Stop("a right offset ends the call")
-        self.call.must_fail(run, turns)
+        self.call.must_fail(run, add(turns, number(done)))
 
     def at_end(self, loop, turns, ways):
         """At the head with the last turns to do, and what is supposed of the offsets that are left."""
         run, words, _ = loop.at(turns, number(loop.last), None)
-        before = words[0]
-        for i, way in enumerate(ways):
-            before = self.suppose(way, add(turns, number(i)), before)
-        return run
+        return self.supposing(run, add(turns, number(loop.done)), words[0], ways)
+
+    def must_notice(self, begin, first, count, is_last=True):
+        """A wrong offset among so many from the first one on, and behind the last ones one that is missing. `begin` gives a
+        machine for what is supposed of them."""
+        def fails(ways, at):
+            run = begin(ways)
+            run.go()
+            self.call.must_fail(run, add(first, number(at)))
+
+        for i in range(count):
+            for way in ("below", "above") if i or first != number(0) else ("above",):
+                loops.on_each_path(partial(fails, ["right"] * i + [way], i))
+        if self.missing and is_last:
+            loops.on_each_path(partial(fails, ["right"] * count, count))
 
     def finish(self, loop):
-        """With a wrong offset among those that are left; the keys' own loop is reached if there is none."""
-        left, turns = loop.last + (not self.missing), loop.turns_at_end()
+        """Before the loop, in calls that do not reach it, and of what is left. With none the keys' own loop is reached."""
+        def begin(count, ways):
+            return self.supposing(self.start(count), number(0), number(0), ways)
 
-        def fails(ways, at):
-            run = self.at_end(loop, turns, ways)
-            run.go()
-            self.call.must_fail(run, add(turns, number(at)))
-
-        for i in range(left):
-            for way in ("below", "above"):
-                loops.on_each_path(partial(fails, ["right"] * i + [way], i))
-        if self.missing:
-            loops.on_each_path(partial(fails, ["right"] * left, left))
+        rest, turns = int(not self.missing), loop.turns_at_end()
+        self.must_notice(partial(begin, self.some("total", loop.least)), number(0), loop.done, is_last=False)
+        for n in range(1, loop.least):
+            self.must_notice(partial(begin, number(n)), number(0), n + rest)
+        first = add(turns, number(loop.done))
+        self.must_notice(partial(self.at_end, loop, turns), first, loop.last + rest - loop.done)
         self.loop = loop
 
     def after(self, count):
         """A machine that goes on to the keys: all offsets are right."""
-        return self.at_end(self.loop, sub(count, number(self.loop.last)), ["right"] * (self.loop.last + 1))
+        return self.at_end(self.loop, sub(count, number(self.loop.last)), ["right"] * (self.loop.last + 1 - self.loop.done))
 
 
 class Keys(Elements):

@@ -77,6 +77,10 @@ class Subject:
         """How many are written at the first arrival, if the loop writes any; else None."""
         return None
 
+    def reach(self, count, done):
+        """As `start`, for calls that arrive at the head once so many elements are done."""
+        return self.start(count)
+
     def suggestion(self, count):
         """As `start`, for the two turns that suggest what each does."""
         return self.start(count)
@@ -110,17 +114,18 @@ class Subject:
         run, words, before = loop.at(turns, left, way)
         return run, words, before, run.go(*target)
 
-    def leave(self, run, turns, way):
+    def leave(self, run, turns, done, way):
         """What must be so if a turn ends the call."""
         raise Stop("the loop ends before its last turn")
 
 
 class Loop:
-    """A loop of a subject. `least` is the fewest turns of the calls that reach it; with `last` turns left it ends."""
+    """A loop of a subject. `least` is the fewest turns of the calls that reach it; with `last` turns left it ends. A late head
+    is behind the choice whether a turn is left: for a loop that reads an element a turn ahead."""
 
-    def __init__(self, subject, least, last, like):
+    def __init__(self, subject, least, last, like, is_late=False):
         """What a turn does may be suggested by another loop."""
-        self.subject, self.least, self.last = subject, least, last
+        self.subject, self.least, self.last, self.is_late = subject, least, last, is_late
         if like:
             self.head, self.arrivals, self.done, self.roles = like.head, like.arrivals, like.done, dict(like.roles)
         else:
@@ -141,7 +146,8 @@ class Loop:
             if not found:
                 raise self.choice
             turn = trace[found[-1] + 1 :]
-            self.head = min((at for at in turn if turn.count(at) == 1), key=trace.index)
+            once = [at for at in turn if turn.count(at) == 1]
+            self.head = once[0] if self.is_late else min(once, key=trace.index)
             arrivals.append(trace.count(self.head))
         self.arrivals, rest = divmod(arrivals[1] - arrivals[0], 4)
         if rest or not self.arrivals:
@@ -169,16 +175,17 @@ class Loop:
             if not seen:
                 written = self.subject.elements_written()
             seen.append(places_of(run))
+        most = None  # words that are found
         for done in [written] if written is not None else range(4):
             words = [self.subject.words_after(done + k * self.subject.per) for k in range(3)]
             if None in words:
                 continue
-            self.roles = {place: self.role([here.get(place) for here in seen], words) for place in seen[0]}
-            found = {role[1] for role in self.roles.values() if role and role[0] == "word"}
-            if len(found) + self.subject.optional >= len(words[0]):
-                self.done = done
-                return
-        raise Stop("the words of the definition are not found in the loop")
+            roles = {place: self.role([here.get(place) for here in seen], words) for place in seen[0]}
+            found = len({role[1] for role in roles.values() if role and role[0] == "word"})
+            if found + self.subject.optional >= len(words[0]) and (most is None or self.is_late and found >= most):
+                self.done, self.roles, most = done, roles, found
+        if most is None:
+            raise Stop("the words of the definition are not found in the loop")
 
     def role(self, seen, words):
         if None in seen or len({width_of(value) for value in seen}) > 1:
@@ -192,7 +199,7 @@ class Loop:
         return ("by", first) if first is not None and first == second else None
 
     def enter(self):
-        run = self.subject.start(self.subject.some("total", self.least))
+        run = self.subject.reach(self.subject.some("total", self.least), self.done)
         if not run.go(self.head):
             raise Stop("the loop is not reached")
         words, now = self.subject.words_at_entry(self.done), places_of(run)
@@ -203,7 +210,7 @@ class Loop:
 
     def at(self, turns, left, way):
         """A machine at the head after so many turns, the words of the definitions' state, and what each place is."""
-        run = self.subject.start(add(turns, left))
+        run = self.subject.reach(add(turns, left), self.done)
         if not run.go(self.head):
             raise Stop("the loop is not reached")
         words = self.subject.any_words()
@@ -222,7 +229,7 @@ class Loop:
     def turn(self, turns, left, way):
         run, words, before, came = self.subject.travel(self, turns, left, way, self.head, self.arrivals)
         if not came:
-            return self.subject.leave(run, turns, way)
+            return self.subject.leave(run, turns, self.done, way)
         new, now = self.subject.step(words, turns, self.done, way), places_of(run)
         for place, role in self.roles.items():
             if role and place in before:
@@ -258,11 +265,12 @@ def prove(make, pers, like=None):
     """Makes a subject whose turn has as many elements as the code's, and shows its loop: from the entry to the end. `like` is
     a loop that perhaps does the same."""
     faults = []
-    ways = [(pers[0], like.least, like.last, like)] if like else []
-    ways += [(per, least, last, None) for per in pers for least, last in ((1, 1), (2, 1), (3, 2), (4, 1))]
-    for per, least, last, like in ways:
+    ways = [(pers[0], like.least, like.last, like, like.is_late)] if like else []
+    ways += [(per, least, last, None, False) for per in pers for least, last in ((1, 1), (2, 1), (3, 2), (4, 1))]
+    ways += [(per, 2, 2, None, True) for per in pers]
+    for per, *way in ways:
         try:
-            loop = Loop(make(per), least, last, like)
+            loop = Loop(make(per), *way)
             loop.subject.finish(loop)
             return loop
         except Setting:

@@ -14,7 +14,7 @@ import headers
 import library
 import loops
 import pytest
-from conftest import DIST, version_of
+from conftest import DIST
 from definitions import FILTER, MURMUR, XXH64, of_hash
 from machine import Array
 from values import Stop, add, extend, mul, number, sub, unknown
@@ -57,11 +57,7 @@ def refused(reason):
 @pytest.mark.parametrize("name", [*COMPILERS, "wasm"])
 def test_the_machine_code_is_as_defined(name, library_of):
     faults = {function: checks.faults_of(runs) for function, runs in checks.checks_of(library_of(name)).items()}
-    found = {function: {*reasons} for function, reasons in faults.items() if reasons}
-    pipelined = {f"bloom_insert_each{width}": {"a right offset ends the call"} for width in (32, 64)}
-    if name == "gcc" and version_of("gcc")[0] > 12 and found == pipelined:
-        pytest.skip(f"gcc {version_of('gcc')[0]} reads an offset a turn ahead, so these are not shown: {', '.join(pipelined)}")
-    assert found == {}
+    assert {function: {*reasons} for function, reasons in faults.items() if reasons} == {}
 
 
 CHECK = pathlib.Path(__file__).with_name("check")
