@@ -149,7 +149,7 @@ class Offsets(Subject):
             loops.on_each_path(partial(fails, ["right"] * count, count))
 
     def finish(self, loop):
-        """Before the loop, in calls that do not reach it, and of what is left; the keys' own loop is reached if all are right."""
+        """Before the loop, in calls that do not reach it, and of what is left. With none the keys' own loop is reached."""
         def begin(count, ways):
             return self.supposing(self.start(count), number(0), number(0), ways)
 

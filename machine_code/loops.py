@@ -120,8 +120,8 @@ class Subject:
 
 
 class Loop:
-    """A loop of a subject. `least` is the fewest turns of the calls that reach it; with `last` turns left it ends. A late head is
-    behind the choice whether a turn is left."""
+    """A loop of a subject. `least` is the fewest turns of the calls that reach it; with `last` turns left it ends. A late head
+    is behind the choice whether a turn is left: for a loop that reads an element a turn ahead."""
 
     def __init__(self, subject, least, last, like, is_late=False):
         """What a turn does may be suggested by another loop."""

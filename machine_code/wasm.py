@@ -9,8 +9,8 @@ import itertools
 from machine import CALLER, STACK, Machine, fill, move, shift_one
 from module import COMPARISONS, NUMERIC
 from values import (NUMBER, Stop, Undecided, add, are_equal, assume_at_most, bitwise, collect, complement, cut, exact, extend,
-                    facts, greatest, is_below, is_not_negative, is_zero, join, kinds, known, limits, linear, mul, number, number_in,
-                    ranges, rotate_right, shift_right, sign_extend, sub, total, unknown, width_of)
+                    facts, greatest, is_below, is_not_negative, is_zero, join, kinds, known, limits, linear, mul, number,
+                    number_in, ranges, rotate_right, shift_right, sign_extend, sub, total, unknown, width_of)
 
 HALF = 1 << 32
 
@@ -26,6 +26,9 @@ def is_half(n, factors):
 
 def assume_half(value):
     """A value of i32, an address, or the end of an array, which is below 2^32 by the caller's promise."""
+    found = exact(*linear(value), True)
+    if not found or found[2] >= HALF:
+        raise Stop("a number that i32 does not hold")
     assume_at_most(value, number(HALF - 1))
 
 
@@ -226,20 +229,26 @@ class Wasm(Machine):
         self.registers |= {frame + i: number(0) for i in range(len(parameters), count)}
         self.registers |= {"frame": number(frame), ("frame", frame): number(caller), ("back", frame): back}
 
-    # ---- instructions
+    # ---- instructions, whose operands are indices of registers in the frame
+
+    def get(self, i):
+        return self.registers[known(self.registers["frame"], "a frame") + i]
+
+    def put(self, i, value):
+        self.registers[known(self.registers["frame"], "a frame") + i] = value
 
     def step(self, op, operands):
-        frame = known(self.registers["frame"], "a frame")
-        if op in OPERATIONS:
-            at, count = operands
-            values = [self.registers[frame + at + i] for i in range(count)]
-            self.registers[frame + at] = result = OPERATIONS[op](*values)
-            if op[4:] in ("eqz", "eq", "ne") and number_in(result) is None:
-                self.note(result, op[4:] != "ne", *map(narrow, values) if op[:3] == "i32" else values)
-        elif op in STEPS:
-            STEPS[op](self, frame, *operands)
-        else:
+        if op in STEPS:
+            STEPS[op](self, *operands)
+            return
+        if op not in OPERATIONS:
             raise Stop("the instruction is not known")
+        at, count = operands
+        values = [self.get(at + i) for i in range(count)]
+        result = OPERATIONS[op](*values)
+        self.put(at, result)
+        if op[4:] in ("eqz", "eq", "ne") and number_in(result) is None:
+            self.note(result, op[4:] != "ne", *map(narrow, values) if op[:3] == "i32" else values)
 
     def note(self, result, is_equal, x, y=number(0)):
         if y == number(0) and x in self.compared:
@@ -253,69 +262,55 @@ class Wasm(Machine):
         self.subtract(x, y)
         return self.holds("e" if is_equal else "ne")
 
-    def move(self, frame, to, source):
-        self.registers[frame + to] = self.registers[frame + source]
+    def select(self, at):
+        if not self.decide(self.get(at + 2)):
+            self.put(at, self.get(at + 1))
 
-    def constant(self, frame, to, n):
-        self.registers[frame + to] = number(n)
-
-    def get_global(self, frame, to, i):
-        self.registers[frame + to] = self.registers["global", i]
-
-    def set_global(self, frame, source, i):
-        self.registers["global", i] = self.registers[frame + source]
-
-    def select(self, frame, to):
-        if not self.decide(self.registers[frame + to + 2]):
-            self.registers[frame + to] = self.registers[frame + to + 1]
-
-    def address(self, frame, at, offset):
+    def address(self, at, offset):
         """Their sum does not wrap: an address above all memory is a trap."""
-        return add(narrow(self.registers[frame + at]), number(offset))
+        return add(narrow(self.get(at)), number(offset))
 
-    def load_value(self, frame, at, offset, width, size, sign):
-        value = self.load(self.address(frame, at, offset), size)
+    def load_value(self, at, offset, width, size, sign):
+        value = self.load(self.address(at, offset), size)
         extended = sign_extend(value, 64) if sign == "s" else extend(value)
-        self.registers[frame + at] = with_next_bits(value) if width == 8 * size == 32 else extended
+        self.put(at, with_next_bits(value) if width == 8 * size == 32 else extended)
 
-    def store_value(self, frame, at, offset, size):
-        self.store(self.address(frame, at, offset), cut(self.registers[frame + at + 1], 0, 8 * size))
+    def store_value(self, at, offset, size):
+        self.store(self.address(at, offset), cut(self.get(at + 1), 0, 8 * size))
 
-    def many(self, run, frame, at):
-        run(self, *(narrow(self.registers[frame + at + i]) for i in range(3)))
+    def many(self, run, at):
+        run(self, *(narrow(self.get(at + i)) for i in range(3)))
 
-    def jump(self, frame, targets):
-        self.next = targets[0][0]
+    def jump(self, targets, condition=None):
+        if condition is None or self.decide(self.get(condition)):
+            self.next = targets[0][0]
 
-    def jump_if(self, frame, targets, condition):
-        if self.decide(self.registers[frame + condition]):
-            self.jump(frame, targets)
-
-    def jump_by(self, frame, targets, choice):
+    def jump_by(self, targets, choice):
         """To the target with an index, or to the last one."""
-        i, last = narrow(self.registers[frame + choice]), len(targets) - 1
-        chosen = next((n for n in range(last) if self.decide(extend(are_equal(i, number(n))))), last)
-        self.jump(frame, targets[chosen:])
+        i, last = narrow(self.get(choice)), len(targets) - 1
+        self.jump(targets[next((n for n in range(last) if self.decide(extend(are_equal(i, number(n))))), last) :])
 
-    def call(self, frame, at, index):
-        back, self.at = number(self.next), self.library.bodies[index][0]
-        self.enter(frame + at, frame, back)
+    def call(self, at, index):
+        frame, self.at = known(self.registers["frame"], "a frame"), self.library.bodies[index][0]
+        self.enter(frame + at, frame, number(self.next))
         self.next = self.at
 
-    def leave(self, frame, at, results):
+    def leave(self, at, results):
+        frame = known(self.registers["frame"], "a frame")
         if results:
-            value = self.registers[frame + at]
-            self.registers[frame] = narrow(value) if results == [32] else value
+            self.put(0, narrow(self.get(at)) if results == [32] else self.get(at))
         self.registers["frame"] = self.registers["frame", frame]
         self.go_to(self.registers["back", frame])
 
-    def trap(self, frame):
+    def trap(self):
         raise Stop("a trap")
 
 
 STEPS = {
-    "move": Wasm.move, "const": Wasm.constant, "global.get": Wasm.get_global, "global.set": Wasm.set_global,
-    "select": Wasm.select, "load": Wasm.load_value, "store": Wasm.store_value, "br": Wasm.jump, "br_if": Wasm.jump_if,
+    "move": lambda m, to, source: m.put(to, m.get(source)), "const": lambda m, to, n: m.put(to, number(n)),
+    "global.get": lambda m, to, i: m.put(to, m.registers["global", i]),
+    "global.set": lambda m, source, i: m.registers.update({("global", i): m.get(source)}),
+    "select": Wasm.select, "load": Wasm.load_value, "store": Wasm.store_value, "br": Wasm.jump, "br_if": Wasm.jump,
     "br_table": Wasm.jump_by, "call": Wasm.call, "return": Wasm.leave, "unreachable": Wasm.trap,
-    "memory.copy": lambda m, *places: m.many(move, *places), "memory.fill": lambda m, *places: m.many(fill, *places),
+    "memory.copy": lambda m, at: m.many(move, at), "memory.fill": lambda m, at: m.many(fill, at),
 }
