@@ -239,7 +239,7 @@ fn a_filter_in_a_file_is_a_header_and_the_bytes() {
 #[test]
 fn an_error_has_the_index() {
     let error: Box<dyn std::error::Error> = Box::new(Error::Offset { index: usize::MAX });
-    assert!(error.to_string().contains("at 18446744073709551615 is missing"));
+    assert!(error.to_string().contains(&format!("at {} is missing", usize::MAX)));
 }
 
 #[test]
