@@ -11,6 +11,7 @@ import checks
 import filters
 import hashes
 import headers
+import keys
 import library
 import loops
 import pytest
@@ -397,3 +398,25 @@ def test_what_is_finished_is_not_accessed_again():
     written = array()
     written.first = number(8)
     assert written.offset_of(add(calls.out, number(8)), 8) and written.offset_of(add(calls.out, number(7)), 8) is None
+
+
+# ---- a loop that checks offsets, and loads each a turn ahead
+
+AHEAD = """.globl sketch_bloom_insert_each64; sketch_bloom_insert_each64:
+xor edx, edx; lea r10, [r9-1]; mov rax, [r8]; 1: cmp rcx, rax; jb 2f; 3: inc rdx; cmp r10, rdx; je 4f
+mov rdi, rax; mov rax, [r8+rdx*8]; cmp rax, rdi; jae 1b
+2: mov rax, [rsp+8]; mov [rax], rdx; mov eax, -2; ret
+4: mov r11, [r8+rdx*8]; cmp r11, rax; jb 2b; cmp rcx, r11; jb 2b; ud2"""
+
+
+@pytest.mark.parametrize("before, after, reason", [
+    ("ud2", "ud2", None), ("[r8]; 1:", "[r8]; cmp r9, 2; jne 3f; 1:", "not what the definitions say"),
+    ("jae 1b", "jmp 1b", "does not end"), ("jae 1b", "ja 1b", "depends on"), ("jb 2f", "ja 2f", "depends on"),
+    ("cmp r11, rax; jb 2b", "", "ud2"),
+    ("cmp rcx, r11; jb 2b", "", "ud2"), ("mov rdi, rax", "mov rdi, rcx", "depends on"),
+    ("xor edx", "cmp r9, 2; je 5f; xor edx", "ud2"), ("inc rdx", "add rdx, 2", "none of the subject"),
+])
+def test_a_loop_that_is_ahead_is_followed(before, after, reason, machine_of):
+    machine = machine_of("x86-64", f"{VERSION}\n{AHEAD.replace(before, after)}; 5: ud2")
+    with refused(reason):
+        loops.on_each_path(partial(keys.prove_offsets, filters.TextsCall(machine, True, 64)))
