@@ -1,6 +1,6 @@
 # For find_package: the targets sketch_hash::sketch_hash, which is shared where a shared library is installed, and
 # sketch_hash::sketch_hash_static. This file is in LIBDIR/cmake/sketch_hash, and finds the others from there.
-get_filename_component(sketch_hash_libdir "${CMAKE_CURRENT_LIST_DIR}/../.." ABSOLUTE)
+get_filename_component(sketch_hash_libdir "${CMAKE_CURRENT_LIST_DIR}/../.." REALPATH) # /lib may be a link to /usr/lib
 find_path(sketch_hash_include sketch_hash.h NO_DEFAULT_PATH NO_CMAKE_FIND_ROOT_PATH
     PATHS "${sketch_hash_libdir}/../include" "${sketch_hash_libdir}/../../include")
 set(sketch_hash_static libsketch_hash.a libsketch_hash_static.a sketch_hash_static.lib)

@@ -1,7 +1,7 @@
 /* sketch_hash.c 3.1.0: printed from proved text. Do not edit it: tools/print_c prints it.
  *
  * crate     sketch_c, and those that it depends on, of which PROVED says more
- * text      6c6dceb670f4848f44cd82b498df2c0e39ed64a58fcd33e87f4daa6b652bb5d3
+ * text      096368ae97c75294002a2c7cefcda1e63c1d57c6fb32fde7638771bab25a7b5d
  * prover    rattle-kit-13f logic dac8208d650f15bf
  * compiler  clang version 22.1.8, of the kit, which optimizes what is printed
  * licence   Apache-2.0

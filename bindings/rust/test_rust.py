@@ -104,7 +104,7 @@ def test_a_vendored_crate_builds(repository, tmp_path):
     (source / "main.rs").write_text('fn main() { assert_eq!(sketch_hash::xxh64(b"", 0), 0xef46_db37_51d8_e999); }')
     done = try_cargo("vendor", "--respect-source-config", folder=tmp_path)
     assert done.returncode == 0, done.stderr
-    assert {path.name for path in (tmp_path / "vendor").iterdir()} == {"cc", "sketch-hash"}
+    assert {"cc", "sketch-hash"} <= {path.name for path in (tmp_path / "vendor").iterdir()}
     (tmp_path / "config.toml").write_text(done.stdout)
     cargo("run", "--config", tmp_path / "config.toml", folder=tmp_path)
 

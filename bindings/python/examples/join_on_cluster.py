@@ -1,5 +1,5 @@
-"""python3 join_on_cluster.py tcp://SCHEDULER:8786 SMALL LARGE: writes the keys of the large table that the small one has to joined.npy.
-A table is a folder of .npy files of 64-bit keys."""
+"""python3 join_on_cluster.py tcp://SCHEDULER:8786 SMALL LARGE: writes the keys of the large table that the small one has
+to joined.npy. A table is a folder of .npy files of 64-bit keys."""
 import functools
 import operator
 import pathlib

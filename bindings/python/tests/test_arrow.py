@@ -316,9 +316,9 @@ OFFSETS = struct.pack("<4i", 0, 3, 6, 9)
 VIEW = struct.Struct("<i4sii")
 BROKEN = {  # a format, a length, buffers, other fields, what it must have
     "length": ("i", -1, [None, OFFSETS], {}, "a length"),
-    "long length": ("w:2147483647", 2**58, [None, OFFSETS], {}, "less than"),
+    "long length": ("w:2147483647", 2**58, [None, OFFSETS], {}, "at most"),
     "offset": ("i", 1, [None, OFFSETS], {"offset": -1}, "a length"),
-    "sum": ("l", 2**59 - 1, [None, OFFSETS], {"offset": 2**59 - 1}, "less than|memory"),
+    "sum": ("l", 2**59 - 1, [None, OFFSETS], {"offset": 2**59 - 1}, "at most|memory"),
     "no buffers": ("i", 3, [], {}, "the buffers"),
     "three buffers": ("i", 3, [None, OFFSETS, None], {}, "the buffers"),
     "NULL": ("i", 3, [None, OFFSETS], {"buffers": None}, "buffers"),

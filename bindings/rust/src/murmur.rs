@@ -164,6 +164,10 @@ impl Hasher for Murmur3X64_128 {
         self.update(bytes);
     }
 
+    write_lowest_byte_first!(
+        write_u16: u16, write_u32: u32, write_u64: u64, write_u128: u128, write_usize: usize
+    );
+
     #[inline]
     fn finish(&self) -> u64 {
         self.digest()[0]

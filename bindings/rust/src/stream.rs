@@ -1,5 +1,15 @@
 //! The traits that the streams of both hashes have alike.
 
+/// In an `impl Hasher`: a number is written as its bytes, the lowest first, on any processor.
+macro_rules! write_lowest_byte_first {
+    ($($write:ident: $Number:ty),*) => {$(
+        #[inline]
+        fn $write(&mut self, number: $Number) {
+            self.write(&number.to_le_bytes());
+        }
+    )*};
+}
+
 /// Implements them for a stream, whose `state` has the buffer `waiting`, and for the builder of its
 /// hashers.
 macro_rules! stream_traits {

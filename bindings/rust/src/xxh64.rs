@@ -172,6 +172,10 @@ impl Hasher for Xxh64 {
         self.update(bytes);
     }
 
+    write_lowest_byte_first!(
+        write_u16: u16, write_u32: u32, write_u64: u64, write_u128: u128, write_usize: usize
+    );
+
     #[inline]
     fn finish(&self) -> u64 {
         self.digest()

@@ -58,6 +58,7 @@ fn a_wrong_offset_of_each_type_has_its_index_and_changes_nothing() {
     a_wrong_offset_has_its_index::<i64>();
 }
 
+#[cfg(target_pointer_width = "64")]
 #[test]
 fn a_negative_offset_is_an_error_in_keys_past_32_bits() {
     let zeros = vec![0; (1 << 32) + 37]; // never written, so they take no memory
@@ -76,6 +77,7 @@ fn a_negative_offset_is_an_error_in_keys_past_32_bits() {
 }
 
 /// The zeros are never written, so they take no memory.
+#[cfg(target_pointer_width = "64")]
 #[test]
 fn a_length_or_an_offset_may_be_past_32_bits() {
     let (zeros, mut out) = (vec![0; (1 << 32) + 37], [0]);
@@ -150,7 +152,7 @@ fn a_filter_for_keys_has_at_most_128_mib() {
 
 #[test]
 fn a_wrong_length_is_an_error() {
-    for length in [0, 1, 31, 33, 1 << 37, usize::MAX, usize::MAX - 31] {
+    for length in [0, 1, 31, 33, (1_u64 << 37) as usize, usize::MAX, usize::MAX - 30] {
         assert_eq!(BloomFilter::with_len(length).unwrap_err(), Error::Length, "{length}");
     }
     for length in [0, 31, 33] {
@@ -237,7 +239,7 @@ fn a_filter_in_a_file_is_a_header_and_the_bytes() {
 #[test]
 fn an_error_has_the_index() {
     let error: Box<dyn std::error::Error> = Box::new(Error::Offset { index: usize::MAX });
-    assert!(error.to_string().contains("at 18446744073709551615 is missing"));
+    assert!(error.to_string().contains(&format!("at {} is missing", usize::MAX)));
 }
 
 #[test]

@@ -6,6 +6,9 @@ from libc.stdint cimport int32_t, int64_t, uint64_t, uintptr_t
 from libc.stdlib cimport calloc, free
 from libc.string cimport memcpy, memset
 
+cdef extern from "Python.h":
+    const Py_ssize_t PY_SSIZE_T_MAX
+
 from ._common cimport overlap
 from ._keys cimport (
     HASHES, NUMBERS32, NUMBERS64, OFFSETS32, OFFSETS64, Content, Keys, contains_keys, hash_keys, insert_keys,
@@ -14,15 +17,16 @@ from ._library cimport *
 
 import os
 import re
+import sys
 
-# A call looks for signals, as of Ctrl-C, after so many rows, or bytes of keys: a column may claim 2**59 rows without memory.
+# A call looks for signals, as of Ctrl-C, after so many rows, or bytes of keys: a column may claim many rows without memory.
 # Rows that are looked up are hashed in blocks.
 cdef enum:
     BLOCK = 1024
     MANY = 1 << 24
     MANY_BYTES = 1 << 30
 
-MOST_ROWS = 2**59
+MOST_ROWS, MOST_BYTES = (sys.maxsize + 1) // 16, sys.maxsize // 2
 TYPES = {  # by their formats: the layout of values, their width, and whether they have a sign
     "n": (NOTHING, 0, False), "c": (WIDENED, 1, True), "C": (WIDENED, 1, False), "s": (WIDENED, 2, True),
     "S": (WIDENED, 2, False), "i": (FIXED, 4, True), "I": (FIXED, 4, False), "l": (FIXED, 8, True), "L": (FIXED, 8, False),
@@ -218,8 +222,9 @@ cdef int read_values(const ArrowArray *array, tuple type, Values *values) except
     """Checks all but the values themselves."""
     values.layout, values.width, values.is_signed = type
     cdef size_t most = 3 if values.layout == OFFSETS else 2
-    require(0 <= array.length < MOST_ROWS and 0 <= array.offset < MOST_ROWS, "have a length and an offset from 0 to 2**59 - 1")
-    require((<object>array.length + array.offset) * values.width < 2**62, "have less than 2**62 bytes")
+    has_place = 0 <= array.length < MOST_ROWS and 0 <= array.offset < MOST_ROWS
+    require(has_place, f"have a length and an offset from 0 to {MOST_ROWS - 1}")
+    require((<object>array.length + array.offset) * values.width <= MOST_BYTES, f"have at most {MOST_BYTES} bytes")
     values.offset, values.length = array.offset, array.length
     if values.layout == NOTHING:
         return 0
@@ -259,7 +264,7 @@ cdef size_t check_values(const Values *values, bint are_offsets_checked) except?
         require(not is_wrong, what)
         PyErr_CheckSignals()
     if values.layout == OFFSETS and values.length:
-        require(number_at(values, values.length) >= 0, what)
+        require(0 <= number_at(values, values.length) <= PY_SSIZE_T_MAX, what)
         length = number_at(values, values.length) - number_at(values, 0)
         require(values.text is not NULL or length == 0, "have memory for its texts")
         num_bytes += length
@@ -400,7 +405,7 @@ cdef class Arrow:
                            or chunk.keys.layout == NOTHING)
         chunk.content = content_of(chunk)
         self.count += chunk.rows.length
-        require(self.count < MOST_ROWS, "have less than 2**59 values")
+        require(self.count < MOST_ROWS, f"have less than {MOST_ROWS} values")
         is_one_call = is_alone and chunk.content in (OFFSETS32, OFFSETS64)
         self.num_bytes += chunk.rows.length * 8 + check_values(chunk.keys, is_one_call)
         return 0

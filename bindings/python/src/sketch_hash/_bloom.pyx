@@ -17,6 +17,7 @@ from ._library cimport *
 
 import operator
 import pickle
+import sys
 
 cdef extern from "Python.h":
     const char *PyUnicode_AsUTF8AndSize(object, Py_ssize_t *) except NULL
@@ -94,7 +95,7 @@ cdef int contains_column(
 
 
 cdef int check_length(object length) except -1:
-    if not 0 <= length < 2**64 or sketch_bloom_check(length):
+    if not 0 <= length <= sys.maxsize or sketch_bloom_check(length):
         raise ValueError(
             f"a Bloom filter must have a positive multiple of 32 bytes, below 2**37, not {length}: "
             "BloomFilter.for_keys finds the number for keys and an error rate; from_parquet reads a filter with its header")

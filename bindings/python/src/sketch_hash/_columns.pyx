@@ -162,7 +162,8 @@ cdef char get_numbers(Column column, object numbers, NumberRule rule) except 0:
     cdef View *memory = &column.numbers
     cdef char letter = letter_of(memory)
     if letter == 0 or strchr(rule.letters, letter) is NULL or memory.itemsize < rule.narrowest:
-        is_small = letter and strchr("bBhHiI", letter) is not NULL and not isinstance(numbers, (bytes, bytearray))
+        is_whole = letter and strchr("bBhHiIlL", letter) is not NULL
+        is_small = is_whole and memory.itemsize < 8 and not isinstance(numbers, (bytes, bytearray))
         raise TypeError(rule.text + rule.cast if is_small else rule.text)
     column.keys.items = memory.len // memory.itemsize
     column.keys.numbers = memory.buf
