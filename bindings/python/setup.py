@@ -16,6 +16,8 @@ if sys.implementation.name != "cpython" or sysconfig.get_config_var("Py_GIL_DISA
         "sketch-hash needs CPython with the GIL, by which calls of several threads on one object take turns; "
         "a free-threaded Python has no GIL"
     )
+if sys.byteorder != "little":
+    raise SystemExit("sketch-hash needs a little-endian processor, by whose byte order it makes digests")
 dist = here.parents[1] / "dist"
 if (dist / "sketch_hash.c").is_file():
     (here / "c").mkdir(exist_ok=True)

@@ -60,11 +60,15 @@ def test_only_its_own_name_leaves_an_extension(source, tmp_path):
         assert names.split() == [f"PyInit_{extension.name.partition('.')[0]}"]
 
 
-def test_a_free_threaded_python_is_an_error(source):
-    """Debian has none, so this Python pretends to be one."""
-    setup = "import runpy, sysconfig; sysconfig.get_config_vars()['Py_GIL_DISABLED'] = 1; runpy.run_path('setup.py')"
+@pytest.mark.parametrize("pretence, text", [
+    ("sysconfig.get_config_vars()['Py_GIL_DISABLED'] = 1", "a free-threaded Python has no GIL"),
+    ("sys.byteorder = 'big'", "needs a little-endian processor"),
+], ids=["free-threaded", "big-endian"])
+def test_a_python_that_would_be_wrong_is_an_error(pretence, text, source):
+    """There is none here, so this Python pretends to be one."""
+    setup = f"import runpy, sys, sysconfig; {pretence}; runpy.run_path('setup.py')"
     done = run([sys.executable, "-c", setup], cwd=source)
-    assert done.returncode == 1 and "a free-threaded Python has no GIL" in done.stdout
+    assert done.returncode == 1 and text in done.stdout
 
 
 def test_stubs_fit_the_module(need, tmp_path):
