@@ -251,7 +251,7 @@ def xxh64_each(keys, seed=0):
 
     The keys are numbers of 64 bits, each hashed as its eight little-endian bytes: any buffer, as an array of numpy. Or
     they are a pair of bytes and offsets of 32 or 64 bits, one more than keys: a key is the bytes from its offset up to
-    the next. Nothing is copied. Raises ValueError if an offset is past the end of the bytes or below the one before.
+    the next. Only unaligned numbers are copied. Raises ValueError if an offset is past the end or below the one before.
     column(texts) returns such a pair. Or they are an Arrow array or stream, of whose values each counts as Parquet
     stores it. Raises ValueError if one is null.
     """
