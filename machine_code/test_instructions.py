@@ -105,8 +105,11 @@ vzeroupper; pop r15; pop r13; pop r12; pop rbp; pop rbx; ret
 """
 
 
+AVX512 = {"avx512f", "avx512bw", "avx512dq", "avx512vl"}
+
+
 def has_avx512():
-    return {"avx512f", "avx512bw", "avx512dq", "avx512vl"} <= set(pathlib.Path("/proc/cpuinfo").read_text().split())
+    return AVX512 <= set(pathlib.Path("/proc/cpuinfo").read_text().split())
 
 
 def x86_processor():
@@ -119,9 +122,12 @@ def x86_processor():
             (load, "k1,[r15+128]", "k2,[r15+136]"), (saved, "[r15+128],k1", "[r15+136],k2")))
     flags = {"e": lambda f: f >> 6, "b": lambda f: f, "be": lambda f: f | f >> 6, "s": lambda f: f >> 7,
              "l": lambda f: f >> 7 ^ f >> 11}
+    # Newer assemblers know encodings that this processor may lack.
+    known = ["znver3", ".ibt", *(f".{name}" for name in AVX512 if has_512)]
+    begin = ".intel_syntax noprefix\n" + "".join(f".arch {name}\n" for name in known)
     return Processor(
         x86.X86, ["as", "ld", "gcc"], ["rax", "rcx", "rdx", "rbx", "rsi", "r9", "r10"], ["k1", "k2"] * has_512,
-        [f"xmm{n}" for n in range(3)], size, "r15", 0, flags, ".intel_syntax noprefix\n",
+        [f"xmm{n}" for n in range(3)], size, "r15", 0, flags, begin,
         "call load", "jmp save\n" + X86_LOAD.format(vectors=load, saved=saved), x86_forms(has_512))
 
 

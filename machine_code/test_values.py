@@ -143,6 +143,15 @@ def test_a_path_leaves_no_trace():
         is_below(x, y)
 
 
+def test_a_sum_that_is_a_number_says_what_its_pieces_are():
+    """A compiler may ask whether two halves of a hash add up to 0, and leave out the mixing of it."""
+    x, y = unknown("left", 64), unknown("right", 64)
+    whole, more = add(x, y), add(x, mul(y, number(3)))
+    with values.assuming([({whole: number(5)}, [])]):
+        assert add(x, mul(y, number(3))) == add(mul(y, number(2)), number(5)) == add(mul(x, number(-2)), number(15))
+    assert add(x, mul(y, number(3))) == more
+
+
 def test_a_rotation_by_each_number_of_bits():
     x, word = unknown("rotated", 64), 0x123456789ABCDEF1
     for n in range(64):

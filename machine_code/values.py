@@ -7,6 +7,7 @@ may keep different forms: then a comparison fails that should not. Different val
 """
 import contextlib
 import functools
+import itertools
 import math
 
 NUMBER = -1
@@ -15,6 +16,7 @@ BITS = {"and": lambda x, y: x & y, "or": lambda x, y: x | y, "xor": lambda x, y:
 kinds, ranges, indices = [], [], {}  # of each atom: what it is made of, its least and greatest value; and its index
 assumed = []  # what the present path assumes, as pairs of the next two
 facts = {}  # values, and what they equal
+equations = []  # what those that are sums say of a piece of each: that it equals a number and pieces with factors
 bounds = []  # sums, each as a number and factors of pieces, that are not negative as integers
 remember = functools.lru_cache(1 << 16)
 
@@ -50,8 +52,20 @@ def assume(ways):
     if equalities != facts:
         facts.clear()
         facts.update(equalities)
+        equations[:] = filter(None, itertools.starmap(solved, equalities.items()))
         for function in (linear, add, mul):
             function.cache_clear()
+
+
+def solved(value, answer):
+    """Of a sum that equals a number: a piece, and what it then is."""
+    kind = kinds[value[0][0]] if isinstance(value, tuple) and len(value) == 1 and value[0][0] != NUMBER else ()
+    pieces = dict(kind[2]) if kind[:1] == ("sum",) and value[0][1:] == (0, 64) and number_in(answer) is not None else {}
+    piece = next((piece for piece, factor in pieces.items() if factor % 2), None)
+    if piece is None:
+        return None
+    times = pow(-pieces.pop(piece), -1, WORD)
+    return piece, times * (kind[1] - number_in(answer)), {other: times * factor for other, factor in pieces.items()}
 
 
 def atom(kind, width, least=0, most=None):
@@ -269,6 +283,13 @@ def greatest(value):
 
 def total(n, factors):
     """The value of 64 bits."""
+    for piece, m, others in equations:
+        if piece in factors:
+            factors = dict(factors)
+            times = factors.pop(piece)
+            for other, factor in others.items():
+                collect(factors, *other, times * factor)
+            n += times * m + factors.pop(None, 0)
     n, factors = n % WORD, {piece: factor % WORD for piece, factor in factors.items() if factor % WORD}
     if not factors:
         return number(n)

@@ -48,9 +48,9 @@ def test_each_file_of_a_data_set_gets_its_filters(run, pa, tmp_path):
 
 
 def test_a_join_sends_only_rows_that_can_match(run, tmp_path):
-    rng = numpy.random.default_rng(1)
-    tables = {"small": rng.integers(0, 1 << 40, (8, 20_000)), "large": rng.integers(1 << 41, 1 << 42, (16, 200_000))}
-    tables["large"][:, :100] = rng.choice(tables["small"].ravel(), (16, 100))
+    numbers = numpy.arange(4_000_000, dtype="u8") * numpy.uint64(0x9E3779B97F4A7C15)  # all different
+    tables = {"small": numbers[:160_000].reshape(8, -1), "large": numbers[-3_200_000:].reshape(16, -1).copy()}
+    tables["large"][:, :100] = tables["small"][:, :200].reshape(16, 100)
     for name, parts in tables.items():
         (tmp_path / name).mkdir()
         for i, keys in enumerate(parts):
