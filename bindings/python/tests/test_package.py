@@ -19,7 +19,7 @@ LICENCE = ["LICENSE", "NOTICE"]
 def source(need, tmp_path):
     """A copy of the package alone, with the text of the library and the licence, as an archive of the sources has it."""
     need("gcc", "Python.h", "python:Cython", "python:setuptools", "python:wheel")
-    ignored = shutil.ignore_patterns("build", "*.egg-info", "tests", "__pycache__", "c", *LICENCE)
+    ignored = shutil.ignore_patterns("build", "*.egg-info", "__pycache__", "c", *LICENCE)
     source = pathlib.Path(shutil.copytree(HERE.parent, tmp_path / "source", ignore=ignored))
     (source / "c").mkdir()
     for name in ("sketch_hash.c", "include/sketch_hash.h"):
@@ -40,14 +40,17 @@ def install(source, to, **environment):
     return done
 
 
-def test_an_archive_of_the_sources_has_the_licence_and_is_installed(source, tmp_path):
+def test_an_archive_of_the_sources_is_installed_and_passes_the_tests_in_it(source, tmp_path):
     assert run([sys.executable, "setup.py", "-q", "sdist"], cwd=source).returncode == 0
     (archive,) = (source / "dist").glob("*.tar.gz")
     with tarfile.open(archive) as file:
         assert {*LICENCE} <= {name.partition("/")[2] for name in file.getnames()}
+        file.extractall(tmp_path)
     assert run([*PIP, "--no-build-isolation", "--target", tmp_path / "installed", archive]).returncode == 0
-    code = "import sketch_hash; print(sketch_hash.xxh64_hexdigest(b'fox'))"
-    assert run([sys.executable, "-c", code], PYTHONPATH=str(tmp_path / "installed")).stdout == "bce6c02d5136f238\n"
+    (unpacked,) = tmp_path.glob("sketch*-*/")
+    done = run([sys.executable, "-m", "pytest", "-q", "-p", "no:xdist", "-p", "no:cacheprovider", "-k", "not longer_than_4"],
+               cwd=unpacked, PYTHONPATH=str(tmp_path / "installed"))
+    assert done.returncode == 0 and re.search(r"^\d+ passed", done.stdout, re.M), done.stdout[-3000:]
 
 
 def test_only_its_own_name_leaves_an_extension(source, tmp_path):
