@@ -36,6 +36,13 @@ def test_packages_say_of_a_wrong_offset_what_the_header_says():
         assert re.findall(r"the offset at \S+ (is missing, [\w, ]*)", text_of(name)) == [header.replace(", or", " or")]
 
 
+@pytest.mark.parametrize("name", [f"{PYTHON}/_bloom.pyx", f"{RUST}/error.rs", f"{JAVASCRIPT}/filters.mjs"])
+def test_packages_say_of_a_wrong_length_what_the_header_says(name):
+    header = re.search(r"must be a (positive multiple of 32) below (2\^37)", text_of("dist/include/sketch_hash.h")).groups()
+    found = re.findall(r"a Bloom filter must have a ([\w ]+) bytes, below ([\d*^]+)", text_of(name))
+    assert {(kind, limit.replace("**", "^")) for kind, limit in found} == {header}
+
+
 @pytest.mark.parametrize("name", [
     "bindings/python/README.md", f"{PYTHON}/_bloom.pyx", f"{RUST}/bloom.rs", f"{RUST}/error.rs",
     f"{PYTHON}/parquet/writer.py", f"{JAVASCRIPT}/filters.mjs", f"{JAVASCRIPT}/sketch_hash.d.mts",
