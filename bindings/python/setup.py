@@ -17,7 +17,7 @@ if sys.implementation.name != "cpython" or sysconfig.get_config_var("Py_GIL_DISA
         "a free-threaded Python has no GIL"
     )
 if sys.byteorder != "little":
-    raise SystemExit("sketch-hash needs a little-endian processor, by whose byte order it makes digests")
+    raise SystemExit("sketch-hash needs a little-endian processor: on another one its digests would be wrong")
 dist = here.parents[1] / "dist"
 if (dist / "sketch_hash.c").is_file():
     (here / "c").mkdir(exist_ok=True)

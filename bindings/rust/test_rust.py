@@ -14,7 +14,8 @@ pytestmark = pytest.mark.xdist_group("cargo")  # cargo locks the folder that it 
 @pytest.fixture(autouse=True)
 def target(need, tmp_path_factory, monkeypatch):
     """The folder that all tests build into, outside of the repository."""
-    need("cargo", "rustc 1.82", "gcc", DEBIAN_CRATES)
+    crates = [next(DEBIAN_CRATES.glob(f"{name}-*"), DEBIAN_CRATES / name) for name in ("cc", "serde_json")]
+    need("cargo", "rustc 1.82", "gcc", *crates)
     folder = tmp_path_factory.getbasetemp() / "cargo"
     folder.mkdir(exist_ok=True)
     (folder / "config.toml").write_text(CARGO_CONFIG)
@@ -67,8 +68,9 @@ def test_builds_with_core_and_alloc_alone(tmp_path):
 
 
 @pytest.fixture(scope="session")
-def repository(tmp_path_factory):
+def repository(need, tmp_path_factory):
     """A repository of git with this one's files as they are, from which cargo takes a crate."""
+    need("git")
     folder = tmp_path_factory.mktemp("repository")
     listed = subprocess.check_output(["git", "ls-files", "-co", "--exclude-standard"], cwd=ROOT, text=True)
     for name in ["Cargo.toml", "LICENSE", "NOTICE", "dist", "bindings/rust"]:
@@ -109,8 +111,7 @@ def test_a_vendored_crate_builds(repository, tmp_path):
     cargo("run", "--config", tmp_path / "config.toml", folder=tmp_path)
 
 
-def test_states_and_filters_are_saved_by_serde(need, tmp_path):
-    need(*DEBIAN_CRATES.glob("serde_json-*") or [DEBIAN_CRATES / "serde_json"])
+def test_states_and_filters_are_saved_by_serde(tmp_path):
     source = new_crate(tmp_path, f'{{ path = "{ROOT}", features = ["serde"] }}\nserde_json = "1"')
     (source / "main.rs").write_text("""
         use sketch_hash::{BloomFilter, Murmur3X64_128, Xxh64};

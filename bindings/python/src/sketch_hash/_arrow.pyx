@@ -6,9 +6,6 @@ from libc.stdint cimport int32_t, int64_t, uint64_t, uintptr_t
 from libc.stdlib cimport calloc, free
 from libc.string cimport memcpy, memset
 
-cdef extern from "Python.h":
-    const Py_ssize_t PY_SSIZE_T_MAX
-
 from ._common cimport overlap
 from ._keys cimport (
     HASHES, NUMBERS32, NUMBERS64, OFFSETS32, OFFSETS64, Content, Keys, contains_keys, hash_keys, insert_keys,
@@ -18,6 +15,9 @@ from ._library cimport *
 import os
 import re
 import sys
+
+cdef extern from "Python.h":
+    const Py_ssize_t PY_SSIZE_T_MAX
 
 # A call looks for signals, as of Ctrl-C, after so many rows, or bytes of keys: a column may claim many rows without memory.
 # Rows that are looked up are hashed in blocks.

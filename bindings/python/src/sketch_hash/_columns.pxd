@@ -6,9 +6,9 @@ from ._keys cimport Keys
 
 cdef class Column:
     cdef object texts  # what data is of: of bytes it is no buffer that could keep them
-    cdef object aligned  # a copy of the numbers, if they are not
+    cdef object aligned  # a copy of the numbers, if they are not aligned
     cdef View data, numbers  # the bytes of texts; their offsets, or else the numbers
-    cdef Keys keys  # in the two, or else
+    cdef Keys keys  # in these; of Arrow it is not used
     cdef Arrow arrow
     cdef size_t count  # of keys
 
