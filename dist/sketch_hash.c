@@ -68,10 +68,7 @@ __attribute__((constructor)) static void skh_find_avx2(void) {
 
 /* A caller may give NULL for no bytes. C allows neither an offset from it nor a copy of no bytes,
  * so it is replaced by an address at which nothing is read or written. */
-static inline const unsigned char *skh_slice(const void *at) {
-    return at == NULL ? (const unsigned char *)4096 : (const unsigned char *)at;
-}
-static inline unsigned char *skh_slice_mut(void *at) {
+static inline unsigned char *skh_slice(const void *at) {
     return at == NULL ? (unsigned char *)4096 : (unsigned char *)at;
 }
 
@@ -347,9 +344,9 @@ SKH_INLINE void skh_copy_small(unsigned char *buffer, uint64_t at, const unsigne
 SKH_INLINE struct skh_result skh_check_offset32(uint64_t bytes_length, const uint32_t *offsets,
                                                 uint64_t offsets_count, uint64_t i, uint64_t last) {
     if (SKH_EXPECT(offsets_count > i)) {
-        const uint64_t offset = skh_get32(offsets + i);
-        const bool is_error = last > offset || bytes_length < offset;
-        return skh_result_of(is_error, is_error ? i : offset);
+        const uint64_t place = skh_get32(offsets + i);
+        const bool is_error = last > place || bytes_length < place;
+        return skh_result_of(is_error, is_error ? i : place);
     }
     return skh_error(i);
 }
@@ -375,9 +372,9 @@ SKH_INLINE struct skh_result skh_check_offsets32(uint64_t bytes_length, const ui
 SKH_INLINE struct skh_result skh_check_offset64(uint64_t bytes_length, const uint64_t *offsets,
                                                 uint64_t offsets_count, uint64_t i, uint64_t last) {
     if (SKH_EXPECT(offsets_count > i)) {
-        const uint64_t offset = skh_get64(offsets + i);
-        const bool is_error = offset < last || bytes_length < offset;
-        return skh_result_of(is_error, is_error ? i : offset);
+        const uint64_t place = skh_get64(offsets + i);
+        const bool is_error = place < last || bytes_length < place;
+        return skh_result_of(is_error, is_error ? i : place);
     }
     return skh_error(i);
 }
@@ -461,9 +458,9 @@ SKH_INLINE uint64_t skh_xxh64_fold_below_16(uint64_t hash, const unsigned char *
 
 /* The last mixing of the hash. */
 SKH_INLINE uint64_t skh_xxh64_avalanche(uint64_t hash) {
-    uint64_t word = skh_xor_shift(hash, 33) * SKH_PRIME2;
-    word = skh_xor_shift(word, 29) * SKH_PRIME3;
-    return skh_xor_shift(word, 32);
+    const uint64_t once = skh_xor_shift(hash, 33) * SKH_PRIME2;
+    const uint64_t twice = skh_xor_shift(once, 29) * SKH_PRIME3;
+    return skh_xor_shift(twice, 32);
 }
 
 /* The hash after a tail of 16 bytes and more. Without a loop single keys of 16 and 24 bytes are
@@ -743,9 +740,10 @@ SKH_INLINE uint64_t skh_murmur3_mix2(uint64_t k2) { return skh_rotate64(k2 * SKH
 
 /* The pair after one block of the words `k1` and `k2`. */
 SKH_INLINE struct skh_pair skh_murmur3_step(uint64_t h1, uint64_t h2, uint64_t k1, uint64_t k2) {
-    const uint64_t x1 = (skh_rotate64(skh_murmur3_mix1(k1) ^ h1, 27) + h2) * 5;
-    return skh_pair_of(x1 + 0x52dce729u, (x1 + skh_rotate64(skh_murmur3_mix2(k2) ^ h2, 31)) * 5 +
-                                             (uint64_t)5 * 0x52dce729u + 0x38495ab5u);
+    const uint64_t before = (skh_rotate64(skh_murmur3_mix1(k1) ^ h1, 27) + h2) * 5;
+    return skh_pair_of(before + 0x52dce729u,
+                       (before + skh_rotate64(skh_murmur3_mix2(k2) ^ h2, 31)) * 5 +
+                           (uint64_t)5 * 0x52dce729u + 0x38495ab5u);
 }
 
 /* The pair after blocks. */
@@ -802,8 +800,8 @@ SKH_INLINE struct skh_pair skh_murmur3_mix_tail(uint64_t h1, uint64_t h2, const 
 
 /* Adds the second word to the first, and then the first to the second. */
 SKH_INLINE struct skh_pair skh_murmur3_cross(uint64_t h1, uint64_t h2) {
-    const uint64_t x1 = h2 + h1;
-    return skh_pair_of(x1, x1 + h2);
+    h1 += h2;
+    return skh_pair_of(h1, h1 + h2);
 }
 
 /* The last mixing of a word. */
@@ -942,15 +940,6 @@ SKH_INLINE struct skh_result skh_murmur3_hash_each64(const unsigned char *bytes,
     return skh_ok(0);
 }
 
-/* ---- Results of calls */
-
-/* 0, or -2 for a wrong offset, whose index is written. */
-SKH_INLINE int skh_report_offset(bool is_error, uint64_t hashed, size_t *wrong_offset) {
-    if (!is_error) return SKETCH_OK;
-    *wrong_offset = (size_t)hashed;
-    return SKETCH_ERROR_OFFSET;
-}
-
 /* ---- Bloom filter */
 
 #define SKH_SALT0 0x47b6137bu
@@ -973,33 +962,33 @@ static uint64_t skh_bloom_next_weight(uint64_t weight, uint64_t keys, uint32_t l
 
 /* The eighth power of 1 - clear / 2^50, in parts of 2^60. */
 static uint64_t skh_bloom_covered(uint64_t clear) {
-    const skh_uint128 y1 = skh_wide(0, ((uint64_t)1 << 50) - clear);
-    const skh_uint128 y2 = skh_wide_right(skh_wide_mul(y1, y1), 50);
-    const skh_uint128 y3 = skh_wide_right(skh_wide_mul(y2, y2), 50);
-    return skh_wide_low(skh_wide_right(skh_wide_mul(y3, y3), 40));
+    const skh_uint128 share = skh_wide(0, ((uint64_t)1 << 50) - clear);
+    const skh_uint128 square = skh_wide_right(skh_wide_mul(share, share), 50);
+    const skh_uint128 fourth = skh_wide_right(skh_wide_mul(square, square), 50);
+    return skh_wide_low(skh_wide_right(skh_wide_mul(fourth, fourth), 40));
 }
 
 /* Whether a filter of 2^log2_blocks blocks keeps the rate. */
 static bool skh_bloom_keeps_rate(uint64_t keys, uint32_t log2_blocks, uint64_t one_in) {
     if ((uint64_t)128 << log2_blocks < keys) return false;
     uint64_t clear = (uint64_t)1 << 50;
-    skh_uint128 y1 = skh_wide(0, 0);
-    uint64_t x1 = (uint64_t)1 << 40;
+    skh_uint128 found = skh_wide(0, 0);
+    uint64_t all = (uint64_t)1 << 40;
     uint64_t weight = (uint64_t)1 << 40;
     for (uint64_t k = 1; k < 384; k++) {
         weight = skh_bloom_next_weight(weight, keys, log2_blocks, k);
         clear = (clear >> 5) * 31;
-        x1 += weight;
-        y1 = skh_wide_add(skh_wide_mul(skh_wide(0, skh_bloom_covered(clear)), skh_wide(0, weight)),
-                          y1);
+        all += weight;
+        found = skh_wide_add(
+            skh_wide_mul(skh_wide(0, skh_bloom_covered(clear)), skh_wide(0, weight)), found);
         if (weight >= (uint64_t)1 << 48) {
-            y1 = skh_wide_right(y1, 8);
-            x1 >>= 8;
+            found = skh_wide_right(found, 8);
+            all >>= 8;
             weight >>= 8;
         }
     }
     return !skh_wide_above(
-        y1, skh_wide_mul(skh_wide(0, ((uint64_t)1 << 60) / one_in), skh_wide(0, x1)));
+        found, skh_wide_mul(skh_wide(0, ((uint64_t)1 << 60) / one_in), skh_wide(0, all)));
 }
 
 /* The smallest number of bytes, a power of two from 32 bytes to 128 MiB, for a filter of `keys`
@@ -1130,15 +1119,15 @@ static uint64_t skh_bloom_found_by_union(const unsigned char *filter, uint64_t k
 /* Whether a filter has the rate of one in `one_in` once it is folded. */
 static bool skh_bloom_has_rate_folded(const unsigned char *filter, uint64_t filter_length,
                                       uint64_t one_in) {
-    const uint64_t x1 = filter_length >> 6;
-    skh_uint128 y1 = skh_wide(0, 0);
-    for (uint64_t k = 0; k < x1; k++) {
-        y1 = skh_wide_add(y1, skh_wide(0, skh_bloom_found_by_union(filter, k)));
+    const uint64_t blocks = filter_length >> 6;
+    skh_uint128 found = skh_wide(0, 0);
+    for (uint64_t k = 0; k < blocks; k++) {
+        found = skh_wide_add(found, skh_wide(0, skh_bloom_found_by_union(filter, k)));
     }
     if (one_in == 0) return false;
-    if (one_in > 255 && skh_wide_above(y1, skh_wide(0, UINT64_MAX))) return false;
-    return !skh_wide_above(skh_wide_mul(y1, skh_wide(0, one_in)),
-                           skh_wide_left(skh_wide(0, x1), 40));
+    if (one_in > 255 && skh_wide_above(found, skh_wide(0, UINT64_MAX))) return false;
+    return !skh_wide_above(skh_wide_mul(found, skh_wide(0, one_in)),
+                           skh_wide_left(skh_wide(0, blocks), 40));
 }
 
 /* The first byte of a variable-length number. `read_varint` reads it. */
@@ -1196,6 +1185,15 @@ static bool skh_bloom_has_prefix(const unsigned char *input, uint64_t input_leng
         if (input[x1] != prefix[x1]) return false;
         x1++;
     }
+}
+
+/* ---- Results of calls */
+
+/* 0, or -2 for a wrong offset, whose index is written. */
+SKH_INLINE int skh_report_offset(bool is_error, uint64_t hashed, size_t *wrong_offset) {
+    if (!is_error) return SKETCH_OK;
+    *wrong_offset = (size_t)hashed;
+    return SKETCH_ERROR_OFFSET;
 }
 
 /* ---- Calls */
@@ -1276,9 +1274,10 @@ SKETCH_HASH_API void sketch_murmur3_x64_128_digest(const sketch_murmur3_x64_128_
 
 /* Writes a hash in the byte order that most tools print: the lowest byte of each word first. */
 SKETCH_HASH_API void sketch_murmur3_x64_128_bytes(const uint64_t hash[2], unsigned char out[16]) {
-    const uint64_t x1 = hash[1];
-    skh_store64(out, hash[0]);
-    skh_store64(out + 8, x1);
+    const uint64_t x1 = hash[0];
+    const uint64_t x2 = hash[1];
+    skh_store64(out, x1);
+    skh_store64(out + 8, x2);
 }
 
 /* Writes XXH64 of key i to out[i], for each i below `count`. The offsets have 32 bits. Returns 0
@@ -1349,7 +1348,7 @@ SKH_INLINE int sketch_bloom_insert_any(bool has_vectors, void *bits, size_t leng
                                        size_t key_length) {
     const uint64_t hash = skh_xxh64_hash(skh_slice(key), key_length, 0);
     if (!skh_bloom_is_length(length)) return SKETCH_ERROR_LENGTH;
-    skh_bloom_insert_into(has_vectors, skh_slice_mut(bits), length, hash);
+    skh_bloom_insert_into(has_vectors, skh_slice(bits), length, hash);
     return SKETCH_OK;
 }
 
@@ -1374,7 +1373,7 @@ SKH_CHOOSE(SKETCH_HASH_API, int, return, sketch_bloom_contains,
 SKH_INLINE int sketch_bloom_insert_hash_any(bool has_vectors, void *bits, size_t length,
                                             uint64_t hash) {
     if (!skh_bloom_is_length(length)) return SKETCH_ERROR_LENGTH;
-    skh_bloom_insert_into(has_vectors, skh_slice_mut(bits), length, hash);
+    skh_bloom_insert_into(has_vectors, skh_slice(bits), length, hash);
     return SKETCH_OK;
 }
 
@@ -1397,7 +1396,7 @@ SKETCH_HASH_API int sketch_bloom_insert_each32(void *bits, size_t length, const 
                                                size_t keys_length, const uint32_t *offsets,
                                                size_t offset_count, size_t *wrong_offset) {
     uint64_t hashes[32];
-    unsigned char *const filter = skh_slice_mut(bits);
+    unsigned char *const filter = skh_slice(bits);
     const unsigned char *const bytes = skh_slice(keys);
     if (!skh_bloom_is_length(length)) return SKETCH_ERROR_LENGTH;
     const uint64_t x1 = skh_less64(offset_count, 1);
@@ -1423,7 +1422,7 @@ SKETCH_HASH_API int sketch_bloom_insert_each64(void *bits, size_t length, const 
                                                size_t keys_length, const uint64_t *offsets,
                                                size_t offset_count, size_t *wrong_offset) {
     uint64_t hashes[32];
-    unsigned char *const filter = skh_slice_mut(bits);
+    unsigned char *const filter = skh_slice(bits);
     const unsigned char *const bytes = skh_slice(keys);
     if (!skh_bloom_is_length(length)) return SKETCH_ERROR_LENGTH;
     const uint64_t x1 = skh_less64(offset_count, 1);
@@ -1447,7 +1446,7 @@ SKETCH_HASH_API int sketch_bloom_insert_each64(void *bits, size_t length, const 
  * SKETCH_ERROR_LENGTH. */
 SKH_INLINE int sketch_bloom_insert_each_u32_any(bool has_vectors, void *bits, size_t length,
                                                 const uint32_t *values, size_t count) {
-    unsigned char *const filter = skh_slice_mut(bits);
+    unsigned char *const filter = skh_slice(bits);
     if (!skh_bloom_is_length(length)) return SKETCH_ERROR_LENGTH;
     for (uint64_t i = 0; i < count; i++) {
         skh_bloom_insert_into(
@@ -1465,7 +1464,7 @@ SKH_CHOOSE(SKETCH_HASH_API, int, return, sketch_bloom_insert_each_u32,
  * SKETCH_ERROR_LENGTH. */
 SKH_INLINE int sketch_bloom_insert_each_u64_any(bool has_vectors, void *bits, size_t length,
                                                 const uint64_t *values, size_t count) {
-    unsigned char *const filter = skh_slice_mut(bits);
+    unsigned char *const filter = skh_slice(bits);
     if (!skh_bloom_is_length(length)) return SKETCH_ERROR_LENGTH;
     for (uint64_t i = 0; i < count; i++) {
         skh_bloom_insert_into(has_vectors, filter, length,
@@ -1482,7 +1481,7 @@ SKH_CHOOSE(SKETCH_HASH_API, int, return, sketch_bloom_insert_each_u64,
 SKETCH_HASH_API int sketch_bloom_insert_each_hash(void *bits, size_t length, const uint64_t *hashes,
                                                   size_t count) {
     if (!skh_bloom_is_length(length)) return SKETCH_ERROR_LENGTH;
-    skh_bloom_insert_hashes(skh_slice_mut(bits), length, hashes, count);
+    skh_bloom_insert_hashes(skh_slice(bits), length, hashes, count);
     return SKETCH_OK;
 }
 
@@ -1496,7 +1495,7 @@ SKETCH_HASH_API int sketch_bloom_contains_each32(const void *bits, size_t length
     uint64_t hashes[32];
     const unsigned char *const filter = skh_slice(bits);
     const unsigned char *const bytes = skh_slice(keys);
-    unsigned char *const found_bytes = skh_slice_mut(found);
+    unsigned char *const found_bytes = skh_slice(found);
     const bool b1 = skh_bloom_is_length(length);
     if (b1) {
         const struct skh_result result =
@@ -1527,7 +1526,7 @@ SKETCH_HASH_API int sketch_bloom_contains_each64(const void *bits, size_t length
     uint64_t hashes[32];
     const unsigned char *const filter = skh_slice(bits);
     const unsigned char *const bytes = skh_slice(keys);
-    unsigned char *const found_bytes = skh_slice_mut(found);
+    unsigned char *const found_bytes = skh_slice(found);
     if (!skh_bloom_is_length(length)) return SKETCH_ERROR_LENGTH;
     const struct skh_result result = skh_check_offsets64(keys_length, offsets, offset_count, count);
     if (result.is_error) {
@@ -1551,7 +1550,7 @@ SKH_INLINE int sketch_bloom_contains_each_u32_any(bool has_vectors, const void *
                                                   const uint32_t *values, size_t value_count,
                                                   unsigned char *found, size_t count) {
     const unsigned char *const filter = skh_slice(bits);
-    unsigned char *const found_bytes = skh_slice_mut(found);
+    unsigned char *const found_bytes = skh_slice(found);
     if (!skh_bloom_is_length(length)) return SKETCH_ERROR_LENGTH;
     if (value_count < count) return SKETCH_ERROR_COUNT;
     for (uint64_t i = 0; i < count; i++) {
@@ -1573,7 +1572,7 @@ SKH_INLINE int sketch_bloom_contains_each_u64_any(bool has_vectors, const void *
                                                   const uint64_t *values, size_t value_count,
                                                   unsigned char *found, size_t count) {
     const unsigned char *const filter = skh_slice(bits);
-    unsigned char *const found_bytes = skh_slice_mut(found);
+    unsigned char *const found_bytes = skh_slice(found);
     if (!skh_bloom_is_length(length)) return SKETCH_ERROR_LENGTH;
     if (value_count < count) return SKETCH_ERROR_COUNT;
     for (uint64_t i = 0; i < count; i++) {
@@ -1595,7 +1594,7 @@ SKETCH_HASH_API int sketch_bloom_contains_each_hash(const void *bits, size_t len
                                                     unsigned char *found, size_t count) {
     if (!skh_bloom_is_length(length)) return SKETCH_ERROR_LENGTH;
     if (hash_count < count) return SKETCH_ERROR_COUNT;
-    skh_bloom_find_hashes(skh_slice(bits), length, hashes, count, skh_slice_mut(found), 0);
+    skh_bloom_find_hashes(skh_slice(bits), length, hashes, count, skh_slice(found), 0);
     return SKETCH_OK;
 }
 
@@ -1603,7 +1602,7 @@ SKETCH_HASH_API int sketch_bloom_contains_each_hash(const void *bits, size_t len
  * Returns 0, or SKETCH_ERROR_LENGTH, also if the lengths are different. */
 SKETCH_HASH_API int sketch_bloom_merge(void *into, size_t length, const void *from,
                                        size_t from_length) {
-    unsigned char *const into_bytes = skh_slice_mut(into);
+    unsigned char *const into_bytes = skh_slice(into);
     const unsigned char *const from_bytes = skh_slice(from);
     if (from_length != length || !skh_bloom_is_length(length)) return SKETCH_ERROR_LENGTH;
     for (uint64_t i = 0; i < length; i++) {
@@ -1619,7 +1618,7 @@ SKETCH_HASH_API int sketch_bloom_merge(void *into, size_t length, const void *fr
  * is not a multiple of 64. */
 SKETCH_HASH_API int sketch_bloom_fold(void *bits, size_t length) {
     if (((uint64_t)length & 63) != 0 || !skh_bloom_is_length(length)) return SKETCH_ERROR_LENGTH;
-    skh_bloom_fold_blocks(skh_slice_mut(bits), length);
+    skh_bloom_fold_blocks(skh_slice(bits), length);
     return SKETCH_OK;
 }
 
@@ -1629,7 +1628,7 @@ SKETCH_HASH_API int sketch_bloom_fold(void *bits, size_t length) {
  * Returns `length` if it folds nothing, as with a `one_in` of 0, and 0 if no filter has `length`
  * bytes. */
 SKETCH_HASH_API size_t sketch_bloom_fold_to(void *bits, size_t length, uint64_t one_in) {
-    unsigned char *const filter = skh_slice_mut(bits);
+    unsigned char *const filter = skh_slice(bits);
     if (!skh_bloom_is_length(length)) return 0;
     uint64_t filter_length = length;
     while ((filter_length & 63) == 0) {
@@ -1654,7 +1653,7 @@ SKETCH_HASH_API size_t sketch_bloom_block_offset(size_t length, uint64_t hash) {
  * bloom_filter_length is that of the header and the filter. */
 SKETCH_HASH_API size_t sketch_bloom_header_write(uint64_t bytes, unsigned char *header,
                                                  size_t room) {
-    const struct skh_option option = skh_bloom_write_header(bytes, skh_slice_mut(header), room);
+    const struct skh_option option = skh_bloom_write_header(bytes, skh_slice(header), room);
     return option.is_some ? option.value : 0;
 }
 

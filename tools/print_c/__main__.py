@@ -13,6 +13,7 @@ statements, copies.py joins names, loops.py tidies, names.py gives names, text.p
 import collections
 import pathlib
 import sys
+import textwrap
 
 import copies
 import expression as e
@@ -20,25 +21,16 @@ import keep
 import loops
 import names
 import text
+import vectors
 from body import Body
 from expression import Writer, made
-from module import Module, Unknown
-from program import Program, part_of
+from module import Module
+from program import PARTS, Program, part_of
 from reshape import reshape
 from source import Sources
 from values import VECTORS
 
 WIDTH = 100
-
-
-def comment(about):
-    lines, line = [], "/*"
-    for word in about.split():
-        if len(line) + 1 + len(word) > WIDTH - 3:
-            lines.append(line)
-            line = " *"
-        line += " " + word
-    return [*lines, line + " */"] if about else []
 
 
 class Printer:
@@ -55,18 +47,20 @@ class Printer:
         program, name = self.program, self.program.names[function.name]
         declared = program.declared.get(function.name)
         parameters = program.parameters(function)
-        body = Body(function, program, program.result_type(function))
+        body = Body(function, program)
         for own, variable in zip(function.parameters, parameters):
             kind = variable.type
             value = e.name(variable)
             body.values[own.token] = made("place", kind, value, None, 0) if own.type == "ptr" else value
         statements = body.statements_of_all()
         names.hint_from_use(statements, program)
+        names.hint_from_source(statements, parameters, function.source, program)
         arrays = [variable for variable, _ in body.arrays]
         pointers = [each for each in parameters if declared and isinstance(each.type, e.Pointer)]
         copies.share(statements, parameters, [*arrays, *pointers])
         loops.tidy(statements)
         names.hint_from_use(statements, program)
+        names.hint_from_source(statements, parameters, function.source, program)
         names.hint_loops(statements, function.source)
         names.give(statements, parameters, arrays, program.names.values())
         text.declare(statements, {*parameters, *arrays})
@@ -76,7 +70,9 @@ class Printer:
             head = ", ".join(each for _, each in declared.parameters) or "void"
         else:
             head = ", ".join(text.declared(each.type, each.text) for each in parameters)
-        return "\n".join([*comment(declared.about if declared else function.source.about),
+        about = textwrap.fill(declared.about if declared else function.source.about, WIDTH - 3, initial_indent="/* ",
+                              subsequent_indent=" * ", break_long_words=False, break_on_hyphens=False)
+        return "\n".join([*([about + " */"] if about else []),
                           *self.with_head(function, name, head, [each.text for each in parameters], lines), ""])
 
     def requirements(self, function, parameters):
@@ -110,7 +106,7 @@ class Printer:
                 f"SKH_CHOOSE({storage}, {type}, {give}, {name}, ({parameters}), ({', '.join(arguments)}))"]
 
     def in_order(self):
-        """The functions, each after those that it calls, part by part, and then those of the header in its order."""
+        """The functions part by part, each after those that it calls, and then those of the header in its order."""
         program, parts, done = self.program, collections.defaultdict(list), set()
 
         def visit(name):
@@ -125,17 +121,7 @@ class Printer:
         calls = [program.functions[name] for name in program.declared if name in program.functions]
         for function in calls:
             visit(function.name)
-        ordered, waiting, known = [], [*parts], set()
-        while waiting:  # next a part whose functions call none of a later one
-            title = next((each for each in waiting if all(
-                callee in known or program.functions[callee] in parts[each] for function in parts[each]
-                for callee in program.callees[function.name])), None)
-            if title is None:
-                raise Unknown(f"print_c does not know an order of {waiting}")
-            waiting.remove(title)
-            ordered.append((title, parts[title]))
-            known |= {function.name for function in parts[title]}
-        return [*ordered, ("Calls", calls)]
+        return [*((title, parts[title]) for _, _, title in PARTS if parts[title]), ("Calls", calls)]
 
     def constants(self, functions, done):
         """What the source gives names to, and these functions use first."""
@@ -162,6 +148,7 @@ def main(clang, module, header, crates):
     sources = Sources(pathlib.Path(crates))
     module = Module(keep.optimize(clang, pathlib.Path(module).read_bytes(), sources))
     for function in module.functions:
+        vectors.split(function)
         reshape(function)
     head = (pathlib.Path(__file__).parent / "head.c").read_text()
     return Printer(module, pathlib.Path(header).read_text(), sources).text(head)

@@ -2,12 +2,10 @@
 import collections
 
 import expression as e
-from expression import FIELDS, Name, cast, made, negation, number, struct_of
+from expression import FIELDS, TYPES, Name, cast, made, negation, struct_of
 from module import Unknown
 from statements import Assign, Break, If, Loop, Return, ends
 from values import Values, as_bool
-
-STATUSES = {0: "SKETCH_OK", -1: "SKETCH_ERROR_LENGTH", -2: "SKETCH_ERROR_OFFSET", -3: "SKETCH_ERROR_COUNT"}
 
 
 def branch(condition, then, otherwise):
@@ -23,11 +21,8 @@ def branch(condition, then, otherwise):
 
 
 class Body(Values):
-    """`result_type` is the type in C that the function returns."""
-
-    def __init__(self, function, program, result_type):
+    def __init__(self, function, program):
         super().__init__(function, program)
-        self.result_type = result_type
         self.homes = collections.defaultdict(list)
         for label in self.flow.order[1:]:
             if self.is_apart(label):
@@ -80,24 +75,21 @@ class Body(Values):
         return out + branch(condition, then, otherwise)
 
     def result(self, operand):
-        value = self.values[operand.token] if isinstance(self.values.get(operand.token), list) else self.value(operand)
-        if isinstance(value, list):
+        value = self.value(operand)
+        if value.op == "struct":
             return self.struct(value)
         if self.result_type == "int":
-            return status(value)
+            return self.status(value)
         if self.result_type == "size_t" and e.is_number(value, (1 << 64) - 1):
             return e.text("SIZE_MAX", "size_t")
         return as_bool(value) if self.result_type == "bool" else e.uncast(value)
 
-    def struct(self, values):
-        type = struct_of(self.function.source)
-        fields = FIELDS[type]
-        if all(each.op == "field" and each.args[1] == key and each.args[0] == values[0].args[0]
-               for each, (_, key) in zip(values, fields)) and values[0].args[0].type == type:
-            return values[0].args[0]
-        if fields[0][0] == "bool":
-            values = [as_bool(values[0]), values[1]]
-        return made("struct", type, *values)
+    def struct(self, value):
+        """The variable whose two fields a struct has, or the struct."""
+        first, fields = value.args[0], FIELDS[value.type]
+        if first.op == "field" and first.args[0].type == value.type and value.args == e.fields(first.args[0]):
+            return first.args[0]
+        return value._replace(args=(as_bool(first) if fields[0][0] == "bool" else first, value.args[1]))
 
     def go(self, source, target, follow, around):
         """What a branch from one block to another does: it sets what the other one begins with, and goes there."""
@@ -130,9 +122,8 @@ class Body(Values):
         return out
 
     def move_to(self, own, value, pending):
-        if isinstance(own, list):  # a struct
-            value = value[0].args[0] if isinstance(value, list) else value
-            own = own[0].args[0]
+        if value.op == "struct":
+            value = self.struct(value)
         elif own.op == "place":
             own, value = own.args[0], self.address(value)
         elif own.type == "bool":
@@ -149,31 +140,23 @@ class Body(Values):
 
     def phi(self, step):
         if step.type == "ptr":
-            kind = self.program.kinds[self.function.name, step.result]
+            kind = self.program.kind(self.function, step.result)
             return made("place", kind, e.name(Name(kind)), None, 0)
-        kinds = {"i1": "bool", "i8": "uint8_t", "i32": "uint32_t", "i64": "uint64_t", "i128": "skh_uint128"}
-        if step.type in kinds:
-            return e.name(Name(kinds[step.type]))
-        type = self.struct_of_phi(step)
-        result = e.name(Name(type))
-        return [e.field(result, key, of) for of, key in FIELDS[type]]
+        return e.name(Name(TYPES.get(step.type) or self.struct_of_phi(step)))
 
     def struct_of_phi(self, step):
-        """The struct that the calls return which it chooses from."""
-        for operand in step.operands:
-            made_by = self.made[operand.token]
-            if made_by.operation == "call":
-                return struct_of(self.program.functions[made_by.more].source)
-        raise Unknown(f"print_c does not know a choice of {step.type}")
+        """The struct that a call returns which it chooses from, or else the one that the function returns."""
+        steps = [self.made.get(operand.token) for operand in step.operands]
+        calls = [each.more for each in steps if each and each.operation == "call"]
+        return struct_of(self.program.functions[calls[0]].source) if calls else self.result_type
 
-
-def status(value):
-    """A result of a call, which is an int."""
-    if value.op == "number":
-        signed = value.args[0] - (1 << 32) if value.args[0] >> 31 else value.args[0]
-        return e.text(STATUSES[signed], "int") if signed in STATUSES else number(signed, "uint32_t")
-    if value.op == "?:":
-        return e.choice(value.args[0], *map(status, value.args[1:]), "int")
-    if value.op == "cast" and value.args[0].type == "bool":
-        return value.args[0]
-    return value if value.type == "int" else cast("int", value)
+    def status(self, value):
+        """A result of a call, which is an int."""
+        if value.op == "number":
+            signed = value.args[0] - (value.args[0] >> 31 << 32)
+            return e.text(self.program.statuses[signed], "int") if signed in self.program.statuses else value
+        if value.op == "?:":
+            return e.choice(value.args[0], *map(self.status, value.args[1:]), "int")
+        if value.op == "cast" and value.args[0].type == "bool":
+            return value.args[0]
+        return value if value.type == "int" else cast("int", value)

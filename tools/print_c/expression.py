@@ -2,11 +2,15 @@
 import collections
 import itertools
 
-# `type` is one of C, or the kind of a pointer; `reads` says whether it reads memory.
+# `type` is one of C, or the kind of a pointer; `reads` are the places in memory that it reads: each a pointer and the offsets
+# of its first byte and of its end.
 Expression = collections.namedtuple("Expression", "op args type reads")
 # What a pointer points into: bytes; native numbers of a width, which `const` may keep from being written; pairs of numbers; a
 # state of the header, or a size.
 Pointer = collections.namedtuple("Pointer", "kind is_const")
+
+
+NOTHING, ANYWHERE = frozenset(), "anywhere"
 
 
 class State:
@@ -44,39 +48,50 @@ class Name:
     numbers = itertools.count()
 
     def __init__(self, type, text=None):
-        self.type, self.text, self.hints, self.number = type, text, [], next(self.numbers)
+        self.type, self.text, self.number = type, text, next(self.numbers)
         self.is_parameter = text is not None
+        is_struct = isinstance(type, str) and type.startswith("struct ")
+        self.hints = [(9, type.removeprefix("struct skh_"))] if is_struct else []
 
     def hint(self, rank, text):
         self.hints.append((rank, text))
 
     def is_certain(self):
         """Whether the source gives it its name."""
-        return self.is_parameter or any(rank < 2 for rank, _ in self.hints)
+        return self.is_parameter or any(rank < 3 for rank, _ in self.hints)
 
 
 def name(variable):
-    return Expression("name", (variable,), variable.type, False)
+    return Expression("name", (variable,), variable.type, NOTHING)
 
 
 def number(value, type="uint64_t"):
-    return Expression("number", (value & (1 << WIDTHS[type]) - 1,), type, False)
+    return Expression("number", (value & (1 << WIDTHS[type]) - 1,), type, NOTHING)
 
 
 def text(word, type):
-    return Expression("text", (word,), type, False)
+    return Expression("text", (word,), type, NOTHING)
 
 
 def call(function, type, *arguments, reads=False):
-    return Expression("call", (function, *arguments), type, reads or any(each.reads for each in arguments))
+    return Expression("call", (function, *arguments), type, frozenset([ANYWHERE]) if reads else read_in(arguments))
 
 
 def made(op, type, *arguments):
-    return Expression(op, arguments, type, any(each.reads for each in arguments if isinstance(each, Expression)))
+    return Expression(op, arguments, type, read_in(arguments))
+
+
+def read_in(arguments):
+    return NOTHING.union(*(each.reads for each in arguments if isinstance(each, Expression)))
 
 
 def field(value, key, type):
     return Expression("field", (value, key), type, value.reads)
+
+
+def fields(value):
+    """The two numbers of a struct."""
+    return value.args if value.op == "struct" else tuple(field(value, key, type) for type, key in FIELDS[value.type])
 
 
 def is_number(value, *numbers):
@@ -174,13 +189,17 @@ def in_order(names):
     return sorted(names, key=lambda name: name.number)
 
 
+TESTS = {"!": negation, "&&": conjunction, "||": disjunction}
+
+
 def replaced(value, put):
     """The expression with `put(name)` in place of each name, if it is not None."""
     if value.op == "name":
         return put(value.args[0]) or value
     args = tuple(replaced(each, put) if isinstance(each, Expression) else each for each in value.args)
-    reads = value.reads or any(each.reads for each in args if isinstance(each, Expression))
-    return value._replace(args=args, reads=reads) if args != value.args else value
+    if args == value.args:
+        return value
+    return TESTS[value.op](*args) if value.op in TESTS else value._replace(args=args, reads=value.reads | read_in(args))
 
 
 def size_of(value):
@@ -215,8 +234,6 @@ class Writer:
         if value >= 1 << 16 and value & value - 1 == 0:
             one = "(uint64_t)1" if width == 64 else "1u"
             return f"{one} << {value.bit_length() - 1}"
-        if width == 64 and value > 0xffff and value & value + 1 == 0:
-            return f"0x{value:x}u"
         return str(value) if value < 1 << 16 else f"0x{value:x}u"
 
     def level(self, value):

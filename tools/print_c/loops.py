@@ -6,7 +6,6 @@ import expression as e
 from expression import comparison, is_number, made, negation, number
 from statements import Assign, Break, For, If, Loop, Return, ends, every, lists_in
 
-TESTS = {"!": negation, "&&": e.conjunction, "||": e.disjunction}
 LARGEST = 20  # the most parts of an expression that others were joined to
 
 
@@ -28,13 +27,11 @@ def tidy(statements):
 
 
 def branches(statements):
-    """No branch is empty before an else."""
-    for at in range(len(statements) - 1, -1, -1):
-        each = statements[at]
+    """No branch is empty before an else, nor on both ways."""
+    for each in statements:
         if isinstance(each, If) and not each.then:
             each.condition, each.then, each.otherwise = negation(each.condition), each.otherwise, []
-            if not each.then:
-                del statements[at]
+    statements[:] = [each for each in statements if not isinstance(each, If) or each.then]
 
 
 def branch_at_choices(statements):
@@ -136,7 +133,7 @@ def with_known(value, known):
         args = [with_known(each, known) for each in value.args]
         if value.op == "struct":
             return value._replace(args=tuple(args))
-        return e.choice(*args, value.type) if value.op == "?:" else TESTS[value.op](*args)
+        return e.choice(*args, value.type) if value.op == "?:" else e.TESTS[value.op](*args)
     return value
 
 
@@ -166,19 +163,9 @@ def join(statements, whole):
         one, next = statements[at], statements[at + 1]
         is_free = isinstance(one, Assign) and sets[one.name] == 1 and counted[one.name] == 1 and not one.name.is_certain()
         if is_free and isinstance(next, (Assign, Return, If)) and fits(one, next):
-            for key in next.values:
-                if getattr(next, key) is not None:
-                    put = lambda name: one.value if name is one.name else None
-                    setattr(next, key, replaced(getattr(next, key), put))
+            next.replace(lambda name: one.value if name is one.name else None)
             del statements[at]
         at -= 1
-
-
-def replaced(value, put):
-    """A test of tests is one."""
-    if value.op in TESTS:
-        return TESTS[value.op](*(replaced(each, put) for each in value.args))
-    return e.replaced(value, put)
 
 
 def fits(one, next):

@@ -7,8 +7,11 @@ import re
 # empty, `ranges` maps a parameter, or `length NAME` of a slice, to its least and its largest number, `body` is
 # its text without comments.
 Source = collections.namedtuple("Source", "path parameters result about inline ranges body is_exported")
-HEAD = re.compile(r'(?:pub(?:\([^)]*\))? )?(?:const )?(extern "C" )?fn (\w+)(?:<[^(]*>)?\(')
-BOUND = re.compile(r"requires(?: \w+)? \{ (.*) (<|≤|≡) (.*) \}$")
+# The head of a block of methods, or of a trait; its end; a function, after its comments and attributes.
+ITEM = re.compile(r'^(?:impl(?:<[^>]*>)? (?P<owner>\w+)(?:<[^>]*>)? \{|(?P<trait>impl\b|(?:pub )?trait\b)|(?P<end>\}))|'
+                  r'(?P<about>(?:^ *(?://|#\[).*\n)*)^ *(?:pub(?:\([^)]*\))? )?(?:const )?(?P<exported>extern "C" )?'
+                  r'fn (?P<name>\w+)(?:<[^(]*>)?\(', re.M)
+BOUND = re.compile(r"requires(?: \w+)? \{ (.*?)(?:\.now|\.old)? (<|≤|≡) (.*?)(?:\.now|\.old)? \}$", re.M)
 
 
 def closing(text, start):
@@ -41,10 +44,10 @@ def parameters_of(text):
     return found
 
 
-def paragraph(lines):
+def paragraph(text):
     """The first one of a comment, without marks of links."""
-    text = " ".join(lines[:lines.index("")] if "" in lines else lines)
-    return re.sub(r"\[(`[^`]*`)\](\([^)]*\))?", r"\1", text)
+    lines = re.findall(r"^ *//[/!]? ?(.*)", text, re.M)
+    return re.sub(r"\[(`[^`]*`)\](\([^)]*\))?", r"\1", " ".join(lines[:lines.index("")] if "" in lines else lines))
 
 
 class Sources:
@@ -62,31 +65,20 @@ class Sources:
                 self.read(file.read_text(), [part for part in parts if part != "lib"])
 
     def read(self, text, module):
-        for name, numbers in re.findall(r"const (\w+): \[u8; \w+\] = \[([^\]]*)\]", text):
-            if re.fullmatch(r"[\s\dxa-f,]*", numbers):
-                self.arrays[tuple(int(number, 0) for number in split(numbers))] = name.lower()
         self.read_constants(text)
         for name, body in re.findall(r"#\[repr\(C\)\][^{]*?struct (\w+) \{\n(.*?)\n\}", text, re.S):
             self.structs[name] = re.findall(r"pub (\w+): ([^,]+),", body)
-        owner, about, inline, at = None, [], "", 0
-        for line in text.split("\n"):
-            start, at = at, at + len(line) + 1
-            if re.match(r"impl\b|trait\b|pub trait\b|\}", line):
-                own = re.match(r"impl(?:<[^>]*>)? (\w+)(?:<[^>]*>)? \{", line)
-                owner = own[1] if own else None if line[0] == "}" else "of a trait"
-            comment, word = re.match(r"\s*//[/!]? ?(.*)", line), line.strip()
-            if comment:
-                about.append(comment[1])
-            elif word.startswith("#["):
-                inline = word[9:-2] if word.startswith("#[inline(") else inline
-            else:
-                head = HEAD.match(word)
-                if head and owner != "of a trait":
-                    self.add(text, start + line.index(word), head, module, owner, paragraph(about), inline)
-                about, inline = [], ""
+        owner = None
+        for item in ITEM.finditer(text):
+            if not item["name"]:
+                owner = item["owner"] or item["trait"]
+            elif owner not in ("impl", "trait", "pub trait"):
+                self.add(text, item, module, owner)
 
     def read_constants(self, text):
-        """Large numbers that have a name, and sums of such without one."""
+        """Arrays of bytes, large numbers that have a name, and sums of such without one."""
+        for name, numbers in re.findall(r"const (\w+): \[u8; \w+\] = \[([\s\dxa-f,]*)\]", text):
+            self.arrays[tuple(int(number, 0) for number in split(numbers))] = name.lower()
         for name, number in re.findall(r"const (\w+): u(?:32|64) = (0x\w+);", text):
             self.named[int(number, 0)] = f"SKH_{name}"
         for name, numbers in re.findall(r"const (\w+): \[u32; \w+\] = \[([^\]]*)\]", text):
@@ -96,42 +88,36 @@ class Sources:
             texts = [hex(int(number, 0)) + "u" for number in (two, three)]
             self.sums[int(one) * int(two, 0) + int(three, 0)] = f"(uint64_t){one} * {texts[0]} + {texts[1]}"
 
-    def add(self, text, start, head, module, owner, about, inline):
-        opening = start + head.end() - 1
-        end = closing(text, opening)
+    def add(self, text, item, module, owner):
+        end = closing(text, item.end() - 1)
         brace = re.compile(r"\n\s*\{\n| \{\n").search(text, end)
+        clauses = text[end + 1:brace.start() + 1] if brace else ""
         result = re.match(r"\s*->\s*([^\n{]+)", text[end + 1:])
-        body = text[brace.end() - 2:closing(text, brace.end() - 2)] if brace else ""
-        body = re.sub(r"//[^\n]*", "", body)
-        ranges = self.ranges(text[end:brace.start() + 1] if brace else "")
-        path = "::".join([*module, *([owner] if owner else []), head[2]])
-        parameters = parameters_of(" ".join(text[opening + 1:end].split()))
-        found = Source(path, parameters, result[1].strip() if result else "()", about, inline, ranges, body, bool(head[1]))
+        body = re.sub(r"//[^\n]*", "", text[brace.end() - 2:closing(text, brace.end() - 2)]) if brace else ""
+        inline = re.search(r"#\[inline\((\w+)\)\]", item["about"])
+        path = "::".join([*module, *([owner] if owner else []), item["name"]])
+        parameters = parameters_of(" ".join(text[item.end():end].split()))
+        found = Source(path, parameters, result[1].strip() if result else "()", paragraph(item["about"]),
+                       inline[1] if inline else "", self.ranges(clauses), body, bool(item["exported"]))
         if owner:
-            self.methods[owner, head[2]] = found
+            self.methods[owner, item["name"]] = found
         else:
             self.by_path[path] = found
 
     def ranges(self, clauses):
         """What `requires` says of one parameter and a number."""
         found = {}
-        for line in clauses.split("\n"):
-            bound = BOUND.search(line.strip())
-            if not bound:
-                continue
-            one, order, other = bound.groups()
+        for one, order, other in BOUND.findall(clauses):
             low, high = self.number(one), self.number(other)
-            name = other if low is not None else one
-            name = re.sub(r"\.(now|old)$", "", name)
-            if (low is None) == (high is None) or not re.fullmatch(r"(length )?\w+", name):
-                continue
-            least, most = found.get(name, (0, None))
-            if low is not None:
-                least = max(least, low + (order == "<"))
-            else:
-                limit = high - (order == "<")
-                most, least = limit if most is None else min(most, limit), high if order == "≡" else least
-            found[name] = (least, most)
+            name = one if low is None else other
+            if (low is None) != (high is None) and re.fullmatch(r"(length )?\w+", name):
+                least, most = found.get(name, (0, None))
+                if low is None:
+                    limit = high - (order == "<")
+                    most, least = limit if most is None else min(most, limit), high if order == "≡" else least
+                else:
+                    least = max(least, low + (order == "<"))
+                found[name] = (least, most)
         return found
 
     def number(self, text):

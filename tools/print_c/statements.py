@@ -1,4 +1,5 @@
 """Statements of C as trees."""
+import expression as e
 
 
 class Statement:
@@ -15,6 +16,12 @@ class Statement:
 
     def expressions(self):
         return [getattr(self, key) for key in self.values if getattr(self, key) is not None]
+
+    def replace(self, put):
+        """Has `put(name)` in place of each name that a value is computed from."""
+        for key in self.values:
+            if getattr(self, key) is not None:
+                setattr(self, key, e.replaced(getattr(self, key), put))
 
 
 class Assign(Statement):
