@@ -316,12 +316,17 @@ SKH_INLINE void skh_copy_overlapping_8(unsigned char *buffer, uint64_t at,
     skh_copy_array_8(place + bytes_length - 8, bytes + bytes_length - 8);
 }
 
+/* Copies K bytes. The copy of an array is one move; `copy_from_slice` is a loop. */
+SKH_INLINE void skh_copy_array_16(unsigned char *place, const unsigned char *bytes) {
+    memmove(place, bytes, 16);
+}
+
 /* Copies K to 2 K bytes to `buffer[at..]`: first the first K bytes, then the last K. */
 SKH_INLINE void skh_copy_overlapping_16(unsigned char *buffer, uint64_t at,
                                         const unsigned char *bytes, uint64_t bytes_length) {
-    unsigned char *const p1 = buffer + at;
-    memmove(p1, bytes, 16);
-    memmove(p1 + bytes_length - 16, bytes + bytes_length - 16, 16);
+    unsigned char *const place = buffer + at;
+    skh_copy_array_16(place, bytes);
+    skh_copy_array_16(place + bytes_length - 16, bytes + bytes_length - 16);
 }
 
 /* Copies at most 32 bytes to `buffer[at..]`. A `copy_from_slice` of unknown length is a call of
@@ -1179,12 +1184,10 @@ static uint64_t skh_bloom_length_in(const unsigned char *input, uint64_t input_l
 static bool skh_bloom_has_prefix(const unsigned char *input, uint64_t input_length,
                                  const unsigned char *prefix, uint64_t prefix_length) {
     if (input_length < prefix_length) return false;
-    uint64_t x1 = 0;
-    for (;;) {
-        if (x1 == prefix_length) return true;
-        if (input[x1] != prefix[x1]) return false;
-        x1++;
+    for (uint64_t i = 0; i < prefix_length; i++) {
+        if (input[i] != prefix[i]) return false;
     }
+    return true;
 }
 
 /* ---- Results of calls */
@@ -1496,24 +1499,21 @@ SKETCH_HASH_API int sketch_bloom_contains_each32(const void *bits, size_t length
     const unsigned char *const filter = skh_slice(bits);
     const unsigned char *const bytes = skh_slice(keys);
     unsigned char *const found_bytes = skh_slice(found);
-    const bool b1 = skh_bloom_is_length(length);
-    if (b1) {
-        const struct skh_result result =
-            skh_check_offsets32(keys_length, offsets, offset_count, count);
-        if (result.is_error) {
-            *wrong_offset = (size_t)result.value;
-            return SKETCH_ERROR_OFFSET;
-        }
-        memset(hashes, 0, 256);
-        uint64_t start = 0;
-        while (start < count) {
-            const uint64_t hashes_count = skh_least64(count - start, 32);
-            skh_xxh64_hash_run32(bytes, offsets, start, hashes, hashes_count);
-            skh_bloom_find_hashes(filter, length, hashes, hashes_count, found_bytes, start);
-            start += hashes_count;
-        }
+    if (!skh_bloom_is_length(length)) return SKETCH_ERROR_LENGTH;
+    const struct skh_result result = skh_check_offsets32(keys_length, offsets, offset_count, count);
+    if (result.is_error) {
+        *wrong_offset = (size_t)result.value;
+        return SKETCH_ERROR_OFFSET;
     }
-    return b1 ? SKETCH_OK : SKETCH_ERROR_LENGTH;
+    memset(hashes, 0, 256);
+    uint64_t start = 0;
+    while (start < count) {
+        const uint64_t hashes_count = skh_least64(count - start, 32);
+        skh_xxh64_hash_run32(bytes, offsets, start, hashes, hashes_count);
+        skh_bloom_find_hashes(filter, length, hashes, hashes_count, found_bytes, start);
+        start += hashes_count;
+    }
+    return SKETCH_OK;
 }
 
 /* Writes 1 or 0 to found[i], as sketch_bloom_contains returns it for key i of a column with

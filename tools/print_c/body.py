@@ -21,24 +21,14 @@ def branch(condition, then, otherwise):
 
 
 class Body(Values):
+    """`homes` maps a block to those after its code to which more than one way leads."""
+
     def __init__(self, function, program):
         super().__init__(function, program)
         self.homes = collections.defaultdict(list)
         for label in self.flow.order[1:]:
-            if self.is_apart(label):
-                self.homes[self.flow.home(label)].append(label)
-
-    def is_edge(self, label):
-        """Whether it only goes on to another."""
-        return len(self.blocks[label]) == 1 and len(self.flow.after[label]) == 1
-
-    def is_apart(self, label):
-        """Whether its code is after the branches that go to it, and not in one of them."""
-        if self.flow.is_merge(label):
-            return True
-        if self.flow.left_by(label) is None or self.is_edge(label):
-            return False
-        return not (self.blocks[label][-1].operation == "ret" and len(self.blocks[label]) <= 3)
+            if self.flow.is_merge(label):
+                self.homes[self.flow.parent[label]].append(label)
 
     def tree(self, label, follow, around):
         """The code of a block and of all that only it leads to. `follow` is what stands after it, and `around` what stands
@@ -87,14 +77,14 @@ class Body(Values):
     def struct(self, value):
         """The variable whose two fields a struct has, or the struct."""
         first, fields = value.args[0], FIELDS[value.type]
-        if first.op == "field" and first.args[0].type == value.type and value.args == e.fields(first.args[0]):
+        if first.op == "field" and value.args == e.fields(first.args[0]):
             return first.args[0]
         return value._replace(args=(as_bool(first) if fields[0][0] == "bool" else first, value.args[1]))
 
     def go(self, source, target, follow, around):
         """What a branch from one block to another does: it sets what the other one begins with, and goes there."""
         out, is_back = self.moves(source, target), target in self.flow.through[source]
-        if not is_back and not self.is_apart(target):
+        if not is_back and not self.flow.is_merge(target):
             return out + self.tree(target, follow, around)
         if target == follow:
             return out
@@ -108,7 +98,7 @@ class Body(Values):
         """A name gets its value when no other value needs what it was."""
         pending, out = {}, []
         for step in self.blocks[target]:
-            if step.operation == "phi" and self.users[step.result]:
+            if step.operation == "phi":
                 operand = step.operands[step.more.index(source)]
                 if operand.token != "poison":
                     self.move_to(self.values[step.result], self.value(operand), pending)
@@ -122,19 +112,15 @@ class Body(Values):
         return out
 
     def move_to(self, own, value, pending):
-        if value.op == "struct":
-            value = self.struct(value)
-        elif own.op == "place":
+        if own.op == "place":
             own, value = own.args[0], self.address(value)
-        elif own.type == "bool":
-            value = as_bool(value)
         if value != own:
             pending[own.args[0]] = value
 
     def statements_of_all(self):
         for label in self.flow.order:
             for step in self.blocks[label]:
-                if step.operation == "phi" and self.users[step.result]:
+                if step.operation == "phi":
                     self.values[step.result] = self.phi(step)
         return self.tree(self.flow.order[0], None, [])
 

@@ -101,10 +101,6 @@ def is_number(value, *numbers):
 def cast(type, value):
     if value.type == type:
         return value
-    if value.op == "number" and type in WIDTHS:
-        return number(value.args[0], type)
-    if value.op == "cast" and WIDTHS.get(value.args[0].type, 99) >= WIDTHS.get(value.type, 0) >= WIDTHS.get(type, 0):
-        return cast(type, value.args[0])
     return made("cast", type, value)
 
 
@@ -121,8 +117,6 @@ def binary(op, one, other, type=None):
 
 
 def comparison(op, one, other):
-    if is_number(one) and not is_number(other):
-        one, other, op = other, one, {"<": ">", ">": "<", "<=": ">=", ">=": "<="}.get(op, op)
     if one.type == "bool" and is_number(other, 0, 1) and op in ("==", "!="):
         return one if (op == "==") == is_number(other, 1) else negation(one)
     return made(op, "bool", one, other)
@@ -132,29 +126,19 @@ def choice(condition, one, other, type):
     """One of two values, without what the condition says already."""
     if is_number(condition):
         return one if condition.args[0] else other
-    if one == other:
-        return one
     if type == "bool" and is_number(other, 0):
         return conjunction(condition, one)
-    if type == "bool" and is_number(one, 1):
-        return negation(conjunction(negation(condition), negation(other)))
     if condition.op in ("!", "!="):
         condition, one, other = negation(condition), other, one
     return made("?:", type, condition, one, other)
 
 
 def conjunction(one, other):
-    if is_number(one):
-        return other if one.args[0] else one
-    if is_number(other):
-        return one if other.args[0] else other
     return made("&&", "bool", one, other)
 
 
 def disjunction(one, other):
     """One or the other, of which the second is only asked if the first is not so."""
-    if is_number(one) or is_number(other):
-        return negation(conjunction(negation(one), negation(other)))
     if one.op == "&&" and negation(one.args[0]) == other:
         return disjunction(other, one.args[1])
     return made("||", "bool", one, other)
@@ -167,8 +151,6 @@ def negation(value):
         return made(NEGATED[value.op], "bool", *value.args)
     if value.op in ("&&", "||"):
         return made("||" if value.op == "&&" else "&&", "bool", *map(negation, value.args))
-    if is_number(value):
-        return number(1 - value.args[0], "bool")
     return made("!", "bool", value)
 
 

@@ -4,7 +4,7 @@ A function stays if C can have its head: its parameters are numbers of at most 6
 and its result is nothing, a number, a pair of numbers, an `Option` or a `Result` of them. All others are inlined: those that
 take or return a larger struct, closures, methods of traits, and what the standard library does. A function of one instruction,
 such as a read of a word, is inlined too, since C has an expression for it; and so is a call that gets a pointer to a variable,
-if no variable is left then."""
+if the source inlines the function."""
 import re
 import subprocess
 
@@ -96,9 +96,10 @@ def mark(module, kept, states):
 
 
 def is_one_step(body):
-    """Whether a function does one thing: computing an address and building a result do not count."""
+    """Whether a function gives one value: computing an address and building a result do not count."""
     steps = [line for line in body.split("\n") if line.startswith("  ")]
-    return len([line for line in steps if not re.search(r"= (getelementptr|insertvalue|zext)|^  ret ", line)]) <= 1
+    steps = [line for line in steps if not re.search(r"= (getelementptr|insertvalue|zext)|^  ret ", line)]
+    return len(steps) <= 1 and "call void" not in body
 
 
 def inline(module, names):
@@ -107,53 +108,33 @@ def inline(module, names):
                       if found[3] in names else found[0], module)
 
 
-def variables_in(body):
-    return set(re.findall(r"(%[\w.]+) = alloca", body))
-
-
-def inline_at_variables(module, functions):
-    """Has each call inlined that gets a pointer to a variable of these functions."""
+def inline_at_variables(module, kept):
+    """Has each call of a function inlined that gets a pointer to a variable, if the source inlines the function."""
 
     def in_function(found):
-        body = found[5]
-        pointers = variables_in(body) if found[3] in functions else set()
-        for line in body.split("\n"):
-            place = re.match(r"  (%[\w.]+) = getelementptr .* ptr (%[\w.]+),", line)
-            if place and place[2] in pointers:
-                pointers.add(place[1])
+        pointers = set(re.findall(r"(%[\w.]+) = alloca", found[5]))
+        places = re.findall(r"(%[\w.]+) = getelementptr .* ptr (%[\w.]+),", found[5])
+        pointers |= {place for place, base in places if base in pointers}
 
         def call(line):
-            given = set(re.findall(r"ptr[^,]* (%[\w.]+)", line[4]))
-            if line[3].startswith("llvm.") or not given & pointers:
-                return line[0]
-            return f"{line[1]}{line[4]}) alwaysinline"
+            is_at_variable = line[3] in kept and kept[line[3]].inline == "always" and pointers & set(
+                re.findall(r"ptr[^,]* (%[\w.]+)", line[4]))
+            return f"{line[1]}{line[4]}) alwaysinline" if is_at_variable else line[0]
 
-        return found[0].replace(body, CALL.sub(call, body)) if pointers else found[0]
+        return found[0].replace(found[5], CALL.sub(call, found[5]))
 
     return DEFINE.sub(in_function, module)
-
-
-def without_variables(clang, module, functions):
-    """The module, optimized until nothing changes."""
-    while True:
-        next = inline_at_variables(module, functions)
-        if next == module:
-            return module
-        module = run_clang(clang, OPTIMIZE, next.encode())
-
-
-def functions_with_variables(module):
-    return {found[3] for found in DEFINE.finditer(module) if variables_in(found[5])}
 
 
 def optimize(clang, module, sources):
     """`module` is what the kit's compiler makes. Returns the text of the optimized module."""
     module = run_clang(clang, ["-O2", "-Xclang", "-disable-llvm-passes"], module)
     kept = kept_in(module, sources)
-    first = run_clang(clang, OPTIMIZE, mark(module, kept, sources.structs).encode())
-    short = {found[3] for found in DEFINE.finditer(first) if found[3] in kept and kept[found[3]].inline != "never"
+    module, before = run_clang(clang, OPTIMIZE, mark(module, kept, sources.structs).encode()), None
+    short = {found[3] for found in DEFINE.finditer(module) if found[3] in kept and kept[found[3]].inline != "never"
              and is_one_step(found[5])}
-    module = run_clang(clang, OPTIMIZE, inline(first, short).encode())
-    tried = functions_with_variables(module)
-    rid = tried - functions_with_variables(without_variables(clang, module, tried))
-    return without_variables(clang, module, rid)
+    module = inline(module, short)
+    while module != before:
+        module = run_clang(clang, OPTIMIZE, module.encode())
+        before, module = module, inline_at_variables(module, kept)
+    return module

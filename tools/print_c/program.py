@@ -143,10 +143,10 @@ class Program:
         self.names = {name: name for name in self.declared}
         counts = collections.Counter(wanted.values())
         for name, text in wanted.items():
-            self.names[name] = self.new(text + (self.suffix(name) if counts[text] > 1 else ""))
+            self.names[name] = text + (self.suffix(name) if counts[text] > 1 else "")
         self.short = {self.names[name]: keep.path_of(name).split("::")[-1] for name in self.functions}
         for name, data in self.module.constants.items():
-            self.names[name] = self.new("skh_" + self.sources.arrays.get(tuple(data), "bytes"))
+            self.names[name] = "skh_" + self.sources.arrays.get(tuple(data), "bytes")
 
     def suffix(self, name):
         """What tells instances of one function apart: a number among their arguments, or the width of their offsets."""
@@ -156,13 +156,6 @@ class Program:
         function = self.functions[name]
         generic = [own.token for own, text in zip(function.parameters, self.texts_of(function)) if GENERIC.fullmatch(text)]
         return self.kind(function, generic[0]).kind[1:] if generic else ""
-
-    def new(self, name):
-        number, found = 1, name
-        while found in self.names.values():
-            number += 1
-            found = f"{name}_{number}"
-        return found
 
     def constant(self, token):
         return self.names[bare(token)]

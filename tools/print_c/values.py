@@ -232,7 +232,7 @@ class Values:
             users = {user.operation for user, _ in self.users[step.result]}
             is_offset = operation == "shl" and users == {"getelementptr"}
             is_amount = step.type == "i128" and users <= {"shl", "lshr"}
-            most = 8 if is_offset or is_amount else 4 if operation in ("freeze", "zext", "trunc") else 0
+            most = 8 if is_offset or is_amount else 4 if operation in ("zext", "trunc") else 0
             self.give(step, self.scalar(step), label, most)
 
     def fields(self, operand):
@@ -335,23 +335,12 @@ class Values:
         if operation in ("zext", "trunc"):
             return as_bool(values[0]) if type == "i1" else cast(TYPES[type], values[0])
         if operation == "sext" and step.operands[0].type == "i1":
-            return self.signed(step, values[0])
-        if operation == "freeze":
-            return values[0]
-        if operation == "select":
-            return self.select(step, *values)
+            return e.choice(values[0], number(-1, TYPES[type]), number(0, TYPES[type]), TYPES[type])  # all bits, if it is true
+        if operation == "select" and type in TYPES:
+            return e.choice(*values, TYPES[type])
         if operation == "call":
             return self.intrinsic(step, values)
         raise Unknown(f"print_c does not know {operation} of {type}")
-
-    def signed(self, step, value):
-        """All bits, if it is true."""
-        return e.choice(value, number(-1, TYPES[step.type]), number(0, TYPES[step.type]), TYPES[step.type])
-
-    def select(self, step, condition, one, other):
-        if one.op == "place":
-            raise Unknown("print_c does not know a choice between pointers")
-        return e.choice(condition, one, other, TYPES[step.type])
 
     def arithmetic(self, step, one, other):
         operation, type = step.operation, TYPES[step.type]
