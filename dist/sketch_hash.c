@@ -630,24 +630,24 @@ SKH_INLINE uint64_t skh_xxh64_fold_tail(uint64_t hash, const unsigned char *tail
 
 /* The 64-bit hash of all bytes so far, as of a hasher that resumes the state. */
 SKH_INLINE uint64_t skh_xxh64_finish(const sketch_xxh64_state_t *state) {
-    uint64_t x1;
+    uint64_t hash;
     const uint64_t total = state->total;
     if (total < 32) {
-        x1 = state->seed + SKH_PRIME5;
+        hash = state->seed + SKH_PRIME5;
     } else {
         const uint64_t v1 = state->v1;
         const uint64_t v2 = state->v2;
         const uint64_t v3 = state->v3;
         const uint64_t v4 = state->v4;
-        uint64_t hash =
+        hash =
             skh_rotate64(v2, 7) + skh_rotate64(v1, 1) + skh_rotate64(v3, 12) + skh_rotate64(v4, 18);
         hash = skh_xxh64_merge_round(hash, v1);
         hash = skh_xxh64_merge_round(hash, v2);
         hash = skh_xxh64_merge_round(hash, v3);
-        x1 = skh_xxh64_merge_round(hash, v4);
+        hash = skh_xxh64_merge_round(hash, v4);
     }
     return skh_xxh64_avalanche(
-        skh_xxh64_fold_tail(x1 + total, state->waiting, skh_xxh64_waiting_count(state)));
+        skh_xxh64_fold_tail(hash + total, state->waiting, skh_xxh64_waiting_count(state)));
 }
 
 /* The hash of one key of a column. Long keys are inlined too, and the tail has a loop, whose
@@ -714,9 +714,8 @@ static SKH_NOINLINE void skh_xxh64_hash_run32(const unsigned char *bytes, const 
                                               uint64_t start, uint64_t *out, uint64_t out_count) {
     for (uint64_t i = 0; i < out_count; i++) {
         const uint64_t offset = skh_get32(offsets + i + start);
-        const uint64_t x1 =
-            skh_xxh64_hash(bytes + offset, skh_get32(offsets + i + start + 1) - offset, 0);
-        skh_set64(out + i, x1);
+        skh_set64(out + i,
+                  skh_xxh64_hash(bytes + offset, skh_get32(offsets + i + start + 1) - offset, 0));
     }
 }
 
@@ -726,9 +725,8 @@ static SKH_NOINLINE void skh_xxh64_hash_run64(const unsigned char *bytes, const 
                                               uint64_t start, uint64_t *out, uint64_t out_count) {
     for (uint64_t i = 0; i < out_count; i++) {
         const uint64_t offset = skh_get64(offsets + i + start);
-        const uint64_t x1 =
-            skh_xxh64_hash(bytes + offset, skh_get64(offsets + i + start + 1) - offset, 0);
-        skh_set64(out + i, x1);
+        skh_set64(out + i,
+                  skh_xxh64_hash(bytes + offset, skh_get64(offsets + i + start + 1) - offset, 0));
     }
 }
 
@@ -1040,16 +1038,14 @@ SKH_INLINE bool skh_bloom_is_in(bool has_vectors, const unsigned char *filter,
     const uint64_t start = skh_bloom_block_start(filter_length, hash);
     const unsigned char *const block = filter + start;
     const uint32_t w1 = (uint32_t)hash;
-    const bool b1 =
-        skh_any(has_vectors, ~skh_load32(block) & skh_bit(has_vectors, (w1 * SKH_SALT0) >> 27),
-                ~skh_load32(block + 4) & skh_bit(has_vectors, (w1 * SKH_SALT1) >> 27),
-                ~skh_load32(block + 8) & skh_bit(has_vectors, (w1 * SKH_SALT2) >> 27),
-                ~skh_load32(block + 12) & skh_bit(has_vectors, (w1 * SKH_SALT3) >> 27),
-                ~skh_load32(block + 16) & skh_bit(has_vectors, (w1 * SKH_SALT4) >> 27),
-                ~skh_load32(block + 20) & skh_bit(has_vectors, (w1 * SKH_SALT5) >> 27),
-                ~skh_load32(block + 24) & skh_bit(has_vectors, (w1 * SKH_SALT6) >> 27),
-                ~skh_load32(block + 28) & skh_bit(has_vectors, (w1 * SKH_SALT7) >> 27));
-    return !b1;
+    return !skh_any(has_vectors, ~skh_load32(block) & skh_bit(has_vectors, (w1 * SKH_SALT0) >> 27),
+                    ~skh_load32(block + 4) & skh_bit(has_vectors, (w1 * SKH_SALT1) >> 27),
+                    ~skh_load32(block + 8) & skh_bit(has_vectors, (w1 * SKH_SALT2) >> 27),
+                    ~skh_load32(block + 12) & skh_bit(has_vectors, (w1 * SKH_SALT3) >> 27),
+                    ~skh_load32(block + 16) & skh_bit(has_vectors, (w1 * SKH_SALT4) >> 27),
+                    ~skh_load32(block + 20) & skh_bit(has_vectors, (w1 * SKH_SALT5) >> 27),
+                    ~skh_load32(block + 24) & skh_bit(has_vectors, (w1 * SKH_SALT6) >> 27),
+                    ~skh_load32(block + 28) & skh_bit(has_vectors, (w1 * SKH_SALT7) >> 27));
 }
 
 /* Inserts the values with these hashes. It is not inlined, so columns of keys and of hashes
@@ -1606,8 +1602,7 @@ SKETCH_HASH_API int sketch_bloom_merge(void *into, size_t length, const void *fr
     const unsigned char *const from_bytes = skh_slice(from);
     if (from_length != length || !skh_bloom_is_length(length)) return SKETCH_ERROR_LENGTH;
     for (uint64_t i = 0; i < length; i++) {
-        unsigned char *const p1 = into_bytes + i;
-        p1[0] |= from_bytes[i];
+        into_bytes[i] |= from_bytes[i];
     }
     return SKETCH_OK;
 }

@@ -5,7 +5,7 @@ import itertools
 
 import expression as e
 from expression import comparison, is_number, made, negation, number
-from statements import Assign, Break, For, If, Loop, Return, ends, every, lists_in
+from statements import Assign, Break, Do, For, If, Loop, Return, ends, every, lists_in
 
 LARGEST = 20  # the most parts of an expression that others were joined to
 
@@ -139,17 +139,11 @@ def join(whole):
         for at in range(len(statements) - 2, -1, -1):
             one, next = statements[at:at + 2]
             is_free = isinstance(one, Assign) and sets[one.name] == 1 and used[one.name] == 1 and not one.name.is_certain()
-            if is_free and isinstance(next, (Assign, Return, If)) and fits(one, next):
-                next.replace(lambda name: one.value if name is one.name else None)
-                del statements[at]
-
-
-def fits(one, next):
-    values = next.expressions()
-    if not values or one.name not in e.names_in(values[0]) or e.size_of(values[0]) + e.size_of(one.value) > LARGEST:
-        return False
-    return not one.value.reads or not any(part.reads and part.op == "call" and one.name not in e.names_in(part)
-                                          for part in e.parts(values[0]))
+            for value in next.expressions() if is_free and isinstance(next, (Assign, Do, Return, If)) else []:
+                is_short = e.size_of(value) < 3 or e.size_of(value) + e.size_of(one.value) <= LARGEST
+                if one.name in e.names_in(value) and is_short:
+                    next.replace(lambda name: one.value if name is one.name else None)
+                    del statements[at]
 
 
 def counts(statements, whole):

@@ -5,21 +5,17 @@ import re
 
 import expression as e
 from expression import FIELDS, Pointer
-from statements import Assign, Do, For, every
+from statements import Assign, For, every
 
 OWN = "its own value before"
 LETTERS = {"bool": "b", "uint8_t": "byte", "uint16_t": "w", "uint32_t": "w", "uint64_t": "x", "skh_uint128": "y"}
 
 
 def hint_from_use(statements, program):
-    """A value that is passed on has the name of the parameter; one that is stored to a field, or read from one, that of it."""
+    """A value that is passed on has the name of the parameter, and one that is read from a field that of it."""
     for statement in every(statements):
         if isinstance(statement, Assign) and statement.value.op == "arrow":
             statement.name.hint(3, statement.value.args[1])
-        if isinstance(statement, Do) and statement.value.op == "=":
-            target, value = statement.value.args
-            if target.op == "arrow" and value.op == "name":
-                value.args[0].hint(3, target.args[1])
         for value in statement.expressions():
             for each in e.parts(value):
                 if each.op == "call" and each.args[0] in program.parameter_names:
@@ -92,8 +88,11 @@ def of_many(statement):
 
 def hint_arguments(call, names):
     for text, value in zip(names, call.args[1:]):
+        rank = 5 if value.op == "name" else 7
+        while value.op == "+":
+            value = value.args[0]
         if value.op == "name" and text:
-            value.args[0].hint(5, text)
+            value.args[0].hint(rank, text)
 
 
 def hint_loops(statements, source):

@@ -248,15 +248,13 @@ class Values:
         self.values[step.result] = made("place", kind, e.name(variable), None, 0)
 
     def pointer(self, step, label):
-        value = self.moved(step)
-        base, symbolic, constant = value.args
-        is_plain = symbolic is None and base.op in ("name", "arrow")
-        users = self.users[step.result]
-        is_once = len(users) == 1 and self.loop_of[users[0][1]] == self.loop_of[label]
-        if is_plain or is_once or value.type.kind in ("pairs", "u32", "u64") and e.size_of(symbolic) < 6:
-            self.values[step.result] = value
-        else:
-            self.values[step.result] = self.named(value)
+        value, users = self.moved(step), self.users[step.result]
+        base, symbolic, _ = value.args
+        is_short = symbolic is None and base.op in ("name", "arrow")
+        is_short = is_short or len(users) == 1 and self.loop_of[users[0][1]] == self.loop_of[label]
+        is_short = is_short or value.type.kind in ("pairs", "u32", "u64") and e.size_of(symbolic) < 6
+        is_short = is_short or all(user.operation in ("load", "store") and user.type == "i8" for user, _ in users)
+        self.values[step.result] = value if is_short else self.named(value)
 
     def store_step(self, step):
         value, place = map(self.value, step.operands)
