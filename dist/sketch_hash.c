@@ -360,16 +360,16 @@ SKH_INLINE struct skh_result skh_check_offset32(uint64_t bytes_length, const uin
 SKH_INLINE struct skh_result skh_check_offsets32(uint64_t bytes_length, const uint32_t *offsets,
                                                  uint64_t offsets_count, uint64_t keys) {
     if (keys == 0 && offsets_count == 0) return skh_ok(0);
-    uint64_t last1 = 0;
+    uint64_t last = 0;
     for (uint64_t i = 0; i < keys; i++) {
-        const struct skh_result last2 =
-            skh_check_offset32(bytes_length, offsets, offsets_count, i, last1);
-        if (last2.is_error) return skh_error(last2.value);
-        last1 = last2.value;
+        const struct skh_result result1 =
+            skh_check_offset32(bytes_length, offsets, offsets_count, i, last);
+        if (result1.is_error) return skh_error(result1.value);
+        last = result1.value;
     }
-    const struct skh_result result =
-        skh_check_offset32(bytes_length, offsets, offsets_count, keys, last1);
-    if (result.is_error) return skh_error(result.value);
+    const struct skh_result result2 =
+        skh_check_offset32(bytes_length, offsets, offsets_count, keys, last);
+    if (result2.is_error) return skh_error(result2.value);
     return skh_ok(0);
 }
 
@@ -388,16 +388,16 @@ SKH_INLINE struct skh_result skh_check_offset64(uint64_t bytes_length, const uin
 SKH_INLINE struct skh_result skh_check_offsets64(uint64_t bytes_length, const uint64_t *offsets,
                                                  uint64_t offsets_count, uint64_t keys) {
     if (keys == 0 && offsets_count == 0) return skh_ok(0);
-    uint64_t last1 = 0;
+    uint64_t last = 0;
     for (uint64_t i = 0; i < keys; i++) {
-        const struct skh_result last2 =
-            skh_check_offset64(bytes_length, offsets, offsets_count, i, last1);
-        if (last2.is_error) return skh_error(last2.value);
-        last1 = last2.value;
+        const struct skh_result result1 =
+            skh_check_offset64(bytes_length, offsets, offsets_count, i, last);
+        if (result1.is_error) return skh_error(result1.value);
+        last = result1.value;
     }
-    const struct skh_result result =
-        skh_check_offset64(bytes_length, offsets, offsets_count, keys, last1);
-    if (result.is_error) return skh_error(result.value);
+    const struct skh_result result2 =
+        skh_check_offset64(bytes_length, offsets, offsets_count, keys, last);
+    if (result2.is_error) return skh_error(result2.value);
     return skh_ok(0);
 }
 
@@ -1109,12 +1109,12 @@ static void skh_bloom_fold_blocks(unsigned char *filter, uint64_t filter_length)
  * folded filter. */
 static uint64_t skh_bloom_found_by_union(const unsigned char *filter, uint64_t k) {
     const unsigned char *const p1 = filter + k * 64;
-    uint64_t x1 = 1;
+    uint64_t found = 1;
     for (uint64_t w = 0; w < 8; w++) {
         const unsigned char *const p2 = p1 + w * 4;
-        x1 *= skh_ones32(skh_load32(p2 + 32) | skh_load32(p2));
+        found *= skh_ones32(skh_load32(p2 + 32) | skh_load32(p2));
     }
-    return x1;
+    return found;
 }
 
 /* Whether a filter has the rate of one in `one_in` once it is folded. */
@@ -1238,9 +1238,9 @@ SKETCH_HASH_API uint64_t sketch_xxh64_digest(const sketch_xxh64_state_t *state) 
  * sketch_murmur3_x64_128_bytes. */
 SKETCH_HASH_API void sketch_murmur3_x64_128(const void *input, size_t length, uint64_t seed,
                                             uint64_t hash[2]) {
-    const struct skh_pair pair = skh_murmur3_hash(skh_slice(input), length, seed);
-    hash[0] = pair.first;
-    hash[1] = pair.second;
+    const struct skh_pair h = skh_murmur3_hash(skh_slice(input), length, seed);
+    hash[0] = h.first;
+    hash[1] = h.second;
 }
 
 /* Starts a state with a seed, and no bytes. */
@@ -1284,9 +1284,9 @@ SKETCH_HASH_API void sketch_murmur3_x64_128_bytes(const uint64_t hash[2], unsign
 SKETCH_HASH_API int sketch_xxh64_each32(const void *input, size_t length, const uint32_t *offsets,
                                         size_t offset_count, uint64_t seed, uint64_t *out,
                                         size_t count, size_t *wrong_offset) {
-    const struct skh_result result =
+    const struct skh_result hashed =
         skh_xxh64_hash_each32(skh_slice(input), length, offsets, offset_count, seed, out, count);
-    return skh_report_offset(result.is_error, result.value, wrong_offset);
+    return skh_report_offset(hashed.is_error, hashed.value, wrong_offset);
 }
 
 /* Writes XXH64 of key i to out[i], for each i below `count`. The offsets have 64 bits. Returns 0
@@ -1294,9 +1294,9 @@ SKETCH_HASH_API int sketch_xxh64_each32(const void *input, size_t length, const 
 SKETCH_HASH_API int sketch_xxh64_each64(const void *input, size_t length, const uint64_t *offsets,
                                         size_t offset_count, uint64_t seed, uint64_t *out,
                                         size_t count, size_t *wrong_offset) {
-    const struct skh_result result =
+    const struct skh_result hashed =
         skh_xxh64_hash_each64(skh_slice(input), length, offsets, offset_count, seed, out, count);
-    return skh_report_offset(result.is_error, result.value, wrong_offset);
+    return skh_report_offset(hashed.is_error, hashed.value, wrong_offset);
 }
 
 /* Writes sketch_xxh64_u64 of values[i] to out[i], for each i below `count`. Returns 0, or
@@ -1313,9 +1313,9 @@ SKETCH_HASH_API int sketch_murmur3_x64_128_each32(const void *input, size_t leng
                                                   const uint32_t *offsets, size_t offset_count,
                                                   uint64_t seed, uint64_t (*out)[2], size_t count,
                                                   size_t *wrong_offset) {
-    const struct skh_result result =
+    const struct skh_result hashed =
         skh_murmur3_hash_each32(skh_slice(input), length, offsets, offset_count, seed, out, count);
-    return skh_report_offset(result.is_error, result.value, wrong_offset);
+    return skh_report_offset(hashed.is_error, hashed.value, wrong_offset);
 }
 
 /* Writes MurmurHash3_x64_128 of key i to out[i], for each i below `count`. The offsets have 64
@@ -1324,9 +1324,9 @@ SKETCH_HASH_API int sketch_murmur3_x64_128_each64(const void *input, size_t leng
                                                   const uint64_t *offsets, size_t offset_count,
                                                   uint64_t seed, uint64_t (*out)[2], size_t count,
                                                   size_t *wrong_offset) {
-    const struct skh_result result =
+    const struct skh_result hashed =
         skh_murmur3_hash_each64(skh_slice(input), length, offsets, offset_count, seed, out, count);
-    return skh_report_offset(result.is_error, result.value, wrong_offset);
+    return skh_report_offset(hashed.is_error, hashed.value, wrong_offset);
 }
 
 /* Returns how many bytes the smallest filter has whose false positive rate is at most one in
@@ -1588,9 +1588,11 @@ SKH_CHOOSE(SKETCH_HASH_API, int, return, sketch_bloom_contains_each_u64,
 SKETCH_HASH_API int sketch_bloom_contains_each_hash(const void *bits, size_t length,
                                                     const uint64_t *hashes, size_t hash_count,
                                                     unsigned char *found, size_t count) {
+    const unsigned char *const filter = skh_slice(bits);
+    unsigned char *const found_bytes = skh_slice(found);
     if (!skh_bloom_is_length(length)) return SKETCH_ERROR_LENGTH;
     if (hash_count < count) return SKETCH_ERROR_COUNT;
-    skh_bloom_find_hashes(skh_slice(bits), length, hashes, count, skh_slice(found), 0);
+    skh_bloom_find_hashes(filter, length, hashes, count, found_bytes, 0);
     return SKETCH_OK;
 }
 

@@ -67,7 +67,7 @@ class Printer:
         lines = [*self.array_lines(body.arrays), *self.requirements(function, parameters),
                  *text.Text(self.writer, statements).lines(statements)]
         if declared:
-            head = ", ".join(each for _, each in declared.parameters) or "void"
+            head = declared.parameters
         else:
             head = ", ".join(text.declared(each.type, each.text) for each in parameters)
         about = textwrap.fill(declared.about if declared else function.source.about, WIDTH - 3, initial_indent="/* ",
@@ -79,9 +79,8 @@ class Printer:
         """What `requires` says of the numbers that a function is given. One that is inlined has it from its caller."""
         if not function.is_internal or function.source.inline != "never":
             return
-        every = keep.parameters_in_c(function.source, self.sources.structs)
-        for own, variable in zip(function.parameters, parameters):
-            least, most = function.source.ranges.get(every[int(own.token[2:])][2], (0, None))
+        for (_, _, number), variable in zip(self.program.present(function), parameters):
+            least, most = function.source.ranges.get(number, (0, None))
             bounds = [f"{variable.text} >= {least}"] * (least > 0) + [f"{variable.text} <= {most}"] * (most is not None)
             if bounds:
                 yield f"SKH_REQUIRES({' && '.join(bounds)});"

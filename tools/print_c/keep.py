@@ -43,7 +43,7 @@ def parameters_in_c(source, states):
             found += [(name, type, None)] if is_array else [(name, type, None), (count, "usize", f"length {name}")]
         elif EITHER.fullmatch(type):
             found += [("is_error" if type[0] == "R" else "is_some", "bool", None), (name, "usize", None)]
-        elif type == "&mut usize" or name == "self" and source.path.split("::")[-2] in states:
+        elif re.fullmatch("&mut (usize|u64)", type) or type.split()[-1].strip("&") in states:
             found.append((name, type, None))
         else:
             return None

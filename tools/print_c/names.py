@@ -31,8 +31,6 @@ SET = re.compile(r"(?<!\w)(let (?:mut )?)?(\w+)(?:: [^=;{}]+)? ([-+*/%|&^]|<<|>>
 
 def hint_from_source(statements, parameters, source, program):
     """A value has the name that the source gives to one of the same names and calls, if each is the only such one."""
-    if not source:
-        return
     sets = SET.findall(source.body)
     known = {plain(each.text) for each in parameters} | {name for _, name, _, _ in sets} | set(program.short.values())
     known |= {*re.findall(r"for (\w+) in", source.body)}
@@ -48,7 +46,7 @@ def hint_from_source(statements, parameters, source, program):
             if isinstance(each, Assign):
                 found[frozenset(words_in(each, program.short))].add(each.name)
         for words, names in found.items():
-            if words and None not in words and len(names) == len(named[words]) == 1:
+            if None not in words and len(names) == len(named[words]) == 1:
                 (name,), (text,) = names, named[words]
                 name.hint(2, text)
 
@@ -98,7 +96,7 @@ def hint_arguments(call, names):
 def hint_loops(statements, source):
     """Names of loops: the source's, if it has as many, and else i, j, k."""
     loops = [each for each in every(statements) if isinstance(each, For)]
-    known = re.findall(r"\bfor (\w+) in [^{\n]*\.\.", source.body) if source else []
+    known = re.findall(r"\bfor (\w+) in [^{\n]*\.\.", source.body)
     for at, loop in enumerate(loops):
         depth = sum(loop in [*every(other.body)] for other in loops)
         loop.name.hint(2, known[at] if len(known) == len(loops) else "ijk"[depth])

@@ -33,8 +33,6 @@ def split_switch(function, label):
 
 def rename_source(function, target, old, new):
     """Where a phi has a value from one block, it has it from another."""
-    if old == new:
-        return
     for at, step in enumerate(function.blocks[target]):
         if step.operation == "phi":
             function.blocks[target][at] = step._replace(more=[new if each == old else each for each in step.more])
@@ -48,7 +46,7 @@ def repeat_returns(function):
     for label in list(function.blocks):
         block, sources = function.blocks[label], before[label]
         work = [step.operation for step in block if step.operation not in ("phi", "ret")]
-        if len(sources) < 2 or block[-1].operation != "ret" or not CHEAP.issuperset(work) or len(work) > 4:
+        if len(sources) < 2 or block[-1].operation != "ret" or not CHEAP.issuperset(work):
             continue
         for source in sources:
             last = function.blocks[source][-1]

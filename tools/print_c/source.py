@@ -36,11 +36,11 @@ def split(text):
     return [part.strip() for part in parts if part.strip()]
 
 
-def parameters_of(text):
+def parameters_of(text, owner):
     found = []
     for part in split(text):
-        name, _, type = part.partition(":")
-        found.append((name.strip().removeprefix("mut "), type.strip()) if type else ("self", part))
+        name, _, type = part.removeprefix("mut ").partition(":")
+        found.append((name, type.strip()) if type else ("state", part.replace("self", owner or "")))
     return found
 
 
@@ -96,13 +96,13 @@ class Sources:
         body = re.sub(r"//[^\n]*", "", text[brace.end() - 2:closing(text, brace.end() - 2)]) if brace else ""
         inline = re.search(r"#\[inline\((\w+)\)\]", item["about"])
         path = "::".join([*module, *([owner] if owner else []), item["name"]])
-        parameters = parameters_of(" ".join(text[item.end():end].split()))
+        parameters = parameters_of(" ".join(text[item.end():end].split()), owner)
         found = Source(path, parameters, result[1].strip() if result else "()", paragraph(item["about"]),
                        inline[1] if inline else "", self.ranges(clauses), body, bool(item["exported"]))
         if owner:
             self.methods[owner, item["name"]] = found
         else:
-            self.by_path[path] = found
+            self.by_path[item["name"] if found.is_exported else path] = found
 
     def ranges(self, clauses):
         """What `requires` says of one parameter and a number."""

@@ -1,7 +1,6 @@
 """The instructions of a block as expressions and statements. A value that is used once stands where it is used, one that is
 used more often gets a name."""
 import collections
-import itertools
 
 import expression as e
 from expression import (TYPES, WIDE, Name, Pointer, State, binary, call, cast, comparison, made, negation, number,
@@ -30,23 +29,14 @@ class Values:
         self.values, self.arrays = {}, []
         self.made = {step.result: step for step in function.steps() if step.result}
         self.find_users()
-        self.loop_of = {}
-        for label in self.flow.order:
-            around = [head for head, body in self.flow.loops.items() if label in body]
-            self.loop_of[label] = max(around, key=self.flow.place.get, default=None)
 
     def find_users(self):
         """Of each value the instructions that use it, each with the block in which it must be known."""
         self.users = collections.defaultdict(list)
         for label in self.flow.order:
             for step in self.blocks[label]:
-                operands, places = step.operands, itertools.repeat(label)
-                if step.operation == "call" and step.more.startswith("llvm.fshl"):
-                    operands = operands[1:]  # a rotation, whose first two are one
-                if step.operation == "phi":
-                    places = step.more
-                for value, place in zip(operands, places):
-                    self.users[value.token].append((step, place))
+                for at, value in enumerate(step.operands):
+                    self.users[value.token].append((step, step.more[at] if step.operation == "phi" else label))
 
     # ---- operands
 
@@ -66,7 +56,7 @@ class Values:
         return number(n, TYPES[type])
 
     def constant(self, operand):
-        return int(operand.token) if isinstance(operand.token, str) and operand.token.lstrip("-").isdigit() else None
+        return int(operand.token) if operand.token.lstrip("-").isdigit() else None
 
     # ---- which values get names
 
@@ -76,14 +66,8 @@ class Values:
         self.values[step.result] = value if is_small or self.is_short(value, step, label) else self.named(value)
 
     def is_short(self, value, step, label):
-        """Whether it needs no name: it has one, or it can stand where it is used."""
-        if value.op in ("name", "number", "text", "arrow") and not value.reads:
-            return True
-        users = self.users[step.result]
-        if len(users) != 1 or e.size_of(value) > LARGEST:
-            return False
-        ((_, place),) = users
-        return place == label or not value.reads and self.loop_of[place] == self.loop_of[label]
+        """Whether it needs no name, since it can stand where it is used."""
+        return [place for _, place in self.users[step.result]] == [label] and e.size_of(value) <= LARGEST
 
     def named(self, value):
         """A name for a value, which is written first."""
@@ -100,7 +84,7 @@ class Values:
     def before_a_write(self, written=e.ANYWHERE, value=None):
         """What was read for a later statement is read now, if it may be written; and so is the value that is written then."""
         late = [token for token in self.pending if not all(is_apart(written, each) for each in self.values[token].reads)]
-        if late and value and value.reads:
+        if late and value:
             value = self.named(value)
         for token in late:
             self.values[token] = self.named(self.values[token])
@@ -120,7 +104,7 @@ class Values:
         kind = place.type.kind
         if kind == "pairs" and symbolic is not None:
             base, symbolic, kind = made("index", place.type, base, divided(symbolic, 16)), None, "u64"
-        unit = 1 if isinstance(kind, State) else UNITS.get(kind, 1)
+        unit = UNITS.get(kind, 1)
         if constant % unit:
             raise Unknown(f"print_c does not know a part of a number in {self.function.name}")
         found = base if symbolic is None else made("+", place.type, base, divided(symbolic, unit))
@@ -137,7 +121,7 @@ class Values:
             slice = call("skh_slice", base.type, start) if base.type.kind == "bytes" else start
             return base._replace(args=(slice, None, 0))
         if constant is not None:
-            return base._replace(args=(start, symbolic, before + constant))
+            return self.in_bytes(base._replace(args=(start, symbolic, before + constant)))
         if symbolic is not None or before:
             base = self.values[step.operands[0].token] = self.named(base)
             start, symbolic, before = base.args
@@ -150,8 +134,8 @@ class Values:
         if isinstance(kind, State):  # a state
             is_field = type == "i64" and constant in kind.fields
             return made("arrow", TYPES[type], base, kind.fields[constant]) if is_field else None
-        if kind == "size" or kind == "u64" and symbolic is None and constant == 0 and base.args[0].is_parameter:
-            return made("deref", TYPES[type], base)
+        if kind in ("size", "number"):
+            return made("deref", "size_t" if kind == "size" else TYPES[type], base)
         if kind == "words" and type == "i64":
             return made("index", TYPES[type], base, number(constant // 8))
         if type == "i8":
@@ -178,19 +162,15 @@ class Values:
         return made("place", waiting.type, waiting, symbolic, constant - kind.end)
 
     def load(self, type, place):
-        place = self.in_bytes(place)
         found = self.target(place, type)
         if found is None:
             found = call(self.function_for(place, "load", type), TYPES[type], self.address(place))
         return found._replace(reads=found.reads | {self.span(place, type)})
 
     def store(self, type, place, value):
-        place = self.in_bytes(place)
         target = self.target(place, type)
         if target is not None:
-            if place.type.kind == "size":
-                value = cast("size_t", value)
-            return Do(made("=", None, target, cast("uint8_t", value) if type == "i8" else value))
+            return Do(made("=", None, target, cast(target.type, value)))
         return Do(call(self.function_for(place, "store", type), None, self.address(place), value))
 
     # ---- statements
@@ -251,14 +231,14 @@ class Values:
         value, users = self.moved(step), self.users[step.result]
         base, symbolic, _ = value.args
         is_short = symbolic is None and base.op in ("name", "arrow")
-        is_short = is_short or len(users) == 1 and self.loop_of[users[0][1]] == self.loop_of[label]
+        is_short = is_short or [place for _, place in users] == [label]
         is_short = is_short or value.type.kind in ("pairs", "u32", "u64") and e.size_of(symbolic) < 6
         is_short = is_short or all(user.operation in ("load", "store") and user.type == "i8" for user, _ in users)
         self.values[step.result] = value if is_short else self.named(value)
 
     def store_step(self, step):
         value, place = map(self.value, step.operands)
-        value = self.before_a_write(self.span(self.in_bytes(place), step.type), value)
+        value = self.before_a_write(self.span(place, step.type), value)
         self.out.append(self.store(step.type, place, value))
 
     def move(self, step):
@@ -266,27 +246,22 @@ class Values:
         name = "memset" if "memset" in step.more else "memmove" if "memmove" in step.more else "memcpy"
         to, what, count = (self.value(each) for each in step.operands[:3])
         self.before_a_write()
-        to, state = self.in_bytes(to), to.type.kind
-        if name == "memset" and isinstance(state, State) and isinstance(to.type.kind, State):
+        while isinstance(to.type.kind, State) and e.is_number(what, 0):  # the numbers before the bytes
+            self.out.append(self.store("i64", to, number(0)))
             base, _, at = to.args
-            end = at + count.args[0]
-            while at < state.end:
-                self.out.append(self.store("i64", to._replace(args=(base, None, at)), number(0)))
-                at += 8
-            to, count = self.in_bytes(to._replace(args=(base, None, at))), number(end - at)
-        if name != "memset":
-            what = self.address(self.in_bytes(what))
-        self.out.append(Do(call(name, None, self.address(to), what, count)))
+            to, count = self.in_bytes(to._replace(args=(base, None, at + 8))), number(count.args[0] - 8)
+        self.out.append(Do(call(name, None, self.address(to), self.address(what) if what.op == "place" else what, count)))
 
     def call(self, step, label):
         callee = self.program.functions[step.more]
         if callee.writes:
             self.before_a_write()
-        kinds = [self.program.kind(callee, own.token) if own.type == "ptr" else None for own in callee.parameters]
         name = self.program.names[step.more]
-        for operand, text in zip(step.operands, self.program.parameter_names[name][self.program.has_vectors(step.more):]):
-            self.set_apart(operand, name, text)
-        arguments = [e.uncast(self.argument(each, kind)) for each, kind in zip(step.operands, kinds)]
+        for token, value in [(each.token, self.values.get(each.token)) for each in step.operands]:
+            if value and any(each.op == "call" and each.args[0] == name for each in e.parts(value)):
+                self.values[token] = self.named(value)  # no call within a call of the same function
+        values = map(self.value, step.operands)
+        arguments = [self.address(each) if each.op == "place" else e.uncast(each) for each in values]
         if self.program.has_vectors(step.more):
             arguments.insert(0, VECTORS)
         type = struct_of(callee.source) if isinstance(step.type, Struct) else self.program.result_type(callee)
@@ -301,21 +276,6 @@ class Values:
             self.values[step.result] = self.named(done)
             if bound:
                 self.out[-1].name.hint(1, bound)
-
-    def set_apart(self, operand, name, text):
-        """A call within a call of the same function gets a name."""
-        value = self.values.get(operand.token) if isinstance(operand.token, str) else None
-        if isinstance(value, e.Expression) and any(each.op == "call" and each.args[0] == name for each in e.parts(value)):
-            self.values[operand.token] = found = self.named(value)
-            found.args[0].hint(4, text)
-
-    def argument(self, operand, kind):
-        value = self.value(operand)
-        if value.op != "place":
-            return value
-        if kind and isinstance(kind.kind, State):
-            return self.address(value)
-        return self.address(self.in_bytes(value))
 
     # ---- values that an instruction gives
 
