@@ -21,9 +21,9 @@
 #error "sketch_hash needs bytes of 8 bits"
 #endif
 
-/* SKH_REQUIRES says what all callers ensure, as is proved: without it keys of 32 to 63 bytes take
- * 1.1 to 1.2 times as long with gcc. SKH_EXPECT says what mostly holds: without it columns of short
- * keys take 1.1 to 1.4 times as long. */
+/* SKH_REQUIRES says what all callers ensure: without it keys of 32 to 63 bytes take 1.1 to 1.2 times
+ * as long with gcc. SKH_EXPECT says what mostly holds: without it columns of short keys take 1.1 to
+ * 1.4 times as long. */
 #if defined __GNUC__ || defined __clang__
 #define SKH_NOINLINE __attribute__((noinline))
 #define SKH_INLINE static inline __attribute__((always_inline))
@@ -576,6 +576,7 @@ SKH_INLINE void skh_xxh64_write_within(sketch_xxh64_state_t *state, const unsign
  * nothing. */
 static SKH_NOINLINE void skh_xxh64_write_across(sketch_xxh64_state_t *state,
                                                 const unsigned char *bytes, uint64_t bytes_length) {
+    SKH_REQUIRES(bytes_length >= 1);
     const uint64_t count = skh_xxh64_waiting_count(state);
     state->total += bytes_length;
     uint64_t v1 = state->v1;
@@ -712,6 +713,7 @@ SKH_INLINE bool skh_xxh64_hash_each_u64(const uint64_t *input, uint64_t input_co
  * `out` has places. The caller must have checked the offsets, as `check_offsets` does. */
 static SKH_NOINLINE void skh_xxh64_hash_run32(const unsigned char *bytes, const uint32_t *offsets,
                                               uint64_t start, uint64_t *out, uint64_t out_count) {
+    SKH_REQUIRES(out_count <= 32);
     for (uint64_t i = 0; i < out_count; i++) {
         const uint64_t offset = skh_get32(offsets + i + start);
         skh_set64(out + i,
@@ -723,6 +725,7 @@ static SKH_NOINLINE void skh_xxh64_hash_run32(const unsigned char *bytes, const 
  * `out` has places. The caller must have checked the offsets, as `check_offsets` does. */
 static SKH_NOINLINE void skh_xxh64_hash_run64(const unsigned char *bytes, const uint64_t *offsets,
                                               uint64_t start, uint64_t *out, uint64_t out_count) {
+    SKH_REQUIRES(out_count <= 32);
     for (uint64_t i = 0; i < out_count; i++) {
         const uint64_t offset = skh_get64(offsets + i + start);
         skh_set64(out + i,

@@ -12,6 +12,7 @@ statements, copies.py joins names, loops.py tidies, names.py gives names, text.p
 """
 import collections
 import pathlib
+import re
 import sys
 import textwrap
 
@@ -28,7 +29,7 @@ from module import Module
 from program import PARTS, Program, part_of
 from reshape import reshape
 from source import Sources
-from values import VECTORS
+from vectors import VECTORS
 
 WIDTH = 100
 
@@ -37,11 +38,10 @@ class Printer:
     def __init__(self, module, header, sources):
         self.program, self.sources = Program(module, header, sources), sources
         self.writer = Writer(sources.named, sources.sums)
-        self.program.parameter_names = {}
-        for function in module.functions:
-            known = [name.text for name in self.program.parameters(function)]
-            vectors = [None] if self.program.has_vectors(function.name) else []
-            self.program.parameter_names[self.program.names[function.name]] = vectors + known
+        self.constants = {text: f"#define {text} 0x{value:x}u" for value, text in sources.named.items()}
+        for name, data in module.constants.items():
+            text = self.program.names[name]
+            self.constants[text] = f"static const unsigned char {text}[] = {{{', '.join(map(str, data))}}};"
 
     def function(self, function):
         program, name = self.program, self.program.names[function.name]
@@ -76,12 +76,10 @@ class Printer:
                           *self.with_head(function, name, head, [each.text for each in parameters], lines), ""])
 
     def requirements(self, function, parameters):
-        """What `requires` says of the numbers that a function is given. One that is inlined has it from its caller."""
-        if not function.is_internal or function.source.inline != "never":
-            return
-        for (_, _, number), variable in zip(self.program.present(function), parameters):
-            least, most = function.source.ranges.get(number, (0, None))
-            bounds = [f"{variable.text} >= {least}"] * (least > 0) + [f"{variable.text} <= {most}"] * (most is not None)
+        """What all callers ensure of the numbers that a function is given. One that is inlined has it from its caller."""
+        for own, variable in zip(function.parameters, parameters):
+            least, end = function.ranges.get(own.token, (0, 0)) if function.source.inline == "never" else (0, 0)
+            bounds = [f"{variable.text} >= {least}"] * (least > 0) + [f"{variable.text} <= {end - 1}"] * (end > 0)
             if bounds:
                 yield f"SKH_REQUIRES({' && '.join(bounds)});"
 
@@ -122,23 +120,12 @@ class Printer:
             visit(function.name)
         return [*((title, parts[title]) for _, _, title in PARTS if parts[title]), ("Calls", calls)]
 
-    def constants(self, functions, done):
-        """What the source gives names to, and these functions use first."""
-        for value in dict.fromkeys(self.writer.used):
-            if value not in done:
-                yield f"#define {self.sources.named[value]} 0x{value:x}u"
-        for name, data in self.program.module.constants.items():
-            if name not in done and any(operand.token in (f"@{name}", f'@"{name}"') for function in functions
-                                        for step in function.steps() for operand in step.operands):
-                yield f"static const unsigned char {self.program.names[name]}[] = {{{', '.join(map(str, data))}}};"
-                done.add(name)
-        done.update(self.writer.used)
-
     def text(self, head):
-        out, done = [head], set()
+        out = [head]
         for title, group in self.in_order():
             functions = [self.function(function) for function in group]
-            constants = [*self.constants(group, done)]
+            words = re.findall(r"\w+", "\n".join(functions))
+            constants = [self.constants.pop(word) for word in dict.fromkeys(words) if word in self.constants]
             out += [f"/* ---- {title} */\n", *constants, *([""] if constants else []), *functions]
         return "\n".join(out)
 

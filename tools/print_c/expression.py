@@ -190,24 +190,20 @@ def size_of(value):
 
 class Writer:
     """Writes expressions. `named` maps a number to the name that the source gives it, and `sums` one to how the source
-    computes it. `used` are the numbers whose names it wrote."""
+    computes it."""
 
     def __init__(self, named, sums):
-        self.named, self.sums, self.used = named, sums, []
+        self.named, self.sums = named, sums
 
     def number(self, value, type):
         if type == "bool":
             return "true" if value else "false"
         width = WIDTHS[type]
-        if value in self.named:
-            self.used.append(value)
-            return self.named[value]
-        if value in self.sums:
-            return self.sums[value]
+        if value in self.named or value in self.sums:
+            return self.named.get(value) or self.sums[value]
         for one, name in self.named.items():
             rest = value - one & (1 << width) - 1
             if width == 64 and (rest < 64 or rest in self.named):
-                self.used += [one] + [rest] * (rest in self.named)
                 return f"{name} + {self.named.get(rest, rest)}"
         if width == 64 and value == (1 << 64) - 1:
             return "UINT64_MAX"

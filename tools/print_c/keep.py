@@ -31,20 +31,19 @@ def run_clang(clang, arguments, module):
 
 
 def parameters_in_c(source, states):
-    """A function's parameters in the module: a name, a type of the source, and what a clause calls it if it is a number. Or
-    None if C has no such head."""
+    """A function's parameters in the module, each with its name and a type of the source, or None if C has no such head."""
     found = []
     for name, type in source.parameters:
         if NUMBER.fullmatch(type):
-            found.append((name, type, name))
+            found.append((name, type))
         elif re.match(r"&(mut )?\[", type):
             is_array = re.fullmatch(r"&(mut )?\[[^;]*; \w+\]", type)
             count = name + ("_length" if type.endswith("[u8]") else "_count")
-            found += [(name, type, None)] if is_array else [(name, type, None), (count, "usize", f"length {name}")]
+            found += [(name, type)] if is_array else [(name, type), (count, "usize")]
         elif EITHER.fullmatch(type):
-            found += [("is_error" if type[0] == "R" else "is_some", "bool", None), (name, "usize", None)]
+            found += [("is_error" if type[0] == "R" else "is_some", "bool"), (name, "usize")]
         elif re.fullmatch("&mut (usize|u64)", type) or type.split()[-1].strip("&") in states:
-            found.append((name, type, None))
+            found.append((name, type))
         else:
             return None
     return found
@@ -65,19 +64,7 @@ def kept_in(module, sources):
     return found
 
 
-def with_ranges(source, parameters, states):
-    """The parameters in the module, with what `requires` says of them."""
-    parts = parameters.split(", ")
-    for at, (_, _, number) in enumerate(parameters_in_c(source, states)):
-        least, most = source.ranges.get(number, (0, None))
-        type = parts[at].split()[0]
-        if number and (least, most) != (0, None) and type != "i1":
-            limit = 0 if most is None else most + 1
-            parts[at] = parts[at].replace(type, f"{type} range({type} {least}, {limit})", 1)
-    return ", ".join(parts)
-
-
-def mark(module, kept, states):
+def mark(module, kept):
     """Says in the module which functions stay, and inlines the others."""
 
     def head(found):
@@ -88,7 +75,6 @@ def mark(module, kept, states):
             body = MOVE
         attributes = 'alwaysinline nounwind "target-cpu"="x86-64"'
         if name in kept:
-            parameters = with_ranges(kept[name], parameters, states)
             attributes = f'noinline nounwind "target-cpu"="x86-64" "skh"="{kept[name].inline}"'
         return f"define internal {type}@{name}({parameters}) {attributes} {{\n{body}}}\n"
 
@@ -129,12 +115,12 @@ def inline_at_variables(module, kept):
 def optimize(clang, module, sources):
     """`module` is what the kit's compiler makes. Returns the text of the optimized module."""
     module = run_clang(clang, ["-O2", "-Xclang", "-disable-llvm-passes"], module)
-    kept = kept_in(module, sources)
-    module, before = run_clang(clang, OPTIMIZE, mark(module, kept, sources.structs).encode()), None
-    short = {found[3] for found in DEFINE.finditer(module) if found[3] in kept and kept[found[3]].inline != "never"
-             and is_one_step(found[5])}
-    module = inline(module, short)
+    module = re.sub(r"  call void @llvm\.trap\(\).*\n(?=  unreachable)", "", module)  # none is reached, as is proved
+    kept, before = kept_in(module, sources), None
+    module = mark(module, kept)
     while module != before:
-        module = run_clang(clang, OPTIMIZE, module.encode())
-        before, module = module, inline_at_variables(module, kept)
+        before = run_clang(clang, OPTIMIZE, module.encode())
+        short = {found[3] for found in DEFINE.finditer(before) if found[3] in kept and kept[found[3]].inline != "never"
+                 and is_one_step(found[5])}
+        module = inline_at_variables(inline(before, short), kept)
     return module

@@ -96,7 +96,7 @@ def instruction(text):
 
 class Function:
     """`blocks` maps a label to instructions, in the order of the text; the first is the entry. `reads` and `writes` say what it
-    does with memory."""
+    does with memory. `ranges` maps a parameter to the least number that callers give it, and the first that is too large."""
 
     def __init__(self, head, lines, attributes):
         type, name, parameters = FUNCTION.search(head).groups()
@@ -104,6 +104,8 @@ class Function:
         self.type, self.name, self.parameters = type_of(type), bare(name), operands(parameters)
         memory = re.search(r"memory\(([^)]*)\)", attributes.get(head.strip().rpartition("#")[2], ""))
         self.writes, self.reads = not memory or "write" in memory[1], not memory or memory[1] != "none"
+        ranges = re.findall(r"range\(i\d+ (\d+), (\d+)\)[^,]* (%\w+)", parameters)
+        self.ranges = {token: (int(least), int(end)) for least, end, token in ranges}
         self.blocks, label = {}, "entry"
         for line in lines:
             found = re.match(r'("[^"]*"|[-\w.$]+):', line)

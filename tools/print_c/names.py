@@ -89,39 +89,33 @@ def hint_arguments(call, names):
         rank = 5 if value.op == "name" else 7
         while value.op == "+":
             value = value.args[0]
-        if value.op == "name" and text:
+        if value.op == "name":
             value.args[0].hint(rank, text)
 
 
 def hint_loops(statements, source):
-    """Names of loops: the source's, if it has as many, and else i, j, k."""
+    """Names of loops: the source's, if it has as many, and else i."""
     loops = [each for each in every(statements) if isinstance(each, For)]
     known = re.findall(r"\bfor (\w+) in [^{\n]*\.\.", source.body)
     for at, loop in enumerate(loops):
-        depth = sum(loop in [*every(other.body)] for other in loops)
-        loop.name.hint(2, known[at] if len(known) == len(loops) else "ijk"[depth])
+        loop.name.hint(2, known[at] if len(known) == len(loops) else "i")
 
 
 def give(statements, parameters, arrays, reserved):
     """Gives each name its text."""
-    taken = {each.text for each in parameters} | set(reserved)
     known = {each.text for each in parameters}
-    order = list(dict.fromkeys([*arrays, *(each.name for each in every(statements) if isinstance(each, (Assign, For)))]))
-    order = [name for name in order if not name.is_parameter]
-    wishes = {name: [text for rank, text in sorted(name.hints) if rank < 4 or text not in known] for name in order}
+    taken = known | set(reserved)
+    order = dict.fromkeys([*arrays, *(each.name for each in every(statements) if isinstance(each, (Assign, For)))])
+    wishes = {name: [text for rank, text in sorted(name.hints) if rank < 4 or text not in known]
+              for name in order if not name.is_parameter}
     wanted = collections.Counter(texts[0] for texts in wishes.values() if texts)
-    for name in order:
-        hints, free = wishes[name], None
-        if hints and wanted[hints[0]] > 1 and not isinstance(name.type, Pointer) and len(hints[0]) > 1:
-            free = numbered(hints[0], taken, 1)
-        elif hints:
-            free = next((text for text in hints if text not in taken), None) or numbered(hints[0], taken)
-        if free is None:
-            free = numbered("p" if isinstance(name.type, Pointer) else LETTERS[name.type], taken, 1)
-        name.text = free
-        taken.add(free)
+    for name, texts in wishes.items():
+        first = texts[0] if texts else "p" if isinstance(name.type, Pointer) else LETTERS[name.type]
+        free = next((text for text in texts if text not in taken), None) if wanted[first] < 2 else None
+        name.text = free or numbered(first, taken, 2 if texts and wanted[first] < 2 else 1)
+        taken.add(name.text)
 
 
-def numbered(text, taken, start=2):
+def numbered(text, taken, start):
     text += "_" * text[-1].isdigit()
     return next(f"{text}{number}" for number in itertools.count(start) if f"{text}{number}" not in taken)

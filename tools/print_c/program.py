@@ -6,7 +6,7 @@ import keep
 from expression import TYPES, Name, Pointer, State, struct_of
 from module import Unknown, bare
 from source import closing
-from vectors import OF_VECTORS
+from vectors import OF_VECTORS, VECTORS
 
 # The parts of the text in their order: how the path of a function begins that stands in it, and how its name.
 PARTS = (("sketch_hash::hash::words", "skh_", "Words"),
@@ -65,7 +65,7 @@ class Program:
         """What a pointer points into: what the type of the parameter says from which it is computed, or else how it is used."""
         root = next(self.roots(function, token))
         if (function.name, root) not in self.kinds:
-            types = {own.token: type for own, (_, type, _) in zip(function.parameters, self.present(function))}
+            types = {own.token: type for own, (_, type) in zip(function.parameters, self.present(function))}
             type = types.get(root, "&mut")
             known = [kind for kind, part in KINDS.items() if part in type]
             kind = self.states.get(type.split()[-1].strip("&")) or (known[0] if known else self.kind_in_use(function, root))
@@ -126,6 +126,10 @@ class Program:
         for name, text in wanted.items():
             self.names[name] = text + (self.suffix(name) if counts[text] > 1 else "")
         self.short = {self.names[name]: keep.path_of(name).split("::")[-1] for name in self.functions}
+        self.parameter_names = {}
+        for name, function in self.functions.items():
+            vectors = VECTORS.args if self.has_vectors(name) else ()
+            self.parameter_names[self.names[name]] = [*vectors, *(each.text for each in self.parameters(function))]
         for name, data in self.module.constants.items():
             self.names[name] = "skh_" + self.sources.arrays.get(tuple(data), "bytes")
 
@@ -135,7 +139,7 @@ class Program:
         if number:
             return f"_{number[1]}"
         function = self.functions[name]
-        generic = [own for own, (_, type, _) in zip(function.parameters, self.present(function)) if GENERIC.fullmatch(type)]
+        generic = [own for own, (_, type) in zip(function.parameters, self.present(function)) if GENERIC.fullmatch(type)]
         return self.kind(function, generic[0].token).kind[1:] if generic else ""
 
     def constant(self, token):
@@ -144,7 +148,7 @@ class Program:
     def parameters(self, function):
         """The names of a function's parameters."""
         found, declared = [], self.declared.get(function.name)
-        for at, (own, (name, type, _)) in enumerate(zip(function.parameters, self.present(function))):
+        for at, (own, (name, type)) in enumerate(zip(function.parameters, self.present(function))):
             number = "size_t" if declared and type == "usize" else "bool" if type == "bool" else TYPES.get(own.type)
             kind = self.kind(function, own.token) if own.type == "ptr" else number
             found.append(Name(kind, declared.names[at] if declared else name))

@@ -8,7 +8,7 @@ from expression import (TYPES, WIDE, Name, Pointer, State, binary, call, cast, c
 from flow import Flow
 from module import Struct, Unknown
 from statements import Assign, Do
-from vectors import OF_VECTORS
+from vectors import OF_VECTORS, VECTORS
 
 SIGNS = {"add": "+", "sub": "-", "mul": "*", "udiv": "/", "shl": "<<", "lshr": ">>", "and": "&", "or": "|", "xor": "^"}
 ORDERS = {"eq": "==", "ne": "!=", "ult": "<", "ule": "<=", "ugt": ">", "uge": ">="}
@@ -16,7 +16,6 @@ NUMBERS = {"true": 1, "false": 0, "poison": 0, "zeroinitializer": 0}
 INTRINSICS = {"fshl": "rotate", "umin": "least", "usub.sat": "less", "ctpop": "ones"}
 UNITS = {"u32": 4, "u64": 8, "words": 8, "pairs": 16}
 LARGEST = 14  # the most parts of an expression that stands in another
-VECTORS = e.text("has_vectors", "bool")
 NULL = e.text("NULL", None)
 
 

@@ -1,11 +1,13 @@
 """Replaces each instruction on vectors by one for each of their words, since C has no vectors."""
 import itertools
 
+from expression import text
 from module import Instruction, Operand, Unknown, Vector
 
 ARITHMETIC = {"and", "or", "xor", "add", "sub", "mul", "shl", "lshr"}
 # What head.c does in another way if the processor has vectors: whether any bit of some words is set, and bit n.
 OF_VECTORS = ANY, BIT = "skh_any", "skh_bit"
+VECTORS = text("has_vectors", "bool")  # the parameter that says so
 
 
 def split(function):
