@@ -27,7 +27,7 @@ from body import Body
 from expression import Writer, made
 from module import Module
 from program import PARTS, Program, part_of
-from reshape import reshape
+from reshape import repeat_returns
 from source import Sources
 from vectors import VECTORS
 
@@ -46,7 +46,7 @@ class Printer:
     def function(self, function):
         program, name = self.program, self.program.names[function.name]
         declared = program.declared.get(function.name)
-        parameters = program.parameters(function)
+        parameters = program.parameters[function.name]
         body = Body(function, program)
         for own, variable in zip(function.parameters, parameters):
             kind = variable.type
@@ -135,7 +135,7 @@ def main(clang, module, header, crates):
     module = Module(keep.optimize(clang, pathlib.Path(module).read_bytes(), sources))
     for function in module.functions:
         vectors.split(function)
-        reshape(function)
+        repeat_returns(function)
     head = (pathlib.Path(__file__).parent / "head.c").read_text()
     return Printer(module, pathlib.Path(header).read_text(), sources).text(head)
 

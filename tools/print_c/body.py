@@ -2,7 +2,7 @@
 import collections
 
 import expression as e
-from expression import FIELDS, TYPES, Name, cast, made, negation, struct_of
+from expression import FIELDS, TYPES, Name, cast, comparison, made, negation, struct_of
 from module import Unknown
 from statements import Assign, Break, If, Loop, Return, ends
 from values import Values, as_bool
@@ -56,13 +56,18 @@ class Body(Values):
         last, out = self.blocks[label][-1], self.statements(label)
         if last.operation == "ret":
             return out + [Return(None if last.type == "void" else self.result(last.operands[0]))]
-        if last.operation != "br":
-            raise Unknown(f"print_c does not know {last.operation}")
         if len(self.flow.after[label]) == 1:
             return out + self.go(label, last.more[0], follow, around)
-        condition = self.value(last.operands[0])
-        then, otherwise = (self.go(label, target, follow, around) for target in last.more)
-        return out + branch(condition, then, otherwise)
+        if last.operation == "switch":
+            (asked, *cases), (default, *targets) = map(self.value, last.operands), last.more
+            asked = asked if asked.op == "name" or len(cases) == 1 else self.named(asked)
+            conditions = [comparison("==", asked, case) for case in cases]
+        else:
+            conditions, (*targets, default) = [self.value(last.operands[0])], last.more
+        *arms, code = [self.go(label, target, follow, around) for target in [*targets, default]]
+        for condition, arm in reversed([*zip(conditions, arms)]):
+            code = branch(condition, arm, code)
+        return out + code
 
     def result(self, operand):
         value = self.value(operand)

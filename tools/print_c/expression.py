@@ -24,6 +24,7 @@ LEVELS = [("*", "/"), ("+", "-"), ("<<", ">>"), ("<", "<=", ">", ">="), ("==", "
           ("?:",)]
 LEVEL = {op: 3 + place for place, ops in enumerate(LEVELS) for op in ops}
 ATOM, UNARY = 0, 1
+SIGNS = {"add": "+", "sub": "-", "mul": "*", "udiv": "/", "shl": "<<", "lshr": ">>", "and": "&", "or": "|", "xor": "^"}
 NEGATED = {"==": "!=", "!=": "==", "<": ">=", ">=": "<", ">": "<=", "<=": ">"}
 COMMUTES = {"+", "*", "&", "|", "^", "&&", "||"}
 WIDTHS = {"bool": 1, "uint8_t": 8, "uint16_t": 16, "uint32_t": 32, "uint64_t": 64, "size_t": 64}

@@ -7,7 +7,7 @@ class Flow:
     through. `parent`: the nearest of these. `loops`: for the label of a loop's head, the labels in it."""
 
     def __init__(self, blocks):
-        self.after = {label: list(dict.fromkeys(block[-1].more or [])) for label, block in blocks.items()}
+        self.after = {label: block[-1].more or [] for label, block in blocks.items()}
         self.order = []
         self.visit(next(iter(blocks)), set())
         self.order.reverse()

@@ -15,7 +15,7 @@ OPTIMIZE = ["-O2", "-fno-vectorize", "-fno-slp-vectorize", "-fno-unroll-loops", 
 NUMBER = re.compile(r"u8|u16|u32|u64|usize|i32|bool")
 EITHER = re.compile(r"Option<usize>|Result<(\(\)|usize), usize>")
 DEFINE = re.compile(r'^define (internal )?([^@\n]*)@("[^"]*"|[\w.]+)\(([^\n]*)\)[^()\n]*\{\n((?:(?!\}).*\n)*)\}\n', re.M)
-CALL = re.compile(r'^( *(?:(%[\w.]+) = )?(?:tail )?call [^@\n]*@("[^"]*"|[\w.]+)\()(.*)\)(.*)$', re.M)
+CALL = re.compile(r'^( *(?:%[\w.]+ = )?(?:tail )?call [^@\n]*@("[^"]*"|[\w.]+)\((.*)\)).*$', re.M)
 
 # The standard library's copy of bytes is written for places that overlap, as memmove is.
 MOVE = "  call void @llvm.memmove.p0.p0.i64(ptr %a1, ptr %a0, i64 %a2, i1 false)\n  ret void\n"
@@ -73,10 +73,8 @@ def mark(module, kept):
             return found[0]
         if path_of(name) == "core::ptr::copy_drop::copy_bits":
             body = MOVE
-        attributes = 'alwaysinline nounwind "target-cpu"="x86-64"'
-        if name in kept:
-            attributes = f'noinline nounwind "target-cpu"="x86-64" "skh"="{kept[name].inline}"'
-        return f"define internal {type}@{name}({parameters}) {attributes} {{\n{body}}}\n"
+        inline = "noinline" if name in kept else "alwaysinline"
+        return f'define internal {type}@{name}({parameters}) {inline} nounwind "target-cpu"="x86-64" {{\n{body}}}\n'
 
     return DEFINE.sub(head, module)
 
@@ -88,14 +86,10 @@ def is_one_step(body):
     return len(steps) <= 1 and "call void" not in body
 
 
-def inline(module, names):
-    """Has these functions inlined, which are optimized already: so a rotation stays one."""
-    return DEFINE.sub(lambda found: re.sub(r" #\d+ \{\n", " alwaysinline nounwind {\n", found[0], count=1)
-                      if found[3] in names else found[0], module)
-
-
-def inline_at_variables(module, kept):
-    """Has each call of a function inlined that gets a pointer to a variable, if the source inlines the function."""
+def with_calls_inlined(module, kept):
+    """Has calls inlined of functions of one step, which are optimized already: so a rotation stays one. And each that gets a
+    pointer to a variable, if the source inlines the function."""
+    short = {found[3] for found in DEFINE.finditer(module) if is_one_step(found[5])}
 
     def in_function(found):
         pointers = set(re.findall(r"(%[\w.]+) = alloca", found[5]))
@@ -103,9 +97,10 @@ def inline_at_variables(module, kept):
         pointers |= {place for place, base in places if base in pointers}
 
         def call(line):
-            is_at_variable = line[3] in kept and kept[line[3]].inline == "always" and pointers & set(
-                re.findall(r"ptr[^,]* (%[\w.]+)", line[4]))
-            return f"{line[1]}{line[4]}) alwaysinline" if is_at_variable else line[0]
+            inline = kept[line[2]].inline if line[2] in kept else "never"
+            given = pointers.intersection(re.findall(r"ptr[^,]* (%[\w.]+)", line[3]))
+            is_inlined = inline != "never" and line[2] in short or inline == "always" and given
+            return f"{line[1]} alwaysinline" if is_inlined else line[0]
 
         return found[0].replace(found[5], CALL.sub(call, found[5]))
 
@@ -120,7 +115,5 @@ def optimize(clang, module, sources):
     module = mark(module, kept)
     while module != before:
         before = run_clang(clang, OPTIMIZE, module.encode())
-        short = {found[3] for found in DEFINE.finditer(before) if found[3] in kept and kept[found[3]].inline != "never"
-                 and is_one_step(found[5])}
-        module = inline_at_variables(inline(before, short), kept)
+        module = with_calls_inlined(before, kept)
     return module

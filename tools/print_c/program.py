@@ -4,7 +4,7 @@ import re
 
 import keep
 from expression import TYPES, Name, Pointer, State, struct_of
-from module import Unknown, bare
+from module import Unknown
 from source import closing
 from vectors import OF_VECTORS, VECTORS
 
@@ -31,7 +31,7 @@ def part_of(path):
 
 
 class Program:
-    """`names` and `kinds`: of functions and constants, and of pointers, by function and value."""
+    """`names`, `parameters` and `kinds`: of functions and constants, of functions, and of pointers, by function and value."""
 
     def __init__(self, module, header, sources):
         self.module, self.sources = module, sources
@@ -65,8 +65,7 @@ class Program:
         """What a pointer points into: what the type of the parameter says from which it is computed, or else how it is used."""
         root = next(self.roots(function, token))
         if (function.name, root) not in self.kinds:
-            types = {own.token: type for own, (_, type) in zip(function.parameters, self.present(function))}
-            type = types.get(root, "&mut")
+            type = {own.token: type for own, _, type in self.present(function)}.get(root, "&mut")
             known = [kind for kind, part in KINDS.items() if part in type]
             kind = self.states.get(type.split()[-1].strip("&")) or (known[0] if known else self.kind_in_use(function, root))
             self.kinds[function.name, root] = Pointer(kind, "mut" not in type)
@@ -95,9 +94,9 @@ class Program:
         return "bytes"
 
     def present(self, function):
-        """Of the parameters in C of a function's source those that the module still has."""
+        """The parameters that the module still has, each with its name and its type in the source."""
         every = keep.parameters_in_c(function.source, self.sources.structs)
-        return [every[int(own.token[2:])] for own in function.parameters]
+        return [(own, *every[int(own.token[2:])]) for own in function.parameters]
 
     # ---- functions
 
@@ -126,10 +125,11 @@ class Program:
         for name, text in wanted.items():
             self.names[name] = text + (self.suffix(name) if counts[text] > 1 else "")
         self.short = {self.names[name]: keep.path_of(name).split("::")[-1] for name in self.functions}
+        self.parameters = {name: self.parameters_of(function) for name, function in self.functions.items()}
         self.parameter_names = {}
-        for name, function in self.functions.items():
+        for name, parameters in self.parameters.items():
             vectors = VECTORS.args if self.has_vectors(name) else ()
-            self.parameter_names[self.names[name]] = [*vectors, *(each.text for each in self.parameters(function))]
+            self.parameter_names[self.names[name]] = [*vectors, *(each.text for each in parameters)]
         for name, data in self.module.constants.items():
             self.names[name] = "skh_" + self.sources.arrays.get(tuple(data), "bytes")
 
@@ -138,17 +138,12 @@ class Program:
         number = re.search(r"::<=(\d+)>", name)
         if number:
             return f"_{number[1]}"
-        function = self.functions[name]
-        generic = [own for own, (_, type) in zip(function.parameters, self.present(function)) if GENERIC.fullmatch(type)]
-        return self.kind(function, generic[0].token).kind[1:] if generic else ""
+        generic = [own.token for own, _, type in self.present(self.functions[name]) if GENERIC.fullmatch(type)]
+        return self.kind(self.functions[name], generic[0]).kind[1:] if generic else ""
 
-    def constant(self, token):
-        return self.names[bare(token)]
-
-    def parameters(self, function):
-        """The names of a function's parameters."""
+    def parameters_of(self, function):
         found, declared = [], self.declared.get(function.name)
-        for at, (own, (name, type)) in enumerate(zip(function.parameters, self.present(function))):
+        for at, (own, name, type) in enumerate(self.present(function)):
             number = "size_t" if declared and type == "usize" else "bool" if type == "bool" else TYPES.get(own.type)
             kind = self.kind(function, own.token) if own.type == "ptr" else number
             found.append(Name(kind, declared.names[at] if declared else name))
@@ -176,11 +171,6 @@ class Program:
         calls = [each.result for each in body.function.steps() if each.operation == "call"
                  and keep.path_of(each.more).split("::")[-1] == short]
         return names[calls.index(step.result)] if len(calls) == len(names) else None
-
-    def is_better_negated(self, value, type):
-        width = 64 if type == "uint64_t" else 32
-        negative = (1 << width) - value
-        return value not in self.sources.named and (negative < 1 << 20 or negative in self.sources.named)
 
 
 def stem(text):

@@ -1,41 +1,9 @@
-"""Changes a function's blocks so that its text has no jumps: a block that only returns is repeated for each way to it, and a
-switch becomes branches."""
+"""Changes a function's blocks so that its text has no jumps: a block that only returns is repeated for each way to it."""
 import collections
 
-from module import Instruction, Operand
+from module import Operand
 
 CHEAP = {"insertvalue", "extractvalue", "zext", "sext", "trunc", "freeze", "xor"}
-
-
-def reshape(function):
-    for label in list(function.blocks):
-        split_switch(function, label)
-    repeat_returns(function)
-
-
-def split_switch(function, label):
-    block = function.blocks[label]
-    if block[-1].operation != "switch":
-        return
-    last = block.pop()
-    value, *cases = last.operands
-    default, *targets = last.more
-    here = label
-    for at, (case, target) in enumerate(zip(cases, targets), 1):
-        next = f"{label}.case{at}" if case is not cases[-1] else default
-        test = Instruction(f"%{label}.is{at}", "icmp", "i1", [value, case], "eq")
-        function.blocks[here] = [*(block if here == label else []), test,
-                                 Instruction(None, "br", "i1", [Operand("i1", test.result)], [target, next])]
-        for each in {target, next} - {f"{label}.case{at}"}:
-            rename_source(function, each, label, here)
-        here = next
-
-
-def rename_source(function, target, old, new):
-    """Where a phi has a value from one block, it has it from another."""
-    for at, step in enumerate(function.blocks[target]):
-        if step.operation == "phi":
-            function.blocks[target][at] = step._replace(more=[new if each == old else each for each in step.more])
 
 
 def repeat_returns(function):

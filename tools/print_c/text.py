@@ -46,7 +46,7 @@ def declare(statements, known):
             elif not (isinstance(first, For) and first.name is name):
                 heads.setdefault(name.type, []).append(name)
         for names in heads.values():
-            home.insert(0, Declare(names))
+            home.insert(0, Declare(tuple(names)))
 
 
 class Text:

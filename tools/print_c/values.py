@@ -3,14 +3,13 @@ used more often gets a name."""
 import collections
 
 import expression as e
-from expression import (TYPES, WIDE, Name, Pointer, State, binary, call, cast, comparison, made, negation, number,
+from expression import (SIGNS, TYPES, WIDE, Name, Pointer, State, binary, call, cast, comparison, made, negation, number,
                         struct_of)
 from flow import Flow
-from module import Struct, Unknown
+from module import Struct, Unknown, bare
 from statements import Assign, Do
 from vectors import OF_VECTORS, VECTORS
 
-SIGNS = {"add": "+", "sub": "-", "mul": "*", "udiv": "/", "shl": "<<", "lshr": ">>", "and": "&", "or": "|", "xor": "^"}
 ORDERS = {"eq": "==", "ne": "!=", "ult": "<", "ule": "<=", "ugt": ">", "uge": ">="}
 NUMBERS = {"true": 1, "false": 0, "poison": 0, "zeroinitializer": 0}
 INTRINSICS = {"fshl": "rotate", "umin": "least", "usub.sat": "less", "ctpop": "ones"}
@@ -44,7 +43,7 @@ class Values:
         if token[0] == "%":
             return self.values[token]
         if token[0] == "@":
-            return made("place", Pointer("bytes", True), e.text(self.program.constant(token), None), None, 0)
+            return made("place", Pointer("bytes", True), e.text(self.program.names[bare(token)], None), None, 0)
         if token == "null":
             return NULL
         n = NUMBERS[token] if token in NUMBERS else int(token)
@@ -53,9 +52,6 @@ class Values:
         if type not in TYPES:
             raise Unknown(f"print_c does not know the value {token} of {type}")
         return number(n, TYPES[type])
-
-    def constant(self, operand):
-        return int(operand.token) if operand.token.lstrip("-").isdigit() else None
 
     # ---- which values get names
 
@@ -115,11 +111,11 @@ class Values:
         """A pointer and an offset in bytes."""
         base, offset = self.value(step.operands[0]), self.value(step.operands[1])
         start, symbolic, before = base.args
-        constant = self.constant(step.operands[1])
         if offset == e.choice(comparison("==", start, NULL), number(4096), number(0), "uint64_t"):  # of a slice of no bytes
             slice = call("skh_slice", base.type, start) if base.type.kind == "bytes" else start
             return base._replace(args=(slice, None, 0))
-        if constant is not None:
+        if e.is_number(offset):
+            constant = int(step.operands[1].token)
             return self.in_bytes(base._replace(args=(start, symbolic, before + constant)))
         if symbolic is not None or before:
             base = self.values[step.operands[0].token] = self.named(base)
@@ -142,14 +138,12 @@ class Values:
             return made("index", "uint8_t", base, binary("+", index, number(constant)) if symbolic and constant else index)
         return None
 
-    def function_for(self, place, verb, type):
-        """The one that reads or writes a number of this type."""
-        width = int(type[1:])
-        if place.type.kind in ("u32", "u64", "pairs", "words"):
-            if width != (32 if place.type.kind == "u32" else 64):
-                raise Unknown(f"print_c does not know {type} in an array of {place.type.kind}")
-            return f"skh_{'get' if verb == 'load' else 'set'}{width}"
-        return f"skh_{verb}{width}"
+    def function_for(self, place, verbs, type):
+        """The one that reads or writes a number of this type: of bytes, or of an array of such numbers."""
+        unit = UNITS.get(place.type.kind)
+        if unit and int(type[1:]) != 8 * min(unit, 8):
+            raise Unknown(f"print_c does not know {type} in an array of {place.type.kind}")
+        return f"skh_{verbs[unit is not None]}{type[1:]}"
 
     def in_bytes(self, place):
         """A pointer into the bytes of a state."""
@@ -163,14 +157,14 @@ class Values:
     def load(self, type, place):
         found = self.target(place, type)
         if found is None:
-            found = call(self.function_for(place, "load", type), TYPES[type], self.address(place))
+            found = call(self.function_for(place, ("load", "get"), type), TYPES[type], self.address(place))
         return found._replace(reads=found.reads | {self.span(place, type)})
 
     def store(self, type, place, value):
         target = self.target(place, type)
         if target is not None:
             return Do(made("=", None, target, cast(target.type, value)))
-        return Do(call(self.function_for(place, "store", type), None, self.address(place), value))
+        return Do(call(self.function_for(place, ("store", "set"), type), None, self.address(place), value))
 
     # ---- statements
 
@@ -305,8 +299,10 @@ class Values:
             if operation == "xor":
                 return negation(one) if e.is_number(other, 1) else comparison("!=", one, other)
             return (e.conjunction if operation == "and" else e.disjunction)(one, other)
-        if operation == "add" and e.is_number(other) and self.program.is_better_negated(other.args[0], type):
-            operation, other = "sub", number(-other.args[0], type)
+        if operation == "add" and e.is_number(other):
+            named, negative = self.program.sources.named, number(-other.args[0], type)
+            if other.args[0] not in named and (negative.args[0] < 1 << 20 or negative.args[0] in named):
+                operation, other = "sub", negative
         if operation == "xor" and e.is_number(other, (1 << e.WIDTHS[type]) - 1):
             return made("~", type, one)
         if operation in ("shl", "lshr"):
@@ -314,7 +310,7 @@ class Values:
             if e.is_number(one):
                 one = made("cast", type, one)
         else:
-            one, other = operands(operation, unsized(one), unsized(other), type)
+            one, other = operands(unsized(one), unsized(other), type)
         if e.WIDTHS[type] >= 32 or operation in ("and", "lshr") or operation in ("or", "xor") and one.op != "cast":
             return binary(SIGNS[operation], one, other, type)
         if one.op == "cast" and one.type == type and operation != "udiv":
@@ -357,7 +353,7 @@ class Values:
         if both and all(each.op == "name" for each in one.args):
             found = made("&&", "bool", *(comparison("==", each, other) for each in one.args))
             return found if order == "eq" else negation(found)
-        return comparison(ORDERS[order], *operands(None, one, other, TYPES[type]))
+        return comparison(ORDERS[order], *operands(one, other, TYPES[type]))
 
     def intrinsic(self, step, values):
         if step.more in OF_VECTORS:
@@ -371,14 +367,11 @@ class Values:
 
 def divided(offset, unit):
     """An offset in bytes as one in units."""
-    if unit == 1:
-        if offset.op == "<<" and e.is_number(offset.args[1]):
-            return binary("*", number(1 << offset.args[1].args[0]), offset.args[0])
-        return offset
-    if offset.op == "<<" and e.is_number(offset.args[1]) and 1 << offset.args[1].args[0] >= unit:
-        rest = (1 << offset.args[1].args[0]) // unit
-        return offset.args[0] if rest == 1 else binary("*", number(rest), offset.args[0])
-    raise Unknown("print_c does not know an offset that is no multiple of a number's width")
+    is_shift = offset.op == "<<" and e.is_number(offset.args[1])
+    factor, whole = (1 << offset.args[1].args[0], offset.args[0]) if is_shift else (1, offset)
+    if factor < unit:
+        raise Unknown("print_c does not know an offset that is no multiple of a number's width")
+    return whole if factor == unit else binary("*", number(factor // unit), whole)
 
 
 def as_bool(value):
@@ -396,7 +389,7 @@ def unsized(value):
     return cast("uint64_t", value) if value.type == "size_t" else value
 
 
-def operands(operation, one, other, type):
+def operands(one, other, type):
     """Two numbers without a cast that C makes itself, as it does if the other one is of that type."""
     def bare(value, beside):
         is_wider = beside.type == type and beside.op not in ("number", "cast")
