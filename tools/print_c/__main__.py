@@ -6,9 +6,9 @@ CLANG is the kit's, and optimizes the module. HEADER declares the functions that
 source, from which names and comments are. The instructions and calls that it knows are those of module.py and values.py; any
 other stops it. The layout is clang-format's.
 
-In order: keep.py optimizes the module and keeps its functions; module.py reads it; program.py finds names and kinds of
-pointers, with source.py. For each function reshape.py changes its blocks, flow.py finds its loops, values.py and body.py make
-statements, copies.py joins names, loops.py tidies, names.py gives names, text.py and expression.py write.
+In order: keep.py optimizes the module and keeps its functions; module.py reads it, and vectors.py makes words of vectors;
+program.py finds names and kinds of pointers, with source.py. For each function flow.py finds its loops, values.py and body.py
+make statements, copies.py joins names, loops.py tidies, names.py gives names, text.py and expression.py write.
 """
 import collections
 import pathlib
@@ -27,7 +27,6 @@ from body import Body
 from expression import Writer, made
 from module import Module
 from program import PARTS, Program, part_of
-from reshape import repeat_returns
 from source import Sources
 from vectors import VECTORS
 
@@ -135,7 +134,6 @@ def main(clang, module, header, crates):
     module = Module(keep.optimize(clang, pathlib.Path(module).read_bytes(), sources))
     for function in module.functions:
         vectors.split(function)
-        repeat_returns(function)
     head = (pathlib.Path(__file__).parent / "head.c").read_text()
     return Printer(module, pathlib.Path(header).read_text(), sources).text(head)
 

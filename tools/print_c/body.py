@@ -7,6 +7,8 @@ from module import Unknown
 from statements import Assign, Break, If, Loop, Return, ends
 from values import Values, as_bool
 
+CHEAP = {"phi", "insertvalue", "extractvalue", "zext", "sext", "trunc", "xor", "ret"}
+
 
 def branch(condition, then, otherwise):
     """The shorter way out is first. But what a bound allows stays within its test, which mostly holds."""
@@ -27,8 +29,12 @@ class Body(Values):
         super().__init__(function, program)
         self.homes = collections.defaultdict(list)
         for label in self.flow.order[1:]:
-            if self.flow.is_merge(label):
+            if self.flow.is_merge(label) and not self.is_repeated(label):
                 self.homes[self.flow.parent[label]].append(label)
+
+    def is_repeated(self, label):
+        """Whether a block only returns: so it stands on each way to it, and no jump is needed."""
+        return self.blocks[label][-1].operation == "ret" and CHEAP.issuperset(step.operation for step in self.blocks[label])
 
     def tree(self, label, follow, around):
         """The code of a block and of all that only it leads to. `follow` is what stands after it, and `around` what stands
@@ -88,6 +94,11 @@ class Body(Values):
 
     def go(self, source, target, follow, around):
         """What a branch from one block to another does: it sets what the other one begins with, and goes there."""
+        if self.is_repeated(target):
+            for step in self.blocks[target]:
+                if step.operation == "phi":
+                    self.values[step.result] = self.value(step.operands[step.more.index(source)])
+            return self.block(target, follow, around)
         out, is_back = self.moves(source, target), target in self.flow.through[source]
         if not is_back and not self.flow.is_merge(target):
             return out + self.tree(target, follow, around)
