@@ -24,7 +24,7 @@ import names
 import text
 import vectors
 from body import Body
-from expression import Writer, made
+from expression import Writer
 from module import Module
 from program import PARTS, Program, part_of
 from source import Sources
@@ -47,10 +47,6 @@ class Printer:
         declared = program.declared.get(function.name)
         parameters = program.parameters[function.name]
         body = Body(function, program)
-        for own, variable in zip(function.parameters, parameters):
-            kind = variable.type
-            value = e.name(variable)
-            body.values[own.token] = made("place", kind, value, None, 0) if own.type == "ptr" else value
         statements = body.statements_of_all()
         names.hint_from_use(statements, program)
         names.hint_from_source(statements, parameters, function.source, program)

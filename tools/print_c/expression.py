@@ -66,6 +66,11 @@ def name(variable):
     return Expression("name", (variable,), variable.type, NOTHING)
 
 
+def value_of(variable):
+    found = name(variable)
+    return made("place", variable.type, found, None, 0) if isinstance(variable.type, Pointer) else found
+
+
 def number(value, type="uint64_t"):
     return Expression("number", (value & (1 << WIDTHS[type]) - 1,), type, NOTHING)
 

@@ -24,7 +24,9 @@ class Values:
     def __init__(self, function, program):
         self.function, self.program, self.result_type = function, program, program.result_type(function)
         self.blocks, self.flow = function.blocks, Flow(function.blocks)
-        self.values, self.arrays = {}, []
+        self.arrays = []
+        self.values = {own.token: e.value_of(variable)
+                       for own, variable in zip(function.parameters, program.parameters[function.name])}
         self.made = {step.result: step for step in function.steps() if step.result}
         self.find_users()
 
@@ -66,15 +68,13 @@ class Values:
 
     def named(self, value):
         """A name for a value, which is written first."""
-        type = value.type
+        variable = Name(value.type)
         if value.op == "place":
             value = self.address(value)
-        variable = Name(type)
         if value.op == "call" and value.args[0].startswith("skh_slice"):
             variable.hint(6, f"{value.args[1].args[0].text}_bytes")
         self.out.append(Assign(variable, e.uncast(value)))
-        found = e.name(variable)
-        return made("place", type, found, None, 0) if isinstance(type, Pointer) else found
+        return e.value_of(variable)
 
     def before_a_write(self, written=e.ANYWHERE, value=None):
         """What was read for a later statement is read now, if it may be written; and so is the value that is written then."""
@@ -218,7 +218,7 @@ class Values:
         variable = Name(kind)
         variable.is_parameter = False
         self.arrays.append((variable, step.more.count))
-        self.values[step.result] = made("place", kind, e.name(variable), None, 0)
+        self.values[step.result] = e.value_of(variable)
 
     def pointer(self, step, label):
         value, users = self.moved(step), self.users[step.result]
