@@ -2,7 +2,7 @@
 import collections
 
 import expression as e
-from expression import FIELDS, TYPES, Name, cast, comparison, negation, struct_of
+from expression import FIELDS, TYPES, Name, cast, comparison, negation
 from module import Unknown
 from statements import Assign, Break, If, Loop, Return, ends
 from values import Values, as_bool
@@ -137,8 +137,8 @@ class Body(Values):
     def struct_of_phi(self, step):
         """The struct that a call returns which it chooses from, or else the one that the function returns."""
         steps = [self.made.get(operand.token) for operand in step.operands]
-        calls = [each.more for each in steps if each and each.operation == "call"]
-        return struct_of(self.program.functions[calls[0]].source) if calls else self.result_type
+        calls = [self.program.functions[each.more] for each in steps if each and each.operation == "call"]
+        return self.program.result_type(calls[0]) if calls else self.result_type
 
     def status(self, value):
         """A result of a call, which is an int."""

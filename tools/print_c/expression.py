@@ -37,12 +37,6 @@ FIELDS = {"struct skh_pair": (("uint64_t", "first"), ("uint64_t", "second")),
           "struct skh_result": (("bool", "is_error"), ("uint64_t", "value"))}
 
 
-def struct_of(source):
-    """The struct that a function of the source returns."""
-    kind = source.result.partition("<")[0]
-    return {"Option": "struct skh_option", "Result": "struct skh_result"}.get(kind, "struct skh_pair")
-
-
 class Name:
     """A variable. `hints` are texts for its name, each with a number: the least is the best."""
 

@@ -3,7 +3,7 @@ import collections
 import re
 
 import keep
-from expression import TYPES, Name, Pointer, State, struct_of
+from expression import TYPES, Name, Pointer, State
 from module import Unknown
 from source import closing
 from vectors import OF_VECTORS, VECTORS
@@ -152,11 +152,11 @@ class Program:
     def result_type(self, function):
         if not function.is_internal:
             return self.declared[function.name].type
-        source = function.source
+        result = function.source.result
         if function.type not in TYPES:
-            return struct_of(source)
-        is_flag = source.result == "bool" or keep.EITHER.fullmatch(source.result)
-        return "int" if source.result == "i32" else "bool" if is_flag else TYPES[function.type]
+            return f"struct skh_{ {'O': 'option', 'R': 'result', '(': 'pair'}[result[0]]}"
+        is_flag = result == "bool" or keep.EITHER.fullmatch(result)
+        return "int" if result == "i32" else "bool" if is_flag else TYPES[function.type]
 
     def binding(self, body, step):
         """The name that the source gives to what a call returns, if it is certain."""

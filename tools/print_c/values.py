@@ -3,8 +3,7 @@ used more often gets a name."""
 import collections
 
 import expression as e
-from expression import (SIGNS, TYPES, WIDE, Name, Pointer, State, binary, call, cast, comparison, made, negation, number,
-                        struct_of)
+from expression import (SIGNS, TYPES, WIDE, Name, Pointer, State, binary, call, cast, comparison, made, negation, number)
 from flow import Flow
 from module import Struct, Unknown, bare
 from statements import Assign, Do
@@ -257,8 +256,7 @@ class Values:
         arguments = [self.address(each) if each.op == "place" else e.uncast(each) for each in values]
         if self.program.has_vectors(step.more):
             arguments.insert(0, VECTORS)
-        type = struct_of(callee.source) if isinstance(step.type, Struct) else self.program.result_type(callee)
-        done = call(name, type, *arguments, reads=callee.reads)
+        done = call(name, self.program.result_type(callee), *arguments, reads=callee.reads)
         if step.type == "void" or not self.users[step.result]:
             self.out.append(Do(done))
             return
