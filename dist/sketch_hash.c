@@ -583,19 +583,19 @@ static SKH_NOINLINE void skh_xxh64_write_across(sketch_xxh64_state_t *state,
     uint64_t v2 = state->v2;
     uint64_t v3 = state->v3;
     uint64_t v4 = state->v4;
-    const uint64_t x1 = (0 - count) & 31;
-    const unsigned char *const p1 = bytes + x1;
-    const uint64_t x2 = bytes_length - x1;
-    if (x1 != 0) {
-        skh_copy_small(state->waiting, count, bytes, x1);
+    const uint64_t missing = (0 - count) & 31;
+    const unsigned char *const p1 = bytes + missing;
+    const uint64_t x1 = bytes_length - missing;
+    if (missing != 0) {
+        skh_copy_small(state->waiting, count, bytes, missing);
         v1 = skh_xxh64_round(v1, skh_load64(state->waiting));
         v2 = skh_xxh64_round(v2, skh_load64(state->waiting + 8));
         v3 = skh_xxh64_round(v3, skh_load64(state->waiting + 16));
         v4 = skh_xxh64_round(v4, skh_load64(state->waiting + 24));
     }
-    const uint64_t x3 = x2 >> 5;
-    skh_copy_small(state->waiting, 0, p1 + (x2 & ~(uint64_t)31), x2 & 31);
-    for (uint64_t i = 0; i < x3; i++) {
+    const uint64_t x2 = x1 >> 5;
+    skh_copy_small(state->waiting, 0, p1 + (x1 & ~(uint64_t)31), x1 & 31);
+    for (uint64_t i = 0; i < x2; i++) {
         const unsigned char *const p2 = p1 + i * 32;
         v1 = skh_xxh64_round(v1, skh_load64(p2));
         v2 = skh_xxh64_round(v2, skh_load64(p2 + 8));
@@ -857,8 +857,9 @@ SKH_INLINE struct skh_pair skh_murmur3_read_prefix(const unsigned char *block, u
 /* Appends bytes to the stream. */
 SKH_INLINE void skh_murmur3_write(sketch_murmur3_x64_128_state_t *state, const unsigned char *bytes,
                                   uint64_t bytes_length) {
-    uint64_t x3, x4;
     struct skh_pair pair3;
+    uint64_t x3;
+    uint64_t x4;
     const uint64_t count = skh_murmur3_waiting_count(state);
     const uint64_t x1 = 16 - count;
     if (bytes_length < x1) {
@@ -1401,16 +1402,16 @@ SKETCH_HASH_API int sketch_bloom_insert_each32(void *bits, size_t length, const 
     unsigned char *const filter = skh_slice(bits);
     const unsigned char *const bytes = skh_slice(keys);
     if (!skh_bloom_is_length(length)) return SKETCH_ERROR_LENGTH;
-    const uint64_t x1 = skh_less64(offset_count, 1);
-    const struct skh_result result = skh_check_offsets32(keys_length, offsets, offset_count, x1);
+    const uint64_t count = skh_less64(offset_count, 1);
+    const struct skh_result result = skh_check_offsets32(keys_length, offsets, offset_count, count);
     if (result.is_error) {
         *wrong_offset = (size_t)result.value;
         return SKETCH_ERROR_OFFSET;
     }
     memset(hashes, 0, 256);
     uint64_t start = 0;
-    while (start < x1) {
-        const uint64_t hashes_count = skh_least64(x1 - start, 32);
+    while (start < count) {
+        const uint64_t hashes_count = skh_least64(count - start, 32);
         skh_xxh64_hash_run32(bytes, offsets, start, hashes, hashes_count);
         skh_bloom_insert_hashes(filter, length, hashes, hashes_count);
         start += hashes_count;
@@ -1427,16 +1428,16 @@ SKETCH_HASH_API int sketch_bloom_insert_each64(void *bits, size_t length, const 
     unsigned char *const filter = skh_slice(bits);
     const unsigned char *const bytes = skh_slice(keys);
     if (!skh_bloom_is_length(length)) return SKETCH_ERROR_LENGTH;
-    const uint64_t x1 = skh_less64(offset_count, 1);
-    const struct skh_result result = skh_check_offsets64(keys_length, offsets, offset_count, x1);
+    const uint64_t count = skh_less64(offset_count, 1);
+    const struct skh_result result = skh_check_offsets64(keys_length, offsets, offset_count, count);
     if (result.is_error) {
         *wrong_offset = (size_t)result.value;
         return SKETCH_ERROR_OFFSET;
     }
     memset(hashes, 0, 256);
     uint64_t start = 0;
-    while (start < x1) {
-        const uint64_t hashes_count = skh_least64(x1 - start, 32);
+    while (start < count) {
+        const uint64_t hashes_count = skh_least64(count - start, 32);
         skh_xxh64_hash_run64(bytes, offsets, start, hashes, hashes_count);
         skh_bloom_insert_hashes(filter, length, hashes, hashes_count);
         start += hashes_count;
@@ -1664,11 +1665,11 @@ SKETCH_HASH_API size_t sketch_bloom_header_write(uint64_t bytes, unsigned char *
 SKETCH_HASH_API size_t sketch_bloom_header_read(const void *input, size_t length, uint64_t *bytes) {
     unsigned char out[19];
     const unsigned char *const input_bytes = skh_slice(input);
-    const uint64_t x1 = skh_bloom_length_in(input_bytes, length);
+    const uint64_t bytes2 = skh_bloom_length_in(input_bytes, length);
     memset(out, 0, 19);
-    const struct skh_option option = skh_bloom_write_header(x1, out, 19);
+    const struct skh_option option = skh_bloom_write_header(bytes2, out, 19);
     if (!option.is_some) return 0;
     if (!skh_bloom_has_prefix(input_bytes, length, out, option.value)) return 0;
-    *bytes = x1;
+    *bytes = bytes2;
     return option.value;
 }

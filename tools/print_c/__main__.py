@@ -85,13 +85,11 @@ class Printer:
             yield f"{text.NUMBERS[kind]} {variable.text}[{count // unit}];"
 
     def with_head(self, function, name, parameters, arguments, lines):
-        type, storage = self.program.result_type(function), "SKETCH_HASH_API"
+        program, type, storage = self.program, self.program.result_type(function), "SKETCH_HASH_API"
         if function.is_internal:
             storage = {"always": "SKH_INLINE", "never": "static SKH_NOINLINE"}.get(function.source.inline, "static")
-        if function.name not in self.program.of_vectors:
-            return [f"{storage} {type} {name}({parameters}) {{", *lines, "}"]
-        vectors = f"bool {VECTORS.args[0]}, "
-        if not self.program.is_entry(function.name):
+        vectors = f"bool {VECTORS.args[0]}, " if function.name in program.of_vectors else ""
+        if not vectors or not program.is_entry(function.name):
             return [f"{storage} {type} {name}({vectors}{parameters}) {{", *lines, "}"]
         give = "" if type == "void" else "return"
         return [f"SKH_INLINE {type} {name}_any({vectors}{parameters}) {{", *lines, "}", "",

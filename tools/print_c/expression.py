@@ -228,32 +228,24 @@ class Writer:
 
     def write(self, value):
         op, args = value.op, value.args
-        if op == "name":
-            return args[0].text
-        if op == "text":
-            return args[0]
+        if op in ("name", "text"):
+            return args[0].text if op == "name" else args[0]
         if op == "number":
             return self.number(args[0], value.type)
         if op == "call":
             return f"{args[0]}({', '.join(map(self.write, args[1:]))})"
         if op == "struct":
             return self.struct(value.type, *args)
-        if op == "field":
-            return f"{self.within(args[0], ATOM)}.{args[1]}"
-        if op == "arrow":
-            return f"{self.within(args[0], ATOM)}->{args[1]}"
+        if op in ("field", "arrow"):
+            return f"{self.within(args[0], ATOM)}{'.' if op == 'field' else '->'}{args[1]}"
         if op == "index":
             return f"{self.within(args[0], ATOM)}[{self.write(args[1])}]"
-        if op == "deref":
-            return f"*{self.within(args[0], UNARY)}"
-        if op == "cast":
-            return f"({value.type}){self.within(args[0], UNARY)}"
-        if op in ("!", "~"):
-            return f"{op}{self.within(args[0], UNARY)}"
+        if op in ("deref", "cast", "!", "~"):
+            return {"deref": "*", "cast": f"({value.type})"}.get(op, op) + self.within(args[0], UNARY)
         if op == "?:":
             level = LEVEL["?:"]
-            texts = self.within(args[0], level - 1), self.within(args[1], level - 1), self.within(args[2], level)
-            return "{} ? {} : {}".format(*texts)
+            condition, one = (self.within(each, level - 1) for each in args[:2])
+            return f"{condition} ? {one} : {self.within(args[2], level)}"
         return self.binary(op, *args)
 
     def struct(self, type, one, other):

@@ -5,7 +5,7 @@ import itertools
 
 import expression as e
 from expression import comparison, is_number, made, negation, number
-from statements import Assign, Break, Do, For, If, Loop, Return, ends, every, lists_in
+from statements import Assign, Break, Do, For, If, Loop, Return, ends, every, lists_in, sets_in
 
 LARGEST = 20  # the most parts of an expression that others were joined to
 
@@ -24,11 +24,6 @@ def tidy(statements):
     for inner in lists_in(statements):
         counts(inner, statements)
     last_returns(statements)
-
-
-def sets_in(statements):
-    """How often each name is set."""
-    return collections.Counter(each.name for each in every(statements) if isinstance(each, Assign))
 
 
 def branch_at_choices(statements):

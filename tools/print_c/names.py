@@ -31,22 +31,25 @@ SET = re.compile(r"(?<!\w)(let (?:mut )?)?(\w+)(?:: [^=;{}]+)? ([-+*/%|&^]|<<|>>
 
 def hint_from_source(statements, parameters, source, program):
     """A value has the name that the source gives to one of the same names and calls, if each is the only such one."""
-    sets = SET.findall(source.body)
-    known = {plain(each.text) for each in parameters} | {name for _, name, _, _ in sets} | set(program.short.values())
-    known |= {*re.findall(r"for (\w+) in", source.body)}
-    named = collections.defaultdict(set)
-    for is_first, name, operator, text in sets:
-        words = known.intersection(re.findall(r"(?<![\w.])[a-z]\w*", text.replace("self.", "")))
-        if not is_first and (operator or name in words):
-            words = words - {name} | {OWN}
-        named[frozenset(words)].add(name)
+    bodies, named = [*program.sources.bodies(source, program.short.values())], {}
+    known = {each.source for each in parameters} | set(program.short.values())
+    known |= {name for body in bodies for _, name, _, _ in SET.findall(body)}
+    known |= {name for body in bodies for name in re.findall(r"for (\w+) in", body)}
+    for body in bodies:
+        own = collections.defaultdict(set)
+        for is_first, name, operator, text in SET.findall(body):
+            words = known.intersection(re.findall(r"(?<![\w.])[a-z]\w*", text.replace("self.", "")))
+            if not is_first and (operator or name in words):
+                words = words - {name} | {OWN}
+            own[frozenset(words)].add(name)
+        named = {**own, **named}
     for _ in range(4):  # a name may be found by another
         found = collections.defaultdict(set)
         for each in every(statements):
-            if isinstance(each, Assign):
+            if isinstance(each, Assign) and each.value.op != "cast":
                 found[frozenset(words_in(each, program.short))].add(each.name)
         for words, names in found.items():
-            if None not in words and len(names) == len(named[words]) == 1:
+            if None not in words and len(names) == len(named.get(words, ())) == 1:
                 (name,), (text,) = names, named[words]
                 name.hint(2, text)
 
@@ -58,16 +61,11 @@ def words_in(statement, paths):
             yield OWN
         elif each.op == "name":
             hints = each.args[0].hints
-            yield plain(each.args[0].text) if each.args[0].is_parameter else min(hints)[1] if hints else None
+            yield each.args[0].source if each.args[0].is_parameter else min(hints)[1] if hints else None
         if each.op == "arrow":
             yield each.args[1]
         if each.op == "call" and each.args[0] in paths:
             yield paths[each.args[0]]
-
-
-def plain(text):
-    """What the source calls a parameter."""
-    return re.sub(r"_(length|count)$", "", text)
 
 
 def of_many(statement):

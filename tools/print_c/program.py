@@ -147,6 +147,7 @@ class Program:
             number = "size_t" if declared and type == "usize" else "bool" if type == "bool" else TYPES.get(own.type)
             kind = self.kind(function, own.token) if own.type == "ptr" else number
             found.append(Name(kind, declared.names[at] if declared else name))
+            found[-1].source = re.sub(r"_(length|count)$", "", name)
         return found
 
     def result_type(self, function):

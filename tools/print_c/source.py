@@ -97,6 +97,14 @@ class Sources:
         else:
             self.by_path[item["name"] if found.is_exported else path] = found
 
+    def bodies(self, source, kept):
+        """The body of a function, and those of the functions that are inlined in it, if they alone have their name."""
+        yield source.body
+        for name in dict.fromkeys(re.findall(r"(\w+)(?:::<[^()]*>)?\(", source.body)):
+            named = [each for each in [*self.by_path.values(), *self.methods.values()] if each.path.endswith(f"::{name}")]
+            if len(named) == 1 and name not in kept and named[0] is not source:
+                yield from self.bodies(named[0], kept)
+
     def of(self, path):
         """The function with this path in a module, whose type may be in another file than the method."""
         return self.by_path.get(path) or self.methods.get(tuple(path.split("::")[-2:]))

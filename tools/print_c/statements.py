@@ -1,4 +1,6 @@
 """Statements of C as trees."""
+import collections
+
 import expression as e
 
 
@@ -43,7 +45,7 @@ class Break(Statement):
 
 
 class Declare(Statement):
-    fields = ("names",)
+    fields = ("name",)
 
 
 class If(Statement):
@@ -77,6 +79,11 @@ def every(statements):
         yield statement
         for inner in statement.inner():
             yield from every(inner)
+
+
+def sets_in(statements):
+    """How often each name is set."""
+    return collections.Counter(each.name for each in every(statements) if isinstance(each, Assign))
 
 
 def lists_in(statements):

@@ -3,7 +3,7 @@ import collections
 
 import expression as e
 from expression import Pointer, State
-from statements import Assign, Break, Declare, For, If, Return, every, lists_in
+from statements import Assign, Break, Declare, For, If, Return, every, lists_in, sets_in
 
 UPDATES = {"+", "-", "*", "/", "<<", ">>", "&", "|", "^"}
 NUMBERS = {"u32": "uint32_t", "u64": "uint64_t", "words": "uint64_t", "number": "uint64_t", "size": "size_t",
@@ -37,32 +37,28 @@ def declare(statements, known):
     """A name is declared in the innermost list of all its uses: where it first gets a value, or else at the list's head."""
     known, everywhere = set(known), mentions(statements)
     for home in lists_in(statements):
-        here, heads = mentions(home), {}
+        here, heads = mentions(home), []
         for name in (each for each in here if here[each] == everywhere[each] and each not in known):
             known.add(name)
             first = next(each for each in home if name in mentions([each]))
             if isinstance(first, Assign) and first.name is name and name not in e.names_in(first.value):
                 first.is_first = True
             elif not (isinstance(first, For) and first.name is name):
-                heads.setdefault(name.type, []).append(name)
-        for names in heads.values():
-            home.insert(0, Declare(tuple(names)))
+                heads.append(Declare(name))
+        home[:0] = heads
 
 
 class Text:
     def __init__(self, writer, statements):
         self.write = writer.write
-        sets = collections.Counter(each.name for each in every(statements) if isinstance(each, Assign))
-        self.constant = {name for name, count in sets.items() if count == 1}
+        self.constant = {name for name, count in sets_in(statements).items() if count == 1}
 
     def lines(self, statements):
         for statement in statements:
             yield from getattr(self, f"write_{type(statement).__name__.lower()}")(statement)
 
     def write_declare(self, statement):
-        first = declared(statement.names[0].type, statement.names[0].text)
-        star = "*" if isinstance(statement.names[0].type, Pointer) else ""
-        yield ", ".join([first, *(star + name.text for name in statement.names[1:])]) + ";"
+        yield f"{declared(statement.name.type, statement.name.text)};"
 
     def write_assign(self, statement):
         name, value = statement.name, statement.value
