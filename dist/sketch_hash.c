@@ -1665,11 +1665,11 @@ SKETCH_HASH_API size_t sketch_bloom_header_write(uint64_t bytes, unsigned char *
 SKETCH_HASH_API size_t sketch_bloom_header_read(const void *input, size_t length, uint64_t *bytes) {
     unsigned char out[19];
     const unsigned char *const input_bytes = skh_slice(input);
-    const uint64_t bytes2 = skh_bloom_length_in(input_bytes, length);
+    const uint64_t bytes1 = skh_bloom_length_in(input_bytes, length);
     memset(out, 0, 19);
-    const struct skh_option option = skh_bloom_write_header(bytes2, out, 19);
+    const struct skh_option option = skh_bloom_write_header(bytes1, out, 19);
     if (!option.is_some) return 0;
     if (!skh_bloom_has_prefix(input_bytes, length, out, option.value)) return 0;
-    *bytes = bytes2;
+    *bytes = bytes1;
     return option.value;
 }

@@ -65,7 +65,7 @@ class Body(Values):
             return out + self.go(label, last.more[0], follow, leave)
         if last.operation == "switch":
             (asked, *cases), (default, *targets) = map(self.value, last.operands), last.more
-            asked = asked if asked.op == "name" or len(cases) == 1 else self.named(asked)
+            asked = self.named(asked)
             conditions = [comparison("==", asked, case) for case in cases]
         else:
             conditions, (*targets, default) = [self.value(last.operands[0])], last.more

@@ -42,7 +42,7 @@ def type_of(text):
     return (Vector if text[0] == "<" else Array)(int(words[0]), words[2]) if text[0] in "<[" else text
 
 
-def operands(text):
+def operands(text, line=None):
     """A value without a type has that of the one before; a type alone has the token None."""
     found = []
 
@@ -57,7 +57,7 @@ def operands(text):
         return ""
 
     if re.search(r"[^\s,()\[\]]", OPERAND.sub(add, text).replace(" to ", "")):
-        raise Unknown(f"print_c does not know: {text}")
+        raise Unknown(f"print_c does not know: {line or text}")
     return found
 
 
@@ -68,7 +68,7 @@ def instruction(text):
         return Instruction(result, operation, type_of(type), operands(arguments), bare(function))
     if operation not in CASTS | OTHERS:
         raise Unknown(f"print_c does not know: {text}")
-    found, more = operands(rest), order
+    found, more = operands(rest, text), order
     type = found[0].type
     if operation == "icmp":
         type = "i1"

@@ -7,6 +7,8 @@ import expression as e
 from expression import FIELDS, Pointer
 from statements import Assign, For, every
 
+# A statement of the source that gives a name a value: whether it is a new name, the name, an operator, the value.
+SET = re.compile(r"(?<!\w)(let (?:mut )?)?(\w+)(?:: [^=;{}]+)? ([-+*/%|&^]|<<|>>)?= ([^;{}]+);")
 OWN = "its own value before"
 LETTERS = {"bool": "b", "uint8_t": "byte", "uint16_t": "w", "uint32_t": "w", "uint64_t": "x", "skh_uint128": "y"}
 
@@ -24,9 +26,6 @@ def hint_from_use(statements, program):
                     each.args[0].args[0].hint(6, FIELDS[each.type][0][1])
         if isinstance(statement, Assign):
             of_many(statement)
-
-
-SET = re.compile(r"(?<!\w)(let (?:mut )?)?(\w+)(?:: [^=;{}]+)? ([-+*/%|&^]|<<|>>)?= ([^;{}]+);")
 
 
 def hint_from_source(statements, parameters, source, program):
@@ -62,8 +61,6 @@ def words_in(statement, paths):
         elif each.op == "name":
             hints = each.args[0].hints
             yield each.args[0].source if each.args[0].is_parameter else min(hints)[1] if hints else None
-        if each.op == "arrow":
-            yield each.args[1]
         if each.op == "call" and each.args[0] in paths:
             yield paths[each.args[0]]
 
@@ -110,10 +107,10 @@ def give(statements, parameters, arrays, reserved):
     for name, texts in wishes.items():
         first = texts[0] if texts else "p" if isinstance(name.type, Pointer) else LETTERS[name.type]
         free = next((text for text in texts if text not in taken), None) if wanted[first] < 2 else None
-        name.text = free or numbered(first, taken, 2 if texts and wanted[first] < 2 else 1)
+        name.text = free or numbered(first, taken)
         taken.add(name.text)
 
 
-def numbered(text, taken, start):
+def numbered(text, taken):
     text += "_" * text[-1].isdigit()
-    return next(f"{text}{number}" for number in itertools.count(start) if f"{text}{number}" not in taken)
+    return next(f"{text}{number}" for number in itertools.count(1) if f"{text}{number}" not in taken)
