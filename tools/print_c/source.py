@@ -49,10 +49,10 @@ def paragraph(text):
 
 
 class Sources:
-    """The functions of all crates, but for methods of traits: `by_path` those that stand alone, `methods` by their type."""
+    """`functions` of all crates, but for methods of traits: a method by its type and name, since it may be in another file."""
 
     def __init__(self, folder):
-        self.by_path, self.methods, self.arrays, self.structs, self.named, self.sums = {}, {}, {}, {}, {}, {}
+        self.functions, self.arrays, self.structs, self.named, self.sums = {}, {}, {}, {}, {}
         for file in sorted(folder.glob("*/src/**/*.rt")):
             parts = [file.parts[len(folder.parts)], *file.relative_to(folder).with_suffix("").parts[2:]]
             if "tests" not in parts:
@@ -92,19 +92,17 @@ class Sources:
         parameters = parameters_of(" ".join(text[item.end():end].split()), owner)
         found = Source(path, parameters, result[1].strip() if result else "()", paragraph(item["about"]),
                        inline[1] if inline else "", body, bool(item["exported"]))
-        if owner:
-            self.methods[owner, item["name"]] = found
-        else:
-            self.by_path[item["name"] if found.is_exported else path] = found
+        key = item["name"] if found.is_exported else f"{owner}::{item['name']}" if owner else path
+        self.functions[key] = found
 
     def bodies(self, source, kept):
         """The body of a function, and those of the functions that are inlined in it, if they alone have their name."""
         yield source.body
         for name in dict.fromkeys(re.findall(r"(\w+)(?:::<[^()]*>)?\(", source.body)):
-            named = [each for each in [*self.by_path.values(), *self.methods.values()] if each.path.endswith(f"::{name}")]
+            named = [each for each in self.functions.values() if each.path.endswith(f"::{name}")]
             if len(named) == 1 and name not in kept and named[0] is not source:
                 yield from self.bodies(named[0], kept)
 
     def of(self, path):
-        """The function with this path in a module, whose type may be in another file than the method."""
-        return self.by_path.get(path) or self.methods.get(tuple(path.split("::")[-2:]))
+        """The function with this path in a module."""
+        return self.functions.get(path) or self.functions.get("::".join(path.split("::")[-2:]))

@@ -49,15 +49,16 @@ class Words:
         if operation == "call" and more == "llvm.vector.reduce.or.v32i8":
             self.words[result] = [Operand("i1", self.new())]
             return [Instruction(self.words[result][0].token, "call", "i1", self.of(operands[0]), ANY)]
+        same = None
         if operation == "insertelement":
-            self.words[result] = [*self.of(operands[0])]
-            self.words[result][int(operands[2].token)] = operands[1]
-            return []
-        if operation == "shufflevector" and operands[2].token == "zeroinitializer":
-            self.words[result] = self.of(operands[0])[:1] * type.count
-            return []
-        if operation == "bitcast" and self.shape(operands[0].type) == self.shape(type):
-            self.words[result] = self.of(operands[0])
+            same, at = [*self.of(operands[0])], int(operands[2].token)
+            same[at] = operands[1]
+        elif operation == "shufflevector" and operands[2].token == "zeroinitializer":
+            same = self.of(operands[0])[:1] * type.count
+        elif operation == "bitcast" and self.shape(operands[0].type) == self.shape(type):
+            same = self.of(operands[0])
+        if same:
+            self.words[result] = same
             return []
         if operation not in SIGNS:
             raise Unknown(f"print_c does not know {operation} {more or ''} of {type}")
