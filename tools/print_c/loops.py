@@ -56,11 +56,12 @@ def early_returns(statements):
     value = last.value if isinstance(last, Return) else None
     if value is None:
         return
+    is_test = isinstance(before, If) and not before.otherwise and not ends(before.then)
     if value.op == "||" and any(part.op == "call" for part in e.parts(value.args[1])):
         statements[-1:] = [If(value.args[0], [Return(number(1, "uint32_t"))], []), Return(value.args[1])]
     elif value.op == "struct" and value.args[0].op == "field" and value.args[1].op == "?:":
         statements[-1:] = [If(value.args[0], [Return(value)], []), last]
-    elif value.op == "?:" and isinstance(before, If) and before.condition == value.args[0] and not before.otherwise:
+    elif value.op == "?:" and is_test and before.condition == value.args[0]:
         statements[-2:] = [If(negation(before.condition), [Return(value)], []), *before.then, last]
 
 
@@ -152,8 +153,10 @@ def counts(statements, whole):
             continue
         sets = [each for each in every(whole) if isinstance(each, Assign) and each.name is name]
         start = next((each for each in statements[:at] if each in sets), None)
-        if start is None or len(sets) != 2 or not is_number(start.value) or name in e.names_in(limit):
+        if start is None or len(sets) != 2 or not is_number(start.value):
             continue
+        if limit.reads or e.names_in(limit).intersection(sets_in(loop.body)):
+            continue  # it may change
         inside = [loop, start, *every(loop.body)]
         if any(name in e.names_in(value) for each in every(whole) if each not in inside for value in each.expressions()):
             continue

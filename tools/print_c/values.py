@@ -202,9 +202,7 @@ class Values:
             self.pointer(step, label)
         else:
             users = {user.operation for user, _ in self.users[step.result]}
-            is_offset = operation == "shl" and users == {"getelementptr"}
-            is_amount = step.type == "i128" and users <= {"shl", "lshr"}
-            most = 8 if is_offset or is_amount else 4 if operation in ("zext", "trunc") else 0
+            most = 8 if users <= {"getelementptr", "shl", "lshr"} else 4 if operation in ("zext", "trunc") else 0
             self.give(step, self.scalar(step), label, most)
 
     def fields(self, operand):
@@ -224,7 +222,7 @@ class Values:
         base, symbolic, _ = value.args
         is_short = symbolic is None and base.op in ("name", "arrow")
         is_short = is_short or [place for _, place in users] == [label]
-        is_short = is_short or value.type.kind in ("pairs", "u32", "u64") and e.size_of(symbolic) < 6
+        is_short = is_short or value.type.kind in UNITS
         is_short = is_short or all(user.operation in ("load", "store") and user.type == "i8" for user, _ in users)
         self.values[step.result] = value if is_short else self.named(value)
 
@@ -235,7 +233,7 @@ class Values:
 
     def move(self, step):
         """What copies or fills bytes."""
-        name = "memset" if "memset" in step.more else "memmove" if "memmove" in step.more else "memcpy"
+        name = step.more.split(".")[1]
         to, what, count = (self.value(each) for each in step.operands[:3])
         self.before_a_write()
         while isinstance(to.type.kind, State) and e.is_number(what, 0):  # the numbers before the bytes
