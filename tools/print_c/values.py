@@ -125,9 +125,8 @@ class Values:
         """What a load of this type reads, or a store writes; or None where a function does it."""
         base, symbolic, constant = place.args
         kind = place.type.kind
-        if isinstance(kind, State):  # a state
-            is_field = type == "i64" and constant in kind.fields
-            return made("arrow", TYPES[type], base, kind.fields[constant]) if is_field else None
+        if isinstance(kind, State) and type == "i64" and constant in kind.fields:
+            return made("arrow", TYPES[type], base, kind.fields[constant])
         if kind in ("size", "number"):
             return made("deref", "size_t" if kind == "size" else TYPES[type], base)
         if kind == "words" and type == "i64":
@@ -135,13 +134,12 @@ class Values:
         if type == "i8":
             index = symbolic or number(constant)
             return made("index", "uint8_t", base, binary("+", index, number(constant)) if symbolic and constant else index)
-        return None
 
     def function_for(self, place, verbs, type):
         """The one that reads or writes a number of this type: of bytes, or of an array of such numbers."""
         unit = UNITS.get(place.type.kind)
-        if unit and int(type[1:]) != 8 * min(unit, 8):
-            raise Unknown(f"print_c does not know {type} in an array of {place.type.kind}")
+        if unit and int(type[1:]) != 8 * min(unit, 8) or isinstance(place.type.kind, State):
+            raise Unknown(f"print_c does not know {type} in what {self.function.name} has a pointer to")
         return f"skh_{verbs[unit is not None]}{type[1:]}"
 
     def in_bytes(self, place):
@@ -155,13 +153,12 @@ class Values:
 
     def load(self, type, place):
         found = self.target(place, type)
-        if found is None:
-            found = call(self.function_for(place, ("load", "get"), type), TYPES[type], self.address(place))
+        found = found or call(self.function_for(place, ("load", "get"), type), TYPES[type], self.address(place))
         return found._replace(reads=found.reads | {self.span(place, type)})
 
     def store(self, type, place, value):
         target = self.target(place, type)
-        if target is not None:
+        if target:
             return Do(made("=", None, target, cast(target.type, value)))
         return Do(call(self.function_for(place, ("store", "set"), type), None, self.address(place), value))
 
@@ -293,7 +290,7 @@ class Values:
         operation, type = step.operation, TYPES[step.type]
         if step.type == "i1":
             if operation == "xor":
-                return negation(one) if e.is_number(other, 1) else comparison("!=", one, other)
+                return comparison("!=", one, other)
             return (e.conjunction if operation == "and" else e.disjunction)(one, other)
         if operation == "add" and e.is_number(other):
             named, negative = self.program.sources.named, number(-other.args[0], type)
