@@ -1173,8 +1173,8 @@ static uint64_t skh_bloom_read_varint(uint8_t byte, uint64_t after) {
 /* The length of a filter as its header has it, or 0 if the input is shorter than a header. */
 static uint64_t skh_bloom_length_in(const unsigned char *input, uint64_t input_length) {
     if (input_length < 6) return 0;
-    const uint64_t twice = skh_bloom_read_varint(input[5], 0);
-    uint64_t after = skh_bloom_read_varint(input[4], twice);
+    uint64_t after = skh_bloom_read_varint(input[5], 0);
+    after = skh_bloom_read_varint(input[4], after);
     after = skh_bloom_read_varint(input[3], after);
     after = skh_bloom_read_varint(input[2], after);
     return skh_bloom_read_varint(input[1], after) >> 1;

@@ -37,10 +37,10 @@ class Printer:
     def __init__(self, module, header, sources):
         self.program, self.sources = Program(module, header, sources), sources
         self.writer = Writer(sources.named, sources.sums)
-        self.constants = {text: f"#define {text} 0x{value:x}u" for value, text in sources.named.items()}
+        self.constants = {own: f"#define {own} 0x{value:x}u" for value, own in sources.named.items()}
         for name, data in module.constants.items():
-            text = self.program.names[name]
-            self.constants[text] = f"static const unsigned char {text}[] = {{{', '.join(map(str, data))}}};"
+            own = self.program.names[name]
+            self.constants[own] = f"static const unsigned char {own}[] = {{{', '.join(map(str, data))}}};"
 
     def function(self, function):
         program, name = self.program, self.program.names[function.name]

@@ -13,6 +13,7 @@ FLAGS = ["--target=x86_64-unknown-linux-gnu", "-Wno-override-module", "-S", "-em
 OPTIMIZE = ["-O2", "-fno-vectorize", "-fno-slp-vectorize", "-fno-unroll-loops", "-mllvm", "-rotation-max-header-size=0",
             "-mllvm", "-jump-threading-threshold=0", "-mllvm", "-replexitval=never"]
 NUMBER = re.compile(r"u8|u16|u32|u64|usize|i32|bool")
+ARRAY = re.compile(r"&(mut )?\[[^;]*; \w+\]")
 EITHER = re.compile(r"Option<usize>|Result<(\(\)|usize), usize>")
 DEFINE = re.compile(r'^define (internal )?([^@\n]*)@("[^"]*"|[\w.]+)\(([^\n]*)\)[^()\n]*\{\n((?:(?!\}).*\n)*)\}\n', re.M)
 CALL = re.compile(r'^( *(?:%[\w.]+ = )?(?:tail )?call [^@\n]*@("[^"]*"|[\w.]+)\((.*)\)).*$', re.M)
@@ -34,15 +35,12 @@ def parameters_in_c(source, states):
     """A function's parameters in the module, each with its name and a type of the source, or None if C has no such head."""
     found = []
     for name, type in source.parameters:
-        if NUMBER.fullmatch(type):
-            found.append((name, type))
-        elif re.match(r"&(mut )?\[", type):
-            is_array = re.fullmatch(r"&(mut )?\[[^;]*; \w+\]", type)
-            count = name + ("_length" if type.endswith("[u8]") else "_count")
-            found += [(name, type)] if is_array else [(name, type), (count, "usize")]
+        is_slice = re.match(r"&(mut )?\[", type) and not ARRAY.fullmatch(type)
+        if is_slice:
+            found += [(name, type), (name + ("_length" if type.endswith("[u8]") else "_count"), "usize")]
         elif EITHER.fullmatch(type):
             found += [("is_error" if type[0] == "R" else "is_some", "bool"), (name, "usize")]
-        elif re.fullmatch("&mut (usize|u64)", type) or type.split()[-1].strip("&") in states:
+        elif NUMBER.fullmatch(type) or ARRAY.fullmatch(type) or type.split()[-1].strip("&") in [*states, "usize", "u64"]:
             found.append((name, type))
         else:
             return None

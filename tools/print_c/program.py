@@ -5,7 +5,6 @@ import re
 import keep
 from expression import TYPES, Name, Pointer, State
 from module import Unknown
-from source import closing
 from vectors import OF_VECTORS, VECTORS
 
 # The parts of the text in their order: how the path of a function begins that stands in it, and how its name.
@@ -20,6 +19,9 @@ PARTS = (("sketch_hash::hash::words", "skh_", "Words"),
 KINDS = {"pairs": "[[u64; 2]]", "words": "[u64; 2]", "size": "&mut usize", "number": "&mut u64", "u64": "[u64]", "u32": "[u32]",
          "bytes": "u8"}
 GENERIC = re.compile(r"&\[[A-Z]\]")  # a slice of a type parameter
+# Before a call, what a statement gives it as a name; and what is in its brackets.
+BOUND = r"(?:(?:let (?:mut )?|[;{}]\s+)(\w+|\([\w, ]+\))(?:: [^=;]+)? = (?:\w+(?:::|\.))*)?"
+ARGUMENTS = r"(?:[^()]|\((?:[^()]|\((?:[^()]|\([^()]*\))*\))*\))*"
 Declaration = collections.namedtuple("Declaration", "type names parameters about")
 
 
@@ -161,17 +163,12 @@ class Program:
 
     def binding(self, body, step):
         """The name that the source gives to what a call returns, if it is certain."""
-        source, short = body.function.source, keep.path_of(step.more).split("::")[-1]
-        places = [*re.finditer(rf"(?<![\w]){short}(?:::<[^>()]*>)?\(", source.body)]
-        names = []
-        for place in places:
-            end = closing(source.body, place.end() - 1)
-            before, after = source.body[:place.start()], source.body[end + 1:]
-            bound = re.search(r"(?:let (?:mut )?|[;{}]\s+)(\w+|\([\w, ]+\))(?:: [^=;]+)? = (?:\w+(?:::|\.))*$", before)
-            names.append(stem(bound[1]) if bound and after[0] == ";" else None)
+        short = keep.path_of(step.more).split("::")[-1]
+        sites = re.findall(rf"{BOUND}(?<!\w){short}(?:::<[^>()]*>)?\({ARGUMENTS}\)(;)?", body.function.source.body)
         calls = [each.result for each in body.function.steps() if each.operation == "call"
                  and keep.path_of(each.more).split("::")[-1] == short]
-        return names[calls.index(step.result)] if len(calls) == len(names) else None
+        name, end = sites[calls.index(step.result)] if len(calls) == len(sites) else ("", "")
+        return stem(name) if name and end else None
 
 
 def stem(text):
