@@ -82,7 +82,8 @@ def share(statements, parameters, fixed):
     for name in groups.group:
         if name is not groups.of(name):
             groups.of(name).hints += name.hints
+    leaders = {e.name(each): e.name(groups.of(each)) for each in groups.group}
     for each in every(statements):
-        each.replace(lambda name: e.name(groups.of(name)))
+        each.replace(leaders)
         if isinstance(each, Assign):
             each.name = groups.of(each.name)

@@ -174,13 +174,15 @@ def in_order(names):
 TESTS = {"!": negation, "&&": conjunction, "||": disjunction}
 
 
-def replaced(value, put):
-    """The expression with `put(name)` in place of each name, if it is not None."""
-    if value.op == "name":
-        return put(value.args[0]) or value
-    args = tuple(replaced(each, put) if isinstance(each, Expression) else each for each in value.args)
+def replaced(value, known):
+    """The expression with what `known` maps an expression to in the place of that."""
+    if value in known:
+        return known[value]
+    args = tuple(replaced(each, known) if isinstance(each, Expression) else each for each in value.args)
     if args == value.args:
         return value
+    if value.op == "?:":
+        return choice(*args, value.type)
     return TESTS[value.op](*args) if value.op in TESTS else value._replace(args=args, reads=value.reads | read_in(args))
 
 

@@ -81,8 +81,8 @@ def known_results(statements, known, sets):
     """In what is returned after a test, what it found is no question. `known` maps conditions and names to numbers."""
     known = dict(known)
     for statement in statements:
-        if isinstance(statement, Return) and statement.value is not None:
-            statement.value = with_known(statement.value, known)
+        if isinstance(statement, Return):
+            statement.replace(known)
         if isinstance(statement, If):
             is_fixed = all(sets[name] < 2 for name in e.names_in(statement.condition))
             facts = [found(statement.condition, is_true) if is_fixed else {} for is_true in (True, False)]
@@ -95,24 +95,10 @@ def known_results(statements, known, sets):
 
 
 def found(condition, is_true):
-    facts = {condition: number(is_true, "bool")}
-    if condition.op == "!":
-        facts[condition.args[0]] = number(not is_true, "bool")
+    facts = {condition: number(is_true, "bool"), negation(condition): number(not is_true, "bool")}
     if condition.op == ("==" if is_true else "!=") and condition.args[0].op == "name" and is_number(condition.args[1]):
         facts[condition.args[0]] = condition.args[1]
     return facts
-
-
-def with_known(value, known):
-    """A value without what is known: tests of it, and a name that it returns alone."""
-    if value in known:
-        return known[value]
-    if value.op in ("struct", "?:", *e.TESTS):
-        args = [with_known(each, known) for each in value.args]
-        if value.op == "struct":
-            return value._replace(args=tuple(args))
-        return e.choice(*args, value.type) if value.op == "?:" else e.TESTS[value.op](*args)
-    return value
 
 
 def choices(statements):
@@ -138,7 +124,7 @@ def join(whole):
             for value in next.expressions() if is_free and isinstance(next, (Assign, Do, Return, If)) else []:
                 is_short = e.size_of(value) < 3 or e.size_of(value) + e.size_of(one.value) <= LARGEST
                 if one.name in e.names_in(value) and is_short:
-                    next.replace(lambda name: one.value if name is one.name else None)
+                    next.replace({e.name(one.name): one.value})
                     del statements[at]
 
 

@@ -19,11 +19,11 @@ class Statement:
     def expressions(self):
         return [getattr(self, key) for key in self.fields if isinstance(getattr(self, key), e.Expression)]
 
-    def replace(self, put):
-        """Has `put(name)` in place of each name that a value is computed from."""
+    def replace(self, known):
+        """Has what `known` maps an expression to in the place of that."""
         for key in self.fields:
             if isinstance(getattr(self, key), e.Expression):
-                setattr(self, key, e.replaced(getattr(self, key), put))
+                setattr(self, key, e.replaced(getattr(self, key), known))
 
 
 class Assign(Statement):
