@@ -84,8 +84,9 @@ def known_results(statements, known, sets):
         if isinstance(statement, Return):
             statement.replace(known)
         if isinstance(statement, If):
-            is_fixed = all(sets[name] < 2 for name in e.names_in(statement.condition))
-            facts = [found(statement.condition, is_true) if is_fixed else {} for is_true in (True, False)]
+            condition = statement.condition
+            is_fixed = not condition.reads and all(sets[name] + name.is_parameter < 2 for name in e.names_in(condition))
+            facts = [found(condition, is_true) if is_fixed else {} for is_true in (True, False)]
             known_results(statement.then, {**known, **facts[0]}, sets)
             known_results(statement.otherwise, {**known, **facts[1]}, sets)
             if ends(statement.then):
