@@ -53,7 +53,7 @@ def hint_from_source(statements, parameters, source, program):
                 name.hint(2, text)
 
 
-def words_in(statement, paths):
+def words_in(statement, short):
     """The names and calls that a value is computed from; None is one without a name."""
     for each in e.parts(statement.value):
         if each.op == "name" and each.args[0] is statement.name:
@@ -61,8 +61,8 @@ def words_in(statement, paths):
         elif each.op == "name":
             hints = each.args[0].hints
             yield each.args[0].source if each.args[0].is_parameter else min(hints)[1] if hints else None
-        if each.op == "call" and each.args[0] in paths:
-            yield paths[each.args[0]]
+        if each.op == "call" and each.args[0] in short:
+            yield short[each.args[0]]
 
 
 def of_many(statement):

@@ -5,23 +5,18 @@ import expression as e
 from expression import Pointer, State
 from statements import Assign, Break, Declare, For, If, Return, every, lists_in, sets_in
 
-UPDATES = {"+", "-", "*", "/", "<<", ">>", "&", "|", "^"}
 NUMBERS = {"u32": "uint32_t", "u64": "uint64_t", "words": "uint64_t", "number": "uint64_t", "size": "size_t",
            "bytes": "unsigned char"}
 
 
-def type_text(type):
-    """Of a name, as it stands before it."""
+def declared(type, name, const=""):
+    """A name after its type. `const` is of the name, and not of what it points into."""
     if not isinstance(type, Pointer):
-        return f"{type} "
-    kind = type.kind.name if isinstance(type.kind, State) else NUMBERS[type.kind]
-    return f"{'const ' if type.is_const else ''}{kind} *"
-
-
-def declared(type, name):
-    if isinstance(type, Pointer) and type.kind == "pairs":
+        return f"{const}{type} {name}"
+    if type.kind == "pairs":
         return f"uint64_t (*{name})[2]"
-    return type_text(type) + name
+    kind = type.kind.name if isinstance(type.kind, State) else NUMBERS[type.kind]
+    return f"{'const ' if type.is_const else ''}{kind} *{const}{name}"
 
 
 def mentions(statements):
@@ -63,17 +58,15 @@ class Text:
     def write_assign(self, statement):
         name, value = statement.name, statement.value
         if statement.is_first:
-            is_pointer = isinstance(name.type, Pointer)
             const = "const " if name in self.constant else ""
-            head = type_text(name.type) + const + name.text if is_pointer else const + declared(name.type, name.text)
-            yield f"{head} = {self.write(value)};"
+            yield f"{declared(name.type, name.text, const)} = {self.write(value)};"
         else:
             yield f"{self.change(e.name(name), value)};"
 
     def change(self, target, value):
         """A target gets a value, which may be computed from it."""
         own = self.write(target)
-        if value.op in UPDATES:
+        if value.op in e.SIGNS.values():
             one, other = value.args if self.write(value.args[0]) == own else value.args[::-1]
             if self.write(one) == own and (one is value.args[0] or value.op in e.COMMUTES):
                 is_step = e.is_number(other, 1) and value.op in "+-" and target.op == "name"
