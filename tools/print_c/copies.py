@@ -49,7 +49,7 @@ class Groups:
 
     def wish(self, name):
         """The best text for a group, or None."""
-        hints = [hint for each in self.all_of(name) for hint in (each.hints if not each.is_parameter else [(0, each.text)])]
+        hints = [hint for each in self.all_of(name) for hint in each.hints]
         return min(hints)[1] if hints else None
 
     def join(self, one, other):

@@ -45,15 +45,14 @@ class Name:
     def __init__(self, type, text=None):
         self.type, self.text, self.number = type, text, next(self.numbers)
         self.is_parameter = text is not None
-        is_struct = isinstance(type, str) and type.startswith("struct ")
-        self.hints = [(9, type.removeprefix("struct skh_"))] if is_struct else []
+        self.hints = [(0, text)] if text else [(9, type.removeprefix("struct skh_"))] if type in FIELDS else []
 
     def hint(self, rank, text):
         self.hints.append((rank, text))
 
     def is_certain(self):
         """Whether the source gives it its name."""
-        return self.is_parameter or any(rank < 3 for rank, _ in self.hints)
+        return any(rank < 3 for rank, _ in self.hints)
 
 
 def name(variable):

@@ -108,7 +108,8 @@ def with_calls_inlined(module, kept):
 def optimize(clang, module, sources):
     """`module` is what the kit's compiler makes. Returns the text of the optimized module."""
     module = run_clang(clang, ["-O2", "-Xclang", "-disable-llvm-passes"], module)
-    module = re.sub(r"  call void @llvm\.trap\(\).*\n(?=  unreachable)", "", module)  # none is reached, as is proved
+    # A division by 0 traps, and the proof excludes it.
+    module = re.sub(r"  call void @llvm\.trap\(\).*\n(?=  unreachable)", "", module)
     kept, before = kept_in(module, sources), None
     module = mark(module, kept)
     while module != before:
