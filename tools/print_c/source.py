@@ -24,14 +24,7 @@ def closing(text, start):
 
 def split(text):
     """At the commas that are in no brackets."""
-    parts, depth = [""], 0
-    for character in text:
-        depth += (character in "([<{") - (character in ")]>}")
-        if character == "," and depth == 0:
-            parts.append("")
-        else:
-            parts[-1] += character
-    return [part.strip() for part in parts if part.strip()]
+    return [part.strip() for part in re.split(r",(?![^(\[<{]*[)\]>}])", text) if part.strip()]
 
 
 def parameters_of(text, owner):
