@@ -8,18 +8,9 @@ import re
 Source = collections.namedtuple("Source", "path parameters result about inline body is_exported")
 # The head of a block of methods, or of a trait; its end; a function, after its comments and attributes.
 ITEM = re.compile(r'^(?:impl(?:<[^>]*>)? (?P<owner>\w+)(?:<[^>]*>)? \{|(?P<trait>impl\b|(?:pub )?trait\b)|(?P<end>\}))|'
-                  r'(?P<about>(?:^ *(?://|#\[).*\n)*)^ *(?:pub(?:\([^)]*\))? )?(?:const )?(?P<exported>extern "C" )?'
-                  r'fn (?P<name>\w+)(?:<[^(]*>)?\(', re.M)
-
-
-def closing(text, start):
-    """The place of the bracket that closes the one at `start`."""
-    pair, depth = {"(": "()", "{": "{}"}[text[start]], 0
-    for at in range(start, len(text)):
-        depth += (text[at] == pair[0]) - (text[at] == pair[1])
-        if depth == 0:
-            return at
-    return len(text)
+                  r'(?P<about>(?:^ *(?://|#\[).*\n)*)^(?P<indent> *)(?:pub(?:\([^)]*\))? )?(?:const )?'
+                  r'(?P<exported>extern "C" )?fn (?P<name>\w+)(?:<[^(]*>)?\((?P<parameters>(?:[^()]|\([^()]*\))*)\)'
+                  r'(?:\s*->\s*(?P<result>[^\n{]+))?', re.M)
 
 
 def split(text):
@@ -76,15 +67,13 @@ class Sources:
             self.sums[int(one) * int(two, 0) + int(three, 0)] = f"(uint64_t){one} * {texts[0]} + {texts[1]}"
 
     def add(self, text, item, module, owner):
-        end = closing(text, item.end() - 1)
-        brace = re.compile(r"\n\s*\{\n| \{\n").search(text, end)
-        result = re.match(r"\s*->\s*([^\n{]+)", text[end + 1:])
-        body = re.sub(r"//[^\n]*", "", text[brace.end() - 2:closing(text, brace.end() - 2)]) if brace else ""
+        brace = re.compile(r"\n\s*\{\n| \{\n").search(text, item.end() - 1)
+        body = text[brace.end() - 2:text.index(f"\n{item['indent']}}}", brace.end()) + 1] if brace else ""
         inline = re.search(r"#\[inline\((\w+)\)\]", item["about"])
         path = "::".join([*module, *([owner] if owner else []), item["name"]])
-        parameters = parameters_of(" ".join(text[item.end():end].split()), owner)
-        found = Source(path, parameters, result[1].strip() if result else "()", paragraph(item["about"]),
-                       inline[1] if inline else "", body, bool(item["exported"]))
+        parameters = parameters_of(" ".join(item["parameters"].split()), owner)
+        found = Source(path, parameters, (item["result"] or "()").strip(), paragraph(item["about"]),
+                       inline[1] if inline else "", re.sub(r"//[^\n]*", "", body), bool(item["exported"]))
         key = item["name"] if found.is_exported else f"{owner}::{item['name']}" if owner else path
         self.functions[key] = found
 
