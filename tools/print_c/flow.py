@@ -8,51 +8,33 @@ class Flow:
 
     def __init__(self, blocks):
         self.after = {label: block[-1].more or [] for label, block in blocks.items()}
-        self.order = []
-        self.visit(next(iter(blocks)), set())
-        self.order.reverse()
+        first = next(iter(blocks))
+        self.order = self.reached(first, set())[::-1]
         self.place = {label: at for at, label in enumerate(self.order)}
-        self.before = {label: [] for label in self.order}
-        for label in self.order:
-            for target in self.after[label]:
-                self.before[target].append(label)
-        self.find_parents()
+        self.before = {label: [each for each in self.order for target in self.after[each] if target == label]
+                       for label in self.order}
+        self.through = {label: {first} for label in self.order}
+        for label in self.order[1:]:
+            for other in set(self.order).difference(self.reached(first, {label})):
+                self.through[other].add(label)
+        self.parent = {label: max(self.through[label] - {label}, key=self.place.get, default=None) for label in self.order}
         self.loops = {}
-        for label in self.order:
-            for target in self.after[label]:
-                if self.place[target] <= self.place[label]:
-                    self.add_to_loop(target, label)
+        for head in self.order:
+            back = [each for each in self.before[head] if self.place[each] >= self.place[head]]
+            if any(head not in self.through[each] for each in back):
+                raise Unknown(f"print_c does not know a loop with two entries: {head}")
+            if back:
+                inside = [each for each in self.order if head in self.through[each]]
+                self.loops[head] = {each for each in inside if head in self.reached(each, set())}
 
-    def visit(self, label, seen):
-        """Adds to `order` what is reached from a block, and then the block."""
+    def reached(self, label, seen):
+        """The labels that a way leads to from one, without those that were seen; itself last."""
         seen.add(label)
+        found = []
         for target in self.after[label]:
             if target not in seen:
-                self.visit(target, seen)
-        self.order.append(label)
-
-    def find_parents(self):
-        first, *rest = self.order
-        self.through, has_changed = {first: {first}}, True
-        while has_changed:
-            has_changed = False
-            for label in rest:
-                known = [self.through[before] for before in self.before[label] if before in self.through]
-                through = {label}.union(set.intersection(*known))
-                has_changed |= self.through.get(label) != through
-                self.through[label] = through
-        self.parent = {label: max(self.through[label] - {label}, key=self.place.get, default=None) for label in self.order}
-
-    def add_to_loop(self, head, last):
-        if head not in self.through[last]:
-            raise Unknown(f"print_c does not know a loop with two entries: {head}")
-        body = self.loops.setdefault(head, {head})
-        stack = [last]
-        while stack:
-            label = stack.pop()
-            if label not in body:
-                body.add(label)
-                stack += self.before[label]
+                found += self.reached(target, seen)
+        return [*found, label]
 
     def is_merge(self, label):
         """Whether more than one way goes on to it from before it."""
