@@ -208,9 +208,7 @@ class Values:
         return e.fields(value) if value else (None, None)
 
     def array(self, step):
-        kind = self.program.kind(self.function, step.result)
-        variable = Name(kind)
-        variable.is_parameter = False
+        variable = Name(self.program.kind(self.function, step.result))
         self.arrays.append((variable, step.more.count))
         self.values[step.result] = e.value_of(variable)
 
