@@ -53,7 +53,8 @@ def branch_at_choices(statements):
 
 
 def early_returns(statements):
-    """A result that is either, as another result was, is returned in two ways; so is one that a second call decides."""
+    """A result that is either, as another result was, is returned in two ways; so is one that a second call decides. The way
+    out without an error mostly holds."""
     for at in range(len(statements) - 1, -1, -1):
         last = statements[at]
         if not isinstance(last, Return) or last.value is None:
@@ -61,13 +62,25 @@ def early_returns(statements):
         if last.value.op == "||" and any(part.op == "call" for part in e.parts(last.value.args[1])):
             first, second = last.value.args
             statements[at:] = [If(first, [Return(number(1, "uint32_t"))], []), Return(second)]
-        if last.value.op != "struct" or last.value.args[1].op != "?:" or last.value.args[0].op != "field":
+        if last.value.op != "struct" or last.value.args[1].op != "?:":
             continue
-        flag, (condition, one, other) = last.value.args[0], last.value.args[1].args
-        if condition == flag or negation(condition) == flag:
-            first = last.value._replace(args=(number(1, "bool"), one if condition == flag else other))
-            second = last.value._replace(args=(number(0, "bool"), other if condition == flag else one))
-            statements[at:] = [If(flag, [Return(first)], []), Return(second)]
+        flag, (condition, *ways) = last.value.args[0], last.value.args[1].args
+        if flag.op not in ("field", "name") or condition not in (flag, negation(flag)):
+            continue
+        if condition != flag:
+            ways.reverse()
+        first, second = (Return(last.value._replace(args=(number(given, "bool"), way))) for given, way in zip((1, 0), ways))
+        before = statements[at - 1] if at else None
+        is_test = isinstance(before, Assign) and e.name(before.name) == flag
+        if is_test and last.value.type == "struct skh_result":
+            test = e.call("SKH_EXPECT", "bool", negation(before.value))
+            statements[at - 1:] = [If(test, [second], []), first]
+        else:
+            statements[at:] = [If(flag, [first], []), second]
+    for one, next in zip(statements, statements[1:]):  # what comes next is not said twice
+        if isinstance(one, If) and isinstance(next, Return) and len(one.then) > 1 and isinstance(one.then[-1], Return) \
+                and one.then[-1].value == next.value:
+            one.then.pop()
 
 
 def leaves(statements):
