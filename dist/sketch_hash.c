@@ -21,9 +21,9 @@
 #error "sketch_hash needs bytes of 8 bits"
 #endif
 
-/* SKH_REQUIRES says what all callers ensure, as is proved: without it keys of 32 to 63 bytes take
- * 1.1 to 1.2 times as long with gcc. SKH_EXPECT says what mostly holds: without it columns of short
- * keys take 1.1 to 1.4 times as long. */
+/* SKH_REQUIRES says what all callers ensure: without it keys of 32 to 63 bytes take 1.1 to 1.2
+ * times as long with gcc. SKH_EXPECT says what mostly holds: without it columns of short keys take
+ * 1.1 to 1.4 times as long, and Murmur's updates by 1 to 3 bytes 1.1 to 1.3 times. */
 #if defined __GNUC__ || defined __clang__
 #define SKH_NOINLINE __attribute__((noinline))
 #define SKH_INLINE static inline __attribute__((always_inline))
@@ -316,12 +316,17 @@ SKH_INLINE void skh_copy_overlapping_8(unsigned char *buffer, uint64_t at,
     skh_copy_array_8(place + bytes_length - 8, bytes + bytes_length - 8);
 }
 
+/* Copies K bytes. The copy of an array is one move; `copy_from_slice` is a loop. */
+SKH_INLINE void skh_copy_array_16(unsigned char *place, const unsigned char *bytes) {
+    memmove(place, bytes, 16);
+}
+
 /* Copies K to 2 K bytes to `buffer[at..]`: first the first K bytes, then the last K. */
 SKH_INLINE void skh_copy_overlapping_16(unsigned char *buffer, uint64_t at,
                                         const unsigned char *bytes, uint64_t bytes_length) {
-    unsigned char *const p1 = buffer + at;
-    memmove(p1, bytes, 16);
-    memmove(p1 + bytes_length - 16, bytes + bytes_length - 16, 16);
+    unsigned char *const place = buffer + at;
+    skh_copy_array_16(place, bytes);
+    skh_copy_array_16(place + bytes_length - 16, bytes + bytes_length - 16);
 }
 
 /* Copies at most 32 bytes to `buffer[at..]`. A `copy_from_slice` of unknown length is a call of
@@ -354,16 +359,16 @@ SKH_INLINE struct skh_result skh_check_offset32(uint64_t bytes_length, const uin
 SKH_INLINE struct skh_result skh_check_offsets32(uint64_t bytes_length, const uint32_t *offsets,
                                                  uint64_t offsets_count, uint64_t keys) {
     if (keys == 0 && offsets_count == 0) return skh_ok(0);
-    uint64_t last1 = 0;
+    uint64_t last = 0;
     for (uint64_t i = 0; i < keys; i++) {
-        const struct skh_result last2 =
-            skh_check_offset32(bytes_length, offsets, offsets_count, i, last1);
-        if (last2.is_error) return skh_error(last2.value);
-        last1 = last2.value;
+        const struct skh_result result1 =
+            skh_check_offset32(bytes_length, offsets, offsets_count, i, last);
+        if (result1.is_error) return skh_error(result1.value);
+        last = result1.value;
     }
-    const struct skh_result result =
-        skh_check_offset32(bytes_length, offsets, offsets_count, keys, last1);
-    if (result.is_error) return skh_error(result.value);
+    const struct skh_result result2 =
+        skh_check_offset32(bytes_length, offsets, offsets_count, keys, last);
+    if (result2.is_error) return skh_error(result2.value);
     return skh_ok(0);
 }
 
@@ -381,16 +386,16 @@ SKH_INLINE struct skh_result skh_check_offset64(uint64_t bytes_length, const uin
 SKH_INLINE struct skh_result skh_check_offsets64(uint64_t bytes_length, const uint64_t *offsets,
                                                  uint64_t offsets_count, uint64_t keys) {
     if (keys == 0 && offsets_count == 0) return skh_ok(0);
-    uint64_t last1 = 0;
+    uint64_t last = 0;
     for (uint64_t i = 0; i < keys; i++) {
-        const struct skh_result last2 =
-            skh_check_offset64(bytes_length, offsets, offsets_count, i, last1);
-        if (last2.is_error) return skh_error(last2.value);
-        last1 = last2.value;
+        const struct skh_result result1 =
+            skh_check_offset64(bytes_length, offsets, offsets_count, i, last);
+        if (result1.is_error) return skh_error(result1.value);
+        last = result1.value;
     }
-    const struct skh_result result =
-        skh_check_offset64(bytes_length, offsets, offsets_count, keys, last1);
-    if (result.is_error) return skh_error(result.value);
+    const struct skh_result result2 =
+        skh_check_offset64(bytes_length, offsets, offsets_count, keys, last);
+    if (result2.is_error) return skh_error(result2.value);
     return skh_ok(0);
 }
 
@@ -569,6 +574,7 @@ SKH_INLINE void skh_xxh64_write_within(sketch_xxh64_state_t *state, const unsign
  * nothing. */
 static SKH_NOINLINE void skh_xxh64_write_across(sketch_xxh64_state_t *state,
                                                 const unsigned char *bytes, uint64_t bytes_length) {
+    SKH_REQUIRES(bytes_length >= 1);
     const uint64_t count = skh_xxh64_waiting_count(state);
     state->total += bytes_length;
     uint64_t v1 = state->v1;
@@ -623,24 +629,24 @@ SKH_INLINE uint64_t skh_xxh64_fold_tail(uint64_t hash, const unsigned char *tail
 
 /* The 64-bit hash of all bytes so far, as of a hasher that resumes the state. */
 SKH_INLINE uint64_t skh_xxh64_finish(const sketch_xxh64_state_t *state) {
-    uint64_t x1;
+    uint64_t hash;
     const uint64_t total = state->total;
     if (total < 32) {
-        x1 = state->seed + SKH_PRIME5;
+        hash = state->seed + SKH_PRIME5;
     } else {
         const uint64_t v1 = state->v1;
         const uint64_t v2 = state->v2;
         const uint64_t v3 = state->v3;
         const uint64_t v4 = state->v4;
-        uint64_t hash =
+        hash =
             skh_rotate64(v2, 7) + skh_rotate64(v1, 1) + skh_rotate64(v3, 12) + skh_rotate64(v4, 18);
         hash = skh_xxh64_merge_round(hash, v1);
         hash = skh_xxh64_merge_round(hash, v2);
         hash = skh_xxh64_merge_round(hash, v3);
-        x1 = skh_xxh64_merge_round(hash, v4);
+        hash = skh_xxh64_merge_round(hash, v4);
     }
     return skh_xxh64_avalanche(
-        skh_xxh64_fold_tail(x1 + total, state->waiting, skh_xxh64_waiting_count(state)));
+        skh_xxh64_fold_tail(hash + total, state->waiting, skh_xxh64_waiting_count(state)));
 }
 
 /* The hash of one key of a column. Long keys are inlined too, and the tail has a loop, whose
@@ -705,11 +711,11 @@ SKH_INLINE bool skh_xxh64_hash_each_u64(const uint64_t *input, uint64_t input_co
  * `out` has places. The caller must have checked the offsets, as `check_offsets` does. */
 static SKH_NOINLINE void skh_xxh64_hash_run32(const unsigned char *bytes, const uint32_t *offsets,
                                               uint64_t start, uint64_t *out, uint64_t out_count) {
+    SKH_REQUIRES(out_count <= 32);
     for (uint64_t i = 0; i < out_count; i++) {
         const uint64_t offset = skh_get32(offsets + i + start);
-        const uint64_t x1 =
-            skh_xxh64_hash(bytes + offset, skh_get32(offsets + i + start + 1) - offset, 0);
-        skh_set64(out + i, x1);
+        skh_set64(out + i,
+                  skh_xxh64_hash(bytes + offset, skh_get32(offsets + i + start + 1) - offset, 0));
     }
 }
 
@@ -717,11 +723,11 @@ static SKH_NOINLINE void skh_xxh64_hash_run32(const unsigned char *bytes, const 
  * `out` has places. The caller must have checked the offsets, as `check_offsets` does. */
 static SKH_NOINLINE void skh_xxh64_hash_run64(const unsigned char *bytes, const uint64_t *offsets,
                                               uint64_t start, uint64_t *out, uint64_t out_count) {
+    SKH_REQUIRES(out_count <= 32);
     for (uint64_t i = 0; i < out_count; i++) {
         const uint64_t offset = skh_get64(offsets + i + start);
-        const uint64_t x1 =
-            skh_xxh64_hash(bytes + offset, skh_get64(offsets + i + start + 1) - offset, 0);
-        skh_set64(out + i, x1);
+        skh_set64(out + i,
+                  skh_xxh64_hash(bytes + offset, skh_get64(offsets + i + start + 1) - offset, 0));
     }
 }
 
@@ -1033,16 +1039,14 @@ SKH_INLINE bool skh_bloom_is_in(bool has_vectors, const unsigned char *filter,
     const uint64_t start = skh_bloom_block_start(filter_length, hash);
     const unsigned char *const block = filter + start;
     const uint32_t w1 = (uint32_t)hash;
-    const bool b1 =
-        skh_any(has_vectors, ~skh_load32(block) & skh_bit(has_vectors, (w1 * SKH_SALT0) >> 27),
-                ~skh_load32(block + 4) & skh_bit(has_vectors, (w1 * SKH_SALT1) >> 27),
-                ~skh_load32(block + 8) & skh_bit(has_vectors, (w1 * SKH_SALT2) >> 27),
-                ~skh_load32(block + 12) & skh_bit(has_vectors, (w1 * SKH_SALT3) >> 27),
-                ~skh_load32(block + 16) & skh_bit(has_vectors, (w1 * SKH_SALT4) >> 27),
-                ~skh_load32(block + 20) & skh_bit(has_vectors, (w1 * SKH_SALT5) >> 27),
-                ~skh_load32(block + 24) & skh_bit(has_vectors, (w1 * SKH_SALT6) >> 27),
-                ~skh_load32(block + 28) & skh_bit(has_vectors, (w1 * SKH_SALT7) >> 27));
-    return !b1;
+    return !skh_any(has_vectors, ~skh_load32(block) & skh_bit(has_vectors, (w1 * SKH_SALT0) >> 27),
+                    ~skh_load32(block + 4) & skh_bit(has_vectors, (w1 * SKH_SALT1) >> 27),
+                    ~skh_load32(block + 8) & skh_bit(has_vectors, (w1 * SKH_SALT2) >> 27),
+                    ~skh_load32(block + 12) & skh_bit(has_vectors, (w1 * SKH_SALT3) >> 27),
+                    ~skh_load32(block + 16) & skh_bit(has_vectors, (w1 * SKH_SALT4) >> 27),
+                    ~skh_load32(block + 20) & skh_bit(has_vectors, (w1 * SKH_SALT5) >> 27),
+                    ~skh_load32(block + 24) & skh_bit(has_vectors, (w1 * SKH_SALT6) >> 27),
+                    ~skh_load32(block + 28) & skh_bit(has_vectors, (w1 * SKH_SALT7) >> 27));
 }
 
 /* Inserts the values with these hashes. It is not inlined, so columns of keys and of hashes
@@ -1106,12 +1110,12 @@ static void skh_bloom_fold_blocks(unsigned char *filter, uint64_t filter_length)
  * folded filter. */
 static uint64_t skh_bloom_found_by_union(const unsigned char *filter, uint64_t k) {
     const unsigned char *const p1 = filter + k * 64;
-    uint64_t x1 = 1;
+    uint64_t found = 1;
     for (uint64_t w = 0; w < 8; w++) {
         const unsigned char *const p2 = p1 + w * 4;
-        x1 *= skh_ones32(skh_load32(p2 + 32) | skh_load32(p2));
+        found *= skh_ones32(skh_load32(p2 + 32) | skh_load32(p2));
     }
-    return x1;
+    return found;
 }
 
 /* Whether a filter has the rate of one in `one_in` once it is folded. */
@@ -1177,12 +1181,10 @@ static uint64_t skh_bloom_length_in(const unsigned char *input, uint64_t input_l
 static bool skh_bloom_has_prefix(const unsigned char *input, uint64_t input_length,
                                  const unsigned char *prefix, uint64_t prefix_length) {
     if (input_length < prefix_length) return false;
-    uint64_t x1 = 0;
-    for (;;) {
-        if (x1 == prefix_length) return true;
-        if (input[x1] != prefix[x1]) return false;
-        x1++;
+    for (uint64_t i = 0; i < prefix_length; i++) {
+        if (input[i] != prefix[i]) return false;
     }
+    return true;
 }
 
 /* ---- Results of calls */
@@ -1237,9 +1239,9 @@ SKETCH_HASH_API uint64_t sketch_xxh64_digest(const sketch_xxh64_state_t *state) 
  * sketch_murmur3_x64_128_bytes. */
 SKETCH_HASH_API void sketch_murmur3_x64_128(const void *input, size_t length, uint64_t seed,
                                             uint64_t hash[2]) {
-    const struct skh_pair pair = skh_murmur3_hash(skh_slice(input), length, seed);
-    hash[0] = pair.first;
-    hash[1] = pair.second;
+    const struct skh_pair h = skh_murmur3_hash(skh_slice(input), length, seed);
+    hash[0] = h.first;
+    hash[1] = h.second;
 }
 
 /* Starts a state with a seed, and no bytes. */
@@ -1283,9 +1285,9 @@ SKETCH_HASH_API void sketch_murmur3_x64_128_bytes(const uint64_t hash[2], unsign
 SKETCH_HASH_API int sketch_xxh64_each32(const void *input, size_t length, const uint32_t *offsets,
                                         size_t offset_count, uint64_t seed, uint64_t *out,
                                         size_t count, size_t *wrong_offset) {
-    const struct skh_result result =
+    const struct skh_result hashed =
         skh_xxh64_hash_each32(skh_slice(input), length, offsets, offset_count, seed, out, count);
-    return skh_report_offset(result.is_error, result.value, wrong_offset);
+    return skh_report_offset(hashed.is_error, hashed.value, wrong_offset);
 }
 
 /* Writes XXH64 of key i to out[i], for each i below `count`. The offsets have 64 bits. Returns 0
@@ -1293,9 +1295,9 @@ SKETCH_HASH_API int sketch_xxh64_each32(const void *input, size_t length, const 
 SKETCH_HASH_API int sketch_xxh64_each64(const void *input, size_t length, const uint64_t *offsets,
                                         size_t offset_count, uint64_t seed, uint64_t *out,
                                         size_t count, size_t *wrong_offset) {
-    const struct skh_result result =
+    const struct skh_result hashed =
         skh_xxh64_hash_each64(skh_slice(input), length, offsets, offset_count, seed, out, count);
-    return skh_report_offset(result.is_error, result.value, wrong_offset);
+    return skh_report_offset(hashed.is_error, hashed.value, wrong_offset);
 }
 
 /* Writes sketch_xxh64_u64 of values[i] to out[i], for each i below `count`. Returns 0, or
@@ -1312,9 +1314,9 @@ SKETCH_HASH_API int sketch_murmur3_x64_128_each32(const void *input, size_t leng
                                                   const uint32_t *offsets, size_t offset_count,
                                                   uint64_t seed, uint64_t (*out)[2], size_t count,
                                                   size_t *wrong_offset) {
-    const struct skh_result result =
+    const struct skh_result hashed =
         skh_murmur3_hash_each32(skh_slice(input), length, offsets, offset_count, seed, out, count);
-    return skh_report_offset(result.is_error, result.value, wrong_offset);
+    return skh_report_offset(hashed.is_error, hashed.value, wrong_offset);
 }
 
 /* Writes MurmurHash3_x64_128 of key i to out[i], for each i below `count`. The offsets have 64
@@ -1323,9 +1325,9 @@ SKETCH_HASH_API int sketch_murmur3_x64_128_each64(const void *input, size_t leng
                                                   const uint64_t *offsets, size_t offset_count,
                                                   uint64_t seed, uint64_t (*out)[2], size_t count,
                                                   size_t *wrong_offset) {
-    const struct skh_result result =
+    const struct skh_result hashed =
         skh_murmur3_hash_each64(skh_slice(input), length, offsets, offset_count, seed, out, count);
-    return skh_report_offset(result.is_error, result.value, wrong_offset);
+    return skh_report_offset(hashed.is_error, hashed.value, wrong_offset);
 }
 
 /* Returns how many bytes the smallest filter has whose false positive rate is at most one in
@@ -1494,24 +1496,21 @@ SKETCH_HASH_API int sketch_bloom_contains_each32(const void *bits, size_t length
     const unsigned char *const filter = skh_slice(bits);
     const unsigned char *const bytes = skh_slice(keys);
     unsigned char *const found_bytes = skh_slice(found);
-    const bool b1 = skh_bloom_is_length(length);
-    if (b1) {
-        const struct skh_result result =
-            skh_check_offsets32(keys_length, offsets, offset_count, count);
-        if (result.is_error) {
-            *wrong_offset = (size_t)result.value;
-            return SKETCH_ERROR_OFFSET;
-        }
-        memset(hashes, 0, 256);
-        uint64_t start = 0;
-        while (start < count) {
-            const uint64_t hashes_count = skh_least64(count - start, 32);
-            skh_xxh64_hash_run32(bytes, offsets, start, hashes, hashes_count);
-            skh_bloom_find_hashes(filter, length, hashes, hashes_count, found_bytes, start);
-            start += hashes_count;
-        }
+    if (!skh_bloom_is_length(length)) return SKETCH_ERROR_LENGTH;
+    const struct skh_result result = skh_check_offsets32(keys_length, offsets, offset_count, count);
+    if (result.is_error) {
+        *wrong_offset = (size_t)result.value;
+        return SKETCH_ERROR_OFFSET;
     }
-    return b1 ? SKETCH_OK : SKETCH_ERROR_LENGTH;
+    memset(hashes, 0, 256);
+    uint64_t start = 0;
+    while (start < count) {
+        const uint64_t hashes_count = skh_least64(count - start, 32);
+        skh_xxh64_hash_run32(bytes, offsets, start, hashes, hashes_count);
+        skh_bloom_find_hashes(filter, length, hashes, hashes_count, found_bytes, start);
+        start += hashes_count;
+    }
+    return SKETCH_OK;
 }
 
 /* Writes 1 or 0 to found[i], as sketch_bloom_contains returns it for key i of a column with
@@ -1590,9 +1589,11 @@ SKH_CHOOSE(SKETCH_HASH_API, int, return, sketch_bloom_contains_each_u64,
 SKETCH_HASH_API int sketch_bloom_contains_each_hash(const void *bits, size_t length,
                                                     const uint64_t *hashes, size_t hash_count,
                                                     unsigned char *found, size_t count) {
+    const unsigned char *const filter = skh_slice(bits);
+    unsigned char *const found_bytes = skh_slice(found);
     if (!skh_bloom_is_length(length)) return SKETCH_ERROR_LENGTH;
     if (hash_count < count) return SKETCH_ERROR_COUNT;
-    skh_bloom_find_hashes(skh_slice(bits), length, hashes, count, skh_slice(found), 0);
+    skh_bloom_find_hashes(filter, length, hashes, count, found_bytes, 0);
     return SKETCH_OK;
 }
 
@@ -1604,8 +1605,7 @@ SKETCH_HASH_API int sketch_bloom_merge(void *into, size_t length, const void *fr
     const unsigned char *const from_bytes = skh_slice(from);
     if (from_length != length || !skh_bloom_is_length(length)) return SKETCH_ERROR_LENGTH;
     for (uint64_t i = 0; i < length; i++) {
-        unsigned char *const p1 = into_bytes + i;
-        p1[0] |= from_bytes[i];
+        into_bytes[i] |= from_bytes[i];
     }
     return SKETCH_OK;
 }

@@ -6,12 +6,13 @@ CLANG is the kit's, and optimizes the module. HEADER declares the functions that
 source, from which names and comments are. The instructions and calls that it knows are those of module.py and values.py; any
 other stops it. The layout is clang-format's.
 
-In order: keep.py optimizes the module and keeps its functions; module.py reads it; program.py finds names and kinds of
-pointers, with source.py. For each function reshape.py changes its blocks, flow.py finds its loops, values.py and body.py make
-statements, copies.py joins names, loops.py tidies, names.py gives names, text.py and expression.py write.
+In order: keep.py optimizes the module and keeps its functions; module.py reads it, and vectors.py makes words of vectors;
+program.py finds names and kinds of pointers, with source.py. For each function flow.py finds its loops, values.py and body.py
+make statements, copies.py joins names, loops.py tidies, names.py gives names, text.py and expression.py write.
 """
 import collections
 import pathlib
+import re
 import sys
 import textwrap
 
@@ -23,12 +24,11 @@ import names
 import text
 import vectors
 from body import Body
-from expression import Writer, made
+from expression import Writer
 from module import Module
 from program import PARTS, Program, part_of
-from reshape import reshape
 from source import Sources
-from values import VECTORS
+from vectors import VECTORS
 
 WIDTH = 100
 
@@ -37,21 +37,16 @@ class Printer:
     def __init__(self, module, header, sources):
         self.program, self.sources = Program(module, header, sources), sources
         self.writer = Writer(sources.named, sources.sums)
-        self.program.parameter_names = {}
-        for function in module.functions:
-            known = [name.text for name in self.program.parameters(function)]
-            vectors = [None] if self.program.has_vectors(function.name) else []
-            self.program.parameter_names[self.program.names[function.name]] = vectors + known
+        self.constants = {text: f"#define {text} 0x{value:x}u" for value, text in sources.named.items()}
+        for name, data in module.constants.items():
+            text = self.program.names[name]
+            self.constants[text] = f"static const unsigned char {text}[] = {{{', '.join(map(str, data))}}};"
 
     def function(self, function):
         program, name = self.program, self.program.names[function.name]
         declared = program.declared.get(function.name)
-        parameters = program.parameters(function)
+        parameters = program.parameters[function.name]
         body = Body(function, program)
-        for own, variable in zip(function.parameters, parameters):
-            kind = variable.type
-            value = e.name(variable)
-            body.values[own.token] = made("place", kind, value, None, 0) if own.type == "ptr" else value
         statements = body.statements_of_all()
         names.hint_from_use(statements, program)
         names.hint_from_source(statements, parameters, function.source, program)
@@ -67,7 +62,7 @@ class Printer:
         lines = [*self.array_lines(body.arrays), *self.requirements(function, parameters),
                  *text.Text(self.writer, statements).lines(statements)]
         if declared:
-            head = ", ".join(each for _, each in declared.parameters) or "void"
+            head = declared.parameters
         else:
             head = ", ".join(text.declared(each.type, each.text) for each in parameters)
         about = textwrap.fill(declared.about if declared else function.source.about, WIDTH - 3, initial_indent="/* ",
@@ -76,13 +71,10 @@ class Printer:
                           *self.with_head(function, name, head, [each.text for each in parameters], lines), ""])
 
     def requirements(self, function, parameters):
-        """What `requires` says of the numbers that a function is given. One that is inlined has it from its caller."""
-        if not function.is_internal or function.source.inline != "never":
-            return
-        every = keep.parameters_in_c(function.source, self.sources.structs)
+        """What all callers ensure of the numbers that a function is given. One that is inlined has it from its caller."""
         for own, variable in zip(function.parameters, parameters):
-            least, most = function.source.ranges.get(every[int(own.token[2:])][2], (0, None))
-            bounds = [f"{variable.text} >= {least}"] * (least > 0) + [f"{variable.text} <= {most}"] * (most is not None)
+            least, end = function.ranges.get(own.token, (0, 0)) if function.source.inline == "never" else (0, 0)
+            bounds = [f"{variable.text} >= {least}"] * (least > 0) + [f"{variable.text} <= {end - 1}"] * (end > 0)
             if bounds:
                 yield f"SKH_REQUIRES({' && '.join(bounds)});"
 
@@ -123,23 +115,12 @@ class Printer:
             visit(function.name)
         return [*((title, parts[title]) for _, _, title in PARTS if parts[title]), ("Calls", calls)]
 
-    def constants(self, functions, done):
-        """What the source gives names to, and these functions use first."""
-        for value in dict.fromkeys(self.writer.used):
-            if value not in done:
-                yield f"#define {self.sources.named[value]} 0x{value:x}u"
-        for name, data in self.program.module.constants.items():
-            if name not in done and any(operand.token in (f"@{name}", f'@"{name}"') for function in functions
-                                        for step in function.steps() for operand in step.operands):
-                yield f"static const unsigned char {self.program.names[name]}[] = {{{', '.join(map(str, data))}}};"
-                done.add(name)
-        done.update(self.writer.used)
-
     def text(self, head):
-        out, done = [head], set()
+        out = [head]
         for title, group in self.in_order():
             functions = [self.function(function) for function in group]
-            constants = [*self.constants(group, done)]
+            words = re.findall(r"\w+", "\n".join(functions))
+            constants = [self.constants.pop(word) for word in dict.fromkeys(words) if word in self.constants]
             out += [f"/* ---- {title} */\n", *constants, *([""] if constants else []), *functions]
         return "\n".join(out)
 
@@ -149,7 +130,6 @@ def main(clang, module, header, crates):
     module = Module(keep.optimize(clang, pathlib.Path(module).read_bytes(), sources))
     for function in module.functions:
         vectors.split(function)
-        reshape(function)
     head = (pathlib.Path(__file__).parent / "head.c").read_text()
     return Printer(module, pathlib.Path(header).read_text(), sources).text(head)
 

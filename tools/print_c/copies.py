@@ -3,7 +3,7 @@ source, and never both are needed."""
 import collections
 
 import expression as e
-from statements import Assign, Break, If, Loop, Return, every, lists_in
+from statements import Assign, Break, If, Loop, Return, every
 
 
 class Groups:
@@ -56,7 +56,7 @@ class Groups:
         """Makes them one, if they can be."""
         mine, others = self.all_of(one), self.all_of(other)
         is_apart = any(self.apart[each].intersection(others) for each in mine)
-        if mine is not others and type_of(one) == type_of(other) and not {one, other} & self.fixed and not is_apart:
+        if mine is not others and one.type == other.type and not {one, other} & self.fixed and not is_apart:
             self.group.update(dict.fromkeys(mine + others, mine + others))
 
 
@@ -64,19 +64,13 @@ def copied(statement):
     return statement.value.args[0] if statement.value.op == "name" else None
 
 
-def type_of(name):
-    return "uint64_t" if name.type == "size_t" else name.type
-
-
 def share(statements, parameters, fixed):
     groups = Groups(statements, parameters, set(fixed))
     sets = [each for each in every(statements) if isinstance(each, Assign)]
     for each in sets:
-        own, other = each.name, copied(each)
-        if other:
-            mine = own if other.is_parameter else other if own.is_parameter else None
-            if mine is None or groups.wish(mine) in (None, (other if mine is own else own).text):
-                groups.join(other, own)
+        other = copied(each)
+        if other and (not other.is_parameter or groups.wish(each.name) in (None, other.text)):
+            groups.join(other, each.name)
     for each in sets:
         for arm in each.value.args[1:] if each.value.op == "?:" else ():
             if arm.op == "name":
@@ -88,13 +82,7 @@ def share(statements, parameters, fixed):
     for name in groups.group:
         if name is not groups.of(name):
             groups.of(name).hints += name.hints
-    rename(statements, groups.of)
-
-
-def rename(statements, of):
-    for statement in every(statements):
-        statement.replace(lambda name: e.name(of(name)))
-        if isinstance(statement, Assign):
-            statement.name = of(statement.name)
-    for each in lists_in(statements):
-        each[:] = [one for one in each if not (isinstance(one, Assign) and copied(one) is one.name)]
+    for each in every(statements):
+        each.replace(lambda name: e.name(groups.of(name)))
+        if isinstance(each, Assign):
+            each.name = groups.of(each.name)

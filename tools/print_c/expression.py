@@ -24,6 +24,7 @@ LEVELS = [("*", "/"), ("+", "-"), ("<<", ">>"), ("<", "<=", ">", ">="), ("==", "
           ("?:",)]
 LEVEL = {op: 3 + place for place, ops in enumerate(LEVELS) for op in ops}
 ATOM, UNARY = 0, 1
+SIGNS = {"add": "+", "sub": "-", "mul": "*", "udiv": "/", "shl": "<<", "lshr": ">>", "and": "&", "or": "|", "xor": "^"}
 NEGATED = {"==": "!=", "!=": "==", "<": ">=", ">=": "<", ">": "<=", "<=": ">"}
 COMMUTES = {"+", "*", "&", "|", "^", "&&", "||"}
 WIDTHS = {"bool": 1, "uint8_t": 8, "uint16_t": 16, "uint32_t": 32, "uint64_t": 64, "size_t": 64}
@@ -34,12 +35,6 @@ TYPES = {"i1": "bool", "i8": "uint8_t", "i16": "uint16_t", "i32": "uint32_t", "i
 FIELDS = {"struct skh_pair": (("uint64_t", "first"), ("uint64_t", "second")),
           "struct skh_option": (("bool", "is_some"), ("uint64_t", "value")),
           "struct skh_result": (("bool", "is_error"), ("uint64_t", "value"))}
-
-
-def struct_of(source):
-    """The struct that a function of the source returns."""
-    kind = source.result.partition("<")[0]
-    return {"Option": "struct skh_option", "Result": "struct skh_result"}.get(kind, "struct skh_pair")
 
 
 class Name:
@@ -63,6 +58,11 @@ class Name:
 
 def name(variable):
     return Expression("name", (variable,), variable.type, NOTHING)
+
+
+def value_of(variable):
+    found = name(variable)
+    return made("place", variable.type, found, None, 0) if isinstance(variable.type, Pointer) else found
 
 
 def number(value, type="uint64_t"):
@@ -101,10 +101,6 @@ def is_number(value, *numbers):
 def cast(type, value):
     if value.type == type:
         return value
-    if value.op == "number" and type in WIDTHS:
-        return number(value.args[0], type)
-    if value.op == "cast" and WIDTHS.get(value.args[0].type, 99) >= WIDTHS.get(value.type, 0) >= WIDTHS.get(type, 0):
-        return cast(type, value.args[0])
     return made("cast", type, value)
 
 
@@ -121,8 +117,6 @@ def binary(op, one, other, type=None):
 
 
 def comparison(op, one, other):
-    if is_number(one) and not is_number(other):
-        one, other, op = other, one, {"<": ">", ">": "<", "<=": ">=", ">=": "<="}.get(op, op)
     if one.type == "bool" and is_number(other, 0, 1) and op in ("==", "!="):
         return one if (op == "==") == is_number(other, 1) else negation(one)
     return made(op, "bool", one, other)
@@ -132,29 +126,19 @@ def choice(condition, one, other, type):
     """One of two values, without what the condition says already."""
     if is_number(condition):
         return one if condition.args[0] else other
-    if one == other:
-        return one
     if type == "bool" and is_number(other, 0):
         return conjunction(condition, one)
-    if type == "bool" and is_number(one, 1):
-        return negation(conjunction(negation(condition), negation(other)))
     if condition.op in ("!", "!="):
         condition, one, other = negation(condition), other, one
     return made("?:", type, condition, one, other)
 
 
 def conjunction(one, other):
-    if is_number(one):
-        return other if one.args[0] else one
-    if is_number(other):
-        return one if other.args[0] else other
     return made("&&", "bool", one, other)
 
 
 def disjunction(one, other):
     """One or the other, of which the second is only asked if the first is not so."""
-    if is_number(one) or is_number(other):
-        return negation(conjunction(negation(one), negation(other)))
     if one.op == "&&" and negation(one.args[0]) == other:
         return disjunction(other, one.args[1])
     return made("||", "bool", one, other)
@@ -167,8 +151,6 @@ def negation(value):
         return made(NEGATED[value.op], "bool", *value.args)
     if value.op in ("&&", "||"):
         return made("||" if value.op == "&&" else "&&", "bool", *map(negation, value.args))
-    if is_number(value):
-        return number(1 - value.args[0], "bool")
     return made("!", "bool", value)
 
 
@@ -208,24 +190,20 @@ def size_of(value):
 
 class Writer:
     """Writes expressions. `named` maps a number to the name that the source gives it, and `sums` one to how the source
-    computes it. `used` are the numbers whose names it wrote."""
+    computes it."""
 
     def __init__(self, named, sums):
-        self.named, self.sums, self.used = named, sums, []
+        self.named, self.sums = named, sums
 
     def number(self, value, type):
         if type == "bool":
             return "true" if value else "false"
         width = WIDTHS[type]
-        if value in self.named:
-            self.used.append(value)
-            return self.named[value]
-        if value in self.sums:
-            return self.sums[value]
+        if value in self.named or value in self.sums:
+            return self.named.get(value) or self.sums[value]
         for one, name in self.named.items():
             rest = value - one & (1 << width) - 1
             if width == 64 and (rest < 64 or rest in self.named):
-                self.used += [one] + [rest] * (rest in self.named)
                 return f"{name} + {self.named.get(rest, rest)}"
         if width == 64 and value == (1 << 64) - 1:
             return "UINT64_MAX"

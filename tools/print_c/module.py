@@ -14,13 +14,13 @@ Array = collections.namedtuple("Array", "count element")
 
 NAME = r'[%@](?:"[^"]*"|[-\w.$]+)'
 TYPE = r"i\d+\b|ptr\b|void\b|label\b|<\d+ x i\d+>|\[\d+ x i\d+\]|\{ [\w, ]+ \}"
-VALUE = NAME + r"|-?\d+|true|false|null|poison|zeroinitializer|splat \([^()]*\)|<[^<>]*>|ptrtoaddr \([^()]*\)"
+VALUE = NAME + r"|-?\d+|true|false|null|poison|zeroinitializer|splat \([^()]*\)|<[^<>]*>"
 ATTRIBUTE = r"align \d+|[a-z_]+(?:\((?:[^()]|\([^()]*\))*\))?"
 OPERAND = re.compile(rf"({TYPE})(?:(?: (?:{ATTRIBUTE}))*? ({VALUE})(?![\w.]))?|({VALUE})")
 FUNCTION = re.compile(rf"({TYPE}) ({NAME})\((.*)\)[^()]*$")
 STEP = re.compile(rf"\s+(?:({NAME}) = )?(?:tail )?(\w+)(?: (?:nuw|nsw|exact|disjoint|samesign|nneg|inbounds)\b)*"
                   r"(?: (eq|ne|[us][lg][te]))?(.*?)(?:, align \d+)?(?:, ![\w.]+ !\d+)*$")
-CASTS = {"zext", "sext", "trunc", "ptrtoaddr", "bitcast"}
+CASTS = {"zext", "sext", "trunc", "bitcast"}
 # Their result has the type of the first operand, or they have none.
 OTHERS = {"add", "sub", "mul", "and", "or", "xor", "shl", "lshr", "udiv", "freeze", "insertelement", "insertvalue", "store",
           "br", "switch", "ret", "load", "getelementptr", "icmp", "select", "alloca", "phi", "extractvalue", "shufflevector"}
@@ -53,8 +53,6 @@ def operands(text):
             token = [one.token for one in operands(token[1:-1])]
         elif token and token.startswith("splat"):
             token = [operands(token[6:])[0].token] * type.count
-        elif token and token.startswith("ptrtoaddr"):
-            token = "address", operands(token[10:])[0].token
         found.append(Operand(type, bare(token) if type == "label" else token))
         return ""
 
@@ -98,7 +96,7 @@ def instruction(text):
 
 class Function:
     """`blocks` maps a label to instructions, in the order of the text; the first is the entry. `reads` and `writes` say what it
-    does with memory."""
+    does with memory. `ranges` maps a parameter to the least number that callers give it, and the first that is too large."""
 
     def __init__(self, head, lines, attributes):
         type, name, parameters = FUNCTION.search(head).groups()
@@ -106,6 +104,8 @@ class Function:
         self.type, self.name, self.parameters = type_of(type), bare(name), operands(parameters)
         memory = re.search(r"memory\(([^)]*)\)", attributes.get(head.strip().rpartition("#")[2], ""))
         self.writes, self.reads = not memory or "write" in memory[1], not memory or memory[1] != "none"
+        ranges = re.findall(r"range\(i\d+ (\d+), (\d+)\)[^,]* (%\w+)", parameters)
+        self.ranges = {token: (int(least), int(end)) for least, end, token in ranges}
         self.blocks, label = {}, "entry"
         for line in lines:
             found = re.match(r'("[^"]*"|[-\w.$]+):', line)

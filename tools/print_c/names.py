@@ -5,21 +5,17 @@ import re
 
 import expression as e
 from expression import FIELDS, Pointer
-from statements import Assign, Do, For, every
+from statements import Assign, For, every
 
 OWN = "its own value before"
 LETTERS = {"bool": "b", "uint8_t": "byte", "uint16_t": "w", "uint32_t": "w", "uint64_t": "x", "skh_uint128": "y"}
 
 
 def hint_from_use(statements, program):
-    """A value that is passed on has the name of the parameter; one that is stored to a field, or read from one, that of it."""
+    """A value that is passed on has the name of the parameter, and one that is read from a field that of it."""
     for statement in every(statements):
         if isinstance(statement, Assign) and statement.value.op == "arrow":
             statement.name.hint(3, statement.value.args[1])
-        if isinstance(statement, Do) and statement.value.op == "=":
-            target, value = statement.value.args
-            if target.op == "arrow" and value.op == "name":
-                value.args[0].hint(3, target.args[1])
         for value in statement.expressions():
             for each in e.parts(value):
                 if each.op == "call" and each.args[0] in program.parameter_names:
@@ -35,8 +31,6 @@ SET = re.compile(r"(?<!\w)(let (?:mut )?)?(\w+)(?:: [^=;{}]+)? ([-+*/%|&^]|<<|>>
 
 def hint_from_source(statements, parameters, source, program):
     """A value has the name that the source gives to one of the same names and calls, if each is the only such one."""
-    if not source:
-        return
     sets = SET.findall(source.body)
     known = {plain(each.text) for each in parameters} | {name for _, name, _, _ in sets} | set(program.short.values())
     known |= {*re.findall(r"for (\w+) in", source.body)}
@@ -52,7 +46,7 @@ def hint_from_source(statements, parameters, source, program):
             if isinstance(each, Assign):
                 found[frozenset(words_in(each, program.short))].add(each.name)
         for words, names in found.items():
-            if words and None not in words and len(names) == len(named[words]) == 1:
+            if None not in words and len(names) == len(named[words]) == 1:
                 (name,), (text,) = names, named[words]
                 name.hint(2, text)
 
@@ -92,39 +86,36 @@ def of_many(statement):
 
 def hint_arguments(call, names):
     for text, value in zip(names, call.args[1:]):
-        if value.op == "name" and text:
-            value.args[0].hint(5, text)
+        rank = 5 if value.op == "name" else 7
+        while value.op == "+":
+            value = value.args[0]
+        if value.op == "name":
+            value.args[0].hint(rank, text)
 
 
 def hint_loops(statements, source):
-    """Names of loops: the source's, if it has as many, and else i, j, k."""
+    """Names of loops: the source's, if it has as many, and else i."""
     loops = [each for each in every(statements) if isinstance(each, For)]
-    known = re.findall(r"\bfor (\w+) in [^{\n]*\.\.", source.body) if source else []
+    known = re.findall(r"\bfor (\w+) in [^{\n]*\.\.", source.body)
     for at, loop in enumerate(loops):
-        depth = sum(loop in [*every(other.body)] for other in loops)
-        loop.name.hint(2, known[at] if len(known) == len(loops) else "ijk"[depth])
+        loop.name.hint(2, known[at] if len(known) == len(loops) else "i")
 
 
 def give(statements, parameters, arrays, reserved):
     """Gives each name its text."""
-    taken = {each.text for each in parameters} | set(reserved)
     known = {each.text for each in parameters}
-    order = list(dict.fromkeys([*arrays, *(each.name for each in every(statements) if isinstance(each, (Assign, For)))]))
-    order = [name for name in order if not name.is_parameter]
-    wishes = {name: [text for rank, text in sorted(name.hints) if rank < 4 or text not in known] for name in order}
+    taken = known | set(reserved)
+    order = dict.fromkeys([*arrays, *(each.name for each in every(statements) if isinstance(each, (Assign, For)))])
+    wishes = {name: [text for rank, text in sorted(name.hints) if rank < 4 or text not in known]
+              for name in order if not name.is_parameter}
     wanted = collections.Counter(texts[0] for texts in wishes.values() if texts)
-    for name in order:
-        hints, free = wishes[name], None
-        if hints and wanted[hints[0]] > 1 and not isinstance(name.type, Pointer) and len(hints[0]) > 1:
-            free = numbered(hints[0], taken, 1)
-        elif hints:
-            free = next((text for text in hints if text not in taken), None) or numbered(hints[0], taken)
-        if free is None:
-            free = numbered("p" if isinstance(name.type, Pointer) else LETTERS[name.type], taken, 1)
-        name.text = free
-        taken.add(free)
+    for name, texts in wishes.items():
+        first = texts[0] if texts else "p" if isinstance(name.type, Pointer) else LETTERS[name.type]
+        free = next((text for text in texts if text not in taken), None) if wanted[first] < 2 else None
+        name.text = free or numbered(first, taken, 2 if texts and wanted[first] < 2 else 1)
+        taken.add(name.text)
 
 
-def numbered(text, taken, start=2):
+def numbered(text, taken, start):
     text += "_" * text[-1].isdigit()
     return next(f"{text}{number}" for number in itertools.count(start) if f"{text}{number}" not in taken)

@@ -3,10 +3,10 @@ import collections
 import re
 
 import keep
-from expression import TYPES, Name, Pointer, State, struct_of
-from module import Unknown, bare
+from expression import TYPES, Name, Pointer, State
+from module import Unknown
 from source import closing
-from vectors import OF_VECTORS
+from vectors import OF_VECTORS, VECTORS
 
 # The parts of the text in their order: how the path of a function begins that stands in it, and how its name.
 PARTS = (("sketch_hash::hash::words", "skh_", "Words"),
@@ -16,11 +16,11 @@ PARTS = (("sketch_hash::hash::words", "skh_", "Words"),
          ("sketch_hash::hash::murmurhash", "skh_murmur3_", "MurmurHash3 x64 128"),
          ("sketch_bloom", "skh_bloom_", "Bloom filter"),
          ("sketch_c", "skh_", "Results of calls"))
-# How the header declares, or the source, what a pointer points into.
-KINDS = {"pairs": r"\(\*|\[\[u64; 2\]\]", "words": r"uint64_t \w+\[2\]", "size": r"size_t \*|usize",
-         "u64": r"uint64_t \*|\[u64\]", "u32": r"uint32_t \*|\[u32\]", "bytes": r"void \*|char|\[\[?u8"}
+# What a pointer points into, by its type in the source.
+KINDS = {"pairs": "[[u64; 2]]", "words": "[u64; 2]", "size": "&mut usize", "number": "&mut u64", "u64": "[u64]", "u32": "[u32]",
+         "bytes": "u8"}
 GENERIC = re.compile(r"&\[[A-Z]\]")  # a slice of a type parameter
-Declaration = collections.namedtuple("Declaration", "type parameters about")
+Declaration = collections.namedtuple("Declaration", "type names parameters about")
 
 
 def part_of(path):
@@ -31,13 +31,13 @@ def part_of(path):
 
 
 class Program:
-    """`names` and `kinds`: of functions and constants, and of pointers, by function and value."""
+    """`names`, `parameters` and `kinds`: of functions and constants, of functions, and of pointers, by function and value."""
 
     def __init__(self, module, header, sources):
         self.module, self.sources = module, sources
         self.functions = {function.name: function for function in module.functions}
         for function in module.functions:
-            function.source = sources.of(keep.path_of(function.name)) if function.is_internal else None
+            function.source = sources.of(keep.path_of(function.name))
         self.read_header(header)
         self.callees = {function.name: list(dict.fromkeys(step.more for step in function.steps() if step.operation == "call"
                                                           and step.more in self.functions)) for function in module.functions}
@@ -51,26 +51,24 @@ class Program:
         self.statuses = {int(number): name for name, number in re.findall(r"(\w+) = (-?\d+)", header)}
         pattern = r"(?:/\*\*((?:[^*]|\*(?!/))*)\*/\n)?^SKETCH_HASH_API (\w+) (\w+)\(([^;{}]*)\);"
         for about, type, name, parameters in re.findall(pattern, header, re.M):
-            texts = [" ".join(text.split()) for text in parameters.split(",")]
-            pairs = [(re.search(r"(\w+)\)?(?:\[\d+\])?$", text)[1], text) for text in texts if text != "void"]
-            lines = [line.strip().removeprefix("*").strip() for line in about.split("\n")]
-            text = "\n".join(lines).strip().split("\n\n")[0]
-            self.declared[name] = Declaration(type, pairs, " ".join(text.split()))
+            names = re.findall(r"(\w+)\)?(?:\[\d+\])?(?:,|$)", parameters)
+            about = re.sub(r"^ \*", "", about, flags=re.M).strip().split("\n\n")[0]
+            self.declared[name] = Declaration(type, names, " ".join(parameters.split()), " ".join(about.split()))
         for fields, name in re.findall(r"typedef struct \w+ \{\n(.*?)\n\} (\w+);", header, re.S):
             keys = re.findall(r"(\w+)(?:, |;)", re.sub(r"/\*.*?\*/|unsigned char.*", "", fields))
-            self.states[name] = State(name, {8 * at: key for at, key in enumerate(keys)})
+            state = State(name, {8 * at: key for at, key in enumerate(keys)})
+            self.states |= {name: state for name, own in self.sources.structs.items() if [key for key, _ in own][:-1] == keys}
 
     # ---- pointers
 
     def kind(self, function, token):
-        """What a pointer points into: as the header or the source declares the parameter that it is computed from, or as it is
-        used."""
+        """What a pointer points into: what the type of the parameter says from which it is computed, or else how it is used."""
         root = next(self.roots(function, token))
         if (function.name, root) not in self.kinds:
-            text = dict(zip((own.token for own in function.parameters), self.texts_of(function))).get(root, "")
-            is_const = "mut " not in text if text.startswith("&") else "const " in text
-            kind = self.kind_of_text(text) or self.kind_in_use(function, root)
-            self.kinds[function.name, root] = Pointer(kind, is_const)
+            type = {own.token: type for own, _, type in self.present(function)}.get(root, "&mut")
+            known = [kind for kind, part in KINDS.items() if part in type]
+            kind = self.states.get(type.split()[-1].strip("&")) or (known[0] if known else self.kind_in_use(function, root))
+            self.kinds[function.name, root] = Pointer(kind, "mut" not in type)
         return self.kinds[function.name, root]
 
     def roots(self, function, token, seen=frozenset()):
@@ -95,28 +93,10 @@ class Program:
                         return kind
         return "bytes"
 
-    def texts_of(self, function):
-        """How the header or the source declares each parameter that the module still has."""
-        return [text for _, text in self.declared_parameters(function)]
-
-    def declared_parameters(self, function):
-        """The name and the type of each parameter that the module still has, as the header or the source has them."""
-        if not function.is_internal:
-            if function.name not in self.declared:
-                raise Unknown(f"the header does not declare {function.name}")
-            return self.declared[function.name].parameters
+    def present(self, function):
+        """The parameters that the module still has, each with its name and its type in the source."""
         every = keep.parameters_in_c(function.source, self.sources.structs)
-        owner = function.source.path.split("::")[-2]
-        present = [every[int(own.token[2:])] for own in function.parameters]
-        return [(name, type.replace("self", owner)) for name, type, _ in present]
-
-    def kind_of_text(self, text):
-        """The kind of a parameter, from its text in the header or its type in the source; or None if that does not say."""
-        for name, state in self.states.items():
-            struct = self.sources.structs.get(text.split()[-1].strip("&") if text else "", ())
-            if name in text or [key for key, _ in struct] == [*state.fields.values(), "waiting"]:
-                return state
-        return next((kind for kind, pattern in KINDS.items() if re.search(pattern, text)), None)
+        return [(own, *every[int(own.token[2:])]) for own in function.parameters]
 
     # ---- functions
 
@@ -143,71 +123,54 @@ class Program:
         self.names = {name: name for name in self.declared}
         counts = collections.Counter(wanted.values())
         for name, text in wanted.items():
-            self.names[name] = self.new(text + (self.suffix(name) if counts[text] > 1 else ""))
+            self.names[name] = text + (self.suffix(name) if counts[text] > 1 else "")
         self.short = {self.names[name]: keep.path_of(name).split("::")[-1] for name in self.functions}
+        self.parameters = {name: self.parameters_of(function) for name, function in self.functions.items()}
+        self.parameter_names = {}
+        for name, parameters in self.parameters.items():
+            vectors = VECTORS.args if self.has_vectors(name) else ()
+            self.parameter_names[self.names[name]] = [*vectors, *(each.text for each in parameters)]
         for name, data in self.module.constants.items():
-            self.names[name] = self.new("skh_" + self.sources.arrays.get(tuple(data), "bytes"))
+            self.names[name] = "skh_" + self.sources.arrays.get(tuple(data), "bytes")
 
     def suffix(self, name):
         """What tells instances of one function apart: a number among their arguments, or the width of their offsets."""
         number = re.search(r"::<=(\d+)>", name)
         if number:
             return f"_{number[1]}"
-        function = self.functions[name]
-        generic = [own.token for own, text in zip(function.parameters, self.texts_of(function)) if GENERIC.fullmatch(text)]
-        return self.kind(function, generic[0]).kind[1:] if generic else ""
+        generic = [own.token for own, _, type in self.present(self.functions[name]) if GENERIC.fullmatch(type)]
+        return self.kind(self.functions[name], generic[0]).kind[1:] if generic else ""
 
-    def new(self, name):
-        number, found = 1, name
-        while found in self.names.values():
-            number += 1
-            found = f"{name}_{number}"
-        return found
-
-    def constant(self, token):
-        return self.names[bare(token)]
-
-    def parameters(self, function):
-        """The names of a function's parameters."""
-        found = []
-        for own, (text, type) in zip(function.parameters, self.declared_parameters(function)):
-            text = "state" if text == "self" else text
-            kind = self.kind(function, own.token) if own.type == "ptr" else None
-            is_size = not function.is_internal and type.startswith("size_t ")
-            found.append(Name(kind or ("size_t" if is_size else "bool" if type == "bool" else TYPES[own.type]), text))
+    def parameters_of(self, function):
+        found, declared = [], self.declared.get(function.name)
+        for at, (own, name, type) in enumerate(self.present(function)):
+            number = "size_t" if declared and type == "usize" else "bool" if type == "bool" else TYPES.get(own.type)
+            kind = self.kind(function, own.token) if own.type == "ptr" else number
+            found.append(Name(kind, declared.names[at] if declared else name))
         return found
 
     def result_type(self, function):
         if not function.is_internal:
             return self.declared[function.name].type
-        source = function.source
+        result = function.source.result
         if function.type not in TYPES:
-            return struct_of(source)
-        is_flag = source.result == "bool" or keep.EITHER.fullmatch(source.result)
-        return "int" if source.result == "i32" else "bool" if is_flag else TYPES[function.type]
+            return f"struct skh_{ {'O': 'option', 'R': 'result', '(': 'pair'}[result[0]]}"
+        is_flag = result == "bool" or keep.EITHER.fullmatch(result)
+        return "int" if result == "i32" else "bool" if is_flag else TYPES[function.type]
 
     def binding(self, body, step):
         """The name that the source gives to what a call returns, if it is certain."""
         source, short = body.function.source, keep.path_of(step.more).split("::")[-1]
-        if not source:
-            return None
         places = [*re.finditer(rf"(?<![\w]){short}(?:::<[^>()]*>)?\(", source.body)]
         names = []
         for place in places:
             end = closing(source.body, place.end() - 1)
             before, after = source.body[:place.start()], source.body[end + 1:]
             bound = re.search(r"(?:let (?:mut )?|[;{}]\s+)(\w+|\([\w, ]+\))(?:: [^=;]+)? = (?:\w+(?:::|\.))*$", before)
-            names.append(stem(bound[1]) if bound and re.match(r"\??;", after) else None)
+            names.append(stem(bound[1]) if bound and after[0] == ";" else None)
         calls = [each.result for each in body.function.steps() if each.operation == "call"
                  and keep.path_of(each.more).split("::")[-1] == short]
-        if len(calls) == len(names):
-            return names[calls.index(step.result)]
-        return names[0] if names and len(set(names)) == 1 else None
-
-    def is_better_negated(self, value, type):
-        width = 64 if type == "uint64_t" else 32
-        negative = (1 << width) - value
-        return value not in self.sources.named and (negative < 1 << 20 or negative in self.sources.named)
+        return names[calls.index(step.result)] if len(calls) == len(names) else None
 
 
 def stem(text):

@@ -1,17 +1,15 @@
-"""What the source in Rattle says of a function: its parameters, its first comment, its clauses `requires`, and the names that
-its body gives to values."""
+"""What the source in Rattle says of a function: its parameters, its first comment, and the names that its body gives to
+values."""
 import collections
 import re
 
 # `parameters` are pairs of a name and a type, `about` is the first paragraph of its comment, `inline` is always, never or
-# empty, `ranges` maps a parameter, or `length NAME` of a slice, to its least and its largest number, `body` is
-# its text without comments.
-Source = collections.namedtuple("Source", "path parameters result about inline ranges body is_exported")
+# empty, `body` is its text without comments.
+Source = collections.namedtuple("Source", "path parameters result about inline body is_exported")
 # The head of a block of methods, or of a trait; its end; a function, after its comments and attributes.
 ITEM = re.compile(r'^(?:impl(?:<[^>]*>)? (?P<owner>\w+)(?:<[^>]*>)? \{|(?P<trait>impl\b|(?:pub )?trait\b)|(?P<end>\}))|'
                   r'(?P<about>(?:^ *(?://|#\[).*\n)*)^ *(?:pub(?:\([^)]*\))? )?(?:const )?(?P<exported>extern "C" )?'
                   r'fn (?P<name>\w+)(?:<[^(]*>)?\(', re.M)
-BOUND = re.compile(r"requires(?: \w+)? \{ (.*?)(?:\.now|\.old)? (<|≤|≡) (.*?)(?:\.now|\.old)? \}$", re.M)
 
 
 def closing(text, start):
@@ -36,11 +34,11 @@ def split(text):
     return [part.strip() for part in parts if part.strip()]
 
 
-def parameters_of(text):
+def parameters_of(text, owner):
     found = []
     for part in split(text):
-        name, _, type = part.partition(":")
-        found.append((name.strip().removeprefix("mut "), type.strip()) if type else ("self", part))
+        name, _, type = part.removeprefix("mut ").partition(":")
+        found.append((name, type.strip()) if type else ("state", part.replace("self", owner or "")))
     return found
 
 
@@ -54,11 +52,7 @@ class Sources:
     """The functions of all crates, but for methods of traits: `by_path` those that stand alone, `methods` by their type."""
 
     def __init__(self, folder):
-        self.by_path, self.methods, self.numbers, self.arrays, self.structs = {}, {}, {}, {}, {}
-        self.named, self.sums = {}, {}
-        for file in sorted(folder.glob("*/specs/*.antt")):
-            for name, number in re.findall(r"^(\w+) = (\d+)$", file.read_text(), re.M):
-                self.numbers[name] = int(number)
+        self.by_path, self.methods, self.arrays, self.structs, self.named, self.sums = {}, {}, {}, {}, {}, {}
         for file in sorted(folder.glob("*/src/**/*.rt")):
             parts = [file.parts[len(folder.parts)], *file.relative_to(folder).with_suffix("").parts[2:]]
             if "tests" not in parts:
@@ -91,40 +85,17 @@ class Sources:
     def add(self, text, item, module, owner):
         end = closing(text, item.end() - 1)
         brace = re.compile(r"\n\s*\{\n| \{\n").search(text, end)
-        clauses = text[end + 1:brace.start() + 1] if brace else ""
         result = re.match(r"\s*->\s*([^\n{]+)", text[end + 1:])
         body = re.sub(r"//[^\n]*", "", text[brace.end() - 2:closing(text, brace.end() - 2)]) if brace else ""
         inline = re.search(r"#\[inline\((\w+)\)\]", item["about"])
         path = "::".join([*module, *([owner] if owner else []), item["name"]])
-        parameters = parameters_of(" ".join(text[item.end():end].split()))
+        parameters = parameters_of(" ".join(text[item.end():end].split()), owner)
         found = Source(path, parameters, result[1].strip() if result else "()", paragraph(item["about"]),
-                       inline[1] if inline else "", self.ranges(clauses), body, bool(item["exported"]))
+                       inline[1] if inline else "", body, bool(item["exported"]))
         if owner:
             self.methods[owner, item["name"]] = found
         else:
-            self.by_path[path] = found
-
-    def ranges(self, clauses):
-        """What `requires` says of one parameter and a number."""
-        found = {}
-        for one, order, other in BOUND.findall(clauses):
-            low, high = self.number(one), self.number(other)
-            name = one if low is None else other
-            if (low is None) != (high is None) and re.fullmatch(r"(length )?\w+", name):
-                least, most = found.get(name, (0, None))
-                if low is None:
-                    limit = high - (order == "<")
-                    most, least = limit if most is None else min(most, limit), high if order == "≡" else least
-                else:
-                    least = max(least, low + (order == "<"))
-                found[name] = (least, most)
-        return found
-
-    def number(self, text):
-        power = re.fullmatch(r"(\d+) \^ (\d+)", text)
-        if power:
-            return int(power[1]) ** int(power[2])
-        return int(text) if text.isdigit() else self.numbers.get(text)
+            self.by_path[item["name"] if found.is_exported else path] = found
 
     def of(self, path):
         """The function with this path in a module, whose type may be in another file than the method."""

@@ -6,7 +6,8 @@ from expression import Pointer, State
 from statements import Assign, Break, Declare, For, If, Return, every, lists_in
 
 UPDATES = {"+", "-", "*", "/", "<<", ">>", "&", "|", "^"}
-NUMBERS = {"u32": "uint32_t", "u64": "uint64_t", "words": "uint64_t", "size": "size_t", "bytes": "unsigned char"}
+NUMBERS = {"u32": "uint32_t", "u64": "uint64_t", "words": "uint64_t", "number": "uint64_t", "size": "size_t",
+           "bytes": "unsigned char"}
 
 
 def type_text(type):
@@ -45,7 +46,7 @@ def declare(statements, known):
             elif not (isinstance(first, For) and first.name is name):
                 heads.setdefault(name.type, []).append(name)
         for names in heads.values():
-            home.insert(0, Declare(names))
+            home.insert(0, Declare(tuple(names)))
 
 
 class Text:

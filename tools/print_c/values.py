@@ -1,23 +1,19 @@
 """The instructions of a block as expressions and statements. A value that is used once stands where it is used, one that is
 used more often gets a name."""
 import collections
-import itertools
 
 import expression as e
-from expression import (TYPES, WIDE, Name, Pointer, State, binary, call, cast, comparison, made, negation, number,
-                        struct_of)
+from expression import (SIGNS, TYPES, WIDE, Name, Pointer, State, binary, call, cast, comparison, made, negation, number)
 from flow import Flow
-from module import Struct, Unknown
+from module import Struct, Unknown, bare
 from statements import Assign, Do
-from vectors import OF_VECTORS
+from vectors import OF_VECTORS, VECTORS
 
-SIGNS = {"add": "+", "sub": "-", "mul": "*", "udiv": "/", "shl": "<<", "lshr": ">>", "and": "&", "or": "|", "xor": "^"}
 ORDERS = {"eq": "==", "ne": "!=", "ult": "<", "ule": "<=", "ugt": ">", "uge": ">="}
 NUMBERS = {"true": 1, "false": 0, "poison": 0, "zeroinitializer": 0}
 INTRINSICS = {"fshl": "rotate", "umin": "least", "usub.sat": "less", "ctpop": "ones"}
 UNITS = {"u32": 4, "u64": 8, "words": 8, "pairs": 16}
 LARGEST = 14  # the most parts of an expression that stands in another
-VECTORS = e.text("has_vectors", "bool")
 NULL = e.text("NULL", None)
 
 
@@ -27,26 +23,19 @@ class Values:
     def __init__(self, function, program):
         self.function, self.program, self.result_type = function, program, program.result_type(function)
         self.blocks, self.flow = function.blocks, Flow(function.blocks)
-        self.values, self.arrays = {}, []
+        self.arrays = []
+        self.values = {own.token: e.value_of(variable)
+                       for own, variable in zip(function.parameters, program.parameters[function.name])}
         self.made = {step.result: step for step in function.steps() if step.result}
         self.find_users()
-        self.loop_of = {}
-        for label in self.flow.order:
-            around = [head for head, body in self.flow.loops.items() if label in body]
-            self.loop_of[label] = max(around, key=self.flow.place.get, default=None)
 
     def find_users(self):
         """Of each value the instructions that use it, each with the block in which it must be known."""
         self.users = collections.defaultdict(list)
         for label in self.flow.order:
             for step in self.blocks[label]:
-                operands, places = step.operands, itertools.repeat(label)
-                if step.operation == "call" and step.more.startswith("llvm.fshl"):
-                    operands = operands[1:]  # a rotation, whose first two are one
-                if step.operation == "phi":
-                    places = step.more
-                for value, place in zip(operands, places):
-                    self.users[value.token].append((step, place))
+                for at, value in enumerate(step.operands):
+                    self.users[value.token].append((step, step.more[at] if step.operation == "phi" else label))
 
     # ---- operands
 
@@ -55,7 +44,7 @@ class Values:
         if token[0] == "%":
             return self.values[token]
         if token[0] == "@":
-            return made("place", Pointer("bytes", True), e.text(self.program.constant(token), None), None, 0)
+            return made("place", Pointer("bytes", True), e.text(self.program.names[bare(token)], None), None, 0)
         if token == "null":
             return NULL
         n = NUMBERS[token] if token in NUMBERS else int(token)
@@ -65,9 +54,6 @@ class Values:
             raise Unknown(f"print_c does not know the value {token} of {type}")
         return number(n, TYPES[type])
 
-    def constant(self, operand):
-        return int(operand.token) if isinstance(operand.token, str) and operand.token.lstrip("-").isdigit() else None
-
     # ---- which values get names
 
     def give(self, step, value, label, most=0):
@@ -76,31 +62,23 @@ class Values:
         self.values[step.result] = value if is_small or self.is_short(value, step, label) else self.named(value)
 
     def is_short(self, value, step, label):
-        """Whether it needs no name: it has one, or it can stand where it is used."""
-        if value.op in ("name", "number", "text", "arrow") and not value.reads:
-            return True
-        users = self.users[step.result]
-        if len(users) != 1 or e.size_of(value) > LARGEST:
-            return False
-        ((_, place),) = users
-        return place == label or not value.reads and self.loop_of[place] == self.loop_of[label]
+        """Whether it needs no name, since it can stand where it is used."""
+        return [place for _, place in self.users[step.result]] == [label] and e.size_of(value) <= LARGEST
 
     def named(self, value):
         """A name for a value, which is written first."""
-        type = value.type
+        variable = Name(value.type)
         if value.op == "place":
             value = self.address(value)
-        variable = Name(type)
         if value.op == "call" and value.args[0].startswith("skh_slice"):
             variable.hint(6, f"{value.args[1].args[0].text}_bytes")
         self.out.append(Assign(variable, e.uncast(value)))
-        found = e.name(variable)
-        return made("place", type, found, None, 0) if isinstance(type, Pointer) else found
+        return e.value_of(variable)
 
     def before_a_write(self, written=e.ANYWHERE, value=None):
         """What was read for a later statement is read now, if it may be written; and so is the value that is written then."""
         late = [token for token in self.pending if not all(is_apart(written, each) for each in self.values[token].reads)]
-        if late and value and value.reads:
+        if late and value:
             value = self.named(value)
         for token in late:
             self.values[token] = self.named(self.values[token])
@@ -120,7 +98,7 @@ class Values:
         kind = place.type.kind
         if kind == "pairs" and symbolic is not None:
             base, symbolic, kind = made("index", place.type, base, divided(symbolic, 16)), None, "u64"
-        unit = 1 if isinstance(kind, State) else UNITS.get(kind, 1)
+        unit = UNITS.get(kind, 1)
         if constant % unit:
             raise Unknown(f"print_c does not know a part of a number in {self.function.name}")
         found = base if symbolic is None else made("+", place.type, base, divided(symbolic, unit))
@@ -132,12 +110,12 @@ class Values:
         """A pointer and an offset in bytes."""
         base, offset = self.value(step.operands[0]), self.value(step.operands[1])
         start, symbolic, before = base.args
-        constant = self.constant(step.operands[1])
         if offset == e.choice(comparison("==", start, NULL), number(4096), number(0), "uint64_t"):  # of a slice of no bytes
             slice = call("skh_slice", base.type, start) if base.type.kind == "bytes" else start
             return base._replace(args=(slice, None, 0))
-        if constant is not None:
-            return base._replace(args=(start, symbolic, before + constant))
+        if e.is_number(offset):
+            constant = int(step.operands[1].token)
+            return self.in_bytes(base._replace(args=(start, symbolic, before + constant)))
         if symbolic is not None or before:
             base = self.values[step.operands[0].token] = self.named(base)
             start, symbolic, before = base.args
@@ -150,8 +128,8 @@ class Values:
         if isinstance(kind, State):  # a state
             is_field = type == "i64" and constant in kind.fields
             return made("arrow", TYPES[type], base, kind.fields[constant]) if is_field else None
-        if kind == "size" or kind == "u64" and symbolic is None and constant == 0 and base.args[0].is_parameter:
-            return made("deref", TYPES[type], base)
+        if kind in ("size", "number"):
+            return made("deref", "size_t" if kind == "size" else TYPES[type], base)
         if kind == "words" and type == "i64":
             return made("index", TYPES[type], base, number(constant // 8))
         if type == "i8":
@@ -159,14 +137,12 @@ class Values:
             return made("index", "uint8_t", base, binary("+", index, number(constant)) if symbolic and constant else index)
         return None
 
-    def function_for(self, place, verb, type):
-        """The one that reads or writes a number of this type."""
-        width = int(type[1:])
-        if place.type.kind in ("u32", "u64", "pairs", "words"):
-            if width != (32 if place.type.kind == "u32" else 64):
-                raise Unknown(f"print_c does not know {type} in an array of {place.type.kind}")
-            return f"skh_{'get' if verb == 'load' else 'set'}{width}"
-        return f"skh_{verb}{width}"
+    def function_for(self, place, verbs, type):
+        """The one that reads or writes a number of this type: of bytes, or of an array of such numbers."""
+        unit = UNITS.get(place.type.kind)
+        if unit and int(type[1:]) != 8 * min(unit, 8):
+            raise Unknown(f"print_c does not know {type} in an array of {place.type.kind}")
+        return f"skh_{verbs[unit is not None]}{type[1:]}"
 
     def in_bytes(self, place):
         """A pointer into the bytes of a state."""
@@ -178,20 +154,16 @@ class Values:
         return made("place", waiting.type, waiting, symbolic, constant - kind.end)
 
     def load(self, type, place):
-        place = self.in_bytes(place)
         found = self.target(place, type)
         if found is None:
-            found = call(self.function_for(place, "load", type), TYPES[type], self.address(place))
+            found = call(self.function_for(place, ("load", "get"), type), TYPES[type], self.address(place))
         return found._replace(reads=found.reads | {self.span(place, type)})
 
     def store(self, type, place, value):
-        place = self.in_bytes(place)
         target = self.target(place, type)
         if target is not None:
-            if place.type.kind == "size":
-                value = cast("size_t", value)
-            return Do(made("=", None, target, cast("uint8_t", value) if type == "i8" else value))
-        return Do(call(self.function_for(place, "store", type), None, self.address(place), value))
+            return Do(made("=", None, target, cast(target.type, value)))
+        return Do(call(self.function_for(place, ("store", "set"), type), None, self.address(place), value))
 
     # ---- statements
 
@@ -232,7 +204,7 @@ class Values:
             users = {user.operation for user, _ in self.users[step.result]}
             is_offset = operation == "shl" and users == {"getelementptr"}
             is_amount = step.type == "i128" and users <= {"shl", "lshr"}
-            most = 8 if is_offset or is_amount else 4 if operation in ("freeze", "zext", "trunc") else 0
+            most = 8 if is_offset or is_amount else 4 if operation in ("zext", "trunc") else 0
             self.give(step, self.scalar(step), label, most)
 
     def fields(self, operand):
@@ -245,22 +217,20 @@ class Values:
         variable = Name(kind)
         variable.is_parameter = False
         self.arrays.append((variable, step.more.count))
-        self.values[step.result] = made("place", kind, e.name(variable), None, 0)
+        self.values[step.result] = e.value_of(variable)
 
     def pointer(self, step, label):
-        value = self.moved(step)
-        base, symbolic, constant = value.args
-        is_plain = symbolic is None and base.op in ("name", "arrow")
-        users = self.users[step.result]
-        is_once = len(users) == 1 and self.loop_of[users[0][1]] == self.loop_of[label]
-        if is_plain or is_once or value.type.kind in ("pairs", "u32", "u64") and e.size_of(symbolic) < 6:
-            self.values[step.result] = value
-        else:
-            self.values[step.result] = self.named(value)
+        value, users = self.moved(step), self.users[step.result]
+        base, symbolic, _ = value.args
+        is_short = symbolic is None and base.op in ("name", "arrow")
+        is_short = is_short or [place for _, place in users] == [label]
+        is_short = is_short or value.type.kind in ("pairs", "u32", "u64") and e.size_of(symbolic) < 6
+        is_short = is_short or all(user.operation in ("load", "store") and user.type == "i8" for user, _ in users)
+        self.values[step.result] = value if is_short else self.named(value)
 
     def store_step(self, step):
         value, place = map(self.value, step.operands)
-        value = self.before_a_write(self.span(self.in_bytes(place), step.type), value)
+        value = self.before_a_write(self.span(place, step.type), value)
         self.out.append(self.store(step.type, place, value))
 
     def move(self, step):
@@ -268,31 +238,25 @@ class Values:
         name = "memset" if "memset" in step.more else "memmove" if "memmove" in step.more else "memcpy"
         to, what, count = (self.value(each) for each in step.operands[:3])
         self.before_a_write()
-        to, state = self.in_bytes(to), to.type.kind
-        if name == "memset" and isinstance(state, State) and isinstance(to.type.kind, State):
+        while isinstance(to.type.kind, State) and e.is_number(what, 0):  # the numbers before the bytes
+            self.out.append(self.store("i64", to, number(0)))
             base, _, at = to.args
-            end = at + count.args[0]
-            while at < state.end:
-                self.out.append(self.store("i64", to._replace(args=(base, None, at)), number(0)))
-                at += 8
-            to, count = self.in_bytes(to._replace(args=(base, None, at))), number(end - at)
-        if name != "memset":
-            what = self.address(self.in_bytes(what))
-        self.out.append(Do(call(name, None, self.address(to), what, count)))
+            to, count = self.in_bytes(to._replace(args=(base, None, at + 8))), number(count.args[0] - 8)
+        self.out.append(Do(call(name, None, self.address(to), self.address(what) if what.op == "place" else what, count)))
 
     def call(self, step, label):
         callee = self.program.functions[step.more]
         if callee.writes:
             self.before_a_write()
-        kinds = [self.program.kind(callee, own.token) if own.type == "ptr" else None for own in callee.parameters]
         name = self.program.names[step.more]
-        for operand, text in zip(step.operands, self.program.parameter_names[name][self.program.has_vectors(step.more):]):
-            self.set_apart(operand, name, text)
-        arguments = [e.uncast(self.argument(each, kind)) for each, kind in zip(step.operands, kinds)]
+        for token, value in [(each.token, self.values.get(each.token)) for each in step.operands]:
+            if value and any(each.op == "call" and each.args[0] == name for each in e.parts(value)):
+                self.values[token] = self.named(value)  # no call within a call of the same function
+        values = map(self.value, step.operands)
+        arguments = [self.address(each) if each.op == "place" else e.uncast(each) for each in values]
         if self.program.has_vectors(step.more):
             arguments.insert(0, VECTORS)
-        type = struct_of(callee.source) if isinstance(step.type, Struct) else self.program.result_type(callee)
-        done = call(name, type, *arguments, reads=callee.reads)
+        done = call(name, self.program.result_type(callee), *arguments, reads=callee.reads)
         if step.type == "void" or not self.users[step.result]:
             self.out.append(Do(done))
             return
@@ -303,21 +267,6 @@ class Values:
             self.values[step.result] = self.named(done)
             if bound:
                 self.out[-1].name.hint(1, bound)
-
-    def set_apart(self, operand, name, text):
-        """A call within a call of the same function gets a name."""
-        value = self.values.get(operand.token) if isinstance(operand.token, str) else None
-        if isinstance(value, e.Expression) and any(each.op == "call" and each.args[0] == name for each in e.parts(value)):
-            self.values[operand.token] = found = self.named(value)
-            found.args[0].hint(4, text)
-
-    def argument(self, operand, kind):
-        value = self.value(operand)
-        if value.op != "place":
-            return value
-        if kind and isinstance(kind.kind, State):
-            return self.address(value)
-        return self.address(self.in_bytes(value))
 
     # ---- values that an instruction gives
 
@@ -335,23 +284,12 @@ class Values:
         if operation in ("zext", "trunc"):
             return as_bool(values[0]) if type == "i1" else cast(TYPES[type], values[0])
         if operation == "sext" and step.operands[0].type == "i1":
-            return self.signed(step, values[0])
-        if operation == "freeze":
-            return values[0]
-        if operation == "select":
-            return self.select(step, *values)
+            return e.choice(values[0], number(-1, TYPES[type]), number(0, TYPES[type]), TYPES[type])  # all bits, if it is true
+        if operation == "select" and type in TYPES:
+            return e.choice(*values, TYPES[type])
         if operation == "call":
             return self.intrinsic(step, values)
         raise Unknown(f"print_c does not know {operation} of {type}")
-
-    def signed(self, step, value):
-        """All bits, if it is true."""
-        return e.choice(value, number(-1, TYPES[step.type]), number(0, TYPES[step.type]), TYPES[step.type])
-
-    def select(self, step, condition, one, other):
-        if one.op == "place":
-            raise Unknown("print_c does not know a choice between pointers")
-        return e.choice(condition, one, other, TYPES[step.type])
 
     def arithmetic(self, step, one, other):
         operation, type = step.operation, TYPES[step.type]
@@ -359,8 +297,10 @@ class Values:
             if operation == "xor":
                 return negation(one) if e.is_number(other, 1) else comparison("!=", one, other)
             return (e.conjunction if operation == "and" else e.disjunction)(one, other)
-        if operation == "add" and e.is_number(other) and self.program.is_better_negated(other.args[0], type):
-            operation, other = "sub", number(-other.args[0], type)
+        if operation == "add" and e.is_number(other):
+            named, negative = self.program.sources.named, number(-other.args[0], type)
+            if other.args[0] not in named and (negative.args[0] < 1 << 20 or negative.args[0] in named):
+                operation, other = "sub", negative
         if operation == "xor" and e.is_number(other, (1 << e.WIDTHS[type]) - 1):
             return made("~", type, one)
         if operation in ("shl", "lshr"):
@@ -368,7 +308,7 @@ class Values:
             if e.is_number(one):
                 one = made("cast", type, one)
         else:
-            one, other = operands(operation, unsized(one), unsized(other), type)
+            one, other = operands(unsized(one), unsized(other), type)
         if e.WIDTHS[type] >= 32 or operation in ("and", "lshr") or operation in ("or", "xor") and one.op != "cast":
             return binary(SIGNS[operation], one, other, type)
         if one.op == "cast" and one.type == type and operation != "udiv":
@@ -411,7 +351,7 @@ class Values:
         if both and all(each.op == "name" for each in one.args):
             found = made("&&", "bool", *(comparison("==", each, other) for each in one.args))
             return found if order == "eq" else negation(found)
-        return comparison(ORDERS[order], *operands(None, one, other, TYPES[type]))
+        return comparison(ORDERS[order], *operands(one, other, TYPES[type]))
 
     def intrinsic(self, step, values):
         if step.more in OF_VECTORS:
@@ -425,14 +365,11 @@ class Values:
 
 def divided(offset, unit):
     """An offset in bytes as one in units."""
-    if unit == 1:
-        if offset.op == "<<" and e.is_number(offset.args[1]):
-            return binary("*", number(1 << offset.args[1].args[0]), offset.args[0])
-        return offset
-    if offset.op == "<<" and e.is_number(offset.args[1]) and 1 << offset.args[1].args[0] >= unit:
-        rest = (1 << offset.args[1].args[0]) // unit
-        return offset.args[0] if rest == 1 else binary("*", number(rest), offset.args[0])
-    raise Unknown("print_c does not know an offset that is no multiple of a number's width")
+    is_shift = offset.op == "<<" and e.is_number(offset.args[1])
+    factor, whole = (1 << offset.args[1].args[0], offset.args[0]) if is_shift else (1, offset)
+    if factor < unit:
+        raise Unknown("print_c does not know an offset that is no multiple of a number's width")
+    return whole if factor == unit else binary("*", number(factor // unit), whole)
 
 
 def as_bool(value):
@@ -450,7 +387,7 @@ def unsized(value):
     return cast("uint64_t", value) if value.type == "size_t" else value
 
 
-def operands(operation, one, other, type):
+def operands(one, other, type):
     """Two numbers without a cast that C makes itself, as it does if the other one is of that type."""
     def bare(value, beside):
         is_wider = beside.type == type and beside.op not in ("number", "cast")

@@ -1,11 +1,12 @@
 """Replaces each instruction on vectors by one for each of their words, since C has no vectors."""
 import itertools
 
+from expression import SIGNS, text
 from module import Instruction, Operand, Unknown, Vector
 
-ARITHMETIC = {"and", "or", "xor", "add", "sub", "mul", "shl", "lshr"}
 # What head.c does in another way if the processor has vectors: whether any bit of some words is set, and bit n.
 OF_VECTORS = ANY, BIT = "skh_any", "skh_bit"
+VECTORS = text("has_vectors", "bool")  # the parameter that says so
 
 
 def split(function):
@@ -58,7 +59,7 @@ class Words:
         if operation == "bitcast" and self.shape(operands[0].type) == self.shape(type):
             self.words[result] = self.of(operands[0])
             return []
-        if operation not in ARITHMETIC:
+        if operation not in SIGNS:
             raise Unknown(f"print_c does not know {operation} {more or ''} of {type}")
         count, element = self.shape(type)
         self.words[result] = [Operand(element, self.new()) for _ in range(count)]
