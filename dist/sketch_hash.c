@@ -21,9 +21,9 @@
 #error "sketch_hash needs bytes of 8 bits"
 #endif
 
-/* SKH_REQUIRES says what all callers ensure, as is proved: without it keys of 32 to 63 bytes take
- * 1.1 to 1.2 times as long with gcc. SKH_EXPECT says what mostly holds: without it columns of short
- * keys take 1.1 to 1.4 times as long. */
+/* SKH_REQUIRES says what all callers ensure: without it keys of 32 to 63 bytes take 1.1 to 1.2
+ * times as long with gcc. SKH_EXPECT says what mostly holds: without it columns of short keys take
+ * 1.1 to 1.4 times as long, and Murmur's updates by 1 to 3 bytes 1.1 to 1.3 times. */
 #if defined __GNUC__ || defined __clang__
 #define SKH_NOINLINE __attribute__((noinline))
 #define SKH_INLINE static inline __attribute__((always_inline))
@@ -68,10 +68,7 @@ __attribute__((constructor)) static void skh_find_avx2(void) {
 
 /* A caller may give NULL for no bytes. C allows neither an offset from it nor a copy of no bytes,
  * so it is replaced by an address at which nothing is read or written. */
-static inline const unsigned char *skh_slice(const void *at) {
-    return at == NULL ? (const unsigned char *)4096 : (const unsigned char *)at;
-}
-static inline unsigned char *skh_slice_mut(void *at) {
+static inline unsigned char *skh_slice(const void *at) {
     return at == NULL ? (unsigned char *)4096 : (unsigned char *)at;
 }
 
@@ -319,12 +316,17 @@ SKH_INLINE void skh_copy_overlapping_8(unsigned char *buffer, uint64_t at,
     skh_copy_array_8(place + bytes_length - 8, bytes + bytes_length - 8);
 }
 
+/* Copies K bytes. The copy of an array is one move; `copy_from_slice` is a loop. */
+SKH_INLINE void skh_copy_array_16(unsigned char *place, const unsigned char *bytes) {
+    memmove(place, bytes, 16);
+}
+
 /* Copies K to 2 K bytes to `buffer[at..]`: first the first K bytes, then the last K. */
 SKH_INLINE void skh_copy_overlapping_16(unsigned char *buffer, uint64_t at,
                                         const unsigned char *bytes, uint64_t bytes_length) {
-    unsigned char *const p1 = buffer + at;
-    memmove(p1, bytes, 16);
-    memmove(p1 + bytes_length - 16, bytes + bytes_length - 16, 16);
+    unsigned char *const place = buffer + at;
+    skh_copy_array_16(place, bytes);
+    skh_copy_array_16(place + bytes_length - 16, bytes + bytes_length - 16);
 }
 
 /* Copies at most 32 bytes to `buffer[at..]`. A `copy_from_slice` of unknown length is a call of
@@ -347,9 +349,8 @@ SKH_INLINE void skh_copy_small(unsigned char *buffer, uint64_t at, const unsigne
 SKH_INLINE struct skh_result skh_check_offset32(uint64_t bytes_length, const uint32_t *offsets,
                                                 uint64_t offsets_count, uint64_t i, uint64_t last) {
     if (SKH_EXPECT(offsets_count > i)) {
-        const uint64_t offset = skh_get32(offsets + i);
-        const bool is_error = last > offset || bytes_length < offset;
-        return skh_result_of(is_error, is_error ? i : offset);
+        const uint64_t place = skh_get32(offsets + i);
+        if (SKH_EXPECT(last <= place && bytes_length >= place)) return skh_ok(place);
     }
     return skh_error(i);
 }
@@ -358,16 +359,16 @@ SKH_INLINE struct skh_result skh_check_offset32(uint64_t bytes_length, const uin
 SKH_INLINE struct skh_result skh_check_offsets32(uint64_t bytes_length, const uint32_t *offsets,
                                                  uint64_t offsets_count, uint64_t keys) {
     if (keys == 0 && offsets_count == 0) return skh_ok(0);
-    uint64_t last1 = 0;
+    uint64_t last = 0;
     for (uint64_t i = 0; i < keys; i++) {
-        const struct skh_result last2 =
-            skh_check_offset32(bytes_length, offsets, offsets_count, i, last1);
-        if (last2.is_error) return skh_error(last2.value);
-        last1 = last2.value;
+        const struct skh_result result1 =
+            skh_check_offset32(bytes_length, offsets, offsets_count, i, last);
+        if (result1.is_error) return skh_error(result1.value);
+        last = result1.value;
     }
-    const struct skh_result result =
-        skh_check_offset32(bytes_length, offsets, offsets_count, keys, last1);
-    if (result.is_error) return skh_error(result.value);
+    const struct skh_result result2 =
+        skh_check_offset32(bytes_length, offsets, offsets_count, keys, last);
+    if (result2.is_error) return skh_error(result2.value);
     return skh_ok(0);
 }
 
@@ -375,9 +376,8 @@ SKH_INLINE struct skh_result skh_check_offsets32(uint64_t bytes_length, const ui
 SKH_INLINE struct skh_result skh_check_offset64(uint64_t bytes_length, const uint64_t *offsets,
                                                 uint64_t offsets_count, uint64_t i, uint64_t last) {
     if (SKH_EXPECT(offsets_count > i)) {
-        const uint64_t offset = skh_get64(offsets + i);
-        const bool is_error = offset < last || bytes_length < offset;
-        return skh_result_of(is_error, is_error ? i : offset);
+        const uint64_t place = skh_get64(offsets + i);
+        if (SKH_EXPECT(place >= last && bytes_length >= place)) return skh_ok(place);
     }
     return skh_error(i);
 }
@@ -386,16 +386,16 @@ SKH_INLINE struct skh_result skh_check_offset64(uint64_t bytes_length, const uin
 SKH_INLINE struct skh_result skh_check_offsets64(uint64_t bytes_length, const uint64_t *offsets,
                                                  uint64_t offsets_count, uint64_t keys) {
     if (keys == 0 && offsets_count == 0) return skh_ok(0);
-    uint64_t last1 = 0;
+    uint64_t last = 0;
     for (uint64_t i = 0; i < keys; i++) {
-        const struct skh_result last2 =
-            skh_check_offset64(bytes_length, offsets, offsets_count, i, last1);
-        if (last2.is_error) return skh_error(last2.value);
-        last1 = last2.value;
+        const struct skh_result result1 =
+            skh_check_offset64(bytes_length, offsets, offsets_count, i, last);
+        if (result1.is_error) return skh_error(result1.value);
+        last = result1.value;
     }
-    const struct skh_result result =
-        skh_check_offset64(bytes_length, offsets, offsets_count, keys, last1);
-    if (result.is_error) return skh_error(result.value);
+    const struct skh_result result2 =
+        skh_check_offset64(bytes_length, offsets, offsets_count, keys, last);
+    if (result2.is_error) return skh_error(result2.value);
     return skh_ok(0);
 }
 
@@ -461,9 +461,9 @@ SKH_INLINE uint64_t skh_xxh64_fold_below_16(uint64_t hash, const unsigned char *
 
 /* The last mixing of the hash. */
 SKH_INLINE uint64_t skh_xxh64_avalanche(uint64_t hash) {
-    uint64_t word = skh_xor_shift(hash, 33) * SKH_PRIME2;
-    word = skh_xor_shift(word, 29) * SKH_PRIME3;
-    return skh_xor_shift(word, 32);
+    const uint64_t once = skh_xor_shift(hash, 33) * SKH_PRIME2;
+    const uint64_t twice = skh_xor_shift(once, 29) * SKH_PRIME3;
+    return skh_xor_shift(twice, 32);
 }
 
 /* The hash after a tail of 16 bytes and more. Without a loop single keys of 16 and 24 bytes are
@@ -574,6 +574,7 @@ SKH_INLINE void skh_xxh64_write_within(sketch_xxh64_state_t *state, const unsign
  * nothing. */
 static SKH_NOINLINE void skh_xxh64_write_across(sketch_xxh64_state_t *state,
                                                 const unsigned char *bytes, uint64_t bytes_length) {
+    SKH_REQUIRES(bytes_length >= 1);
     const uint64_t count = skh_xxh64_waiting_count(state);
     state->total += bytes_length;
     uint64_t v1 = state->v1;
@@ -608,7 +609,7 @@ static SKH_NOINLINE void skh_xxh64_write_across(sketch_xxh64_state_t *state,
 /* Appends bytes to the stream. */
 SKH_INLINE void skh_xxh64_write(sketch_xxh64_state_t *state, const unsigned char *bytes,
                                 uint64_t bytes_length) {
-    if (bytes_length < 32 - skh_xxh64_waiting_count(state)) {
+    if (SKH_EXPECT(bytes_length < 32 - skh_xxh64_waiting_count(state))) {
         skh_xxh64_write_within(state, bytes, bytes_length);
     } else {
         skh_xxh64_write_across(state, bytes, bytes_length);
@@ -628,24 +629,24 @@ SKH_INLINE uint64_t skh_xxh64_fold_tail(uint64_t hash, const unsigned char *tail
 
 /* The 64-bit hash of all bytes so far, as of a hasher that resumes the state. */
 SKH_INLINE uint64_t skh_xxh64_finish(const sketch_xxh64_state_t *state) {
-    uint64_t x1;
+    uint64_t hash;
     const uint64_t total = state->total;
     if (total < 32) {
-        x1 = state->seed + SKH_PRIME5;
+        hash = state->seed + SKH_PRIME5;
     } else {
         const uint64_t v1 = state->v1;
         const uint64_t v2 = state->v2;
         const uint64_t v3 = state->v3;
         const uint64_t v4 = state->v4;
-        uint64_t hash =
+        hash =
             skh_rotate64(v2, 7) + skh_rotate64(v1, 1) + skh_rotate64(v3, 12) + skh_rotate64(v4, 18);
         hash = skh_xxh64_merge_round(hash, v1);
         hash = skh_xxh64_merge_round(hash, v2);
         hash = skh_xxh64_merge_round(hash, v3);
-        x1 = skh_xxh64_merge_round(hash, v4);
+        hash = skh_xxh64_merge_round(hash, v4);
     }
     return skh_xxh64_avalanche(
-        skh_xxh64_fold_tail(x1 + total, state->waiting, skh_xxh64_waiting_count(state)));
+        skh_xxh64_fold_tail(hash + total, state->waiting, skh_xxh64_waiting_count(state)));
 }
 
 /* The hash of one key of a column. Long keys are inlined too, and the tail has a loop, whose
@@ -710,11 +711,11 @@ SKH_INLINE bool skh_xxh64_hash_each_u64(const uint64_t *input, uint64_t input_co
  * `out` has places. The caller must have checked the offsets, as `check_offsets` does. */
 static SKH_NOINLINE void skh_xxh64_hash_run32(const unsigned char *bytes, const uint32_t *offsets,
                                               uint64_t start, uint64_t *out, uint64_t out_count) {
+    SKH_REQUIRES(out_count <= 32);
     for (uint64_t i = 0; i < out_count; i++) {
         const uint64_t offset = skh_get32(offsets + i + start);
-        const uint64_t x1 =
-            skh_xxh64_hash(bytes + offset, skh_get32(offsets + i + start + 1) - offset, 0);
-        skh_set64(out + i, x1);
+        skh_set64(out + i,
+                  skh_xxh64_hash(bytes + offset, skh_get32(offsets + i + start + 1) - offset, 0));
     }
 }
 
@@ -722,11 +723,11 @@ static SKH_NOINLINE void skh_xxh64_hash_run32(const unsigned char *bytes, const 
  * `out` has places. The caller must have checked the offsets, as `check_offsets` does. */
 static SKH_NOINLINE void skh_xxh64_hash_run64(const unsigned char *bytes, const uint64_t *offsets,
                                               uint64_t start, uint64_t *out, uint64_t out_count) {
+    SKH_REQUIRES(out_count <= 32);
     for (uint64_t i = 0; i < out_count; i++) {
         const uint64_t offset = skh_get64(offsets + i + start);
-        const uint64_t x1 =
-            skh_xxh64_hash(bytes + offset, skh_get64(offsets + i + start + 1) - offset, 0);
-        skh_set64(out + i, x1);
+        skh_set64(out + i,
+                  skh_xxh64_hash(bytes + offset, skh_get64(offsets + i + start + 1) - offset, 0));
     }
 }
 
@@ -743,9 +744,10 @@ SKH_INLINE uint64_t skh_murmur3_mix2(uint64_t k2) { return skh_rotate64(k2 * SKH
 
 /* The pair after one block of the words `k1` and `k2`. */
 SKH_INLINE struct skh_pair skh_murmur3_step(uint64_t h1, uint64_t h2, uint64_t k1, uint64_t k2) {
-    const uint64_t x1 = (skh_rotate64(skh_murmur3_mix1(k1) ^ h1, 27) + h2) * 5;
-    return skh_pair_of(x1 + 0x52dce729u, (x1 + skh_rotate64(skh_murmur3_mix2(k2) ^ h2, 31)) * 5 +
-                                             (uint64_t)5 * 0x52dce729u + 0x38495ab5u);
+    const uint64_t before = (skh_rotate64(skh_murmur3_mix1(k1) ^ h1, 27) + h2) * 5;
+    return skh_pair_of(before + 0x52dce729u,
+                       (before + skh_rotate64(skh_murmur3_mix2(k2) ^ h2, 31)) * 5 +
+                           (uint64_t)5 * 0x52dce729u + 0x38495ab5u);
 }
 
 /* The pair after blocks. */
@@ -802,8 +804,8 @@ SKH_INLINE struct skh_pair skh_murmur3_mix_tail(uint64_t h1, uint64_t h2, const 
 
 /* Adds the second word to the first, and then the first to the second. */
 SKH_INLINE struct skh_pair skh_murmur3_cross(uint64_t h1, uint64_t h2) {
-    const uint64_t x1 = h2 + h1;
-    return skh_pair_of(x1, x1 + h2);
+    h1 += h2;
+    return skh_pair_of(h1, h1 + h2);
 }
 
 /* The last mixing of a word. */
@@ -857,7 +859,7 @@ SKH_INLINE void skh_murmur3_write(sketch_murmur3_x64_128_state_t *state, const u
     struct skh_pair pair3;
     const uint64_t count = skh_murmur3_waiting_count(state);
     const uint64_t x1 = 16 - count;
-    if (bytes_length < x1) {
+    if (SKH_EXPECT(bytes_length < x1)) {
         skh_murmur3_write_within(state, bytes, bytes_length);
         return;
     }
@@ -942,15 +944,6 @@ SKH_INLINE struct skh_result skh_murmur3_hash_each64(const unsigned char *bytes,
     return skh_ok(0);
 }
 
-/* ---- Results of calls */
-
-/* 0, or -2 for a wrong offset, whose index is written. */
-SKH_INLINE int skh_report_offset(bool is_error, uint64_t hashed, size_t *wrong_offset) {
-    if (!is_error) return SKETCH_OK;
-    *wrong_offset = (size_t)hashed;
-    return SKETCH_ERROR_OFFSET;
-}
-
 /* ---- Bloom filter */
 
 #define SKH_SALT0 0x47b6137bu
@@ -973,33 +966,33 @@ static uint64_t skh_bloom_next_weight(uint64_t weight, uint64_t keys, uint32_t l
 
 /* The eighth power of 1 - clear / 2^50, in parts of 2^60. */
 static uint64_t skh_bloom_covered(uint64_t clear) {
-    const skh_uint128 y1 = skh_wide(0, ((uint64_t)1 << 50) - clear);
-    const skh_uint128 y2 = skh_wide_right(skh_wide_mul(y1, y1), 50);
-    const skh_uint128 y3 = skh_wide_right(skh_wide_mul(y2, y2), 50);
-    return skh_wide_low(skh_wide_right(skh_wide_mul(y3, y3), 40));
+    const skh_uint128 share = skh_wide(0, ((uint64_t)1 << 50) - clear);
+    const skh_uint128 square = skh_wide_right(skh_wide_mul(share, share), 50);
+    const skh_uint128 fourth = skh_wide_right(skh_wide_mul(square, square), 50);
+    return skh_wide_low(skh_wide_right(skh_wide_mul(fourth, fourth), 40));
 }
 
 /* Whether a filter of 2^log2_blocks blocks keeps the rate. */
 static bool skh_bloom_keeps_rate(uint64_t keys, uint32_t log2_blocks, uint64_t one_in) {
     if ((uint64_t)128 << log2_blocks < keys) return false;
     uint64_t clear = (uint64_t)1 << 50;
-    skh_uint128 y1 = skh_wide(0, 0);
-    uint64_t x1 = (uint64_t)1 << 40;
+    skh_uint128 found = skh_wide(0, 0);
+    uint64_t all = (uint64_t)1 << 40;
     uint64_t weight = (uint64_t)1 << 40;
     for (uint64_t k = 1; k < 384; k++) {
         weight = skh_bloom_next_weight(weight, keys, log2_blocks, k);
         clear = (clear >> 5) * 31;
-        x1 += weight;
-        y1 = skh_wide_add(skh_wide_mul(skh_wide(0, skh_bloom_covered(clear)), skh_wide(0, weight)),
-                          y1);
+        all += weight;
+        found = skh_wide_add(
+            skh_wide_mul(skh_wide(0, skh_bloom_covered(clear)), skh_wide(0, weight)), found);
         if (weight >= (uint64_t)1 << 48) {
-            y1 = skh_wide_right(y1, 8);
-            x1 >>= 8;
+            found = skh_wide_right(found, 8);
+            all >>= 8;
             weight >>= 8;
         }
     }
     return !skh_wide_above(
-        y1, skh_wide_mul(skh_wide(0, ((uint64_t)1 << 60) / one_in), skh_wide(0, x1)));
+        found, skh_wide_mul(skh_wide(0, ((uint64_t)1 << 60) / one_in), skh_wide(0, all)));
 }
 
 /* The smallest number of bytes, a power of two from 32 bytes to 128 MiB, for a filter of `keys`
@@ -1046,16 +1039,14 @@ SKH_INLINE bool skh_bloom_is_in(bool has_vectors, const unsigned char *filter,
     const uint64_t start = skh_bloom_block_start(filter_length, hash);
     const unsigned char *const block = filter + start;
     const uint32_t w1 = (uint32_t)hash;
-    const bool b1 =
-        skh_any(has_vectors, ~skh_load32(block) & skh_bit(has_vectors, (w1 * SKH_SALT0) >> 27),
-                ~skh_load32(block + 4) & skh_bit(has_vectors, (w1 * SKH_SALT1) >> 27),
-                ~skh_load32(block + 8) & skh_bit(has_vectors, (w1 * SKH_SALT2) >> 27),
-                ~skh_load32(block + 12) & skh_bit(has_vectors, (w1 * SKH_SALT3) >> 27),
-                ~skh_load32(block + 16) & skh_bit(has_vectors, (w1 * SKH_SALT4) >> 27),
-                ~skh_load32(block + 20) & skh_bit(has_vectors, (w1 * SKH_SALT5) >> 27),
-                ~skh_load32(block + 24) & skh_bit(has_vectors, (w1 * SKH_SALT6) >> 27),
-                ~skh_load32(block + 28) & skh_bit(has_vectors, (w1 * SKH_SALT7) >> 27));
-    return !b1;
+    return !skh_any(has_vectors, ~skh_load32(block) & skh_bit(has_vectors, (w1 * SKH_SALT0) >> 27),
+                    ~skh_load32(block + 4) & skh_bit(has_vectors, (w1 * SKH_SALT1) >> 27),
+                    ~skh_load32(block + 8) & skh_bit(has_vectors, (w1 * SKH_SALT2) >> 27),
+                    ~skh_load32(block + 12) & skh_bit(has_vectors, (w1 * SKH_SALT3) >> 27),
+                    ~skh_load32(block + 16) & skh_bit(has_vectors, (w1 * SKH_SALT4) >> 27),
+                    ~skh_load32(block + 20) & skh_bit(has_vectors, (w1 * SKH_SALT5) >> 27),
+                    ~skh_load32(block + 24) & skh_bit(has_vectors, (w1 * SKH_SALT6) >> 27),
+                    ~skh_load32(block + 28) & skh_bit(has_vectors, (w1 * SKH_SALT7) >> 27));
 }
 
 /* Inserts the values with these hashes. It is not inlined, so columns of keys and of hashes
@@ -1119,26 +1110,26 @@ static void skh_bloom_fold_blocks(unsigned char *filter, uint64_t filter_length)
  * folded filter. */
 static uint64_t skh_bloom_found_by_union(const unsigned char *filter, uint64_t k) {
     const unsigned char *const p1 = filter + k * 64;
-    uint64_t x1 = 1;
+    uint64_t found = 1;
     for (uint64_t w = 0; w < 8; w++) {
         const unsigned char *const p2 = p1 + w * 4;
-        x1 *= skh_ones32(skh_load32(p2 + 32) | skh_load32(p2));
+        found *= skh_ones32(skh_load32(p2 + 32) | skh_load32(p2));
     }
-    return x1;
+    return found;
 }
 
 /* Whether a filter has the rate of one in `one_in` once it is folded. */
 static bool skh_bloom_has_rate_folded(const unsigned char *filter, uint64_t filter_length,
                                       uint64_t one_in) {
-    const uint64_t x1 = filter_length >> 6;
-    skh_uint128 y1 = skh_wide(0, 0);
-    for (uint64_t k = 0; k < x1; k++) {
-        y1 = skh_wide_add(y1, skh_wide(0, skh_bloom_found_by_union(filter, k)));
+    const uint64_t blocks = filter_length >> 6;
+    skh_uint128 found = skh_wide(0, 0);
+    for (uint64_t k = 0; k < blocks; k++) {
+        found = skh_wide_add(found, skh_wide(0, skh_bloom_found_by_union(filter, k)));
     }
     if (one_in == 0) return false;
-    if (one_in > 255 && skh_wide_above(y1, skh_wide(0, UINT64_MAX))) return false;
-    return !skh_wide_above(skh_wide_mul(y1, skh_wide(0, one_in)),
-                           skh_wide_left(skh_wide(0, x1), 40));
+    if (one_in > 255 && skh_wide_above(found, skh_wide(0, UINT64_MAX))) return false;
+    return !skh_wide_above(skh_wide_mul(found, skh_wide(0, one_in)),
+                           skh_wide_left(skh_wide(0, blocks), 40));
 }
 
 /* The first byte of a variable-length number. `read_varint` reads it. */
@@ -1190,12 +1181,19 @@ static uint64_t skh_bloom_length_in(const unsigned char *input, uint64_t input_l
 static bool skh_bloom_has_prefix(const unsigned char *input, uint64_t input_length,
                                  const unsigned char *prefix, uint64_t prefix_length) {
     if (input_length < prefix_length) return false;
-    uint64_t x1 = 0;
-    for (;;) {
-        if (x1 == prefix_length) return true;
-        if (input[x1] != prefix[x1]) return false;
-        x1++;
+    for (uint64_t i = 0; i < prefix_length; i++) {
+        if (input[i] != prefix[i]) return false;
     }
+    return true;
+}
+
+/* ---- Results of calls */
+
+/* 0, or -2 for a wrong offset, whose index is written. */
+SKH_INLINE int skh_report_offset(bool is_error, uint64_t hashed, size_t *wrong_offset) {
+    if (!is_error) return SKETCH_OK;
+    *wrong_offset = (size_t)hashed;
+    return SKETCH_ERROR_OFFSET;
 }
 
 /* ---- Calls */
@@ -1241,9 +1239,9 @@ SKETCH_HASH_API uint64_t sketch_xxh64_digest(const sketch_xxh64_state_t *state) 
  * sketch_murmur3_x64_128_bytes. */
 SKETCH_HASH_API void sketch_murmur3_x64_128(const void *input, size_t length, uint64_t seed,
                                             uint64_t hash[2]) {
-    const struct skh_pair pair = skh_murmur3_hash(skh_slice(input), length, seed);
-    hash[0] = pair.first;
-    hash[1] = pair.second;
+    const struct skh_pair h = skh_murmur3_hash(skh_slice(input), length, seed);
+    hash[0] = h.first;
+    hash[1] = h.second;
 }
 
 /* Starts a state with a seed, and no bytes. */
@@ -1276,9 +1274,10 @@ SKETCH_HASH_API void sketch_murmur3_x64_128_digest(const sketch_murmur3_x64_128_
 
 /* Writes a hash in the byte order that most tools print: the lowest byte of each word first. */
 SKETCH_HASH_API void sketch_murmur3_x64_128_bytes(const uint64_t hash[2], unsigned char out[16]) {
-    const uint64_t x1 = hash[1];
-    skh_store64(out, hash[0]);
-    skh_store64(out + 8, x1);
+    const uint64_t x1 = hash[0];
+    const uint64_t x2 = hash[1];
+    skh_store64(out, x1);
+    skh_store64(out + 8, x2);
 }
 
 /* Writes XXH64 of key i to out[i], for each i below `count`. The offsets have 32 bits. Returns 0
@@ -1286,9 +1285,9 @@ SKETCH_HASH_API void sketch_murmur3_x64_128_bytes(const uint64_t hash[2], unsign
 SKETCH_HASH_API int sketch_xxh64_each32(const void *input, size_t length, const uint32_t *offsets,
                                         size_t offset_count, uint64_t seed, uint64_t *out,
                                         size_t count, size_t *wrong_offset) {
-    const struct skh_result result =
+    const struct skh_result hashed =
         skh_xxh64_hash_each32(skh_slice(input), length, offsets, offset_count, seed, out, count);
-    return skh_report_offset(result.is_error, result.value, wrong_offset);
+    return skh_report_offset(hashed.is_error, hashed.value, wrong_offset);
 }
 
 /* Writes XXH64 of key i to out[i], for each i below `count`. The offsets have 64 bits. Returns 0
@@ -1296,9 +1295,9 @@ SKETCH_HASH_API int sketch_xxh64_each32(const void *input, size_t length, const 
 SKETCH_HASH_API int sketch_xxh64_each64(const void *input, size_t length, const uint64_t *offsets,
                                         size_t offset_count, uint64_t seed, uint64_t *out,
                                         size_t count, size_t *wrong_offset) {
-    const struct skh_result result =
+    const struct skh_result hashed =
         skh_xxh64_hash_each64(skh_slice(input), length, offsets, offset_count, seed, out, count);
-    return skh_report_offset(result.is_error, result.value, wrong_offset);
+    return skh_report_offset(hashed.is_error, hashed.value, wrong_offset);
 }
 
 /* Writes sketch_xxh64_u64 of values[i] to out[i], for each i below `count`. Returns 0, or
@@ -1315,9 +1314,9 @@ SKETCH_HASH_API int sketch_murmur3_x64_128_each32(const void *input, size_t leng
                                                   const uint32_t *offsets, size_t offset_count,
                                                   uint64_t seed, uint64_t (*out)[2], size_t count,
                                                   size_t *wrong_offset) {
-    const struct skh_result result =
+    const struct skh_result hashed =
         skh_murmur3_hash_each32(skh_slice(input), length, offsets, offset_count, seed, out, count);
-    return skh_report_offset(result.is_error, result.value, wrong_offset);
+    return skh_report_offset(hashed.is_error, hashed.value, wrong_offset);
 }
 
 /* Writes MurmurHash3_x64_128 of key i to out[i], for each i below `count`. The offsets have 64
@@ -1326,9 +1325,9 @@ SKETCH_HASH_API int sketch_murmur3_x64_128_each64(const void *input, size_t leng
                                                   const uint64_t *offsets, size_t offset_count,
                                                   uint64_t seed, uint64_t (*out)[2], size_t count,
                                                   size_t *wrong_offset) {
-    const struct skh_result result =
+    const struct skh_result hashed =
         skh_murmur3_hash_each64(skh_slice(input), length, offsets, offset_count, seed, out, count);
-    return skh_report_offset(result.is_error, result.value, wrong_offset);
+    return skh_report_offset(hashed.is_error, hashed.value, wrong_offset);
 }
 
 /* Returns how many bytes the smallest filter has whose false positive rate is at most one in
@@ -1349,7 +1348,7 @@ SKH_INLINE int sketch_bloom_insert_any(bool has_vectors, void *bits, size_t leng
                                        size_t key_length) {
     const uint64_t hash = skh_xxh64_hash(skh_slice(key), key_length, 0);
     if (!skh_bloom_is_length(length)) return SKETCH_ERROR_LENGTH;
-    skh_bloom_insert_into(has_vectors, skh_slice_mut(bits), length, hash);
+    skh_bloom_insert_into(has_vectors, skh_slice(bits), length, hash);
     return SKETCH_OK;
 }
 
@@ -1374,7 +1373,7 @@ SKH_CHOOSE(SKETCH_HASH_API, int, return, sketch_bloom_contains,
 SKH_INLINE int sketch_bloom_insert_hash_any(bool has_vectors, void *bits, size_t length,
                                             uint64_t hash) {
     if (!skh_bloom_is_length(length)) return SKETCH_ERROR_LENGTH;
-    skh_bloom_insert_into(has_vectors, skh_slice_mut(bits), length, hash);
+    skh_bloom_insert_into(has_vectors, skh_slice(bits), length, hash);
     return SKETCH_OK;
 }
 
@@ -1397,7 +1396,7 @@ SKETCH_HASH_API int sketch_bloom_insert_each32(void *bits, size_t length, const 
                                                size_t keys_length, const uint32_t *offsets,
                                                size_t offset_count, size_t *wrong_offset) {
     uint64_t hashes[32];
-    unsigned char *const filter = skh_slice_mut(bits);
+    unsigned char *const filter = skh_slice(bits);
     const unsigned char *const bytes = skh_slice(keys);
     if (!skh_bloom_is_length(length)) return SKETCH_ERROR_LENGTH;
     const uint64_t x1 = skh_less64(offset_count, 1);
@@ -1423,7 +1422,7 @@ SKETCH_HASH_API int sketch_bloom_insert_each64(void *bits, size_t length, const 
                                                size_t keys_length, const uint64_t *offsets,
                                                size_t offset_count, size_t *wrong_offset) {
     uint64_t hashes[32];
-    unsigned char *const filter = skh_slice_mut(bits);
+    unsigned char *const filter = skh_slice(bits);
     const unsigned char *const bytes = skh_slice(keys);
     if (!skh_bloom_is_length(length)) return SKETCH_ERROR_LENGTH;
     const uint64_t x1 = skh_less64(offset_count, 1);
@@ -1447,7 +1446,7 @@ SKETCH_HASH_API int sketch_bloom_insert_each64(void *bits, size_t length, const 
  * SKETCH_ERROR_LENGTH. */
 SKH_INLINE int sketch_bloom_insert_each_u32_any(bool has_vectors, void *bits, size_t length,
                                                 const uint32_t *values, size_t count) {
-    unsigned char *const filter = skh_slice_mut(bits);
+    unsigned char *const filter = skh_slice(bits);
     if (!skh_bloom_is_length(length)) return SKETCH_ERROR_LENGTH;
     for (uint64_t i = 0; i < count; i++) {
         skh_bloom_insert_into(
@@ -1465,7 +1464,7 @@ SKH_CHOOSE(SKETCH_HASH_API, int, return, sketch_bloom_insert_each_u32,
  * SKETCH_ERROR_LENGTH. */
 SKH_INLINE int sketch_bloom_insert_each_u64_any(bool has_vectors, void *bits, size_t length,
                                                 const uint64_t *values, size_t count) {
-    unsigned char *const filter = skh_slice_mut(bits);
+    unsigned char *const filter = skh_slice(bits);
     if (!skh_bloom_is_length(length)) return SKETCH_ERROR_LENGTH;
     for (uint64_t i = 0; i < count; i++) {
         skh_bloom_insert_into(has_vectors, filter, length,
@@ -1482,7 +1481,7 @@ SKH_CHOOSE(SKETCH_HASH_API, int, return, sketch_bloom_insert_each_u64,
 SKETCH_HASH_API int sketch_bloom_insert_each_hash(void *bits, size_t length, const uint64_t *hashes,
                                                   size_t count) {
     if (!skh_bloom_is_length(length)) return SKETCH_ERROR_LENGTH;
-    skh_bloom_insert_hashes(skh_slice_mut(bits), length, hashes, count);
+    skh_bloom_insert_hashes(skh_slice(bits), length, hashes, count);
     return SKETCH_OK;
 }
 
@@ -1496,25 +1495,22 @@ SKETCH_HASH_API int sketch_bloom_contains_each32(const void *bits, size_t length
     uint64_t hashes[32];
     const unsigned char *const filter = skh_slice(bits);
     const unsigned char *const bytes = skh_slice(keys);
-    unsigned char *const found_bytes = skh_slice_mut(found);
-    const bool b1 = skh_bloom_is_length(length);
-    if (b1) {
-        const struct skh_result result =
-            skh_check_offsets32(keys_length, offsets, offset_count, count);
-        if (result.is_error) {
-            *wrong_offset = (size_t)result.value;
-            return SKETCH_ERROR_OFFSET;
-        }
-        memset(hashes, 0, 256);
-        uint64_t start = 0;
-        while (start < count) {
-            const uint64_t hashes_count = skh_least64(count - start, 32);
-            skh_xxh64_hash_run32(bytes, offsets, start, hashes, hashes_count);
-            skh_bloom_find_hashes(filter, length, hashes, hashes_count, found_bytes, start);
-            start += hashes_count;
-        }
+    unsigned char *const found_bytes = skh_slice(found);
+    if (!skh_bloom_is_length(length)) return SKETCH_ERROR_LENGTH;
+    const struct skh_result result = skh_check_offsets32(keys_length, offsets, offset_count, count);
+    if (result.is_error) {
+        *wrong_offset = (size_t)result.value;
+        return SKETCH_ERROR_OFFSET;
     }
-    return b1 ? SKETCH_OK : SKETCH_ERROR_LENGTH;
+    memset(hashes, 0, 256);
+    uint64_t start = 0;
+    while (start < count) {
+        const uint64_t hashes_count = skh_least64(count - start, 32);
+        skh_xxh64_hash_run32(bytes, offsets, start, hashes, hashes_count);
+        skh_bloom_find_hashes(filter, length, hashes, hashes_count, found_bytes, start);
+        start += hashes_count;
+    }
+    return SKETCH_OK;
 }
 
 /* Writes 1 or 0 to found[i], as sketch_bloom_contains returns it for key i of a column with
@@ -1527,7 +1523,7 @@ SKETCH_HASH_API int sketch_bloom_contains_each64(const void *bits, size_t length
     uint64_t hashes[32];
     const unsigned char *const filter = skh_slice(bits);
     const unsigned char *const bytes = skh_slice(keys);
-    unsigned char *const found_bytes = skh_slice_mut(found);
+    unsigned char *const found_bytes = skh_slice(found);
     if (!skh_bloom_is_length(length)) return SKETCH_ERROR_LENGTH;
     const struct skh_result result = skh_check_offsets64(keys_length, offsets, offset_count, count);
     if (result.is_error) {
@@ -1551,7 +1547,7 @@ SKH_INLINE int sketch_bloom_contains_each_u32_any(bool has_vectors, const void *
                                                   const uint32_t *values, size_t value_count,
                                                   unsigned char *found, size_t count) {
     const unsigned char *const filter = skh_slice(bits);
-    unsigned char *const found_bytes = skh_slice_mut(found);
+    unsigned char *const found_bytes = skh_slice(found);
     if (!skh_bloom_is_length(length)) return SKETCH_ERROR_LENGTH;
     if (value_count < count) return SKETCH_ERROR_COUNT;
     for (uint64_t i = 0; i < count; i++) {
@@ -1573,7 +1569,7 @@ SKH_INLINE int sketch_bloom_contains_each_u64_any(bool has_vectors, const void *
                                                   const uint64_t *values, size_t value_count,
                                                   unsigned char *found, size_t count) {
     const unsigned char *const filter = skh_slice(bits);
-    unsigned char *const found_bytes = skh_slice_mut(found);
+    unsigned char *const found_bytes = skh_slice(found);
     if (!skh_bloom_is_length(length)) return SKETCH_ERROR_LENGTH;
     if (value_count < count) return SKETCH_ERROR_COUNT;
     for (uint64_t i = 0; i < count; i++) {
@@ -1593,9 +1589,11 @@ SKH_CHOOSE(SKETCH_HASH_API, int, return, sketch_bloom_contains_each_u64,
 SKETCH_HASH_API int sketch_bloom_contains_each_hash(const void *bits, size_t length,
                                                     const uint64_t *hashes, size_t hash_count,
                                                     unsigned char *found, size_t count) {
+    const unsigned char *const filter = skh_slice(bits);
+    unsigned char *const found_bytes = skh_slice(found);
     if (!skh_bloom_is_length(length)) return SKETCH_ERROR_LENGTH;
     if (hash_count < count) return SKETCH_ERROR_COUNT;
-    skh_bloom_find_hashes(skh_slice(bits), length, hashes, count, skh_slice_mut(found), 0);
+    skh_bloom_find_hashes(filter, length, hashes, count, found_bytes, 0);
     return SKETCH_OK;
 }
 
@@ -1603,12 +1601,11 @@ SKETCH_HASH_API int sketch_bloom_contains_each_hash(const void *bits, size_t len
  * Returns 0, or SKETCH_ERROR_LENGTH, also if the lengths are different. */
 SKETCH_HASH_API int sketch_bloom_merge(void *into, size_t length, const void *from,
                                        size_t from_length) {
-    unsigned char *const into_bytes = skh_slice_mut(into);
+    unsigned char *const into_bytes = skh_slice(into);
     const unsigned char *const from_bytes = skh_slice(from);
     if (from_length != length || !skh_bloom_is_length(length)) return SKETCH_ERROR_LENGTH;
     for (uint64_t i = 0; i < length; i++) {
-        unsigned char *const p1 = into_bytes + i;
-        p1[0] |= from_bytes[i];
+        into_bytes[i] |= from_bytes[i];
     }
     return SKETCH_OK;
 }
@@ -1619,7 +1616,7 @@ SKETCH_HASH_API int sketch_bloom_merge(void *into, size_t length, const void *fr
  * is not a multiple of 64. */
 SKETCH_HASH_API int sketch_bloom_fold(void *bits, size_t length) {
     if (((uint64_t)length & 63) != 0 || !skh_bloom_is_length(length)) return SKETCH_ERROR_LENGTH;
-    skh_bloom_fold_blocks(skh_slice_mut(bits), length);
+    skh_bloom_fold_blocks(skh_slice(bits), length);
     return SKETCH_OK;
 }
 
@@ -1629,7 +1626,7 @@ SKETCH_HASH_API int sketch_bloom_fold(void *bits, size_t length) {
  * Returns `length` if it folds nothing, as with a `one_in` of 0, and 0 if no filter has `length`
  * bytes. */
 SKETCH_HASH_API size_t sketch_bloom_fold_to(void *bits, size_t length, uint64_t one_in) {
-    unsigned char *const filter = skh_slice_mut(bits);
+    unsigned char *const filter = skh_slice(bits);
     if (!skh_bloom_is_length(length)) return 0;
     uint64_t filter_length = length;
     while ((filter_length & 63) == 0) {
@@ -1654,7 +1651,7 @@ SKETCH_HASH_API size_t sketch_bloom_block_offset(size_t length, uint64_t hash) {
  * bloom_filter_length is that of the header and the filter. */
 SKETCH_HASH_API size_t sketch_bloom_header_write(uint64_t bytes, unsigned char *header,
                                                  size_t room) {
-    const struct skh_option option = skh_bloom_write_header(bytes, skh_slice_mut(header), room);
+    const struct skh_option option = skh_bloom_write_header(bytes, skh_slice(header), room);
     return option.is_some ? option.value : 0;
 }
 

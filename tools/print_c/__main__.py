@@ -6,13 +6,15 @@ CLANG is the kit's, and optimizes the module. HEADER declares the functions that
 source, from which names and comments are. The instructions and calls that it knows are those of module.py and values.py; any
 other stops it. The layout is clang-format's.
 
-In order: keep.py optimizes the module and keeps its functions; module.py reads it; program.py finds names and kinds of
-pointers, with source.py. For each function reshape.py changes its blocks, flow.py finds its loops, values.py and body.py make
-statements, copies.py joins names, loops.py tidies, names.py gives names, text.py and expression.py write.
+In order: keep.py optimizes the module and keeps its functions; module.py reads it, and vectors.py makes words of vectors;
+program.py finds names and kinds of pointers, with source.py. For each function flow.py finds its loops, values.py and body.py
+make statements, copies.py joins names, loops.py tidies, names.py gives names, text.py and expression.py write.
 """
 import collections
 import pathlib
+import re
 import sys
+import textwrap
 
 import copies
 import expression as e
@@ -20,73 +22,59 @@ import keep
 import loops
 import names
 import text
+import vectors
 from body import Body
-from expression import Writer, made
-from module import Module, Unknown
-from program import Program, part_of
-from reshape import reshape
+from expression import Writer
+from module import Module
+from program import PARTS, Program, part_of
 from source import Sources
-from values import VECTORS
+from vectors import VECTORS
 
 WIDTH = 100
-
-
-def comment(about):
-    lines, line = [], "/*"
-    for word in about.split():
-        if len(line) + 1 + len(word) > WIDTH - 3:
-            lines.append(line)
-            line = " *"
-        line += " " + word
-    return [*lines, line + " */"] if about else []
 
 
 class Printer:
     def __init__(self, module, header, sources):
         self.program, self.sources = Program(module, header, sources), sources
         self.writer = Writer(sources.named, sources.sums)
-        self.program.parameter_names = {}
-        for function in module.functions:
-            known = [name.text for name in self.program.parameters(function)]
-            vectors = [None] if self.program.has_vectors(function.name) else []
-            self.program.parameter_names[self.program.names[function.name]] = vectors + known
+        self.constants = {text: f"#define {text} 0x{value:x}u" for value, text in sources.named.items()}
+        for name, data in module.constants.items():
+            text = self.program.names[name]
+            self.constants[text] = f"static const unsigned char {text}[] = {{{', '.join(map(str, data))}}};"
 
     def function(self, function):
         program, name = self.program, self.program.names[function.name]
         declared = program.declared.get(function.name)
-        parameters = program.parameters(function)
-        body = Body(function, program, program.result_type(function))
-        for own, variable in zip(function.parameters, parameters):
-            kind = variable.type
-            value = e.name(variable)
-            body.values[own.token] = made("place", kind, value, None, 0) if own.type == "ptr" else value
+        parameters = program.parameters[function.name]
+        body = Body(function, program)
         statements = body.statements_of_all()
         names.hint_from_use(statements, program)
+        names.hint_from_source(statements, parameters, function.source, program)
         arrays = [variable for variable, _ in body.arrays]
         pointers = [each for each in parameters if declared and isinstance(each.type, e.Pointer)]
         copies.share(statements, parameters, [*arrays, *pointers])
         loops.tidy(statements)
         names.hint_from_use(statements, program)
+        names.hint_from_source(statements, parameters, function.source, program)
         names.hint_loops(statements, function.source)
         names.give(statements, parameters, arrays, program.names.values())
         text.declare(statements, {*parameters, *arrays})
         lines = [*self.array_lines(body.arrays), *self.requirements(function, parameters),
                  *text.Text(self.writer, statements).lines(statements)]
         if declared:
-            head = ", ".join(each for _, each in declared.parameters) or "void"
+            head = declared.parameters
         else:
             head = ", ".join(text.declared(each.type, each.text) for each in parameters)
-        return "\n".join([*comment(declared.about if declared else function.source.about),
+        about = textwrap.fill(declared.about if declared else function.source.about, WIDTH - 3, initial_indent="/* ",
+                              subsequent_indent=" * ", break_long_words=False, break_on_hyphens=False)
+        return "\n".join([*([about + " */"] if about else []),
                           *self.with_head(function, name, head, [each.text for each in parameters], lines), ""])
 
     def requirements(self, function, parameters):
-        """What `requires` says of the numbers that a function is given. One that is inlined has it from its caller."""
-        if not function.is_internal or function.source.inline != "never":
-            return
-        every = keep.parameters_in_c(function.source, self.sources.structs)
+        """What all callers ensure of the numbers that a function is given. One that is inlined has it from its caller."""
         for own, variable in zip(function.parameters, parameters):
-            least, most = function.source.ranges.get(every[int(own.token[2:])][2], (0, None))
-            bounds = [f"{variable.text} >= {least}"] * (least > 0) + [f"{variable.text} <= {most}"] * (most is not None)
+            least, end = function.ranges.get(own.token, (0, 0)) if function.source.inline == "never" else (0, 0)
+            bounds = [f"{variable.text} >= {least}"] * (least > 0) + [f"{variable.text} <= {end - 1}"] * (end > 0)
             if bounds:
                 yield f"SKH_REQUIRES({' && '.join(bounds)});"
 
@@ -110,7 +98,7 @@ class Printer:
                 f"SKH_CHOOSE({storage}, {type}, {give}, {name}, ({parameters}), ({', '.join(arguments)}))"]
 
     def in_order(self):
-        """The functions, each after those that it calls, part by part, and then those of the header in its order."""
+        """The functions part by part, each after those that it calls, and then those of the header in its order."""
         program, parts, done = self.program, collections.defaultdict(list), set()
 
         def visit(name):
@@ -125,35 +113,14 @@ class Printer:
         calls = [program.functions[name] for name in program.declared if name in program.functions]
         for function in calls:
             visit(function.name)
-        ordered, waiting, known = [], [*parts], set()
-        while waiting:  # next a part whose functions call none of a later one
-            title = next((each for each in waiting if all(
-                callee in known or program.functions[callee] in parts[each] for function in parts[each]
-                for callee in program.callees[function.name])), None)
-            if title is None:
-                raise Unknown(f"print_c does not know an order of {waiting}")
-            waiting.remove(title)
-            ordered.append((title, parts[title]))
-            known |= {function.name for function in parts[title]}
-        return [*ordered, ("Calls", calls)]
-
-    def constants(self, functions, done):
-        """What the source gives names to, and these functions use first."""
-        for value in dict.fromkeys(self.writer.used):
-            if value not in done:
-                yield f"#define {self.sources.named[value]} 0x{value:x}u"
-        for name, data in self.program.module.constants.items():
-            if name not in done and any(operand.token in (f"@{name}", f'@"{name}"') for function in functions
-                                        for step in function.steps() for operand in step.operands):
-                yield f"static const unsigned char {self.program.names[name]}[] = {{{', '.join(map(str, data))}}};"
-                done.add(name)
-        done.update(self.writer.used)
+        return [*((title, parts[title]) for _, _, title in PARTS if parts[title]), ("Calls", calls)]
 
     def text(self, head):
-        out, done = [head], set()
+        out = [head]
         for title, group in self.in_order():
             functions = [self.function(function) for function in group]
-            constants = [*self.constants(group, done)]
+            words = re.findall(r"\w+", "\n".join(functions))
+            constants = [self.constants.pop(word) for word in dict.fromkeys(words) if word in self.constants]
             out += [f"/* ---- {title} */\n", *constants, *([""] if constants else []), *functions]
         return "\n".join(out)
 
@@ -162,7 +129,7 @@ def main(clang, module, header, crates):
     sources = Sources(pathlib.Path(crates))
     module = Module(keep.optimize(clang, pathlib.Path(module).read_bytes(), sources))
     for function in module.functions:
-        reshape(function)
+        vectors.split(function)
     head = (pathlib.Path(__file__).parent / "head.c").read_text()
     return Printer(module, pathlib.Path(header).read_text(), sources).text(head)
 

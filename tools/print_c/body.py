@@ -2,18 +2,20 @@
 import collections
 
 import expression as e
-from expression import FIELDS, Name, cast, made, negation, number, struct_of
+from expression import FIELDS, TYPES, Name, cast, comparison, negation
 from module import Unknown
-from statements import Assign, Break, If, Loop, Return, ends
+from statements import Assign, Break, Do, If, Loop, Return, ends
 from values import Values, as_bool
 
-STATUSES = {0: "SKETCH_OK", -1: "SKETCH_ERROR_LENGTH", -2: "SKETCH_ERROR_OFFSET", -3: "SKETCH_ERROR_COUNT"}
+CHEAP = {"phi", "insertvalue", "extractvalue", "zext", "sext", "trunc", "xor", "ret"}
 
 
 def branch(condition, then, otherwise):
-    """The shorter way out is first. But what a bound allows stays within its test, which mostly holds."""
+    """The shorter way out is first. But what a bound allows stays within its test. Such a test mostly holds, and so does one
+    whose short way is a call."""
     is_shorter = ends(then) and ends(otherwise) and len(otherwise) < len(then)
-    if is_shorter and condition.op in ("<", ">", "<=", ">=") and not any(map(e.is_number, condition.args)):
+    is_bound = condition.op in ("<", ">", "<=", ">=") and not any(map(e.is_number, condition.args))
+    if is_bound and (is_shorter or len(then) == 2 and isinstance(then[0], Do) and ends(then)):
         return [If(e.call("SKH_EXPECT", "bool", condition), then, []), *otherwise]
     if not then or ends(otherwise) and (not ends(then) or is_shorter):
         condition, then, otherwise = negation(condition), otherwise, then
@@ -23,92 +25,87 @@ def branch(condition, then, otherwise):
 
 
 class Body(Values):
-    """`result_type` is the type in C that the function returns."""
+    """`homes` maps a block to those after its code to which more than one way leads."""
 
-    def __init__(self, function, program, result_type):
+    def __init__(self, function, program):
         super().__init__(function, program)
-        self.result_type = result_type
         self.homes = collections.defaultdict(list)
         for label in self.flow.order[1:]:
-            if self.is_apart(label):
-                self.homes[self.flow.home(label)].append(label)
+            if self.flow.is_merge(label) and not self.is_repeated(label):
+                self.homes[self.flow.parent[label]].append(label)
 
-    def is_edge(self, label):
-        """Whether it only goes on to another."""
-        return len(self.blocks[label]) == 1 and len(self.flow.after[label]) == 1
+    def is_repeated(self, label):
+        """Whether a block only returns: so it stands on each way to it, and no jump is needed."""
+        return self.blocks[label][-1].operation == "ret" and CHEAP.issuperset(step.operation for step in self.blocks[label])
 
-    def is_apart(self, label):
-        """Whether its code is after the branches that go to it, and not in one of them."""
-        if self.flow.is_merge(label):
-            return True
-        if self.flow.left_by(label) is None or self.is_edge(label):
-            return False
-        return not (self.blocks[label][-1].operation == "ret" and len(self.blocks[label]) <= 3)
-
-    def tree(self, label, follow, around):
-        """The code of a block and of all that only it leads to. `follow` is what stands after it, and `around` what stands
-        after each loop that it is in."""
+    def tree(self, label, follow, leave):
+        """The code of a block and of all that only it leads to. `follow` is what stands after it, and `leave` what stands after
+        the loop that it is in."""
         placed, body = self.homes[label], self.flow.loops.get(label, ())
         inside, after = [each for each in placed if each in body], [each for each in placed if each not in body]
 
         def code(next):
             if not body:
-                return self.block(label, next, around)
-            within = [*around, next]
-            return [Loop(None, self.sequence(lambda last: self.block(label, last, within), inside, label, within))]
+                return self.block(label, next, leave)
+            return [Loop(None, self.sequence(lambda last: self.block(label, last, next), inside, label, next))]
 
-        return self.sequence(code, after, follow, around)
+        return self.sequence(code, after, follow, leave)
 
-    def sequence(self, first, placed, follow, around):
+    def sequence(self, first, placed, follow, leave):
         """First some code, and then that of each block which is placed after it."""
         follows = [*placed, follow]
         out = first(follows[0])
         for label, next in zip(placed, follows[1:]):
-            out += self.tree(label, next, around)
+            out += self.tree(label, next, leave)
         return out
 
-    def block(self, label, follow, around):
+    def block(self, label, follow, leave):
         last, out = self.blocks[label][-1], self.statements(label)
         if last.operation == "ret":
             return out + [Return(None if last.type == "void" else self.result(last.operands[0]))]
-        if last.operation != "br":
-            raise Unknown(f"print_c does not know {last.operation}")
         if len(self.flow.after[label]) == 1:
-            return out + self.go(label, last.more[0], follow, around)
-        condition = self.value(last.operands[0])
-        then, otherwise = (self.go(label, target, follow, around) for target in last.more)
-        return out + branch(condition, then, otherwise)
+            return out + self.go(label, last.more[0], follow, leave)
+        if last.operation == "switch":
+            (asked, *cases), (default, *targets) = map(self.value, last.operands), last.more
+            asked = asked if asked.op == "name" or len(cases) == 1 else self.named(asked)
+            conditions = [comparison("==", asked, case) for case in cases]
+        else:
+            conditions, (*targets, default) = [self.value(last.operands[0])], last.more
+        *arms, code = [self.go(label, target, follow, leave) for target in [*targets, default]]
+        for condition, arm in reversed([*zip(conditions, arms)]):
+            code = branch(condition, arm, code)
+        return out + code
 
     def result(self, operand):
-        value = self.values[operand.token] if isinstance(self.values.get(operand.token), list) else self.value(operand)
-        if isinstance(value, list):
+        value = self.value(operand)
+        if value.op == "struct":
             return self.struct(value)
         if self.result_type == "int":
-            return status(value)
+            return self.status(value)
         if self.result_type == "size_t" and e.is_number(value, (1 << 64) - 1):
             return e.text("SIZE_MAX", "size_t")
         return as_bool(value) if self.result_type == "bool" else e.uncast(value)
 
-    def struct(self, values):
-        type = struct_of(self.function.source)
-        fields = FIELDS[type]
-        if all(each.op == "field" and each.args[1] == key and each.args[0] == values[0].args[0]
-               for each, (_, key) in zip(values, fields)) and values[0].args[0].type == type:
-            return values[0].args[0]
-        if fields[0][0] == "bool":
-            values = [as_bool(values[0]), values[1]]
-        return made("struct", type, *values)
+    def struct(self, value):
+        """The variable whose two fields a struct has, or the struct."""
+        first, fields = value.args[0], FIELDS[value.type]
+        if first.op == "field" and value.args == e.fields(first.args[0]):
+            return first.args[0]
+        return value._replace(args=(as_bool(first) if fields[0][0] == "bool" else first, value.args[1]))
 
-    def go(self, source, target, follow, around):
+    def go(self, source, target, follow, leave):
         """What a branch from one block to another does: it sets what the other one begins with, and goes there."""
-        out, is_back = self.moves(source, target), target in self.flow.through[source]
-        if not is_back and not self.is_apart(target):
-            return out + self.tree(target, follow, around)
+        if self.is_repeated(target):
+            for step in self.blocks[target]:
+                if step.operation == "phi":
+                    self.values[step.result] = self.value(step.operands[step.more.index(source)])
+            return self.block(target, follow, leave)
+        out = self.moves(source, target)
+        if target not in self.flow.through[source] and not self.flow.is_merge(target):
+            return out + self.tree(target, follow, leave)
         if target == follow:
             return out
-        if is_back:
-            raise Unknown(f"print_c does not know a way back to {target} before the end of its loop")
-        if around and around[-1] == target:
+        if target == leave:
             return out + [Break()]
         raise Unknown(f"print_c does not know how to reach {target} of {self.function.name} without a goto")
 
@@ -116,64 +113,42 @@ class Body(Values):
         """A name gets its value when no other value needs what it was."""
         pending, out = {}, []
         for step in self.blocks[target]:
-            if step.operation == "phi" and self.users[step.result]:
-                operand = step.operands[step.more.index(source)]
-                if operand.token != "poison":
-                    self.move_to(self.values[step.result], self.value(operand), pending)
+            if step.operation == "phi":
+                own, operand = self.values[step.result], step.operands[step.more.index(source)]
+                value = self.value(operand) if operand.token != "poison" else own
+                if value != own:
+                    own, value = (own.args[0], self.address(value)) if own.op == "place" else (own, value)
+                    pending[own.args[0]] = value
         while pending:
             free = [name for name in pending
                     if not any(name in e.names_in(value) for other, value in pending.items() if other != name)]
             if not free:
                 raise Unknown(f"print_c does not know values that change places in {self.function.name}")
-            name = min(free, key=lambda each: pending[each].op in "+-" and pending[each].args[0] == e.name(each))
+            name = min(free, key=lambda each: pending[each].op in "+-" and pending[each].args[0] == e.name(each))  # steps last
             out.append(Assign(name, e.uncast(pending.pop(name))))
         return out
-
-    def move_to(self, own, value, pending):
-        if isinstance(own, list):  # a struct
-            value = value[0].args[0] if isinstance(value, list) else value
-            own = own[0].args[0]
-        elif own.op == "place":
-            own, value = own.args[0], self.address(value)
-        elif own.type == "bool":
-            value = as_bool(value)
-        if value != own:
-            pending[own.args[0]] = value
 
     def statements_of_all(self):
         for label in self.flow.order:
             for step in self.blocks[label]:
-                if step.operation == "phi" and self.users[step.result]:
-                    self.values[step.result] = self.phi(step)
-        return self.tree(self.flow.order[0], None, [])
-
-    def phi(self, step):
-        if step.type == "ptr":
-            kind = self.program.kinds[self.function.name, step.result]
-            return made("place", kind, e.name(Name(kind)), None, 0)
-        kinds = {"i1": "bool", "i8": "uint8_t", "i32": "uint32_t", "i64": "uint64_t", "i128": "skh_uint128"}
-        if step.type in kinds:
-            return e.name(Name(kinds[step.type]))
-        type = self.struct_of_phi(step)
-        result = e.name(Name(type))
-        return [e.field(result, key, of) for of, key in FIELDS[type]]
+                if step.operation == "phi":
+                    kind = self.program.kind(self.function, step.result) if step.type == "ptr" else TYPES.get(step.type)
+                    self.values[step.result] = e.value_of(Name(kind or self.struct_of_phi(step)))
+        return self.tree(self.flow.order[0], None, None)
 
     def struct_of_phi(self, step):
-        """The struct that the calls return which it chooses from."""
-        for operand in step.operands:
-            made_by = self.made[operand.token]
-            if made_by.operation == "call":
-                return struct_of(self.program.functions[made_by.more].source)
-        raise Unknown(f"print_c does not know a choice of {step.type}")
+        """The struct that a call returns which it chooses from, or else the one that the function returns."""
+        steps = [self.made.get(operand.token) for operand in step.operands]
+        calls = [self.program.functions[each.more] for each in steps if each and each.operation == "call"]
+        return self.program.result_type(calls[0]) if calls else self.result_type
 
-
-def status(value):
-    """A result of a call, which is an int."""
-    if value.op == "number":
-        signed = value.args[0] - (1 << 32) if value.args[0] >> 31 else value.args[0]
-        return e.text(STATUSES[signed], "int") if signed in STATUSES else number(signed, "uint32_t")
-    if value.op == "?:":
-        return e.choice(value.args[0], *map(status, value.args[1:]), "int")
-    if value.op == "cast" and value.args[0].type == "bool":
-        return value.args[0]
-    return value if value.type == "int" else cast("int", value)
+    def status(self, value):
+        """A result of a call, which is an int."""
+        if value.op == "number":
+            signed = value.args[0] - (value.args[0] >> 31 << 32)
+            return e.text(self.program.statuses[signed], "int") if signed in self.program.statuses else value
+        if value.op == "?:":
+            return e.choice(value.args[0], *map(self.status, value.args[1:]), "int")
+        if value.op == "cast" and value.args[0].type == "bool":
+            return value.args[0]
+        return value if value.type == "int" else cast("int", value)

@@ -2,11 +2,15 @@
 import collections
 import itertools
 
-# `type` is one of C, or the kind of a pointer; `reads` says whether it reads memory.
+# `type` is one of C, or the kind of a pointer; `reads` are the places in memory that it reads: each a pointer and the offsets
+# of its first byte and of its end.
 Expression = collections.namedtuple("Expression", "op args type reads")
 # What a pointer points into: bytes; native numbers of a width, which `const` may keep from being written; pairs of numbers; a
 # state of the header, or a size.
 Pointer = collections.namedtuple("Pointer", "kind is_const")
+
+
+NOTHING, ANYWHERE = frozenset(), "anywhere"
 
 
 class State:
@@ -20,6 +24,7 @@ LEVELS = [("*", "/"), ("+", "-"), ("<<", ">>"), ("<", "<=", ">", ">="), ("==", "
           ("?:",)]
 LEVEL = {op: 3 + place for place, ops in enumerate(LEVELS) for op in ops}
 ATOM, UNARY = 0, 1
+SIGNS = {"add": "+", "sub": "-", "mul": "*", "udiv": "/", "shl": "<<", "lshr": ">>", "and": "&", "or": "|", "xor": "^"}
 NEGATED = {"==": "!=", "!=": "==", "<": ">=", ">=": "<", ">": "<=", "<=": ">"}
 COMMUTES = {"+", "*", "&", "|", "^", "&&", "||"}
 WIDTHS = {"bool": 1, "uint8_t": 8, "uint16_t": 16, "uint32_t": 32, "uint64_t": 64, "size_t": 64}
@@ -32,51 +37,61 @@ FIELDS = {"struct skh_pair": (("uint64_t", "first"), ("uint64_t", "second")),
           "struct skh_result": (("bool", "is_error"), ("uint64_t", "value"))}
 
 
-def struct_of(source):
-    """The struct that a function of the source returns."""
-    kind = source.result.partition("<")[0]
-    return {"Option": "struct skh_option", "Result": "struct skh_result"}.get(kind, "struct skh_pair")
-
-
 class Name:
     """A variable. `hints` are texts for its name, each with a number: the least is the best."""
 
     numbers = itertools.count()
 
     def __init__(self, type, text=None):
-        self.type, self.text, self.hints, self.number = type, text, [], next(self.numbers)
+        self.type, self.text, self.number = type, text, next(self.numbers)
         self.is_parameter = text is not None
+        is_struct = isinstance(type, str) and type.startswith("struct ")
+        self.hints = [(9, type.removeprefix("struct skh_"))] if is_struct else []
 
     def hint(self, rank, text):
         self.hints.append((rank, text))
 
     def is_certain(self):
         """Whether the source gives it its name."""
-        return self.is_parameter or any(rank < 2 for rank, _ in self.hints)
+        return self.is_parameter or any(rank < 3 for rank, _ in self.hints)
 
 
 def name(variable):
-    return Expression("name", (variable,), variable.type, False)
+    return Expression("name", (variable,), variable.type, NOTHING)
+
+
+def value_of(variable):
+    found = name(variable)
+    return made("place", variable.type, found, None, 0) if isinstance(variable.type, Pointer) else found
 
 
 def number(value, type="uint64_t"):
-    return Expression("number", (value & (1 << WIDTHS[type]) - 1,), type, False)
+    return Expression("number", (value & (1 << WIDTHS[type]) - 1,), type, NOTHING)
 
 
 def text(word, type):
-    return Expression("text", (word,), type, False)
+    return Expression("text", (word,), type, NOTHING)
 
 
 def call(function, type, *arguments, reads=False):
-    return Expression("call", (function, *arguments), type, reads or any(each.reads for each in arguments))
+    return Expression("call", (function, *arguments), type, frozenset([ANYWHERE]) if reads else read_in(arguments))
 
 
 def made(op, type, *arguments):
-    return Expression(op, arguments, type, any(each.reads for each in arguments if isinstance(each, Expression)))
+    return Expression(op, arguments, type, read_in(arguments))
+
+
+def read_in(arguments):
+    return NOTHING.union(*(each.reads for each in arguments if isinstance(each, Expression)))
 
 
 def field(value, key, type):
     return Expression("field", (value, key), type, value.reads)
+
+
+def fields(value):
+    """The two numbers of a struct."""
+    return value.args if value.op == "struct" else tuple(field(value, key, type) for type, key in FIELDS[value.type])
 
 
 def is_number(value, *numbers):
@@ -86,10 +101,6 @@ def is_number(value, *numbers):
 def cast(type, value):
     if value.type == type:
         return value
-    if value.op == "number" and type in WIDTHS:
-        return number(value.args[0], type)
-    if value.op == "cast" and WIDTHS.get(value.args[0].type, 99) >= WIDTHS.get(value.type, 0) >= WIDTHS.get(type, 0):
-        return cast(type, value.args[0])
     return made("cast", type, value)
 
 
@@ -106,8 +117,6 @@ def binary(op, one, other, type=None):
 
 
 def comparison(op, one, other):
-    if is_number(one) and not is_number(other):
-        one, other, op = other, one, {"<": ">", ">": "<", "<=": ">=", ">=": "<="}.get(op, op)
     if one.type == "bool" and is_number(other, 0, 1) and op in ("==", "!="):
         return one if (op == "==") == is_number(other, 1) else negation(one)
     return made(op, "bool", one, other)
@@ -117,29 +126,19 @@ def choice(condition, one, other, type):
     """One of two values, without what the condition says already."""
     if is_number(condition):
         return one if condition.args[0] else other
-    if one == other:
-        return one
     if type == "bool" and is_number(other, 0):
         return conjunction(condition, one)
-    if type == "bool" and is_number(one, 1):
-        return negation(conjunction(negation(condition), negation(other)))
     if condition.op in ("!", "!="):
         condition, one, other = negation(condition), other, one
     return made("?:", type, condition, one, other)
 
 
 def conjunction(one, other):
-    if is_number(one):
-        return other if one.args[0] else one
-    if is_number(other):
-        return one if other.args[0] else other
     return made("&&", "bool", one, other)
 
 
 def disjunction(one, other):
     """One or the other, of which the second is only asked if the first is not so."""
-    if is_number(one) or is_number(other):
-        return negation(conjunction(negation(one), negation(other)))
     if one.op == "&&" and negation(one.args[0]) == other:
         return disjunction(other, one.args[1])
     return made("||", "bool", one, other)
@@ -152,8 +151,6 @@ def negation(value):
         return made(NEGATED[value.op], "bool", *value.args)
     if value.op in ("&&", "||"):
         return made("||" if value.op == "&&" else "&&", "bool", *map(negation, value.args))
-    if is_number(value):
-        return number(1 - value.args[0], "bool")
     return made("!", "bool", value)
 
 
@@ -174,13 +171,17 @@ def in_order(names):
     return sorted(names, key=lambda name: name.number)
 
 
+TESTS = {"!": negation, "&&": conjunction, "||": disjunction}
+
+
 def replaced(value, put):
     """The expression with `put(name)` in place of each name, if it is not None."""
     if value.op == "name":
         return put(value.args[0]) or value
     args = tuple(replaced(each, put) if isinstance(each, Expression) else each for each in value.args)
-    reads = value.reads or any(each.reads for each in args if isinstance(each, Expression))
-    return value._replace(args=args, reads=reads) if args != value.args else value
+    if args == value.args:
+        return value
+    return TESTS[value.op](*args) if value.op in TESTS else value._replace(args=args, reads=value.reads | read_in(args))
 
 
 def size_of(value):
@@ -189,24 +190,20 @@ def size_of(value):
 
 class Writer:
     """Writes expressions. `named` maps a number to the name that the source gives it, and `sums` one to how the source
-    computes it. `used` are the numbers whose names it wrote."""
+    computes it."""
 
     def __init__(self, named, sums):
-        self.named, self.sums, self.used = named, sums, []
+        self.named, self.sums = named, sums
 
     def number(self, value, type):
         if type == "bool":
             return "true" if value else "false"
         width = WIDTHS[type]
-        if value in self.named:
-            self.used.append(value)
-            return self.named[value]
-        if value in self.sums:
-            return self.sums[value]
+        if value in self.named or value in self.sums:
+            return self.named.get(value) or self.sums[value]
         for one, name in self.named.items():
             rest = value - one & (1 << width) - 1
             if width == 64 and (rest < 64 or rest in self.named):
-                self.used += [one] + [rest] * (rest in self.named)
                 return f"{name} + {self.named.get(rest, rest)}"
         if width == 64 and value == (1 << 64) - 1:
             return "UINT64_MAX"
@@ -215,8 +212,6 @@ class Writer:
         if value >= 1 << 16 and value & value - 1 == 0:
             one = "(uint64_t)1" if width == 64 else "1u"
             return f"{one} << {value.bit_length() - 1}"
-        if width == 64 and value > 0xffff and value & value + 1 == 0:
-            return f"0x{value:x}u"
         return str(value) if value < 1 << 16 else f"0x{value:x}u"
 
     def level(self, value):

@@ -7,7 +7,7 @@ class Flow:
     through. `parent`: the nearest of these. `loops`: for the label of a loop's head, the labels in it."""
 
     def __init__(self, blocks):
-        self.after = {label: list(dict.fromkeys(block[-1].more or [])) for label, block in blocks.items()}
+        self.after = {label: block[-1].more or [] for label, block in blocks.items()}
         self.order = []
         self.visit(next(iter(blocks)), set())
         self.order.reverse()
@@ -57,12 +57,3 @@ class Flow:
     def is_merge(self, label):
         """Whether more than one way goes on to it from before it."""
         return sum(self.place[before] < self.place[label] for before in self.before[label]) > 1
-
-    def left_by(self, label):
-        """The head of the outermost loop that its parent is in, and it is not; or None."""
-        heads = [head for head, body in self.loops.items() if self.parent[label] in body and label not in body]
-        return min(heads, key=self.place.get, default=None)
-
-    def home(self, label):
-        """The block after whose code its own stands: a loop's head, after the loop, or its parent."""
-        return self.left_by(label) or self.parent[label]

@@ -4,7 +4,7 @@ A function stays if C can have its head: its parameters are numbers of at most 6
 and its result is nothing, a number, a pair of numbers, an `Option` or a `Result` of them. All others are inlined: those that
 take or return a larger struct, closures, methods of traits, and what the standard library does. A function of one instruction,
 such as a read of a word, is inlined too, since C has an expression for it; and so is a call that gets a pointer to a variable,
-if no variable is left then."""
+if the source inlines the function."""
 import re
 import subprocess
 
@@ -15,7 +15,7 @@ OPTIMIZE = ["-O2", "-fno-vectorize", "-fno-slp-vectorize", "-fno-unroll-loops", 
 NUMBER = re.compile(r"u8|u16|u32|u64|usize|i32|bool")
 EITHER = re.compile(r"Option<usize>|Result<(\(\)|usize), usize>")
 DEFINE = re.compile(r'^define (internal )?([^@\n]*)@("[^"]*"|[\w.]+)\(([^\n]*)\)[^()\n]*\{\n((?:(?!\}).*\n)*)\}\n', re.M)
-CALL = re.compile(r'^( *(?:(%[\w.]+) = )?(?:tail )?call [^@\n]*@("[^"]*"|[\w.]+)\()(.*)\)(.*)$', re.M)
+CALL = re.compile(r'^( *(?:%[\w.]+ = )?(?:tail )?call [^@\n]*@("[^"]*"|[\w.]+)\((.*)\)).*$', re.M)
 
 # The standard library's copy of bytes is written for places that overlap, as memmove is.
 MOVE = "  call void @llvm.memmove.p0.p0.i64(ptr %a1, ptr %a0, i64 %a2, i1 false)\n  ret void\n"
@@ -31,20 +31,19 @@ def run_clang(clang, arguments, module):
 
 
 def parameters_in_c(source, states):
-    """A function's parameters in the module: a name, a type of the source, and what a clause calls it if it is a number. Or
-    None if C has no such head."""
+    """A function's parameters in the module, each with its name and a type of the source, or None if C has no such head."""
     found = []
     for name, type in source.parameters:
         if NUMBER.fullmatch(type):
-            found.append((name, type, name))
+            found.append((name, type))
         elif re.match(r"&(mut )?\[", type):
             is_array = re.fullmatch(r"&(mut )?\[[^;]*; \w+\]", type)
             count = name + ("_length" if type.endswith("[u8]") else "_count")
-            found += [(name, type, None)] if is_array else [(name, type, None), (count, "usize", f"length {name}")]
+            found += [(name, type)] if is_array else [(name, type), (count, "usize")]
         elif EITHER.fullmatch(type):
-            found += [("is_error" if type[0] == "R" else "is_some", "bool", None), (name, "usize", None)]
-        elif type == "&mut usize" or name == "self" and source.path.split("::")[-2] in states:
-            found.append((name, type, None))
+            found += [("is_error" if type[0] == "R" else "is_some", "bool"), (name, "usize")]
+        elif re.fullmatch("&mut (usize|u64)", type) or type.split()[-1].strip("&") in states:
+            found.append((name, type))
         else:
             return None
     return found
@@ -65,19 +64,7 @@ def kept_in(module, sources):
     return found
 
 
-def with_ranges(source, parameters, states):
-    """The parameters in the module, with what `requires` says of them."""
-    parts = parameters.split(", ")
-    for at, (_, _, number) in enumerate(parameters_in_c(source, states)):
-        least, most = source.ranges.get(number, (0, None))
-        type = parts[at].split()[0]
-        if number and (least, most) != (0, None) and type != "i1":
-            limit = 0 if most is None else most + 1
-            parts[at] = parts[at].replace(type, f"{type} range({type} {least}, {limit})", 1)
-    return ", ".join(parts)
-
-
-def mark(module, kept, states):
+def mark(module, kept):
     """Says in the module which functions stay, and inlines the others."""
 
     def head(found):
@@ -86,74 +73,47 @@ def mark(module, kept, states):
             return found[0]
         if path_of(name) == "core::ptr::copy_drop::copy_bits":
             body = MOVE
-        attributes = 'alwaysinline nounwind "target-cpu"="x86-64"'
-        if name in kept:
-            parameters = with_ranges(kept[name], parameters, states)
-            attributes = f'noinline nounwind "target-cpu"="x86-64" "skh"="{kept[name].inline}"'
-        return f"define internal {type}@{name}({parameters}) {attributes} {{\n{body}}}\n"
+        inline = "noinline" if name in kept else "alwaysinline"
+        return f'define internal {type}@{name}({parameters}) {inline} nounwind "target-cpu"="x86-64" {{\n{body}}}\n'
 
     return DEFINE.sub(head, module)
 
 
 def is_one_step(body):
-    """Whether a function does one thing: computing an address and building a result do not count."""
+    """Whether a function gives one value: computing an address and building a result do not count."""
     steps = [line for line in body.split("\n") if line.startswith("  ")]
-    return len([line for line in steps if not re.search(r"= (getelementptr|insertvalue|zext)|^  ret ", line)]) <= 1
+    steps = [line for line in steps if not re.search(r"= (getelementptr|insertvalue|zext)|^  ret ", line)]
+    return len(steps) <= 1 and "call void" not in body
 
 
-def inline(module, names):
-    """Has these functions inlined, which are optimized already: so a rotation stays one."""
-    return DEFINE.sub(lambda found: re.sub(r" #\d+ \{\n", " alwaysinline nounwind {\n", found[0], count=1)
-                      if found[3] in names else found[0], module)
-
-
-def variables_in(body):
-    return set(re.findall(r"(%[\w.]+) = alloca", body))
-
-
-def inline_at_variables(module, functions):
-    """Has each call inlined that gets a pointer to a variable of these functions."""
+def with_calls_inlined(module, kept):
+    """Has calls inlined of functions of one step, which are optimized already: so a rotation stays one. And each that gets a
+    pointer to a variable, if the source inlines the function."""
+    short = {found[3] for found in DEFINE.finditer(module) if is_one_step(found[5])}
 
     def in_function(found):
-        body = found[5]
-        pointers = variables_in(body) if found[3] in functions else set()
-        for line in body.split("\n"):
-            place = re.match(r"  (%[\w.]+) = getelementptr .* ptr (%[\w.]+),", line)
-            if place and place[2] in pointers:
-                pointers.add(place[1])
+        pointers = set(re.findall(r"(%[\w.]+) = alloca", found[5]))
+        places = re.findall(r"(%[\w.]+) = getelementptr .* ptr (%[\w.]+),", found[5])
+        pointers |= {place for place, base in places if base in pointers}
 
         def call(line):
-            given = set(re.findall(r"ptr[^,]* (%[\w.]+)", line[4]))
-            if line[3].startswith("llvm.") or not given & pointers:
-                return line[0]
-            return f"{line[1]}{line[4]}) alwaysinline"
+            inline = kept[line[2]].inline if line[2] in kept else "never"
+            given = pointers.intersection(re.findall(r"ptr[^,]* (%[\w.]+)", line[3]))
+            is_inlined = inline != "never" and line[2] in short or inline == "always" and given
+            return f"{line[1]} alwaysinline" if is_inlined else line[0]
 
-        return found[0].replace(body, CALL.sub(call, body)) if pointers else found[0]
+        return found[0].replace(found[5], CALL.sub(call, found[5]))
 
     return DEFINE.sub(in_function, module)
-
-
-def without_variables(clang, module, functions):
-    """The module, optimized until nothing changes."""
-    while True:
-        next = inline_at_variables(module, functions)
-        if next == module:
-            return module
-        module = run_clang(clang, OPTIMIZE, next.encode())
-
-
-def functions_with_variables(module):
-    return {found[3] for found in DEFINE.finditer(module) if variables_in(found[5])}
 
 
 def optimize(clang, module, sources):
     """`module` is what the kit's compiler makes. Returns the text of the optimized module."""
     module = run_clang(clang, ["-O2", "-Xclang", "-disable-llvm-passes"], module)
-    kept = kept_in(module, sources)
-    first = run_clang(clang, OPTIMIZE, mark(module, kept, sources.structs).encode())
-    short = {found[3] for found in DEFINE.finditer(first) if found[3] in kept and kept[found[3]].inline != "never"
-             and is_one_step(found[5])}
-    module = run_clang(clang, OPTIMIZE, inline(first, short).encode())
-    tried = functions_with_variables(module)
-    rid = tried - functions_with_variables(without_variables(clang, module, tried))
-    return without_variables(clang, module, rid)
+    module = re.sub(r"  call void @llvm\.trap\(\).*\n(?=  unreachable)", "", module)  # none is reached, as is proved
+    kept, before = kept_in(module, sources), None
+    module = mark(module, kept)
+    while module != before:
+        before = run_clang(clang, OPTIMIZE, module.encode())
+        module = with_calls_inlined(before, kept)
+    return module

@@ -1,105 +1,90 @@
 """Statements as one writes them: a value stands where it is used once, loops are `while` and `for`, what a test has shown is
-not asked again, and a result that depends on its own flag is returned early."""
+not asked again, and a result that depends on a test is returned early."""
 import collections
+import itertools
 
 import expression as e
 from expression import comparison, is_number, made, negation, number
-from statements import Assign, Break, For, If, Loop, Return, ends, every, lists_in
+from statements import Assign, Break, Do, For, If, Loop, Return, ends, every, lists_in
 
-TESTS = {"!": negation, "&&": e.conjunction, "||": e.disjunction}
 LARGEST = 20  # the most parts of an expression that others were joined to
 
 
 def tidy(statements):
-    for change in (branches, branch_at_choices, loops):
+    for change in (branch_at_choices, clean, choices):
         for inner in lists_in(statements):
             change(inner)
-    for change in (choices, join):
-        for inner in lists_in(statements):
-            change(inner, statements)
+    join(statements)
     for inner in lists_in(statements):
         early_returns(inner)
-    known_results(statements, {}, collections.Counter(each.name for each in every(statements) if isinstance(each, Assign)))
+    known_results(statements, {}, sets_in(statements))
+    join(statements)
     for inner in lists_in(statements):
-        join(inner, statements)
+        loops(inner)
     for inner in lists_in(statements):
         counts(inner, statements)
     last_returns(statements)
 
 
-def branches(statements):
-    """No branch is empty before an else."""
-    for at in range(len(statements) - 1, -1, -1):
-        each = statements[at]
-        if isinstance(each, If) and not each.then:
-            each.condition, each.then, each.otherwise = negation(each.condition), each.otherwise, []
-            if not each.then:
-                del statements[at]
+def sets_in(statements):
+    """How often each name is set."""
+    return collections.Counter(each.name for each in every(statements) if isinstance(each, Assign))
 
 
 def branch_at_choices(statements):
     """Two names and more that are chosen by one condition are set in a branch."""
-    at = 0
-    while at < len(statements):
-        run = []
-        for each in statements[at:]:
-            is_choice = isinstance(each, Assign) and each.value.op == "?:" and each.value.args[0].op == "name"
-            if not is_choice or run and each.value.args[0] != run[0].value.args[0]:
-                break
-            run.append(each)
-        if len(run) > 1:
-            arms = [[Assign(each.name, each.value.args[place]) for each in run if each.value.args[place] != e.name(each.name)]
-                    for place in (1, 2)]
-            condition = run[0].value.args[0]
-            statements[at:at + len(run)] = [If(condition, *arms) if arms[0] else If(negation(condition), arms[1], [])]
-        at += 1
+    def condition(each):
+        is_choice = isinstance(each, Assign) and each.value.op == "?:"
+        return each.value.args[0] if is_choice and each.value.args[0].op == "name" else None
+
+    out = []
+    for asked, run in itertools.groupby(statements, condition):
+        run = [*run]
+        if asked and len(run) > 1:
+            run = [If(asked, *([Assign(each.name, each.value.args[place]) for each in run] for place in (1, 2)))]
+        out += run
+    statements[:] = out
+
+
+def clean(statements):
+    """Nothing is set to itself, and no branch is empty."""
+    for each in statements:
+        if isinstance(each, If) and not each.then:
+            each.condition, each.then, each.otherwise = negation(each.condition), each.otherwise, []
+    statements[:] = [each for each in statements if not (isinstance(each, If) and not each.then)
+                     and not (isinstance(each, Assign) and each.value == e.name(each.name))]
 
 
 def early_returns(statements):
-    """A result that is either, as another result was, is returned in two ways; so is one that a second call decides."""
-    for at in range(len(statements) - 1, -1, -1):
-        last = statements[at]
-        if not isinstance(last, Return) or last.value is None:
-            continue
-        if last.value.op == "||" and any(part.op == "call" for part in e.parts(last.value.args[1])):
-            first, second = last.value.args
-            statements[at:] = [If(first, [Return(number(1, "uint32_t"))], []), Return(second)]
-        if last.value.op != "struct" or last.value.args[1].op != "?:" or last.value.args[0].op != "field":
-            continue
-        flag, (condition, one, other) = last.value.args[0], last.value.args[1].args
-        if condition == flag or negation(condition) == flag:
-            first = last.value._replace(args=(number(1, "bool"), one if condition == flag else other))
-            second = last.value._replace(args=(number(0, "bool"), other if condition == flag else one))
-            statements[at:] = [If(flag, [Return(first)], []), Return(second)]
-
-
-def leaves(statements):
-    """The lists and places of what leaves a loop with this body."""
-    for at, statement in enumerate(statements):
-        if isinstance(statement, Break):
-            yield statements, at
-        if isinstance(statement, If):
-            yield from leaves(statement.then)
-            yield from leaves(statement.otherwise)
+    """A result that depends on another result, or on a call, or on the test before it, is returned in two ways. Mostly there is
+    no error. What is returned at the end of a branch and after it stands there once."""
+    before, last = [None, None, *statements][-2:]
+    value = last.value if isinstance(last, Return) else None
+    if value is None:
+        return
+    if isinstance(before, If) and isinstance(before.then[-1], Return) and before.then[-1].value == value and before.then[1:]:
+        before.then.pop()
+    if value.op == "||" and any(part.op == "call" for part in e.parts(value.args[1])):
+        statements[-1:] = [If(value.args[0], [Return(number(1, "uint32_t"))], []), Return(value.args[1])]
+    elif value.type == "struct skh_result" and isinstance(before, Assign) and e.name(before.name) == value.args[0]:
+        good, bad = (Return(with_known(value, {value.args[0]: number(is_error, "bool")})) for is_error in (0, 1))
+        statements[-2:] = [If(e.call("SKH_EXPECT", "bool", negation(before.value)), [good], []), bad]
+    elif value.op == "struct" and value.args[0].op == "field" and value.args[1].op == "?:":
+        statements[-1:] = [If(value.args[0], [Return(value)], []), last]
+    elif value.op == "?:" and isinstance(before, If) and before.condition == value.args[0] and not before.otherwise:
+        statements[-2:] = [If(negation(before.condition), [Return(value)], []), *before.then, last]
 
 
 def loops(statements):
-    """A loop that begins with a way out gets its condition. What is done after its only other way out stands there."""
+    """A loop that begins with a way out gets its condition."""
     for at in range(len(statements) - 1, -1, -1):
         loop = statements[at]
-        if not isinstance(loop, Loop) or not isinstance(loop.body[0], If) or loop.body[0].otherwise:
-            continue
-        first, after, out = loop.body[0], statements[at + 1:], [*leaves(loop.body)]
-        if isinstance(first.then[-1], Return) and len(out) == 1 and len(after) < 3 and ends(after):
-            (inner, place), = out
-            inner[place:place + 1] = after
-            del statements[at + 1:]
-            out = []
-        if len(first.then) == 1 and isinstance(first.then[0], Break):
-            loop.condition, loop.body = negation(first.condition), loop.body[1:]
-        elif isinstance(first.then[-1], Return) and not out:
-            loop.condition, loop.body = negation(first.condition), loop.body[1:]
-            statements[at + 1:at + 1] = first.then
+        if isinstance(loop, Loop) and isinstance(loop.body[0], If) and not loop.body[0].otherwise:
+            first, *rest = loop.body
+            is_last = isinstance(first.then[-1], Return) and not any(isinstance(each, Break) for each in every(rest))
+            if is_last or isinstance(first.then[0], Break):
+                loop.condition, loop.body = negation(first.condition), rest
+                statements[at + 1:at + 1] = first.then if is_last else []
 
 
 def known_results(statements, known, sets):
@@ -132,84 +117,56 @@ def with_known(value, known):
     """A value without what is known: tests of it, and a name that it returns alone."""
     if value in known:
         return known[value]
-    if value.op in ("struct", "?:", "&&", "||", "!"):
+    if value.op in ("struct", "?:", *e.TESTS):
         args = [with_known(each, known) for each in value.args]
         if value.op == "struct":
             return value._replace(args=tuple(args))
-        return e.choice(*args, value.type) if value.op == "?:" else TESTS[value.op](*args)
+        return e.choice(*args, value.type) if value.op == "?:" else e.TESTS[value.op](*args)
     return value
 
 
-def choices(statements, whole):
+def choices(statements):
     """A name that gets one of two values is given a choice."""
     for at, each in enumerate(statements):
-        if not isinstance(each, If) or len(each.then) != 1 or len(each.otherwise) != 1:
-            continue
-        one, other = each.then[0], each.otherwise[0]
-        if isinstance(one, Assign) and isinstance(other, Assign) and one.name is other.name:
-            value = e.choice(each.condition, one.value, other.value, one.name.type)
-            if e.size_of(value) < LARGEST // 2:
-                statements[at] = Assign(one.name, value)
+        if isinstance(each, If) and len(each.then) == len(each.otherwise) == 1:
+            one, other = each.then[0], each.otherwise[0]
+            if isinstance(one, Assign) and isinstance(other, Assign) and one.name is other.name:
+                value = e.choice(each.condition, one.value, other.value, one.name.type)
+                if e.size_of(value) < LARGEST // 2:
+                    statements[at] = Assign(one.name, value)
 
 
-def uses(statements):
-    return collections.Counter(part.args[0] for each in every(statements) for value in each.expressions()
-                               for part in e.parts(value) if part.op == "name")
-
-
-def join(statements, whole):
+def join(whole):
     """A value without a name of its own stands in the next statement, if it is used nowhere else."""
-    counted = uses(whole)
-    sets = collections.Counter(each.name for each in every(whole) if isinstance(each, Assign))
-    at = len(statements) - 2
-    while at >= 0:
-        one, next = statements[at], statements[at + 1]
-        is_free = isinstance(one, Assign) and sets[one.name] == 1 and counted[one.name] == 1 and not one.name.is_certain()
-        if is_free and isinstance(next, (Assign, Return, If)) and fits(one, next):
-            for key in next.values:
-                if getattr(next, key) is not None:
-                    put = lambda name: one.value if name is one.name else None
-                    setattr(next, key, replaced(getattr(next, key), put))
-            del statements[at]
-        at -= 1
-
-
-def replaced(value, put):
-    """A test of tests is one."""
-    if value.op in TESTS:
-        return TESTS[value.op](*(replaced(each, put) for each in value.args))
-    return e.replaced(value, put)
-
-
-def fits(one, next):
-    values = next.expressions()
-    if not values or one.name not in e.names_in(values[0]) or e.size_of(values[0]) + e.size_of(one.value) > LARGEST:
-        return False
-    return not one.value.reads or not any(part.reads and part.op == "call" and one.name not in e.names_in(part)
-                                          for part in e.parts(values[0]))
-
-
-def is_step(statement, name):
-    one = made("+", name.type, e.name(name), number(1, name.type)) if isinstance(name.type, str) else None
-    return isinstance(statement, Assign) and statement.name is name and statement.value == one
+    sets, used = sets_in(whole), collections.Counter()
+    for each in every(whole):
+        used.update(part.args[0] for value in each.expressions() for part in e.parts(value) if part.op == "name")
+    for statements in lists_in(whole):
+        for at in range(len(statements) - 2, -1, -1):
+            one, next = statements[at:at + 2]
+            is_free = isinstance(one, Assign) and sets[one.name] == 1 and used[one.name] == 1 and not one.name.is_certain()
+            for value in next.expressions() if is_free and isinstance(next, (Assign, Do, Return, If)) else []:
+                is_short = e.size_of(value) < 3 or e.size_of(value) + e.size_of(one.value) <= LARGEST
+                if one.name in e.names_in(value) and is_short:
+                    next.replace(lambda name: one.value if name is one.name else None)
+                    del statements[at]
 
 
 def counts(statements, whole):
     """A loop over a number that each turn increases by one."""
     for at, loop in enumerate(statements):
-        if not isinstance(loop, Loop) or loop.condition is None or loop.condition.op not in ("!=", "<"):
+        if not isinstance(loop, Loop) or loop.condition is None or loop.condition.op not in ("!=", "<") or not loop.body:
             continue
         left, limit = loop.condition.args
-        if left.op != "name" or not loop.body or not is_step(loop.body[-1], left.args[0]):
+        name, step = left.args[0], loop.body[-1]
+        if left.op != "name" or not isinstance(step, Assign) or step.value != made("+", name.type, left, number(1, name.type)):
             continue
-        name = left.args[0]
         sets = [each for each in every(whole) if isinstance(each, Assign) and each.name is name]
         start = next((each for each in statements[:at] if each in sets), None)
         if start is None or len(sets) != 2 or not is_number(start.value) or name in e.names_in(limit):
             continue
-        inside = [*every(loop.body)]
-        outside = [each for each in every(whole) if each not in inside and each is not loop and each is not start]
-        if any(name in e.names_in(value) for each in outside for value in each.expressions()):
+        inside = [loop, start, *every(loop.body)]
+        if any(name in e.names_in(value) for each in every(whole) if each not in inside for value in each.expressions()):
             continue
         if is_number(start.value, 0) or is_number(limit) and limit.args[0] > start.value.args[0]:
             statements[at] = For(name, start.value, comparison("<", left, limit), loop.body[:-1])

@@ -1,38 +1,45 @@
 """Statements of C as trees."""
+import expression as e
 
 
 class Statement:
-    """`values` are the fields that are expressions, and `lists` those that are lists of statements."""
+    """Its fields are names, expressions, and lists of statements."""
 
-    values, lists = (), ()
+    fields = ()
 
     def __init__(self, *fields):
         for key, field in zip(self.fields, fields):
             setattr(self, key, field)
 
     def inner(self):
-        return [getattr(self, key) for key in self.lists]
+        return [getattr(self, key) for key in self.fields if isinstance(getattr(self, key), list)]
 
     def expressions(self):
-        return [getattr(self, key) for key in self.values if getattr(self, key) is not None]
+        return [getattr(self, key) for key in self.fields if isinstance(getattr(self, key), e.Expression)]
+
+    def replace(self, put):
+        """Has `put(name)` in place of each name that a value is computed from."""
+        for key in self.fields:
+            if isinstance(getattr(self, key), e.Expression):
+                setattr(self, key, e.replaced(getattr(self, key), put))
 
 
 class Assign(Statement):
     """`is_first` is set where the name is declared."""
 
-    fields, values, is_first = ("name", "value"), ("value",), False
+    fields, is_first = ("name", "value"), False
 
 
 class Do(Statement):
-    fields = values = ("value",)
+    fields = ("value",)
 
 
 class Return(Statement):
-    fields = values = ("value",)
+    fields = ("value",)
 
 
 class Break(Statement):
-    fields = ()
+    pass
 
 
 class Declare(Statement):
@@ -40,19 +47,19 @@ class Declare(Statement):
 
 
 class If(Statement):
-    fields, values, lists = ("condition", "then", "otherwise"), ("condition",), ("then", "otherwise")
+    fields = ("condition", "then", "otherwise")
 
 
 class Loop(Statement):
     """With a condition of None it has no end of its own."""
 
-    fields, values, lists = ("condition", "body"), ("condition",), ("body",)
+    fields = ("condition", "body")
 
 
 class For(Statement):
     """A loop that counts a name up from `start`."""
 
-    fields, values, lists = ("name", "start", "condition", "body"), ("start", "condition"), ("body",)
+    fields = ("name", "start", "condition", "body")
 
 
 def ends(statements):

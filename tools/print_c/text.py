@@ -3,10 +3,11 @@ import collections
 
 import expression as e
 from expression import Pointer, State
-from statements import Assign, Break, Declare, For, If, Return, every
+from statements import Assign, Break, Declare, For, If, Return, every, lists_in
 
 UPDATES = {"+", "-", "*", "/", "<<", ">>", "&", "|", "^"}
-NUMBERS = {"u32": "uint32_t", "u64": "uint64_t", "words": "uint64_t", "size": "size_t", "bytes": "unsigned char"}
+NUMBERS = {"u32": "uint32_t", "u64": "uint64_t", "words": "uint64_t", "number": "uint64_t", "size": "size_t",
+           "bytes": "unsigned char"}
 
 
 def type_text(type):
@@ -23,40 +24,29 @@ def declared(type, name):
     return type_text(type) + name
 
 
-def mentions(statements, path=()):
-    """Each name, with the lists that the mention is in, from the outermost, and the statement."""
-    path = (*path, statements)
-    for statement in statements:
-        names = set().union(*map(e.names_in, statement.expressions()))
-        if isinstance(statement, (Assign, For)):
-            names.add(statement.name)
-        for name in e.in_order(names):
-            yield name, path, statement
-        for inner in statement.inner():
-            yield from mentions(inner, path)
+def mentions(statements):
+    """How often each name stands in the statements."""
+    names = collections.Counter()
+    for each in every(statements):
+        names.update([each.name] if isinstance(each, (Assign, For)) else [])
+        names.update(e.in_order(set().union(*map(e.names_in, each.expressions()))))
+    return names
 
 
 def declare(statements, known):
-    """Marks the first value of a name, if it is in the list of all its uses; else that list begins with a declaration."""
-    found = collections.defaultdict(list)
-    for name, path, statement in mentions(statements):
-        found[name].append((path, statement))
-    heads = []
-    for name, places in found.items():
-        if name in known or any(isinstance(statement, For) and statement.name is name for _, statement in places):
-            continue
-        paths = [path for path, _ in places]
-        depth = max(at for at in range(1, min(map(len, paths)) + 1) if all(path[:at] == paths[0][:at] and all(
-            one is other for one, other in zip(path[:at], paths[0][:at])) for path in paths))
-        home, (path, first) = paths[0][depth - 1], places[0]
-        if isinstance(first, Assign) and first.name is name and len(path) == depth and name not in e.names_in(first.value):
-            first.is_first = True
-        else:
-            heads.append((home, name))
-    for home in {id(home): home for home, _ in heads}.values():
-        names = [name for each, name in heads if each is home]
-        for type in dict.fromkeys(name.type for name in names):
-            home.insert(0, Declare([name for name in names if name.type == type]))
+    """A name is declared in the innermost list of all its uses: where it first gets a value, or else at the list's head."""
+    known, everywhere = set(known), mentions(statements)
+    for home in lists_in(statements):
+        here, heads = mentions(home), {}
+        for name in (each for each in here if here[each] == everywhere[each] and each not in known):
+            known.add(name)
+            first = next(each for each in home if name in mentions([each]))
+            if isinstance(first, Assign) and first.name is name and name not in e.names_in(first.value):
+                first.is_first = True
+            elif not (isinstance(first, For) and first.name is name):
+                heads.setdefault(name.type, []).append(name)
+        for names in heads.values():
+            home.insert(0, Declare(tuple(names)))
 
 
 class Text:

@@ -1,58 +1,41 @@
 """The instructions of a block as expressions and statements. A value that is used once stands where it is used, one that is
 used more often gets a name."""
 import collections
-import itertools
-import re
 
 import expression as e
-from expression import (FIELDS, TYPES, WIDE, Name, Pointer, State, binary, call, cast, comparison, made, negation, number,
-                        struct_of)
+from expression import (SIGNS, TYPES, WIDE, Name, Pointer, State, binary, call, cast, comparison, made, negation, number)
 from flow import Flow
-from module import Operand, Struct, Unknown, Vector
+from module import Struct, Unknown, bare
 from statements import Assign, Do
+from vectors import OF_VECTORS, VECTORS
 
-SIGNS = {"add": "+", "sub": "-", "mul": "*", "udiv": "/", "shl": "<<", "lshr": ">>", "and": "&", "or": "|", "xor": "^"}
 ORDERS = {"eq": "==", "ne": "!=", "ult": "<", "ule": "<=", "ugt": ">", "uge": ">="}
 NUMBERS = {"true": 1, "false": 0, "poison": 0, "zeroinitializer": 0}
 INTRINSICS = {"fshl": "rotate", "umin": "least", "usub.sat": "less", "ctpop": "ones"}
 UNITS = {"u32": 4, "u64": 8, "words": 8, "pairs": 16}
 LARGEST = 14  # the most parts of an expression that stands in another
-VECTORS = e.text("has_vectors", "bool")
-
-
-def words_of(type):
-    """A vector is printed word by word: a lane of 32 or 64 bits each, or 32 bits for four bytes."""
-    return (type.count // 4, "i32") if type.element == "i8" else (type.count, type.element)
+NULL = e.text("NULL", None)
 
 
 class Values:
     """The values of a function, by their names in the module. `arrays` are what it has on the stack."""
 
     def __init__(self, function, program):
-        self.function, self.program = function, program
+        self.function, self.program, self.result_type = function, program, program.result_type(function)
         self.blocks, self.flow = function.blocks, Flow(function.blocks)
-        self.values, self.arrays = {}, []
+        self.arrays = []
+        self.values = {own.token: e.value_of(variable)
+                       for own, variable in zip(function.parameters, program.parameters[function.name])}
         self.made = {step.result: step for step in function.steps() if step.result}
         self.find_users()
-        self.loop_of = {}
-        for label in self.flow.order:
-            around = [head for head, body in self.flow.loops.items() if label in body]
-            self.loop_of[label] = max(around, key=self.flow.place.get, default=None)
 
     def find_users(self):
         """Of each value the instructions that use it, each with the block in which it must be known."""
         self.users = collections.defaultdict(list)
         for label in self.flow.order:
             for step in self.blocks[label]:
-                operands, places = step.operands, itertools.repeat(label)
-                if step.operation == "call" and step.more.startswith("llvm.fshl"):
-                    operands = operands[1:]  # a rotation, whose first two are one
-                if step.operation == "phi":
-                    places = step.more
-                for value, place in zip(operands, places):
-                    for token in value.token if isinstance(value.token, list) else [value.token]:
-                        if isinstance(token, str) and token[0] == "%":
-                            self.users[token].append((step, place))
+                for at, value in enumerate(step.operands):
+                    self.users[value.token].append((step, step.more[at] if step.operation == "phi" else label))
 
     # ---- operands
 
@@ -61,9 +44,9 @@ class Values:
         if token[0] == "%":
             return self.values[token]
         if token[0] == "@":
-            return made("place", Pointer("bytes", True), e.text(self.program.constant(token), None), None, 0)
+            return made("place", Pointer("bytes", True), e.text(self.program.names[bare(token)], None), None, 0)
         if token == "null":
-            return e.text("NULL", None)
+            return NULL
         n = NUMBERS[token] if token in NUMBERS else int(token)
         if type == "i128":
             return call("skh_wide", WIDE, number(n >> 64), number(n))
@@ -71,66 +54,41 @@ class Values:
             raise Unknown(f"print_c does not know the value {token} of {type}")
         return number(n, TYPES[type])
 
-    def words(self, operand):
-        type, token = operand
-        count, element = words_of(type)
-        if isinstance(token, list):
-            if type.element == "i8":
-                if set(token) != {"-1"}:
-                    raise Unknown(f"print_c does not know the vector {token}")
-                return [number(-1, "uint32_t")] * count
-            return [self.value(Operand(element, each)) for each in token]
-        if token in ("poison", "zeroinitializer"):
-            return [number(0, TYPES[element])] * count
-        return self.values[token]
-
-    def constant(self, operand):
-        return int(operand.token) if isinstance(operand.token, str) and operand.token.lstrip("-").isdigit() else None
-
     # ---- which values get names
 
     def give(self, step, value, label, most=0):
         """`most`: a value of fewer parts is written again wherever it is used."""
-        if isinstance(value, list):
-            element = TYPES[words_of(step.type)[1]]
-            self.values[step.result] = [word if self.is_short(word, step, label) else self.named(word, element)
-                                        for word in value]
-        elif not value.reads and e.size_of(value) < most or self.is_short(value, step, label):
-            self.values[step.result] = value
-        else:
-            self.values[step.result] = self.named(value)
+        is_small = not value.reads and e.size_of(value) < most and len(self.users[step.result]) < 8
+        self.values[step.result] = value if is_small or self.is_short(value, step, label) else self.named(value)
 
     def is_short(self, value, step, label):
-        """Whether it needs no name: it has one, or it can stand where it is used."""
-        if value.op in ("name", "number", "text", "arrow") and not value.reads:
-            return True
-        users = self.users[step.result]
-        if len(users) != 1 or e.size_of(value) > LARGEST:
-            return False
-        ((_, place),) = users
-        return place == label or not value.reads and self.loop_of[place] == self.loop_of[label]
+        """Whether it needs no name, since it can stand where it is used."""
+        return [place for _, place in self.users[step.result]] == [label] and e.size_of(value) <= LARGEST
 
-    def named(self, value, type=None):
+    def named(self, value):
         """A name for a value, which is written first."""
-        type = type or value.type
+        variable = Name(value.type)
         if value.op == "place":
             value = self.address(value)
-        variable = Name(type)
         if value.op == "call" and value.args[0].startswith("skh_slice"):
             variable.hint(6, f"{value.args[1].args[0].text}_bytes")
         self.out.append(Assign(variable, e.uncast(value)))
-        found = e.name(variable)
-        return made("place", type, found, None, 0) if isinstance(type, Pointer) else found
+        return e.value_of(variable)
 
-    def before_a_write(self):
-        """What was read for a later statement is read now."""
-        for token in self.pending:
-            value = self.values[token]
-            if isinstance(value, list):
-                self.values[token] = [self.named(word) if word and word.reads else word for word in value]
-            else:
-                self.values[token] = self.named(value)
-        self.pending = []
+    def before_a_write(self, written=e.ANYWHERE, value=None):
+        """What was read for a later statement is read now, if it may be written; and so is the value that is written then."""
+        late = [token for token in self.pending if not all(is_apart(written, each) for each in self.values[token].reads)]
+        if late and value:
+            value = self.named(value)
+        for token in late:
+            self.values[token] = self.named(self.values[token])
+            self.pending.remove(token)
+        return value
+
+    def span(self, place, type):
+        """The bytes at which a number of this type is."""
+        base, symbolic, constant = place.args
+        return (base, constant, constant + int(type[1:]) // 8) if symbolic is None else e.ANYWHERE
 
     # ---- pointers
 
@@ -140,7 +98,7 @@ class Values:
         kind = place.type.kind
         if kind == "pairs" and symbolic is not None:
             base, symbolic, kind = made("index", place.type, base, divided(symbolic, 16)), None, "u64"
-        unit = 1 if isinstance(kind, State) else UNITS.get(kind, 1)
+        unit = UNITS.get(kind, 1)
         if constant % unit:
             raise Unknown(f"print_c does not know a part of a number in {self.function.name}")
         found = base if symbolic is None else made("+", place.type, base, divided(symbolic, unit))
@@ -152,27 +110,16 @@ class Values:
         """A pointer and an offset in bytes."""
         base, offset = self.value(step.operands[0]), self.value(step.operands[1])
         start, symbolic, before = base.args
-        constant = self.constant(step.operands[1])
-        if self.is_stand_in(step):
-            if base.type.kind != "bytes":
-                return base
-            name = "skh_slice" if base.type.is_const else "skh_slice_mut"
-            return base._replace(args=(call(name, base.type, start), None, 0))
-        if constant is not None:
-            return base._replace(args=(start, symbolic, before + constant))
+        if offset == e.choice(comparison("==", start, NULL), number(4096), number(0), "uint64_t"):  # of a slice of no bytes
+            slice = call("skh_slice", base.type, start) if base.type.kind == "bytes" else start
+            return base._replace(args=(slice, None, 0))
+        if e.is_number(offset):
+            constant = int(step.operands[1].token)
+            return self.in_bytes(base._replace(args=(start, symbolic, before + constant)))
         if symbolic is not None or before:
             base = self.values[step.operands[0].token] = self.named(base)
             start, symbolic, before = base.args
         return made("place", base.type, start, offset, before)
-
-    def is_stand_in(self, step):
-        """Whether it gives a null pointer another address, which a slice of no bytes has in the module."""
-        select = self.made.get(step.operands[1].token)
-        if select is None or select.operation != "select" or self.constant(select.operands[1]) != 4096:
-            return False
-        asked = self.made.get(select.operands[0].token)
-        return asked is not None and (asked.operation, asked.more, asked.operands[0].token) == (
-            "icmp", "eq", step.operands[0].token)
 
     def target(self, place, type):
         """What a load of this type reads, or a store writes; or None where a function does it."""
@@ -181,8 +128,8 @@ class Values:
         if isinstance(kind, State):  # a state
             is_field = type == "i64" and constant in kind.fields
             return made("arrow", TYPES[type], base, kind.fields[constant]) if is_field else None
-        if kind == "size" or kind == "u64" and symbolic is None and constant == 0 and base.args[0].is_parameter:
-            return made("deref", TYPES[type], base)
+        if kind in ("size", "number"):
+            return made("deref", "size_t" if kind == "size" else TYPES[type], base)
         if kind == "words" and type == "i64":
             return made("index", TYPES[type], base, number(constant // 8))
         if type == "i8":
@@ -190,14 +137,12 @@ class Values:
             return made("index", "uint8_t", base, binary("+", index, number(constant)) if symbolic and constant else index)
         return None
 
-    def function_for(self, place, verb, type):
-        """The one that reads or writes a number of this type."""
-        width = int(type[1:])
-        if place.type.kind in ("u32", "u64", "pairs", "words"):
-            if width != (32 if place.type.kind == "u32" else 64):
-                raise Unknown(f"print_c does not know {type} in an array of {place.type.kind}")
-            return f"skh_{'get' if verb == 'load' else 'set'}{width}"
-        return f"skh_{verb}{width}"
+    def function_for(self, place, verbs, type):
+        """The one that reads or writes a number of this type: of bytes, or of an array of such numbers."""
+        unit = UNITS.get(place.type.kind)
+        if unit and int(type[1:]) != 8 * min(unit, 8):
+            raise Unknown(f"print_c does not know {type} in an array of {place.type.kind}")
+        return f"skh_{verbs[unit is not None]}{type[1:]}"
 
     def in_bytes(self, place):
         """A pointer into the bytes of a state."""
@@ -209,20 +154,16 @@ class Values:
         return made("place", waiting.type, waiting, symbolic, constant - kind.end)
 
     def load(self, type, place):
-        place = self.in_bytes(place)
         found = self.target(place, type)
         if found is None:
-            found = call(self.function_for(place, "load", type), TYPES[type], self.address(place))
-        return found._replace(reads=True)
+            found = call(self.function_for(place, ("load", "get"), type), TYPES[type], self.address(place))
+        return found._replace(reads=found.reads | {self.span(place, type)})
 
     def store(self, type, place, value):
-        place = self.in_bytes(place)
         target = self.target(place, type)
         if target is not None:
-            if place.type.kind == "size":
-                value = cast("size_t", value)
-            return Do(made("=", None, target, cast("uint8_t", value) if type == "i8" else value))
-        return Do(call(self.function_for(place, "store", type), None, self.address(place), value))
+            return Do(made("=", None, target, cast(target.type, value)))
+        return Do(call(self.function_for(place, ("store", "set"), type), None, self.address(place), value))
 
     # ---- statements
 
@@ -231,11 +172,11 @@ class Values:
         self.out, self.pending = [], []
         for step in self.blocks[label][:-1]:
             for operand in step.operands:
-                if isinstance(operand.token, str) and operand.token in self.pending:
+                if operand.token in self.pending:
                     self.pending.remove(operand.token)  # the statement or the value takes it over
             self.instruction(step, label)
             value = self.values.get(step.result)
-            if any(word and word.reads for word in (value if isinstance(value, list) else [value])):
+            if value and value.reads:
                 self.pending.append(step.result)
         return self.out
 
@@ -244,138 +185,88 @@ class Values:
         if operation == "phi" or operation == "call" and step.more.startswith("llvm.lifetime"):
             return
         if operation == "insertvalue":
-            fields = [*self.values.get(step.operands[0].token, [None] * len(step.type.fields))]
+            fields = [*self.fields(step.operands[0])]
             fields[int(step.operands[2].token)] = self.value(step.operands[1])
-            self.values[step.result] = fields
+            self.values[step.result] = made("struct", self.result_type, *fields)
         elif operation == "extractvalue":
-            self.values[step.result] = self.values[step.operands[0].token][int(step.operands[1].token)]
+            self.values[step.result] = self.fields(step.operands[0])[int(step.operands[1].token)]
         elif operation == "alloca":
             self.array(step)
         elif operation == "store":
             self.store_step(step)
         elif operation == "call" and step.more.startswith("llvm.mem"):
             self.move(step)
-        elif operation == "call" and not step.more.startswith("llvm."):
+        elif operation == "call" and step.more in self.program.functions:
             self.call(step, label)
-        elif isinstance(step.type, Vector) or any(isinstance(each.type, Vector) for each in step.operands):
-            self.give(step, self.vector(step), label)
         elif operation == "getelementptr":
             self.pointer(step, label)
         else:
             users = {user.operation for user, _ in self.users[step.result]}
             is_offset = operation == "shl" and users == {"getelementptr"}
             is_amount = step.type == "i128" and users <= {"shl", "lshr"}
-            most = 8 if is_offset or is_amount else 4 if operation in ("freeze", "zext", "trunc") else 0
+            most = 8 if is_offset or is_amount else 4 if operation in ("zext", "trunc") else 0
             self.give(step, self.scalar(step), label, most)
 
+    def fields(self, operand):
+        """The two numbers of a struct."""
+        value = self.values.get(operand.token)
+        return e.fields(value) if value else (None, None)
+
     def array(self, step):
-        kind = self.program.kinds[self.function.name, step.result]
+        kind = self.program.kind(self.function, step.result)
         variable = Name(kind)
         variable.is_parameter = False
         self.arrays.append((variable, step.more.count))
-        self.values[step.result] = made("place", kind, e.name(variable), None, 0)
+        self.values[step.result] = e.value_of(variable)
 
     def pointer(self, step, label):
-        value = self.moved(step)
-        base, symbolic, constant = value.args
-        is_plain = symbolic is None and base.op in ("name", "arrow")
-        users = self.users[step.result]
-        is_once = len(users) == 1 and self.loop_of[users[0][1]] == self.loop_of[label]
-        if is_plain or is_once or value.type.kind in ("pairs", "u32", "u64") and e.size_of(symbolic) < 6:
-            self.values[step.result] = value
-        else:
-            self.values[step.result] = self.named(value)
+        value, users = self.moved(step), self.users[step.result]
+        base, symbolic, _ = value.args
+        is_short = symbolic is None and base.op in ("name", "arrow")
+        is_short = is_short or [place for _, place in users] == [label]
+        is_short = is_short or value.type.kind in ("pairs", "u32", "u64") and e.size_of(symbolic) < 6
+        is_short = is_short or all(user.operation in ("load", "store") and user.type == "i8" for user, _ in users)
+        self.values[step.result] = value if is_short else self.named(value)
 
     def store_step(self, step):
-        value, address = step.operands
-        place = self.value(address)
-        if not isinstance(value.type, Vector):
-            what = self.value(value)
-            self.before_a_write()
-            self.out.append(self.store(value.type, self.value(address), what))
-            return
-        count, element = words_of(value.type)
-        words, size = self.words(value), int(element[1:]) // 8
-        if place.args[1] is not None:
-            place = self.values[address.token] = self.named(place)
-        base, _, constant = place.args
-        self.before_a_write()
-        words = self.words(value)
-        own = [self.load(element, place._replace(args=(base, None, constant + size * i))) for i in range(count)]
-        for i, word in enumerate(words):
-            reads = [each for each in e.parts(word) if each.reads and each.op == "call" and each.args[0].startswith("skh_load")]
-            if any(each != own[i] for each in reads):
-                words = [self.named(word) if word.reads else word for word in words]
-                break
-        for i, word in enumerate(words):
-            self.out.append(self.store(element, place._replace(args=(base, None, constant + size * i)), word))
+        value, place = map(self.value, step.operands)
+        value = self.before_a_write(self.span(place, step.type), value)
+        self.out.append(self.store(step.type, place, value))
 
     def move(self, step):
         """What copies or fills bytes."""
         name = "memset" if "memset" in step.more else "memmove" if "memmove" in step.more else "memcpy"
         to, what, count = (self.value(each) for each in step.operands[:3])
         self.before_a_write()
-        to, state = self.in_bytes(to), to.type.kind
-        if name == "memset" and isinstance(state, State) and isinstance(to.type.kind, State):
+        while isinstance(to.type.kind, State) and e.is_number(what, 0):  # the numbers before the bytes
+            self.out.append(self.store("i64", to, number(0)))
             base, _, at = to.args
-            end = at + count.args[0]
-            while at < state.end:
-                self.out.append(self.store("i64", to._replace(args=(base, None, at)), number(0)))
-                at += 8
-            to, count = self.in_bytes(to._replace(args=(base, None, at))), number(end - at)
-        if name != "memset":
-            what = self.address(self.in_bytes(what))
-        self.out.append(Do(call(name, None, self.address(to), what, count)))
+            to, count = self.in_bytes(to._replace(args=(base, None, at + 8))), number(count.args[0] - 8)
+        self.out.append(Do(call(name, None, self.address(to), self.address(what) if what.op == "place" else what, count)))
 
     def call(self, step, label):
         callee = self.program.functions[step.more]
         if callee.writes:
             self.before_a_write()
-        kinds = [self.program.kinds.get((callee.name, own.token)) for own in callee.parameters]
         name = self.program.names[step.more]
-        for operand, text in zip(step.operands, self.program.parameter_names[name][self.program.has_vectors(step.more):]):
-            self.set_apart(operand, name, text)
-        arguments = [e.uncast(self.argument(each, kind)) for each, kind in zip(step.operands, kinds)]
+        for token, value in [(each.token, self.values.get(each.token)) for each in step.operands]:
+            if value and any(each.op == "call" and each.args[0] == name for each in e.parts(value)):
+                self.values[token] = self.named(value)  # no call within a call of the same function
+        values = map(self.value, step.operands)
+        arguments = [self.address(each) if each.op == "place" else e.uncast(each) for each in values]
         if self.program.has_vectors(step.more):
             arguments.insert(0, VECTORS)
-        is_struct = isinstance(step.type, Struct)
-        type = struct_of(callee.source) if is_struct else self.program.result_type(callee)
-        done = call(name, type, *arguments, reads=callee.reads)
+        done = call(name, self.program.result_type(callee), *arguments, reads=callee.reads)
         if step.type == "void" or not self.users[step.result]:
             self.out.append(Do(done))
             return
         bound = self.program.binding(self, step)
-        if is_struct:
-            result = self.named(done, type)
-            self.hint(result, bound, step)
-            self.values[step.result] = [e.field(result, key, of) for of, key in FIELDS[type]]
-        elif callee.writes or bound or not self.is_short(done, step, label):
-            self.values[step.result] = self.named(done)
-            self.hint(self.values[step.result], bound, step)
-        else:
+        if not (bound or callee.writes or isinstance(step.type, Struct)) and self.is_short(done, step, label):
             self.values[step.result] = done
-
-    def set_apart(self, operand, name, text):
-        """A call within a call of the same function gets a name."""
-        value = self.values.get(operand.token) if isinstance(operand.token, str) else None
-        if isinstance(value, e.Expression) and any(each.op == "call" and each.args[0] == name for each in e.parts(value)):
-            self.values[operand.token] = found = self.named(value)
-            found.args[0].hint(4, text)
-
-    def hint(self, result, bound, step):
-        variable = result.args[0] if result.op == "name" else result.args[0].args[0]
-        if bound:
-            variable.hint(1, bound)
-        if isinstance(step.type, Struct):
-            variable.hint(9, variable.type.removeprefix("struct skh_"))
-
-    def argument(self, operand, kind):
-        value = self.value(operand)
-        if value.op != "place":
-            return value
-        if kind and isinstance(kind.kind, State):
-            return self.address(value)
-        return self.address(self.in_bytes(value))
+        else:
+            self.values[step.result] = self.named(done)
+            if bound:
+                self.out[-1].name.hint(1, bound)
 
     # ---- values that an instruction gives
 
@@ -393,23 +284,12 @@ class Values:
         if operation in ("zext", "trunc"):
             return as_bool(values[0]) if type == "i1" else cast(TYPES[type], values[0])
         if operation == "sext" and step.operands[0].type == "i1":
-            return self.signed(step, values[0])
-        if operation == "freeze":
-            return values[0]
-        if operation == "select":
-            return self.select(step, *values)
+            return e.choice(values[0], number(-1, TYPES[type]), number(0, TYPES[type]), TYPES[type])  # all bits, if it is true
+        if operation == "select" and type in TYPES:
+            return e.choice(*values, TYPES[type])
         if operation == "call":
             return self.intrinsic(step, values)
         raise Unknown(f"print_c does not know {operation} of {type}")
-
-    def signed(self, step, value):
-        """All bits, if it is true."""
-        return e.choice(value, number(-1, TYPES[step.type]), number(0, TYPES[step.type]), TYPES[step.type])
-
-    def select(self, step, condition, one, other):
-        if one.op == "place":
-            raise Unknown("print_c does not know a choice between pointers")
-        return e.choice(condition, one, other, TYPES[step.type])
 
     def arithmetic(self, step, one, other):
         operation, type = step.operation, TYPES[step.type]
@@ -417,8 +297,10 @@ class Values:
             if operation == "xor":
                 return negation(one) if e.is_number(other, 1) else comparison("!=", one, other)
             return (e.conjunction if operation == "and" else e.disjunction)(one, other)
-        if operation == "add" and e.is_number(other) and self.program.is_better_negated(other.args[0], type):
-            operation, other = "sub", number(-other.args[0], type)
+        if operation == "add" and e.is_number(other):
+            named, negative = self.program.sources.named, number(-other.args[0], type)
+            if other.args[0] not in named and (negative.args[0] < 1 << 20 or negative.args[0] in named):
+                operation, other = "sub", negative
         if operation == "xor" and e.is_number(other, (1 << e.WIDTHS[type]) - 1):
             return made("~", type, one)
         if operation in ("shl", "lshr"):
@@ -426,7 +308,7 @@ class Values:
             if e.is_number(one):
                 one = made("cast", type, one)
         else:
-            one, other = operands(operation, unsized(one), unsized(other), type)
+            one, other = operands(unsized(one), unsized(other), type)
         if e.WIDTHS[type] >= 32 or operation in ("and", "lshr") or operation in ("or", "xor") and one.op != "cast":
             return binary(SIGNS[operation], one, other, type)
         if one.op == "cast" and one.type == type and operation != "udiv":
@@ -461,74 +343,33 @@ class Values:
         if (order, step.operands[1].token) in (("sgt", "-1"), ("slt", "0")):
             half = number(1 << int(type[1:]) - 1, TYPES[type])
             return comparison("<" if order == "sgt" else ">=", one, half)
-        if type == "ptr" or order not in ORDERS:
-            return self.of_pointer(step, one)
+        if order not in ORDERS:
+            raise Unknown(f"print_c does not know the comparison {order} of {type}")
+        if type == "ptr":
+            return comparison(ORDERS[order], self.address(one), other)
         both = one.op == "|" and e.is_number(other, 0) and order in ("eq", "ne")
         if both and all(each.op == "name" for each in one.args):
             found = made("&&", "bool", *(comparison("==", each, other) for each in one.args))
             return found if order == "eq" else negation(found)
-        return comparison(ORDERS[order], *operands(None, one, other, TYPES[type]))
-
-    def of_pointer(self, step, one):
-        users = [user for user, _ in self.users[step.result]]
-        if step.more == "eq" and step.operands[1].token == "null" and all(user.operation == "select" for user in users):
-            return number(0, "bool")  # of a stand-in, which needs no test of its own
-        raise Unknown(f"print_c does not know the comparison {step.more} of {step.operands[0].type}")
+        return comparison(ORDERS[order], *operands(one, other, TYPES[type]))
 
     def intrinsic(self, step, values):
+        if step.more in OF_VECTORS:
+            return call(step.more, TYPES[step.type], VECTORS, *values)
         kind = step.more[len("llvm."):].rpartition(".")[0]
         if kind not in INTRINSICS or kind == "fshl" and step.operands[0] != step.operands[1]:
             raise Unknown(f"print_c does not know the call of {step.more}")
         type = TYPES[step.type]
         return call(f"skh_{INTRINSICS[kind]}{step.type[1:]}", type, *(values[::2] if kind == "fshl" else values))
 
-    def vector(self, step):
-        operation, type = step.operation, step.type
-        if operation == "load":
-            place = self.value(step.operands[0])
-            if place.args[1] is not None:
-                place = self.values[step.operands[0].token] = self.named(place)
-            base, _, constant = place.args
-            blocks = re.findall(r"let (\w+) = \w+::from_slice\(", self.function.source.body if self.function.source else "")
-            if len(blocks) == 1 and base.op == "name":
-                base.args[0].hint(1, blocks[0])
-            count, element = words_of(type)
-            size = int(element[1:]) // 8
-            return [self.load(element, place._replace(args=(base, None, constant + size * i))) for i in range(count)]
-        if operation == "call" and step.more == "llvm.vector.reduce.or.v32i8":
-            asked = [(user.operation, user.more, user.operands[1].token) for user, _ in self.users[step.result]]
-            if set(asked) - {("icmp", "eq", "0"), ("icmp", "ne", "0")}:
-                raise Unknown("print_c knows llvm.vector.reduce.or only if it is compared with 0")
-            return call("skh_any", "bool", VECTORS, *self.words(step.operands[0]))
-        if operation in SIGNS:
-            of = TYPES[words_of(type)[1]]
-            pairs = zip(self.words(step.operands[0]), self.words(step.operands[1]))
-            if operation == "xor" and step.operands[1].token == ["-1"] * type.count:
-                return [made("~", of, one) for one, _ in pairs]
-            if operation == "shl" and step.operands[0].token == ["1"] * type.count:
-                return [call("skh_bit", of, VECTORS, other) for _, other in pairs]
-            return [binary(SIGNS[operation], one, other) for one, other in pairs]
-        if operation == "insertelement":
-            words = [*self.words(step.operands[0])]
-            words[int(step.operands[2].token)] = self.value(step.operands[1])
-            return words
-        if operation == "shufflevector" and step.operands[2].token == "zeroinitializer":
-            return [self.named(self.words(step.operands[0])[0])] * type.count
-        if operation == "bitcast" and (step.operands[0].type.element, type.element) == ("i32", "i8"):
-            return self.words(step.operands[0])
-        raise Unknown(f"print_c does not know {operation} of {type}")
-
 
 def divided(offset, unit):
     """An offset in bytes as one in units."""
-    if unit == 1:
-        if offset.op == "<<" and e.is_number(offset.args[1]):
-            return binary("*", number(1 << offset.args[1].args[0]), offset.args[0])
-        return offset
-    if offset.op == "<<" and e.is_number(offset.args[1]) and 1 << offset.args[1].args[0] >= unit:
-        rest = (1 << offset.args[1].args[0]) // unit
-        return offset.args[0] if rest == 1 else binary("*", number(rest), offset.args[0])
-    raise Unknown("print_c does not know an offset that is no multiple of a number's width")
+    is_shift = offset.op == "<<" and e.is_number(offset.args[1])
+    factor, whole = (1 << offset.args[1].args[0], offset.args[0]) if is_shift else (1, offset)
+    if factor < unit:
+        raise Unknown("print_c does not know an offset that is no multiple of a number's width")
+    return whole if factor == unit else binary("*", number(factor // unit), whole)
 
 
 def as_bool(value):
@@ -546,7 +387,7 @@ def unsized(value):
     return cast("uint64_t", value) if value.type == "size_t" else value
 
 
-def operands(operation, one, other, type):
+def operands(one, other, type):
     """Two numbers without a cast that C makes itself, as it does if the other one is of that type."""
     def bare(value, beside):
         is_wider = beside.type == type and beside.op not in ("number", "cast")
@@ -557,3 +398,8 @@ def operands(operation, one, other, type):
 
 def is_shift(value, direction, places):
     return value.op == "call" and value.args[0] == f"skh_wide_{direction}" and e.is_number(value.args[2], places)
+
+
+def is_apart(one, other):
+    """Whether two spans of bytes after one pointer have none in common."""
+    return e.ANYWHERE not in (one, other) and one[0] == other[0] and (one[2] <= other[1] or other[2] <= one[1])
