@@ -23,7 +23,7 @@
 
 /* SKH_REQUIRES says what all callers ensure: without it keys of 32 to 63 bytes take 1.1 to 1.2
  * times as long with gcc. SKH_EXPECT says what mostly holds: without it columns of short keys take
- * 1.1 to 1.4 times as long. */
+ * 1.1 to 1.4 times as long, and Murmur's updates by 1 to 3 bytes 1.1 to 1.3 times. */
 #if defined __GNUC__ || defined __clang__
 #define SKH_NOINLINE __attribute__((noinline))
 #define SKH_INLINE static inline __attribute__((always_inline))
@@ -350,8 +350,7 @@ SKH_INLINE struct skh_result skh_check_offset32(uint64_t bytes_length, const uin
                                                 uint64_t offsets_count, uint64_t i, uint64_t last) {
     if (SKH_EXPECT(offsets_count > i)) {
         const uint64_t place = skh_get32(offsets + i);
-        const bool is_error = last > place || bytes_length < place;
-        return skh_result_of(is_error, is_error ? i : place);
+        if (SKH_EXPECT(last <= place && bytes_length >= place)) return skh_ok(place);
     }
     return skh_error(i);
 }
@@ -378,8 +377,7 @@ SKH_INLINE struct skh_result skh_check_offset64(uint64_t bytes_length, const uin
                                                 uint64_t offsets_count, uint64_t i, uint64_t last) {
     if (SKH_EXPECT(offsets_count > i)) {
         const uint64_t place = skh_get64(offsets + i);
-        const bool is_error = place < last || bytes_length < place;
-        return skh_result_of(is_error, is_error ? i : place);
+        if (SKH_EXPECT(place >= last && bytes_length >= place)) return skh_ok(place);
     }
     return skh_error(i);
 }
@@ -611,7 +609,7 @@ static SKH_NOINLINE void skh_xxh64_write_across(sketch_xxh64_state_t *state,
 /* Appends bytes to the stream. */
 SKH_INLINE void skh_xxh64_write(sketch_xxh64_state_t *state, const unsigned char *bytes,
                                 uint64_t bytes_length) {
-    if (bytes_length < 32 - skh_xxh64_waiting_count(state)) {
+    if (SKH_EXPECT(bytes_length < 32 - skh_xxh64_waiting_count(state))) {
         skh_xxh64_write_within(state, bytes, bytes_length);
     } else {
         skh_xxh64_write_across(state, bytes, bytes_length);
@@ -862,7 +860,7 @@ SKH_INLINE void skh_murmur3_write(sketch_murmur3_x64_128_state_t *state, const u
     uint64_t x4;
     const uint64_t count = skh_murmur3_waiting_count(state);
     const uint64_t x1 = 16 - count;
-    if (bytes_length < x1) {
+    if (SKH_EXPECT(bytes_length < x1)) {
         skh_murmur3_write_within(state, bytes, bytes_length);
         return;
     }

@@ -162,7 +162,9 @@ class Offsets(Subject):
         self.loop = loop
 
     def after(self, count):
-        """A machine that goes on to the keys: all offsets are right."""
+        """A machine that goes on to the keys: all offsets are right. With few keys it does not come to this loop."""
+        if (few := number_in(count)) is not None and few < self.loop.least:
+            return self.supposing(self.start(count), number(0), number(0), ["right"] * (few + 1))
         return self.at_end(self.loop, sub(count, number(self.loop.last)), ["right"] * (self.loop.last + 1 - self.loop.done))
 
 
@@ -242,17 +244,22 @@ class Keys(Elements):
         return self.answer
 
     def finish(self, loop):
-        if (loop.least, loop.last, loop.done, self.checked.loop.least) != (1, 1, 0, 1):
+        least = self.checked.loop.least
+        if least > 2 or (loop.least, loop.last, loop.done) != (least, 1, 0):
             raise Stop("the loops are not reached with one key")
-        turns = loop.turns_at_end()
+        before_last = [loop.turns_at_end()]
+        if least == 2:  # one key comes to the head without the loop over offsets
+            loops.on_each_path(lambda: loop.enter(number(1)))
+            before_last.append(number(0))
 
-        def ends(way):
+        def ends(turns, way):
             run, _, _, _ = self.travel(loop, turns, number(1), way)
             self.call.must_succeed(run)
             self.must_have_written(self.index(turns, loop.done), 1)
 
-        for way in self.ways():
-            loops.on_each_path(lambda: ends(way))
+        for turns in before_last:
+            for way in self.ways():
+                loops.on_each_path(lambda: ends(turns, way))
 
 
 def prove_offsets(call):

@@ -132,7 +132,7 @@ class Loop:
             self.find_head()
             with values.assuming():
                 self.suggest()
-        on_each_path(self.enter)
+        on_each_path(lambda: self.enter(subject.some("total", least)))
         self.check_turns()
 
     def find_head(self):
@@ -198,8 +198,8 @@ class Loop:
         first, second = (number_in(sub(after, before)) for before, after in zip(seen, seen[1:]))
         return ("by", first) if first is not None and first == second else None
 
-    def enter(self):
-        run = self.subject.reach(self.subject.some("total", self.least), self.done)
+    def enter(self, total):
+        run = self.subject.reach(total, self.done)
         if not run.go(self.head):
             raise Stop("the loop is not reached")
         words, now = self.subject.words_at_entry(self.done), places_of(run)

@@ -4,16 +4,18 @@ import collections
 import expression as e
 from expression import FIELDS, TYPES, Name, cast, comparison, negation
 from module import Unknown
-from statements import Assign, Break, If, Loop, Return, ends
+from statements import Assign, Break, Do, If, Loop, Return, ends
 from values import Values, as_bool
 
 CHEAP = {"phi", "insertvalue", "extractvalue", "zext", "sext", "trunc", "xor", "ret"}
 
 
 def branch(condition, then, otherwise):
-    """The shorter way out is first. But what a bound allows stays within its test, which mostly holds."""
+    """The shorter way out is first. But what a bound allows stays within its test. Such a test mostly holds, and so does one
+    whose short way is a call."""
     is_shorter = ends(then) and ends(otherwise) and len(otherwise) < len(then)
-    if is_shorter and condition.op in ("<", ">", "<=", ">=") and not any(map(e.is_number, condition.args)):
+    is_bound = condition.op in ("<", ">", "<=", ">=") and not any(map(e.is_number, condition.args))
+    if is_bound and (is_shorter or len(then) == 2 and isinstance(then[0], Do) and ends(then)):
         return [If(e.call("SKH_EXPECT", "bool", condition), then, []), *otherwise]
     if not then or ends(otherwise) and (not ends(then) or is_shorter):
         condition, then, otherwise = negation(condition), otherwise, then

@@ -128,7 +128,7 @@ def choice(condition, one, other, type):
     if type == "bool" and is_number(other, 0):
         return conjunction(condition, one)
     if condition.op in ("!", "!="):
-        condition, one, other = negation(condition), other, one
+        return choice(negation(condition), other, one, type)
     return made("?:", type, condition, one, other)
 
 

@@ -15,7 +15,7 @@
 
 /* SKH_REQUIRES says what all callers ensure: without it keys of 32 to 63 bytes take 1.1 to 1.2
  * times as long with gcc. SKH_EXPECT says what mostly holds: without it columns of short keys take
- * 1.1 to 1.4 times as long. */
+ * 1.1 to 1.4 times as long, and Murmur's updates by 1 to 3 bytes 1.1 to 1.3 times. */
 #if defined __GNUC__ || defined __clang__
 #define SKH_NOINLINE __attribute__((noinline))
 #define SKH_INLINE static inline __attribute__((always_inline))

@@ -51,14 +51,20 @@ def clean(statements):
 
 
 def early_returns(statements):
-    """A result that depends on another result, or on a call, or on the test before it, is returned in two ways."""
+    """A result that depends on another result, or on a call, or on the test before it, is returned in two ways. Mostly there is
+    no error. What is returned at the end of a branch and after it stands there once."""
     before, last = [None, None, *statements][-2:]
     value = last.value if isinstance(last, Return) else None
     if value is None:
         return
+    if isinstance(before, If) and isinstance(before.then[-1], Return) and before.then[-1].value == value and before.then[1:]:
+        before.then.pop()
     is_test = isinstance(before, If) and not before.otherwise and not ends(before.then)
     if value.op == "||" and any(part.op == "call" for part in e.parts(value.args[1])):
         statements[-1:] = [If(value.args[0], [Return(number(1, "uint32_t"))], []), Return(value.args[1])]
+    elif value.type == "struct skh_result" and isinstance(before, Assign) and e.name(before.name) == value.args[0]:
+        good, bad = (Return(e.replaced(value, {value.args[0]: number(is_error, "bool")})) for is_error in (0, 1))
+        statements[-2:] = [If(e.call("SKH_EXPECT", "bool", negation(before.value)), [good], []), bad]
     elif value.op == "struct" and value.args[0].op == "field" and value.args[1].op == "?:":
         statements[-1:] = [If(value.args[0], [Return(value)], []), last]
     elif value.op == "?:" and is_test and before.condition == value.args[0]:
