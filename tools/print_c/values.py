@@ -56,11 +56,6 @@ class Values:
 
     # ---- which values get names
 
-    def give(self, step, value, label, most=0):
-        """`most`: a value of fewer parts is written again wherever it is used."""
-        is_small = not value.reads and e.size_of(value) < most and len(self.users[step.result]) < 8
-        self.values[step.result] = value if is_small or self.is_short(value, step, label) else self.named(value)
-
     def is_short(self, value, step, label):
         """Whether it needs no name, since it can stand where it is used."""
         return [place for _, place in self.users[step.result]] == [label] and e.size_of(value) <= LARGEST
@@ -198,9 +193,12 @@ class Values:
         elif operation == "getelementptr":
             self.pointer(step, label)
         else:
-            users = {user.operation for user, _ in self.users[step.result]}
-            most = 8 if users <= {"getelementptr", "shl", "lshr"} else 4 if operation in ("zext", "trunc") else 0
-            self.give(step, self.scalar(step), label, most)
+            value, users = self.scalar(step), self.users[step.result]
+            # A value of fewer parts is written again wherever it is used.
+            is_moving = {user.operation for user, _ in users} <= {"getelementptr", "shl", "lshr"}
+            most = 8 if is_moving else 4 if operation in ("zext", "trunc") else 0
+            is_small = e.size_of(value) < most and not value.reads and len(users) < 8
+            self.values[step.result] = value if is_small or self.is_short(value, step, label) else self.named(value)
 
     def fields(self, operand):
         """The two numbers of a struct."""
