@@ -68,7 +68,10 @@ __attribute__((constructor)) static void skh_find_avx2(void) {
 
 /* A caller may give NULL for no bytes. C allows neither an offset from it nor a copy of no bytes,
  * so it is replaced by an address at which nothing is read or written. */
-static inline unsigned char *skh_slice(const void *at) {
+static inline const unsigned char *skh_slice(const void *at) {
+    return at == NULL ? (const unsigned char *)4096 : (const unsigned char *)at;
+}
+static inline unsigned char *skh_slice_mut(void *at) {
     return at == NULL ? (unsigned char *)4096 : (unsigned char *)at;
 }
 
@@ -1349,7 +1352,7 @@ SKH_INLINE int sketch_bloom_insert_any(bool has_vectors, void *bits, size_t leng
                                        size_t key_length) {
     const uint64_t hash = skh_xxh64_hash(skh_slice(key), key_length, 0);
     if (!skh_bloom_is_length(length)) return SKETCH_ERROR_LENGTH;
-    skh_bloom_insert_into(has_vectors, skh_slice(bits), length, hash);
+    skh_bloom_insert_into(has_vectors, skh_slice_mut(bits), length, hash);
     return SKETCH_OK;
 }
 
@@ -1374,7 +1377,7 @@ SKH_CHOOSE(SKETCH_HASH_API, int, return, sketch_bloom_contains,
 SKH_INLINE int sketch_bloom_insert_hash_any(bool has_vectors, void *bits, size_t length,
                                             uint64_t hash) {
     if (!skh_bloom_is_length(length)) return SKETCH_ERROR_LENGTH;
-    skh_bloom_insert_into(has_vectors, skh_slice(bits), length, hash);
+    skh_bloom_insert_into(has_vectors, skh_slice_mut(bits), length, hash);
     return SKETCH_OK;
 }
 
@@ -1397,7 +1400,7 @@ SKETCH_HASH_API int sketch_bloom_insert_each32(void *bits, size_t length, const 
                                                size_t keys_length, const uint32_t *offsets,
                                                size_t offset_count, size_t *wrong_offset) {
     uint64_t hashes[32];
-    unsigned char *const filter = skh_slice(bits);
+    unsigned char *const filter = skh_slice_mut(bits);
     const unsigned char *const bytes = skh_slice(keys);
     if (!skh_bloom_is_length(length)) return SKETCH_ERROR_LENGTH;
     const uint64_t count = skh_less64(offset_count, 1);
@@ -1423,7 +1426,7 @@ SKETCH_HASH_API int sketch_bloom_insert_each64(void *bits, size_t length, const 
                                                size_t keys_length, const uint64_t *offsets,
                                                size_t offset_count, size_t *wrong_offset) {
     uint64_t hashes[32];
-    unsigned char *const filter = skh_slice(bits);
+    unsigned char *const filter = skh_slice_mut(bits);
     const unsigned char *const bytes = skh_slice(keys);
     if (!skh_bloom_is_length(length)) return SKETCH_ERROR_LENGTH;
     const uint64_t count = skh_less64(offset_count, 1);
@@ -1447,7 +1450,7 @@ SKETCH_HASH_API int sketch_bloom_insert_each64(void *bits, size_t length, const 
  * SKETCH_ERROR_LENGTH. */
 SKH_INLINE int sketch_bloom_insert_each_u32_any(bool has_vectors, void *bits, size_t length,
                                                 const uint32_t *values, size_t count) {
-    unsigned char *const filter = skh_slice(bits);
+    unsigned char *const filter = skh_slice_mut(bits);
     if (!skh_bloom_is_length(length)) return SKETCH_ERROR_LENGTH;
     for (uint64_t i = 0; i < count; i++) {
         skh_bloom_insert_into(
@@ -1465,7 +1468,7 @@ SKH_CHOOSE(SKETCH_HASH_API, int, return, sketch_bloom_insert_each_u32,
  * SKETCH_ERROR_LENGTH. */
 SKH_INLINE int sketch_bloom_insert_each_u64_any(bool has_vectors, void *bits, size_t length,
                                                 const uint64_t *values, size_t count) {
-    unsigned char *const filter = skh_slice(bits);
+    unsigned char *const filter = skh_slice_mut(bits);
     if (!skh_bloom_is_length(length)) return SKETCH_ERROR_LENGTH;
     for (uint64_t i = 0; i < count; i++) {
         skh_bloom_insert_into(has_vectors, filter, length,
@@ -1482,7 +1485,7 @@ SKH_CHOOSE(SKETCH_HASH_API, int, return, sketch_bloom_insert_each_u64,
 SKETCH_HASH_API int sketch_bloom_insert_each_hash(void *bits, size_t length, const uint64_t *hashes,
                                                   size_t count) {
     if (!skh_bloom_is_length(length)) return SKETCH_ERROR_LENGTH;
-    skh_bloom_insert_hashes(skh_slice(bits), length, hashes, count);
+    skh_bloom_insert_hashes(skh_slice_mut(bits), length, hashes, count);
     return SKETCH_OK;
 }
 
@@ -1496,7 +1499,7 @@ SKETCH_HASH_API int sketch_bloom_contains_each32(const void *bits, size_t length
     uint64_t hashes[32];
     const unsigned char *const filter = skh_slice(bits);
     const unsigned char *const bytes = skh_slice(keys);
-    unsigned char *const found_bytes = skh_slice(found);
+    unsigned char *const found_bytes = skh_slice_mut(found);
     if (!skh_bloom_is_length(length)) return SKETCH_ERROR_LENGTH;
     const struct skh_result result = skh_check_offsets32(keys_length, offsets, offset_count, count);
     if (result.is_error) {
@@ -1524,7 +1527,7 @@ SKETCH_HASH_API int sketch_bloom_contains_each64(const void *bits, size_t length
     uint64_t hashes[32];
     const unsigned char *const filter = skh_slice(bits);
     const unsigned char *const bytes = skh_slice(keys);
-    unsigned char *const found_bytes = skh_slice(found);
+    unsigned char *const found_bytes = skh_slice_mut(found);
     if (!skh_bloom_is_length(length)) return SKETCH_ERROR_LENGTH;
     const struct skh_result result = skh_check_offsets64(keys_length, offsets, offset_count, count);
     if (result.is_error) {
@@ -1548,7 +1551,7 @@ SKH_INLINE int sketch_bloom_contains_each_u32_any(bool has_vectors, const void *
                                                   const uint32_t *values, size_t value_count,
                                                   unsigned char *found, size_t count) {
     const unsigned char *const filter = skh_slice(bits);
-    unsigned char *const found_bytes = skh_slice(found);
+    unsigned char *const found_bytes = skh_slice_mut(found);
     if (!skh_bloom_is_length(length)) return SKETCH_ERROR_LENGTH;
     if (value_count < count) return SKETCH_ERROR_COUNT;
     for (uint64_t i = 0; i < count; i++) {
@@ -1570,7 +1573,7 @@ SKH_INLINE int sketch_bloom_contains_each_u64_any(bool has_vectors, const void *
                                                   const uint64_t *values, size_t value_count,
                                                   unsigned char *found, size_t count) {
     const unsigned char *const filter = skh_slice(bits);
-    unsigned char *const found_bytes = skh_slice(found);
+    unsigned char *const found_bytes = skh_slice_mut(found);
     if (!skh_bloom_is_length(length)) return SKETCH_ERROR_LENGTH;
     if (value_count < count) return SKETCH_ERROR_COUNT;
     for (uint64_t i = 0; i < count; i++) {
@@ -1591,7 +1594,7 @@ SKETCH_HASH_API int sketch_bloom_contains_each_hash(const void *bits, size_t len
                                                     const uint64_t *hashes, size_t hash_count,
                                                     unsigned char *found, size_t count) {
     const unsigned char *const filter = skh_slice(bits);
-    unsigned char *const found_bytes = skh_slice(found);
+    unsigned char *const found_bytes = skh_slice_mut(found);
     if (!skh_bloom_is_length(length)) return SKETCH_ERROR_LENGTH;
     if (hash_count < count) return SKETCH_ERROR_COUNT;
     skh_bloom_find_hashes(filter, length, hashes, count, found_bytes, 0);
@@ -1602,7 +1605,7 @@ SKETCH_HASH_API int sketch_bloom_contains_each_hash(const void *bits, size_t len
  * Returns 0, or SKETCH_ERROR_LENGTH, also if the lengths are different. */
 SKETCH_HASH_API int sketch_bloom_merge(void *into, size_t length, const void *from,
                                        size_t from_length) {
-    unsigned char *const into_bytes = skh_slice(into);
+    unsigned char *const into_bytes = skh_slice_mut(into);
     const unsigned char *const from_bytes = skh_slice(from);
     if (from_length != length || !skh_bloom_is_length(length)) return SKETCH_ERROR_LENGTH;
     for (uint64_t i = 0; i < length; i++) {
@@ -1617,7 +1620,7 @@ SKETCH_HASH_API int sketch_bloom_merge(void *into, size_t length, const void *fr
  * is not a multiple of 64. */
 SKETCH_HASH_API int sketch_bloom_fold(void *bits, size_t length) {
     if (((uint64_t)length & 63) != 0 || !skh_bloom_is_length(length)) return SKETCH_ERROR_LENGTH;
-    skh_bloom_fold_blocks(skh_slice(bits), length);
+    skh_bloom_fold_blocks(skh_slice_mut(bits), length);
     return SKETCH_OK;
 }
 
@@ -1627,7 +1630,7 @@ SKETCH_HASH_API int sketch_bloom_fold(void *bits, size_t length) {
  * Returns `length` if it folds nothing, as with a `one_in` of 0, and 0 if no filter has `length`
  * bytes. */
 SKETCH_HASH_API size_t sketch_bloom_fold_to(void *bits, size_t length, uint64_t one_in) {
-    unsigned char *const filter = skh_slice(bits);
+    unsigned char *const filter = skh_slice_mut(bits);
     if (!skh_bloom_is_length(length)) return 0;
     uint64_t filter_length = length;
     while ((filter_length & 63) == 0) {
@@ -1652,7 +1655,7 @@ SKETCH_HASH_API size_t sketch_bloom_block_offset(size_t length, uint64_t hash) {
  * bloom_filter_length is that of the header and the filter. */
 SKETCH_HASH_API size_t sketch_bloom_header_write(uint64_t bytes, unsigned char *header,
                                                  size_t room) {
-    const struct skh_option option = skh_bloom_write_header(bytes, skh_slice(header), room);
+    const struct skh_option option = skh_bloom_write_header(bytes, skh_slice_mut(header), room);
     return option.is_some ? option.value : 0;
 }
 

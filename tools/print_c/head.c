@@ -60,7 +60,10 @@ __attribute__((constructor)) static void skh_find_avx2(void) {
 
 /* A caller may give NULL for no bytes. C allows neither an offset from it nor a copy of no bytes,
  * so it is replaced by an address at which nothing is read or written. */
-static inline unsigned char *skh_slice(const void *at) {
+static inline const unsigned char *skh_slice(const void *at) {
+    return at == NULL ? (const unsigned char *)4096 : (const unsigned char *)at;
+}
+static inline unsigned char *skh_slice_mut(void *at) {
     return at == NULL ? (unsigned char *)4096 : (unsigned char *)at;
 }
 

@@ -106,8 +106,8 @@ class Values:
         base, offset = self.value(step.operands[0]), self.value(step.operands[1])
         start, symbolic, before = base.args
         if offset == e.choice(comparison("==", start, NULL), number(4096), number(0), "uint64_t"):  # of a slice of no bytes
-            slice = call("skh_slice", base.type, start) if base.type.kind == "bytes" else start
-            return base._replace(args=(slice, None, 0))
+            slice = call("skh_slice" if base.type.is_const else "skh_slice_mut", base.type, start)
+            return base._replace(args=(slice if base.type.kind == "bytes" else start, None, 0))
         if e.is_number(offset):
             constant = int(step.operands[1].token)
             return self.in_bytes(base._replace(args=(start, symbolic, before + constant)))
