@@ -288,11 +288,7 @@ class Key(Pieces):
 
     def __init__(self, keys, loop, turns, left, rest, per):
         super().__init__(keys.hash, keys.start_of_key(), rest, per)
-        self.keys, self.at_keys = keys, lambda count: loop.at(turns, left, (rest, count))
-
-    def some(self, what, least=0):
-        width = MOST[self.keys.call.width] - (self.unit - 1).bit_length()
-        return extend(unknown((what, self.name), width, least))
+        self.keys, self.at_keys, self.width = keys, lambda count: loop.at(turns, left, (rest, count)), MOST[keys.call.width]
 
     def start(self, count):
         run, self.outer_words, self.before = self.at_keys(count)
