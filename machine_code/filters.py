@@ -339,10 +339,14 @@ BATCH = 32  # how many keys such a call hashes at a time
 
 
 class Batches(Values):
-    """Columns of any number of keys, each of so many bytes: a turn is a batch, and the last one has from 1 to 32 keys."""
+    """Columns of any number of keys, each of so many bytes: a turn is a batch. So few keys that their offsets need no loop are
+    not among them: that is one at most, which `KeyOfColumn` has."""
 
     def __init__(self, checked, key_size):
-        self.checked, self.call, self.key_size, self.left = checked, checked.call, key_size, add(any_left, number(1))
+        self.checked, self.call, self.key_size, self.least = checked, checked.call, key_size, checked.loop.least
+        if self.least > 2:
+            raise Stop("the loop over offsets is not reached with two keys")
+        self.left = add(any_left, number(self.least))
         super().__init__(self.call.machine, self.call.is_insert, "", 0, BATCH)
         self.bytes, self.width, self.first = key_size, MOST[self.call.width], extend(unknown("start", MOST[self.call.width]))
 
@@ -356,7 +360,7 @@ class Batches(Values):
         return FILTER.hash_of(self.call.input.bytes(self.offset(index), self.key_size))
 
     def set_offsets(self, run, first, batches):
-        for i in range(batches * BATCH + 1):
+        for i in range(batches * BATCH + self.least):
             index = add(first, number(i))
             self.call.set_offset(run, index, self.offset(index))
 
@@ -378,7 +382,7 @@ class Batches(Values):
 
     def finish(self, loop):
         turns = loop.turns_at_end()
-        for n in range(1, BATCH + 1):
+        for n in range(self.least, self.least + BATCH):
             self.left = number(n)
             loops.on_each_path(lambda: self.end(loop, turns, n))
 
