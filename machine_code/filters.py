@@ -97,21 +97,22 @@ class Bits:
         self.first, self.reached, self.blocks, self.bases = first, 0, [], {}
 
     def block(self, i):
-        """Of key first + i: the offset of its address from a base, what is in it, and what must be."""
+        """Of key first + i: the offset of its address from a base, what is in it, the key's bits, and what is written."""
         for i in range(len(self.blocks), i + 1):
             index = add(self.first, number(i))
             hash, before = self.hash(index), join(*(unknown(("block", place_of(index), w), 32) for w in range(8)))
             base, at = place_of(add(bits, join(number(0, 5), cut(block_of(hash), 0, 59))))
-            self.blocks.append((at, before, bitwise("or", before, mask_of(hash)), {}))
+            self.blocks.append((at, before, mask_of(hash), {}))
             self.bases.setdefault(base, []).append(i)
         return self.blocks[i]
 
     def contains(self, index):
-        i = number_in(sub(index, self.first))
-        return extend(is_zero(bitwise("and", complement(self.block(i)[1]), mask_of(self.hash(index)))), 8)
+        _, before, mask, _ = self.block(number_in(sub(index, self.first)))
+        return extend(is_zero(bitwise("and", complement(before), mask)), 8)
 
     def must_be_inserted(self, i):
-        _, before, after, written = self.block(i)
+        _, before, mask, written = self.block(i)
+        after = bitwise("or", before, mask)
         for k in range(32):
             value, bit = written.get(k, (before, 8 * k))
             if cut(value, bit, 8) != cut(after, 8 * k, 8):
@@ -124,7 +125,7 @@ class Bits:
             self.must_be_inserted(i)
 
     def offset_of(self, address, size):
-        if self.hash(self.first) is None:
+        if not self.blocks and self.hash(self.first) is None:
             return None  # the key is not known yet
         first, last = (self.reached - 1, self.reached) if self.is_writable else (0, self.reached + 3)
         self.block(last)
@@ -324,8 +325,7 @@ class KeyOfColumn(Key):
     def start(self, count):
         run, end = self.call.begin(number(1), number(2)), add(self.first, self.length(count))
         assume_at_most(end, self.call.length)
-        self.call.set_offset(run, number(0), self.first)
-        self.call.set_offset(run, number(1), end)
+        self.call.set_offsets(run, number(0), self.first, end)
         self.filter = run.give(Bits(lambda index: self.answer, self.is_insert))
         return run
 
@@ -360,9 +360,8 @@ class Batches(Values):
         return FILTER.hash_of(self.call.input.bytes(self.offset(index), self.key_size))
 
     def set_offsets(self, run, first, batches):
-        for i in range(batches * BATCH + self.least):
-            index = add(first, number(i))
-            self.call.set_offset(run, index, self.offset(index))
+        offsets = (self.offset(add(first, number(i))) for i in range(batches * BATCH + self.least))
+        self.call.set_offsets(run, first, *offsets)
 
     def start(self, count):
         n = self.number_of(count)

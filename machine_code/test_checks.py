@@ -18,7 +18,7 @@ import pytest
 from conftest import DIST
 from definitions import FILTER, MURMUR, XXH64, of_hash
 from machine import Array
-from values import Stop, add, extend, mul, number, sub, unknown
+from values import Stop, add, bitwise, extend, mul, number, sub, unknown
 
 TEXT = DIST / "sketch_hash.c"
 HARDENED = "-fstack-protector-strong -fstack-clash-protection -D_FORTIFY_SOURCE=3 -fno-plt -Wl,-z,relro,-z,now".split()
@@ -284,10 +284,11 @@ WRONG = [
         ("and ebx, 1", "mov ebx, 1"), ("and ebx, 1", "and ebx, 1; add ebx, ebx"), ("7; xor ecx, ecx", "7; mov ecx, 1"),
         ("cmp eax, 7; jb 9f; ", ""), ("xor ecx, ecx; xgetbv", "mov ecx, 1; xgetbv"))),
     ("x86-64", f"{FLAG} {DETECT}".replace("1: mov", "1: vpbroadcastd xmm0, xmm0; mov"), "perhaps has none"),
-    ("x86-64", f"{FLAG} mov byte ptr [rip+flag], 1; ret".replace('.section .init_array, "aw"; .quad set', ".globl _init; .set _init, set"),
-     "does not allow"),
+    ("x86-64", f"{FLAG} mov byte ptr [rip+flag], 1; ret".replace('.section .init_array, "aw"; .quad', ".set _init,")
+     + "; .globl _init", "does not allow"),
     ("Windows", f"cmp byte ptr [rip+2f], 1; je 1f; {VERSION}; 1: xor eax, eax; ret; .section .bss; 2: .byte 0", "the result"),
-    ("x86-64", f"mov rax, [rip+2f@gottpoff]; xor ecx, ecx; {OTHER}; .section .tbss, \"awT\", @nobits; 2: .long 0", "the result"),
+    ("x86-64", f"mov rax, [rip+2f@gottpoff]; xor ecx, ecx; {OTHER}; .section .tbss, \"awT\", @nobits; 2: .long 0",
+     "the result"),
     ("x86-64", "jmp [rip+2f]; 1: ret; .globl other; .set other, 1b; .type other, @gnu_indirect_function; .data; 2: .quad other",
      "no function is known"),
     ("x86-64", f"{FLAG} call puts@PLT", "a call of puts"),
@@ -298,7 +299,7 @@ WRONG = [
     ("aarch64", f"paciasp; sub sp, sp, #16; autiasp; add sp, sp, #16; {ARM}", "a signature"),
     # Calls of the C library.
     ("x86-64", f"mov r8d, 1; {COPY}; mov eax, r8d; mov ecx, 1; {OTHER}", "the result"),
-    ("x86-64", f"{COPY}; jne 1f; 1: {VERSION}".replace("call", "cmp eax, eax; call").replace("add rsp, 40", "lea rsp, [rsp+40]"),
+    ("x86-64", "push rbx; mov rdi, rsp; lea rsi, [rdi-8]; xor edx, edx; call memmove@PLT; pop rbx; jne 1f; 1: " + VERSION,
      "not known"),
     ("aarch64", f"stp x30, x19, [sp, #-32]!; mov x19, x0; mov v8.d[1], x0; add x0, sp, #16; mov x2, #8; bl memset; "
                 f"mov x1, v8.d[1]; sub x1, x1, x19; ldp x30, x19, [sp], #32; cbnz x1, 1f; {ARM}; 1: udf #0", "udf"),
@@ -322,7 +323,8 @@ WRONG = [
     ("x86-64", f"mov rcx, [rsp]; push rcx; {VERSION}", "the stack pointer is not restored"),
     ("x86-64", f"sub rsp, 16; movaps [rsp], xmm0; add rsp, 16; {VERSION}", "not aligned"),
     ("x86-64", f"movaps xmm0, [rsp]; {VERSION}", "not aligned"), ("x86-64", f"paddd xmm0, [rsp-16]; {VERSION}", "not aligned"),
-    ("x86-64", f"mov rcx, [rsp-136]; {VERSION}", "a read below the stack"), ("x86-64", f"mov rcx, [rsp+8]; {VERSION}", "outside"),
+    ("x86-64", f"mov rcx, [rsp-136]; {VERSION}", "a read below the stack"),
+    ("x86-64", f"mov rcx, [rsp+8]; {VERSION}", "outside"),
     ("x86-64", f"mov [rsp-136], rcx; {VERSION}", "outside"),
     ("x86-64", f"push rcx; pop rcx; sub rsp, 8192; {VERSION}", "leaves the stack"),
     ("x86-64", f"sub rsp, 8192; push rcx; {VERSION}", "leaves the stack"),
@@ -473,16 +475,17 @@ sub rsi, 1; jne 1b; 3: xor eax, eax; ret; 9: movdqu [rdi+rax], xmm7; jmp 8b"""
 MERGE_PAIRS = f""".globl sketch_bloom_merge; sketch_bloom_merge:
 shr rsi, 5; xor eax, eax; cmp rsi, 1; je 2f; 1: {UNION}; {UNION}
 sub rsi, 2; cmp rsi, 1; ja 1b; jb 3f; 2: {UNION}; 3: xor eax, eax; ret"""
-WRONG_BLOCK = "movdqu [rdi+rax], xmm7"
+WRONG_BLOCK = "movdqu [rdi+rax-32], xmm7"
 
 
 @pytest.mark.parametrize("code, before, after, reason", [
     (MERGE, "1:", "1: 8:", None), (MERGE_PAIRS, "ud2", "ud2", None),
-    (MERGE, "1:", f"1: {WRONG_BLOCK}; 8:", "what the definitions say"), (MERGE, "eax; ret", "eax; inc eax; ret", "the result"),
+    (MERGE, "eax; ret", "eax; inc eax; ret", "the result"),
+    (MERGE, "1:", f"1: {WRONG_BLOCK.replace('-32', '')}; 8:", "definitions"),
     # In the first turn, in a later one, in each but the first one, in the last but one, and in the last one.
-    (MERGE, "1:", f"cmp rsi, 3; ja 1f; {UNION}; {WRONG_BLOCK.replace('rax]', 'rax-32]')}; sub rsi, 1; je 3f; 1: 8:", "definitions"),
+    (MERGE, "1:", "cmp rsi, 3; ja 1f; cmp rsi, 1; je 1f; movdqu [rdi+32], xmm7; 1: 8:", "definitions"),
     (MERGE, "sub rsi", "cmp rax, 3200; jne 2f; add rax, 32; 2: 8: sub rsi", "."), (MERGE, "1:", "1: jne 9f; 8:", "not known"),
-    *((MERGE, "sub rsi", f"cmp rsi, {n}; jne 2f; movdqu [rdi+rax-32], xmm7; 2: 8: sub rsi", "definitions") for n in (1, 2)),
+    *((MERGE, "sub rsi", f"cmp rsi, {n}; jne 2f; {WRONG_BLOCK}; 2: 8: sub rsi", "definitions") for n in (1, 2)),
     (MERGE, "sub rsi, 1; jne", "8: sub rsi, 1; cmp rsi, 1; ja", "before its last turn"),
     # What a turn leaves for the next one is not as in the first ones.
     (MERGE, "1:", "xor r8d, r8d; 1: movq xmm2, r8; por xmm7, xmm2; mov r8, rax; shr r8, 12; 8:", None),
@@ -490,10 +493,46 @@ WRONG_BLOCK = "movdqu [rdi+rax], xmm7"
     (MERGE_PAIRS, "jb 3f; 2:", "jmp 3f; 2:", "definitions|not all"), (MERGE_PAIRS, "je 2f", "je 3f", "not all"),
 ])
 def test_a_loop_that_breaks_a_rule_is_refused(code, before, after, reason, machine_of):
-    code = code.replace(before, after, 1) if "8:" in after or code == MERGE_PAIRS else code.replace("8b", "1b").replace(before, after)
-    machine = machine_of("x86-64", f"{VERSION}\n{code}")
+    text = code.replace(before, after, 1)
+    machine = machine_of("x86-64", f"{VERSION}\n{text if '8:' in text else text.replace('8b', '1b')}")
+    make = partial(filters.Merge, machine, True)
+
+    def run():
+        if code == MERGE_PAIRS:
+            return loops.prove_each_rest(make)
+        for n in range(1, loops.prove(partial(make, 0), [1]).least):
+            make(n, 1).few()
+
     with refused(reason):
-        loops.on_each_path(partial(loops.prove_each_rest, partial(filters.Merge, machine, True)))
+        loops.on_each_path(run)
+
+
+# ---- the blocks of a filter that a call reaches
+
+def block_at(i, n):
+    return add(calls.bits, add(mul(filters.block_of(unknown(("hash", i), 64)), number(32)), number(n)))
+
+
+@pytest.mark.parametrize("is_writable", [True, False])
+def test_a_call_is_within_the_blocks_of_its_keys(is_writable):
+    """It may write the blocks of one key after the other, and read those of any."""
+    filter = filters.Bits(lambda index: unknown(("hash", index[0][1]), 64), is_writable)
+    assert filter.offset_of(block_at(0, 0), 32) == (0, 0) and filter.offset_of(block_at(0, 28), 4) == (0, 28)
+    for outside in (block_at(0, 28), 5), (block_at(0, -1), 4), (calls.out, 4):
+        assert filter.offset_of(*outside) is None
+    filter.load((0, 0), 4)
+    assert (filter.offset_of(block_at(2, 0), 4) is None) == is_writable
+    if is_writable:
+        with refused("what is inserted"):
+            filter.load((1, 0), 4)
+        filter.store((0, 0), bitwise("or", *filter.block(0)[1:3]))
+        filter.load((1, 0), 4)
+        with refused("what is inserted"):
+            filter.must_have_reached(2)
+        filter.store((1, 0), bitwise("or", *filter.block(1)[1:3]))
+        with refused("not as many keys"):
+            filter.must_have_reached(1)
+    assert (filter.offset_of(block_at(0, 0), 4) is None) == is_writable
 
 
 # ---- a loop that checks offsets, and loads each a turn ahead
@@ -508,8 +547,9 @@ mov rdi, rax; mov rax, [r8+rdx*8]; cmp rax, rdi; jae 1b
 @pytest.mark.parametrize("before, after, reason", [
     ("ud2", "ud2", None), ("[r8]; 1:", "[r8]; cmp r9, 2; jne 3f; 1:", "not what the definitions say"),
     ("jae 1b", "jmp 1b", "does not end"), ("jae 1b", "ja 1b", "depends on"), ("jb 2f", "ja 2f", "depends on"),
-    ("cmp r11, rax; jb 2b", "", "ud2"),
-    ("cmp rcx, r11; jb 2b", "", "ud2"), ("mov rdi, rax", "mov rdi, rcx", "depends on"),
+    ("cmp r11, rax; jb 2b", "", "ud2"), ("cmp r11, rax; jb 2b", "cmp r11, rax; jae 6f; cmp rdx, 100; jb 2b; 6:", "ud2"),
+    ("cmp rcx, r11; jb 2b", "", "ud2"), ("mov rdi, rax", "mov rdi, rcx", "depends on"), ("eax, -2", "eax, -1", "the result"),
+    ("jb 2f; 3:", "3:", "does not end"), ("3: inc", "3: cmp rdx, 100; je 2f; inc", "a right offset ends the call"),
     ("[r8]; 1:", "[r8]; cmp r9, 3; ja 1f; xor eax, eax; 1:", "not what the definitions say"),
     ("xor edx", "cmp r9, 2; je 5f; xor edx", "ud2"), ("inc rdx", "add rdx, 2", "none of the subject"),
 ])
