@@ -3,6 +3,7 @@ import itertools
 from functools import partial
 
 import calls
+import loops
 from calls import (LENGTH, OK, Call, any_length, arguments_of, bits, check_call, fault, input, of, old_fault, out, some,
                    values)
 from columns import Elements, target_and_source, too_few_numbers
@@ -93,23 +94,25 @@ class Bits:
 
     def begin(self, first):
         """The next key has this index."""
-        self.first, self.reached, self.blocks = first, 0, {}
+        self.first, self.reached, self.blocks, self.bases = first, 0, [], {}
 
     def block(self, i):
-        """Of key first + i: its address, what is in it, and what must be."""
-        if i not in self.blocks:
+        """Of key first + i: the offset of its address from a base, what is in it, the key's bits, and what is written."""
+        for i in range(len(self.blocks), i + 1):
             index = add(self.first, number(i))
             hash, before = self.hash(index), join(*(unknown(("block", place_of(index), w), 32) for w in range(8)))
-            at = add(bits, join(number(0, 5), cut(block_of(hash), 0, 59)))
-            self.blocks[i] = at, before, bitwise("or", before, mask_of(hash)), {}
+            base, at = place_of(add(bits, join(number(0, 5), cut(block_of(hash), 0, 59))))
+            self.blocks.append((at, before, mask_of(hash), {}))
+            self.bases.setdefault(base, []).append(i)
         return self.blocks[i]
 
     def contains(self, index):
-        i = number_in(sub(index, self.first))
-        return extend(is_zero(bitwise("and", complement(self.block(i)[1]), mask_of(self.hash(index)))), 8)
+        _, before, mask, _ = self.block(number_in(sub(index, self.first)))
+        return extend(is_zero(bitwise("and", complement(before), mask)), 8)
 
     def must_be_inserted(self, i):
-        _, before, after, written = self.block(i)
+        _, before, mask, written = self.block(i)
+        after = bitwise("or", before, mask)
         for k in range(32):
             value, bit = written.get(k, (before, 8 * k))
             if cut(value, bit, 8) != cut(after, 8 * k, 8):
@@ -122,11 +125,14 @@ class Bits:
             self.must_be_inserted(i)
 
     def offset_of(self, address, size):
-        if self.hash(self.first) is None:
+        if not self.blocks and self.hash(self.first) is None:
             return None  # the key is not known yet
-        for i in range(max(self.reached - 1, 0) if self.is_writable else 0, self.reached + (1 if self.is_writable else 4)):
-            n = number_in(sub(address, self.block(i)[0]))
-            if n is not None and n + size <= 32:
+        first, last = (self.reached - 1, self.reached) if self.is_writable else (0, self.reached + 3)
+        self.block(last)
+        base, at = place_of(address)
+        for i in self.bases.get(base, ()):
+            n = at - self.block(i)[0]
+            if first <= i <= last and 0 <= n <= 32 - size:
                 return i, n
 
     def reach(self, i):
@@ -192,6 +198,9 @@ class Key(OneCall):
     def go_to_end(self, run, after):
         (self.answer,) = calls.answer_of("xxh64", after)
         run.go()
+        self.must_leave(run)
+
+    def must_leave(self, run):
         must_have_used(run, self.filter, self.is_insert)
 
 
@@ -230,7 +239,7 @@ def keys_of_wrong_lengths(machine, is_insert):
         KeyOfWrongLength(machine, is_insert, length, n, 1).few()
 
 
-any_hash = unknown("hash", 64)
+any_hash, any_left = unknown("hash", 64), extend(unknown("left", 5))
 
 
 def one_key(machine, is_insert, function, arguments, hash):
@@ -303,6 +312,92 @@ class TextsCall(ColumnCall):
                             offset_count=offset_count, found=out, count=count, wrong_offset=fault)
 
 
+class KeyOfColumn(Key):
+    """A column of one key, of any length."""
+
+    def __init__(self, call, rest, per):
+        super().__init__(call.machine, call.is_insert, rest, per)
+        self.call, self.width, self.first = call, MOST[call.width], extend(unknown("start", MOST[call.width]))
+
+    def data(self, offset, size):
+        return self.call.input.bytes(add(self.first, offset), size)
+
+    def start(self, count):
+        run, end = self.call.begin(number(1), number(2)), add(self.first, self.length(count))
+        assume_at_most(end, self.call.length)
+        self.call.set_offsets(run, number(0), self.first, end)
+        self.filter = run.give(Bits(lambda index: self.answer, self.is_insert))
+        return run
+
+    def must_leave(self, run):
+        self.call.must_succeed(run)
+        self.filter.must_have_reached(1)
+        self.call.target.must_have_written([self.filter.contains(number(0))] * (not self.is_insert))
+
+
+BATCH = 32  # how many keys such a call hashes at a time
+
+
+class Batches(Values):
+    """Columns of any number of keys, each of so many bytes: a turn is a batch. So few keys that their offsets need no loop are
+    not among them: that is one at most, which `KeyOfColumn` has."""
+
+    def __init__(self, checked, key_size):
+        self.checked, self.call, self.key_size, self.least = checked, checked.call, key_size, checked.loop.least
+        if self.least > 2:
+            raise Stop("the loop over offsets is not reached with two keys")
+        self.left = add(any_left, number(self.least))
+        super().__init__(self.call.machine, self.call.is_insert, "", 0, BATCH)
+        self.bytes, self.width, self.first = key_size, MOST[self.call.width], extend(unknown("start", MOST[self.call.width]))
+
+    def number_of(self, count):
+        return add(mul(extend(count), number(BATCH)), self.left)
+
+    def offset(self, index):
+        return add(self.first, mul(index, number(self.key_size)))
+
+    def hash(self, index):
+        return FILTER.hash_of(self.call.input.bytes(self.offset(index), self.key_size))
+
+    def set_offsets(self, run, first, batches):
+        offsets = (self.offset(add(first, number(i))) for i in range(batches * BATCH + self.least))
+        self.call.set_offsets(run, first, *offsets)
+
+    def start(self, count):
+        n = self.number_of(count)
+        run = self.checked.after(n)
+        self.target, self.filter = self.call.target, run.give(Bits(self.hash, self.is_insert))
+        assume_at_most(self.offset(n), self.call.length)
+        return run
+
+    def suggestion(self, count):
+        run = self.start(count)
+        self.set_offsets(run, number(0), 8)
+        return run
+
+    def assume(self, run, words, turns, done, way):
+        super().assume(run, words, turns, done, way)
+        self.set_offsets(run, self.index(turns, done), 1)
+
+    def finish(self, loop):
+        turns = loop.turns_at_end()
+        for n in range(self.least, self.least + BATCH):
+            self.left = number(n)
+            loops.on_each_path(lambda: self.end(loop, turns, n))
+
+    def end(self, loop, turns, n):
+        run, _, _ = loop.at_end()
+        run.go()
+        self.call.must_succeed(run)
+        self.must_have_written(self.index(turns, loop.done), n - loop.done)
+
+
+def prove_texts(call):
+    """Wrong offsets; and right ones, of keys that are all as long."""
+    subject = Batches(prove_offsets(call), 5)
+    subject.finish(loops.Loop(subject, 0, 0))
+
+
 def column(call, lengths):
     offsets = [*itertools.accumulate(lengths, initial=3)]
     data, n = some("input", offsets[-1]), len(lengths)
@@ -348,7 +443,8 @@ def checks(machine):
     for is_insert, width in itertools.product((True, False), MOST):
         call = TextsCall(machine, is_insert, width)
         no_offsets = call.arguments(number(0), number(0), number(0))
-        yield call.function, partial(prove_offsets, call)
+        yield call.function, partial(prove_texts, call)
+        yield call.function, partial(prove_each_rest, partial(KeyOfColumn, call), 32)
         yield call.function, partial(wrong_lengths, machine, call.function, LENGTH)
         yield call.function, partial(check_call, machine, call.function, Call, no_offsets, [], OK)
         for lengths in KEY_LENGTHS:

@@ -54,8 +54,8 @@ class ColumnCall:
     def offset(self, index):
         return extend(join(*self.offsets.bytes(self.place(index), self.width // 8)))
 
-    def set_offset(self, run, index, value):
-        run.map(add(values, self.place(index)), [cut(value, 0, self.width)])
+    def set_offsets(self, run, index, *offsets):
+        run.map(add(values, self.place(index)), [cut(offset, 0, self.width) for offset in offsets])
 
     def must_fail(self, run, index):
         """Nothing else is written."""
@@ -187,8 +187,7 @@ class Keys(Elements):
     def suggestion(self, count):
         """Some keys of one byte."""
         run, self.first = self.start(count), extend(unknown("start", MOST[self.call.width]))
-        for i in range(12):
-            self.call.set_offset(run, number(i), add(self.first, number(i)))
+        self.call.set_offsets(run, number(0), *(add(self.first, number(i)) for i in range(12)))
         assume_at_most(add(self.first, number(12)), self.call.length)
         return run
 
@@ -212,8 +211,7 @@ class Keys(Elements):
         super().assume(run, words, turns, done, way)
         index, end = self.index(turns, done), add(words[0], self.size_of(way))
         assume_at_most(end, self.call.length)
-        self.call.set_offset(run, index, words[0])
-        self.call.set_offset(run, add(index, number(1)), end)
+        self.call.set_offsets(run, index, words[0], end)
 
     def ways(self):
         """A rest and any number of turns, and what is shorter."""
@@ -288,11 +286,7 @@ class Key(Pieces):
 
     def __init__(self, keys, loop, turns, left, rest, per):
         super().__init__(keys.hash, keys.start_of_key(), rest, per)
-        self.keys, self.at_keys = keys, lambda count: loop.at(turns, left, (rest, count))
-
-    def some(self, what, least=0):
-        width = MOST[self.keys.call.width] - (self.unit - 1).bit_length()
-        return extend(unknown((what, self.name), width, least))
+        self.keys, self.at_keys, self.width = keys, lambda count: loop.at(turns, left, (rest, count)), MOST[keys.call.width]
 
     def start(self, count):
         run, self.outer_words, self.before = self.at_keys(count)

@@ -67,11 +67,11 @@ class Subject:
     """
 
     name, per, optional = "loop", 1, 0
-    bytes = 8  # of the largest array, for each element
+    bytes, width = 8, SIZE  # of the largest array: those of an element, and how many bits its length has
 
     def some(self, what, least=0):
         """A number of turns."""
-        return extend(unknown((what, self.name), SIZE - (self.per * self.bytes - 1).bit_length(), least))
+        return extend(unknown((what, self.name), self.width - (self.per * self.bytes - 1).bit_length(), least))
 
     def elements_written(self):
         """How many are written at the first arrival, if the loop writes any; else None."""
@@ -123,7 +123,7 @@ class Loop:
     """A loop of a subject. `least` is the fewest turns of the calls that reach it; with `last` turns left it ends. A late head
     is behind the choice whether a turn is left: for a loop that reads an element a turn ahead."""
 
-    def __init__(self, subject, least, last, like, is_late=False):
+    def __init__(self, subject, least, last, like=None, is_late=False):
         """What a turn does may be suggested by another loop."""
         self.subject, self.least, self.last, self.is_late = subject, least, last, is_late
         if like:

@@ -212,20 +212,19 @@ class Machine:
             raise Stop("a read outside of what the call is given")
         return number(found[0], 8), 0
 
-    def bit_of_table(self, address, size):
+    def bit_of_table(self, address):
         """A word of a table of the library that has 2^i at index i, at an unknown index of five bits; else None."""
         start, factors = linear(sub(address, self.image))
-        pieces = [piece for piece, factor in factors.items() if piece[2] == 5 and factor == size == 4]
-        if len(factors) != 1 or not pieces:
+        if [(width, factor) for (_, _, width), factor in factors.items()] != [(5, 4)]:
             return None
         table = [self.byte_of_image(start + i) for i in range(128)]
         if table != [(number(1 << i >> bit & 255, 8), 0) for i in range(32) for bit in (0, 8, 16, 24)]:
             return None
-        return power_of_two((pieces[0],), 32)
+        return power_of_two(tuple(factors), 32)
 
     def load(self, address, size):
         (base, start), parts = place_of(address), []
-        bit = self.bit_of_table(address, size) if len(base) == 2 and size == 4 else None
+        bit = self.bit_of_table(address) if len(base) == 2 and size == 4 else None
         if bit is not None:
             return bit
         if base in (place_of(self.image)[0], self.base) or any((base, start + i) in self.bytes for i in range(size)):

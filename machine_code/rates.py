@@ -6,7 +6,7 @@ from functools import partial
 
 from calls import Call, Memory, bits, check_call
 from definitions import Definitions
-from values import number
+from values import extend, join, number, unknown
 
 RATE = Definitions("sketch_hash/specs/Words.antt", "sketch_bloom/specs/FoldRate.antt")
 SIZE = Definitions("sketch_bloom/specs/Size.antt")
@@ -73,7 +73,17 @@ def size(machine, keys, one_in):
     check_call(machine, "bloom_bytes_for", Call, [number(keys), number(one_in)], [], number(size_of(keys, one_in)))
 
 
+# A filter that cannot be folded; and what any number of keys has, and more than the largest filter holds.
+odd = extend(join(number(32, 6), unknown("pairs of blocks", 31)))
+most_keys, any_keys, any_rate = 128 << SIZE.max_log2_blocks, unknown("keys", 64), unknown("rate", 64, 2)
+too_many = unknown("too many keys", 64, most_keys + 1)
+PLAIN = [("bloom_fold_to", [bits, odd, unknown("any rate", 64)], odd), ("bloom_bytes_for", [any_keys, number(0)], number(0)),
+         ("bloom_bytes_for", [any_keys, number(1)], number(32)), ("bloom_bytes_for", [too_many, any_rate], number(0))]
+
+
 def checks(machine):
+    for function, arguments, result in PLAIN:
+        yield function, partial(check_call, machine, function, Call, arguments, [], result)
     for kind in KNOWN:
         yield "bloom_fold_to", partial(fold_to, machine, known_filter(*kind))
     for pair in PAIRS + LAST + [(keys + 1, one_in) for keys, one_in in LAST]:

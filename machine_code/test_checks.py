@@ -18,7 +18,7 @@ import pytest
 from conftest import DIST
 from definitions import FILTER, MURMUR, XXH64, of_hash
 from machine import Array
-from values import Stop, add, extend, mul, number, sub, unknown
+from values import Stop, add, bitwise, extend, mul, number, sub, unknown
 
 TEXT = DIST / "sketch_hash.c"
 HARDENED = "-fstack-protector-strong -fstack-clash-protection -D_FORTIFY_SOURCE=3 -fno-plt -Wl,-z,relro,-z,now".split()
@@ -185,8 +185,11 @@ def is_noticed(runs):
 
 # ---- planted code
 
-ASSEMBLERS = {"x86-64": "as", "aarch64": "aarch64-linux-gnu-as", "Windows": "x86_64-w64-mingw32-as"}
-LINKERS = {"x86-64": ["ld", "-z", "notext"], "aarch64": ["aarch64-linux-gnu-ld"],
+# What is for macOS is in ELF here, and said to be in Mach-O once it is read.
+ASSEMBLERS = {"x86-64": "as", "aarch64": "aarch64-linux-gnu-as", "macOS": "aarch64-linux-gnu-as", "packed": "as",
+              "Windows": "x86_64-w64-mingw32-as"}
+LINKERS = {"x86-64": ["ld", "-z", "notext"], "packed": ["ld", "-z", "pack-relative-relocs"],
+           "aarch64": ["aarch64-linux-gnu-ld"], "macOS": ["aarch64-linux-gnu-ld"],
            "Windows": ["x86_64-w64-mingw32-ld", "--export-all-symbols", "-e", "0"]}
 VERSION = f"mov eax, {calls.VERSION}; ret"
 ARM = f"mov w0, #{calls.VERSION & 0xFFFF}; movk w0, #{calls.VERSION >> 16}, lsl #16; ret"
@@ -197,14 +200,16 @@ def machine_of(need, tmp_path):
     """Of a library whose sketch_hash_version is some code."""
     def run(processor, code):
         need(ASSEMBLERS[processor])
-        syntax = "" if processor == "aarch64" else ".intel_syntax noprefix\n"
+        syntax = "" if processor in ("aarch64", "macOS") else ".intel_syntax noprefix\n"
         text = f"{syntax}.globl sketch_hash_version\nsketch_hash_version:\n{code}\n"
         subprocess.run([ASSEMBLERS[processor], "-o", tmp_path / "code.o", "-"], input=text, text=True, check=True)
         (tmp_path / "versions").write_text("V1 { global: sketch_hash_version; }; V2 { };")
         options = ["--version-script", tmp_path / "versions"] if ".symver" in code else []
         link = [*LINKERS[processor], "-shared", *options, "-o", tmp_path / "code", tmp_path / "code.o"]
         subprocess.run(link, check=True)
-        return checks.machine_of(library.read(tmp_path / "code"))
+        built = library.read(tmp_path / "code")
+        built.format = "macho" if processor == "macOS" else built.format
+        return checks.machine_of(built)
 
     return run
 
@@ -230,9 +235,11 @@ RIGHT = [
     ("aarch64", "".join(f"mvn x{n}, x{n}; " for n in range(19)) + ARM), ("x86-64", f"{COPY}; {VERSION}"),
     ("x86-64", f"mov rax, fs:0x28; mov [rsp-8], rax; sub rax, fs:0x28; jne 1f; {VERSION}; 1: call __stack_chk_fail@PLT"),
     ("x86-64", f"sub rsp, 24; mov rdi, rsp; mov edx, 9; call [rip+memset@GOTPCREL]; add rsp, 24; {VERSION}"),
-    ("aarch64", f"paciasp; autiasp; {ARM}"), ("aarch64", f"cmp x1, x1; cbz xzr, 1f; 1: b.ne 2f; {ARM}; 2: udf #0"),
+    ("aarch64", f"paciasp; autiasp; {ARM}"), ("aarch64", f"mov x3, #1; cmp x1, x1; cbnz x3, 1f; 1: b.ne 2f; {ARM}; 2: udf #0"),
     ("aarch64", f"{GUARD}; ldr x2, [x1]; ldr x3, [x1]; sub x2, x2, x3; cbnz x2, 1f; {ARM}; 1: udf #0"),
-    ("x86-64", f"lea rax, [rip+1f]; jmp [rip+2f]; 1: {VERSION}; .data; 2: .quad 1b"), ("x86-64", f"{FLAG} {DETECT}"),
+    *((processor, f"jmp [rip+2f+16]; 1: {VERSION}; .data; 2: .quad 1b, 1b, 1b") for processor in ("x86-64", "packed")),
+    ("x86-64", f"{FLAG} {DETECT}"), ("x86-64", f"mov ecx, [rip+1f]; lea eax, [rcx+{calls.VERSION}]; ret; .bss; 1: .long 0"),
+    ("macOS", f"str x0, [sp, #-128]; ldr x0, [sp, #-128]; {ARM}"),
     ("x86-64", f"{FLAG} {DETECT}".replace("jne 1f; 1:", "jne 1f; vpaddd ymm0, ymm0, ymm0; 1:")),
     ("x86-64", f"test edi, edi; jle 1f; 1: {VERSION}"),
     ("x86-64", LOOKED_UP + ", ".join(map(str, BITS))),
@@ -256,8 +263,10 @@ WRONG = [
     *((processor, f"not {name}; {VERSION}", f"{name} is not restored")
       for processor, names in KEPT.items() for name in names.split()),
     *(("Windows", f"pcmpeqb xmm{n}, xmm{n}; {VERSION}", f"xmm{n} is not restored") for n in range(6, 16)),
+    ("Windows", f"movlhps xmm6, xmm0; {VERSION}", "xmm6 is not restored"),
     *(("aarch64", f"mvn x{n}, x{n}; {ARM}", f"x{n} is not restored") for n in range(19, 30)),
     *(("aarch64", f"movi v{n}.16b, #1; {ARM}", f"v{n} is not restored") for n in range(8, 16)),
+    ("macOS", f"mvn x18, x18; {ARM}", "x18 is not restored"),
     # What the loader gives.
     ("x86-64", f"mov rax, [rsp]; mov ecx, 0xCA11E4; {OTHER}", "the result"),
     ("x86-64", f"lea rax, [rip+1f]; shr rax, 40; mov ecx, 1; {OTHER}", "the result"),
@@ -270,6 +279,18 @@ WRONG = [
     ("x86-64", f"{FLAG} mov byte ptr [rip+flag], 1; ret", "does not allow"),
     ("x86-64", f"{FLAG} {DETECT}".replace("1: mov", "1: vpaddd ymm0, ymm0, ymm0; mov"), "perhaps has none"),
     ("x86-64", f"{FLAG} {DETECT}".replace("cmp eax, 6", "test eax, eax"), "does not allow"),
+    ("x86-64", f"{FLAG} {DETECT}".replace("jne 1f; 1:", "jne 1f; xor eax, eax; ret; 1:"), "the result"),
+    *(("x86-64", f"{FLAG} {DETECT}".replace(*change), "does not allow|must not be") for change in (
+        ("and ebx, 1", "mov ebx, 1"), ("and ebx, 1", "and ebx, 1; add ebx, ebx"), ("7; xor ecx, ecx", "7; mov ecx, 1"),
+        ("cmp eax, 7; jb 9f; ", ""), ("xor ecx, ecx; xgetbv", "mov ecx, 1; xgetbv"))),
+    ("x86-64", f"{FLAG} {DETECT}".replace("1: mov", "1: vpbroadcastd xmm0, xmm0; mov"), "perhaps has none"),
+    ("x86-64", f"{FLAG} mov byte ptr [rip+flag], 1; ret".replace('.section .init_array, "aw"; .quad', ".set _init,")
+     + "; .globl _init", "does not allow"),
+    ("Windows", f"cmp byte ptr [rip+2f], 1; je 1f; {VERSION}; 1: xor eax, eax; ret; .section .bss; 2: .byte 0", "the result"),
+    ("x86-64", f"mov rax, [rip+2f@gottpoff]; xor ecx, ecx; {OTHER}; .section .tbss, \"awT\", @nobits; 2: .long 0",
+     "the result"),
+    ("x86-64", "jmp [rip+2f]; 1: ret; .globl other; .set other, 1b; .type other, @gnu_indirect_function; .data; 2: .quad other",
+     "no function is known"),
     ("x86-64", f"{FLAG} call puts@PLT", "a call of puts"),
     ("x86-64", f"{FLAG} mov byte ptr [rip+flag], 2; ret", "does not allow"), ("x86-64", f"{FLAG} jmp set", "no end"),
     ("x86-64", f"{FLAG} xor ecx, ecx; xgetbv; ret", "must not be"), ("x86-64", f"cpuid; {VERSION}", "must not be|depends"),
@@ -278,22 +299,32 @@ WRONG = [
     ("aarch64", f"paciasp; sub sp, sp, #16; autiasp; add sp, sp, #16; {ARM}", "a signature"),
     # Calls of the C library.
     ("x86-64", f"mov r8d, 1; {COPY}; mov eax, r8d; mov ecx, 1; {OTHER}", "the result"),
+    ("x86-64", "push rbx; mov rdi, rsp; lea rsi, [rdi-8]; xor edx, edx; call memmove@PLT; pop rbx; jne 1f; 1: " + VERSION,
+     "not known"),
+    ("aarch64", f"stp x30, x19, [sp, #-32]!; mov x19, x0; mov v8.d[1], x0; add x0, sp, #16; mov x2, #8; bl memset; "
+                f"mov x1, v8.d[1]; sub x1, x1, x19; ldp x30, x19, [sp], #32; cbnz x1, 1f; {ARM}; 1: udf #0", "udf"),
     ("x86-64", f"{COPY}; {VERSION}".replace("edx, 8", "rdx, rdi"), "the size"),
     ("x86-64", f"call puts@PLT; {VERSION}", "of puts"),
+    ("x86-64", f"mov rax, [rip+memset@GOTPCREL]; add rax, 4; call rax; {VERSION}", "no function"),
+    ("x86-64", f"mov dword ptr [rsp-104], 1; {COPY}; mov eax, [rsp-104]; mov ecx, 1; {OTHER}", "the result"),
     ("x86-64", f"{COPY}; {VERSION}".replace("+16]; mov edx", "+4]; mov edx"), "where it is from"),
     ("x86-64", f"{COPY}; {VERSION}".replace("rdi, rsp", "rdi, rcx"), "outside"),
     ("x86-64", f"{COPY}; {VERSION}".replace("edx, 8; call memcpy", "edx, 8; mov ecx, 7; call __memcpy_chk"), "does not fit"),
     ("x86-64", "sub rsp, 256; mov [rsp], rdi; add rsp, 256; sub rsp, 256; mov rax, [rsp]; add rsp, 256; "
                f"mov rcx, rdi; {OTHER}", "the result"),
     ("x86-64", f"vmovdqa ymm0, [rsp-40]; {VERSION}", "not aligned"),
-    ("x86-64", f"movapd xmm0, [rdi]; {VERSION}", "not aligned"),
+    *(("x86-64", f"{name} xmm0, [rdi]; {VERSION}", "not aligned") for name in ("movapd", "vmovapd", "vmovaps", "vmovdqa")),
     ("x86-64", LOOKED_UP + ", ".join(map(str, [*BITS[:31], 5])), "outside"),
     ("x86-64", LOOKED_UP.replace("27", "26") + ", ".join(map(str, BITS * 2)), "outside"),
+    ("x86-64", LOOKED_UP.replace("*4", "*2") + ", ".join(map(str, BITS)), "outside"),
+    ("x86-64", LOOKED_UP.replace("mov eax, edi", "lea rdx, [rip+__ehdr_start]; sub rcx, rdx; add rcx, rsp; mov eax, edi")
+     + ", ".join(map(str, BITS)) + "; .hidden __ehdr_start", "outside"),
     ("x86-64", f"push rbx; {VERSION}", "no function"),
     ("x86-64", f"mov rcx, [rsp]; push rcx; {VERSION}", "the stack pointer is not restored"),
     ("x86-64", f"sub rsp, 16; movaps [rsp], xmm0; add rsp, 16; {VERSION}", "not aligned"),
     ("x86-64", f"movaps xmm0, [rsp]; {VERSION}", "not aligned"), ("x86-64", f"paddd xmm0, [rsp-16]; {VERSION}", "not aligned"),
     ("x86-64", f"mov rcx, [rsp-136]; {VERSION}", "a read below the stack"),
+    ("x86-64", f"mov rcx, [rsp+8]; {VERSION}", "outside"),
     ("x86-64", f"mov [rsp-136], rcx; {VERSION}", "outside"),
     ("x86-64", f"push rcx; pop rcx; sub rsp, 8192; {VERSION}", "leaves the stack"),
     ("x86-64", f"sub rsp, 8192; push rcx; {VERSION}", "leaves the stack"),
@@ -304,14 +335,17 @@ WRONG = [
     *(("x86-64", f"{before}; jc 1f; 1: {VERSION}", "carry|not known") for before in (
         "imul rcx, rdx", "cmp rcx, rdx; inc rcx", "shl rcx, 3", "cmp rcx, rcx; rol rcx, 3", "ror rcx, 3", "add rcx, rdx",
         "mov rax, rdx",
-        "neg rcx; dec rcx", "shld rcx, rdx, 3", "shrd rcx, rdx, 3", "test rcx, rcx; sar rcx, 1")),
-    *(("x86-64", f"{before}; je 1f; 1: {VERSION}", "not known|understood") for before in ("imul rcx, rdx", "shld rcx, rdx, 3")),
+        "neg rcx; dec rcx", "shld rcx, rdx, 3", "shrd rcx, rdx, 3", "test rcx, rcx; sar rcx, 1", "cmp rcx, rcx; sbb rcx, rdx")),
+    *(("x86-64", f"{before}; je 1f; 1: {VERSION}", "not known|understood") for before in (
+        "imul rcx, rdx", "shld rcx, rdx, 3", "imul rcx, rdx; rol rcx, 3", "cmp rcx, rcx; sbb rcx, rdx", "bt rcx, 3",
+        "cmp rcx, rcx; mul rdx", "xor edx, edx; mov eax, 7; mov ecx, 3; cmp rcx, rcx; div ecx", "mov edx, 1; shl edx, cl")),
     ("x86-64", f"cmp rcx, rdx; jo 1f; 1: {VERSION}", "not known"), ("x86-64", f"cmp rcx, rdx; jl 1f; 1: {VERSION}", "signed"),
     ("x86-64", f"cmp rcx, rdx; jle 1f; 1: {VERSION}", "signed"), ("x86-64", f"test edi, edi; jg 1f; ud2; 1: {VERSION}", "ud2"),
     ("x86-64", f"mov ecx, {calls.VERSION}; mov rax, rdi; mov al, cl; ret", "the result"), ("x86-64", "ret", "the result"),
     ("x86-64", f"1: jmp 1b; {VERSION}", "no end"), ("x86-64", "ud2", "not known"), ("x86-64", f"std; {VERSION}", "not known"),
     ("x86-64", f"jmp rcx; {VERSION}", "no function"),
     ("x86-64", f"pop rcx; add rsp, 8; jmp rcx; {VERSION}", "leaves the stack"),
+    ("x86-64", f"mov rax, rsp; mov rsp, rdi; mov rsp, rax; {VERSION}", "leaves the stack"),
     *(("x86-64", f"{code}; {VERSION}", "not understood") for code in ("mov ah, 1", "mov rcx, ds:16")),
     ("x86-64", f"push rbp; mov rbp, rsp; and rsp, -32; movaps [rsp-8], xmm0; mov rsp, rbp; pop rbp; {VERSION}", "not aligned"),
     ("x86-64", f"xor ecx, ecx; mov rcx, [rcx+16]; {VERSION}", "outside"),
@@ -325,7 +359,10 @@ WRONG = [
     ("aarch64", f"sub sp, sp, #8; str x0, [sp]; add sp, sp, #8; {ARM}", "not aligned"),
     ("aarch64", f"ldr x1, [sp, #-16]; {ARM}", "below"),
     ("aarch64", f"mov x30, x0; {ARM}", "no function"), ("aarch64", f"adds x1, x1, x2; b.cs 1f; 1: {ARM}", "carry"),
-    ("aarch64", f"tst x1, x2; b.hi 1f; 1: {ARM}", "carry"), ("aarch64", f"cmp x1, x2; b.vs 1f; 1: {ARM}", "not understood"),
+    *(("aarch64", f"{before}; 1: {ARM}", "carry|not understood") for before in (
+        "tst x1, x2; b.hi 1f", "tst x1, x2; b.cs 1f", "adds x1, x1, x2; b.hi 1f", "cmp x1, x1; sbcs x3, x1, x2; b.cs 1f")),
+    ("aarch64", f"cmp x1, x1; sbcs x3, x1, x2; b.eq 1f; 1: {ARM}", "not known"),
+    ("aarch64", f"cmp x1, x2; b.vs 1f; 1: {ARM}", "not understood"),
 ]
 
 
@@ -360,6 +397,14 @@ def test_an_array_that_is_only_read_is_not_written(is_writable, reason, machine_
     run.give(array(is_writable))
     with refused(reason):
         run.store(calls.out, number(1, 8))
+
+
+@pytest.mark.parametrize("offset, reason", [(0, None), (-4, "outside"), (4, "outside")])
+def test_a_store_is_within_what_may_be_written(offset, reason, machine_of):
+    run = machine_of("x86-64", VERSION)()
+    run.map(calls.out, [number(0)], writable=True)
+    with refused(reason):
+        run.store(add(calls.out, number(offset)), number(1))
 
 
 @pytest.mark.parametrize("offset, size, is_within", [
@@ -400,6 +445,96 @@ def test_what_is_finished_is_not_accessed_again():
     assert written.offset_of(add(calls.out, number(8)), 8) and written.offset_of(add(calls.out, number(7)), 8) is None
 
 
+# ---- calls that write memory, and loops
+
+COPY_HASH = """.globl sketch_murmur3_x64_128_bytes; sketch_murmur3_x64_128_bytes:
+mov rax, [rdi]; mov [rsi], rax; mov rcx, [rdi+8]; mov [rsi+8], rcx; ret"""
+RESET = """.globl sketch_murmur3_x64_128_reset; sketch_murmur3_x64_128_reset:
+mov [rdi], rsi; mov [rdi+8], rsi; xor eax, eax; mov [rdi+16], rax; mov [rdi+24], rax; mov [rdi+32], rax; ret"""
+
+
+@pytest.mark.parametrize("code, before, after, reason", [
+    (COPY_HASH, "ud2", "ud2", None), (COPY_HASH, "mov [rsi+8], rcx", "", "what is written"),
+    (COPY_HASH, "ret", "mov [rdi], rcx; ret", "outside"), (COPY_HASH, "ret", "mov [rsi+16], rcx; ret", "outside"),
+    (RESET, "ud2", "ud2", None), (RESET, "mov [rdi+32], rax", "", "what is written"),
+])
+def test_a_call_that_writes_other_bytes_is_refused(code, before, after, reason, machine_of):
+    machine = machine_of("x86-64", f"{VERSION}\n{code.replace(before, after)}")
+    with refused(reason):
+        if code == RESET:
+            calls.check_call(machine, "murmur3_x64_128_reset", hashes.reset, "murmur")
+        else:
+            calls.check_call(machine, "murmur3_x64_128_bytes", hashes.bytes_call)
+
+
+UNION = """movdqu xmm0, [rdx+rax]; movdqu xmm1, [rdi+rax]; por xmm0, xmm1; movdqu [rdi+rax], xmm0
+movdqu xmm0, [rdx+rax+16]; movdqu xmm1, [rdi+rax+16]; por xmm0, xmm1; movdqu [rdi+rax+16], xmm0; add rax, 32"""
+MERGE = f""".globl sketch_bloom_merge; sketch_bloom_merge:
+shr rsi, 5; xor eax, eax; 1: {UNION}
+sub rsi, 1; jne 1b; 3: xor eax, eax; ret; 9: movdqu [rdi+rax], xmm7; jmp 8b"""
+MERGE_PAIRS = f""".globl sketch_bloom_merge; sketch_bloom_merge:
+shr rsi, 5; xor eax, eax; cmp rsi, 1; je 2f; 1: {UNION}; {UNION}
+sub rsi, 2; cmp rsi, 1; ja 1b; jb 3f; 2: {UNION}; 3: xor eax, eax; ret"""
+WRONG_BLOCK = "movdqu [rdi+rax-32], xmm7"
+
+
+@pytest.mark.parametrize("code, before, after, reason", [
+    (MERGE, "1:", "1: 8:", None), (MERGE_PAIRS, "ud2", "ud2", None),
+    (MERGE, "eax; ret", "eax; inc eax; ret", "the result"),
+    (MERGE, "1:", f"1: {WRONG_BLOCK.replace('-32', '')}; 8:", "definitions"),
+    # In the first turn, in a later one, in each but the first one, in the last but one, and in the last one.
+    (MERGE, "1:", "cmp rsi, 3; ja 1f; cmp rsi, 1; je 1f; movdqu [rdi+32], xmm7; 1: 8:", "definitions"),
+    (MERGE, "sub rsi", "cmp rax, 3200; jne 2f; add rax, 32; 2: 8: sub rsi", "."), (MERGE, "1:", "1: jne 9f; 8:", "not known"),
+    *((MERGE, "sub rsi", f"cmp rsi, {n}; jne 2f; {WRONG_BLOCK}; 2: 8: sub rsi", "definitions") for n in (1, 2)),
+    (MERGE, "sub rsi, 1; jne", "8: sub rsi, 1; cmp rsi, 1; ja", "before its last turn"),
+    # What a turn leaves for the next one is not as in the first ones.
+    (MERGE, "1:", "xor r8d, r8d; 1: movq xmm2, r8; por xmm7, xmm2; mov r8, rax; shr r8, 12; 8:", None),
+    (MERGE, "1:", "xor r8d, r8d; 1: or [rdi+rax], r8; mov r8, rax; shr r8, 12; 8:", "definitions"),
+    (MERGE_PAIRS, "jb 3f; 2:", "jmp 3f; 2:", "definitions|not all"), (MERGE_PAIRS, "je 2f", "je 3f", "not all"),
+])
+def test_a_loop_that_breaks_a_rule_is_refused(code, before, after, reason, machine_of):
+    text = code.replace(before, after, 1)
+    machine = machine_of("x86-64", f"{VERSION}\n{text if '8:' in text else text.replace('8b', '1b')}")
+    make = partial(filters.Merge, machine, True)
+
+    def run():
+        if code == MERGE_PAIRS:
+            return loops.prove_each_rest(make)
+        for n in range(1, loops.prove(partial(make, 0), [1]).least):
+            make(n, 1).few()
+
+    with refused(reason):
+        loops.on_each_path(run)
+
+
+# ---- the blocks of a filter that a call reaches
+
+def block_at(i, n):
+    return add(calls.bits, add(mul(filters.block_of(unknown(("hash", i), 64)), number(32)), number(n)))
+
+
+@pytest.mark.parametrize("is_writable", [True, False])
+def test_a_call_is_within_the_blocks_of_its_keys(is_writable):
+    """It may write the blocks of one key after the other, and read those of any."""
+    filter = filters.Bits(lambda index: unknown(("hash", index[0][1]), 64), is_writable)
+    assert filter.offset_of(block_at(0, 0), 32) == (0, 0) and filter.offset_of(block_at(0, 28), 4) == (0, 28)
+    for outside in (block_at(0, 28), 5), (block_at(0, -1), 4), (calls.out, 4):
+        assert filter.offset_of(*outside) is None
+    filter.load((0, 0), 4)
+    assert (filter.offset_of(block_at(2, 0), 4) is None) == is_writable
+    if is_writable:
+        with refused("what is inserted"):
+            filter.load((1, 0), 4)
+        filter.store((0, 0), bitwise("or", *filter.block(0)[1:3]))
+        filter.load((1, 0), 4)
+        with refused("what is inserted"):
+            filter.must_have_reached(2)
+        filter.store((1, 0), bitwise("or", *filter.block(1)[1:3]))
+        with refused("not as many keys"):
+            filter.must_have_reached(1)
+    assert (filter.offset_of(block_at(0, 0), 4) is None) == is_writable
+
+
 # ---- a loop that checks offsets, and loads each a turn ahead
 
 AHEAD = """.globl sketch_bloom_insert_each64; sketch_bloom_insert_each64:
@@ -412,8 +547,10 @@ mov rdi, rax; mov rax, [r8+rdx*8]; cmp rax, rdi; jae 1b
 @pytest.mark.parametrize("before, after, reason", [
     ("ud2", "ud2", None), ("[r8]; 1:", "[r8]; cmp r9, 2; jne 3f; 1:", "not what the definitions say"),
     ("jae 1b", "jmp 1b", "does not end"), ("jae 1b", "ja 1b", "depends on"), ("jb 2f", "ja 2f", "depends on"),
-    ("cmp r11, rax; jb 2b", "", "ud2"),
-    ("cmp rcx, r11; jb 2b", "", "ud2"), ("mov rdi, rax", "mov rdi, rcx", "depends on"),
+    ("cmp r11, rax; jb 2b", "", "ud2"), ("cmp r11, rax; jb 2b", "cmp r11, rax; jae 6f; cmp rdx, 100; jb 2b; 6:", "ud2"),
+    ("cmp rcx, r11; jb 2b", "", "ud2"), ("mov rdi, rax", "mov rdi, rcx", "depends on"), ("eax, -2", "eax, -1", "the result"),
+    ("jb 2f; 3:", "3:", "does not end"), ("3: inc", "3: cmp rdx, 100; je 2f; inc", "a right offset ends the call"),
+    ("[r8]; 1:", "[r8]; cmp r9, 3; ja 1f; xor eax, eax; 1:", "not what the definitions say"),
     ("xor edx", "cmp r9, 2; je 5f; xor edx", "ud2"), ("inc rdx", "add rdx, 2", "none of the subject"),
 ])
 def test_a_loop_that_is_ahead_is_followed(before, after, reason, machine_of):

@@ -65,7 +65,7 @@ def x86_forms(has_512):
                 "push rbp; mov rbp,rsp; push rax; leave; mov ebp,0", "call 1f; not rax; 1: pop rcx; mov ecx,0",
                 "lea rax,[rip+here]; lea rcx,[rip+here+8]; sub rax,rcx; mov ecx,0",
                 "lea rax,[rip+1f]; jmp rax; not rcx; 1: mov eax,0")
-    powers = ((127 + n) << 23 for n in (0, 1, 20, 30, 31))  # as floats
+    powers = ((127 + n) << 23 for n in (0, 1, 20, 30, 31, 32))  # as floats
     yield from (f"mov eax,{power}; movd xmm1,eax; pshufd xmm1,xmm1,0; cvttps2dq xmm0,xmm1" for power in powers)
     for letter, what in itertools.product("bwdq", ("stos", "movs")):
         yield f"lea rdi,[r15+392]; lea rsi,[r15+480]; and ecx,7; rep {what}{letter}; mov esi,0"

@@ -18,6 +18,8 @@ assumed = []  # what the present path assumes, as pairs of the next two
 facts = {}  # values, and what they equal
 equations = []  # what those that are sums say of a piece of each: that it equals a number and pieces with factors
 bounds = []  # sums, each as a number and factors of pieces, that are not negative as integers
+having = {}  # by piece the indices of the bounds that have it
+implied = {}  # questions about sums, and whether the bounds answer them
 remember = functools.lru_cache(1 << 16)
 
 
@@ -49,6 +51,11 @@ def assume(ways):
     assumed[:] = ways
     equalities = dict(pair for way in ways for pair in way[0].items())
     bounds[:] = [bound for way in ways for bound in way[1]]
+    having.clear()
+    implied.clear()
+    for i, (_, factors) in enumerate(bounds):
+        for piece in factors:
+            having.setdefault(piece, []).append(i)
     if equalities != facts:
         facts.clear()
         facts.update(equalities)
@@ -239,13 +246,20 @@ def is_not_negative(n, factors, depth=2):
     n, factors = in_lowest_terms(n, factors)
     if limits(n, factors)[0] >= 0:
         return True
-    if depth == 0:
-        return False
-    for m, others in bounds:
-        for times in {factors[piece] // factor for piece, factor in others.items() if factors.get(piece, 0) * factor > 0}:
-            multiple = times * m, {piece: times * factor for piece, factor in others.items()}
-            if times > 0 and is_not_negative(*difference((n, factors), multiple), depth - 1):
-                return True
+    question = n, tuple(factors.items()), depth
+    if depth and question not in implied:
+        implied[question] = exceeds_bounds(n, factors, depth)
+    return depth > 0 and implied[question]
+
+
+def exceeds_bounds(n, factors, depth):
+    alike = {(i, factor // bounds[i][1][piece]) for piece, factor in factors.items() for i in having.get(piece, ())
+             if factor * bounds[i][1][piece] > 0}
+    for i, times in sorted(alike):
+        m, others = bounds[i]
+        multiple = times * m, {piece: times * factor for piece, factor in others.items()}
+        if times > 0 and is_not_negative(*difference((n, factors), multiple), depth - 1):
+            return True
     return False
 
 

@@ -455,7 +455,7 @@ def plan(op, text):
     if name not in OPERATIONS or name[:2] == "bt" and memory[0] and operands[1][0] == "register":
         raise Stop("the instruction is not known")
     width = max(item[2] or 0 for item in operands)
-    is_aligned = not UNALIGNED.fullmatch(name) and (not is_avx or name[:4] in ("mova", "movd") and name[3] in "ad")
+    is_aligned = not UNALIGNED.fullmatch(name) and (not is_avx or name[:4] in ("mova", "movd"))
     is_avx2 = is_avx and bool(name[0] == "p" and width > 128 and name != "ptest" or AVX2.match(name))
     takes_ints = name in PLAIN and name not in SAME
     used = [(item, item[0] == "number" and takes_ints) for item in operands[-READS[name] :]]
@@ -516,7 +516,7 @@ class X86(Machine):
         return number(what, width) if kind == "number" else cut(self.registers[what], 0, own)
 
     def write(self, operand, value, clears):
-        """A write of 32 or 64 bits clears the higher ones; one of 8 or 16 keeps them, and SSE's of 128, but not AVX's."""
+        """A write of 32 bits clears the higher ones; one of 8 or 16 keeps them, and SSE's of 128, but not AVX's."""
         kind, what, width, _ = operand
         if (size := width_of(value)) != width:
             value = cut(extend(value, max(width, size)), 0, width)
@@ -524,7 +524,7 @@ class X86(Machine):
             return self.store(self.address(what), value)
         before = self.registers[what]
         if (whole := width_of(before)) > width:
-            keeps = not clears and width not in (32, 64)
+            keeps = not clears and width != 32
             value = join(value, cut(before, width, whole - width)) if keeps else extend(value, whole)
         self.registers[what] = value
 
@@ -662,7 +662,7 @@ class X86(Machine):
         """Each that constructors may meet, and whether code for AVX2 may run on it."""
         for leaves, osxsave, saved, avx2 in itertools.product((0, 6, 7), (0, 1), range(4), (0, 1)):
             found = {"leaves": leaves, "osxsave": osxsave, "saved": saved, "avx2": avx2}
-            yield found, leaves >= 7 and osxsave and saved == 3 and avx2
+            yield found, saved == 3 and avx2  # without xgetbv or leaf 7 the code cannot know of either
 
     # ---- the stack, and jumps
 
