@@ -94,16 +94,15 @@ class Bits:
 
     def begin(self, first):
         """The next key has this index."""
-        self.first, self.reached, self.blocks, self.bases = first, 0, [], {}
+        self.first, self.reached, self.blocks = first, 0, []
 
     def block(self, i):
-        """Of key first + i: the offset of its address from a base, what is in it, the key's bits, and what is written."""
+        """Of key first + i: its place, what is in it, the key's bits, and what is written."""
         for i in range(len(self.blocks), i + 1):
             index = add(self.first, number(i))
             hash, before = self.hash(index), join(*(unknown(("block", place_of(index), w), 32) for w in range(8)))
-            base, at = place_of(add(bits, join(number(0, 5), cut(block_of(hash), 0, 59))))
-            self.blocks.append((at, before, mask_of(hash), {}))
-            self.bases.setdefault(base, []).append(i)
+            place = place_of(add(bits, join(number(0, 5), cut(block_of(hash), 0, 59))))
+            self.blocks.append((place, before, mask_of(hash), {}))
         return self.blocks[i]
 
     def contains(self, index):
@@ -128,12 +127,11 @@ class Bits:
         if not self.blocks and self.hash(self.first) is None:
             return None  # the key is not known yet
         first, last = (self.reached - 1, self.reached) if self.is_writable else (0, self.reached + 3)
-        self.block(last)
         base, at = place_of(address)
-        for i in self.bases.get(base, ()):
-            n = at - self.block(i)[0]
-            if first <= i <= last and 0 <= n <= 32 - size:
-                return i, n
+        for i in range(max(first, 0), last + 1):  # there is no block of a key behind the last one
+            own, start = self.block(i)[0]
+            if own == base and 0 <= at - start <= 32 - size:
+                return i, at - start
 
     def reach(self, i):
         if self.is_writable and i == self.reached and i:
@@ -317,7 +315,7 @@ class KeyOfColumn(Key):
 
     def __init__(self, call, rest, per):
         super().__init__(call.machine, call.is_insert, rest, per)
-        self.call, self.width, self.first = call, MOST[call.width], extend(unknown("start", MOST[call.width]))
+        self.call, self.length_bits, self.first = call, MOST[call.width], extend(unknown("start", MOST[call.width]))
 
     def data(self, offset, size):
         return self.call.input.bytes(add(self.first, offset), size)
@@ -348,7 +346,8 @@ class Batches(Values):
             raise Stop("the loop over offsets is not reached with two keys")
         self.left = add(any_left, number(self.least))
         super().__init__(self.call.machine, self.call.is_insert, "", 0, BATCH)
-        self.bytes, self.width, self.first = key_size, MOST[self.call.width], extend(unknown("start", MOST[self.call.width]))
+        self.bytes, self.length_bits = key_size, MOST[self.call.width]
+        self.first = extend(unknown("start", MOST[self.call.width]))
 
     def number_of(self, count):
         return add(mul(extend(count), number(BATCH)), self.left)
