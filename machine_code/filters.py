@@ -128,12 +128,15 @@ class Bits:
         if not self.blocks and self.hash(self.first) is None:
             return None  # the key is not known yet
         first, last = (self.reached - 1, self.reached) if self.is_writable else (0, self.reached + 3)
-        self.block(last)
         base, at = place_of(address)
-        for i in self.bases.get(base, ()):
-            n = at - self.block(i)[0]
-            if first <= i <= last and 0 <= n <= 32 - size:
-                return i, n
+        while True:
+            for i in self.bases.get(base, ()):
+                n = at - self.block(i)[0]
+                if first <= i <= last and 0 <= n <= 32 - size:
+                    return i, n
+            if len(self.blocks) > last:
+                return None
+            self.block(len(self.blocks))  # perhaps it is of the next key
 
     def reach(self, i):
         if self.is_writable and i == self.reached and i:

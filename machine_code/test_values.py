@@ -43,7 +43,9 @@ def random_operation(pick):
         (lambda x, y: mul(x, number(factor)), lambda x, y: x * factor),
         *((functools.partial(bitwise, op), on_numbers) for op, on_numbers in values.BITS.items()),
         (lambda x, y: bitwise("and", x, number(factor)), lambda x, y: x & factor),
-        (lambda x, y: complement(x), lambda x, y: ~x), (lambda x, y: extend(is_zero(x)), lambda x, y: x == 0),
+        (lambda x, y: complement(x), lambda x, y: ~x),
+        (lambda x, y: add(complement(bitwise("xor", x, y)), y), lambda x, y: ~(x ^ y) + y),
+        (lambda x, y: extend(is_zero(x)), lambda x, y: x == 0),
         (lambda x, y: extend(is_zero(complement(is_zero(x)))), lambda x, y: x == 0),
         (lambda x, y: extend(is_zero(cut(bitwise("or", x, y), n, width))), lambda x, y: (x | y) >> n & ones == 0),
         (lambda x, y: extend(cut(x, n, width)), lambda x, y: x >> n & ones),
@@ -80,7 +82,7 @@ def test_a_rule_gives_an_equal_value():
         value = extend(unknown(("any", i), width, pick.choice([0, 1])))
         pool.append((value, [number_of(value, world, pick) for world in known]))
     for _ in range(10_000):
-        (x, xs), (y, ys) = (pick.choice(pool[-80:]) for _ in range(2))
+        (x, xs), (y, ys) = (pick.choice(pick.choice([pool[:60], pool[-80:]])) for _ in range(2))
         on_values, on_numbers = random_operation(pick)
         value, numbers = on_values(x, y), [int(on_numbers(*pair)) % WORD for pair in zip(xs, ys)]
         assert [number_of(value, world, pick) for world in known] == numbers
@@ -149,6 +151,8 @@ def test_a_sum_that_is_a_number_says_what_its_pieces_are():
     whole, more = add(x, y), add(x, mul(y, number(3)))
     with values.assuming([({whole: number(5)}, [])]):
         assert add(x, mul(y, number(3))) == add(mul(y, number(2)), number(5)) == add(mul(x, number(-2)), number(15))
+    with values.assuming([({cut(whole, 0, 32): number(5, 32)}, [])]):
+        assert add(x, mul(y, number(3))) == more
     assert add(x, mul(y, number(3))) == more
 
 
