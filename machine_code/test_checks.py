@@ -15,6 +15,7 @@ import keys
 import library
 import loops
 import pytest
+import rates
 from conftest import DIST
 from definitions import FILTER, MURMUR, XXH64, of_hash
 from machine import Array
@@ -26,8 +27,8 @@ COMPILERS = {"gcc": ["gcc", *HARDENED, "-fcf-protection=full"], "clang": ["clang
              "aarch64": ["aarch64-linux-gnu-gcc", *HARDENED, "-mbranch-protection=standard"]}
 
 
-def build(compiler, path, *change):
-    subprocess.run([*compiler, "-O2", "-fPIC", "-shared", *change, "-I", DIST / "include", TEXT, "-o", path], check=True)
+def build(compiler, path, *change, text=TEXT):
+    subprocess.run([*compiler, "-O2", "-fPIC", "-shared", *change, "-I", DIST / "include", text, "-o", path], check=True)
 
 
 @pytest.fixture(scope="session")
@@ -505,6 +506,61 @@ def test_a_loop_that_breaks_a_rule_is_refused(code, before, after, reason, machi
 
     with refused(reason):
         loops.on_each_path(run)
+
+
+# ---- a library with a wrong line in some of its functions: what is changed, into what, and checks that must refuse it
+
+def column_of(machine, hash):
+    return keys.ColumnCall(machine, f"{calls.NAMES[hash]}_each64", 64, 8 if hash == "xxh64" else 16)
+
+
+def texts(machine, is_insert):
+    return filters.TextsCall(machine, is_insert, 64)
+
+
+REPORT = "    return skh_report_offset(result.is_error, result.value, wrong_offset);\n"
+NEXT = "        start += hashes_count;\n    }\n    return SKETCH_OK;\n}\n\n/* Writes 1 or 0 to found[i] for the four"
+WRONG_LINES = [
+    ("skh_xxh64_hash(skh_slice(input), length, seed)", "skh_xxh64_hash(skh_slice(input), length, seed) + (length == 500)"),
+    ("hash[1] = pair.second", "hash[1] = pair.second + (length == 500)"),
+    ("skh_xxh64_write(state, skh_slice(input), length)", "skh_xxh64_write(state, skh_slice(input), length - (length == 500))"),
+    (REPORT, f"if (result.is_error && count) *(char *)out = 1; if (!result.is_error) *wrong_offset = 0;\n{REPORT}"),
+    ("option = skh_bloom_bytes_for(keys, one_in)", "option = skh_bloom_bytes_for(keys, one_in + (keys == 9))"),
+    # In columns of texts, of long keys and of many; and in one of hashes.
+    ("skh_get64(offsets + i + start + 1) - offset, 0)", "(uint32_t)(skh_get64(offsets + i + start + 1) - offset), 0)"),
+    (NEXT, NEXT.replace("hashes_count;", "hashes_count + (start == 6400);")),
+    ("(skh_slice_mut(bits), length, hashes, count)", "(skh_slice_mut(bits), length, hashes, count - (count == 100))"),
+]
+REFUSED = [
+    (lambda m: loops.prove(partial(hashes.OneCall, m, "xxh64", 500 % 32), [1]), "the result"),
+    (lambda m: loops.prove(partial(hashes.OneCall, m, "murmur", 500 % 16), [1]), "what is written"),
+    (lambda m: loops.prove(partial(hashes.Update, m, "xxh64", 3, 500 - 29 & 31), [1]), "depends on"),
+    (lambda m: keys.prove_offsets(column_of(m, "xxh64")), "more is written"),
+    (lambda m: column_of(m, "xxh64").few(), "what is written"),
+    (lambda m: [run() for name, run in rates.checks(m) if name == "bloom_bytes_for"], "the result"),
+    (lambda m: loops.prove(partial(filters.KeyOfColumn, texts(m, True), 0), [1]), "depends on"),
+    (lambda m: filters.prove_texts(texts(m, False)), "none of the subject"),
+    (lambda m: loops.prove(partial(filters.Values, m, True, "hash", 0), [1, 2]), "before its last turn"),
+]
+
+
+@pytest.fixture(scope="module")
+def wrong_library(need, tmp_path_factory):
+    need("gcc")
+    text, path = TEXT.read_text(), tmp_path_factory.mktemp("wrong")
+    for before, after in WRONG_LINES:
+        assert before in text
+        text = text.replace(before, after, -1 if before == REPORT else 1)
+    (path / "wrong.c").write_text(text)
+    build(["gcc"], path / "wrong.so", text=path / "wrong.c")
+    return library.read(path / "wrong.so")
+
+
+@pytest.mark.parametrize("run, reason", REFUSED)
+def test_a_wrong_line_is_refused(run, reason, wrong_library):
+    machine = checks.machine_of(wrong_library)
+    with refused(reason):
+        loops.on_each_path(lambda: run(machine))
 
 
 # ---- the blocks of a filter that a call reaches
