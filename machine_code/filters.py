@@ -344,6 +344,8 @@ BATCH = 32  # how many keys such a call hashes at a time
 class Batches(Values):
     """Columns of any number of keys, each of so many bytes: a turn is a batch, and the last one has from 1 to 32 keys."""
 
+    tries = 2, 4
+
     def __init__(self, checked, key_size):
         self.checked, self.call, self.key_size, self.left = checked, checked.call, key_size, add(any_left, number(1))
         super().__init__(self.call.machine, self.call.is_insert, "", 0, BATCH)

@@ -317,7 +317,8 @@ WRONG = [
     *(("x86-64", f"{name} xmm0, [rdi]; {VERSION}", "not aligned") for name in ("movapd", "vmovapd", "vmovaps", "vmovdqa")),
     ("x86-64", LOOKED_UP + ", ".join(map(str, [*BITS[:31], 5])), "outside"),
     ("x86-64", LOOKED_UP.replace("27", "26") + ", ".join(map(str, BITS * 2)), "outside"),
-    ("x86-64", LOOKED_UP.replace("*4", "*2") + ", ".join(map(str, BITS)), "outside"),
+    *(("x86-64", LOOKED_UP.replace(*change) + ", ".join(map(str, BITS)), "outside") for change in (
+        ("*4", "*2"), ("1: .long", ".data; 1: .long"))),
     ("x86-64", LOOKED_UP.replace("mov eax, edi", "lea rdx, [rip+__ehdr_start]; sub rcx, rdx; add rcx, rsp; mov eax, edi")
      + ", ".join(map(str, BITS)) + "; .hidden __ehdr_start", "outside"),
     ("x86-64", f"push rbx; {VERSION}", "no function"),
