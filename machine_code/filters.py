@@ -291,8 +291,8 @@ def wrong_folds(machine):
         check_call(machine, "bloom_fold", Call, [bits, length], [], LENGTH)
 
 
-# ---- columns of texts: offsets of any number, and keys of known lengths. Such a call hashes 32 keys at a time to its stack, in
-# a loop over batches, one over keys and one over pieces. The induction does not follow these.
+# ---- columns of texts. Such a call hashes 32 keys at a time to its stack, in a loop over batches, one over keys and one over
+# pieces. The induction follows that over batches if all keys have one length, and that over pieces if there is one key.
 
 # The lengths of keys: each to 96, so that there are four batches, and some that are not in order and longer.
 KEY_LENGTHS = [*range(97)], [k * 37 % 101 for k in range(70)], [2100, 0, 3, 515], []

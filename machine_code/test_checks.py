@@ -18,7 +18,7 @@ import pytest
 import rates
 from conftest import DIST
 from definitions import FILTER, MURMUR, XXH64, of_hash
-from machine import Array
+from machine import Array, Machine
 from values import Stop, add, bitwise, extend, mul, number, sub, unknown
 
 TEXT = DIST / "sketch_hash.c"
@@ -369,7 +369,8 @@ WRONG = [
 
 
 @pytest.mark.parametrize("processor, code, reason", [*((*row, None) for row in RIGHT), *WRONG], ids=str)
-def test_code_that_breaks_a_rule_is_refused(processor, code, reason, machine_of):
+def test_code_that_breaks_a_rule_is_refused(processor, code, reason, machine_of, monkeypatch):
+    monkeypatch.setattr(Machine, "limit", 10_000)  # a loop without an end is noticed earlier
     with refused(reason):
         calls.check_call(machine_of(processor, code), "hash_version", calls.Call, [], [], number(calls.VERSION, 32))
 
