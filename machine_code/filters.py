@@ -242,7 +242,7 @@ def keys_of_wrong_lengths(machine, is_insert):
         KeyOfWrongLength(machine, is_insert, length, n, 1).few()
 
 
-any_hash, any_left = unknown("hash", 64), extend(unknown("left", 5))
+any_hash = unknown("hash", 64)
 
 
 def one_key(machine, is_insert, function, arguments, hash):
@@ -294,12 +294,12 @@ def wrong_folds(machine):
 # ---- columns of texts. Such a call hashes 32 keys at a time to its stack, in a loop over batches, one over keys and one over
 # pieces. The induction follows that over batches if all keys have one length, and that over pieces if there is one key.
 
-# The lengths of keys: each to 96, so that there are four batches, and some that are not in order and longer.
-KEY_LENGTHS = [*range(97)], [k * 37 % 101 for k in range(70)], [2100, 0, 3, 515], []
+# The lengths of keys: each to 100, so that there are four batches, and some that are longer.
+KEY_LENGTHS = [k * 37 % 101 for k in range(101)], [2100, 0, 3, 515], []
 
 
 class TextsCall(ColumnCall):
-    """To insert a column takes as many keys as its offsets bound. Only calls that fail come to an end here."""
+    """To insert a column takes as many keys as its offsets bound."""
 
     def __init__(self, machine, is_insert, width):
         super().__init__(machine, f"{name_of(is_insert)}_each{width}", width, 0 if is_insert else 1)
@@ -347,9 +347,10 @@ class Batches(Values):
     tries = 2, 4
 
     def __init__(self, checked, key_size):
-        self.checked, self.call, self.key_size, self.left = checked, checked.call, key_size, add(any_left, number(1))
-        super().__init__(self.call.machine, self.call.is_insert, "", 0, BATCH)
-        self.bytes, self.width, self.first = key_size, MOST[self.call.width], extend(unknown("start", MOST[self.call.width]))
+        super().__init__(checked.call.machine, checked.call.is_insert, "", 0, BATCH)
+        self.checked, self.call, self.key_size, self.bytes = checked, checked.call, key_size, key_size
+        self.width, self.first = MOST[self.call.width], extend(unknown("start", MOST[self.call.width]))
+        self.left = add(extend(unknown("left", 5)), number(1))
 
     def number_of(self, count):
         return add(mul(extend(count), number(BATCH)), self.left)
