@@ -252,7 +252,12 @@ RIGHT = [
     ("aarch64", f"cmp x1, x1; csinv x3, x9, xzr, ne; csinv x4, x9, x9, eq; eor x4, x4, x9; sub x3, x3, x4; mvn x3, x3; "
                 f"cbnz x3, 1f; {ARM}; 1: udf #0"),
     ("x86-64", f"mov rax, rsp; and rsp, -64; sub rsp, 64; movaps [rsp], xmm1; mov rsp, rax; {VERSION}"),
-    # A move of 64 bits clears the rest of a vector.
+    *(("aarch64", f"cmp x1, x1; ccmp x1, x1, {bits}, ne; b.{name} 2f; {ARM}; 2: udf #0")
+      for bits, name in (("#0", "eq"), ("#4", "ne"), ("#2", "cc"), ("#0", "cs"))),
+    ("aarch64", "mov x1, #-1; mov x2, #1; adds x3, x1, x2; b.cc 2f; adcs x3, xzr, xzr; b.cs 2f; cmp x3, x2; b.ne 2f; "
+                f"adc x3, xzr, xzr; b.ne 2f; {ARM}; 2: udf #0"),
+    # AVX clears the rest of a vector, and so does a move of 64 bits.
+    ("x86-64", f"vpxor xmm1, xmm1, xmm1; vextracti128 xmm2, ymm1, 1; movq rax, xmm2; add eax, {calls.VERSION}; ret"),
     ("x86-64", f"movq xmm1, xmm0; movq rax, xmm1; movq rcx, xmm0; sub rax, rcx; add eax, {calls.VERSION}; ret"),
     ("x86-64", f"movq xmm1, xmm0; pextrq rax, xmm1, 1; add eax, {calls.VERSION}; ret"),
     ("x86-64", f"mov rcx, [rsp-8]; {VERSION}"),  # nothing has written it
@@ -337,7 +342,8 @@ WRONG = [
     *(("x86-64", f"{before}; jc 1f; 1: {VERSION}", "carry|not known") for before in (
         "imul rcx, rdx", "cmp rcx, rdx; inc rcx", "shl rcx, 3", "cmp rcx, rcx; rol rcx, 3", "ror rcx, 3", "add rcx, rdx",
         "mov rax, rdx",
-        "neg rcx; dec rcx", "shld rcx, rdx, 3", "shrd rcx, rdx, 3", "test rcx, rcx; sar rcx, 1", "cmp rcx, rcx; sbb rcx, rdx")),
+        "neg rcx; dec rcx", "shld rcx, rdx, 3", "shrd rcx, rdx, 3", "test rcx, rcx; sar rcx, 1", "cmp rcx, rcx; sbb rcx, rdx",
+        "xor ecx, ecx; cmp ecx, 1; inc ecx")),
     *(("x86-64", f"{before}; je 1f; 1: {VERSION}", "not known|understood") for before in (
         "imul rcx, rdx", "shld rcx, rdx, 3", "imul rcx, rdx; rol rcx, 3", "cmp rcx, rcx; sbb rcx, rdx", "bt rcx, 3",
         "cmp rcx, rcx; mul rdx", "xor edx, edx; mov eax, 7; mov ecx, 3; cmp rcx, rcx; div ecx", "mov edx, 1; shl edx, cl")),
@@ -353,7 +359,10 @@ WRONG = [
     ("x86-64", f"xor ecx, ecx; mov rcx, [rcx+16]; {VERSION}", "outside"),
     ("x86-64", f"mov edx, 2; mov ecx, edi; shl edx, cl; {VERSION}", "a shift"),
     ("x86-64", f"mov eax, {calls.VERSION}; ret 8", "takes more"),
-    ("x86-64", f"vpsllvd xmm0, xmm1, xmm2; {VERSION}", "a shift that"),
+    ("x86-64", f"vpsllvd xmm0, xmm1, xmm2; {VERSION}", "a shift that"), ("x86-64", f"shld cx, dx, 20; {VERSION}", "a shift by"),
+    ("x86-64", f"mul cl; {VERSION}", "other widths"),
+    *(("x86-64", f"mov edx, {high}; mov eax, 7; mov ecx, 3; div {by}; {VERSION}", "a division") for high, by in (
+        (0, "cl"), (3, "ecx"))),
     ("aarch64", f"cls x1, x0; {ARM}", "is not known"),
     ("aarch64", f"movi v0.16b, #128; movi v1.16b, #255; sshl v0.4s, v0.4s, v1.4s; {ARM}", "a signed shift to the right"),
     ("aarch64", f"sub sp, sp, #16; {ARM}", "the stack pointer is not restored"),
