@@ -200,8 +200,7 @@ SHAPED = {
 
 
 class Aarch64(Machine):
-    operations, comparisons, name_of = OPERATIONS, COMPARISONS, staticmethod(str)
-    pointer, popped, entry, result_register = "sp", 0, 0, "x0"
+    pointer, popped, entry, result_register, name_of = "sp", 0, 0, "x0", staticmethod(str)
     argument_registers = [f"x{n}" for n in range(8)]
 
     def set_up(self):

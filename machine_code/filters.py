@@ -237,7 +237,7 @@ def keys_of_wrong_lengths(machine, is_insert):
         KeyOfWrongLength(machine, is_insert, length, n, 1).few()
 
 
-any_hash, any_left = unknown("hash", 64), extend(unknown("left", 5))
+any_hash = unknown("hash", 64)
 
 
 def one_key(machine, is_insert, function, arguments, hash):
@@ -286,15 +286,15 @@ def wrong_folds(machine):
         check_call(machine, "bloom_fold", Call, [bits, length], [], LENGTH)
 
 
-# ---- columns of texts: offsets of any number, and keys of known lengths. Such a call hashes 32 keys at a time to its stack, in
-# a loop over batches, one over keys and one over pieces. The induction does not follow these.
+# ---- columns of texts. Such a call hashes 32 keys at a time to its stack, in a loop over batches, one over keys and one over
+# pieces. The induction follows that over batches if all keys have one length, and that over pieces if there is one key.
 
-# The lengths of keys: each to 96, so that there are four batches, and some that are not in order and longer.
-KEY_LENGTHS = [*range(97)], [k * 37 % 101 for k in range(70)], [2100, 0, 3, 515], []
+# The lengths of keys: each to 100, so that there are four batches, and some that are longer.
+KEY_LENGTHS = [k * 37 % 101 for k in range(101)], [2100, 0, 3, 515], []
 
 
 class TextsCall(ColumnCall):
-    """To insert a column takes as many keys as its offsets bound. Only calls that fail come to an end here."""
+    """To insert a column takes as many keys as its offsets bound."""
 
     def __init__(self, machine, is_insert, width):
         super().__init__(machine, f"{name_of(is_insert)}_each{width}", width, 0 if is_insert else 1)
@@ -340,14 +340,16 @@ class Batches(Values):
     """Columns of any number of keys, each of so many bytes: a turn is a batch. So few keys that their offsets need no loop are
     not among them: that is one at most, which `KeyOfColumn` has."""
 
+    tries = 2, 4
+
     def __init__(self, checked, key_size):
         self.checked, self.call, self.key_size, self.least = checked, checked.call, key_size, checked.loop.least
         if self.least > 2:
             raise Stop("the loop over offsets is not reached with two keys")
-        self.left = add(any_left, number(self.least))
         super().__init__(self.call.machine, self.call.is_insert, "", 0, BATCH)
         self.bytes, self.length_bits = key_size, MOST[self.call.width]
         self.first = extend(unknown("start", MOST[self.call.width]))
+        self.left = add(extend(unknown("left", 5)), number(self.least))
 
     def number_of(self, count):
         return add(mul(extend(count), number(BATCH)), self.left)

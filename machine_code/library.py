@@ -239,6 +239,13 @@ class Library:
         """Whether an instruction has operands like this."""
         return any(re.search(pattern, text) for _, text, _ in self.instructions.values())
 
+    @functools.cache
+    def has_bits(self, start):
+        """Whether there is a table of 1, 2, 4 and so on to 2^31, which nobody writes."""
+        places, bits = range(start, start + 128), b"".join(struct.pack("<I", 1 << i) for i in range(32))
+        is_written = any(map(self.is_writable, places)) or not self.pointers.keys().isdisjoint(range(start - 7, start + 128))
+        return not is_written and [self.byte(at) for at in places] == [(byte, True) for byte in bits]
+
     def offset_of(self, address):
         """Where a byte that is stored is in the file."""
         for start, offset, stored, _, _ in self.places:

@@ -68,6 +68,7 @@ class Subject:
 
     name, per, optional = "loop", 1, 0
     bytes, length_bits = 8, SIZE  # of the largest array: those of an element, and how many bits its length has
+    tries = 4, 8  # by calls with so many turns or more the head is found
 
     def some(self, what, least=0):
         """A number of turns."""
@@ -139,7 +140,7 @@ class Loop:
         """A choice that depends on how many turns are left is made once a turn. From it to the next time is a turn, and the
         head is what the first one begins with."""
         arrivals = []
-        for least in (4, 8):
+        for least in self.subject.tries:
             with values.assuming():
                 trace = self.trace(least)
             found = [i for i, at in enumerate(trace[:-1]) if at == trace[-1]]
@@ -149,7 +150,7 @@ class Loop:
             once = [at for at in turn if turn.count(at) == 1]
             self.head = once[0] if self.is_late else min(once, key=trace.index)
             arrivals.append(trace.count(self.head))
-        self.arrivals, rest = divmod(arrivals[1] - arrivals[0], 4)
+        self.arrivals, rest = divmod(arrivals[1] - arrivals[0], self.subject.tries[1] - self.subject.tries[0])
         if rest or not self.arrivals:
             raise Stop("a turn of the loop is none of the subject")
 

@@ -215,12 +215,8 @@ class Machine:
     def bit_of_table(self, address):
         """A word of a table of the library that has 2^i at index i, at an unknown index of five bits; else None."""
         start, factors = linear(sub(address, self.image))
-        if [(width, factor) for (_, _, width), factor in factors.items()] != [(5, 4)]:
-            return None
-        table = [self.byte_of_image(start + i) for i in range(128)]
-        if table != [(number(1 << i >> bit & 255, 8), 0) for i in range(32) for bit in (0, 8, 16, 24)]:
-            return None
-        return power_of_two(tuple(factors), 32)
+        is_by_word = [(width, factor) for (_, _, width), factor in factors.items()] == [(5, 4)]
+        return power_of_two(tuple(factors), 32) if is_by_word and self.library.has_bits(start) else None
 
     def load(self, address, size):
         (base, start), parts = place_of(address), []

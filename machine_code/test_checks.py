@@ -15,9 +15,10 @@ import keys
 import library
 import loops
 import pytest
+import rates
 from conftest import DIST
 from definitions import FILTER, MURMUR, XXH64, of_hash
-from machine import Array
+from machine import Array, Machine
 from values import Stop, add, bitwise, extend, mul, number, sub, unknown
 
 TEXT = DIST / "sketch_hash.c"
@@ -26,8 +27,8 @@ COMPILERS = {"gcc": ["gcc", *HARDENED, "-fcf-protection=full"], "clang": ["clang
              "aarch64": ["aarch64-linux-gnu-gcc", *HARDENED, "-mbranch-protection=standard"]}
 
 
-def build(compiler, path, *change):
-    subprocess.run([*compiler, "-O2", "-fPIC", "-shared", *change, "-I", DIST / "include", TEXT, "-o", path], check=True)
+def build(compiler, path, *change, text=TEXT):
+    subprocess.run([*compiler, "-O2", "-fPIC", "-shared", *change, "-I", DIST / "include", text, "-o", path], check=True)
 
 
 @pytest.fixture(scope="session")
@@ -251,7 +252,12 @@ RIGHT = [
     ("aarch64", f"cmp x1, x1; csinv x3, x9, xzr, ne; csinv x4, x9, x9, eq; eor x4, x4, x9; sub x3, x3, x4; mvn x3, x3; "
                 f"cbnz x3, 1f; {ARM}; 1: udf #0"),
     ("x86-64", f"mov rax, rsp; and rsp, -64; sub rsp, 64; movaps [rsp], xmm1; mov rsp, rax; {VERSION}"),
-    # A move of 64 bits clears the rest of a vector.
+    *(("aarch64", f"cmp x1, x1; ccmp x1, x1, {bits}, ne; b.{name} 2f; {ARM}; 2: udf #0")
+      for bits, name in (("#0", "eq"), ("#4", "ne"), ("#2", "cc"), ("#0", "cs"))),
+    ("aarch64", "mov x1, #-1; mov x2, #1; adds x3, x1, x2; b.cc 2f; adcs x3, xzr, xzr; b.cs 2f; cmp x3, x2; b.ne 2f; "
+                f"adc x3, xzr, xzr; b.ne 2f; {ARM}; 2: udf #0"),
+    # AVX clears the rest of a vector, and so does a move of 64 bits.
+    ("x86-64", f"vpxor xmm1, xmm1, xmm1; vextracti128 xmm2, ymm1, 1; movq rax, xmm2; add eax, {calls.VERSION}; ret"),
     ("x86-64", f"movq xmm1, xmm0; movq rax, xmm1; movq rcx, xmm0; sub rax, rcx; add eax, {calls.VERSION}; ret"),
     ("x86-64", f"movq xmm1, xmm0; pextrq rax, xmm1, 1; add eax, {calls.VERSION}; ret"),
     ("x86-64", f"mov rcx, [rsp-8]; {VERSION}"),  # nothing has written it
@@ -316,7 +322,8 @@ WRONG = [
     *(("x86-64", f"{name} xmm0, [rdi]; {VERSION}", "not aligned") for name in ("movapd", "vmovapd", "vmovaps", "vmovdqa")),
     ("x86-64", LOOKED_UP + ", ".join(map(str, [*BITS[:31], 5])), "outside"),
     ("x86-64", LOOKED_UP.replace("27", "26") + ", ".join(map(str, BITS * 2)), "outside"),
-    ("x86-64", LOOKED_UP.replace("*4", "*2") + ", ".join(map(str, BITS)), "outside"),
+    *(("x86-64", LOOKED_UP.replace(*change) + ", ".join(map(str, BITS)), "outside") for change in (
+        ("*4", "*2"), ("1: .long", ".data; 1: .long"))),
     ("x86-64", LOOKED_UP.replace("mov eax, edi", "lea rdx, [rip+__ehdr_start]; sub rcx, rdx; add rcx, rsp; mov eax, edi")
      + ", ".join(map(str, BITS)) + "; .hidden __ehdr_start", "outside"),
     ("x86-64", f"push rbx; {VERSION}", "no function"),
@@ -335,7 +342,8 @@ WRONG = [
     *(("x86-64", f"{before}; jc 1f; 1: {VERSION}", "carry|not known") for before in (
         "imul rcx, rdx", "cmp rcx, rdx; inc rcx", "shl rcx, 3", "cmp rcx, rcx; rol rcx, 3", "ror rcx, 3", "add rcx, rdx",
         "mov rax, rdx",
-        "neg rcx; dec rcx", "shld rcx, rdx, 3", "shrd rcx, rdx, 3", "test rcx, rcx; sar rcx, 1", "cmp rcx, rcx; sbb rcx, rdx")),
+        "neg rcx; dec rcx", "shld rcx, rdx, 3", "shrd rcx, rdx, 3", "test rcx, rcx; sar rcx, 1", "cmp rcx, rcx; sbb rcx, rdx",
+        "xor ecx, ecx; cmp ecx, 1; inc ecx")),
     *(("x86-64", f"{before}; je 1f; 1: {VERSION}", "not known|understood") for before in (
         "imul rcx, rdx", "shld rcx, rdx, 3", "imul rcx, rdx; rol rcx, 3", "cmp rcx, rcx; sbb rcx, rdx", "bt rcx, 3",
         "cmp rcx, rcx; mul rdx", "xor edx, edx; mov eax, 7; mov ecx, 3; cmp rcx, rcx; div ecx", "mov edx, 1; shl edx, cl")),
@@ -351,7 +359,10 @@ WRONG = [
     ("x86-64", f"xor ecx, ecx; mov rcx, [rcx+16]; {VERSION}", "outside"),
     ("x86-64", f"mov edx, 2; mov ecx, edi; shl edx, cl; {VERSION}", "a shift"),
     ("x86-64", f"mov eax, {calls.VERSION}; ret 8", "takes more"),
-    ("x86-64", f"vpsllvd xmm0, xmm1, xmm2; {VERSION}", "a shift that"),
+    ("x86-64", f"vpsllvd xmm0, xmm1, xmm2; {VERSION}", "a shift that"), ("x86-64", f"shld cx, dx, 20; {VERSION}", "a shift by"),
+    ("x86-64", f"mul cl; {VERSION}", "other widths"),
+    *(("x86-64", f"mov edx, {high}; mov eax, 7; mov ecx, 3; div {by}; {VERSION}", "a division") for high, by in (
+        (0, "cl"), (3, "ecx"))),
     ("aarch64", f"cls x1, x0; {ARM}", "is not known"),
     ("aarch64", f"movi v0.16b, #128; movi v1.16b, #255; sshl v0.4s, v0.4s, v1.4s; {ARM}", "a signed shift to the right"),
     ("aarch64", f"sub sp, sp, #16; {ARM}", "the stack pointer is not restored"),
@@ -367,7 +378,8 @@ WRONG = [
 
 
 @pytest.mark.parametrize("processor, code, reason", [*((*row, None) for row in RIGHT), *WRONG], ids=str)
-def test_code_that_breaks_a_rule_is_refused(processor, code, reason, machine_of):
+def test_code_that_breaks_a_rule_is_refused(processor, code, reason, machine_of, monkeypatch):
+    monkeypatch.setattr(Machine, "limit", 10_000)  # a loop without an end is noticed earlier
     with refused(reason):
         calls.check_call(machine_of(processor, code), "hash_version", calls.Call, [], [], number(calls.VERSION, 32))
 
@@ -505,6 +517,61 @@ def test_a_loop_that_breaks_a_rule_is_refused(code, before, after, reason, machi
 
     with refused(reason):
         loops.on_each_path(run)
+
+
+# ---- a library with a wrong line in some of its functions: what is changed, into what, and checks that must refuse it
+
+def column_of(machine, hash):
+    return keys.ColumnCall(machine, f"{calls.NAMES[hash]}_each64", 64, 8 if hash == "xxh64" else 16)
+
+
+def texts(machine, is_insert):
+    return filters.TextsCall(machine, is_insert, 64)
+
+
+REPORT = "    return skh_report_offset(result.is_error, result.value, wrong_offset);\n"
+NEXT = "        start += hashes_count;\n    }\n    return SKETCH_OK;\n}\n\n/* Writes 1 or 0 to found[i] for the four"
+WRONG_LINES = [
+    ("skh_xxh64_hash(skh_slice(input), length, seed)", "skh_xxh64_hash(skh_slice(input), length, seed) + (length == 500)"),
+    ("hash[1] = pair.second", "hash[1] = pair.second + (length == 500)"),
+    ("skh_xxh64_write(state, skh_slice(input), length)", "skh_xxh64_write(state, skh_slice(input), length - (length == 500))"),
+    (REPORT, f"if (result.is_error && count) *(char *)out = 1; if (!result.is_error) *wrong_offset = 0;\n{REPORT}"),
+    ("option = skh_bloom_bytes_for(keys, one_in)", "option = skh_bloom_bytes_for(keys, one_in + (keys == 9))"),
+    # In columns of texts, of long keys and of many; and in one of hashes.
+    ("skh_get64(offsets + i + start + 1) - offset, 0)", "(uint32_t)(skh_get64(offsets + i + start + 1) - offset), 0)"),
+    (NEXT, NEXT.replace("hashes_count;", "hashes_count + (start == 6400);")),
+    ("(skh_slice_mut(bits), length, hashes, count)", "(skh_slice_mut(bits), length, hashes, count - (count == 100))"),
+]
+REFUSED = [
+    (lambda m: loops.prove(partial(hashes.OneCall, m, "xxh64", 500 % 32), [1]), "the result"),
+    (lambda m: loops.prove(partial(hashes.OneCall, m, "murmur", 500 % 16), [1]), "what is written"),
+    (lambda m: loops.prove(partial(hashes.Update, m, "xxh64", 3, 500 - 29 & 31), [1]), "depends on"),
+    (lambda m: keys.prove_offsets(column_of(m, "xxh64")), "more is written"),
+    (lambda m: column_of(m, "xxh64").few(), "what is written"),
+    (lambda m: [run() for name, run in rates.checks(m) if name == "bloom_bytes_for"], "the result"),
+    (lambda m: loops.prove(partial(filters.KeyOfColumn, texts(m, True), 0), [1]), "depends on"),
+    (lambda m: filters.prove_texts(texts(m, False)), "none of the subject"),
+    (lambda m: loops.prove(partial(filters.Values, m, True, "hash", 0), [1, 2]), "before its last turn"),
+]
+
+
+@pytest.fixture(scope="module")
+def wrong_library(need, tmp_path_factory):
+    need("gcc")
+    text, path = TEXT.read_text(), tmp_path_factory.mktemp("wrong")
+    for before, after in WRONG_LINES:
+        assert before in text
+        text = text.replace(before, after, -1 if before == REPORT else 1)
+    (path / "wrong.c").write_text(text)
+    build(["gcc"], path / "wrong.so", text=path / "wrong.c")
+    return library.read(path / "wrong.so")
+
+
+@pytest.mark.parametrize("run, reason", REFUSED)
+def test_a_wrong_line_is_refused(run, reason, wrong_library):
+    machine = checks.machine_of(wrong_library)
+    with refused(reason):
+        loops.on_each_path(lambda: run(machine))
 
 
 # ---- the blocks of a filter that a call reaches

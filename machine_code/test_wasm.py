@@ -63,10 +63,12 @@ def assembled(need, tmp_path):
         types = [f".functype {name} (i64, i64) -> (i64)" for name in forms]
         bodies = [f".globl {name}; {name}: .functype {name} (i64, i64) -> (i64); .local i64; {form}; end_function"
                   for name, form in forms.items()]
-        text, path = "\n".join([".globaltype __stack_pointer, i32", *types, *bodies, ""]), tmp_path / "forms.wasm"
+        own = [".globaltype __stack_pointer, i32", ".globaltype other, i64", ".globl other", "other:"]
+        text, path = "\n".join([*own, *types, *bodies, ""]), tmp_path / "forms.wasm"
         options = ["--target=wasm32", "-mbulk-memory", "-msign-ext", "-xassembler", "-c", "-", "-o", tmp_path / "forms.o"]
         subprocess.run(["clang", *options], input=text, text=True, check=True)
-        subprocess.run(["wasm-ld", "--no-entry", "--export-all", tmp_path / "forms.o", "-o", path], check=True)
+        link = ["wasm-ld", "--no-entry", "--export-all", "--no-check-features", tmp_path / "forms.o", "-o", path]
+        subprocess.run(link, check=True)
         return path
 
     return run
@@ -141,6 +143,32 @@ def test_a_rule_gives_for_unknowns_what_it_gives_for_numbers():
     assert done > 10000
 
 
+def test_a_number_that_i32_does_not_hold_is_refused():
+    """Else bounds would contradict each other, and all would follow."""
+    for value in number(wasm.HALF), unknown("large", 40, wasm.HALF):
+        with refused("i32 does not hold"):
+            wasm.assume_half(extend(value))
+
+
+def test_the_upper_bits_of_a_product_are_below_one_factor():
+    length, hash = extend(unknown("length", 32, 1)), extend(unknown("hash", 32))
+    with values.assuming():
+        index = shift_right(mul(length, hash), 32)
+        wasm.know_product(index[0])
+        assert values.is_below(index, length)
+        with pytest.raises(values.Undecided):
+            values.is_below(add(index, number(1)), length)
+
+
+def test_a_comparison_of_a_comparison_is_followed():
+    """`eqz` of it is the opposite, and `ne` to 0 the same."""
+    machine, x, y, *results = wasm.Wasm(Module(MODULE)), *(extend(unknown(("compared", i), 1)) for i in range(6))
+    machine.note(results[0], True, x, y)
+    for i, (is_equal, source) in enumerate([(True, 0), (True, 1), (False, 1)], 1):
+        machine.note(results[i], is_equal, results[source])
+    assert [machine.compared[result] for result in results] == [(is_equal, x, y) for is_equal in (True, False, True, False)]
+
+
 # ---- changed modules, truncated ones, and one with an instruction that is not known
 
 MODULE = (DIST / "wasm/sketch_hash.wasm").read_bytes()
@@ -188,11 +216,20 @@ def test_a_truncated_module_fails(size, tmp_path):
     ("i32.const 96; local.get 0; i64.store 0", "an access outside"), ("i32.const -8; i64.load 72; drop", "a read outside"),
     ("global.get __stack_pointer; i32.const 256; i32.sub; i64.load 0; drop", "a read below the stack"),
     ("local.get 0; i32.wrap_i64; i64.load 0; drop", "outside"), ("i32.const 64; i64.load 0; drop", None),
+    ("local.get 0; global.set other", "is not restored"), ("global.get other; global.set other", None),
 ])
 def test_code_that_breaks_a_rule_is_refused(code, reason, assembled):
     built = library.read(assembled({"sketch_code": f"{code}; local.get 0"}))
     with refused(reason):
         answer(built, "sketch_code", [2 ** 31, 0], set())
+
+
+@pytest.mark.parametrize("first", [(64, 1, 0), (32, 0, 0)])
+def test_a_module_without_a_stack_pointer_is_refused(first):
+    built = Module(MODULE)
+    built.globals[0] = first
+    with refused("no stack pointer"):
+        wasm.Wasm(built)
 
 
 def test_an_instruction_that_is_not_known_stops_its_function_alone(assembled):

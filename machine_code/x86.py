@@ -463,7 +463,6 @@ def plan(op, text):
 
 
 class X86(Machine):
-    operations, comparisons = OPERATIONS, READ_ONLY
     pointer, popped, entry, result_register = "rsp", 8, 8, "rax"  # the caller pushed where to return to: rsp is 16 * n + 8
     processor = None  # while constructors run: what cpuid and xgetbv say
 
@@ -558,7 +557,7 @@ class X86(Machine):
         if is_avx2 and self.library.constructors:
             self.must_have_avx2()
         values = [item[1] if is_int else self.read(item, width) for item, is_int in used]
-        run = plain(MASKS[name][1]) if operands[0][1][0] == "k" and name in MASKS else self.operations[name]
+        run = plain(MASKS[name][1]) if operands[0][1][0] == "k" and name in MASKS else OPERATIONS[name]
         result = run(self, *values)
         if name == "and" and operands[0][1] == "rsp":
             self.must_know_alignment()
