@@ -320,7 +320,7 @@ class KeyOfColumn(Key):
 
     def __init__(self, call, rest, per):
         super().__init__(call.machine, call.is_insert, rest, per)
-        self.call, self.width, self.first = call, MOST[call.width], extend(unknown("start", MOST[call.width]))
+        self.call, self.limit, self.first = call, MOST[call.width], extend(unknown("start", MOST[call.width]))
 
     def data(self, offset, size):
         return self.call.input.bytes(add(self.first, offset), size)
@@ -349,7 +349,7 @@ class Batches(Values):
     def __init__(self, checked, key_size):
         super().__init__(checked.call.machine, checked.call.is_insert, "", 0, BATCH)
         self.checked, self.call, self.key_size, self.bytes = checked, checked.call, key_size, key_size
-        self.width, self.first = MOST[self.call.width], extend(unknown("start", MOST[self.call.width]))
+        self.limit, self.first = MOST[self.call.width], extend(unknown("start", MOST[self.call.width]))
         self.left = add(extend(unknown("left", 5)), number(1))
 
     def number_of(self, count):

@@ -279,7 +279,7 @@ class Key(Pieces):
 
     def __init__(self, keys, loop, turns, left, rest, per):
         super().__init__(keys.hash, keys.start_of_key(), rest, per)
-        self.keys, self.at_keys, self.width = keys, lambda count: loop.at(turns, left, (rest, count)), MOST[keys.call.width]
+        self.keys, self.at_keys, self.limit = keys, lambda count: loop.at(turns, left, (rest, count)), MOST[keys.call.width]
 
     def start(self, count):
         run, self.outer_words, self.before = self.at_keys(count)

@@ -67,12 +67,12 @@ class Subject:
     """
 
     name, per, optional = "loop", 1, 0
-    bytes, width = 8, SIZE  # of the largest array: those of an element, and how many bits its length has
+    bytes, limit = 8, SIZE  # of the largest array: those of an element, and how many bits its length has
     tries = 4, 8  # by calls with so many turns or more the head is found
 
     def some(self, what, least=0):
         """A number of turns."""
-        return extend(unknown((what, self.name), self.width - (self.per * self.bytes - 1).bit_length(), least))
+        return extend(unknown((what, self.name), self.limit - (self.per * self.bytes - 1).bit_length(), least))
 
     def elements_written(self):
         """How many are written at the first arrival, if the loop writes any; else None."""
