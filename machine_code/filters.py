@@ -132,7 +132,7 @@ class Bits:
         while True:
             for i in self.bases.get(base, ()):
                 n = at - self.block(i)[0]
-                if first <= i <= last and 0 <= n <= 32 - size:
+                if first <= i and 0 <= n <= 32 - size:
                     return i, n
             if len(self.blocks) > last:
                 return None
