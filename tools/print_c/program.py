@@ -157,7 +157,7 @@ class Program:
             return self.declared[function.name].type
         result = function.source.result
         if function.type not in TYPES:
-            return f"struct skh_{ {'O': 'option', 'R': 'result', '(': 'pair'}[result[0]]}"
+            return {"O": "struct skh_option", "R": "struct skh_result", "(": "struct skh_pair"}[result[0]]
         is_flag = result == "bool" or keep.EITHER.fullmatch(result)
         return "int" if result == "i32" else "bool" if is_flag else TYPES[function.type]
 
