@@ -1,7 +1,7 @@
 /* sketch_hash.c 3.1.0: printed from proved text. Do not edit it: tools/print_c prints it.
  *
  * crate     sketch_c, and those that it depends on, of which PROVED says more
- * text      096368ae97c75294002a2c7cefcda1e63c1d57c6fb32fde7638771bab25a7b5d
+ * text      033f56ef535e846514af1ff6b56a6e7ce993f5bc6cb535b34a707807dc12b6e7
  * prover    rattle-kit-13f logic dac8208d650f15bf
  * compiler  clang version 22.1.8, of the kit, which optimizes what is printed
  * licence   Apache-2.0
