@@ -100,11 +100,15 @@ def test_package_has_its_files_and_builds_on_its_own(target, repository):
     cargo("test", "--test", "columns", folder=packed)
 
 
-def test_a_vendored_crate_builds(repository, tmp_path):
-    """From git; cc is vendored too."""
+def test_a_vendored_crate_builds(need, repository, tmp_path, target):
+    """From git; cc is vendored too, from a copy, since older versions of cargo remove a folder from which they vendor."""
+    need("cargo 1.87")
+    shutil.copytree(DEBIAN_CRATES, tmp_path / "crates")
+    config = (target / "config.toml").read_text()
+    (tmp_path / "copy.toml").write_text(config.replace(str(DEBIAN_CRATES), str(tmp_path / "crates")))
     source = new_crate(tmp_path, f'{{ git = "{repository.as_uri()}" }}')
     (source / "main.rs").write_text('fn main() { assert_eq!(sketch_hash::xxh64(b"", 0), 0xef46_db37_51d8_e999); }')
-    done = try_cargo("vendor", "--respect-source-config", folder=tmp_path)
+    done = try_cargo("vendor", "--respect-source-config", "--config", tmp_path / "copy.toml", folder=tmp_path)
     assert done.returncode == 0, done.stderr
     assert {"cc", "sketch-hash"} <= {path.name for path in (tmp_path / "vendor").iterdir()}
     (tmp_path / "config.toml").write_text(done.stdout)
