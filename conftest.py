@@ -58,7 +58,7 @@ def is_there(tool):
 
 
 # Tools that one release of Debian has. In others their tests are skipped, also if CI is set.
-ONLY_IN = {"cargo 1.87": "sid", "duckdb": "sid", "python:pyarrow": "sid", "webpack": "sid"}
+ONLY_IN = {"cargo 1.95": "sid", "duckdb": "sid", "python:pyarrow": "sid", "webpack": "sid"}
 try:
     RELEASE = platform.freedesktop_os_release().get("VERSION_ID", "sid")
 except (AttributeError, OSError):  # Python 3.9, or not Linux

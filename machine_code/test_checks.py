@@ -341,9 +341,8 @@ WRONG = [
     ("Windows", f"mov [rsp-8], rcx; {VERSION}", "outside"),
     *(("x86-64", f"{before}; jc 1f; 1: {VERSION}", "carry|not known") for before in (
         "imul rcx, rdx", "cmp rcx, rdx; inc rcx", "shl rcx, 3", "cmp rcx, rcx; rol rcx, 3", "ror rcx, 3", "add rcx, rdx",
-        "mov rax, rdx",
-        "neg rcx; dec rcx", "shld rcx, rdx, 3", "shrd rcx, rdx, 3", "test rcx, rcx; sar rcx, 1", "cmp rcx, rcx; sbb rcx, rdx",
-        "xor ecx, ecx; cmp ecx, 1; inc ecx")),
+        "mov rax, rdx", "neg rcx; dec rcx", "shld rcx, rdx, 3", "shrd rcx, rdx, 3", "test rcx, rcx; sar rcx, 1",
+        "cmp rcx, rcx; sbb rcx, rdx", "xor ecx, ecx; cmp ecx, 1; inc ecx")),
     *(("x86-64", f"{before}; je 1f; 1: {VERSION}", "not known|understood") for before in (
         "imul rcx, rdx", "shld rcx, rdx, 3", "imul rcx, rdx; rol rcx, 3", "cmp rcx, rcx; sbb rcx, rdx", "bt rcx, 3",
         "cmp rcx, rcx; mul rdx", "xor edx, edx; mov eax, 7; mov ecx, 3; cmp rcx, rcx; div ecx", "mov edx, 1; shl edx, cl")),

@@ -101,8 +101,8 @@ def test_package_has_its_files_and_builds_on_its_own(target, repository):
 
 
 def test_a_vendored_crate_builds(need, repository, tmp_path, target):
-    """From git; cc is vendored too, from a copy, since older versions of cargo remove a folder from which they vendor."""
-    need("cargo 1.87")
+    """From git; cc is vendored too, from a copy: cargo 1.85 removes the crates of a folder that it vendors."""
+    need("cargo 1.95")
     shutil.copytree(DEBIAN_CRATES, tmp_path / "crates")
     config = (target / "config.toml").read_text()
     (tmp_path / "copy.toml").write_text(config.replace(str(DEBIAN_CRATES), str(tmp_path / "crates")))
