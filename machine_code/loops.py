@@ -12,7 +12,7 @@ of the definitions' state; or anything. Two turns suggest which. The three runs 
 make a check fail, and not pass. In a turn the number of turns that are left becomes smaller by one, so the loop ends.
 """
 import values
-from machine import Setting
+from machine import Setting, side_by_side
 from values import Stop, Undecided, add, cut, extend, join, mul, number, number_in, sub, unknown, width_of
 
 SIZE = 60  # an array has fewer than 2^60 bytes
@@ -38,12 +38,15 @@ def places_of(run):
     found = {}
     for name, value in run.registers.items():
         found |= {(name, at): cut(value, at, min(64, width_of(value) - at)) for at in range(0, width_of(value), 64)}
-    changing = [place for place in run.bytes if place in run.writable or run.is_in_stack(place[0])]
-    for base, at in changing:
-        if at % 8 == 0 and all((base, at + i) in run.bytes for i in range(8)):
-            found["word", base, at] = join(*(cut(*run.bytes[base, at + i], 8) for i in range(8)))
-        elif not all((base, at - at % 8 + i) in run.bytes for i in range(8)):
-            found["byte", base, at] = cut(*run.bytes[base, at], 8)
+    words = {}
+    for base, at in run.bytes:
+        if (base, at) in run.writable or run.is_in_stack(base):
+            words.setdefault((base, at - at % 8), []).append(at)
+    for (base, start), bytes in words.items():
+        if len(bytes) == 8:
+            found["word", base, start] = side_by_side([run.bytes[base, start + i] for i in range(8)])
+        else:
+            found |= {("byte", base, at): cut(*run.bytes[base, at], 8) for at in bytes}
     return found
 
 

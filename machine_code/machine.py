@@ -55,6 +55,17 @@ def logic(op):
     return lambda machine, x, y: machine.compare("logic", x, y, bitwise(op, x, y))
 
 
+def side_by_side(bytes):
+    """The value of some bytes, each of which is a value and the bit of it from which on it has the byte."""
+    parts = []
+    for value, bit in bytes:
+        if parts and parts[-1][0] is value and parts[-1][1] + parts[-1][2] == bit:
+            parts[-1][2] += 8
+        else:
+            parts.append([value, bit, 8])
+    return join(*(cut(*part) for part in parts))
+
+
 @functools.lru_cache(1 << 16)
 def place_of(address):
     """An address as what it is relative to, and an offset."""
@@ -219,7 +230,7 @@ class Machine:
         return power_of_two(tuple(factors), 32) if is_by_word and self.library.has_bits(start) else None
 
     def load(self, address, size):
-        (base, start), parts = place_of(address), []
+        base, start = place_of(address)
         bit = self.bit_of_table(address) if len(base) == 2 and size == 4 else None
         if bit is not None:
             return bit
@@ -228,12 +239,7 @@ class Machine:
         else:
             array, offset = self.in_array(address, size)
             found = array.load(offset, size)
-        for value, bit in found:
-            if parts and parts[-1][0] is value and parts[-1][1] + parts[-1][2] == bit:
-                parts[-1][2] += 8
-            else:
-                parts.append([value, bit, 8])
-        return join(*(cut(*part) for part in parts))
+        return side_by_side(found)
 
     def store(self, address, value):
         (base, start), size = place_of(address), width_of(value) // 8

@@ -115,7 +115,12 @@ def known(value, what):
 
 
 def width_of(value):
-    return value[0][2] if len(value) == 1 else sum([width for _, _, width in value])
+    if len(value) == 1:
+        return value[0][2]
+    total = 0
+    for piece in value:
+        total += piece[2]
+    return total
 
 
 # ---- bits
@@ -136,17 +141,23 @@ def cut(value, low, width):
     """Bits low up to low + width."""
     if low == 0 and width_of(value) == width:
         return value
-    parts, at = [], 0
-    for a, start, size in value:
-        first, last = max(low - at, 0), min(low + width - at, size)
-        if first < last:
-            parts.append(number(start >> first, last - first) if a == NUMBER else ((a, start + first, last - first),))
+    parts, at, end = [], 0, low + width
+    for piece in value:
+        a, start, size = piece
+        first, last = low - at if low > at else 0, size if size < end - at else end - at
+        if first == 0 and last == size:
+            parts.append(piece)
+        elif first < last:
+            parts.append((a, start >> first & (1 << last - first) - 1 if a == NUMBER else start + first, last - first))
         at += size
-    return join(*parts)
+    return tuple(parts)
 
 
 def extend(value, width=64):
-    return join(value, number(0, width - width_of(value)))
+    rest = width - width_of(value)
+    if not rest:
+        return value
+    return join(value, number(0, rest))
 
 
 def sign_extend(value, width):
@@ -179,7 +190,21 @@ def lanes(size, function, *values):
     """A function of each lane of some values."""
     if len(set(map(width_of, values))) != 1:
         raise Stop("vectors of different lengths")
-    return join(*(function(*(cut(value, at, size) for value in values)) for at in range(0, width_of(values[0]), size)))
+    return join(*map(function, *(split(value, size) for value in values)))
+
+
+def split(value, size):
+    """Its lanes, the lowest first."""
+    lanes, lane, room = [], [], size
+    for a, low, width in value:
+        while width:
+            taken = min(width, room)
+            lane.append((a, low & (1 << taken) - 1 if a == NUMBER else low, taken))
+            low, width, room = low >> taken if a == NUMBER else low + taken, width - taken, room - taken
+            if not room:
+                lanes.append(tuple(lane))
+                lane, room = [], size
+    return lanes
 
 
 def power_of_two(exponent, width):
@@ -291,7 +316,7 @@ def piece_range(a, low, width):
 
 
 def greatest(value):
-    found = exact(*linear(extend(value)))
+    found = exact(*linear(value))
     return found[3] if found else WORD - 1
 
 
@@ -353,7 +378,7 @@ def sum_atom(n, factors):
 
 @remember
 def add(x, y, sign=1):
-    (n, factors), (m, others) = linear(extend(x)), linear(extend(y))
+    (n, factors), (m, others) = linear(x), linear(y)
     factors = dict(factors)
     for piece, factor in others.items():
         factors[piece] = factors.get(piece, 0) + sign * factor
@@ -366,7 +391,7 @@ def sub(x, y):
 
 @remember
 def mul(x, y):
-    size, x, y = width_of(x), extend(x), extend(y)
+    size = width_of(x)
     for one, other in ((x, y), (y, x)):
         if (k := number_in(one)) is not None:
             (n, factors), scaled = linear(other), {}
@@ -374,7 +399,7 @@ def mul(x, y):
                 collect(scaled, *piece, factor * k)
             return cut(total(n * k + scaled.pop(None, 0), scaled), 0, size)
     most = min(greatest(x) * greatest(y), WORD - 1)
-    return cut(extend(atom(("product", *sorted((x, y))), most.bit_length(), 0, most)), 0, size)
+    return cut(extend(atom(("product", *sorted((extend(x), extend(y)))), most.bit_length(), 0, most)), 0, size)
 
 
 def is_below(x, y):
@@ -398,7 +423,7 @@ def assume_at_most(x, y, less=0):
 
 def gap_of(x, y):
     """y - x as a sum of integers, or None if it is not known whether one of them wraps."""
-    x, y = exact(*linear(extend(x)), True), exact(*linear(extend(y)), True)
+    x, y = exact(*linear(x), True), exact(*linear(y), True)
     return difference(y[:2], x[:2]) if x and y else None
 
 
