@@ -83,7 +83,7 @@ def external(name):
 
 
 class Setting(Undecided):
-    """A choice by what is the same in all of a call: the stack pointer modulo 64, or a static flag of the library."""
+    """A choice by what is the same in all of a call: a static flag of the library."""
 
 
 class Array:
@@ -163,14 +163,15 @@ class Machine:
         self.library, self.registers, self.bytes, self.writable, self.arrays = library, {}, {}, set(), []
         self.flags, self.at, self.next, self.executed = None, None, None, []
         self.stack = self.stack_pointer()
-        self.base, self.top = place_of(self.stack)
         self.set_up()
-        self.end = self.top - self.red_zone  # the lowest byte that the call may use now
+        self.base, top = place_of(self.stack)
+        # Its areas: the lowest byte that the call may use now, and what is above it. Once the pointer is aligned, at a place
+        # that depends on the caller's, there is one more, which is below the first.
+        self.areas = {self.base: (top - self.red_zone, top)}
 
     def stack_pointer(self):
-        """Before the call. A path may have chosen what it is modulo 64."""
-        rest = facts.get("alignment")
-        return extend(unknown("stack", 62, 1 << 20) if rest is None else join(number(rest, 6), unknown("stack", 56, 1 << 14)))
+        """Before the call."""
+        return extend(unknown("stack", 62, 1 << 20))
 
     def map(self, address, values, writable=False):
         """Memory with these values, each of some bytes."""
@@ -187,7 +188,12 @@ class Machine:
         return array
 
     def is_in_stack(self, base):
-        return base == self.base
+        return base in self.areas
+
+    def may_use(self, base, at):
+        """Whether this byte is in what the call may use of the stack now."""
+        end, top = self.areas.get(base, (0, 0))
+        return end <= at < top
 
     def in_array(self, address, size):
         for array in self.arrays:
@@ -200,10 +206,10 @@ class Machine:
         """A value and the bit of it from which on it has this byte."""
         if (base, at) in self.bytes:
             return self.bytes[base, at]
-        if base == self.base and self.end <= at < self.top:
-            return self.anything(at), 0  # nothing has written it
+        if self.may_use(base, at):
+            return self.anything((base, at)), 0  # nothing has written it
         if base != place_of(self.image)[0]:
-            is_below = base == self.base and at < self.end
+            is_below = self.is_in_stack(base) and at < self.areas[base][0]
             raise Stop("a read below the stack" if is_below else "a read outside of what the call is given")
         return self.byte_of_image(at)
 
@@ -234,7 +240,7 @@ class Machine:
         bit = self.bit_of_table(address) if len(base) == 2 and size == 4 else None
         if bit is not None:
             return bit
-        if base in (place_of(self.image)[0], self.base) or any((base, start + i) in self.bytes for i in range(size)):
+        if base == place_of(self.image)[0] or self.is_in_stack(base) or any((base, start + i) in self.bytes for i in range(size)):
             found = [self.byte(base, start + i) for i in range(size)]
         else:
             array, offset = self.in_array(address, size)
@@ -244,11 +250,7 @@ class Machine:
     def store(self, address, value):
         (base, start), size = place_of(address), width_of(value) // 8
         places = [(base, start + i) for i in range(size)]
-        if base == self.base:
-            is_allowed = all(self.end <= at < self.top or (base, at) in self.writable for _, at in places)
-        else:
-            is_allowed = all(place in self.writable for place in places)
-        if is_allowed:
+        if all(place in self.writable or self.may_use(*place) for place in places):
             self.bytes |= {place: (value, 8 * i) for i, place in enumerate(places)}
             return
         array, offset = self.in_array(address, size)
@@ -259,25 +261,37 @@ class Machine:
     def move_stack(self):
         """After the stack pointer has changed: what is below the stack may change at any time."""
         base, at = place_of(self.registers[self.pointer])
-        if base != self.base or not -STACK <= at - self.top <= 0:
+        if not self.is_in_stack(base) or not -STACK <= at - self.areas[base][1] <= 0:
             raise Stop("the stack pointer leaves the stack")
-        end, self.end = self.end, at - self.red_zone
-        if self.end > end:
-            for below in range(end, self.end):
-                self.bytes.pop((base, below), None)
+        self.end_area(base, at - self.red_zone)
+        for other in self.areas.keys() - {base, self.base}:
+            self.end_area(other, 0)
+            del self.areas[other]
 
-    def must_know_alignment(self):
-        """The stack pointer is a multiple of 16 before a call, and modulo 64 any of these."""
-        if "alignment" not in facts:
-            raise Setting("the alignment of the stack", *(({"alignment": 16 * k + self.entry}, []) for k in range(4)))
+    def end_area(self, base, end):
+        before, top = self.areas[base]
+        self.areas[base] = end, top
+        for below in range(before, end):
+            self.bytes.pop((base, below), None)
+
+    def align_stack(self, mask):
+        """Before the pointer is aligned, to a place that is a little lower: a new area is what is below it, and the first one
+        ends where the pointer was."""
+        before = self.registers[self.pointer]
+        (base, at), (other, top) = place_of(before), place_of(bitwise("and", before, number(mask)))
+        if base != self.base or other == base or signed(mask) < -64:
+            raise Stop("an alignment of the stack that is not understood")
+        self.end_area(base, at)
+        self.areas[other] = top, top
 
     def must_be_aligned(self, address, size=16):
+        """The stack pointer has a rest modulo 16 before a call. Any other address must show it."""
         base, at = place_of(address)
-        if base == self.base and size > 16:
-            self.must_know_alignment()
-        if base == self.base and "alignment" not in facts:
-            at += self.entry - self.top
-        if base not in (self.base, IN_IMAGE) or at % size:
+        if base == self.base and size <= 16:
+            factors, at = [], at + self.entry - place_of(self.stack)[1]
+        else:
+            factors = [factor for _, factor in base]
+        if any(n % size for n in (at, *factors)):
             raise Stop("an access that is perhaps not aligned")
 
     # ---- conditions, by the names that x86-64 has for them
@@ -346,7 +360,8 @@ class Machine:
         self.begin_at(self.library.functions[f"sketch_{function}"], arguments)
 
     def begin_at(self, address, arguments):
-        self.registers[self.pointer], self.end, self.at = self.stack, self.top - self.red_zone, address
+        self.registers[self.pointer], self.at = self.stack, address
+        self.move_stack()
         self.pass_arguments(arguments)
         self.before = dict(self.registers)
 
@@ -391,8 +406,8 @@ class Machine:
             kept = width_of(value) if register == self.pointer else self.kept.get(register, 0)
             rest = width_of(value) - kept
             self.registers[register] = join(cut(value, 0, kept), self.anything(register, rest)) if rest else value
-        pointer = place_of(self.registers[self.pointer])[1]
-        self.bytes = {place: byte for place, byte in self.bytes.items() if place[0] != self.base or place[1] >= pointer}
+        base, pointer = place_of(self.registers[self.pointer])
+        self.bytes = {place: byte for place, byte in self.bytes.items() if place[0] != base or place[1] >= pointer}
         self.registers[self.result_register], self.flags = result, None
         self.go_to(back)
 

@@ -252,6 +252,7 @@ RIGHT = [
     ("aarch64", f"cmp x1, x1; csinv x3, x9, xzr, ne; csinv x4, x9, x9, eq; eor x4, x4, x9; sub x3, x3, x4; mvn x3, x3; "
                 f"cbnz x3, 1f; {ARM}; 1: udf #0"),
     ("x86-64", f"mov rax, rsp; and rsp, -64; sub rsp, 64; movaps [rsp], xmm1; mov rsp, rax; {VERSION}"),
+    ("x86-64", f"lea r10, [rsp+8]; and rsp, -32; push [r10-8]; vmovdqa ymm0, [rsp-56]; pop rcx; lea rsp, [r10-8]; {VERSION}"),
     *(("aarch64", f"cmp x1, x1; ccmp x1, x1, {bits}, ne; b.{name} 2f; {ARM}; 2: udf #0")
       for bits, name in (("#0", "eq"), ("#4", "ne"), ("#2", "cc"), ("#0", "cs"))),
     ("aarch64", "mov x1, #-1; mov x2, #1; adds x3, x1, x2; b.cc 2f; adcs x3, xzr, xzr; b.cs 2f; cmp x3, x2; b.ne 2f; "
@@ -355,6 +356,12 @@ WRONG = [
     ("x86-64", f"mov rax, rsp; mov rsp, rdi; mov rsp, rax; {VERSION}", "leaves the stack"),
     *(("x86-64", f"{code}; {VERSION}", "not understood") for code in ("mov ah, 1", "mov rcx, ds:16")),
     ("x86-64", f"push rbp; mov rbp, rsp; and rsp, -32; movaps [rsp-8], xmm0; mov rsp, rbp; pop rbp; {VERSION}", "not aligned"),
+    *(("x86-64", f"mov rax, rsp; push rdi; pop rdi; and rsp, {mask}; {code}; mov rsp, rax; {after}{VERSION}", reason)
+      for mask, code, after, reason in (
+          (-32, "mov rcx, [rax-8]", "", "below the stack"), (-32, "mov [rsp], rdi", "", "outside"),
+          (-32, "mov rcx, rsp; mov [rcx-8], rdi", "mov rdx, [rcx-8]; ", "outside"),
+          (-32, "vmovdqa ymm0, [rsp-48]", "", "not aligned"), (-16, "vmovdqa ymm0, [rsp-64]", "", "not aligned"),
+          (-32, "and rsp, -64", "", "alignment"), (-128, "nop", "", "alignment"), (-32, "sub rsp, 8192", "", "leaves"))),
     ("x86-64", f"xor ecx, ecx; mov rcx, [rcx+16]; {VERSION}", "outside"),
     ("x86-64", f"mov edx, 2; mov ecx, edi; shl edx, cl; {VERSION}", "a shift"),
     ("x86-64", f"mov eax, {calls.VERSION}; ret 8", "takes more"),

@@ -559,8 +559,8 @@ class X86(Machine):
         values = [item[1] if is_int else self.read(item, width) for item, is_int in used]
         run = plain(MASKS[name][1]) if operands[0][1][0] == "k" and name in MASKS else OPERATIONS[name]
         result = run(self, *values)
-        if name == "and" and operands[0][1] == "rsp":
-            self.must_know_alignment()
+        if name == "and" and operands[0][1] == "rsp" and number_in(values[1]) is not None:
+            self.align_stack(number_in(values[1]))
         if name not in READ_ONLY:
             if operands[0][3] and name not in MASKS:
                 result = self.masked(name, operands[0], result, width)
