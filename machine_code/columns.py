@@ -5,7 +5,7 @@ from calls import COUNT, OK, XXH64, Call, any_length, arguments_of, check_call, 
 from definitions import as_value
 from loops import Subject, prove_each_rest
 from machine import Array
-from values import Stop, add, extend, mul, number, unknown
+from values import Stop, add, extend, mul, number, number_in, unknown
 
 
 def target_and_source(run, is_first, target_length, source_length):
@@ -24,7 +24,7 @@ class Elements(Subject):
         self.machine, self.rest, self.per = machine, rest, per
 
     def number_of(self, count):
-        return add(mul(extend(count), number(self.per)), number(self.rest))
+        return add(mul(extend(count), number(self.per)), self.rest)
 
     def elements_written(self):
         n, rest = divmod(len(self.target.written), self.size)
@@ -51,14 +51,14 @@ class Elements(Subject):
         run, _, turns = loop.at_end()
         run.go()
         run.must_return(OK)
-        self.must_have_written(self.index(turns, loop.done), loop.last * self.per + self.rest - loop.done)
+        self.must_have_written(self.index(turns, loop.done), loop.last * self.per + number_in(self.rest) - loop.done)
 
     def few(self):
         """A call of so few elements that they are known one by one."""
         run = self.start(number(0))
         run.go()
         run.must_return(OK)
-        self.must_have_written(number(0), self.rest)
+        self.must_have_written(number(0), number_in(self.rest))
 
 
 class Numbers(Elements):

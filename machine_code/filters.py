@@ -30,7 +30,7 @@ class Blocks(Elements):
         return extend(unknown((what, self.name), 32, least))
 
     def few(self):
-        if self.rest:
+        if number_in(self.rest):
             super().few()
 
     def length(self, count, size):
@@ -234,7 +234,7 @@ def wrong_result(is_insert):
 def keys_of_wrong_lengths(machine, is_insert):
     prove_each_rest(partial(KeyOfWrongLength, machine, is_insert, number(33)), 32)
     for length, n in itertools.product(lengths_of_none(machine), (0, 7, 40)):
-        KeyOfWrongLength(machine, is_insert, length, n, 1).few()
+        KeyOfWrongLength(machine, is_insert, length, number(n), 1).few()
 
 
 any_hash = unknown("hash", 64)
@@ -346,7 +346,7 @@ class Batches(Values):
         self.checked, self.call, self.key_size, self.least = checked, checked.call, key_size, checked.loop.least
         if self.least > 2:
             raise Stop("the loop over offsets is not reached with two keys")
-        super().__init__(self.call.machine, self.call.is_insert, "", 0, BATCH)
+        super().__init__(self.call.machine, self.call.is_insert, "", number(0), BATCH)
         self.bytes, self.length_bits = key_size, MOST[self.call.width]
         self.first = extend(unknown("start", MOST[self.call.width]))
         self.left = add(extend(unknown("left", 5)), number(self.least))

@@ -7,7 +7,7 @@ from calls import (PIECE, WORDS, Call, Memory, arguments_of, check_call, folded_
 from definitions import XXH64, as_value
 from loops import Subject, prove_each_rest
 from machine import Array
-from values import add, extend, join, mul, number, unknown
+from values import add, extend, join, mul, number, number_in, unknown
 
 
 class Pieces(Subject):
@@ -21,7 +21,7 @@ class Pieces(Subject):
         self.unit, self.lead = per * self.piece, -fill % self.piece
 
     def length(self, count):
-        return add(mul(extend(count), number(self.unit)), number(self.lead + self.rest))
+        return add(add(mul(extend(count), number(self.unit)), number(self.lead)), self.rest)
 
     def after(self, state, offset, size):
         return of(self.hash, "after")(state, self.data(offset, size))
@@ -47,7 +47,7 @@ class Pieces(Subject):
 
     def after_all(self, loop, words, turns):
         """The definitions' state after all bytes, from that with the last turns to do."""
-        left = loop.last * self.unit + self.lead + self.rest - (loop.done * self.piece - self.fill)
+        left = loop.last * self.unit + self.lead + number_in(self.rest) - (loop.done * self.piece - self.fill)
         return self.after(self.at(words, turns, loop.done), self.consumed(turns, loop.done), left)
 
 
@@ -89,7 +89,7 @@ class OneCall(Pieces):
     def few(self):
         """A call of so few bytes that they are known one by one."""
         run = self.start(number(0))
-        self.go_to_end(run, self.after(self.begin, number(0), self.lead + self.rest))
+        self.go_to_end(run, self.after(self.begin, number(0), number_in(self.length(number(0)))))
 
 
 class Update(OneCall):

@@ -174,7 +174,7 @@ class Keys(Elements):
     name, optional = "keys", 1
 
     def __init__(self, offsets, hash, per_key):
-        super().__init__(offsets.call.machine, 0, 1)
+        super().__init__(offsets.call.machine, number(0), 1)
         self.call, self.checked, self.hash = offsets.call, offsets, hash
         self.size = self.bytes = self.call.size
         self.per_key, self.unit, self.inner = per_key, per_key * PIECE[hash], None
@@ -285,7 +285,7 @@ class Key(Pieces):
     """The loop over the pieces of one key, within a turn of the loop over keys."""
 
     def __init__(self, keys, loop, turns, left, rest, per):
-        super().__init__(keys.hash, keys.start_of_key(), rest, per)
+        super().__init__(keys.hash, keys.start_of_key(), number(rest), per)
         self.keys, self.at_keys = keys, lambda count: loop.at(turns, left, (rest, count))
         self.length_bits = MOST[keys.call.width]
 

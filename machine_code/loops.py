@@ -11,6 +11,9 @@ At the head each place, of a register or of memory, is what it is at the entry p
 of the definitions' state; or anything. Two turns suggest which. The three runs then show it: a suggestion that is wrong can
 make a check fail, and not pass. In a turn the number of turns that are left becomes smaller by one, so the loop ends.
 """
+import copy
+from functools import partial
+
 import values
 from machine import Setting, side_by_side
 from values import Stop, Undecided, add, cut, extend, join, mul, number, number_in, sub, unknown, width_of
@@ -139,6 +142,12 @@ class Loop:
         on_each_path(lambda: self.enter(subject.some("total", least)))
         self.check_turns()
 
+    def of(self, subject):
+        """The same with another subject, of which this one is the general case."""
+        other = copy.copy(self)
+        other.subject = subject
+        return other
+
     def find_head(self):
         """A choice that depends on how many turns are left is made once a turn. From it to the next time is a turn, and the
         head is what the first one begins with."""
@@ -265,17 +274,17 @@ class Loop:
         return run, words, turns
 
 
-def prove(make, pers, like=None):
+def prove(make, pers, like=None, finish=lambda loop: loop.subject.finish(loop)):
     """Makes a subject whose turn has as many elements as the code's, and shows its loop: from the entry to the end. `like` is
     a loop that perhaps does the same."""
     faults = []
-    ways = [(pers[0], like.least, like.last, like, like.is_late)] if like else []
+    ways = [(like.subject.per, like.least, like.last, like, like.is_late)] if like else []
     ways += [(per, least, last, None, False) for per in pers for least, last in ((1, 1), (2, 1), (3, 2), (4, 1))]
     ways += [(per, 2, 2, None, True) for per in pers]
     for per, *way in ways:
         try:
             loop = Loop(make(per), *way)
-            loop.subject.finish(loop)
+            finish(loop)
             return loop
         except Setting:
             raise
@@ -286,9 +295,37 @@ def prove(make, pers, like=None):
 
 def prove_each_rest(make, rests=1, lead=0):
     """For calls of any number of elements, each of which can have so many rests; then the few that reach no loop."""
-    loops = [prove(lambda per: make(0, per), (1, 2, 4, 8, 16))]
+    loops = [prove(lambda per: make(number(0), per), (1, 2, 4, 8, 16))]
     per = loops[0].subject.per
-    for rest in range(1, rests * per):
-        loops.append(prove(lambda per: make(rest, per), [per], loops[-1]))
+    if rests * per > 1:
+        loops += prove_rests(partial(make, per=per), rests, per, loops[0])
     for n in range(lead + max(loop.least for loop in loops) * per * rests):
-        make(n - lead, 1).few()
+        make(number(n - lead), 1).few()
+
+
+def prove_rests(make, rests, per, like):
+    """The rests that are not 0. The loop is shown for all of them at once; or, where what comes before it depends on them, for
+    those that are as long but for some pieces; or for each. What comes after it is shown for each."""
+    count = rests * per
+    pieces = unknown("pieces of the rest", (per - 1).bit_length())
+    everything = [(extend(unknown("rest", (count - 1).bit_length(), 1)), range(1, count))]
+    as_long = [(extend(join(number(n, (rests - 1).bit_length()), pieces)), range(n, count, rests)) for n in range(rests)]
+    faults = []
+    for groups in everything, as_long if per > 1 else [], [(number(n), [n]) for n in range(1, count)]:
+        loops = []
+        try:
+            for rest, members in groups:
+                def finish(loop):
+                    for n in members:
+                        subject = make(number(n))
+                        subject.finish(loop.of(subject))
+
+                pers = [per] if len(members) == 1 else []
+                loops.append(prove(lambda per: make(rest), pers, loops[-1] if loops else like, finish))
+            if loops:
+                return loops
+        except Setting:
+            raise
+        except Stop as stop:
+            faults.append(str(stop))
+    raise Stop(" | ".join(dict.fromkeys(faults)))

@@ -146,8 +146,8 @@ def few_calls(machine, hash):
     """Of each length up to two pieces; and an update and a digest."""
     name = calls.NAMES[hash]
     return [
-        *(hashes.OneCall(machine, hash, n, 1).few for n in range(0, 2 * calls.PIECE[hash] + 7, 2)),
-        hashes.Update(machine, hash, 5, 40, 1).few,
+        *(hashes.OneCall(machine, hash, number(n), 1).few for n in range(0, 2 * calls.PIECE[hash] + 7, 2)),
+        hashes.Update(machine, hash, 5, number(40), 1).few,
         partial(calls.check_call, machine, f"{name}_digest", hashes.digest, hash, 9, 1 if hash == "xxh64" else 0),
         partial(calls.check_call, machine, f"{name}_reset", hashes.reset, hash)]
 
@@ -518,8 +518,8 @@ def test_a_loop_that_breaks_a_rule_is_refused(code, before, after, reason, machi
     def run():
         if code == MERGE_PAIRS:
             return loops.prove_each_rest(make)
-        for n in range(1, loops.prove(partial(make, 0), [1]).least):
-            make(n, 1).few()
+        for n in range(1, loops.prove(partial(make, number(0)), [1]).least):
+            make(number(n), 1).few()
 
     with refused(reason):
         loops.on_each_path(run)
@@ -582,15 +582,15 @@ int sketch_bloom_insert_each_hash(void *bits, size_t length, const uint64_t *has
 }
 """
 REFUSED = [
-    lambda m: loops.prove(partial(hashes.OneCall, m, "xxh64", 500 % 32), [1]),
-    lambda m: loops.prove(partial(hashes.OneCall, m, "murmur", 500 % 16), [1]),
-    lambda m: loops.prove(partial(hashes.Update, m, "xxh64", 3, 500 - 29 & 31), [1]),
+    lambda m: loops.prove_each_rest(partial(hashes.OneCall, m, "xxh64"), 32),
+    lambda m: loops.prove(partial(hashes.OneCall, m, "murmur", number(500 % 16)), [1]),
+    lambda m: loops.prove(partial(hashes.Update, m, "xxh64", 3, number(500 - 29 & 31)), [1]),
     lambda m: keys.prove_offsets(column_of(m, "xxh64")),
     lambda m: column_of(m, "xxh64").few(),
     lambda m: [run() for name, run in rates.checks(m) if name == "bloom_bytes_for"],
-    lambda m: loops.prove(partial(filters.KeyOfColumn, texts(m, True), 500 % 32), [1]),
+    lambda m: loops.prove(partial(filters.KeyOfColumn, texts(m, True), number(500 % 32)), [1]),
     lambda m: filters.prove_texts(texts(m, False)),
-    lambda m: loops.prove(partial(filters.Values, m, True, "hash", 0), [1, 2]),
+    lambda m: loops.prove(partial(filters.Values, m, True, "hash", number(0)), [1, 2]),
 ]
 
 
