@@ -289,8 +289,8 @@ def wrong_folds(machine):
 # ---- columns of texts. Such a call hashes 32 keys at a time to its stack, in a loop over batches, one over keys and one over
 # pieces. The induction follows that over batches if all keys have one length, and that over pieces if there is one key.
 
-# The lengths of keys: each to 100, so that there are four batches, and some that are longer.
-KEY_LENGTHS = [k * 37 % 101 for k in range(101)], [2100, 0, 3, 515], []
+# The lengths of keys: each to 40, so that there are two batches; some that are longer; and no key.
+KEY_LENGTHS = [k * 37 % 41 for k in range(41)], [100, 0, 3, 70], []
 
 
 class TextsCall(ColumnCall):
