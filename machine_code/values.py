@@ -109,9 +109,10 @@ def number_in(value):
 
 
 def known(value, what):
-    if number_in(value) is None:
+    n = number_in(value)
+    if n is None:
         raise Stop(f"{what} depends on an unknown")
-    return number_in(value)
+    return n
 
 
 def width_of(value):
