@@ -151,14 +151,19 @@ def cut(value, low, width):
         elif first < last:
             parts.append((a, start >> first & (1 << last - first) - 1 if a == NUMBER else start + first, last - first))
         at += size
+        if at >= end:
+            break
     return tuple(parts)
 
 
 def extend(value, width=64):
     rest = width - width_of(value)
-    if not rest:
+    if rest < 0:
+        raise ValueError(f"a value has more than {width} bits")
+    if rest == 0:
         return value
-    return join(value, number(0, rest))
+    a, low, above = value[-1] if value else (NUMBER, 0, 0)
+    return (*value[:-1], (NUMBER, low, above + rest)) if a == NUMBER else (*value, (NUMBER, 0, rest))
 
 
 def sign_extend(value, width):
