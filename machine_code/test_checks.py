@@ -500,6 +500,8 @@ WRONG_BLOCK = "movdqu [rdi+rax-32], xmm7"
     (MERGE, "1:", "1: 8:", None), (MERGE_PAIRS, "ud2", "ud2", None),
     (MERGE, "eax; ret", "eax; inc eax; ret", "the result"),
     (MERGE, "1:", f"1: {WRONG_BLOCK.replace('-32', '')}; 8:", "definitions"),
+    # Before the loop, in calls with many blocks.
+    (MERGE, "1:", f"{UNION}; cmp rsi, 3; jb 2f; {WRONG_BLOCK}; 2: sub rsi, 1; je 3f; 1: 8:", "definitions"),
     # In the first turn, in a later one, in each but the first one, in the last but one, and in the last one.
     (MERGE, "1:", "cmp rsi, 3; ja 1f; cmp rsi, 1; je 1f; movdqu [rdi+32], xmm7; 1: 8:", "definitions"),
     (MERGE, "sub rsi", "cmp rax, 3200; jne 2f; add rax, 32; 2: 8: sub rsi", "."), (MERGE, "1:", "1: jne 9f; 8:", "not known"),
@@ -558,6 +560,21 @@ int sketch_xxh64_each64(const void *input, size_t length, const uint64_t *offset
     if (status == 0) *wrong_offset = 0;
     return status;
 }
+#undef sketch_murmur3_x64_128_update
+void sketch_murmur3_x64_128_update(sketch_murmur3_x64_128_state_t *state, const void *input, size_t length) {
+    right_sketch_murmur3_x64_128_update(state, input, length);
+    *(char *)state ^= length == 500;
+}
+#undef sketch_murmur3_x64_128_each64
+int sketch_murmur3_x64_128_each64(const void *input, size_t length, const uint64_t *offsets, size_t offset_count,
+                                  uint64_t seed, uint64_t *out, size_t count, size_t *wrong_offset) {
+    int status = right_sketch_murmur3_x64_128_each64(input, length, offsets, offset_count, seed, out, count, wrong_offset);
+    return status + 2 * (*wrong_offset == offset_count);
+}
+#undef sketch_bloom_contains_hash
+int sketch_bloom_contains_hash(const void *bits, size_t length, uint64_t hash) {
+    return right_sketch_bloom_contains_hash(bits, length, hash) | (hash == 500) << 1;
+}
 #undef sketch_bloom_bytes_for
 size_t sketch_bloom_bytes_for(uint64_t keys, uint64_t one_in) {
     return right_sketch_bloom_bytes_for(keys, one_in + (keys == 9));
@@ -578,13 +595,16 @@ int sketch_bloom_contains_each64(const void *bits, size_t length, const void *ke
 }
 #undef sketch_bloom_insert_each_hash
 int sketch_bloom_insert_each_hash(void *bits, size_t length, const uint64_t *hashes, size_t count) {
-    return right_sketch_bloom_insert_each_hash(bits, length, hashes, count - (count == 100));
+    return right_sketch_bloom_insert_each_hash(bits, length, hashes, count - (count >= 3));
 }
 """
 REFUSED = [
     lambda m: loops.prove_each_rest(partial(hashes.OneCall, m, "xxh64"), 32),
     lambda m: loops.prove(partial(hashes.OneCall, m, "murmur", number(500 % 16)), [1]),
     lambda m: loops.prove(partial(hashes.Update, m, "xxh64", 3, number(500 - 29 & 31)), [1]),
+    lambda m: loops.prove(partial(hashes.Update, m, "murmur", 3, number(500 - 13 & 15)), [1]),
+    lambda m: keys.prove_offsets(column_of(m, "murmur")),
+    lambda m: filters.one_hash(m, False),
     lambda m: keys.prove_offsets(column_of(m, "xxh64")),
     lambda m: column_of(m, "xxh64").few(),
     lambda m: [run() for name, run in rates.checks(m) if name == "bloom_bytes_for"],
