@@ -410,6 +410,10 @@ FAMILIES = {
     "ptestm bwdq": lambda n: each(n, lambda x, y: complement(is_zero(bitwise("and", x, y)))),
     "ptestnm bwdq": lambda n: each(n, lambda x, y: is_zero(bitwise("and", x, y))),
     "pcmpneq bwdq": lambda n: each(n, lambda x, y: complement(is_zero(bitwise("xor", x, y)))),
+    "pcmpltu bwdq": lambda n: each(n, lambda x, y: number(is_below(x, y), 1)),
+    "pcmpnltu bwdq": lambda n: each(n, lambda x, y: number(not is_below(x, y), 1)),
+    "pcmpnleu bwdq": lambda n: each(n, lambda x, y: number(is_below(y, x), 1)),
+    "pcmpleu bwdq": lambda n: each(n, lambda x, y: number(not is_below(y, x), 1)),
 }
 for family, make in FAMILIES.items():
     name, letters = family.split()
@@ -604,7 +608,7 @@ class X86(Machine):
 
     def repeated(self, op, text):
         """So many numbers in memory; the caller has cleared the flag of direction."""
-        kind, name = re.match(r"(stos|movs) (\w+) PTR es:\[rdi\]", text).groups()
+        kind, name = re.match(r"(stos|movs) (\w+) PTR (?:es:)?\[rdi\]", text).groups()
         size = STRINGS[name]
         for _ in range(known(self.registers["rcx"], "a number of words")):
             is_move = kind == "movs"
