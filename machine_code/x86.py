@@ -410,11 +410,13 @@ FAMILIES = {
     "ptestm bwdq": lambda n: each(n, lambda x, y: complement(is_zero(bitwise("and", x, y)))),
     "ptestnm bwdq": lambda n: each(n, lambda x, y: is_zero(bitwise("and", x, y))),
     "pcmpneq bwdq": lambda n: each(n, lambda x, y: complement(is_zero(bitwise("xor", x, y)))),
-    "pcmpltu bwdq": lambda n: each(n, lambda x, y: number(is_below(x, y), 1)),
-    "pcmpnltu bwdq": lambda n: each(n, lambda x, y: number(not is_below(x, y), 1)),
-    "pcmpnleu bwdq": lambda n: each(n, lambda x, y: number(is_below(y, x), 1)),
-    "pcmpleu bwdq": lambda n: each(n, lambda x, y: number(not is_below(y, x), 1)),
 }
+for kind, is_less in (("", lambda x, y: number_in(if_greater(y, x)) != 0), ("u", is_below)):
+    FAMILIES |= {
+        f"pcmplt{kind} bwdq": lambda n, less=is_less: each(n, lambda x, y: number(less(x, y), 1)),
+        f"pcmpnlt{kind} bwdq": lambda n, less=is_less: each(n, lambda x, y: number(not less(x, y), 1)),
+        f"pcmpnle{kind} bwdq": lambda n, less=is_less: each(n, lambda x, y: number(less(y, x), 1)),
+        f"pcmple{kind} bwdq": lambda n, less=is_less: each(n, lambda x, y: number(not less(y, x), 1))}
 for family, make in FAMILIES.items():
     name, letters = family.split()
     PLAIN |= {f"{name}{letter}": make(LETTERS[letter]) for letter in letters}
