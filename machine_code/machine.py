@@ -240,7 +240,7 @@ class Machine:
         bit = self.bit_of_table(address) if len(base) == 2 and size == 4 else None
         if bit is not None:
             return bit
-        if base == place_of(self.image)[0] or self.is_in_stack(base) or any((base, start + i) in self.bytes for i in range(size)):
+        if base in (place_of(self.image)[0], *self.areas) or any((base, start + i) in self.bytes for i in range(size)):
             found = [self.byte(base, start + i) for i in range(size)]
         else:
             array, offset = self.in_array(address, size)
@@ -285,7 +285,7 @@ class Machine:
         self.areas[other] = top, top
 
     def must_be_aligned(self, address, size=16):
-        """The stack pointer has a rest modulo 16 before a call. Any other address must show it."""
+        """Before a call the stack pointer is known modulo 16 alone. Any other address is a sum of multiples, or refused."""
         base, at = place_of(address)
         if base == self.base and size <= 16:
             factors, at = [], at + self.entry - place_of(self.stack)[1]
