@@ -44,6 +44,13 @@ def by_numbers(function):
     return lambda x, *numbers: function(x, *(known(n, "a place") for n in numbers))
 
 
+def quotient(x, y):
+    """By 0 it is 0. That of unknowns is one more unknown."""
+    if None in (number_in(x), number_in(y)):
+        return unknown(("quotient", x, y), width_of(x))
+    return number(number_in(x) // number_in(y) if number_in(y) else 0, width_of(x))
+
+
 def on_numbers(function, is_signed=False):
     """All operands are known."""
     def run(*values):
@@ -103,7 +110,7 @@ PLAIN = {
     "mneg": lambda x, y: negative(mul(x, y)), "umull": wide(False, mul), "smull": wide(True, mul),
     "umaddl": wide(False, lambda x, y, z: add(mul(x, y), z)), "smaddl": wide(True, lambda x, y, z: add(mul(x, y), z)),
     "umulh": on_numbers(lambda x, y: x * y >> 64), "smulh": on_numbers(lambda x, y: x * y >> 64, True),
-    "udiv": on_numbers(lambda x, y: x // y if y else 0),
+    "udiv": quotient,
     "bic": lambda x, y: bitwise("and", x, complement(y)), "orn": lambda x, y: bitwise("or", x, complement(y)),
     "eon": lambda x, y: bitwise("xor", x, complement(y)),
     "ubfx": by_numbers(lambda x, at, width: extend(cut(x, at, width), width_of(x))),

@@ -171,7 +171,7 @@ class Machine:
 
     def stack_pointer(self):
         """Before the call."""
-        return extend(unknown("stack", 62, 1 << 20))
+        return extend(join(number(self.entry, 4), unknown("stack", 58, 1 << 16)))
 
     def map(self, address, values, writable=False):
         """Memory with these values, each of some bytes."""
@@ -279,19 +279,16 @@ class Machine:
         ends where the pointer was."""
         before = self.registers[self.pointer]
         (base, at), (other, top) = place_of(before), place_of(bitwise("and", before, number(mask)))
-        if base != self.base or other == base or signed(mask) < -64:
+        if base == other:
+            return
+        if base != self.base or signed(mask) < -64:
             raise Stop("an alignment of the stack that is not understood")
         self.end_area(base, at)
         self.areas[other] = top, top
 
     def must_be_aligned(self, address, size=16):
-        """Before a call the stack pointer is known modulo 16 alone. Any other address is a sum of multiples, or refused."""
         base, at = place_of(address)
-        if base == self.base and size <= 16:
-            factors, at = [], at + self.entry - place_of(self.stack)[1]
-        else:
-            factors = [factor for _, factor in base]
-        if any(n % size for n in (at, *factors)):
+        if any(n % size for n in (at, *(factor for _, factor in base))):
             raise Stop("an access that is perhaps not aligned")
 
     # ---- conditions, by the names that x86-64 has for them

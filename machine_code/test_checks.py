@@ -251,6 +251,8 @@ RIGHT = [
     ("aarch64", f"mov w2, w1; add x3, x9, w1, uxtw #3; sub x3, x3, x2, lsl #3; eor x3, x3, x9; cbnz x3, 1f; {ARM}; 1: udf #0"),
     ("aarch64", f"cmp x1, x1; csinv x3, x9, xzr, ne; csinv x4, x9, x9, eq; eor x4, x4, x9; sub x3, x3, x4; mvn x3, x3; "
                 f"cbnz x3, 1f; {ARM}; 1: udf #0"),
+    ("aarch64", f"udiv x3, x0, x1; udiv x4, x0, x1; sub x3, x3, x4; cbnz x3, 1f; {ARM}; 1: udf #0"),
+    ("aarch64", f"mov x3, sp; orr x4, x3, #12; sub x4, x4, x3; cmp x4, #12; b.ne 1f; {ARM}; 1: udf #0"),
     ("x86-64", f"mov rax, rsp; and rsp, -64; sub rsp, 64; movaps [rsp], xmm1; mov rsp, rax; {VERSION}"),
     ("x86-64", f"lea r10, [rsp+8]; and rsp, -32; push [r10-8]; vmovdqa ymm0, [rsp-56]; pop rcx; lea rsp, [r10-8]; {VERSION}"),
     *(("aarch64", f"cmp x1, x1; ccmp x1, x1, {bits}, ne; b.{name} 2f; {ARM}; 2: udf #0")
@@ -370,6 +372,8 @@ WRONG = [
     *(("x86-64", f"mov edx, {high}; mov eax, 7; mov ecx, 3; div {by}; {VERSION}", "a division") for high, by in (
         (0, "cl"), (3, "ecx"))),
     ("aarch64", f"cls x1, x0; {ARM}", "is not known"),
+    ("aarch64", f"udiv x3, x0, x1; udiv x4, x1, x0; sub x3, x3, x4; cbnz x3, 1f; {ARM}; 1: udf #0", "udf"),
+    ("aarch64", f"mov x3, sp; orr x4, x3, #16; sub x4, x4, x3; cmp x4, #16; b.ne 1f; {ARM}; 1: udf #0", "udf"),
     ("aarch64", f"movi v0.16b, #128; movi v1.16b, #255; sshl v0.4s, v0.4s, v1.4s; {ARM}", "a signed shift to the right"),
     ("aarch64", f"sub sp, sp, #16; {ARM}", "the stack pointer is not restored"),
     ("aarch64", f"str x0, [sp, #-16]; {ARM}", "outside"),
