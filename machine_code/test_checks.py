@@ -571,7 +571,7 @@ void sketch_murmur3_x64_128_update(sketch_murmur3_x64_128_state_t *state, const 
 }
 #undef sketch_murmur3_x64_128_each64
 int sketch_murmur3_x64_128_each64(const void *input, size_t length, const uint64_t *offsets, size_t offset_count,
-                                  uint64_t seed, uint64_t *out, size_t count, size_t *wrong_offset) {
+                                  uint64_t seed, uint64_t (*out)[2], size_t count, size_t *wrong_offset) {
     int status = right_sketch_murmur3_x64_128_each64(input, length, offsets, offset_count, seed, out, count, wrong_offset);
     return status + 2 * (*wrong_offset == offset_count);
 }
