@@ -274,23 +274,31 @@ class Loop:
         return run, words, turns
 
 
-def prove(make, pers, like=None, finish=lambda loop: loop.subject.finish(loop)):
-    """Makes a subject whose turn has as many elements as the code's, and shows its loop: from the entry to the end. `like` is
-    a loop that perhaps does the same."""
+def first_shown(attempts):
+    """What the first attempt gives that is not refused."""
     faults = []
-    ways = [(like.subject.per, like.least, like.last, like, like.is_late)] if like else []
-    ways += [(per, least, last, None, False) for per in pers for least, last in ((1, 1), (2, 1), (3, 2), (4, 1))]
-    ways += [(per, 2, 2, None, True) for per in pers]
-    for per, *way in ways:
+    for attempt in attempts:
         try:
-            loop = Loop(make(per), *way)
-            finish(loop)
-            return loop
+            return attempt()
         except Setting:
             raise
         except Stop as stop:
             faults.append(str(stop))
     raise Stop(" | ".join(dict.fromkeys(faults)))
+
+
+def prove(make, pers, like=None, finish=lambda loop: loop.subject.finish(loop)):
+    """Makes a subject whose turn has as many elements as the code's, and shows its loop: from the entry to the end. `like` is
+    a loop that perhaps does the same."""
+    def attempt(per, *way):
+        loop = Loop(make(per), *way)
+        finish(loop)
+        return loop
+
+    ways = [(like.subject.per, like.least, like.last, like, like.is_late)] if like else []
+    ways += [(per, least, last, None, False) for per in pers for least, last in ((1, 1), (2, 1), (3, 2), (4, 1))]
+    ways += [(per, 2, 2, None, True) for per in pers]
+    return first_shown(partial(attempt, *way) for way in ways)
 
 
 def prove_each_rest(make, rests=1, lead=0):
@@ -298,7 +306,7 @@ def prove_each_rest(make, rests=1, lead=0):
     loops = [prove(lambda per: make(number(0), per), (1, 2, 4, 8, 16))]
     per = loops[0].subject.per
     if rests * per > 1:
-        loops += prove_rests(partial(make, per=per), rests, per, loops[0])
+        loops = prove_rests(partial(make, per=per), rests, per, loops[0])
     for n in range(lead + max(loop.least for loop in loops) * per * rests):
         make(number(n - lead), 1).few()
 
@@ -306,26 +314,20 @@ def prove_each_rest(make, rests=1, lead=0):
 def prove_rests(make, rests, per, like):
     """The rests that are not 0. The loop is shown for all of them at once; or, where what comes before it depends on them, for
     those that are as long but for some pieces; or for each. What comes after it is shown for each."""
+    def attempt(groups):
+        loops = [like]
+        for rest, members in groups:
+            def finish(loop):
+                for n in members:
+                    subject = make(number(n))
+                    subject.finish(loop.of(subject))
+
+            loops.append(prove(lambda per: make(rest), [per] * (len(members) == 1), loops[-1], finish))
+        return loops
+
     count = rests * per
     pieces = unknown("pieces of the rest", (per - 1).bit_length())
     everything = [(extend(unknown("rest", (count - 1).bit_length(), 1)), range(1, count))]
     as_long = [(extend(join(number(n, (rests - 1).bit_length()), pieces)), range(n, count, rests)) for n in range(rests)]
-    faults = []
-    for groups in everything, as_long if per > 1 else [], [(number(n), [n]) for n in range(1, count)]:
-        loops = []
-        try:
-            for rest, members in groups:
-                def finish(loop):
-                    for n in members:
-                        subject = make(number(n))
-                        subject.finish(loop.of(subject))
-
-                pers = [per] if len(members) == 1 else []
-                loops.append(prove(lambda per: make(rest), pers, loops[-1] if loops else like, finish))
-            if loops:
-                return loops
-        except Setting:
-            raise
-        except Stop as stop:
-            faults.append(str(stop))
-    raise Stop(" | ".join(dict.fromkeys(faults)))
+    each = [(number(n), [n]) for n in range(1, count)]
+    return first_shown(partial(attempt, groups) for groups in ([everything, as_long, each] if per > 1 else [everything, each]))

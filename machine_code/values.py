@@ -194,8 +194,8 @@ def rotate_right(value, n):
 
 def lanes(size, function, *values):
     """A function of each lane of some values."""
-    if len(set(map(width_of, values))) != 1:
-        raise Stop("vectors of different lengths")
+    if len(set(map(width_of, values))) != 1 or width_of(values[0]) % size:
+        raise Stop("vectors of other lengths")
     return join(*map(function, *(split(value, size) for value in values)))
 
 
