@@ -1,274 +1,248 @@
-"""Expressions of C as trees, and their text with as few brackets as one writes."""
-import collections
-import itertools
+"""Expressions of C, each with its type, and the rules by which they become simpler."""
+from __future__ import annotations
 
-# `type` is one of C, or the kind of a pointer; `reads` are the places in memory that it reads: each a pointer and the offsets
-# of its first byte and of its end.
-Expression = collections.namedtuple("Expression", "op args type reads")
-# What a pointer points into: bytes; native numbers of a width, which `const` may keep from being written; pairs of numbers; a
-# state of the header, or a size.
-Pointer = collections.namedtuple("Pointer", "kind is_const")
+from dataclasses import dataclass, field
+from typing import Callable, Iterator
 
+from mir import Unknown
 
-NOTHING, ANYWHERE = frozenset(), "anywhere"
 
+@dataclass(frozen=True)
+class CType:
+    """A type of C. `bits` is 0 if it is no number."""
 
-class State:
-    """A struct of the header: `fields` maps the place of each number to its name; `end` is that of the bytes after them."""
+    text: str
+    bits: int = 0
 
-    def __init__(self, name, fields):
-        self.name, self.fields, self.end = name, fields, 8 * len(fields)
 
+@dataclass(frozen=True)
+class Pointer(CType):
+    """To elements of so many bytes. An element may be an array of `inner` numbers.
 
-LEVELS = [("*", "/"), ("+", "-"), ("<<", ">>"), ("<", "<=", ">", ">="), ("==", "!="), ("&",), ("^",), ("|",), ("&&",), ("||",),
-          ("?:",)]
-LEVEL = {op: 3 + place for place, ops in enumerate(LEVELS) for op in ops}
-ATOM, UNARY = 0, 1
-SIGNS = {"add": "+", "sub": "-", "mul": "*", "udiv": "/", "shl": "<<", "lshr": ">>", "and": "&", "or": "|", "xor": "^"}
-NEGATED = {"==": "!=", "!=": "==", "<": ">=", ">=": "<", ">": "<=", "<=": ">"}
-COMMUTES = {"+", "*", "&", "|", "^", "&&", "||"}
-WIDTHS = {"bool": 1, "uint8_t": 8, "uint16_t": 16, "uint32_t": 32, "uint64_t": 64, "size_t": 64}
+    What a caller's column has may have another type in the program, and need not be aligned.
+    """
 
-WIDE = "skh_uint128"
-TYPES = {"i1": "bool", "i8": "uint8_t", "i16": "uint16_t", "i32": "uint32_t", "i64": "uint64_t", "i128": WIDE, "void": "void"}
-# The fields of a result that is two numbers.
-FIELDS = {"struct skh_pair": (("uint64_t", "first"), ("uint64_t", "second")),
-          "struct skh_option": (("bool", "is_some"), ("uint64_t", "value")),
-          "struct skh_result": (("bool", "is_error"), ("uint64_t", "value"))}
+    size: int = 1
+    is_const: bool = False
+    inner: int = 0
+    is_column: bool = False
+    is_array: bool = False
 
+    def declare(self, name: str) -> str:
+        const = "const " * self.is_const
+        return f"{const}{self.text} (*{name})[{self.inner}]" if self.inner else f"{const}{self.text} *{name}"
 
-class Name:
-    """A variable. `hints` are texts for its name, each with a number: the least is the best."""
 
-    numbers = itertools.count()
+@dataclass(frozen=True)
+class Struct(CType):
+    """Its members by name, each with its type, or an array of bytes with their count."""
 
-    def __init__(self, type, text=None):
-        self.type, self.text, self.number = type, text, next(self.numbers)
-        self.is_parameter = text is not None
-        self.hints = [(0, text)] if text else [(9, type.removeprefix("struct skh_"))] if type in FIELDS else []
+    members: tuple[tuple[str, CType | int], ...] = ()
 
-    def hint(self, rank, text):
-        self.hints.append((rank, text))
 
-    def is_certain(self):
-        """Whether the source gives it its name."""
-        return any(rank < 3 for rank, _ in self.hints)
+BOOL, VOID, INT, SIZE = CType("bool", 1), CType("void"), CType("int", 32), CType("size_t", 64)
+NUMBERS = {bits: CType(f"uint{bits}_t", bits) for bits in (8, 16, 32, 64)}
+NUMBERS[128] = CType("skh_uint128", 128)
 
 
-def name(variable):
-    return Expression("name", (variable,), variable.type, NOTHING)
+@dataclass(eq=False)
+class Variable:
+    """`is_set`: whether it gets another value than its first. `count` is that of an array's elements."""
 
-
-def value_of(variable):
-    found = name(variable)
-    return made("place", variable.type, found, None, 0) if isinstance(variable.type, Pointer) else found
-
-
-def number(value, type="uint64_t"):
-    return Expression("number", (value & (1 << WIDTHS[type]) - 1,), type, NOTHING)
-
-
-def text(word, type):
-    return Expression("text", (word,), type, NOTHING)
-
-
-def call(function, type, *arguments, reads=False):
-    return Expression("call", (function, *arguments), type, frozenset([ANYWHERE]) if reads else read_in(arguments))
-
-
-def made(op, type, *arguments):
-    return Expression(op, arguments, type, read_in(arguments))
-
-
-def read_in(arguments):
-    return NOTHING.union(*(each.reads for each in arguments if isinstance(each, Expression)))
-
-
-def field(value, key, type):
-    return Expression("field", (value, key), type, value.reads)
-
-
-def fields(value):
-    """The two numbers of a struct."""
-    return value.args if value.op == "struct" else tuple(field(value, key, type) for type, key in FIELDS[value.type])
-
-
-def is_number(value, *numbers):
-    return value.op == "number" and (not numbers or value.args[0] in numbers)
-
-
-def cast(type, value):
-    if value.type == type:
-        return value
-    return made("cast", type, value)
-
-
-def uncast(value):
-    """A value that is given to something of its type, which is enough to make it wider."""
-    is_wider = value.op == "cast" and WIDTHS.get(value.args[0].type, 99) < WIDTHS.get(value.type, 0)
-    return value.args[0] if is_wider else value
-
-
-def binary(op, one, other, type=None):
-    if op in COMMUTES and is_number(one) and not is_number(other):
-        one, other = other, one
-    return made(op, type or one.type, one, other)
-
-
-def comparison(op, one, other):
-    if one.type == "bool" and is_number(other, 0, 1) and op in ("==", "!="):
-        return one if (op == "==") == is_number(other, 1) else negation(one)
-    return made(op, "bool", one, other)
-
-
-def choice(condition, one, other, type):
-    """One of two values, without what the condition says already."""
-    if is_number(condition):
-        return one if condition.args[0] else other
-    if type == "bool" and is_number(other, 0):
-        return conjunction(condition, one)
-    if condition.op in ("!", "!="):
-        return choice(negation(condition), other, one, type)
-    return made("?:", type, condition, one, other)
-
-
-def conjunction(one, other):
-    return made("&&", "bool", one, other)
-
-
-def disjunction(one, other):
-    """One or the other, of which the second is only asked if the first is not so."""
-    if one.op == "&&" and negation(one.args[0]) == other:
-        return disjunction(other, one.args[1])
-    return made("||", "bool", one, other)
-
-
-def negation(value):
-    if value.op == "!":
-        return value.args[0]
-    if value.op in NEGATED:
-        return made(NEGATED[value.op], "bool", *value.args)
-    if value.op in ("&&", "||"):
-        return made("||" if value.op == "&&" else "&&", "bool", *map(negation, value.args))
-    return made("!", "bool", value)
-
-
-def parts(value):
-    """It, and all expressions in it."""
-    yield value
-    for each in value.args:
-        if isinstance(each, Expression):
-            yield from parts(each)
-
-
-def names_in(value):
-    return {each.args[0] for each in parts(value) if each.op == "name"}
-
-
-def in_order(names):
-    """As they were made, so that the text is the same in each run."""
-    return sorted(names, key=lambda name: name.number)
-
-
-TESTS = {"!": negation, "&&": conjunction, "||": disjunction}
-
-
-def replaced(value, known):
-    """The expression with what `known` maps an expression to in the place of that."""
-    if value in known:
-        return known[value]
-    args = tuple(replaced(each, known) if isinstance(each, Expression) else each for each in value.args)
-    if args == value.args:
-        return value
-    if value.op == "?:":
-        return choice(*args, value.type)
-    return TESTS[value.op](*args) if value.op in TESTS else value._replace(args=args, reads=value.reads | read_in(args))
-
-
-def size_of(value):
-    return sum(1 for _ in parts(value))
-
-
-class Writer:
-    """Writes expressions. `named` maps a number to the name that the source gives it, and `sums` one to how the source
-    computes it."""
-
-    def __init__(self, named, sums):
-        self.named, self.sums = named, sums
-
-    def number(self, value, type):
-        if type == "bool":
-            return "true" if value else "false"
-        width = WIDTHS[type]
-        if value in self.named or value in self.sums:
-            return self.named.get(value) or self.sums[value]
-        for one, name in self.named.items():
-            rest = value - one & (1 << width) - 1
-            if width == 64 and (rest < 64 or rest in self.named):
-                return f"{name} + {self.named.get(rest, rest)}"
-        if width == 64 and value == (1 << 64) - 1:
-            return "UINT64_MAX"
-        if width == 64 and value >> 63 and (1 << 64) - value <= 1 << 16:
-            return f"~(uint64_t){(1 << 64) - value - 1}"
-        if value >= 1 << 16 and value & value - 1 == 0:
-            one = "(uint64_t)1" if width == 64 else "1u"
-            return f"{one} << {value.bit_length() - 1}"
-        return str(value) if value < 1 << 16 else f"0x{value:x}u"
-
-    def level(self, value):
-        if value.op == "number":
-            found = self.number(value.args[0], value.type)
-            return LEVEL["<<"] if "<<" in found else LEVEL["+"] if " + " in found else ATOM if found[0] != "~" else UNARY
-        if value.op in LEVEL:
-            return LEVEL[value.op]
-        return UNARY if value.op in ("!", "~", "cast") else ATOM
-
-    def within(self, value, level):
-        found = self.write(value)
-        return f"({found})" if self.level(value) > level else found
-
-    def write(self, value):
-        op, args = value.op, value.args
-        if op in ("name", "text"):
-            return args[0].text if op == "name" else args[0]
-        if op == "number":
-            return self.number(args[0], value.type)
-        if op == "call":
-            return f"{args[0]}({', '.join(map(self.write, args[1:]))})"
-        if op == "struct":
-            return self.struct(value.type, *args)
-        if op in ("field", "arrow"):
-            return f"{self.within(args[0], ATOM)}{'.' if op == 'field' else '->'}{args[1]}"
-        if op == "index":
-            return f"{self.within(args[0], ATOM)}[{self.write(args[1])}]"
-        if op in ("deref", "cast", "!", "~"):
-            return {"deref": "*", "cast": f"({value.type})"}.get(op, op) + self.within(args[0], UNARY)
-        if op == "?:":
-            level = LEVEL["?:"]
-            condition, one = (self.within(each, level - 1) for each in args[:2])
-            return f"{condition} ? {one} : {self.within(args[2], level)}"
-        return self.binary(op, *args)
-
-    def struct(self, type, one, other):
-        if type == "struct skh_pair":
-            return f"skh_pair_of({self.write(one)}, {self.write(other)})"
-        names = {"struct skh_option": ("none", "some"), "struct skh_result": ("ok", "error")}[type]
-        if not is_number(one):
-            return f"{type.removeprefix('struct ')}_of({self.write(one)}, {self.write(other)})"
-        name = names[one.args[0]]
-        return f"skh_{name}({'' if name == 'none' else self.write(other)})"
-
-    def binary(self, op, one, other):
-        level = LEVEL[op]
-        is_sum = op == "+" and is_number(other)  # of numbers that have names
-        most = level - (not is_sum and (op not in COMMUTES or other.op != op))
-        left = self.within(one, -1 if self.needs_brackets(op, one) else level)
-        right = self.within(other, -1 if self.needs_brackets(op, other) else most)
-        return f"{left} {op} {right}"
-
-    def needs_brackets(self, op, value):
-        """Whether few know which of the two operators is first."""
-        bits = {"&", "|", "^", "<<", ">>"}
-        if op in bits and value.op in LEVEL and value.op != op and LEVEL[value.op] < LEVEL[op]:
-            return value.op in {"+", "-", "*", "/"} | bits
-        return op == "||" and value.op == "&&"
+    name: str
+    type: CType
+    count: int = 0
+    is_set: bool = False
+    is_parameter: bool = False
+    is_temporary: bool = False  # whether it has no name in the source
+    is_in_memory: bool = False  # whether it is an array, or its address is passed on
+
+
+@dataclass(frozen=True)
+class Expression:
+    """An operator of C or one of the words below, and what it is applied to.
+
+    number VALUE, variable VARIABLE, zero (all bytes of an array), address VARIABLE, at BASE OFFSET (a pointer, in bytes),
+    load POINTER (a number of bytes, the lowest first), element POINTER (a number of an array), member BASE NAME,
+    deref POINTER, call NAME READS ARGUMENTS.., cast VALUE, ? CONDITION YES NO
+    """
+
+    word: str
+    type: CType
+    args: tuple = field(default=())
+
+    def parts(self) -> Iterator[Expression]:
+        yield self
+        for arg in self.args:
+            if isinstance(arg, Expression):
+                yield from arg.parts()
+
+    def reads_memory(self) -> bool:
+        return any(part.word in ("load", "element", "deref") or part.word == "call" and part.args[1]
+                   or part.word == "member" and isinstance(part.args[0].type, Pointer)
+                   or part.word == "variable" and part.args[0].is_in_memory for part in self.parts())
+
+    def variables(self) -> set[Variable]:
+        return {part.args[0] for part in self.parts() if part.word in ("variable", "address")}
+
+
+def number(value: int, bits: int) -> Expression:
+    return Expression("number", BOOL if bits == 1 else NUMBERS[bits], (value % 2 ** bits,))
+
+
+def variable(own: Variable) -> Expression:
+    return Expression("variable", own.type, (own,))
+
+
+def value_of(e: object) -> int | None:
+    return e.args[0] if isinstance(e, Expression) and e.word == "number" else None
+
+
+def call(name: str, type: CType, args: list[Expression], reads: bool = False) -> Expression:
+    return Expression("call", type, (name, reads, *args))
+
+
+COMPUTE: dict[str, Callable[[int, int], int]] = {
+    "+": int.__add__, "-": int.__sub__, "*": int.__mul__, "/": int.__floordiv__, "%": int.__mod__, "<<": int.__lshift__,
+    ">>": int.__rshift__, "&": int.__and__, "|": int.__or__, "^": int.__xor__, "==": int.__eq__, "!=": int.__ne__,
+    "<": int.__lt__, "<=": int.__le__, ">": int.__gt__, ">=": int.__ge__}
+NEGATED = {"==": "!=", "!=": "==", "<": ">=", ">=": "<", "<=": ">", ">": "<="}
+TURNED = {"==": "==", "!=": "!=", "<": ">", ">": "<", "<=": ">=", ">=": "<="}
+
+
+def is_power(value: int | None) -> bool:
+    return value is not None and value > 0 and value & (value - 1) == 0
+
+
+def operation(word: str, a: Expression, b: Expression) -> Expression:
+    """`a word b`, modulo 2^bits, of numbers of one width without a sign. Both are numbers of that width, also for shifts."""
+    bits = a.type.bits
+    if b.type.bits != bits:
+        raise Unknown(f"{word} of {a.type.text} and {b.type.text}")
+    type = BOOL if word in NEGATED else a.type
+    x, y = value_of(a), value_of(b)
+    if x is not None and y is not None:
+        if word in ("+", "*") and COMPUTE[word](x, y) >= 2 ** 32:  # it is read as its source has it
+            return Expression(word, type, (a, b))
+        return number(int(COMPUTE[word](x, y)), type.bits)
+    if word == "+" and a.word == "cast" and b.word == "<<" and bits == 128 and value_of(b.args[1]) == 64 \
+            and b.args[0].word == "cast":
+        return call("skh_wide", type, [b.args[0].args[0], a.args[0]])
+    if word in NEGATED and x is not None:
+        return operation(TURNED[word], b, a)
+    if word in ("+", "*", "|", "^", "&") and x is not None:
+        return operation(word, b, a)
+    if y == 0 and word in ("+", "-", "|", "^", "<<", ">>") or y == 1 and word in ("*", "/"):
+        return a
+    if x == 0 and word in ("+", "|", "^") or x == 1 and word == "*":
+        return b
+    if word == "<" and y == 0 or word == ">=" and y == 0:
+        return number(int(word == ">="), 1)
+    if word == ">" and y == 0:
+        return operation("!=", a, b)
+    if word == "-":
+        if a == b:
+            return number(0, bits)
+        if b.word == "-" and b.args[0] == a:  # a - (a - c)
+            return b.args[1]
+        if a.word == "+" and b in a.args:  # a + c - a
+            return a.args[1 - a.args.index(b)]
+        if b.word == "*" and b.args[0].word == "/" and b.args[0].args == (a, b.args[1]):  # a - a / c * c
+            return operation("%", a, b.args[1])
+    if y is not None and a.word in ("+", "-") and word in ("+", "-"):  # a + c + d, for small c and d
+        z = value_of(a.args[1])
+        if z is not None and z < 2 ** 20 and y < 2 ** 20:
+            sum = (z if a.word == "+" else -z) + (y if word == "+" else -y)
+            return operation("+" if sum >= 0 else "-", a.args[0], number(abs(sum), bits))
+    if y is not None and word in ("==", "!=") and a.word == "-" and value_of(a.args[1]) is not None:
+        return operation(word, a.args[0], operation("+", a.args[1], b))
+    if word == "%" and b.word == "<<" and value_of(b.args[0]) == 1 and bits == 128:
+        return call("skh_wide_low_bits", a.type, [a, convert(b.args[1], 64)])
+    if word == "%" and bits == 128 and is_power(y):
+        return call("skh_wide_low_bits", a.type, [a, number(y.bit_length() - 1, 64)])
+    return Expression(word, type, (a, b))
+
+
+def convert(e: Expression, bits: int, is_signed: bool = False) -> Expression:
+    """A number in another width: cut, or with zeros above."""
+    type = INT if is_signed else NUMBERS[bits]
+    if e.word == "number" and not is_signed:
+        return number(e.args[0], bits)
+    if e.type == type:
+        return e
+    if bits == 64 and e.word == ">>" and value_of(e.args[1]) == 64 and e.args[0].word == "call" and e.args[0].args[0] == "skh_wide":
+        return e.args[0].args[2]
+    if e.word == "cast" and e.args[0].type.bits <= bits:  # widened before
+        return convert(e.args[0], bits)
+    if bits == 64 and e.word == "call" and e.args[0] == "skh_wide":
+        return e.args[3]
+    if bits == 32 and e.word == "&" and value_of(e.args[1]) == 0xffffffff:
+        return convert(e.args[0], bits)
+    if e.word == "call" and e.args[0] == "skh_wide_low_bits" and (value_of(e.args[3]) or 0) >= bits:
+        return convert(e.args[2], bits)
+    return Expression("cast", type, (e,))
+
+
+def negate(e: Expression) -> Expression:
+    if e.word == "number":
+        return number(1 - e.args[0], 1)
+    if e.word in NEGATED:
+        return Expression(NEGATED[e.word], BOOL, e.args)
+    return e.args[0] if e.word == "!" else Expression("!", BOOL, (e,))
+
+
+def either(a: Expression, b: Expression) -> Expression:
+    return Expression("||", BOOL, (a, b))
+
+
+def both(a: Expression, b: Expression) -> Expression:
+    return Expression("&&", BOOL, (a, b))
+
+
+def choose(condition: Expression, yes: Expression, no: Expression) -> Expression:
+    if condition.word == "number":
+        return yes if condition.args[0] else no
+    if yes == no:
+        return yes
+    if yes.type == BOOL and value_of(yes) is not None and value_of(no) is not None:
+        return condition if value_of(yes) else negate(condition)
+    if yes.type == BOOL and (no == condition or value_of(no) == 0):
+        return both(condition, yes)
+    if yes.type == BOOL and (yes == condition or value_of(yes) == 1):
+        return either(condition, no)
+    return Expression("?", yes.type, (condition, yes, no))
+
+
+def has_value(e: Expression, value: int) -> Expression:
+    """Whether a number or a flag has a value."""
+    if e.type == BOOL:
+        return e if value else negate(e)
+    if e.word == "?" and value_of(e.args[1]) is not None and value_of(e.args[2]) is not None:
+        return choose(e.args[0], has_value(e.args[1], value), has_value(e.args[2], value))
+    return operation("==", e, number(value, e.type.bits))
+
+
+def at(base: Expression, offset: Expression) -> Expression:
+    """The pointer so many bytes after another."""
+    if base.word == "at":
+        return at(base.args[0], operation("+", base.args[1], offset))
+    return base if value_of(offset) == 0 else Expression("at", base.type, (base, offset))
+
+
+def base_and_offset(pointer: Expression) -> tuple[Expression, Expression]:
+    return pointer.args if pointer.word == "at" else (pointer, number(0, 64))
+
+
+def divide(offset: Expression, size: int) -> Expression:
+    """An offset in bytes, which is a multiple of the size of an element, as a number of elements."""
+    if size == 1:
+        return offset
+    if offset.word == "number" and offset.args[0] % size == 0:
+        return number(offset.args[0] // size, 64)
+    if offset.word == "*":
+        factor = value_of(offset.args[1])
+        if factor is not None and factor % size == 0:
+            return operation("*", offset.args[0], number(factor // size, 64))
+    if offset.word == "+":
+        return operation("+", divide(offset.args[0], size), divide(offset.args[1], size))
+    raise Unknown(f"an offset that is no multiple of {size}: {offset}")

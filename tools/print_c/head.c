@@ -14,18 +14,20 @@
 #endif
 
 /* SKH_REQUIRES says what all callers ensure: without it keys of 32 to 63 bytes take 1.1 to 1.2
- * times as long with gcc. SKH_EXPECT says what mostly holds: without it columns of short keys take
- * 1.1 to 1.4 times as long, and Murmur's updates by 1 to 3 bytes 1.1 to 1.3 times. */
+ * times as long with gcc. SKH_LIKELY and SKH_UNLIKELY say what mostly holds: without them columns
+ * of short keys take 1.1 to 1.4 times as long, and Murmur's updates by 1 to 3 bytes 1.1 to 1.3. */
 #if defined __GNUC__ || defined __clang__
 #define SKH_NOINLINE __attribute__((noinline))
 #define SKH_INLINE static inline __attribute__((always_inline))
 #define SKH_REQUIRES(condition) ((condition) ? (void)0 : __builtin_unreachable())
-#define SKH_EXPECT(condition) (__builtin_expect(condition, 1))
+#define SKH_LIKELY(condition) (__builtin_expect(condition, 1))
+#define SKH_UNLIKELY(condition) (__builtin_expect(condition, 0))
 #else
 #define SKH_NOINLINE
 #define SKH_INLINE static inline
 #define SKH_REQUIRES(condition) ((void)0)
-#define SKH_EXPECT(condition) (condition)
+#define SKH_LIKELY(condition) (condition)
+#define SKH_UNLIKELY(condition) (condition)
 #endif
 
 /* A function of which there is a second one for processors with AVX2, where the compiler can make
@@ -37,7 +39,7 @@ static bool skh_has_avx2;
 __attribute__((constructor)) static void skh_find_avx2(void) {
     unsigned a, b, c, d;
     if (!__get_cpuid(1, &a, &b, &c, &d) || (c & bit_OSXSAVE) == 0) return;
-    __asm__("xgetbv" : "=a"(a), "=d"(d) : "c"(0)); /* whether the system saves the registers */
+    __asm__ volatile("xgetbv" : "=a"(a), "=d"(d) : "c"(0)); /* whether the system saves the registers */
     if ((a & 6) != 6 || !__get_cpuid_count(7, 0, &a, &b, &c, &d)) return;
     skh_has_avx2 = (b & bit_AVX2) != 0;
 }
@@ -58,13 +60,11 @@ __attribute__((constructor)) static void skh_find_avx2(void) {
     STORAGE TYPE NAME PARAMETERS { GIVE NAME##_any(true, SKH_GIVEN ARGUMENTS); }
 #endif
 
-/* A caller may give NULL for no bytes. C allows neither an offset from it nor a copy of no bytes,
- * so it is replaced by an address at which nothing is read or written. */
-static inline const unsigned char *skh_slice(const void *at) {
-    return at == NULL ? (const unsigned char *)4096 : (const unsigned char *)at;
-}
-static inline unsigned char *skh_slice_mut(void *at) {
-    return at == NULL ? (unsigned char *)4096 : (unsigned char *)at;
+/* A caller may give NULL for no bytes. C allows no offset from it, so where one is computed it is
+ * replaced by the address of a byte, at which nothing is read. */
+static const unsigned char skh_nothing = 0;
+SKH_INLINE const unsigned char *skh_slice(const void *at) {
+    return at == NULL ? &skh_nothing : (const unsigned char *)at;
 }
 
 /* A number of an array, in the machine's byte order. The array may have another type, such as
@@ -174,10 +174,11 @@ SKH_INLINE skh_uint128 skh_wide(uint64_t high, uint64_t low) {
 }
 SKH_INLINE uint64_t skh_wide_low(skh_uint128 x) { return (uint64_t)x; }
 SKH_INLINE uint64_t skh_wide_high(skh_uint128 x) { return (uint64_t)(x >> 64); }
-SKH_INLINE skh_uint128 skh_wide_not(skh_uint128 x) { return ~x; }
 SKH_INLINE skh_uint128 skh_wide_left(skh_uint128 x, uint64_t n) { return x << n; }
 SKH_INLINE skh_uint128 skh_wide_right(skh_uint128 x, uint64_t n) { return x >> n; }
-SKH_INLINE skh_uint128 skh_wide_and(skh_uint128 x, skh_uint128 y) { return x & y; }
+SKH_INLINE skh_uint128 skh_wide_low_bits(skh_uint128 x, uint64_t n) {
+    return x & ~(~(skh_uint128)0 << n);
+}
 SKH_INLINE skh_uint128 skh_wide_add(skh_uint128 x, skh_uint128 y) { return x + y; }
 SKH_INLINE skh_uint128 skh_wide_mul(skh_uint128 x, skh_uint128 y) { return x * y; }
 SKH_INLINE bool skh_wide_above(skh_uint128 x, skh_uint128 y) { return x > y; }
@@ -191,7 +192,6 @@ SKH_INLINE skh_uint128 skh_wide(uint64_t high, uint64_t low) {
 }
 SKH_INLINE uint64_t skh_wide_low(skh_uint128 x) { return x.low; }
 SKH_INLINE uint64_t skh_wide_high(skh_uint128 x) { return x.high; }
-SKH_INLINE skh_uint128 skh_wide_not(skh_uint128 x) { return skh_wide(~x.high, ~x.low); }
 SKH_INLINE skh_uint128 skh_wide_left(skh_uint128 x, uint64_t n) {
     if (n == 0) return x;
     return n < 64 ? skh_wide(x.high << n | x.low >> (64 - n), x.low << n)
@@ -202,8 +202,9 @@ SKH_INLINE skh_uint128 skh_wide_right(skh_uint128 x, uint64_t n) {
     return n < 64 ? skh_wide(x.high >> n, x.low >> n | x.high << (64 - n))
                   : skh_wide(0, x.high >> (n - 64));
 }
-SKH_INLINE skh_uint128 skh_wide_and(skh_uint128 x, skh_uint128 y) {
-    return skh_wide(x.high & y.high, x.low & y.low);
+SKH_INLINE skh_uint128 skh_wide_low_bits(skh_uint128 x, uint64_t n) {
+    const skh_uint128 above = skh_wide_left(skh_wide(UINT64_MAX, UINT64_MAX), n);
+    return skh_wide(x.high & ~above.high, x.low & ~above.low);
 }
 SKH_INLINE skh_uint128 skh_wide_add(skh_uint128 x, skh_uint128 y) {
     uint64_t low = x.low + y.low;

@@ -85,7 +85,8 @@ fn has_rate_folded(filter: &[u8], one_in: u64) -> bool
         found += u128::from(found_by_union(filter, k));
     }
     // Both numbers are below 2^72. If these bits are set, the product is 2^72 at least.
-    if one_in == 0 || (found >> 64 > 0 && one_in >> 8 > 0) {
+    let is_above = found >> 64 > 0 && one_in >> 8 > 0;
+    if one_in == 0 || is_above {
         return false;
     }
     found * u128::from(one_in) <= (blocks as u128) << 40

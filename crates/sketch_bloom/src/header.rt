@@ -34,7 +34,7 @@ pub fn write_header(bytes: usize, out: &mut [u8]) -> Option<usize>
     // A copy of constant length needs no `memcpy`, which the C library would have to import. The
     // other fields replace what is copied past the end of the number.
     out[..6].copy_from_slice(&number);
-    out[start..end].copy_from_slice(&UNION_FIELDS);
+    out[start..start + 13].copy_from_slice(&UNION_FIELDS);
     Some(end)
 }
 

@@ -74,7 +74,8 @@ pub(crate) fn keeps_rate(keys: u64, log2_blocks: u32, one_in: u64) -> bool
         all += weight;
         found += u128::from(weight) * u128::from(covered(clear));
         // The weights stay below 2^48. Only the ratio of the sums matters.
-        if weight >> 48 > 0 {
+        let is_large = weight >> 48 > 0;
+        if is_large {
             weight >>= 8;
             all >>= 8;
             found >>= 8;

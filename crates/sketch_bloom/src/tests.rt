@@ -8,6 +8,33 @@ use crate::{BloomFilter, Fault, contains_hash, fold, insert_hash, merge};
 use std::process::Abort;
 use std::test::Fail;
 
+// What each fault prints.
+const TEXTS: [(Fault, &str); 6] = [
+    (
+        Fault::Length(33),
+        "invalid filter length: expected a positive multiple of 32 below 2^37, got 33",
+    ),
+    (
+        Fault::OtherLength(64),
+        "filters of two lengths: the other has 64 bytes",
+    ),
+    (
+        Fault::OddBlocks(96),
+        "odd number of blocks: expected a multiple of 64 bytes, got 96",
+    ),
+    (Fault::Offset(3), "invalid offset at index 3"),
+    (Fault::Count(2), "more places than values: 2 values"),
+    (Fault::OutOfMemory, "out of memory"),
+];
+
+#[test]
+fn each_fault_prints_its_text(rt: HostRuntime) {
+    for (fault, text) in TEXTS {
+        let printed = format!(in rt.alloc(); "{fault}");
+        assert_eq!(rt; printed.ok().as_deref(), Some(text));
+    }
+}
+
 #[test]
 fn bytes_of_another_length_are_no_filter(rt: HostRuntime) {
     let mut bytes = [7; 65];

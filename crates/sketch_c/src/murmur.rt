@@ -24,9 +24,10 @@ pub extern "C" fn sketch_murmur3_x64_128_reset(state: &mut MurmurState, seed: u6
     ensures stands { MurmurStateStands state.new seed [] }
     ensures zeros { state.new.waiting ≡ replicate 16 0 }
 {
-    *state = MurmurHash3X64128::with_seed(seed).state();
-    // They are 0 already, but no clause of `state` says so.
-    state.waiting = [0; 16];
+    *state = MurmurState {
+        waiting: [0; 16],
+        ..MurmurHash3X64128::with_seed(seed).state()
+    };
 }
 
 /// Appends bytes to the stream.

@@ -30,9 +30,10 @@ pub extern "C" fn sketch_xxh64_reset(state: &mut XxHash64State, seed: u64)
     ensures stands { Xxh64StateStands state.new seed [] }
     ensures zeros { state.new.waiting ≡ replicate 32 0 }
 {
-    *state = XxHash64::with_seed(seed).state();
-    // They are 0 already, but no clause of `state` says so.
-    state.waiting = [0; 32];
+    *state = XxHash64State {
+        waiting: [0; 32],
+        ..XxHash64::with_seed(seed).state()
+    };
 }
 
 /// Appends bytes to the stream.

@@ -15,7 +15,7 @@ use Rattle.sketch_hash.specs.Xxh64.{Lanes, round, prime1, prime2, stripe_step, s
 use Rattle.std.proofs.Math.Nat.{mod-eq_of_lt}
 use Rattle.std.proofs.lemmas.Bool.{lt-ltb, le-ltb}
 use Rattle.std.proofs.lemmas.List.Folds.{fold-map}
-use Rattle.sketch_base.specs.Bytes.{le, eight}
+use Rattle.sketch_base.specs.Bytes.{le, low_bytes, eight}
 use Rattle.sketch_base.proofs.BytesLemmas.{le-back}
 use Rattle.sketch_hash.specs.Pieces.{pieces, rest, State, absorb}
 use Rattle.sketch_hash.specs.PiecesWriteLemmas.{xxh64_after-append}
@@ -247,6 +247,12 @@ pub xxh64-eight : (seed x : ℕ) → IsWord x →
 unfolding xxh64 finalize lanes lanes_start pieces rest steps tail_step
 xxh64-eight seed x p = ap (λ word. avalanche (eight_step (plus (plus seed prime5) 8) word)) (le-back 8 x p)
 
+-- four bytes are one step of the tail
+pub xxh64-four : (seed x : ℕ) → x < 2 ^ 32 →
+    xxh64 seed (low_bytes 4 x) ≡ avalanche (four_step (plus (plus seed prime5) 4) x)
+unfolding xxh64 finalize lanes lanes_start pieces rest steps tail_step
+xxh64-four seed x p = ap (λ word. avalanche (four_step (plus (plus seed prime5) 4) word)) (le-back 4 x p)
+
 -- what a hasher answers, and what that is where its state is that of a seed and bytes
 pub answer_is : (state : State (ℕ × Lanes)) →
     xxh64_answer state ≡ avalanche (fold tail_step
@@ -268,3 +274,5 @@ pub written_after : (state : State (ℕ × Lanes)) (before bytes : List ℕ) →
 written_after state before bytes = sym (xxh64_after-append state before bytes)
 
 pub ruleset for_hash_u64 = (xxh64-eight)
+
+pub ruleset for_hash_u32 = (xxh64-four)

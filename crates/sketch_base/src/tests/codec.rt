@@ -1,6 +1,6 @@
 //! Readers and writers, with memory and without.
 
-use super::print_out_of_memory;
+use super::{print_out_of_memory, prints};
 use crate::codec::Item::{self, U8, U32Be, U64Le};
 use crate::codec::{Kind, Short, SketchBytes, SketchSlice, Stopped};
 use std::alloc::AllocError;
@@ -12,6 +12,12 @@ fn reads_past_the_end_take_no_memory(rt: HostRuntime) {
     assert!(rt; reader.read_u16_le().ok() == Some(1) && reader.read_u32_be().is_err());
     assert!(rt; reader.remaining().is_empty());
     assert!(rt; reader.read_exact(&mut []).is_ok() && reader.read_u8().is_err());
+}
+
+#[test]
+fn lists_that_end_early_print_how_many_items_they_had(rt: HostRuntime) {
+    assert!(rt; prints(Short { read: 2 }, "insufficient data after 2 items"));
+    assert!(rt; prints(Stopped { accepted: 3 }, "out of memory after 3 items"));
 }
 
 #[test]

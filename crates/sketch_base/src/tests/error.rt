@@ -23,8 +23,13 @@ fn kinds_print_their_names_at_any_width(rt: HostRuntime) {
     let (a, b, c) = (InvalidArgument, InvalidData, OutOfMemory);
     assert_text(&rt, format!(in alloc; "{a:20} {b:20} {c:20}"), names);
     assert_text(&rt, format!(in alloc; "{a:?} {b:?} {c:?}"), names);
-    let bare = Error::new(OutOfMemory, String::new(alloc));
-    assert_text(&rt, format!(in alloc; "{bare:20}"), "OutOfMemory");
+}
+
+#[test]
+fn an_error_without_a_message_prints_its_kind_alone(rt: HostRuntime) {
+    let bare = Error::new(OutOfMemory, String::new(rt.alloc()));
+    assert_text(&rt, format!(in rt.alloc(); "{bare:20}"), "OutOfMemory");
+    assert_line(&rt, bare, "OutOfMemory");
 }
 
 // The alternate form of an error with two contexts.
@@ -53,7 +58,9 @@ fn errors_print_their_contexts_at_any_width(rt: HostRuntime) -> Result<(), Fail>
     assert_text(&rt, format!(in alloc; "{error:>99}"), line);
     assert_line(&rt, error, line);
     let bare = Error::new(InvalidData, String::new(alloc)).with_context(alloc, "a", 1u8)?;
-    assert_line(&rt, bare, "InvalidData, context: { a: 1 }");
+    let line = "InvalidData, context: { a: 1 }";
+    assert_text(&rt, format!(in alloc; "{bare:99}"), line);
+    assert_line(&rt, bare, line);
     Ok(())
 }
 
@@ -77,11 +84,19 @@ fn errors_print_their_contexts_for_debugging(rt: HostRuntime) -> Result<(), Fail
 }
 
 #[test]
-fn errors_print_their_message_at_any_width(rt: HostRuntime) -> Result<(), AllocError> {
+fn something_went_wrong_prints_at_any_width(rt: HostRuntime) -> Result<(), AllocError> {
     let wrong = error_of(rt.alloc(), InvalidArgument, "something went wrong")?;
     assert!(rt; wrong.kind() == InvalidArgument && wrong.message() == "something went wrong");
-    let text = format!(in rt.alloc(); "{wrong:99}");
-    assert_text(&rt, text, "InvalidArgument => something went wrong");
+    let line = "InvalidArgument => something went wrong";
+    assert_text(&rt, format!(in rt.alloc(); "{wrong:99}"), line);
+    assert_line(&rt, wrong, line);
+    Ok(())
+}
+
+#[test]
+fn bad_input_is_the_message_of_each_constructor(rt: HostRuntime) -> Result<(), AllocError> {
+    let bad = error_of(rt.alloc(), InvalidArgument, "bad input")?;
+    assert!(rt; bad.kind() == InvalidArgument && bad.message() == "bad input");
     let bad = Error::invalid_argument(String::from_str(rt.alloc(), "bad input")?);
     assert_line(&rt, bad, "InvalidArgument => bad input");
     let bad = Error::deserial(String::from_str(rt.alloc(), "bad input")?);

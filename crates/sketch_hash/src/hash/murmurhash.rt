@@ -148,7 +148,8 @@ impl MurmurHash3X64128 {
         let first = read_u128_le(&bytes[..BLOCK]);
         let (k1, k2) = place_after(self.low, self.high, self.count, first);
         let (h1, h2) = step(self.h1, self.h2, k1, k2);
-        let (blocks, last) = split_pieces::<BLOCK>(&bytes[BLOCK - self.count..]);
+        let rest = &bytes[BLOCK - self.count..];
+        let (blocks, last) = split_pieces::<BLOCK>(rest);
         (self.h1, self.h2) = fold_blocks(h1, h2, blocks);
         (self.low, self.high) = read_partial_words(last);
         self.total = self.total.wrapping_add(bytes.len() as u64);

@@ -252,6 +252,11 @@ impl Hash for u32 {
     fn hash<H: Hasher>(&self, state: &mut H) {
         state.write_u32(*self);
     }
+
+    #[inline(always)]
+    fn xxh64(&self, seed: u64) -> u64 {
+        XxHash64::hash_u32(*self, seed)
+    }
 }
 
 impl Hash for i32 {

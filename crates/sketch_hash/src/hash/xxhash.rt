@@ -3,7 +3,7 @@
 
 ghost use Rattle.std.specs.Prelude.{◌≡◌, ℕ, ◌+◌, ◌-◌, ◌%◌, ◌<◌, ◌≤◌, List, [], ◌++◌, length, take};
 ghost use Rattle.std.specs.List.{fold};
-ghost use Rattle.sketch_base.specs.Bytes.{eight};
+ghost use Rattle.sketch_base.specs.Bytes.{eight, low_bytes};
 ghost use Rattle.sketch_hash.specs.Pieces.{State};
 ghost use Rattle.sketch_hash.specs.Xxh64.{Lanes, lanes_of, lanes_start, merge, missing, tail_step, steps, avalanche, xxh64, xxh64_after, xxh64_answer, Xxh64Stands, each_lane};
 ghost use Rattle.sketch_hash.specs.PiecesWriteLemmas.{xxh64_after-append, xxh64_after-empty};
@@ -15,7 +15,7 @@ mod tail;
 
 use self::lanes::{ScalarLanes, consume, fold_run, fold_stripes, merge, vector_round};
 pub use self::state::XxHash64State;
-use self::steps::{PRIME5, avalanche, eight_step};
+use self::steps::{PRIME5, avalanche, eight_step, four_step};
 use self::tail::{fold_below_16, fold_from_16, fold_tail};
 use super::copy::copy_small;
 use super::hasher::Hasher;
@@ -113,6 +113,15 @@ impl XxHash64 {
         ensures { result ≡ xxh64 seed (eight input) }
     {
         avalanche(eight_step(seed.wrapping_add(PRIME5).wrapping_add(8), input))
+    }
+
+    /// The 64-bit hash of the four little-endian bytes of `input`, under a seed.
+    #[inline(always)]
+    #[tactic(auto, using(crate::proofs::Xxh64Answers::for_hash_u32))]
+    pub fn hash_u32(input: u32, seed: u64) -> u64
+        ensures { result ≡ xxh64 seed (low_bytes 4 input) }
+    {
+        avalanche(four_step(seed.wrapping_add(PRIME5).wrapping_add(4), input))
     }
 
     // Appends bytes to the partial stripe, which stays partial. Sets the fields after the copy:

@@ -2,7 +2,7 @@ use Rattle.std.proofs.Common.{◌≡◌, suc, ◌+◌, ◌∙◌, ◌^◌, refl,
 use Rattle.std.proofs.lemmas.Nat.{mul-le}
 use Rattle.sketch_bloom.proofs.SizeLemmas.{first_term, with_larger_unit, with_same_unit}
 use Rattle.sketch_bloom.proofs.size.keeps_rate.Goals as goal
-use Rattle.sketch_bloom.proofs.size.keeps_rate.Goals.{then-weight-gt0, else-weight-gt0}
+use Rattle.sketch_bloom.proofs.size.keeps_rate.Goals.{then-is_large, else-is_large}
 
 pub loop-k-init : goal.loop-k-init
 loop-k-init c = (
@@ -21,8 +21,8 @@ loop-k-preserved c =
     let parts = c.from-in-loop-k.result in
     let product = mul-le c.from.result parts (2 ^ 55) (2 ^ 60) (omega arith) (omega arith) in
     let suc_is : c.loop-k.k + 1 ≡ suc (suc last) = omega arith in
-    elim c.if-weight-gt0.branch [
-      | then-weight-gt0 w ↦ (
+    elim c.if-is_large.branch [
+      | then-is_large w ↦ (
         omega arith,
         omega arith,
         grind arith,
@@ -34,7 +34,7 @@ loop-k-preserved c =
               (with_larger_unit before (rw (← next) (omega arith))),
         ),
       )
-      | else-weight-gt0 w ↦ (
+      | else-is_large w ↦ (
         omega arith,
         omega arith,
         grind arith,

@@ -28,9 +28,7 @@ pub(super) fn read_partial_words(bytes: &[u8]) -> (u64, u64)
     read_two_words(bytes)
 }
 
-// The little-endian number of fewer than 16 bytes as two words, the lower first.
-//
-// `read_partial_words` proves its second clause from this function's only one.
+// As `read_partial_words`, whose second clause is proved from this function's only one.
 #[inline(always)]
 #[tactic(auto, using(crate::proofs::NumberLemmas::few_le, crate::proofs::NumberLemmas::last_le))]
 fn read_two_words(bytes: &[u8]) -> (u64, u64)

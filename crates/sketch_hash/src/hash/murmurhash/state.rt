@@ -4,10 +4,9 @@ ghost use Rattle.std.specs.Prelude.{◌≡◌, ℕ, ◌+◌, ◌%◌, ◌<◌, L
 ghost use Rattle.sketch_hash.specs.States.{murmur_state_of, MurmurStateStands};
 ghost use Rattle.sketch_hash.specs.Murmur.{murmur_after, MurmurStands};
 
-use super::numbers::{join_words, read_prefix};
+use super::numbers::{join_words, read_partial_le, read_prefix};
 use super::{BLOCK, MurmurHash3X64128};
 use crate::hash::copy::copy_small;
-use crate::hash::hasher::Hasher;
 
 /// The state of a [`MurmurHash3X64128`]: a checkpoint of a stream that can be copied, saved and
 /// resumed.
@@ -41,7 +40,11 @@ impl MurmurState {
             self.write_within(bytes);
         } else {
             let mut hasher = MurmurHash3X64128::resume(self);
-            hasher.write(bytes);
+            if bytes.len() < BLOCK {
+                hasher.complete_block(bytes, read_partial_le(bytes));
+            } else {
+                hasher.write_blocks(bytes);
+            }
             *self = hasher.state();
         }
     }

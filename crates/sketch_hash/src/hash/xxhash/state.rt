@@ -69,6 +69,7 @@ impl XxHash64State {
         avalanche(fold_tail(hash, &self.waiting[..self.waiting_count()]))
     }
 
+    // The lanes after the last full stripe.
     #[inline(always)]
     fn lanes(&self) -> ScalarLanes
         ensures { result ≡ record {
