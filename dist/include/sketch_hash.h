@@ -86,6 +86,7 @@ template <typename Number> constexpr uint64_t u64(Number number) {
 #define sketch_murmur3_x64_128_update SKETCH_HASH_NAMED(sketch_murmur3_x64_128_update)
 #define sketch_murmur3_x64_128_digest SKETCH_HASH_NAMED(sketch_murmur3_x64_128_digest)
 #define sketch_murmur3_x64_128_bytes SKETCH_HASH_NAMED(sketch_murmur3_x64_128_bytes)
+#define sketch_seed_hash SKETCH_HASH_NAMED(sketch_seed_hash)
 #define sketch_xxh64_each32 SKETCH_HASH_NAMED(sketch_xxh64_each32)
 #define sketch_xxh64_each64 SKETCH_HASH_NAMED(sketch_xxh64_each64)
 #define sketch_xxh64_each_u64 SKETCH_HASH_NAMED(sketch_xxh64_each_u64)
@@ -136,7 +137,9 @@ enum sketch_status {
     /** An offset is missing, past the end, or below the one before it. */
     SKETCH_ERROR_OFFSET = -2,
     /** There are fewer values than places for results. */
-    SKETCH_ERROR_COUNT = -3
+    SKETCH_ERROR_COUNT = -3,
+    /** The hash of the seed is 0, so no sketch may use the seed. */
+    SKETCH_ERROR_SEED = -5
 };
 
 /* ---- XXH64, after Yann Collet's specification */
@@ -212,6 +215,11 @@ SKETCH_HASH_API void sketch_murmur3_x64_128_digest(const sketch_murmur3_x64_128_
 
 /** Writes a hash in the byte order that most tools print: the lowest byte of each word first. */
 SKETCH_HASH_API void sketch_murmur3_x64_128_bytes(const uint64_t hash[2], unsigned char out[16]);
+
+/** Writes the seed hash of a seed, by which sketches of Apache DataSketches tell whether they can be
+ * merged: the low 16 bits of hash[0] of sketch_murmur3_x64_128 with seed 0 of the seed's eight
+ * bytes, the lowest first. Returns 0 or SKETCH_ERROR_SEED. */
+SKETCH_HASH_API int sketch_seed_hash(uint64_t seed, uint16_t *hash);
 
 /* ---- Columns of keys, as Apache Arrow lays out strings
  *

@@ -14,7 +14,7 @@ from expression import (BOOL, NUMBERS, VOID, CType, Expression, Pointer, Struct,
 from mir import Given, Unknown
 from source import Source
 from statement import Break, Comment, Declare, Do, Give, Node, Set, When, While
-from values import (END, RETURN, UNIT, Bytes, Choice, InMemory, Key, Leaf, Parts, ToLocal, Undefined, Value, changed, is_step, leaves,
+from values import (END, RETURN, UNIT, Bytes, Choice, InMemory, Key, Leaf, Parts, Spelled, ToLocal, Undefined, Value, changed, is_step, leaves,
                     replaced, weight)
 
 if TYPE_CHECKING:
@@ -623,6 +623,11 @@ class Body:
             assert isinstance(type.of, mir.Int) and isinstance(type.count, int)
             text = "unsigned char" if type.of.bits == 8 else f"uint{type.of.bits}_t"
             own = Variable(name or "", Pointer(text, 0, type.of.bits // 8, is_array=True), type.count, is_in_memory=True)
+            if isinstance(value, Spelled):
+                own.is_set, own.name = True, name or "bytes"
+                leaf.code.append(Declare(own, None))
+                self.store_bytes(variable(own), value, type.count, leaf)
+                return own
             if not isinstance(value, Parts):
                 raise Unknown(f"{self.path}: the first value of {name}")
             parts = list(value.parts)
@@ -734,13 +739,12 @@ class Body:
         elif isinstance(value, Parts) and all(value_of(part) == 0 for part in value.parts):
             self.keep(leaf)
             leaf.code.append(Do(call("memset", VOID, [pointer, number(0, 32), number(count, 64)])))
-        elif isinstance(value, Parts) and len(value.parts) == 1 and count in (8, 16):  # the bytes of a number, see to_bytes
-            word = value.parts[0]
+        elif isinstance(value, Spelled) and 8 * count == value.number.type.bits and count in (8, 16):
             self.keep(leaf)
-            words = [word]
+            words = [value.number]
             if count == 16:
-                word = word if weight(word) == 0 else self.variable_for(word, "number", leaf)
-                words = [convert(word, 64), convert(operation(">>", word, number(64, 128)), 64)]
+                whole = words[0] if weight(words[0]) == 0 else self.variable_for(words[0], "number", leaf)
+                words = [convert(whole, 64), convert(operation(">>", whole, number(64, 128)), 64)]
             for i, each in enumerate(words):
                 leaf.code.append(Do(call("skh_store64", VOID, [at(pointer, number(8 * i, 64)), each])))
         else:
@@ -893,7 +897,7 @@ class Body:
         elif path in forms.FROM_BYTES:
             self.assign(frame, s, self.from_bytes(args[0], forms.FROM_BYTES[path]), leaf)
         elif path in forms.TO_BYTES:
-            self.assign(frame, s, Parts((args[0],)), leaf)
+            self.assign(frame, s, Spelled(args[0]), leaf)
         elif path == forms.COPY:
             self.copy_slice(frame, args[0], args[1], leaf)
             self.assign(frame, s, UNIT, leaf)

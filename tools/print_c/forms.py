@@ -33,7 +33,8 @@ TITLES = ("Words", "Copies of a few bytes", "Offsets of columns", "XXH64", "Murm
 # C allows no offset from NULL. Only these calls compute one from a pointer of no bytes, and take another pointer for it.
 OFFSET_OF_NOTHING = re.compile(r"sketch_murmur3_x64_128$|sketch_\w+_each(32|64)$")
 # The numbers that stand for errors, by the function that returns them.
-STATUSES = {0: "SKETCH_OK", -1: "SKETCH_ERROR_LENGTH", -2: "SKETCH_ERROR_OFFSET", -3: "SKETCH_ERROR_COUNT"}
+STATUSES = {0: "SKETCH_OK", -1: "SKETCH_ERROR_LENGTH", -2: "SKETCH_ERROR_OFFSET", -3: "SKETCH_ERROR_COUNT",
+            -5: "SKETCH_ERROR_SEED"}
 
 PAIR = Struct("struct skh_pair", 0, (("first", NUMBERS[64]), ("second", NUMBERS[64])))
 OPTION = Struct("struct skh_option", 0, (("is_some", BOOL), ("value", NUMBERS[64])))

@@ -46,6 +46,13 @@ class Bytes:
 
 
 @dataclass(frozen=True)
+class Spelled:
+    """The bytes of a number, the lowest first."""
+
+    number: Expression
+
+
+@dataclass(frozen=True)
 class InMemory:
     """What a struct or an array of C holds."""
 
@@ -57,7 +64,7 @@ class Undefined:
     pass
 
 
-Value = Expression | Parts | Choice | ToLocal | Bytes | InMemory | Undefined
+Value = Expression | Parts | Choice | ToLocal | Bytes | Spelled | InMemory | Undefined
 UNIT = Parts(())
 
 
@@ -76,6 +83,8 @@ def leaves(value: Value) -> Iterator[Expression]:
                 yield from leaves(part)
     elif isinstance(value, Bytes):
         yield value.pointer
+    elif isinstance(value, Spelled):
+        yield value.number
     elif isinstance(value, InMemory):
         yield variable(value.variable)
 
@@ -95,7 +104,7 @@ def changed(value: Value, change: Callable[[Expression], Expression]) -> Value:
                                                for at, fields in value.fields), value.whole and change(value.whole))
     if isinstance(value, Bytes):
         return Bytes(change(value.pointer), value.count)
-    return value
+    return Spelled(change(value.number)) if isinstance(value, Spelled) else value
 
 
 def replaced(e: Expression, old: Expression, new: Expression) -> Expression:

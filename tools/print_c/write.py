@@ -260,9 +260,12 @@ class Writer:
     def declaration(self, node: Declare) -> str:
         own, value = node.variable, node.value
         if own.count:
-            assert isinstance(own.type, Pointer) and isinstance(value, list)
+            assert isinstance(own.type, Pointer)
             const = "" if own.is_set else "const "
             text = f"{const}{own.type.text} {own.name}[{own.count}]"
+            if value is None:
+                return f"{text};"
+            assert isinstance(value, list)
             element = NUMBERS[8 * own.type.size]
             return f"{text} = {{{', '.join(self.assigned(each, element) for each in value)}}};"
         const = "" if own.is_set else "const "

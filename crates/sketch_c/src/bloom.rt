@@ -10,7 +10,7 @@ ghost use Rattle.sketch_bloom.specs.FoldRate.{FoldsTo};
 ghost use Rattle.sketch_bloom.specs.Size.{IsLeastSize, NoneKeepsRate, max_log2_blocks};
 ghost use Rattle.sketch_c.specs.{Changes, IsNumber, MayContain, Reports, error};
 
-use crate::{report, status_of};
+use crate::{ERROR_LENGTH, report, status_of};
 use datasketches::hash::value::raw_bytes;
 
 /// The smallest number of bytes, a power of two from 32 bytes to 128 MiB, for a filter of `keys`
@@ -29,7 +29,7 @@ pub extern "C" fn sketch_bloom_bytes_for(keys: u64, one_in: u64) -> usize
     sketch_bloom::bytes_for(keys, one_in).unwrap_or(0)
 }
 
-/// Returns 0 if a filter can have this many bytes, and -1 if not.
+/// Returns 0 if a filter can have this many bytes, and [`ERROR_LENGTH`] if not.
 #[unsafe(no_mangle)]
 pub extern "C" fn sketch_bloom_check(length: usize) -> i32
     ensures { ((result ≡ pos 0) × IsLength length)
@@ -38,7 +38,7 @@ pub extern "C" fn sketch_bloom_check(length: usize) -> i32
     if sketch_bloom::is_length(length) {
         0
     } else {
-        -1
+        ERROR_LENGTH
     }
 }
 

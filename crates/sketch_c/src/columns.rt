@@ -5,9 +5,10 @@ ghost use Rattle.sketch_c.specs.{ReportsOffset, error};
 ghost use Rattle.datasketches.specs.Columns.{HashesEach, HashesEachNumber, murmur_words};
 ghost use Rattle.datasketches.specs.Xxh64.{xxh64};
 
+use crate::{ERROR_COUNT, ERROR_OFFSET};
 use datasketches::hash::{MurmurHash3X64128, XxHash64};
 
-// 0, or -2 for a wrong offset, whose index is written.
+// 0, or the error for a wrong offset, whose index is written.
 #[inline(always)]
 fn report_offset(hashed: Result<(), usize>, wrong_offset: &mut usize) -> i32
     ensures { ReportsOffset hashed wrong_offset.old wrong_offset.new result }
@@ -16,7 +17,7 @@ fn report_offset(hashed: Result<(), usize>, wrong_offset: &mut usize) -> i32
         Ok(()) => 0,
         Err(i) => {
             *wrong_offset = i;
-            -2
+            ERROR_OFFSET
         }
     }
 }
@@ -66,7 +67,7 @@ pub extern "C" fn sketch_xxh64_each_u64(values: &[u64], seed: u64, out: &mut [u6
 {
     match XxHash64::hash_each_u64(values, seed, out) {
         Ok(()) => 0,
-        Err(_) => -3,
+        Err(_) => ERROR_COUNT,
     }
 }
 

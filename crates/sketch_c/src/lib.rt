@@ -4,9 +4,8 @@
 //! nothing allocates, so no call requires more than its types say. Calls pass and return only
 //! numbers and pointers, since the C ABI of structs differs between systems.
 //!
-//! A result of type `i32` is 0 on success, or a negative error: -1 for a length that no filter has,
-//! -2 for a wrong offset, -3 for too few values. The call then changed nothing, except that it
-//! wrote the index of a wrong offset.
+//! A result of type `i32` is 0 on success, or a negative error: [`ERROR_LENGTH`] and so on. The call
+//! then changed nothing, except that it wrote the index of a wrong offset.
 #![tactic(auto)]
 
 ghost use Rattle.std.specs.Prelude.{◌≡◌};
@@ -15,9 +14,25 @@ ghost use Rattle.sketch_c.specs.{IsNumber, Reports};
 pub mod bloom;
 pub mod columns;
 pub mod murmur;
+pub mod seed;
 pub mod xxh64;
 
 use sketch_bloom::Fault;
+
+/// No filter has this length, or the lengths of two differ, or the number of blocks is odd.
+pub const ERROR_LENGTH: i32 = -1;
+
+/// An offset is missing, past the end, or below the one before it.
+pub const ERROR_OFFSET: i32 = -2;
+
+/// There are fewer values than places for results.
+pub const ERROR_COUNT: i32 = -3;
+
+// No call takes memory, so none returns it.
+const ERROR_MEMORY: i32 = -4;
+
+/// The hash of this seed is 0, so no sketch may use the seed.
+pub const ERROR_SEED: i32 = -5;
 
 /// The version of the library as one number, major * 10000 + minor * 100 + patch: 3.1.0.
 #[unsafe(no_mangle)]
@@ -34,10 +49,10 @@ fn status_of(outcome: Result<(), Fault>) -> i32
 {
     match outcome {
         Ok(()) => 0,
-        Err(Fault::Length(_) | Fault::OtherLength(_) | Fault::OddBlocks(_)) => -1,
-        Err(Fault::Offset(_)) => -2,
-        Err(Fault::Count(_)) => -3,
-        Err(Fault::OutOfMemory) => -4,
+        Err(Fault::Length(_) | Fault::OtherLength(_) | Fault::OddBlocks(_)) => ERROR_LENGTH,
+        Err(Fault::Offset(_)) => ERROR_OFFSET,
+        Err(Fault::Count(_)) => ERROR_COUNT,
+        Err(Fault::OutOfMemory) => ERROR_MEMORY,
     }
 }
 

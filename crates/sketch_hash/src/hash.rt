@@ -14,7 +14,7 @@ mod xxhash;
 pub use self::columns::{Offset, check_offsets};
 pub use self::hasher::Hasher;
 pub use self::murmurhash::{MurmurHash3X64128, MurmurState};
-pub use self::seed::{check_seed_hash, compute_seed_hash};
+pub use self::seed::{check_seed_hash, compute_seed_hash, seed_hash_of};
 pub use self::value::Hash;
 pub use self::xxhash::{XxHash64, XxHash64State};
 

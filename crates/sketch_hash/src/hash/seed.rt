@@ -24,8 +24,7 @@ pub fn compute_seed_hash(alloc: Global, seed: u64, error_kind: ErrorKind) -> Res
         (λ hash. (hash ≡ seed_hash seed) × (hash ≢ 0))
         (λ error. (seed_hash seed ≡ 0) × Refuses error_kind (zero_seed_hash_text seed) error) }
 {
-    let (h1, _) = MurmurHash3X64128::hash(&seed.to_le_bytes(), 0);
-    let hash = (h1 % 0x1_0000) as u16;
+    let hash = seed_hash_of(seed);
     if hash == 0 {
         let text = format!(in alloc;
             "seed {seed} produces a seed hash of zero; choose a different seed"
@@ -33,6 +32,16 @@ pub fn compute_seed_hash(alloc: Global, seed: u64, error_kind: ErrorKind) -> Res
         return Err(Error::from_text(alloc, error_kind, text));
     }
     Ok(hash)
+}
+
+/// The seed hash of a seed, or 0 if the seed cannot be used. [`compute_seed_hash`] returns an error
+/// in place of 0.
+#[inline(always)]
+pub fn seed_hash_of(seed: u64) -> u16
+    ensures { result ≡ seed_hash seed }
+{
+    let (h1, _) = MurmurHash3X64128::hash(&seed.to_le_bytes(), 0);
+    (h1 % 0x1_0000) as u16
 }
 
 /// Accepts `actual` exactly if it is `expected`.
