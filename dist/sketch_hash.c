@@ -1,7 +1,7 @@
 /* sketch_hash.c 3.1.0: printed from proved text. Do not edit it: tools/print_c prints it.
  *
  * crate     sketch_c, and those that it depends on, of which PROVED says more
- * text      16751c7fc7f80a4991c979f78139ad89b79b81a3c45e349fd43b6fea0e97894e
+ * text      cac8c6a0b7ece4fef02cefe2e8d42731185b5f029202206d9c27299a55b54d03
  * prover    rattle-kit-13f logic dac8208d650f15bf
  * licence   Apache-2.0
  */
@@ -1067,6 +1067,17 @@ SKH_INLINE struct skh_result skh_murmur3_hash_each64(const unsigned char *bytes,
     return skh_ok(0);
 }
 
+/* ---- Seed hashes */
+
+/* The seed hash of a seed, or 0 if the seed cannot be used. `compute_seed_hash` returns an error
+ * in place of 0. */
+SKH_INLINE uint16_t skh_seed_hash_of(uint64_t seed) {
+    unsigned char bytes[8];
+    skh_store64(bytes, seed);
+    const struct skh_pair h = skh_murmur3_hash(bytes, 8, 0);
+    return (uint16_t)(h.first % 65536);
+}
+
 /* ---- Bloom filter */
 
 #define SKH_SALT0 0x47b6137bu
@@ -1422,6 +1433,16 @@ SKETCH_HASH_API void sketch_murmur3_x64_128_bytes(const uint64_t hash[2], unsign
     const skh_uint128 number = skh_murmur3_join_words(hash[0], hash[1]);
     skh_store64(out, skh_wide_low(number));
     skh_store64(out + 8, skh_wide_high(number));
+}
+
+/* Writes the seed hash of a seed, by which sketches of Apache DataSketches tell whether they can
+ * be merged: the low 16 bits of hash[0] of sketch_murmur3_x64_128 with seed 0 of the seed's
+ * eight bytes, the lowest first. Returns 0 or SKETCH_ERROR_SEED. */
+SKETCH_HASH_API int sketch_seed_hash(uint64_t seed, uint16_t *hash) {
+    const uint16_t computed = skh_seed_hash_of(seed);
+    if (computed == 0) return SKETCH_ERROR_SEED;
+    *hash = computed;
+    return SKETCH_OK;
 }
 
 /* Writes XXH64 of key i to out[i], for each i below `count`. The offsets have 32 bits. Returns 0

@@ -79,7 +79,7 @@ class Frame:
             self.hints.setdefault(origin.local, name)
         elif name and len(origin.steps) == 1:
             known = self.hints.get(origin.local)
-            self.hints[origin.local] = joined(known, name) if known else name
+            self.hints[origin.local] = joined(known, name) if known else name.rstrip("0123456789")
 
     def member(self, place: mir.Place) -> str | None:
         return None
