@@ -39,7 +39,7 @@ class Frame:
     def __init__(self, number: int, function: mir.Function, given: Given, source: Source, tail: bool, caller_keys: set[Key]):
         self.number, self.function, self.given, self.tail, self.caller_keys = number, function, given, tail, caller_keys
         first = function.parameter_count + 1
-        self.names = dict(enumerate(source.parameters, 1)) if source.parameters else {}
+        self.names = {local: name for local, name in enumerate(source.parameters, 1) if name != "self"}
         self.names |= {first + i: name for i, name in enumerate(source.bound) if name}
         self.sets: dict[int, int] = {}
         self.comments: dict[int, str] = {}
@@ -460,7 +460,7 @@ class Body:
             count = type.bits * type.lanes // 32
             if type.bits not in (8, 32):
                 raise Unknown(f"{self.path}: a vector of {type.bits} bits in memory")
-            pointer = self.named_pointer(pointer, leaf, "block")
+            pointer = self.named_pointer(pointer, leaf, self.vector_name)
             return Parts(tuple(forms.load(at(pointer, number(4 * i, 64)), 32) for i in range(count)))
         if isinstance(type, mir.Int):
             if type.bits // 8 != pointer.type.size:
@@ -548,7 +548,7 @@ class Body:
             leaf.env[key] = value  # its words are written where they are used
             return
         # How much may be written again. A number with a name is written once, and a slice that is cut into pieces gets a name.
-        most = 0 if is_named and not is_slice or frame.function.path == forms.PIECES and is_parameter else 2
+        most = 0 if is_named and not is_slice or frame.function.path == forms.CUTS[0] and is_parameter else 2
         may_be_inside = reads < 2 and (is_slice or not is_named or isinstance(type, mir.Ref) or frame is not self.root)
 
         def settle(e: Expression) -> Expression:
@@ -611,6 +611,8 @@ class Body:
         if old and old.type == type and not old.is_in_memory and not old.count and old not in leaf.variables():
             self.set(leaf, variable(old), e)
             return variable(old)
+        if not name and isinstance(type, Struct):
+            name = forms.local_name(type.text)
         own = Variable(name or "", type, is_temporary=not may_reuse)
         leaf.code.append(Declare(own, e))
         if name:
@@ -818,6 +820,7 @@ class Body:
         if s.word == "AddrOf":
             where, _ = self.locate(frame, s.operands[0], leaf)
             return self.address(where, leaf)
+        self.vector_name = frame.name(s.place.local) or "block"
         values = [self.operand(frame, own, leaf) for own in s.operands]
         type = frame.given.type(self.locate(frame, s.place, leaf)[1] if s.place.steps else frame.function.locals[s.place.local])
         if s.word == "Opd":
@@ -931,8 +934,11 @@ class Body:
         self.frame_of[inner.number] = inner
         leaf.env = {key: value for key, value in leaf.env.items() if key in keys}
         for local, (arg, operand) in enumerate(zip(args, s.operands), 1):
-            if local not in inner.names and isinstance(operand, mir.Place) and not operand.steps and frame.name(operand.local):
-                inner.hints.setdefault(local, frame.name(operand.local) or "")
+            here = frame.name(operand.local) if isinstance(operand, mir.Place) and not operand.steps else None
+            if here and path in forms.CUTS:
+                inner.names[local] = here
+            elif here:
+                inner.hints.setdefault(local, here)
             if isinstance(arg, Expression) and arg.word == "call" and arg.args[0] in self.library.by_name:
                 arg = self.variable_for(arg, inner.name(local), leaf)  # it is called before the function
             self.define(inner, local, arg, leaf, inner.function.entry.get(local, 0))

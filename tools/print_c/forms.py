@@ -131,7 +131,8 @@ NUMBER_CALLS: dict[str, Callable[..., Expression]] = {
 }
 FROM_BYTES = {f"core::int::u{bits}::from_le_bytes": bits for bits in (16, 32, 64, 128)}
 TO_BYTES = {f"core::int::u{bits}::to_le_bytes": bits for bits in (64, 128)}
-PIECES = "core::simd::chunks::slice+T::as_chunks"
+# These cut a slice into pieces, which keeps the name that the caller has for it.
+CUTS = ("core::simd::chunks::slice+T::as_chunks", "sketch_hash::hash::words::split_pieces")
 COPY = "core::slice::edits::slice+T::copy_from_slice"
 
 

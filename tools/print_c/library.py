@@ -13,7 +13,7 @@ from expression import BOOL, INT, NUMBERS, SIZE, VOID, CType, Expression, Pointe
 from forms import NoForm
 from mir import Given, Unknown
 from source import Sources
-from statement import Declare, Do, Give, Node, When, While, all_nodes, expressions_of, inline_once, lists_of, read_in, tidy, without_unread
+from statement import Comment, Declare, Do, Give, Node, When, While, all_nodes, expressions_of, inline_once, lists_of, read_in, tidy, without_unread
 from values import Parts, Value
 from write import Writer, comment
 
@@ -40,6 +40,7 @@ class Printed:
     has_effect: bool
     about: list[str]
     storage: str
+    source: str = ""  # its name there
     requires: list[str] = field(default_factory=list)
     head: str = ""
     is_used: list[bool] = field(default_factory=list)
@@ -137,7 +138,7 @@ class Library:
         parameters = [own for _, each in values for own in each]
         pointers = [own.type for own in parameters if isinstance(own.type, Pointer)]
         printed = Printed(name, title, types, parameters, result, bool(pointers), any(not own.is_const for own in pointers),
-                          self.about(source.about, path, numbers), storage)
+                          self.about(source.about, numbers), storage, source=last)
         self.by_name[name] = printed
         body = Body(self, path, given, values, result, False)
         self.finish(printed, body)
@@ -164,8 +165,22 @@ class Library:
             raise NoForm(type)
         return variable(own[0]), own
 
-    def about(self, text: list[str], path: str, numbers: list[int]) -> list[str]:
+    def about(self, text: list[str], numbers: list[int]) -> list[str]:
+        """Comments that are true of this instance: K is its number."""
+        for n in numbers:
+            text = [re.sub(r"\bK\b", str(n), own.replace("2 K", str(2 * n))) for own in text]
         return text
+
+    def in_c(self, text: str) -> str:
+        """A comment with the names of C in place of those of the source."""
+        words = {"None": "skh_none()", "usize::MAX": "UINT64_MAX", "MAX_BYTES": "128 MiB"}
+        names = {own.source: own.name for own in reversed(self.by_name.values()) if own.source}
+
+        def name(found: re.Match[str]) -> str:
+            own = found[1]
+            return words.get(own) or f"`{names.get(own.split('::')[-1], own)}`"
+
+        return re.sub(r"`([\w:]+)`", name, text)
 
     def finish(self, printed: Printed, body: Body) -> None:
         printed.body = tidy(inline_once(without_unread(body.code)))
@@ -276,6 +291,9 @@ class Library:
 
     def function_text(self, printed: Printed, writer: Writer) -> str:
         name_all(printed)
+        for node in all_nodes(printed.body):
+            if isinstance(node, Comment):
+                node.text = self.in_c(node.text)
         if printed.head:
             parameters = printed.head
         else:
@@ -284,7 +302,7 @@ class Library:
                                    for own in kept) or "void"
         type = printed.result.text
         body = [*(f"SKH_REQUIRES({own});" for own in printed.requires), *writer.lines(printed.body, printed.result)]
-        about = comment(printed.about)
+        about = comment([self.in_c(own) for own in printed.about] if printed.source else printed.about)
         if printed.name in self.with_vectors:
             parameters = f"bool has_vectors, {parameters}"
         if printed.name in self.chosen:

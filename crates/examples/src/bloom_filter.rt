@@ -40,8 +40,9 @@ pub fn fill<T: Hash>(alloc: Global, values: &[T], one_in: u64) -> Result<BloomFi
     Ok(filter)
 }
 
-/// The size for this number of keys. Its exact false positive rate is at most the one asked for,
-/// plus 2^-22. Each smaller power of two has 0.999 of it or more, for rates down to one in 2^26.
+/// The size for this number of keys. Its false positive rate, by the Poisson model, is at most the
+/// one asked for, plus 2^-22. Each smaller power of two has 0.999 of it or more, for rates down to
+/// one in 2^26.
 pub fn size_for(keys: u64, one_in: u64) -> Option<usize>
     ensures rate { IfSome result (λ bytes. (log2_blocks : ℕ) × (bytes ≡ 32 * 2 ^ log2_blocks)
         × ((k : ℕ) → 383 ≤ k → IsRateBelow keys (2 ^ log2_blocks) one_in k)
@@ -119,8 +120,8 @@ pub fn shrink(filter: &mut BloomFilter) -> Result<(), Fault>
     filter.fold()
 }
 
-/// Folds a filter as often as it finds at most one in `one_in` of the keys that were not inserted.
-/// It contains the same values.
+/// Folds a filter as often as it finds, by its set bits, at most one in `one_in` of the keys that
+/// were not inserted, if the eight bits of a hash were independent. It contains the same values.
 pub fn shrink_to(filter: &mut BloomFilter, one_in: u64)
     ensures folds { FoldsTo one_in filter.old filter.new }
     ensures stands { (hashes : List ℕ) → StandsFor filter.old hashes → StandsFor filter.new hashes }

@@ -68,8 +68,8 @@ rate keys blocks =
     found_to keys blocks 255 * 10 ^ 10 / (weights_to keys blocks 255 * (32 ^ 8) ^ 255)
 
 -- The rates that Parquet's specification has for 6, 10.5, 16.9, 26.4 and 41 bits a value: 10 %,
--- 1 %, 0.1 %, 0.01 % and 0.001 %. `machine_code/test_checks.py` finds the same digits with its own
--- sums. The largest filter that Arrow reads has 128 MiB.
+-- 1 %, 0.1 %, 0.01 % and 0.001 %. `machine_code/test_checks.py` evaluates this definition too. The
+-- largest filter that Arrow reads has 128 MiB.
 pub record SizeAnswers : Type 0 where
   pub of_6_bits : rate 128 3 ≡ 993387417
   pub of_10_5_bits : rate 512 21 ≡ 101285016

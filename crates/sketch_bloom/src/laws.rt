@@ -40,7 +40,7 @@ pub fn header_law()
     ensures { HeaderLaw }
 {}
 
-/// How near the exact rate of a size from [`bytes_for`](crate::bytes_for) is to the one asked for.
+/// How near the Poisson rate of a size from [`bytes_for`](crate::bytes_for) is to that asked for.
 #[tactic(auto, using(crate::proofs::ExactLemmas::size_law))]
 pub fn size_law()
     ensures { SizeLaw }

@@ -27,7 +27,7 @@ const TERMS: u64 = 384;
 ///
 /// Returns `None` if [`MAX_BYTES`] are too few, or if `one_in` is 0.
 ///
-/// The exact rate of this size is at most one in `one_in`, but for 2^-22, as
+/// The rate of this size by the Poisson model is at most one in `one_in`, but for 2^-22, as
 /// [`size_law`](crate::laws::size_law) says. Parquet's writers use m = -8 n / ln(1 - p^(1/8)) bits,
 /// which ignores that blocks fill unevenly. At exactly that size the rate is up to 50 % above the
 /// target for targets of 1 %: 0.0146 for 0.01.

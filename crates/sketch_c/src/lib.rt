@@ -4,7 +4,7 @@
 //! nothing allocates, so no call requires more than its types say. Calls pass and return only
 //! numbers and pointers, since the C ABI of structs differs between systems.
 //!
-//! A result of type `i32` is 0 on success, or a negative error: [`ERROR_LENGTH`] and so on. The call
+//! A result of type `i32` is 0 on success, or a negative error, such as [`ERROR_LENGTH`]. The call
 //! then changed nothing, except that it wrote the index of a wrong offset.
 #![tactic(auto)]
 

@@ -188,6 +188,6 @@ fn key_at<'a, O: Offset>(bytes: &'a [u8], offsets: &[O], i: usize) -> &'a [u8]
     requires end { IsBound bytes.now (map O.place offsets.now) (i + 1) }
     ensures { result.now ≡ key_at bytes.now (map O.place offsets.now) i }
 {
-    let start = offsets[i].to_usize();
-    &bytes[start..offsets[i + 1].to_usize()]
+    let first = offsets[i].to_usize();
+    &bytes[first..offsets[i + 1].to_usize()]
 }

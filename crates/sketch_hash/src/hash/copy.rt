@@ -2,8 +2,8 @@
 
 ghost use Rattle.std.specs.Prelude.{◌≡◌, ◌+◌, ◌<◌, ◌≤◌, ◌++◌, length, take, drop};
 
-/// Copies at most 32 bytes to `buffer[at..]`. A `copy_from_slice` of unknown length is a call of
-/// `memcpy`, which makes XXH64's writes of 1 to 100 bytes 17 to 33 % slower.
+/// Copies at most 32 bytes to `buffer[at..]`. A copy of unknown length is a call of `memcpy`, which
+/// makes XXH64's writes of 1 to 100 bytes 17 to 33 % slower.
 #[inline(always)]
 pub(crate) fn copy_small(buffer: &mut [u8], at: usize, bytes: &[u8])
     requires within { at + length bytes.now ≤ length buffer.old }

@@ -148,7 +148,8 @@ impl MurmurHash3X64128 {
         let first = read_u128_le(&bytes[..BLOCK]);
         let (k1, k2) = place_after(self.low, self.high, self.count, first);
         let (h1, h2) = step(self.h1, self.h2, k1, k2);
-        let rest = &bytes[BLOCK - self.count..];
+        let missing = BLOCK - self.count;
+        let rest = &bytes[missing..];
         let (blocks, last) = split_pieces::<BLOCK>(rest);
         (self.h1, self.h2) = fold_blocks(h1, h2, blocks);
         (self.low, self.high) = read_partial_words(last);
@@ -321,9 +322,9 @@ fn finalize(h1: u64, h2: u64, total: u64) -> (u64, u64)
     cross(fmix(h1), fmix(h2))
 }
 
-// `finalize` with a branch that changes nothing, as `fmix(0)` is 0. It keeps LLVM from vectorizing
-// a caller's loop over keys of 8 bytes, which is a third slower without AVX-512. `hash` does
-// without: there the branch makes keys of 1 to 8 bytes 10 % slower.
+// [`finalize`] with a branch that changes nothing, as `fmix(0)` is 0. It keeps compilers from
+// vectorizing a caller's loop over keys of 8 bytes, which is a third slower without AVX-512. `hash`
+// does without: there the branch makes keys of 1 to 8 bytes 10 % slower.
 #[inline(always)]
 #[tactic(auto, using(crate::proofs::MurmurAnswers::for_finalize_unvectorized))]
 fn finalize_unvectorized(h1: u64, h2: u64, total: u64) -> (u64, u64)

@@ -268,8 +268,8 @@ pub(super) fn hash_one_of_many(bytes: &[u8], seed: u64) -> u64
     avalanche(fold_tail(hash, last))
 }
 
-// The hash of 32 to 63 bytes. In a separate call LLVM knows that there is one stripe and makes no
-// loop: keys of 32 bytes are 10 % faster.
+// The hash of 32 to 63 bytes. In a separate call a compiler knows that there is one stripe and
+// makes no loop: keys of 32 bytes are 10 % faster.
 #[inline(never)]
 fn hash_one_stripe(bytes: &[u8], seed: u64) -> u64
     requires low { 32 ≤ length bytes.now }
