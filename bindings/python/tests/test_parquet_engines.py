@@ -2,7 +2,7 @@
 import pytest
 from helpers import TYPES, column_of, rate_of
 from sketch_hash import parquet
-from sketch_hash.parquet import stores, writer
+from sketch_hash.parquet import writer
 from sketch_hash.parquet.pyarrow_values import stored_values
 
 pytest.importorskip("numpy")
@@ -92,9 +92,7 @@ def names_in(store):
     return sorted(info.path for info in store.get_file_info(FileSelector("", recursive=True)) if info.is_file)
 
 
-@pytest.mark.parametrize("renames", [True, False])
-def test_files_of_a_store_get_filters(renames, store, pa, monkeypatch):
-    monkeypatch.setattr(stores, "NO_RENAME", set() if renames else {"mock"})
+def test_files_of_a_store_get_filters(store, pa):
     before, names = pa.parquet.read_table("data/a.parquet", filesystem=store), names_in(store)
     assert parquet.add_filters("data/a.parquet", "data/a.parquet", ["x"], filesystem=store) > 0
     assert parquet.add_filters("data", "data", ["x", "y"], skip_existing=True, filesystem=store) > 0

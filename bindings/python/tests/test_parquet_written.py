@@ -15,6 +15,7 @@ import pytest
 from parquet_files import FILTERS, ODD, VALUES, changed, set_path, texts
 from sketch_hash import column, parquet
 from sketch_hash.parquet import writer
+from sketch_hash.parquet.files import Source
 from sketch_hash.parquet.footer import LENGTH, OFFSET, VALUES as VALUE_COUNT
 from sketch_hash.parquet.pyarrow_values import stored_values
 from thrift_tree import TType, chunk_of, metadata_of, split
@@ -320,13 +321,14 @@ def test_what_others_put_in_place_of_the_new_file_is_not_touched(copy, tmp_path,
     secret.write_bytes(b"key")
     secret.chmod(0o600)
 
-    def put_a_link():
+    def put_a_link(*args, pieces=Source.pieces):
         new, = tmp_path.glob(".sketch_hash-*")
         new.unlink()
         new.symlink_to(secret)
+        return pieces(*args)
 
-    meanwhile(monkeypatch, put_a_link)
-    with pytest.raises(ValueError, match="^the file to replace must not change"):
+    monkeypatch.setattr(Source, "pieces", put_a_link)
+    with pytest.raises(ValueError, match="^the new file must be as it was written, but is not$"):
         parquet.add_filters(copy, copy, ["plain"])
     assert secret.read_bytes() == b"key" and stat.S_IMODE(secret.stat().st_mode) == 0o600
     assert copy.read_bytes() == ODD.read_bytes() and not copy.is_symlink()
