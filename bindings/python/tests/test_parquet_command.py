@@ -9,6 +9,7 @@ import sys
 import time
 
 import pytest
+import sketch_hash
 from parquet_files import DATA, FILTERS, ODD, VALUES, as_in_a_terminal, clear_filter, run, until
 from sketch_hash import parquet
 from sketch_hash.parquet.footer import BYTE_ARRAY
@@ -113,6 +114,23 @@ def test_the_command_takes_folders_and_its_status_tells_what_is_wrong(tmp_path):
     (tmp_path / "empty").mkdir()
     done = run("add", "-c", "plain", tmp_path / "empty")
     assert done.returncode == 3 and "no file ends in .parquet" in done.stderr
+
+
+def test_a_link_and_its_target_are_one_file(tmp_path):
+    file = shutil.copy(FILTERS, tmp_path / "b.parquet")
+    for name in ("a.parquet", "c.parquet"):
+        (tmp_path / name).symlink_to(file)
+    for names in ([tmp_path], [tmp_path / "a.parquet", file], [file, tmp_path]):
+        assert run("show", "--json", *names).stdout.count('"file"') == 1
+    assert run("remove", tmp_path).stdout == f"{file}: {3 * len(VALUES)} filters removed\n"
+    shutil.copy(FILTERS, file)
+    assert parquet.remove_filters(tmp_path, tmp_path) == 3 * len(VALUES)
+    assert parquet.remove_filters(tmp_path, tmp_path / "new") == 0  # of three files
+    assert {*os.listdir(tmp_path / "new")} == {"a.parquet", "b.parquet", "c.parquet"}
+
+
+def test_the_command_has_a_version():
+    assert run("--version").stdout == f"sketch_hash {sketch_hash.__version__}\n"
 
 
 def test_the_command_adds_and_checks(pa, tmp_path):
