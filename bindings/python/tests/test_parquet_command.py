@@ -122,7 +122,7 @@ def test_a_link_and_its_target_are_one_file(tmp_path):
         (tmp_path / name).symlink_to(file)
     for names in ([tmp_path], [tmp_path / "a.parquet", file], [file, tmp_path]):
         assert run("show", "--json", *names).stdout.count('"file"') == 1
-    assert run("remove", tmp_path).stdout == f"{file}: {3 * len(VALUES)} filters removed\n"
+    assert run("remove", tmp_path).stdout == f"{tmp_path}/c.parquet: {3 * len(VALUES)} filters removed\n"
     shutil.copy(FILTERS, file)
     assert parquet.remove_filters(tmp_path, tmp_path) == 3 * len(VALUES)
     assert parquet.remove_filters(tmp_path, tmp_path / "new") == 0  # of three files

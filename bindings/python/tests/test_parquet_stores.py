@@ -314,16 +314,3 @@ def test_a_cache_of_a_store_is_refused(memory, stores, copy, tmp_path):
     with pytest.raises(ValueError, match="^the store must not be a cache of fsspec, which shows old files: pass the store"):
         add(cache)
     assert get(base) == OLD and names(base) == ["a.parquet"] and add(cache.fs) > 0
-
-
-def test_a_folder_of_another_file_system_is_a_place_in_that(memory, stores, copy, tmp_path):
-    from fsspec.implementations.dirfs import DirFileSystem
-    from fsspec.implementations.local import LocalFileSystem
-    _, base = stores("memory")
-    put(base)
-    assert parquet.add_filters("a.parquet", "b.parquet", ["plain"], filesystem=DirFileSystem("bucket", fs=memory)) > 0
-    assert names(base) == ["a.parquet", "b.parquet"]
-    copy.chmod(0o640)
-    here = DirFileSystem(str(tmp_path), fs=LocalFileSystem())
-    assert parquet.add_filters(copy.name, "b.parquet", ["plain"], filesystem=here) > 0
-    assert (tmp_path / "b.parquet").stat().st_mode & 0o777 == 0o640  # as of any file of this machine

@@ -348,7 +348,7 @@ def test_a_folder_that_cannot_be_synced_is_an_error_at_once(copy, tmp_path, monk
 
 def test_an_error_names_the_folder_that_cannot_be_written_to(copy, tmp_path, monkeypatch):
     def open_but_create_nothing(path, flags, *args, open=os.open, **kwargs):
-        if flags & os.O_CREAT:
+        if flags & (os.O_CREAT | os.O_TMPFILE) & ~os.O_DIRECTORY:
             raise PermissionError(13, "Permission denied", path)
         return open(path, flags, *args, **kwargs)
 

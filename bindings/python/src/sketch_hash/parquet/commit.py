@@ -4,11 +4,13 @@ A store may ignore a call, or do it and yet report an error. So no answer is bel
 steps, and what a kill at each of them leaves, are in docs/parquet.md.
 """
 import contextlib
+import itertools
 import re
 import secrets
 import tempfile
 
 from .. import xxh64, xxh64_hexdigest
+from .files import Source
 
 PREFIX = ".sketch_hash-"  # of the names of new files that are not in place yet
 
@@ -19,39 +21,31 @@ class ChangedError(ValueError):
 
 
 class Content:
-    """The bytes of a new file: those of a source up to `end`, then those of a temporary file. `digests` are those of all
-    bytes, once they are written, and of those from `end` on."""
+    """The bytes of a new file: those of a source up to `end`, then those of a temporary file. `digests` are those of what has
+    been written from two places on."""
 
     def __init__(self, source, end, rest):
-        self.source, self.end, self.rest = source, end, rest
-        self.size, self.digests = end + rest.tell(), {}
+        self.source, self.end, self.rest, self.size = source, end, Source(rest), end + rest.tell()
+        self.digests = {0: xxh64(), end: xxh64()}
 
     def pieces(self):
-        digests = {0: xxh64(), self.end: xxh64()}
-        for piece in self.source.pieces(0, self.end):
-            digests[0].update(piece)
+        for piece in itertools.chain(self.source.pieces(0, self.end), self.rest.pieces(0, self.rest.size)):
+            self.digests[0].update(piece)
             yield piece
-        self.rest.seek(0)
-        while piece := self.rest.read(self.source.step):
-            for digest in digests.values():
-                digest.update(piece)
-            yield piece
-        self.digests = {begin: digest.digest() for begin, digest in digests.items()}
+        for piece in self.rest.pieces(0, self.rest.size):
+            self.digests[self.end].update(piece)
 
 
 @contextlib.contextmanager
 def replaced(target, source, end, check_source):
-    """Gives a temporary file, to which the caller writes what shall follow the first `end` bytes of the source, and a list for
-    notes of what the target then loses. At the end, the target is replaced.
-
-    The values are read before anything is copied, so an error costs no upload.
-    """
+    """Gives a temporary file, to which the caller writes what shall follow the first `end` bytes of the source in the target,
+    and a list for notes of what the target loses. The caller reads the values before anything is copied, so an error costs no
+    upload."""
     with contextlib.ExitStack() as stack:
         before = target.hold(stack)
         if before:
             check_replaceable(target, before)
-        rest = stack.enter_context(tempfile.TemporaryFile(dir=target.scratch, prefix=PREFIX))
-        notes = []
+        rest, notes = stack.enter_context(tempfile.TemporaryFile(dir=target.scratch, prefix=PREFIX)), []
         yield rest, notes
         new = Content(source, end, rest)
         remove_leftovers(target)

@@ -18,20 +18,14 @@ def place_of(file, filesystem=None):
     if filesystem is None and not is_uri:
         return Local(os.fsdecode(file))
     try:
-        from pyarrow.fs import LocalFileSystem, SubTreeFileSystem
+        import pyarrow.fs
     except ImportError as error:
         raise ImportError("a URI or a file system needs pyarrow: pip install pyarrow") from error
     filesystem, path = from_uri(file) if filesystem is None else (arrow_filesystem(filesystem), os.fspath(file))
-    while True:  # out of those that only begin at another folder
-        store = store_of(filesystem)
-        if isinstance(filesystem, SubTreeFileSystem):
-            filesystem, path = filesystem.base_fs, filesystem.base_path + path
-        elif type(store).__name__ == "DirFileSystem":
-            filesystem, path = arrow_filesystem(store.fs), store._join(path)
-        elif isinstance(filesystem, LocalFileSystem) or type(store).__name__ == "LocalFileSystem":
-            return Local(store._strip_protocol(path) if store else path)
-        else:
-            return Stored(filesystem, path, file if is_uri else path)
+    while isinstance(filesystem, pyarrow.fs.SubTreeFileSystem):
+        filesystem, path = filesystem.base_fs, filesystem.base_path + path
+    is_local = isinstance(filesystem, pyarrow.fs.LocalFileSystem)
+    return Local(path) if is_local else Stored(filesystem, path, file if is_uri else path)
 
 
 def from_uri(uri):
@@ -46,20 +40,17 @@ def from_uri(uri):
 
 
 def arrow_filesystem(filesystem):
-    from pyarrow.fs import FileSystem, FSSpecHandler, PyFileSystem, SubTreeFileSystem
+    from pyarrow.fs import FileSystem, FSSpecHandler, LocalFileSystem, PyFileSystem, SubTreeFileSystem
     if isinstance(filesystem, FileSystem):
         return filesystem
     if isinstance(filesystem, str):
         found, path = from_uri(filesystem)
         return SubTreeFileSystem(path, found) if path else found
+    if type(filesystem).__name__ == "LocalFileSystem":  # of fsspec
+        return LocalFileSystem()
     if hasattr(filesystem, "mv") and hasattr(filesystem, "protocol"):
         return PyFileSystem(FSSpecHandler(filesystem))
     raise TypeError(f"filesystem must be one of pyarrow.fs or of fsspec, not {type(filesystem).__name__}")
-
-
-def store_of(filesystem):
-    """The file system of fsspec that one of pyarrow stands for, or None."""
-    return getattr(getattr(filesystem, "handler", None), "fs", None)
 
 
 def is_wanted(names):
@@ -68,11 +59,8 @@ def is_wanted(names):
 
 
 def each_once(places):
-    """The places without links to files that are there too."""
-    first = {}
-    for place in sorted(places, key=lambda place: place.is_link()):
-        first.setdefault(place.real_path(), place)
-    return [place for place in places if first[place.real_path()] is place]
+    """The places, of which those that links lead to are one."""
+    return [*{place.real_path(): place for place in places}.values()]
 
 
 class Local:
@@ -84,9 +72,6 @@ class Local:
 
     def __str__(self):
         return self.path
-
-    def is_link(self):
-        return os.path.islink(self.path)
 
     def real_path(self):
         return os.path.realpath(self.path)
@@ -155,13 +140,9 @@ class Local:
         """Creates and syncs the file, which is locked as long as this run lives, so that another one can tell. Returns notes of
         what the target loses by it."""
         flags, notes = os.O_RDWR | os.O_CREAT | os.O_EXCL | os.O_NOFOLLOW, []
-        try:
-            with CHANGES:
-                number = os.open(self.name, flags, 0o600, dir_fd=self.folder)
-                UNFINISHED.add((self.folder, self.name))
-        except OSError as error:
-            error.filename = self.scratch
-            raise
+        with CHANGES:
+            number = os.open(self.name, flags, 0o600, dir_fd=self.folder)
+            UNFINISHED.add((self.folder, self.name))
         with open(number, "wb") as file:
             with contextlib.suppress(OSError):
                 fcntl.flock(number, fcntl.LOCK_EX)
@@ -202,16 +183,13 @@ class Stored:
     scratch = None  # the system's own folder of temporary files
 
     def __init__(self, filesystem, path, text):
-        self.filesystem, self.store, self.before = filesystem, store_of(filesystem), None
+        self.filesystem, self.store, self.before = filesystem, getattr(getattr(filesystem, "handler", None), "fs", None), None
         self.path = (self.store._strip_protocol(path) if self.store else filesystem.normalize_path(path)).rstrip("/")
         self.folder, self.slash, self.name = self.path.rpartition("/")
         self.text = text.rstrip("/")
 
     def __str__(self):
         return self.text
-
-    def is_link(self):
-        return False
 
     def real_path(self):
         return self.path.strip("/")
@@ -293,7 +271,7 @@ class Stored:
             digest = xxh64()
             for piece in Source(file).pieces(begin, new.size):
                 digest.update(piece)
-        return digest.digest() == new.digests[begin]
+        return digest.digest() == new.digests[begin].digest()
 
     def move(self, target, before):
         """Renames the file, or copies it if the store cannot. pyarrow's call for fsspec moves all below a path, and takes it as

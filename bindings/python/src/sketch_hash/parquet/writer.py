@@ -98,18 +98,16 @@ def in_each_file(call, source, *target):
     if not source.is_folder():
         yield call(source, *target)
         return
-    files = [[place.below(name) for place in (source, *target)] for name in source.names()]
+    names = {source.below(name): name for name in source.names()}
     in_place = all(source.is_same(place) for place in target)
-    once = each_once([places[0] for places in files])
-    for places in files:
-        if in_place and places[0] not in once:
-            continue
+    for place in each_once(names) if in_place else names:
+        places = [place, *(other.below(names[place]) for other in target)]
         if not in_place:
             places[-1].make_folder()
         try:
             yield call(*places)
         except ValueError as error:
-            error.args = f"{places[0]}: {error}",
+            error.args = f"{place}: {error}",
             raise
 
 
