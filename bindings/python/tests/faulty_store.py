@@ -1,5 +1,6 @@
 """Stores whose calls go wrong: those of a file system of pyarrow or fsspec, and of its files, are counted."""
-CHANGES = "close", "copy_file", "cp_file", "create_dir", "delete_file", "mkdir", "move", "mv", "rm_file", "write"
+CHANGES = {"close", "copy_file", "cp_file", "create_dir", "delete_file", "mkdir", "move", "mv", "rm_file", "write",
+           "fchmod", "fchown", "fsync", "replace", "unlink"}
 CALLS = "info", "find", "isdir", "isfile", "exists", "open", "cp_file", "mv", "rm_file", "mkdir"
 
 
@@ -31,6 +32,13 @@ def loses_bytes(name, call, *args):
 
 def changes_bytes(name, call, *args):
     return call(bytes([args[0][0] ^ 1]) + bytes(args[0])[1:]) if name == "write" else call(*args)
+
+
+def error_of(call, *args):
+    try:
+        call(*args)
+    except BaseException as error:
+        return error
 
 
 FAULTS = [fails, fails_when_done, is_interrupted, is_interrupted_when_done, does_nothing, loses_bytes, changes_bytes]

@@ -5,7 +5,7 @@ import re
 import sys
 
 import pytest
-from faulty_store import FAULTS, Calls, fails
+from faulty_store import FAULTS, Calls, error_of, fails
 from parquet_files import ODD, clear_filter
 from sketch_hash import parquet, xxh64_hexdigest
 from sketch_hash.parquet import command, files, writer
@@ -128,13 +128,6 @@ def names(base):
 
 def add(store, path=PATH, **options):
     return parquet.add_filters(PATH, path, ["plain"], filesystem=store, **options)
-
-
-def error_of(call, *args):
-    try:
-        call(*args)
-    except BaseException as error:
-        return error
 
 
 def with_moto_once_in_place(store, last, target):

@@ -97,10 +97,11 @@ def mark_of(target):
 
 
 def remove_leftovers(target):
-    """Of runs on this target that were killed, and of version 3.1.0 on any file of the folder. If that fails, they stay."""
+    """Of runs on this target that were killed, of version 3.1.0 on any file of the folder, and of temporary files whose names
+    could not be removed. If that fails, they stay."""
     with contextlib.suppress(Exception):
         for name in target.names_in(target.folder) or ():
-            if re.fullmatch(f"({PREFIX}|{mark_of(target)})[0-9a-f]{{16}}", name):
+            if re.fullmatch(f"({PREFIX}|{mark_of(target)})[0-9a-f]{{16}}|{PREFIX}[0-9a-z_]{{8}}", name):
                 target.beside(name).remove_leftover()
 
 

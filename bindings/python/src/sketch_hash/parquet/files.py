@@ -130,6 +130,12 @@ def lock(number):
         pass
 
 
+def close(number):
+    """Of a file that was not written: nothing is lost if that fails."""
+    with contextlib.suppress(OSError):
+        os.close(number)
+
+
 def is_left(name, folder):
     """Whether a new file was left by a run that was killed: none has it locked."""
     try:

@@ -7,7 +7,7 @@ import re
 
 from .. import xxh64
 from .commit import ChangedError
-from .files import CHANGES, UNFINISHED, Source, copy_attributes, fcntl, is_left, lock, open_file, version_of
+from .files import CHANGES, UNFINISHED, Source, close, copy_attributes, fcntl, is_left, lock, open_file, version_of
 
 
 def place_of(file, filesystem=None):
@@ -117,11 +117,11 @@ class Local:
             raise NotImplementedError("only POSIX systems can replace a file")
         self.scratch, self.name = os.path.split(self.real_path())
         self.folder, self.old = os.open(self.scratch, os.O_RDONLY | os.O_DIRECTORY), None
-        stack.callback(os.close, self.folder)
+        stack.callback(close, self.folder)
         before = self.version()
         if before and before[0]:
             self.old = os.open(self.name, os.O_RDONLY | os.O_NOFOLLOW | os.O_NONBLOCK, dir_fd=self.folder)
-            stack.callback(os.close, self.old)
+            stack.callback(close, self.old)
             lock(self.old)
         return before
 

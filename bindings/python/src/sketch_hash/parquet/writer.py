@@ -26,8 +26,8 @@ def add_filters(source, target, columns, *, filesystem=None, error_rate=None, ma
     a bar.
 
     Both are paths, or URIs, or paths in a filesystem of pyarrow or fsspec. If the source is a folder, all files below it that
-    end in .parquet are written to the target, a folder too. A target is whole at any time: a new file is written to its folder
-    as .sketch_hash-.., and then renamed. If a store cannot rename files, it is written at once.
+    end in .parquet are written to the target, a folder too. A target is the old file or the complete new one at any time: that
+    is written beside it as .sketch_hash-.., read back, and then renamed, or copied within a store that cannot rename.
 
     A filter begins large enough for all values at error_rate, the share of other keys that it finds on average, or with
     max_bytes. It is halved while its rate by its bits stays at most error_rate. If that is left out, the rate is about 1 %:
@@ -39,7 +39,8 @@ def add_filters(source, target, columns, *, filesystem=None, error_rate=None, ma
     Raises ValueError if an engine may hold values of a column equal whose bytes differ, as of INTERVAL; if a column has
     filters, and neither of the two is given; if the footer is encrypted or signed, or a file is not a regular one; if folders
     show that the target belongs to a table of Delta Lake or Iceberg; if another call replaces the target at the same time,
-    or a file changes meanwhile. Then the target stays as it is. Raises NotImplementedError if the system is not POSIX.
+    or a file changes meanwhile; if a store cannot replace files. After an error the target is as it was, unless the message
+    begins with "the file may be". Raises NotImplementedError if the system is not POSIX.
     """
     check_names(columns)
     if replace and skip_existing:
