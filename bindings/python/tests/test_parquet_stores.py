@@ -1,6 +1,7 @@
 """Files in stores are replaced as a whole or not at all, whatever call goes wrong, and what is reported is true."""
 import itertools
 import logging
+import pickle
 import re
 import sys
 
@@ -152,6 +153,8 @@ def test_a_file_is_the_old_or_the_new_one_whatever_call_goes_wrong(fault, store,
         count, calls.fault = len(calls.names), None
         found = get(base, target) if base.get_file_info(target).is_file else None
         assert found in (old, new), calls.names[:count]
+        if "interrupted" in fault.__name__ and calls.names[:count][first - 1:first] in (["copy_file"], ["cp_file"]):
+            assert isinstance(error, KeyboardInterrupt)
         seen.add((error is None, found == new))
         if error is None:
             assert found == new, calls.names[:count]
@@ -287,7 +290,14 @@ def test_a_command_takes_each_file_below_the_uri_of_a_folder(memory, copy):
     for folder in ODD_NAMES:
         memory.pipe_file(f"/bucket/{folder}/a b.parquet", OLD)
         place, = command.files_of([f"memory://bucket/{folder}"])
+        place = pickle.loads(pickle.dumps(place))  # as for other processes
         assert str(place) == f"memory://bucket/{folder}/a b.parquet" and parquet.add_filters(place, place, ["plain"]) > 0
+
+
+def test_a_command_takes_files_of_two_stores_that_have_one_path(memory):
+    memory.pipe_file("/bucket/a.parquet", OLD)
+    uris = ["memory://bucket/a.parquet", "mock://bucket/a.parquet"]
+    assert [*map(str, command.files_of([*uris, "memory://bucket"]))] == uris
 
 
 def test_a_folder_that_a_store_lists_as_another_one_is_an_error(mock, copy, fs):

@@ -45,7 +45,7 @@ def replaced(target, source, end, check_source):
         before = target.hold(stack)
         if before:
             check_replaceable(target, before)
-        rest, notes = stack.enter_context(tempfile.TemporaryFile(dir=target.scratch, prefix=PREFIX)), []
+        rest, notes = stack.enter_context(tempfile.TemporaryFile(dir=target.scratch, prefix=mark_of(target))), []
         yield rest, notes
         new = Content(source, end, rest)
         remove_leftovers(target)
@@ -72,8 +72,8 @@ def move(temporary, target, new, before):
         failure = error
     is_new, is_old = found(target, new, before)
     if not is_new and not is_old and not isinstance(failure, ChangedError):
-        raise ValueError("the file may be the old one, the new one, damaged or another program's, since the store failed when "
-                         f"it was replaced: the new one is {temporary}, if it is not in place") from failure
+        raise ValueError("the file may be the old one, the new one, missing or damaged, since the store failed when it was "
+                         f"replaced: the new one is {temporary}, if it is not in place") from failure
     temporary.remove()
     if is_new and (failure is None or isinstance(failure, Exception)):
         return
@@ -97,11 +97,10 @@ def mark_of(target):
 
 
 def remove_leftovers(target):
-    """Of runs on this target that were killed, of version 3.1.0 on any file of the folder, and of temporary files whose names
-    could not be removed. If that fails, they stay."""
+    """Of runs on this target that were killed, and of version 3.1.0 on any file of the folder. If that fails, they stay."""
     with contextlib.suppress(Exception):
         for name in target.names_in(target.folder) or ():
-            if re.fullmatch(f"({PREFIX}|{mark_of(target)})[0-9a-f]{{16}}|{PREFIX}[0-9a-z_]{{8}}", name):
+            if re.fullmatch(f"{PREFIX}[0-9a-f]{{16}}|{mark_of(target)}[0-9a-z_]+", name):
                 target.beside(name).remove_leftover()
 
 

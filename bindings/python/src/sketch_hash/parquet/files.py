@@ -119,15 +119,14 @@ def lock(number):
 
     A program that only reads may have a shared lock, which no run has: it does no harm.
     """
-    try:
-        fcntl.flock(number, fcntl.LOCK_EX | fcntl.LOCK_NB)
-    except BlockingIOError:
+    for kind in (fcntl.LOCK_EX, fcntl.LOCK_SH):
         try:
-            fcntl.flock(number, fcntl.LOCK_SH | fcntl.LOCK_NB)
+            return fcntl.flock(number, kind | fcntl.LOCK_NB)
         except BlockingIOError:
-            raise ValueError("the file is locked by another program, or another run is replacing it") from None
-    except OSError:
-        pass
+            pass
+        except OSError:
+            return None
+    raise ValueError("the file is locked by another program, or another run is replacing it")
 
 
 def close(number):
@@ -178,25 +177,17 @@ def copy_attributes(old, new):
 
 def copy_xattrs(old, new):
     try:
-        names = os.listxattr(old)
+        names, others = os.listxattr(old), os.listxattr(new)
     except OSError:  # the file system has none
         return []
-    for name in {*os.listxattr(new)} - {*names}:  # as an ACL that the folder gives to new files
-        with contextlib.suppress(OSError):
-            os.removexattr(new, name)
     lost = []
-    for name in names:
+    for name in {*names, *others}:
         try:
-            value = os.getxattr(old, name)
-            if value != xattr_of(new, name):
-                os.setxattr(new, name, value)
+            if name not in names:  # as an ACL that the folder gives to new files
+                os.removexattr(new, name)
+            elif name not in others or os.getxattr(old, name) != os.getxattr(new, name):
+                os.setxattr(new, name, os.getxattr(old, name))
         except OSError:
-            lost.append("ACL" if name == "system.posix_acl_access" else name)
+            if name in names:
+                lost.append("ACL" if name == "system.posix_acl_access" else name)
     return lost
-
-
-def xattr_of(number, name):
-    try:
-        return os.getxattr(number, name)
-    except OSError:
-        return None

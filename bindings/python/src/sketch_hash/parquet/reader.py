@@ -65,7 +65,7 @@ class BloomFilterReader:
         values = listed(values)
         groups = [[] for _ in values]
         owners = [*range(len(values))]  # numbers of a range would be made again for each row group
-        for group, answers in enumerate(self.contains_listed(column, values)):
+        for group, answers in enumerate(self._contains_each(column, values)):
             for i in itertools.compress(owners, answers):
                 groups[i].append(group)
         return groups
@@ -73,9 +73,9 @@ class BloomFilterReader:
     def contains_each(self, column, values):
         """For each row group whether it may have each value, as may_contain: bytes of 0 and 1. For many values this takes
         much less time than their lists."""
-        return self.contains_listed(column, listed(values))
+        return self._contains_each(column, listed(values))
 
-    def contains_listed(self, column, values):
+    def _contains_each(self, column, values):
         if column not in self.asked:
             found, = self.footer.find([column])
             self.asked[column] = found, places_of(self.source, found, range(self.num_row_groups))

@@ -186,20 +186,20 @@ class Stored:
         self.filesystem, self.store, self.before = filesystem, getattr(getattr(filesystem, "handler", None), "fs", None), None
         self.path = (self.store._strip_protocol(path) if self.store else filesystem.normalize_path(path)).rstrip("/")
         self.folder, self.slash, self.name = self.path.rpartition("/")
-        self.text = text.rstrip("/")
+        self.text, self.prefix = text.rstrip("/"), self.path.strip("/") + "/"
 
     def __str__(self):
         return self.text
 
     def real_path(self):
-        return self.path.strip("/")
+        return self.text
 
     def open(self):
         self.before = self.version()
         return self.filesystem.open_input_file(self.path)
 
     def is_same(self, other):
-        return isinstance(other, Stored) and (self.filesystem, self.real_path()) == (other.filesystem, other.real_path())
+        return isinstance(other, Stored) and (self.filesystem, self.prefix) == (other.filesystem, other.prefix)
 
     def is_folder(self):
         return self.filesystem.get_file_info(self.path).type.name == "Directory"
@@ -210,13 +210,13 @@ class Stored:
 
     def names(self):
         """The files below a folder, whose path the store must begin with the same names."""
-        prefix, names = self.real_path() + "/", []
+        names = []
         for info in self.list(self.path, recursive=True):
             path = info.path.lstrip("/")
-            if not path.startswith(prefix):
+            if not path.startswith(self.prefix):
                 raise ValueError(f"the folder must be spelled as in the store, which has {info.path} in it")
-            if info.is_file and is_wanted(path[len(prefix):].split("/")):
-                names.append(path[len(prefix):])
+            if info.is_file and is_wanted(path[len(self.prefix):].split("/")):
+                names.append(path[len(self.prefix):])
         return sorted(names)
 
     def below(self, name):
@@ -259,8 +259,7 @@ class Stored:
 
     def write(self, new, target):
         with self.filesystem.open_output_stream(self.path) as file:
-            for piece in new.pieces():
-                file.write(piece)
+            file.writelines(new.pieces())
         return []
 
     def has(self, new, begin):
@@ -274,19 +273,16 @@ class Stored:
         return digest.digest() == new.digests[begin].digest()
 
     def move(self, target, before):
-        """Renames the file, or copies it if the store cannot. pyarrow's call for fsspec moves all below a path, and takes it as
-        a pattern."""
-        if not self.store:
-            try:
-                self.filesystem.move(self.path, target.path)
-            except NotImplementedError:
-                self.filesystem.copy_file(self.path, target.path)
-        elif any(kind.__module__ == "s3fs.core" for kind in type(self.store).__mro__):
-            self.copy_on_s3(target, before)
-        elif any("mv" in vars(kind) for kind in type(self.store).__mro__ if kind.__module__ != "fsspec.spec"):
-            self.store.mv(self.path, target.path)
-        else:
-            self.store.cp_file(self.path, target.path)
+        """Renames the file, or copies it if the store cannot. pyarrow's move for fsspec takes names as patterns, and so does
+        its own mv, unless a store has another one."""
+        kinds = type(self.store).__mro__
+        if any(kind.__module__ == "s3fs.core" for kind in kinds):
+            return self.copy_on_s3(target, before)
+        rename, copy = (self.store.mv, self.store.cp_file) if self.store else (self.filesystem.move, self.filesystem.copy_file)
+        if not self.store or any("mv" in vars(kind) for kind in kinds if kind.__module__ != "fsspec.spec"):
+            with contextlib.suppress(NotImplementedError):
+                return rename(self.path, target.path)
+        copy(self.path, target.path)
 
     def copy_on_s3(self, target, before):
         """The copy fails if the target is no longer as before, up to 5 GB, and if the store knows such conditions."""
