@@ -14,12 +14,9 @@ from sketch_hash.parquet import add_filters
 def files(folder):
     """Paths, each with the size and time that tell it from another machine's file of the same name. Names that begin with . or
     _ are those of temporary and hidden files."""
-    found = []
-    for path in pathlib.Path(folder).rglob("*.parquet"):
-        names = path.relative_to(folder).parts
-        if path.is_file() and not any(name.startswith((".", "_")) for name in names):
-            found.append((str(path), path.stat().st_size, path.stat().st_mtime_ns))
-    return found
+    found = (path for path in pathlib.Path(folder).rglob("*.parquet")
+             if path.is_file() and not any(name.startswith((".", "_")) for name in path.relative_to(folder).parts))
+    return [(str(path), path.stat().st_size, path.stat().st_mtime_ns) for path in found]
 
 
 def add(path, columns):
@@ -27,7 +24,7 @@ def add(path, columns):
 
 
 def main(scheduler, folder, *columns):
-    statuses = set()
+    failed = 0
     with Client(scheduler) as client:
         machines = collections.defaultdict(set)
         for worker, found in client.run(files, folder).items():
@@ -37,14 +34,12 @@ def main(scheduler, folder, *columns):
                  for file, hosts in machines.items()}
         for task in as_completed(tasks):
             error = task.exception()
-            statuses.add(1 if error else 0)
-            if error:
-                print(f"{tasks[task]}: {error}", file=sys.stderr)
-            else:
-                print(f"{tasks[task]}: {task.result()} bytes of filters")
-    if not statuses:
+            failed += error is not None
+            text = f"{task.result()} bytes of filters" if error is None else error
+            print(f"{tasks[task]}: {text}", file=sys.stderr if error else sys.stdout)
+    if not machines:
         print(f"no file below {folder} ends in .parquet", file=sys.stderr)
-    return max(statuses, default=3)
+    return 1 if failed else 0 if machines else 3
 
 
 if __name__ == "__main__":

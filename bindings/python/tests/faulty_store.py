@@ -84,18 +84,14 @@ class Handler:
 
     def __init__(self, calls, base, instead):
         self.calls = calls
-        for name in ("copy_file", "create_dir", "delete_file", "get_file_info", "move"):
+        for name in ("copy_file", "delete_file", "get_file_info", "move"):
             setattr(self, name, calls.counted(name, instead.get(name) or getattr(base, name)))
-        self.create_dir = lambda path, recursive, create=self.create_dir: create(path, recursive=recursive)
+        self.create_dir = calls.counted("create_dir", lambda path, recursive: base.create_dir(path, recursive=recursive))
         self.list = calls.counted("list", base.get_file_info)
         self.open = calls.counted("open", lambda path: calls.file(base.open_input_file(path)))
         self.create = calls.counted("create", lambda path: calls.file(base.open_output_stream(path)))
 
-    def get_type_name(self):
-        return "faulty"
-
-    def normalize_path(self, path):
-        return path
+        self.normalize_path = str
 
     def get_file_info_selector(self, selector):
         from pyarrow.fs import FileSelector

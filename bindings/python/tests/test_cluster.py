@@ -87,12 +87,6 @@ def test_a_part_may_be_empty_and_nothing_may_match(small, joined, run, tmp_path)
     assert numpy.load(tmp_path / "joined.npy").tolist() == joined
 
 
-def test_a_table_without_files_is_an_error(run, tmp_path):
-    save(tmp_path / "large", numpy.arange(9))
-    save(tmp_path / "small")
-    assert "there are no .npy files in small\n" in run("join_on_cluster.py", "small", "large", status=1)
-
-
 def test_a_join_sends_only_rows_that_can_match(run, tmp_path):
     numbers = numpy.arange(4_000_000, dtype="u8") * numpy.uint64(0x9E3779B97F4A7C15)  # all different
     tables = {"small": numbers[:160_000].reshape(8, -1), "large": numbers[-3_200_000:].reshape(16, -1).copy()}
@@ -106,3 +100,4 @@ def test_a_join_sends_only_rows_that_can_match(run, tmp_path):
     assert sorted(numpy.load(tmp_path / "joined.npy")) == sorted(plain) and len(plain) == 1600
     travelled = int(re.fullmatch(r"(\d+) of 3200000 rows travelled, and 1600 match\n", output)[1])
     assert re.search(rf"{travelled:,}\s+of 3,200,000 rows travel", (ROOT / "docs/cluster.md").read_text())
+    assert "there are no .npy files in none\n" in run("join_on_cluster.py", "small", "none", status=1)

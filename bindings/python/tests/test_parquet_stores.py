@@ -6,10 +6,10 @@ import re
 import sys
 
 import pytest
-from faulty_store import FAULTS, Calls, error_of, fails
-from parquet_files import ODD, clear_filter
+from faulty_store import FAULTS, Calls, error_of
+from parquet_files import ODD
 from sketch_hash import parquet, xxh64_hexdigest
-from sketch_hash.parquet import command, files, writer
+from sketch_hash.parquet import command, files
 
 pytestmark = pytest.mark.filterwarnings("ignore:the filters of")
 FOLDER, PATH, OTHER, OLD = "bucket", "bucket/a.parquet", "bucket/b.parquet", ODD.read_bytes()
@@ -188,25 +188,6 @@ def test_a_store_that_cannot_replace_a_file_is_an_error(move, text, mock, copy):
     assert get(mock) == OLD and names(mock) == ["a.parquet"]
 
 
-def test_a_store_that_may_only_be_read_is_an_error(mock, copy):
-    put(mock)
-    store = Calls().arrow(mock)
-    store.handler.create = store.handler.delete_file = lambda *args: fails("", None)
-    with pytest.raises(OSError, match="503"):
-        add(store)
-    assert get(mock) == OLD and names(mock) == ["a.parquet"]
-
-
-def test_a_new_file_that_differs_from_the_old_one_in_a_filter_alone_is_told_from_it(mock, copy, tmp_path):
-    put(mock)
-    parquet.add_filters(PATH, PATH, ["b"], filesystem=mock)
-    (tmp_path / "b").write_bytes(get(mock))
-    clear_filter(tmp_path / "b")
-    put(mock, (tmp_path / "b").read_bytes())
-    with pytest.raises(ValueError, match="^the store does not replace a file by another one: write to a new file$"):
-        parquet.add_filters(PATH, PATH, ["b"], filesystem=Calls().arrow(mock, move=lambda *args: None), replace=True)
-
-
 def when(monkeypatch, kind, name, act):
     """Calls act() once, before a call of a store."""
     calls, call = iter([act]), getattr(kind, name)
@@ -247,15 +228,6 @@ def test_a_store_of_s3_that_knows_no_conditions_is_asked_without_them(s3, stores
     put_alone(base)
     monkeypatch.setattr(s3, "cp_file", copy_file)
     assert add(base) > 0 and len(parquet.open(PATH, filesystem=base).filters()) == 3
-
-
-def test_what_another_program_writes_meanwhile_stays(mock, copy, monkeypatch):
-    put(mock)
-    put(mock, b"old", OTHER)
-    when(monkeypatch, writer, "stored_values", lambda: put(mock, b"other data", OTHER))
-    with pytest.raises(ValueError, match="^the file to replace must not change while its successor is written$"):
-        add(mock, OTHER)
-    assert get(mock, OTHER) == b"other data" and names(mock) == ["a.parquet", "b.parquet"]
 
 
 def test_what_killed_runs_left_in_a_store_is_removed_by_the_next_on_this_file(mock, copy):

@@ -335,18 +335,6 @@ def test_what_others_put_in_place_of_the_new_file_is_not_touched(copy, tmp_path,
     assert copy.read_bytes() == ODD.read_bytes() and not copy.is_symlink()
 
 
-def test_a_folder_that_cannot_be_synced_is_an_error_at_once(copy, tmp_path, monkeypatch):
-    def open_in_such_a_folder(path, *args, open=os.open, **kwargs):
-        if os.path.isdir(path):
-            raise PermissionError(13, "Permission denied", path)
-        return open(path, *args, **kwargs)
-
-    monkeypatch.setattr(os, "open", open_in_such_a_folder)
-    with pytest.raises(PermissionError):
-        parquet.add_filters(copy, copy, ["plain"])
-    assert copy.read_bytes() == ODD.read_bytes() and os.listdir(tmp_path) == ["a.parquet"]
-
-
 def test_an_error_names_the_folder_that_cannot_be_written_to(copy, tmp_path, monkeypatch):
     def open_but_create_nothing(path, flags, *args, open=os.open, **kwargs):
         if flags & (os.O_CREAT | os.O_TMPFILE) & ~os.O_DIRECTORY:

@@ -59,8 +59,8 @@ def is_wanted(names):
 
 
 def each_once(places):
-    """The places, of which those that links lead to are one."""
-    return [*{place.real_path(): place for place in places}.values()]
+    """The places, of which a file and links to it are one."""
+    return [*{os.path.realpath(place.path) if isinstance(place, Local) else place.text: place for place in places}.values()]
 
 
 class Local:
@@ -72,9 +72,6 @@ class Local:
 
     def __str__(self):
         return self.path
-
-    def real_path(self):
-        return os.path.realpath(self.path)
 
     def open(self):
         return open_file(self.path)
@@ -115,7 +112,7 @@ class Local:
         """Opens the folder, and locks the file so that no other run replaces it. Returns its version."""
         if fcntl is None:
             raise NotImplementedError("only POSIX systems can replace a file")
-        self.scratch, self.name = os.path.split(self.real_path())
+        self.scratch, self.name = os.path.split(os.path.realpath(self.path))
         self.folder, self.old = os.open(self.scratch, os.O_RDONLY | os.O_DIRECTORY), None
         stack.callback(close, self.folder)
         before = self.version()
@@ -189,9 +186,6 @@ class Stored:
         self.text, self.prefix = text.rstrip("/"), self.path.strip("/") + "/"
 
     def __str__(self):
-        return self.text
-
-    def real_path(self):
         return self.text
 
     def open(self):
