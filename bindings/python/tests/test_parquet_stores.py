@@ -218,6 +218,14 @@ def test_a_store_of_s3_does_not_replace_what_another_run_writes_after_the_last_l
     assert get(base, target) == other and names(base) == sorted({"a.parquet", target[len("bucket/"):]})
 
 
+def test_files_that_are_newer_than_a_listing_of_the_store_get_filters(s3, s3_server, copy):
+    s3.pipe_file(PATH, OLD)
+    assert s3.ls("bucket", detail=False) == [PATH]  # and remembers it
+    type(s3)(endpoint_url=s3_server, skip_instance_cache=True).pipe_file(OTHER, OLD)
+    parquet.add_filters("bucket", "bucket", ["plain"], filesystem=s3)
+    assert len(parquet.open(OTHER, filesystem=s3).filters()) == 3
+
+
 def test_a_store_of_s3_that_knows_no_conditions_is_asked_without_them(s3, stores, copy, monkeypatch):
     def copy_file(*args, cp_file=s3.cp_file, **condition):
         if condition:

@@ -35,7 +35,7 @@ class BloomFilterReader:
         self.close()
 
     def close(self):
-        with contextlib.suppress(OSError):  # all has been read
+        with contextlib.suppress(Exception):  # all has been read
             self.opened.close()
 
     @property

@@ -195,11 +195,18 @@ class Stored:
     def is_same(self, other):
         return isinstance(other, Stored) and (self.filesystem, self.prefix) == (other.filesystem, other.prefix)
 
+    def forget(self):
+        """fsspec remembers what it has listed. All of that, since a path may be spelled in two ways."""
+        if self.store:
+            self.store.invalidate_cache()
+
     def is_folder(self):
+        self.forget()
         return self.filesystem.get_file_info(self.path).type.name == "Directory"
 
     def list(self, folder, **options):
         from pyarrow.fs import FileSelector
+        self.forget()
         return self.filesystem.get_file_info(FileSelector(folder, **options))
 
     def names(self):
@@ -243,7 +250,7 @@ class Stored:
         if not self.store:
             info = self.filesystem.get_file_info(self.path)
             return None if info.type.name == "NotFound" else (info.is_file, info.size, info.mtime_ns)
-        self.store.invalidate_cache()  # of all paths, since a path may be spelled in two ways
+        self.forget()
         try:
             info = self.store.info(self.path)
         except FileNotFoundError:
