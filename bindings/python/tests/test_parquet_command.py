@@ -9,6 +9,7 @@ import sys
 import time
 
 import pytest
+import sketch_hash
 from parquet_files import DATA, FILTERS, ODD, VALUES, as_in_a_terminal, clear_filter, run, until
 from sketch_hash import parquet
 from sketch_hash.parquet.footer import BYTE_ARRAY
@@ -34,12 +35,12 @@ def test_nanoseconds_of_a_command_line_count():
     pytest.raises(ValueError, keys, "ns", "2026-01-01 01:01:01.0000030070").match("cannot have")
 
 
-def start_long_run(tmp_path, module, **options):
-    """A run of several processes on files that each take a minute. Returns it and the names of the files."""
+def start_long_run(tmp_path, **options):
+    """A run of several processes on files that each take a minute to copy. Returns it and the names of the files."""
     (tmp_path / "code").mkdir()
-    (tmp_path / "code/sitecustomize.py").write_text(f"""import time
-from sketch_hash.parquet import {module}
-{module}.stored_values = lambda *_: time.sleep(60)""")
+    (tmp_path / "code/sitecustomize.py").write_text("""import time
+from sketch_hash.parquet import files, writer
+writer.stored_values, files.Source.pieces = lambda *_: (), lambda *_: time.sleep(60)""")
     (tmp_path / "files").mkdir()
     names = [f"{i}.parquet" for i in range(6)]
     for name in names:
@@ -56,7 +57,7 @@ from sketch_hash.parquet import {module}
 ])
 def test_a_stopped_run_of_several_processes_leaves_all_files(send, number, status, tmp_path):
     """Those in work and those that wait, and no new one."""
-    process, names = start_long_run(tmp_path, "writer")
+    process, names = start_long_run(tmp_path)
     until(lambda: len(os.listdir(tmp_path / "files")) == len(names) + 2)
     send(process.pid, number)
     assert process.wait(30) == status
@@ -115,6 +116,23 @@ def test_the_command_takes_folders_and_its_status_tells_what_is_wrong(tmp_path):
     assert done.returncode == 3 and "no file ends in .parquet" in done.stderr
 
 
+def test_a_link_and_its_target_are_one_file(tmp_path):
+    file = shutil.copy(FILTERS, tmp_path / "b.parquet")
+    for name in ("a.parquet", "c.parquet"):
+        (tmp_path / name).symlink_to(file)
+    for names in ([tmp_path], [tmp_path / "a.parquet", file], [file, tmp_path]):
+        assert run("show", "--json", *names).stdout.count('"file"') == 1
+    assert run("remove", tmp_path).stdout == f"{tmp_path}/c.parquet: {3 * len(VALUES)} filters removed\n"
+    shutil.copy(FILTERS, file)
+    assert parquet.remove_filters(tmp_path, tmp_path) == 3 * len(VALUES)
+    assert parquet.remove_filters(tmp_path, tmp_path / "new") == 0  # of three files
+    assert {*os.listdir(tmp_path / "new")} == {"a.parquet", "b.parquet", "c.parquet"}
+
+
+def test_the_command_has_a_version():
+    assert run("--version").stdout == f"sketch_hash {sketch_hash.__version__}\n"
+
+
 def test_the_command_adds_and_checks(pa, tmp_path):
     file = str(shutil.copy(ODD, tmp_path / "a"))
     assert run("add", "-c", "plain", "-c", "b", "-e", "0.1", file).stdout == f"{file}: 282 bytes of filters\n"
@@ -171,7 +189,7 @@ def test_as_many_processes_work_as_there_are_files_at_most(jobs, tmp_path):
 
 @pytest.mark.parametrize("seconds", [0.2, 0.3, 0.4, 0.5, 0.6, 0.8])
 def test_a_run_that_is_stopped_at_any_moment_ends_and_leaves_no_file(seconds, tmp_path):
-    process, names = start_long_run(tmp_path, "pyarrow_values", stderr=subprocess.DEVNULL)
+    process, names = start_long_run(tmp_path, stderr=subprocess.DEVNULL)
     time.sleep(seconds)
     os.killpg(process.pid, signal.SIGINT)
     process.wait(5)

@@ -1,9 +1,12 @@
 """Filters of Parquet files beside those of pyarrow."""
+import types
+
 import pytest
 from helpers import TYPES, column_of, rate_of
+from parquet_files import FILTERS, changed
 from sketch_hash import parquet
-from sketch_hash.parquet import stores, writer
 from sketch_hash.parquet.pyarrow_values import stored_values
+from thrift_tree import split
 
 pytest.importorskip("numpy")
 pytestmark = pytest.mark.filterwarnings("ignore:the filters of")
@@ -92,9 +95,7 @@ def names_in(store):
     return sorted(info.path for info in store.get_file_info(FileSelector("", recursive=True)) if info.is_file)
 
 
-@pytest.mark.parametrize("renames", [True, False])
-def test_files_of_a_store_get_filters(renames, store, pa, monkeypatch):
-    monkeypatch.setattr(stores, "NO_RENAME", set() if renames else {"mock"})
+def test_files_of_a_store_get_filters(store, pa):
     before, names = pa.parquet.read_table("data/a.parquet", filesystem=store), names_in(store)
     assert parquet.add_filters("data/a.parquet", "data/a.parquet", ["x"], filesystem=store) > 0
     assert parquet.add_filters("data", "data", ["x", "y"], skip_existing=True, filesystem=store) > 0
@@ -107,21 +108,9 @@ def test_files_of_a_store_get_filters(renames, store, pa, monkeypatch):
     assert names_in(store) == [*names, "new.parquet"]
 
 
-def test_an_error_leaves_a_file_of_a_store(store, monkeypatch):
-    names, before = names_in(store), store.open_input_file("data/a.parquet").read()
-
-    def change(*args):
-        with store.open_output_stream("data/a.parquet") as file:
-            file.write(before + b"more")
-        return iter(())
-
-    monkeypatch.setattr(writer, "stored_values", change)
-    with pytest.raises(ValueError, match="^the file must not change while it is read$"):
-        parquet.add_filters("data/a.parquet", "b.parquet", ["x"], filesystem=store)
-    assert names_in(store) == names
+def test_a_file_of_a_table_in_a_store_is_not_changed_in_place(store):
     store.create_dir("data/_delta_log")
     store.open_output_stream("data/_delta_log/0.json").close()
-    monkeypatch.undo()
     with pytest.raises(ValueError, match="must not be of a table"):
         parquet.add_filters("data/year=2026/a.parquet", "data/year=2026/a.parquet", ["x"], filesystem=store)
 
@@ -136,3 +125,80 @@ def test_a_uri_or_a_folder_of_pyarrow_may_be_a_local_file(pa, tmp_path):
         parquet.open("a.parquet", filesystem=5)
     with pytest.raises(ValueError, match="none://a"):
         parquet.check_filters("none://a")
+
+
+NANOSECONDS = "time64('ns')", "timestamp('ns')", "timestamp('ns', 'UTC')", "timestamp('ns', 'Asia/Tokyo')"
+ASKED = [*ALL_TYPES, *NANOSECONDS, "uuid", "dictionary(pa.int8(), pa.time64('ns'))"]
+
+
+def asked_column(pa, name):
+    """Some values, of which those of nanoseconds have them."""
+    if name == "uuid":
+        return pa.array([bytes([i]) * 16 for i in range(90)], pa.uuid())
+    if "'ns'" in name:
+        values = pa.array([i * 10**9 + 1234567 for i in range(90)], "int64")
+        type = pa.time64("ns") if "time64" in name else eval(f"pa.{name}")
+        return values.cast(type).dictionary_encode() if "dictionary" in name else values.cast(type)
+    return column_of(pa, name, 90)
+
+
+@pytest.mark.parametrize("name", ASKED)
+def test_each_row_group_is_found_by_the_own_column_of_the_file(name, pa, tmp_path):
+    column = asked_column(pa, name)
+    pa.parquet.write_table(pa.table({"x": column}), tmp_path / "a", row_group_size=30)
+    parquet.add_filters(tmp_path / "a", tmp_path / "a", ["x"])
+    values, rows = column.drop_null(), [i for i in range(90) if column[i].is_valid]
+    with parquet.open(tmp_path / "a") as reader:
+        if name.startswith("duration"):  # whose unit the file does not have: as whole numbers they are found
+            with pytest.raises(TypeError, match="cannot be in x"):
+                reader.may_contain("x", values)
+            values = values.cast("int64")
+        for asked in (values, pa.chunked_array([values])):
+            found, answers = reader.may_contain("x", asked), reader.contains_each("x", asked)
+            assert all(row // 30 in groups for row, groups in zip(rows, found))
+            assert all(answers[row // 30][i] for i, row in enumerate(rows))
+        assert sum(map(len, found)) < 1.5 * len(found) or len({*values.to_pylist()}) < 90
+
+
+def test_columns_of_other_libraries_are_asked_with_their_nanoseconds(need, pa, tmp_path):
+    need("python:pandas")
+    import pandas
+    column = asked_column(pa, "time64('ns')")
+    pa.parquet.write_table(pa.table({"x": column, "y": asked_column(pa, "timestamp('ns')")}), tmp_path / "a", row_group_size=30)
+    parquet.add_filters(tmp_path / "a", tmp_path / "a", ["x", "y"])
+    with parquet.open(tmp_path / "a") as reader:
+        exported = types.SimpleNamespace(__iter__=None, __arrow_c_stream__=pa.chunked_array([column]).__arrow_c_stream__)
+        for asked in (exported, pandas.Series(column, dtype=pandas.ArrowDtype(column.type))):
+            assert all(i // 30 in groups for i, groups in enumerate(reader.may_contain("x", asked)))
+        series = asked_column(pa, "timestamp('ns')").to_pandas()
+        for asked in (series, series.to_numpy(), [*series]):
+            assert all(i // 30 in groups for i, groups in enumerate(reader.may_contain("y", asked)))
+
+
+@pytest.mark.parametrize("make", [
+    lambda numpy, pa: numpy.array([b"a\0", b"b"]), lambda numpy, pa: numpy.array(["a", "b"]),
+    lambda numpy, pa: [numpy.array([b"a"])[0]], lambda numpy, pa: ["b", numpy.array(["a"])[0]],
+    lambda numpy, pa: pa.array([1], pa.duration("ns")), lambda numpy, pa: pa.array([[1]], pa.list_(pa.time64("ns"))),
+], ids=["S", "U", "a bytes", "a str", "duration", "list"])
+def test_values_that_have_lost_something_are_not_asked(make, pa):
+    import numpy
+    with parquet.open(FILTERS) as reader:
+        for call in (reader.may_contain, reader.contains_each):
+            with pytest.raises(TypeError, match="must not be of (numpy's types S and U|duration|list<)"):
+                call("binary", make(numpy, pa))
+
+
+@pytest.mark.parametrize("name, value", [("int8", 255), ("int16", 1 << 15), ("uint8", -1), ("uint16", 1 << 16)])
+@pytest.mark.parametrize("is_old", [False, True])
+def test_a_value_outside_of_the_range_of_its_type_is_an_error(is_old, name, value, pa, tmp_path):
+    """Engines read another value: DuckDB reads 255 of INT_8 as -1, and would not find it."""
+    narrow, wide = tmp_path / "narrow", tmp_path / "wide"
+    pa.parquet.write_table(pa.table({"x": pa.array([0, 1, 2], name)}), narrow)
+    pa.parquet.write_table(pa.table({"x": pa.array([0, 1, value], "int32")}), wide, store_schema=False)
+    element = split(narrow)[1][2][1][1][1]
+    element.pop(10 if is_old else 6)  # its LogicalType or its ConvertedType
+    wide.write_bytes(changed(wide, lambda fields: fields[2][1][1].__setitem__(1, element)).read())
+    before = wide.read_bytes()
+    with pytest.raises(ValueError, match="^the column x must have values of its type alone: Integer value .* not in"):
+        parquet.add_filters(wide, wide, ["x"])
+    assert wide.read_bytes() == before and parquet.add_filters(narrow, narrow, ["x"]) > 0

@@ -12,9 +12,11 @@ import sys
 import warnings
 
 import pytest
+from faulty_store import Calls, does_nothing, error_of, fails, fails_when_done, is_interrupted, is_interrupted_when_done
 from parquet_files import FILTERS, ODD, VALUES, changed, set_path, texts
 from sketch_hash import column, parquet
 from sketch_hash.parquet import writer
+from sketch_hash.parquet.files import Source
 from sketch_hash.parquet.footer import LENGTH, OFFSET, VALUES as VALUE_COUNT
 from sketch_hash.parquet.pyarrow_values import stored_values
 from thrift_tree import TType, chunk_of, metadata_of, split
@@ -320,33 +322,22 @@ def test_what_others_put_in_place_of_the_new_file_is_not_touched(copy, tmp_path,
     secret.write_bytes(b"key")
     secret.chmod(0o600)
 
-    def put_a_link():
+    def put_a_link(*args, pieces=Source.pieces):
         new, = tmp_path.glob(".sketch_hash-*")
         new.unlink()
         new.symlink_to(secret)
+        return pieces(*args)
 
-    meanwhile(monkeypatch, put_a_link)
-    with pytest.raises(ValueError, match="^the file to replace must not change"):
+    monkeypatch.setattr(Source, "pieces", put_a_link)
+    with pytest.raises(ValueError, match="^the new file must be as it was written, but is not$"):
         parquet.add_filters(copy, copy, ["plain"])
     assert secret.read_bytes() == b"key" and stat.S_IMODE(secret.stat().st_mode) == 0o600
     assert copy.read_bytes() == ODD.read_bytes() and not copy.is_symlink()
 
 
-def test_a_folder_that_cannot_be_synced_is_an_error_at_once(copy, tmp_path, monkeypatch):
-    def open_in_such_a_folder(path, *args, open=os.open, **kwargs):
-        if os.path.isdir(path):
-            raise PermissionError(13, "Permission denied", path)
-        return open(path, *args, **kwargs)
-
-    monkeypatch.setattr(os, "open", open_in_such_a_folder)
-    with pytest.raises(PermissionError):
-        parquet.add_filters(copy, copy, ["plain"])
-    assert copy.read_bytes() == ODD.read_bytes() and os.listdir(tmp_path) == ["a.parquet"]
-
-
 def test_an_error_names_the_folder_that_cannot_be_written_to(copy, tmp_path, monkeypatch):
     def open_but_create_nothing(path, flags, *args, open=os.open, **kwargs):
-        if flags & os.O_CREAT:
+        if flags & (os.O_CREAT | os.O_TMPFILE) & ~os.O_DIRECTORY:
             raise PermissionError(13, "Permission denied", path)
         return open(path, flags, *args, **kwargs)
 
@@ -376,6 +367,36 @@ parquet.add_filters({str(copy)!r}, {str(copy)!r}, ["plain"])"""
     done = subprocess.run([sys.executable, "-c", code], env={**os.environ, "PYTHONPATH": os.pathsep.join(sys.path)})
     assert done.returncode == -signal.SIGKILL and copy.read_bytes() == ODD.read_bytes()
     assert sorted(name[:13] for name in os.listdir(tmp_path)) == [".sketch_hash-", "a.parquet"]
+
+
+SYSTEM_CALLS = "fchmod", "fchown", "fstat", "fsync", "listdir", "open", "pread", "replace", "stat", "unlink"
+
+
+@pytest.mark.parametrize("name", ["a.parquet", "b.parquet"])
+@pytest.mark.parametrize("last", [0, 10**6], ids=["once", "from then on"])
+@pytest.mark.parametrize("fault", [fails, fails_when_done, is_interrupted, is_interrupted_when_done, does_nothing])
+def test_a_file_is_the_old_or_the_new_one_whatever_system_call_goes_wrong(fault, last, name, copy, tmp_path, monkeypatch):
+    target = tmp_path / name
+    parquet.add_filters(copy, target, ["plain"])
+    new, seen, first, count = target.read_bytes(), set(), 0, 0
+    while first <= count:
+        first += 1
+        target.unlink()
+        copy.write_bytes(ODD.read_bytes())
+        calls = Calls(fault, first, last)
+        with monkeypatch.context() as patch:
+            for call in SYSTEM_CALLS:
+                patch.setattr(os, call, calls.counted(call, getattr(os, call)))
+            error = error_of(parquet.add_filters, copy, target, ["plain"])
+        count = len(calls.names)
+        found = target.read_bytes() if target.exists() else None
+        assert found in (new, ODD.read_bytes() if target == copy else None), calls.names
+        seen.add((error is None, found == new))
+        if error is None or not isinstance(error, KeyboardInterrupt) and "the file may be" not in str(error):
+            assert (found == new) == (error is None), (calls.names, error)
+        parquet.add_filters(copy, target, ["plain"], replace=True)
+        assert {*os.listdir(tmp_path)} == {"a.parquet", name}
+    assert (True, True) in seen and count > 20
 
 
 def test_a_missing_pyarrow_is_named(copy, tmp_path, monkeypatch):

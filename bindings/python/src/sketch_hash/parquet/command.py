@@ -10,10 +10,11 @@ import os
 import sys
 import warnings
 
+from .. import __version__
 from .keys import parse
 from .processes import each, end, end_of_signal, on_stop
 from .reader import BloomFilterReader, all_places, false_positive_rate
-from .stores import place_of
+from .stores import each_once, place_of
 from .writer import Builder, FilterError, add_filters, check_filters, remove_filters
 
 DONE, FAILED, _, NOTHING, WRONG = range(5)
@@ -32,6 +33,7 @@ def main():
     open_outputs()
     parser = argparse.ArgumentParser(prog="python3 -m sketch_hash.parquet", description=__doc__,
                                      formatter_class=argparse.RawDescriptionHelpFormatter)
+    parser.add_argument("--version", action="version", version=f"sketch_hash {__version__}")
     commands = parser.add_subparsers(dest="command", required=True)
     for name, text in COMMANDS.items():
         add_common_options(commands.add_parser(name, help=text, description=text))
@@ -43,8 +45,8 @@ def main():
     commands.choices["ask"].add_argument("value", metavar="VALUE", help="as 42, 2026-01-31, fox; hexadecimal for fixed bytes")
     args = parser.parse_args()
     check_options(args, parser)
-    files = list(dict.fromkeys(files_of(args.files)))
-    if getattr(args, "output", None) and files != args.files:
+    files = files_of(args.files)
+    if getattr(args, "output", None) and [*map(str, files)] != args.files:
         parser.error("--output must come with one FILE")
     return run(args, files)
 
@@ -124,23 +126,24 @@ def print_error(text):
 
 
 def shown(name):
-    """A name without what moves the cursor of a terminal, or ends a line."""
-    return "".join(c if c.isprintable() or "\ud800" <= c <= "\udfff" else repr(c)[1:-1] for c in name)
+    """The name of a file without what moves the cursor of a terminal, or ends a line."""
+    return "".join(c if c.isprintable() or "\ud800" <= c <= "\udfff" else repr(c)[1:-1] for c in str(name))
 
 
 def files_of(paths):
-    """The files at paths and below folders, of which those of a store are URIs."""
+    """The files at paths and below folders, each once."""
+    places, failing = [], []
     for path in paths:
         try:
             place = place_of(path)
-            names = [*place.names()] if place.is_folder() else [os.curdir]
+            places += map(place.below, place.names()) if place.is_folder() else [place]
         except Exception:  # to open it fails again, and is reported
-            names = [os.curdir]
-        yield from (path if name == os.curdir else os.path.join(path, name) for name in names)
+            failing.append(path)
+    return each_once(places) + failing
 
 
 def failed(file, reason):
-    return {"file": file, "status": FAILED, "error": reason}
+    return {"file": str(file), "status": FAILED, "error": reason}
 
 
 def run_on(args, file):
@@ -150,9 +153,9 @@ def run_on(args, file):
             warnings.simplefilter("always")
             status, text, details = CALLS[args.command](args, file)
         notes = [str(note.message) for note in caught if note.category is UserWarning]
-        return {"file": file, "status": status, "text": text, **details, **({"notes": notes} if notes else {})}
+        return {"file": str(file), "status": status, "text": text, **details, **({"notes": notes} if notes else {})}
     except FilterError as error:
-        return {"file": file, "status": WRONG, "error": str(error)}
+        return {**failed(file, str(error)), "status": WRONG}
     except Exception as error:
         return failed(file, " ".join(str(error).split()) or type(error).__name__)
 
@@ -202,7 +205,7 @@ def bar_of(file):
     """What draws on a terminal how many filters of a file are done."""
     def bar(steps, total):
         for done, step in enumerate(steps):
-            print(f"{CLEAR}{shown(file[-60:])}: {done} of {total} filters", end="", file=sys.stderr, flush=True)
+            print(f"{CLEAR}{shown(file)[-60:]}: {done} of {total} filters", end="", file=sys.stderr, flush=True)
             yield step
         print(CLEAR, end="", file=sys.stderr, flush=True)
 

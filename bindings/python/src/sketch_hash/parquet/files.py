@@ -1,12 +1,10 @@
-"""Files: read at any place by many threads, and replaced in folders that others may write to."""
+"""Open files: read at any place by many threads, locked, and given the attributes of others."""
 import contextlib
 import io
 import os
-import pathlib
-import re
-import secrets
 import stat
 import threading
+import weakref
 
 try:
     import fcntl
@@ -14,9 +12,16 @@ except ImportError:  # not a POSIX system
     fcntl = None
 
 MOST_READ, MOST_PARTS = 1 << 24, 1000  # bytes that are read at a time, and parts of them
-PREFIX = ".sketch_hash-"  # of the name of a new file that is not in place yet
-# Of open files, by their addresses.
-LOCKS = [threading.Lock() for _ in range(61)]
+# Of each open file, of all files that a dictionary cannot have as keys, and of the dictionary.
+LOCKS, OTHERS, LOCK = weakref.WeakKeyDictionary(), threading.Lock(), threading.Lock()
+
+
+def lock_of(file):
+    try:
+        with LOCK:
+            return LOCKS.setdefault(file, threading.Lock())
+    except TypeError:
+        return OTHERS
 
 
 def open_file(path):
@@ -40,15 +45,16 @@ class Source:
         self.file = file
         self.is_local = hasattr(os, "pread") and isinstance(file, (io.BufferedReader, io.BufferedRandom, io.FileIO)) and (
             isinstance(getattr(file, "raw", file), io.FileIO))
-        # To read so many bytes more is faster than to read twice: to copy memory than a system call, or than a request.
-        self.gap = 1 << 13 if self.is_local else 1 << 20
+        # To read so many bytes more is faster than to read twice: to copy memory than a system call, or than a request. A step
+        # is what is read at a time to copy.
+        self.gap, self.step = (1 << 13, 1 << 20) if self.is_local else (1 << 20, MOST_READ)
         if self.is_local:
             if file.writable():
                 file.flush()
             self.status = os.fstat(file.fileno())
             self.size = self.status.st_size
         else:
-            self.lock = LOCKS[id(file) % len(LOCKS)]
+            self.lock = lock_of(file)
             with self.lock:
                 file.seek(0, os.SEEK_END)  # which returns nothing for an mmap
                 self.size = file.tell()
@@ -71,6 +77,10 @@ class Source:
             begin += len(piece)
             length -= len(piece)
         return b"".join(pieces)
+
+    def pieces(self, begin, end):
+        for begin in range(begin, end, self.step):
+            yield self.read(begin, min(self.step, end - begin))
 
     def check_unchanged(self, *paths):
         """Raises ValueError if others have written to the file since, or replaced it at a path, as far as sizes and times
@@ -100,37 +110,8 @@ class Source:
 
 
 def version_of(status):
-    return status and (status.st_dev, status.st_ino, status.st_size, status.st_mtime_ns)
-
-
-def status_of(name, folder):
-    try:
-        return os.stat(name, dir_fd=folder, follow_symlinks=False)
-    except FileNotFoundError:
-        return None
-
-
-def check_no_table(path):
-    """Raises ValueError if folders show that a file is of a table of Delta Lake or Iceberg, which record its size, or if
-    they cannot be read."""
-    for folder in {*pathlib.Path(path).absolute().parents, *pathlib.Path(path).resolve().parents}:
-        try:
-            is_table = "_delta_log" in names_in(folder / "_delta_log", "_delta_log") or any(
-                ".metadata.json" in name for name in names_in(folder / "metadata"))
-        except OSError as error:
-            raise ValueError(f"the file to replace may be of a table, since {error.filename} cannot be read: write to another "
-                             "file") from error
-        if is_table:
-            raise ValueError(f"the file to replace must not be of a table, as that of Delta Lake or Iceberg in {folder}, "
-                             "which records the sizes of its files: write to another file")
-
-
-def names_in(folder, *more):
-    """The names in a folder and more ones, or none if it does not exist."""
-    try:
-        return [*os.listdir(folder), *more]
-    except (FileNotFoundError, NotADirectoryError):
-        return []
+    """Whether it is a regular file, and what tells it from others at its place."""
+    return stat.S_ISREG(status.st_mode), status.st_dev, status.st_ino, status.st_size, status.st_mtime_ns
 
 
 def lock(number):
@@ -138,15 +119,32 @@ def lock(number):
 
     A program that only reads may have a shared lock, which no run has: it does no harm.
     """
-    try:
-        fcntl.flock(number, fcntl.LOCK_EX | fcntl.LOCK_NB)
-    except BlockingIOError:
+    for kind in (fcntl.LOCK_EX, fcntl.LOCK_SH):
         try:
-            fcntl.flock(number, fcntl.LOCK_SH | fcntl.LOCK_NB)
+            return fcntl.flock(number, kind | fcntl.LOCK_NB)
         except BlockingIOError:
-            raise ValueError("the file is locked by another program, or another run is replacing it") from None
+            pass
+        except OSError:
+            return None
+    raise ValueError("the file is locked by another program, or another run is replacing it")
+
+
+def close(number):
+    """Of a file that was not written: nothing is lost if that fails."""
+    with contextlib.suppress(OSError):
+        os.close(number)
+
+
+def is_left(name, folder):
+    """Whether a new file was left by a run that was killed: none has it locked."""
+    try:
+        number = os.open(name, os.O_RDWR | os.O_NOFOLLOW | os.O_NONBLOCK, dir_fd=folder)
     except OSError:
-        pass
+        return False
+    with open(number, "rb") as file, contextlib.suppress(OSError):
+        fcntl.flock(file, fcntl.LOCK_EX | fcntl.LOCK_NB)
+        return stat.S_ISREG(os.fstat(number).st_mode)
+    return False
 
 
 # New files that are not in place yet, each as the descriptor of its folder and its name.
@@ -160,36 +158,6 @@ def remove_unfinished():
     for folder, name in [*UNFINISHED]:
         with contextlib.suppress(OSError):
             os.unlink(name, dir_fd=folder)
-
-
-def create(folder):
-    """A new file in a folder, locked as long as this run lives, so that another run can tell: its descriptor and its name."""
-    flags = os.O_RDWR | os.O_CREAT | os.O_EXCL | os.O_NOFOLLOW
-    while True:
-        name = PREFIX + secrets.token_hex(8)
-        with CHANGES:
-            number = os.open(name, flags, 0o600, dir_fd=folder)
-            UNFINISHED.add((folder, name))
-        with contextlib.suppress(OSError):
-            fcntl.flock(number, fcntl.LOCK_EX)
-        if os.fstat(number).st_nlink:
-            return number, name
-        os.close(number)  # another run has removed it before it was locked
-        UNFINISHED.discard((folder, name))
-
-
-def sweep(folder):
-    """Removes what killed runs left in a folder: new files that nobody has locked."""
-    for name in os.listdir(folder):
-        if re.fullmatch(re.escape(PREFIX) + "[0-9a-f]{16}", name):
-            with contextlib.suppress(OSError):
-                number = os.open(name, os.O_RDWR | os.O_NOFOLLOW | os.O_NONBLOCK, dir_fd=folder)
-                try:
-                    fcntl.flock(number, fcntl.LOCK_EX | fcntl.LOCK_NB)
-                    if stat.S_ISREG(os.fstat(number).st_mode):
-                        os.unlink(name, dir_fd=folder)
-                finally:
-                    os.close(number)
 
 
 def copy_attributes(old, new):
@@ -209,79 +177,17 @@ def copy_attributes(old, new):
 
 def copy_xattrs(old, new):
     try:
-        names = os.listxattr(old)
+        names, others = os.listxattr(old), os.listxattr(new)
     except OSError:  # the file system has none
         return []
-    for name in {*os.listxattr(new)} - {*names}:  # as an ACL that the folder gives to new files
-        with contextlib.suppress(OSError):
-            os.removexattr(new, name)
     lost = []
-    for name in names:
+    for name in {*names, *others}:
         try:
-            value = os.getxattr(old, name)
-            if value != xattr_of(new, name):
-                os.setxattr(new, name, value)
+            if name not in names:  # as an ACL that the folder gives to new files
+                os.removexattr(new, name)
+            elif name not in others or os.getxattr(old, name) != os.getxattr(new, name):
+                os.setxattr(new, name, os.getxattr(old, name))
         except OSError:
-            lost.append("ACL" if name == "system.posix_acl_access" else name)
+            if name in names:
+                lost.append("ACL" if name == "system.posix_acl_access" else name)
     return lost
-
-
-def xattr_of(number, name):
-    try:
-        return os.getxattr(number, name)
-    except OSError:
-        return None
-
-
-@contextlib.contextmanager
-def replaced(target, mode):
-    """A new file, which replaces the target once it is written and synced, and notes of what that has then lost. If there is
-    no target yet, it gets the mode.
-
-    Others may write to the folder, so what a name leads to may change at any time. The folder and each file are opened
-    once, and used by their descriptors. Just before the target is replaced, both names must lead to what they led to.
-    """
-    if fcntl is None:
-        raise NotImplementedError("only POSIX systems can replace a file")
-    path = os.path.realpath(target)
-    name, notes = os.path.basename(path) or os.curdir, []
-    with contextlib.ExitStack() as stack:
-        folder = os.open(os.path.dirname(path), os.O_RDONLY | os.O_DIRECTORY)
-        stack.callback(os.close, folder)
-        before, old = status_of(name, folder), None
-        if before and not stat.S_ISREG(before.st_mode):
-            raise ValueError("the file to replace must be a regular file")
-        if before:
-            check_no_table(target)
-            old = os.open(name, os.O_RDONLY | os.O_NOFOLLOW | os.O_NONBLOCK, dir_fd=folder)
-            stack.callback(os.close, old)
-            lock(old)
-        sweep(folder)
-        try:
-            number, temporary = create(folder)
-        except OSError as error:
-            error.filename = os.path.dirname(path)
-            raise
-        output = stack.enter_context(open(number, "wb"))
-        try:
-            yield output, notes
-            output.flush()
-            if not before:
-                os.fchmod(number, mode)
-            elif lost := copy_attributes(old, number):
-                notes.append(f"the new file lacks what this user may not set: {', '.join(lost)}")
-            if status_of(f".{name}.crc", folder):
-                notes.append(f"Hadoop's checksum .{name}.crc is that of the old file: delete it")
-            os.fsync(number)
-            expected = {name: before, temporary: os.fstat(number)}
-            if any(version_of(status_of(path, folder)) != version_of(status) for path, status in expected.items()):
-                raise ValueError("the file to replace must not change while its successor is written")
-            with CHANGES:
-                os.replace(temporary, name, src_dir_fd=folder, dst_dir_fd=folder)
-                UNFINISHED.discard((folder, temporary))
-        except BaseException:
-            with CHANGES, contextlib.suppress(OSError):
-                UNFINISHED.discard((folder, temporary))
-                os.unlink(temporary, dir_fd=folder)
-            raise
-        os.fsync(folder)

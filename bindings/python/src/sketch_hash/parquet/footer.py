@@ -6,7 +6,7 @@ import array
 import itertools
 import operator
 
-from ._thrift import BINARY, I32, I64, LIST, STRUCT, TRUE, Reader, Writer, list_of, zigzag
+from ._thrift import BINARY, BYTE, I32, I64, LIST, STRUCT, TRUE, Reader, Writer, list_of, zigzag
 
 # Numbers of the fields, as parquet.thrift gives them, in FileMetaData, SchemaElement, RowGroup, ColumnChunk and
 # ColumnMetaData.
@@ -47,11 +47,13 @@ class Kind:
         self.name, self.number = OLD.get(old) if number is None else NAMES.get(number), number
         self.scale, self.digits = fields.get(SCALE, 0), fields.get(PRECISION, 0)
         self.is_unsigned, self.is_utc = old in range(11, 15), True
+        self.bits = {11: 8, 12: 16, 15: 8, 16: 16}.get(old, 0)  # of whole numbers that are narrower than what is stored
         self.unit = MILLIS if old in (7, 9) else MICROS
         if details is None:
             return
         if self.name == "integer":
-            self.is_unsigned = details.struct({2: TRUE}).get(2) is False
+            fields = details.struct({1: BYTE, 2: TRUE})
+            self.is_unsigned, self.bits = fields.get(2) is False, details.data[fields[1]] if 1 in fields else 0
         elif self.name in ("time", "timestamp"):
             fields = details.struct({1: TRUE, 2: STRUCT})
             self.is_utc = fields.get(1, False)

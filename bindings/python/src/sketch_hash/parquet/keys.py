@@ -17,6 +17,42 @@ MOST_BYTES = 1024  # of a decimal. Arrow's have up to 32.
 NUMBERS = INT32, INT64, FLOAT, DOUBLE
 
 
+def listed(values):
+    """The values as a list of Python's, exactly."""
+    if isinstance(values, (str, bytes)) or not hasattr(values, "__iter__"):
+        raise TypeError("values must be a list of values, as [42], not one value")
+    dtype = getattr(values, "dtype", None)
+    if str(dtype).endswith("[pyarrow]"):  # of a Series of pandas
+        values = values.array.__arrow_array__()
+    elif hasattr(values, "__arrow_c_stream__") and not hasattr(dtype, "kind"):  # of polars
+        import pyarrow
+        values = pyarrow.chunked_array(values)
+    if hasattr(values, "to_pylist"):
+        return listed_from_arrow(values, getattr(values, "type", None))
+    return values.tolist() if getattr(dtype, "kind", None) in ("i", "u") else [*values]
+
+
+def listed_from_arrow(values, type):
+    """Python's times have no nanoseconds, and pyarrow drops them."""
+    if hasattr(type, "index_type"):
+        values, type = values.cast(type.value_type), type.value_type
+    if str(type).startswith(("time64[ns]", "timestamp[ns")):
+        zone = datetime.timezone.utc if getattr(type, "tz", None) else None
+        return [None if count is None else moment_of(count, "time64" in str(type), zone)
+                for count in values.cast("int64").to_pylist()]
+    if "[ns" in str(type):
+        raise TypeError(f"values must not be of {type}, whose nanoseconds Python's types lack: cast them to int64")
+    return values.to_pylist()
+
+
+def moment_of(count, is_time, zone):
+    """That of nanoseconds since midnight, or since 1970."""
+    moment = Timestamp(1970, 1, 1, tzinfo=zone) + datetime.timedelta(microseconds=count // 1000)
+    moment = Time(moment.hour, moment.minute, moment.second, moment.microsecond) if is_time else moment
+    moment.nanosecond = count % 1000
+    return moment
+
+
 def keys_of(value, column):
     """The keys of a value: several for some floats, none if the column cannot have the value."""
     kind = column.kind
@@ -25,6 +61,8 @@ def keys_of(value, column):
         raise TypeError(f"the column {column.name} must not be {reason}")
     if isinstance(value, bool) or is_missing(value):
         raise TypeError(f"a value must not be a null, a NaN or a bool, as {value!r}")
+    if getattr(getattr(value, "dtype", None), "kind", None) in ("S", "U"):
+        raise TypeError("a value must not be of numpy's types S and U, which drop zero bytes at the end: pass bytes or str")
     try:
         if kind.type in (FLOAT, DOUBLE):
             return of_float(value, "<f" if kind.type == FLOAT else "<d")

@@ -19,7 +19,8 @@ def stored_values(file, column, groups):
     with pyarrow.parquet.ParquetFile(file, metadata=metadata, buffer_size=1 << 20, pre_buffer=False) as parquet:
         for group in groups:
             values = max(column.values(group), 1)
-            yield group, batches_of(parquet, group, max(1, min(64, BATCH // width, 64 * footer.rows[group] // values)))
+            rows = max(1, min(64, BATCH // width, 64 * footer.rows[group] // values))
+            yield group, (in_range(batch, column) for batch in batches_of(parquet, group, rows))
 
 
 def batches_of(parquet, group, rows):
@@ -37,3 +38,13 @@ def leaf_values(batch):
         if isinstance(values, list):  # of a struct
             values = values[0]
     return values
+
+
+def in_range(batch, column):
+    """The values, unless one is outside of the range that the column has by its annotation: readers change such values."""
+    if column.kind.bits in (8, 16):
+        try:
+            batch.cast(f"{'u' * column.kind.is_unsigned}int{column.kind.bits}")
+        except ValueError as error:
+            raise ValueError(f"the column {column.name} must have values of its type alone: {error}") from None
+    return batch

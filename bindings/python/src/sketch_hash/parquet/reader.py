@@ -7,7 +7,7 @@ import math
 from .. import BloomFilter, xxh64_each, xxh64_intdigest
 from .files import Source
 from .footer import Footer
-from .keys import column_of, keys_of
+from .keys import column_of, keys_of, listed
 from .stores import place_of
 
 SET_BITS = bytes(bin(byte).count("1") for byte in range(256))
@@ -35,7 +35,8 @@ class BloomFilterReader:
         self.close()
 
     def close(self):
-        self.opened.close()
+        with contextlib.suppress(Exception):  # all has been read
+            self.opened.close()
 
     @property
     def num_row_groups(self):
@@ -64,7 +65,7 @@ class BloomFilterReader:
         values = listed(values)
         groups = [[] for _ in values]
         owners = [*range(len(values))]  # numbers of a range would be made again for each row group
-        for group, answers in enumerate(self.contains_each(column, values)):
+        for group, answers in enumerate(self._contains_each(column, values)):
             for i in itertools.compress(owners, answers):
                 groups[i].append(group)
         return groups
@@ -72,7 +73,9 @@ class BloomFilterReader:
     def contains_each(self, column, values):
         """For each row group whether it may have each value, as may_contain: bytes of 0 and 1. For many values this takes
         much less time than their lists."""
-        values = listed(values)
+        return self._contains_each(column, listed(values))
+
+    def _contains_each(self, column, values):
         if column not in self.asked:
             found, = self.footer.find([column])
             self.asked[column] = found, places_of(self.source, found, range(self.num_row_groups))
@@ -81,14 +84,6 @@ class BloomFilterReader:
         answers = [*contain_hashes(self.source, places, hashes)]
         self.source.check_unchanged()  # other bytes would be a filter without the values
         return answers if owners is None else [of_owners(owners, some, len(values)) for some in answers]
-
-
-def listed(values):
-    if isinstance(values, (str, bytes)) or not hasattr(values, "__iter__"):
-        raise TypeError("values must be a list of values, as [42], not one value")
-    if hasattr(values, "to_pylist"):
-        return values.to_pylist()
-    return values.tolist() if getattr(getattr(values, "dtype", None), "kind", None) in ("i", "u") else [*values]
 
 
 def hashes_of(values, column):

@@ -1,12 +1,13 @@
 """Filters that are added to finished files, and checked. pyarrow reads the values."""
-import contextlib
+import functools
 import operator
 import warnings
 
 from .. import BloomFilter, xxh64_intdigest
+from .commit import replaced
 from .pyarrow_values import stored_values
 from .reader import BloomFilterReader, all_places, false_positive_rate, places_of
-from .stores import place_of
+from .stores import each_once, place_of
 
 MOST_BYTES = 128 << 20  # of a filter that Arrow reads
 ABOUT_ONE_PERCENT = 1 / 28  # at most: of 8 to 16 bits for each value, since sizes are powers of two
@@ -25,8 +26,8 @@ def add_filters(source, target, columns, *, filesystem=None, error_rate=None, ma
     a bar.
 
     Both are paths, or URIs, or paths in a filesystem of pyarrow or fsspec. If the source is a folder, all files below it that
-    end in .parquet are written to the target, a folder too. A target is whole at any time: a new file is written to its folder
-    as .sketch_hash-.., and then renamed. If a store cannot rename files, it is written at once.
+    end in .parquet are written to the target, a folder too. A target is the old file or the complete new one at any time: that
+    is written beside it as .sketch_hash-.., read back, and then renamed, or copied within a store that cannot rename.
 
     A filter begins large enough for all values at error_rate, the share of other keys that it finds on average, or with
     max_bytes. It is halved while its rate by its bits stays at most error_rate. If that is left out, the rate is about 1 %:
@@ -38,7 +39,8 @@ def add_filters(source, target, columns, *, filesystem=None, error_rate=None, ma
     Raises ValueError if an engine may hold values of a column equal whose bytes differ, as of INTERVAL; if a column has
     filters, and neither of the two is given; if the footer is encrypted or signed, or a file is not a regular one; if folders
     show that the target belongs to a table of Delta Lake or Iceberg; if another call replaces the target at the same time,
-    or a file changes meanwhile. Then the target stays as it is. Raises NotImplementedError if the system is not POSIX.
+    or a file changes meanwhile; if a store cannot replace files. After an error the target is as it was, unless the message
+    begins with "the file may be". Raises NotImplementedError if the system is not POSIX.
     """
     check_names(columns)
     if replace and skip_existing:
@@ -47,7 +49,7 @@ def add_filters(source, target, columns, *, filesystem=None, error_rate=None, ma
 
     def add(source, target):
         builder = Builder(error_rate, max_bytes)
-        with opened(source) as reader:
+        with BloomFilterReader(source) as reader:
             chosen = reader.footer.find(names)
             check_columns(reader.footer, names, chosen)
             todo = [(column, groups_to_fill(column, replace, skip_existing)) for column in chosen]
@@ -74,7 +76,7 @@ def remove_filters(source, target, columns=None, *, filesystem=None):
     notes, names = {}, None if columns is None else [*columns]
 
     def remove(source, target):
-        with opened(source) as reader:
+        with BloomFilterReader(source) as reader:
             chosen = [*reader.footer.columns()] if names is None else reader.footer.find(names)
             check_not_signed(reader.footer)
             count = sum(len(column.groups_with_filters()) for column in chosen)
@@ -92,50 +94,46 @@ def warn(notes):
         warnings.warn(note, stacklevel=3)
 
 
-@contextlib.contextmanager
-def opened(place):
-    with place.open() as file:
-        yield BloomFilterReader(file)
-
-
 def in_each_file(call, source, *target):
     """The results of a call for a file, or for each one below a folder."""
     if not source.is_folder():
         yield call(source, *target)
         return
-    for name in source.names():
-        places = [place.below(name) for place in (source, *target)]
-        if not places[0].is_same(places[-1]):
+    names = {source.below(name): name for name in source.names()}
+    in_place = all(source.is_same(place) for place in target)
+    for place in each_once(names) if in_place else names:
+        places = [place, *(other.below(names[place]) for other in target)]
+        if not in_place:
             places[-1].make_folder()
         try:
             yield call(*places)
         except ValueError as error:
-            error.args = f"{places[0]}: {error}",
+            error.args = f"{place}: {error}",
             raise
 
 
 def rewrite(reader, source, target, replaced_columns, steps):
     """Writes the target with new filters. Returns how many bytes these have, and notes of what the target has lost."""
     end, kept = unused_end(reader, replaced_columns) if replaced_columns else (reader.footer.start, [])
-    with target.replaced(reader.source) as (output, notes):
+    check = functools.partial(source.check_unchanged, reader.source)
+    with replaced(target, reader.source, end, check) as (output, notes):
         size = write(reader, output, end, kept, replaced_columns, steps)
-        source.check_unchanged(reader.source)
     return size, notes
 
 
-def write(reader, output, end, kept, removed, steps):
-    """Writes a file: all up to an end, filters that are kept, new ones, the footer without others of the columns removed."""
+def write(reader, output, begin, kept, removed, steps):
+    """Writes what follows the data, which ends at a place: filters that are kept, new ones, and the footer without others of
+    the columns removed."""
     places = [(column, group, None, None) for column in removed for group in column.groups_with_filters()]
-    copy(reader.source, output, 0, end)
     for start, stop, column, group in kept:
-        places.append((column, group, output.tell(), stop - start))
-        copy(reader.source, output, start, stop)
-    begin = output.tell()
+        places.append((column, group, begin + output.tell(), stop - start))
+        output.writelines(reader.source.pieces(start, stop))
+    size = -output.tell()
     for column, group, filter in steps:
         data = filter.to_parquet()
-        places.append((column, group, output.tell(), len(data)))
+        places.append((column, group, begin + output.tell(), len(data)))
         output.write(data)
-    size = output.tell() - begin
+    size += output.tell()
     output.write(reader.footer.with_filters(places))
     return size
 
@@ -147,13 +145,6 @@ def drawn(steps, progress, total):
         next(bar, None)
         yield step
     next(bar, None)
-
-
-def copy(source, output, begin, end):
-    while begin < end:
-        piece = source.read(begin, min(end - begin, 1 << 20))
-        output.write(piece)
-        begin += len(piece)
 
 
 def check_names(columns):
@@ -268,7 +259,7 @@ def check_filters(source, *, filesystem=None, progress=None):
     notes = {}
 
     def check(source):
-        with opened(source) as reader:
+        with BloomFilterReader(source) as reader:
             todo = []
             for column in reader.footer.columns():
                 groups, reason = column.groups_with_filters(), column.why_no_filter()
