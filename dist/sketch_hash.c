@@ -1,7 +1,7 @@
 /* sketch_hash.c 3.1.0: printed from proved text. Do not edit it: tools/print_c prints it.
  *
  * crate     sketch_c, and those that it depends on, of which PROVED says more
- * text      cac8c6a0b7ece4fef02cefe2e8d42731185b5f029202206d9c27299a55b54d03
+ * text      1e67cab8ae8ca06f1a8797b33293a3ce0ff09394d94c9410aad824cf867d71ea
  * prover    rattle-kit-13f logic dac8208d650f15bf
  * licence   Apache-2.0
  */
@@ -278,14 +278,14 @@ SKH_INLINE uint64_t skh_xor_shift(uint64_t word, uint32_t places) {
 
 /* ---- Copies of a few bytes */
 
-/* Copies K to 2 K bytes to `buffer[at..]`: first the first K bytes, then the last K. */
+/* Copies 2 to 4 bytes to `buffer[at..]`: first the first 2 bytes, then the last 2. */
 SKH_INLINE void skh_copy_overlapping_2(unsigned char *buffer, uint64_t at,
                                        const unsigned char *bytes, uint64_t bytes_length) {
     skh_store16(buffer + at, skh_load16(bytes));
     skh_store16(buffer + at + bytes_length - 2, skh_load16(bytes + bytes_length - 2));
 }
 
-/* Copies K to 2 K bytes to `buffer[at..]`: first the first K bytes, then the last K. */
+/* Copies 4 to 8 bytes to `buffer[at..]`: first the first 4 bytes, then the last 4. */
 SKH_INLINE void skh_copy_overlapping_4(unsigned char *buffer, uint64_t at,
                                        const unsigned char *bytes, uint64_t bytes_length) {
     skh_store32(buffer + at, skh_load32(bytes));
@@ -304,22 +304,22 @@ SKH_INLINE void skh_copy_tiny(unsigned char *buffer, uint64_t at, const unsigned
     }
 }
 
-/* Copies K to 2 K bytes to `buffer[at..]`: first the first K bytes, then the last K. */
+/* Copies 8 to 16 bytes to `buffer[at..]`: first the first 8 bytes, then the last 8. */
 SKH_INLINE void skh_copy_overlapping_8(unsigned char *buffer, uint64_t at,
                                        const unsigned char *bytes, uint64_t bytes_length) {
     skh_store64(buffer + at, skh_load64(bytes));
     skh_store64(buffer + at + bytes_length - 8, skh_load64(bytes + bytes_length - 8));
 }
 
-/* Copies K to 2 K bytes to `buffer[at..]`: first the first K bytes, then the last K. */
+/* Copies 16 to 32 bytes to `buffer[at..]`: first the first 16 bytes, then the last 16. */
 SKH_INLINE void skh_copy_overlapping_16(unsigned char *buffer, uint64_t at,
                                         const unsigned char *bytes, uint64_t bytes_length) {
     memmove(buffer + at, bytes, 16);
     memmove(buffer + at + bytes_length - 16, bytes + bytes_length - 16, 16);
 }
 
-/* Copies at most 32 bytes to `buffer[at..]`. A `copy_from_slice` of unknown length is a call of
- * `memcpy`, which makes XXH64's writes of 1 to 100 bytes 17 to 33 % slower. */
+/* Copies at most 32 bytes to `buffer[at..]`. A copy of unknown length is a call of `memcpy`,
+ * which makes XXH64's writes of 1 to 100 bytes 17 to 33 % slower. */
 SKH_INLINE void skh_copy_small(unsigned char *buffer, uint64_t at, const unsigned char *bytes,
                                uint64_t bytes_length) {
     if (bytes_length != 0) {
@@ -344,9 +344,9 @@ SKH_INLINE struct skh_result skh_check_offset32(uint64_t bytes_length, const uin
     return skh_ok(place);
 }
 
-/* Checks the offsets of a column of this many keys, laid out as for `XxHash64::hash_each`.
+/* Checks the offsets of a column of this many keys, laid out as for `skh_murmur3_hash_each32`.
  *
- * `keys` may be any number, also `usize::MAX`: nothing is added to it. */
+ * `keys` may be any number, also UINT64_MAX: nothing is added to it. */
 SKH_INLINE struct skh_result skh_check_offsets32(uint64_t bytes_length, const uint32_t *offsets,
                                                  uint64_t offsets_count, uint64_t keys) {
     if (keys == 0 && offsets_count == 0) return skh_ok(0);
@@ -372,9 +372,9 @@ SKH_INLINE struct skh_result skh_check_offset64(uint64_t bytes_length, const uin
     return skh_ok(place);
 }
 
-/* Checks the offsets of a column of this many keys, laid out as for `XxHash64::hash_each`.
+/* Checks the offsets of a column of this many keys, laid out as for `skh_murmur3_hash_each64`.
  *
- * `keys` may be any number, also `usize::MAX`: nothing is added to it. */
+ * `keys` may be any number, also UINT64_MAX: nothing is added to it. */
 SKH_INLINE struct skh_result skh_check_offsets64(uint64_t bytes_length, const uint64_t *offsets,
                                                  uint64_t offsets_count, uint64_t keys) {
     if (keys == 0 && offsets_count == 0) return skh_ok(0);
@@ -459,7 +459,7 @@ SKH_INLINE uint64_t skh_xxh64_fold_below_16(uint64_t hash, const unsigned char *
 }
 
 /* The hash after a tail of 16 bytes and more. Without a loop single keys of 16 and 24 bytes are
- * 10 % faster. Columns of mixed lengths are slower, so they use `fold_tail`. */
+ * 10 % faster. Columns of mixed lengths are slower, so they use `skh_xxh64_fold_tail`. */
 SKH_INLINE uint64_t skh_xxh64_fold_from_16(uint64_t hash, const unsigned char *tail,
                                            uint64_t tail_length) {
     hash = skh_xxh64_eight_step(skh_xxh64_eight_step(hash, skh_load64(tail)), skh_load64(tail + 8));
@@ -534,8 +534,8 @@ SKH_INLINE uint64_t skh_xxh64_hash_long(const unsigned char *bytes, uint64_t byt
                               bytes + bytes_length / 32 * 32, bytes_length % 32);
 }
 
-/* The hash of 32 to 63 bytes. In a separate call LLVM knows that there is one stripe and makes
- * no loop: keys of 32 bytes are 10 % faster. */
+/* The hash of 32 to 63 bytes. In a separate call a compiler knows that there is one stripe and
+ * makes no loop: keys of 32 bytes are 10 % faster. */
 static SKH_NOINLINE uint64_t skh_xxh64_hash_one_stripe(const unsigned char *bytes,
                                                        uint64_t bytes_length, uint64_t seed) {
     SKH_REQUIRES(bytes_length >= 32 && bytes_length < 64);
@@ -581,6 +581,12 @@ SKH_INLINE void skh_xxh64_state_write_within(sketch_xxh64_state_t *state,
     skh_copy_small(state->waiting, count, bytes, bytes_length);
 }
 
+/* The lanes after the last full stripe. */
+SKH_INLINE struct skh_xxh64_lanes skh_xxh64_state_lanes(const sketch_xxh64_state_t *state) {
+    const struct skh_xxh64_lanes lanes = {state->v1, state->v2, state->v3, state->v4};
+    return lanes;
+}
+
 /* The lanes after the stripe that `bytes` complete. Without bytes there is none. */
 SKH_INLINE struct skh_xxh64_lanes skh_xxh64_complete(struct skh_xxh64_lanes lanes,
                                                      unsigned char *buffer, uint64_t count,
@@ -605,16 +611,10 @@ SKH_INLINE struct skh_xxh64_lanes skh_xxh64_consume(struct skh_xxh64_lanes lanes
     /* 0 if no stripe is partial. */
     const uint64_t missing = (32 - count) % 32;
     lanes = skh_xxh64_complete(lanes, buffer, count, bytes, missing);
-    const unsigned char *const bytes_bytes = bytes + missing;
-    const uint64_t bytes_length2 = bytes_length - missing;
-    skh_copy_small(buffer, 0, bytes_bytes + bytes_length2 / 32 * 32, bytes_length2 % 32);
-    skh_xxh64_fold_stripes(&lanes, bytes_bytes, bytes_length2 / 32);
-    return lanes;
-}
-
-/* The lanes after the last full stripe. */
-SKH_INLINE struct skh_xxh64_lanes skh_xxh64_state_lanes(const sketch_xxh64_state_t *state) {
-    const struct skh_xxh64_lanes lanes = {state->v1, state->v2, state->v3, state->v4};
+    const unsigned char *const rest = bytes + missing;
+    const uint64_t rest_length = bytes_length - missing;
+    skh_copy_small(buffer, 0, rest + rest_length / 32 * 32, rest_length % 32);
+    skh_xxh64_fold_stripes(&lanes, rest, rest_length / 32);
     return lanes;
 }
 
@@ -625,7 +625,8 @@ static SKH_NOINLINE void skh_xxh64_state_write_across(sketch_xxh64_state_t *stat
                                                       uint64_t bytes_length) {
     const uint64_t count = skh_xxh64_state_waiting_count(state);
     state->total += bytes_length;
-    const struct skh_xxh64_lanes lanes =
+    struct skh_xxh64_lanes lanes = skh_xxh64_state_lanes(state);
+    lanes =
         skh_xxh64_consume(skh_xxh64_state_lanes(state), state->waiting, count, bytes, bytes_length);
     state->v1 = lanes.v1;
     state->v2 = lanes.v2;
@@ -693,9 +694,9 @@ SKH_INLINE struct skh_result skh_xxh64_hash_each32(const unsigned char *bytes,
         skh_check_offsets32(bytes_length, offsets, offsets_count, out_count);
     if (SKH_UNLIKELY(result.is_error)) return skh_error(result.value);
     for (uint64_t i = 0; i < out_count; i++) {
-        const uint64_t start = skh_get32(offsets + i);
+        const uint64_t first = skh_get32(offsets + i);
         skh_set64(out + i, skh_xxh64_hash_one_of_many(
-                               bytes + start, (uint64_t)skh_get32(offsets + i + 1) - start, seed));
+                               bytes + first, (uint64_t)skh_get32(offsets + i + 1) - first, seed));
     }
     return skh_ok(0);
 }
@@ -715,9 +716,9 @@ SKH_INLINE struct skh_result skh_xxh64_hash_each64(const unsigned char *bytes,
         skh_check_offsets64(bytes_length, offsets, offsets_count, out_count);
     if (SKH_UNLIKELY(result.is_error)) return skh_error(result.value);
     for (uint64_t i = 0; i < out_count; i++) {
-        const uint64_t start = skh_get64(offsets + i);
-        skh_set64(out + i, skh_xxh64_hash_one_of_many(bytes + start,
-                                                      skh_get64(offsets + i + 1) - start, seed));
+        const uint64_t first = skh_get64(offsets + i);
+        skh_set64(out + i, skh_xxh64_hash_one_of_many(bytes + first,
+                                                      skh_get64(offsets + i + 1) - first, seed));
     }
     return skh_ok(0);
 }
@@ -735,29 +736,31 @@ SKH_INLINE struct skh_result skh_xxh64_hash_each_u64(const uint64_t *input, uint
 }
 
 /* The 64-bit hash of each key of a run under a seed: of key `start`, and of as many keys as
- * `out` has places. The caller must have checked the offsets, as `check_offsets` does. */
+ * `out` has places. The caller must have checked the offsets, as `skh_check_offsets32` does. */
 static SKH_NOINLINE void skh_xxh64_hash_run32(const unsigned char *bytes, const uint32_t *offsets,
                                               uint64_t start, uint64_t seed, uint64_t *out,
                                               uint64_t out_count) {
-    /* By `hash_one_of_many` keys of 8 to 24 bytes would take 1.07 to 1.1 times as long. */
+    /* By `skh_xxh64_hash_one_of_many` keys of 8 to 24 bytes would take 1.07 to 1.1 times as
+ * long. */
     for (uint64_t i = 0; i < out_count; i++) {
-        const uint64_t start2 = skh_get32(offsets + start + i);
+        const uint64_t first = skh_get32(offsets + start + i);
         skh_set64(out + i,
-                  skh_xxh64_hash(bytes + start2,
-                                 (uint64_t)skh_get32(offsets + start + i + 1) - start2, seed));
+                  skh_xxh64_hash(bytes + first,
+                                 (uint64_t)skh_get32(offsets + start + i + 1) - first, seed));
     }
 }
 
 /* The 64-bit hash of each key of a run under a seed: of key `start`, and of as many keys as
- * `out` has places. The caller must have checked the offsets, as `check_offsets` does. */
+ * `out` has places. The caller must have checked the offsets, as `skh_check_offsets64` does. */
 static SKH_NOINLINE void skh_xxh64_hash_run64(const unsigned char *bytes, const uint64_t *offsets,
                                               uint64_t start, uint64_t seed, uint64_t *out,
                                               uint64_t out_count) {
-    /* By `hash_one_of_many` keys of 8 to 24 bytes would take 1.07 to 1.1 times as long. */
+    /* By `skh_xxh64_hash_one_of_many` keys of 8 to 24 bytes would take 1.07 to 1.1 times as
+ * long. */
     for (uint64_t i = 0; i < out_count; i++) {
-        const uint64_t start2 = skh_get64(offsets + start + i);
-        skh_set64(out + i, skh_xxh64_hash(bytes + start2,
-                                          skh_get64(offsets + start + i + 1) - start2, seed));
+        const uint64_t first = skh_get64(offsets + start + i);
+        skh_set64(out + i,
+                  skh_xxh64_hash(bytes + first, skh_get64(offsets + start + i + 1) - first, seed));
     }
 }
 
@@ -823,7 +826,8 @@ SKH_INLINE uint64_t skh_murmur3_read_word_le(const unsigned char *bytes, uint64_
                                            bytes_length);
 }
 
-/* As `read_partial_words`, whose second clause is proved from this function's only one. */
+/* As `skh_murmur3_read_partial_words`, whose second clause is proved from this function's only
+ * one. */
 SKH_INLINE struct skh_pair skh_murmur3_read_two_words(const unsigned char *bytes,
                                                       uint64_t bytes_length) {
     if (bytes_length > 8) {
@@ -976,19 +980,18 @@ SKH_INLINE void skh_murmur3_write_blocks(struct skh_murmur3_hasher *hasher,
     const struct skh_pair k =
         skh_murmur3_place_after(hasher->low, hasher->high, hasher->count, first);
     const struct skh_pair h = skh_murmur3_step(hasher->h1, hasher->h2, k.first, k.second);
-    const uint64_t x = 16 - hasher->count;
-    const unsigned char *const bytes_bytes = bytes + x;
-    const uint64_t bytes_length2 = bytes_length - x;
-    const unsigned char *const last = bytes_bytes + bytes_length2 / 16 * 16;
-    struct skh_pair pair =
-        skh_murmur3_fold_blocks(h.first, h.second, bytes_bytes, bytes_length2 / 16);
+    const uint64_t missing = 16 - hasher->count;
+    const unsigned char *const rest = bytes + missing;
+    const uint64_t rest_length = bytes_length - missing;
+    const unsigned char *const last = rest + rest_length / 16 * 16;
+    struct skh_pair pair = skh_murmur3_fold_blocks(h.first, h.second, rest, rest_length / 16);
     hasher->h1 = pair.first;
     hasher->h2 = pair.second;
-    pair = skh_murmur3_read_partial_words(last, bytes_length2 % 16);
+    pair = skh_murmur3_read_partial_words(last, rest_length % 16);
     hasher->low = pair.first;
     hasher->high = pair.second;
     hasher->total += bytes_length;
-    hasher->count = bytes_length2 % 16;
+    hasher->count = rest_length % 16;
 }
 
 /* Appends bytes to the stream. */
@@ -1008,9 +1011,10 @@ SKH_INLINE void skh_murmur3_state_write(sketch_murmur3_x64_128_state_t *state,
     }
 }
 
-/* `finalize` with a branch that changes nothing, as `fmix(0)` is 0. It keeps LLVM from
- * vectorizing a caller's loop over keys of 8 bytes, which is a third slower without AVX-512.
- * `hash` does without: there the branch makes keys of 1 to 8 bytes 10 % slower. */
+/* `skh_murmur3_finalize` with a branch that changes nothing, as `fmix(0)` is 0. It keeps
+ * compilers from vectorizing a caller's loop over keys of 8 bytes, which is a third slower
+ * without AVX-512. `skh_murmur3_hash` does without: there the branch makes keys of 1 to 8 bytes
+ * 10 % slower. */
 SKH_INLINE struct skh_pair skh_murmur3_finalize_unvectorized(uint64_t h1, uint64_t h2,
                                                              uint64_t total) {
     const struct skh_pair h = skh_murmur3_cross(h1 ^ total, h2 ^ total);
@@ -1028,7 +1032,7 @@ SKH_INLINE struct skh_pair skh_murmur3_finish128(const struct skh_murmur3_hasher
 /* The 128-bit hash of each key of a column under a seed, each as its first and its second word
  * at its place of `out`.
  *
- * The column is laid out as for `XxHash64::hash_each`. */
+ * The column is laid out as for `skh_murmur3_hash_each32`. */
 SKH_INLINE struct skh_result skh_murmur3_hash_each32(const unsigned char *bytes,
                                                      uint64_t bytes_length, const uint32_t *offsets,
                                                      uint64_t offsets_count, uint64_t seed,
@@ -1037,9 +1041,9 @@ SKH_INLINE struct skh_result skh_murmur3_hash_each32(const unsigned char *bytes,
         skh_check_offsets32(bytes_length, offsets, offsets_count, out_count);
     if (SKH_UNLIKELY(result.is_error)) return skh_error(result.value);
     for (uint64_t i = 0; i < out_count; i++) {
-        const uint64_t start = skh_get32(offsets + i);
+        const uint64_t first = skh_get32(offsets + i);
         const struct skh_pair h =
-            skh_murmur3_hash(bytes + start, (uint64_t)skh_get32(offsets + i + 1) - start, seed);
+            skh_murmur3_hash(bytes + first, (uint64_t)skh_get32(offsets + i + 1) - first, seed);
         skh_set64(out[i], h.first);
         skh_set64(out[i] + 1, h.second);
     }
@@ -1049,7 +1053,7 @@ SKH_INLINE struct skh_result skh_murmur3_hash_each32(const unsigned char *bytes,
 /* The 128-bit hash of each key of a column under a seed, each as its first and its second word
  * at its place of `out`.
  *
- * The column is laid out as for `XxHash64::hash_each`. */
+ * The column is laid out as for `skh_murmur3_hash_each64`. */
 SKH_INLINE struct skh_result skh_murmur3_hash_each64(const unsigned char *bytes,
                                                      uint64_t bytes_length, const uint64_t *offsets,
                                                      uint64_t offsets_count, uint64_t seed,
@@ -1058,9 +1062,9 @@ SKH_INLINE struct skh_result skh_murmur3_hash_each64(const unsigned char *bytes,
         skh_check_offsets64(bytes_length, offsets, offsets_count, out_count);
     if (SKH_UNLIKELY(result.is_error)) return skh_error(result.value);
     for (uint64_t i = 0; i < out_count; i++) {
-        const uint64_t start = skh_get64(offsets + i);
+        const uint64_t first = skh_get64(offsets + i);
         const struct skh_pair h =
-            skh_murmur3_hash(bytes + start, skh_get64(offsets + i + 1) - start, seed);
+            skh_murmur3_hash(bytes + first, skh_get64(offsets + i + 1) - first, seed);
         skh_set64(out[i], h.first);
         skh_set64(out[i] + 1, h.second);
     }
@@ -1135,12 +1139,12 @@ static bool skh_bloom_keeps_rate(uint64_t keys, uint32_t log2_blocks, uint64_t o
 /* The smallest number of bytes, a power of two from 32 bytes to 128 MiB, for a filter of `keys`
  * different values with a false positive rate of at most one in `one_in`.
  *
- * Returns `None` if `MAX_BYTES` are too few, or if `one_in` is 0.
+ * Returns skh_none() if 128 MiB are too few, or if `one_in` is 0.
  *
- * The exact rate of this size is at most one in `one_in`, but for 2^-22, as `size_law` says.
- * Parquet's writers use m = -8 n / ln(1 - p^(1/8)) bits, which ignores that blocks fill
- * unevenly. At exactly that size the rate is up to 50 % above the target for targets of 1 %:
- * 0.0146 for 0.01. */
+ * The rate of this size by the Poisson model is at most one in `one_in`, but for 2^-22, as
+ * `size_law` says. Parquet's writers use m = -8 n / ln(1 - p^(1/8)) bits, which ignores that
+ * blocks fill unevenly. At exactly that size the rate is up to 50 % above the target for targets
+ * of 1 %: 0.0146 for 0.01. */
 static struct skh_option skh_bloom_bytes_for(uint64_t keys, uint64_t one_in) {
     if (one_in == 0) return skh_none();
     if (one_in == 1) return skh_some(32);
@@ -1239,17 +1243,17 @@ SKH_CHOOSE(static SKH_NOINLINE, void, , skh_bloom_find_hashes,
 /* Folds a filter of an even number of blocks. */
 static void skh_bloom_fold_blocks(unsigned char *filter, uint64_t filter_length) {
     for (uint64_t i = 0; i < filter_length / 64; i++) {
-        unsigned char *const block = filter + i * 64;
-        unsigned char *const block_bytes = filter + i * 64 + 32;
+        unsigned char *const left = filter + i * 64;
+        unsigned char *const right = filter + i * 64 + 32;
         unsigned char *const place = filter + i * 32;
-        const uint32_t word = skh_load32(block) | skh_load32(block_bytes);
-        const uint32_t word2 = skh_load32(block + 4) | skh_load32(block_bytes + 4);
-        const uint32_t word3 = skh_load32(block + 8) | skh_load32(block_bytes + 8);
-        const uint32_t word4 = skh_load32(block + 12) | skh_load32(block_bytes + 12);
-        const uint32_t word5 = skh_load32(block + 16) | skh_load32(block_bytes + 16);
-        const uint32_t word6 = skh_load32(block + 20) | skh_load32(block_bytes + 20);
-        const uint32_t word7 = skh_load32(block + 24) | skh_load32(block_bytes + 24);
-        const uint32_t word8 = skh_load32(block + 28) | skh_load32(block_bytes + 28);
+        const uint32_t word = skh_load32(left) | skh_load32(right);
+        const uint32_t word2 = skh_load32(left + 4) | skh_load32(right + 4);
+        const uint32_t word3 = skh_load32(left + 8) | skh_load32(right + 8);
+        const uint32_t word4 = skh_load32(left + 12) | skh_load32(right + 12);
+        const uint32_t word5 = skh_load32(left + 16) | skh_load32(right + 16);
+        const uint32_t word6 = skh_load32(left + 20) | skh_load32(right + 20);
+        const uint32_t word7 = skh_load32(left + 24) | skh_load32(right + 24);
+        const uint32_t word8 = skh_load32(left + 28) | skh_load32(right + 28);
         skh_store32(place, word);
         skh_store32(place + 4, word2);
         skh_store32(place + 8, word3);
@@ -1288,7 +1292,7 @@ static bool skh_bloom_has_rate_folded(const unsigned char *filter, uint64_t filt
                            skh_wide_left(skh_wide(0, blocks), 40));
 }
 
-/* The first byte of a variable-length number. `read_varint` reads it. */
+/* The first byte of a variable-length number. `skh_bloom_read_varint` reads it. */
 static uint8_t skh_bloom_varint_byte(uint64_t number) {
     if (number < 128) return (uint8_t)number;
     return (uint8_t)(number % 128 + 128);
@@ -1297,8 +1301,8 @@ static uint8_t skh_bloom_varint_byte(uint64_t number) {
 /* Writes the header of a filter with this many bytes to the start of `out`, and returns the
  * number of bytes of the header: 15 to 19.
  *
- * Returns `None` if `bytes` is not a positive multiple of 32 below 2^31, or if `out` is shorter
- * than the header. `out` is then unchanged. */
+ * Returns skh_none() if `bytes` is not a positive multiple of 32 below 2^31, or if `out` is
+ * shorter than the header. `out` is then unchanged. */
 static struct skh_option skh_bloom_write_header(uint64_t bytes, unsigned char *out,
                                                 uint64_t out_length) {
     if (!skh_bloom_is_length(bytes) || bytes >= (uint64_t)1 << 31) return skh_none();
@@ -1323,8 +1327,8 @@ static struct skh_option skh_bloom_write_header(uint64_t bytes, unsigned char *o
     return skh_some(start + 13);
 }
 
-/* A variable-length number, from its first byte, as `varint_byte` returns it, and the number in
- * the bytes after it. */
+/* A variable-length number, from its first byte, as `skh_bloom_varint_byte` returns it, and the
+ * number in the bytes after it. */
 static uint64_t skh_bloom_read_varint(uint8_t byte, uint64_t after) {
     if (byte < 128) return byte;
     return (uint64_t)(uint8_t)(byte - 128) + after * 128;
@@ -1369,12 +1373,12 @@ SKETCH_HASH_API uint64_t sketch_xxh64_u64(uint64_t value, uint64_t seed) {
 
 /* Starts a state with a seed, and no bytes. */
 SKETCH_HASH_API void sketch_xxh64_reset(sketch_xxh64_state_t *state, uint64_t seed) {
-    const struct skh_xxh64_lanes self = skh_xxh64_start(seed);
+    const struct skh_xxh64_lanes lanes = skh_xxh64_start(seed);
     state->seed = seed;
-    state->v1 = self.v1;
-    state->v2 = self.v2;
-    state->v3 = self.v3;
-    state->v4 = self.v4;
+    state->v1 = lanes.v1;
+    state->v2 = lanes.v2;
+    state->v3 = lanes.v3;
+    state->v4 = lanes.v4;
     state->total = 0;
     memset(state->waiting, 0, 32);
 }
@@ -1404,11 +1408,11 @@ SKETCH_HASH_API void sketch_murmur3_x64_128(const void *input, size_t length, ui
 /* Starts a state with a seed, and no bytes. */
 SKETCH_HASH_API void sketch_murmur3_x64_128_reset(sketch_murmur3_x64_128_state_t *state,
                                                   uint64_t seed) {
-    struct skh_murmur3_hasher x = skh_murmur3_with_seed(seed);
-    const sketch_murmur3_x64_128_state_t x2 = skh_murmur3_state(&x);
-    state->h1 = x2.h1;
-    state->h2 = x2.h2;
-    state->total = x2.total;
+    struct skh_murmur3_hasher hasher = skh_murmur3_with_seed(seed);
+    const sketch_murmur3_x64_128_state_t state2 = skh_murmur3_state(&hasher);
+    state->h1 = state2.h1;
+    state->h2 = state2.h2;
+    state->total = state2.total;
     memset(state->waiting, 0, 16);
 }
 
@@ -1422,8 +1426,8 @@ SKETCH_HASH_API void sketch_murmur3_x64_128_update(sketch_murmur3_x64_128_state_
  * may follow. */
 SKETCH_HASH_API void sketch_murmur3_x64_128_digest(const sketch_murmur3_x64_128_state_t *state,
                                                    uint64_t hash[2]) {
-    struct skh_murmur3_hasher x = skh_murmur3_resume(state);
-    const struct skh_pair h = skh_murmur3_finish128(&x);
+    struct skh_murmur3_hasher hasher = skh_murmur3_resume(state);
+    const struct skh_pair h = skh_murmur3_finish128(&hasher);
     hash[0] = h.first;
     hash[1] = h.second;
 }

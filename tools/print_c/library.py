@@ -171,10 +171,12 @@ class Library:
             text = [re.sub(r"\bK\b", str(n), own.replace("2 K", str(2 * n))) for own in text]
         return text
 
-    def in_c(self, text: str) -> str:
-        """A comment with the names of C in place of those of the source."""
+    def in_c(self, text: str, printed: Printed) -> str:
+        """A comment with the names of C in place of those of the source. A function's own names are left."""
         words = {"None": "skh_none()", "usize::MAX": "UINT64_MAX", "MAX_BYTES": "128 MiB"}
-        names = {own.source: own.name for own in reversed(self.by_name.values()) if own.source}
+        words |= {own.name: f"`{own.name}`" for own in printed.parameters}
+        alike = sorted(self.by_name.values(), key=lambda own: own.name[-2:] == printed.name[-2:])  # of 32 or 64 bits
+        names = {own.source: own.name for own in alike if own.source}
 
         def name(found: re.Match[str]) -> str:
             own = found[1]
@@ -293,7 +295,7 @@ class Library:
         name_all(printed)
         for node in all_nodes(printed.body):
             if isinstance(node, Comment):
-                node.text = self.in_c(node.text)
+                node.text = self.in_c(node.text, printed)
         if printed.head:
             parameters = printed.head
         else:
@@ -302,7 +304,7 @@ class Library:
                                    for own in kept) or "void"
         type = printed.result.text
         body = [*(f"SKH_REQUIRES({own});" for own in printed.requires), *writer.lines(printed.body, printed.result)]
-        about = comment([self.in_c(own) for own in printed.about] if printed.source else printed.about)
+        about = comment([self.in_c(own, printed) for own in printed.about] if printed.source else printed.about)
         if printed.name in self.with_vectors:
             parameters = f"bool has_vectors, {parameters}"
         if printed.name in self.chosen:
