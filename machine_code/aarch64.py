@@ -207,13 +207,11 @@ SHAPED = {
 
 
 class Aarch64(Machine):
-    pointer, popped, entry, result_register, name_of = "sp", 0, 0, "x0", staticmethod(str)
+    pointer, popped, entry, red_zone, result_register, name_of = "sp", 0, 0, 0, "x0", staticmethod(str)
+    kept = {**{f"x{n}": 64 for n in range(19, 30)}, **{f"v{n}": 64 for n in range(8, 16)}}
     argument_registers = [f"x{n}" for n in range(8)]
 
     def set_up(self):
-        self.red_zone = 128 if self.library.format == "macho" else 0
-        own = 18 if self.library.format == "macho" else 19  # Apple's systems own x18
-        self.kept = dict.fromkeys([f"x{n}" for n in range(own, 30)], 64) | dict.fromkeys([f"v{n}" for n in range(8, 16)], 64)
         self.registers = {f"x{n}": unknown(("before", n), 64) for n in range(31)}
         self.registers |= {f"v{n}": unknown(("before", "v", n), 128) for n in range(32)}
         self.registers["sp"] = self.stack

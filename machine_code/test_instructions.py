@@ -10,6 +10,7 @@ import subprocess
 import aarch64
 import library
 import pytest
+import values
 import x86
 from machine import IMAGE, IN_IMAGE
 from values import Stop, add, cut, number, number_in
@@ -300,11 +301,12 @@ def differences(processor, built, machine, after):
 def compared(processor, tmp, run):
     """The forms that are not as the processor does them, and the operations that some form has executed."""
     forms, pick = assembled(processor, tmp), random.Random(SEED)
-    built = library.read(tmp / "forms.so")
-    built.flags, trials = set(), []
+    built = library.Library((tmp / "forms.so").read_bytes())
+    trials = []
     for form, _ in itertools.product(range(len(forms)), range(TRIALS)):
         state = some_state(pick, processor)
-        machine = executed(processor, built, form, state)
+        with values.case():
+            machine = executed(processor, built, form, state)
         if machine:
             trials.append((form, state, machine))
     data = b"".join(struct.pack("<Q", form) + state for form, state, _ in trials)

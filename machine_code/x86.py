@@ -4,7 +4,7 @@ import itertools
 import re
 
 from machine import CALLER, IMAGE, Machine, count_of, if_equal, logic, plain, reads, shift_one, shifted
-from values import (BITS, Stop, Undecided, add, are_equal, bitwise, complement, cut, extend, is_below, is_zero, join, kinds,
+from values import (BITS, Stop, Undecided, add, bitwise, complement, cut, extend, is_below, is_zero, join, kinds,
                     known, lanes, mul, number, number_in, repeat, replace, rotate_right, shift_left, shift_right, sign_extend,
                     signed, sub, unknown, width_of)
 
@@ -469,7 +469,8 @@ def plan(op, text):
 
 
 class X86(Machine):
-    pointer, popped, entry, result_register = "rsp", 8, 8, "rax"  # the caller pushed where to return to: rsp is 16 * n + 8
+    pointer, red_zone, result_register, argument_registers = "rsp", 128, "rax", "rdi rsi rdx rcx r8 r9".split()
+    popped, entry, kept = 8, 8, dict.fromkeys("rbx rbp r12 r13 r14 r15".split(), 64)  # the caller pushed where to return to
     processor = None  # while constructors run: what cpuid and xgetbv say
 
     @staticmethod
@@ -478,11 +479,6 @@ class X86(Machine):
         return op[1:] if op[0] == "v" and op[1:] in OPERATIONS else op
 
     def set_up(self):
-        is_windows = self.library.format == "pe"
-        self.red_zone = 0 if is_windows else 128
-        self.argument_registers = ("rcx rdx r8 r9" if is_windows else "rdi rsi rdx rcx r8 r9").split()
-        self.kept = dict.fromkeys("rbx rbp r12 r13 r14 r15".split() + ["rsi", "rdi"] * is_windows, 64)
-        self.kept |= {f"xmm{n}": 128 for n in range(6, 16) if is_windows}
         has_512 = self.library.uses(r"zmm|[xy]mm(1[6-9]|[23])|\bk[0-7]\b")
         self.registers = {name: unknown(("before", name), 64) for name, width in REGISTERS.values()
                           if name[0] == "r" or name[0] == "k" and has_512}
@@ -492,11 +488,10 @@ class X86(Machine):
         self.map(self.stack, [CALLER])
         self.guard = extend(unknown("thread", 62, 1))
         self.map(self.guard, [unknown("guard", 64)])
-        self.home = [unknown(("home", i), 64) for i in range(4 if is_windows else 0)]
 
     def pass_arguments(self, arguments):
         self.registers |= zip(self.argument_registers, arguments)
-        self.map(add(self.stack, number(8)), self.home + arguments[len(self.argument_registers) :], writable=True)
+        self.map(add(self.stack, number(8)), arguments[len(self.argument_registers) :], writable=True)
 
     # ---- operands
 
@@ -574,8 +569,7 @@ class X86(Machine):
 
     def must_have_avx2(self):
         """If constructors set a flag, code for AVX2 runs only where the flag is 1."""
-        flags = [extend(unknown(("static", at), 1), 8) for at in self.library.flags]
-        if flags and not any(number_in(is_zero(flag)) == 0 or number_in(are_equal(flag, number(1, 8))) for flag in flags):
+        if self.library.flags and not any(self.library.setting.values()):
             raise Stop("an instruction of AVX2 where the processor perhaps has none")
 
     def must_be_aligned_vectors(self, operands):
