@@ -2,7 +2,7 @@
 import functools
 import re
 
-from machine import CALLER, IMAGE, Machine, external, if_equal, logic, place_of, plain, shift_one, shifted
+from machine import CALLER, IMAGE, Machine, external, forms_of, if_equal, logic, place_of, plain, shift_one, shifted
 from values import (Stop, add, bitwise, complement, cut, extend, is_zero, join, kinds, known, lanes, mul, number, number_in,
                     repeat, replace, rotate_right, shift_left, shift_right, sign_extend, signed, sub, unknown, width_of)
 
@@ -17,6 +17,19 @@ HINTS = "nop", "bti", "hint", "prfm"  # of them none changes a register or memor
 def split(text):
     """The operands. What is in brackets or braces is one; so is a shift with the register before it."""
     return re.split(r",\s*(?=\S)(?![^\[]*\])(?![^{]*})(?!(?:[lam]sl|[la]sr|ror|[us]xt[bhwx])\b)", text) if text else []
+
+
+@functools.cache
+def form_of(op, text):
+    """The mnemonic, and the kinds and widths of its operands."""
+    if op in HINTS:
+        return "nop -"
+    text = re.sub(r"(^|, )0x[0-9a-f]+$", r"\1to", text)
+    text = re.sub(r"#-?(0x[0-9a-f]+|\d+)", "#", text)
+    text = re.sub(r"\bw(sp|zr)\b", "w0", re.sub(r"\b(sp|xzr)\b", "x0", text))
+    text = re.sub(r"\bv\d+\.", "v.", re.sub(r"\b([xwbhsdq])\d+\b", r"\1", re.sub(r"\]?\[\d+\]", "[]", text)))
+    text = re.sub(rf", ({'|'.join(CONDITIONS)})$", ", if", text)
+    return f"{op} {text.replace(' ', '') or '-'}"
 
 
 def shift_lane(x, n):
@@ -208,6 +221,7 @@ SHAPED = {
 
 class Aarch64(Machine):
     pointer, popped, entry, red_zone, result_register, name_of = "sp", 0, 0, 0, "x0", staticmethod(str)
+    form_of, forms = staticmethod(form_of), forms_of("aarch64")
     kept = {**{f"x{n}": 64 for n in range(19, 30)}, **{f"v{n}": 64 for n in range(8, 16)}}
     argument_registers = [f"x{n}" for n in range(8)]
 

@@ -12,7 +12,7 @@ from hashes import OneCall
 from keys import MOST, ColumnCall, prove_offsets
 from loops import prove_each_rest
 from machine import Array, contents, place_of
-from values import (Differs, Stop, add, assume_at_most, bitwise, complement, cut, extend, is_zero, join, mul, must_equal,
+from values import (Stop, add, assume_at_most, bitwise, complement, cut, extend, is_zero, join, mul, must_equal,
                     number, number_in, power_of_two, shift_right, sub, unknown, width_of)
 
 
@@ -117,7 +117,7 @@ class Bits:
 
     def must_have_reached(self, n):
         if self.is_writable and self.reached != n:
-            raise Differs("not as many keys are inserted as must be")
+            raise Stop("not as many keys are inserted as must be")
         for i in range(n if self.is_writable else 0):
             self.must_be_inserted(i)
 

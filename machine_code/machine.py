@@ -1,11 +1,12 @@
 """What the processors have in common: memory, conditions, and a run from a call to its return."""
 import functools
 import inspect
+import pathlib
 
 import values
 from library import PARAMETERS
-from values import (Differs, Stop, Undecided, add, are_equal, bitwise, complement, cut, extend, facts, gap_of, greatest,
-                    is_below, is_not_negative, is_zero, join, known, linear, must_equal, number, number_in, power_of_two, repeat,
+from values import (Stop, Undecided, add, are_equal, bitwise, complement, cut, extend, facts, gap_of, greatest, is_below,
+                    is_not_negative, is_zero, join, known, linear, must_equal, number, number_in, power_of_two, repeat,
                     shift_left, signed, sub, total, unknown, unknowns_in, width_of)
 
 IMAGE = extend(join(number(0, 12), unknown("image", 50, 1)))  # where the library is
@@ -78,6 +79,15 @@ IN_IMAGE = place_of(IMAGE)[0]
 
 
 @functools.cache
+def forms_of(processor):
+    """The forms of instructions that `test_instructions.py` has compared with the processor and has written: by line
+    mnemonics with their prefixes, and the operands that each of them takes."""
+    lines = pathlib.Path(__file__).with_name(f"forms_{processor}.txt").read_text().splitlines()
+    groups = [[part.split() for part in line.split(" : ")] for line in lines]
+    return frozenset(f"{name} {form}" for names, forms in groups for name in names for form in forms)
+
+
+@functools.cache
 def external(name):
     """The address of a function or of data of another library; of "", which is none, 0."""
     return extend(unknown(("external", name), 62, 1)) if name else number(0)
@@ -139,17 +149,14 @@ class Array:
         self.written |= {(base, at + i): (value, 8 * i) for i in range(width_of(value) // 8)}
 
     def must_have_written(self, values):
-        """All that is written since `first` are these values, one behind the other."""
-        (base, at), count = place_of(self.first), 0
-        for value in values:
-            for i in range(width_of(value) // 8):
-                if (base, at + count) not in self.written:
-                    raise Differs("not all that must be written is")
-                found, bit = self.written[base, at + count]
-                must_equal(cut(found, bit, 8), cut(value, 8 * i, 8), "what is written")
-                count += 1
-        if len(self.written) > count:
-            raise Differs("more is written than must be")
+        """What is at `first` now is these values, one behind the other, and nothing else is written."""
+        expected = [(value, bit) for value in values for bit in range(0, width_of(value), 8)]
+        (base, at), before = place_of(self.first), contents(self.name, self.first, len(expected))
+        for i, (value, bit) in enumerate(expected):
+            found, start = self.written.get((base, at + i), (before[i], 0))
+            must_equal(cut(found, start, 8), cut(value, bit, 8), "what is written")
+        if self.written.keys() - {(base, at + i) for i in range(len(expected))}:
+            raise Stop("more is written than must be")
 
 
 def of_place(base, n):
@@ -161,6 +168,7 @@ class Machine:
     """One call. A subclass has the registers and the instructions of a processor."""
 
     is_loading = False  # whether it runs constructors
+    form_of = None  # gives the form of an instruction, which must be among `forms`
     size, image, limit = 64, IMAGE, 1_000_000  # bits of a size; where the library is; how many instructions a run may have
 
     def __init__(self, library):
@@ -422,6 +430,8 @@ class Machine:
         self.next = following
         self.executed.append(self.at)
         try:
+            if self.form_of and self.form_of(op, operands) not in self.forms:
+                raise Stop("its form is not among those that were compared with a processor")
             self.step(op, operands)
         except Stop as stop:
             stop.args = (f"{self.at:x}: {op} {operands}: {stop}",)
@@ -432,9 +442,9 @@ class Machine:
     def must_have_restored(self):
         for name, width in self.kept.items():
             if cut(self.registers[name], 0, width) != cut(self.before[name], 0, width):
-                raise Differs(f"{name} is not restored")
+                raise Stop(f"{name} is not restored")
         if self.registers[self.pointer] != add(self.before[self.pointer], number(self.popped)):
-            raise Differs("the stack pointer is not restored")
+            raise Stop("the stack pointer is not restored")
 
     # ---- what it must leave
 

@@ -39,9 +39,9 @@ class Differs(Stop):
     """What the code leaves has another form than what it must leave. `input` is numbers for which both differ, as text, if
     some are found."""
 
-    def __init__(self, what, *pair):
-        super().__init__(what)
-        self.pair, self.input = pair, None
+    def __init__(self, what, found, expected):
+        super().__init__(f"{what} is not what the definitions say")
+        self.pair, self.input = (found, expected), None
 
 
 class Undecided(Stop):
@@ -54,7 +54,7 @@ class Undecided(Stop):
 
 def must_equal(found, expected, what):
     if found != expected:
-        raise Differs(f"{what} is not what the definitions say", found, expected)
+        raise Differs(what, found, expected)
 
 
 @contextlib.contextmanager
@@ -688,7 +688,7 @@ def input_of(pair):
     """Numbers of unknowns for which the two values of a pair differ, as text, or None. They may differ where something is 0."""
     zeros = [{((a, 0, 1),): number(1, 1)} for value in pair for a in atoms_in(value) if kinds[a][0] == "is zero"]
     for more in [{}, *zeros[:20]]:
-        found = Search(bounds, {**facts, **more}, lambda number_of: len(set(map(number_of, pair))) != 1).run(30)
+        found = Search(bounds, {**facts, **more}, lambda number_of: len(set(map(number_of, pair))) > 1).run(30)
         if found is not None:
             world = dict(found)
             named = {name: number_of(value, world, lambda least, most: least) for name, value in arguments.items()}
