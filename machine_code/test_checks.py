@@ -9,6 +9,7 @@ from functools import partial
 
 import calls
 import checks
+import columns
 import filters
 import hashes
 import headers
@@ -480,7 +481,8 @@ def test_code_that_breaks_a_rule_is_refused(processor, code, reason, machine_of,
 @pytest.mark.parametrize("code", [
     "push ax; add rsp, 8", "push rdi; pop ax", ".byte 0x66,0x0f,0xc8", ".byte 0x64,0x48,0x8d,4,0x25,0x28,0,0,0", "mul cl",
     "lea rsi, [rsp-16]; lea rdi, [rsp-8]; mov ecx, 4; .byte 0xf3,0x64,0xa4", ".fill 14,1,0x2e; mov rcx, rax",
-    "bt [rsp-8], rcx", "mov ecx, 1; div cl", "mov edx, 3; mov ecx, 3; div ecx", "shld cx, dx, 20", "ret 8", "vpcmpeqd k1, xmm1, xmm1", "std",
+    "bt [rsp-8], rcx", "mov ecx, 1; div cl", "mov edx, 3; mov ecx, 3; div ecx", "shld cx, dx, 20", "ret 8", "std",
+    "vpcmpeqd k1, xmm1, xmm1",
     ".byte 0xf3; push rax", "data16 ret", "mov ah, 1", "mov fs:0x28, rcx", "cmp rcx, rdx; jo 1f; 1:",
 ])
 def test_an_operation_refuses_what_it_does_otherwise(code, machine_of, monkeypatch):
@@ -537,7 +539,7 @@ def test_an_access_is_within_an_array(offset, size, is_within):
 
 
 @pytest.mark.parametrize("values, reason", [
-    ([1, 2, 4], "not what the definitions"), ([1, 2, 3, 4], "not what the definitions"), ([1, 2], "more"), ([], "more"), ([1, 2, 3], None)])
+    ([1, 2, 4], "not what the"), ([1, 2, 3, 4], "not what the"), ([1, 2], "more"), ([], "more"), ([1, 2, 3], None)])
 def test_what_a_loop_writes_is_compared(values, reason):
     written = array()
     for i in range(3):
@@ -730,6 +732,57 @@ def test_a_call_that_is_wrong_for_few_arguments_is_refused(run, wrong_library):
     machine = checks.machine_of(wrong_library)
     with pytest.raises(Stop):
         checks.on_each_setting(wrong_library, partial(run, machine))
+
+
+# ---- a library whose calls are wrong for very many elements alone: no attempt may leave its bounds to the next one
+
+def late_text(header):
+    """Each call of the header that has a count or a length gives another result above LIMIT."""
+    lines = ["#define SKETCH_HASH_NAMESPACE right_", '#include "sketch_hash.c"']
+    for result, name, parameters in re.findall(r"SKETCH_HASH_API (\w+) sketch_(\w+)\(([^;{}]*)\);", header):
+        names = library.PARAMETERS[name]
+        size = next((item for item in ("count", "hash_count", "offset_count", "length") if item in names), None)
+        call, to = f"right_sketch_{name}({', '.join(names)})", "hash" if "hash" in names else "state"
+        body = f"{call}; if ({size} > LIMIT) *(char *){to} ^= 1;" if result == "void" else (
+            f"{result} result = {call}; return {size} > LIMIT ? 7 : result;")
+        if size:
+            lines.append(f"#undef sketch_{name}\n{result} sketch_{name}({parameters}) {{ {body} }}")
+    return "\n".join(lines) + "\n"
+
+
+def late_loops(m):
+    zero, hash_names = number(0), ("xxh64", "murmur")
+    makes = [partial(hashes.OneCall, m, hash, zero) for hash in hash_names]
+    makes += [partial(hashes.Update, m, hash, 3, zero) for hash in hash_names]
+    makes += [partial(filters.Merge, m, True, zero), partial(filters.Fold, m, zero), partial(columns.Numbers, m, True, zero)]
+    makes += [partial(filters.Key, m, is_insert, zero) for is_insert in (True, False)]
+    makes += [partial(filters.Values, m, is_insert, kind, zero)
+              for is_insert in (True, False) for kind in ("hash", "u32", "u64")]
+    runs = [partial(loops.prove, make, [2, 1]) for make in makes]
+    runs += [partial(keys.prove_columns, m, hash, width) for hash in hash_names for width in keys.MOST]
+    return runs + [partial(filters.prove_texts, filters.TextsCall(m, is_insert, width))
+                   for is_insert in (True, False) for width in keys.MOST]
+
+
+@pytest.fixture(scope="module")
+def late_library(need, tmp_path_factory):
+    @functools.cache
+    def run(limit):
+        path = tmp_path_factory.mktemp("late")
+        (path / "late.c").write_text(late_text(re.sub(r"/\*.*?\*/", "", library.HEADER, flags=re.S)))
+        build(["gcc", f"-DLIMIT=(1ull << {limit})", "-I", DIST], path / "late.so", text=path / "late.c")
+        return library.read(path / "late.so")
+
+    need("gcc")
+    return run
+
+
+@pytest.mark.parametrize("i", range(len(late_loops(None))))
+@pytest.mark.parametrize("limit", [25, 33, 35])
+def test_a_loop_that_is_wrong_beyond_a_bound_is_refused(limit, i, late_library):
+    built = late_library(limit)
+    with refused("the result is not|what is written is not"):
+        checks.on_each_setting(built, late_loops(checks.machine_of(built))[i])
 
 
 # ---- the blocks of a filter that a call reaches

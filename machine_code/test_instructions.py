@@ -120,6 +120,7 @@ def vector_forms(op, numbers, has_512):
         yield from (f"{name} {item}" for item in operands)
     if has_512 and op[0] == "k":
         operands = "k1,k2", "k1,k2,k1", "k2,rax", "k2,eax", "rax,k1", "eax,k1", "k1,k2,3", "k1,k2,200"
+        operands += tuple(f"k1,{at(width)}" for width in WIDTHS)
         yield from (f"{op} {item}" for item in operands)
 
 

@@ -4,6 +4,7 @@ import functools
 import itertools
 import random
 
+import loops
 import pytest
 import values
 from values import (WORD, Stop, Undecided, add, any_number, are_equal, bitwise, complement, cut, extend, is_below, is_zero,
@@ -115,6 +116,38 @@ def test_a_path_leaves_no_trace():
             assert is_below(x, y) == answer
     with pytest.raises(Undecided):
         is_below(x, y)
+
+
+@pytest.mark.parametrize("misuse", [
+    lambda x: values.begin("open", None), lambda x: [values.begin("call", "open"), values.begin("call", "open")],
+    lambda x: values.case().__enter__(), lambda x: [values.end(), values.assume_at_most(x, x, 1)],
+    lambda x: [values.end(), values.begin("call", "open")], lambda x: setattr(loops.Subject(), "answer", x),
+])
+def test_a_case_has_one_call_and_is_alone(misuse):
+    with pytest.raises((RuntimeError, AttributeError)), values.case():
+        misuse(extend(unknown("any", 62)))
+    assert (values.stage, values.assumed, values.promised, values.bounds, values.facts) == (None, (), (), [], {})
+
+
+def test_assumptions_that_contradict_each_other_are_noticed():
+    x, y, z = (extend(unknown(name, 40)) for name in ("first", "second", "third"))
+    for pairs, is_possible in ([(x, y), (y, z)], True), ([(x, y), (y, z), (z, x)], False), ([(x, x)], False):
+        with contextlib.nullcontext() if is_possible else pytest.raises(Stop, match="no numbers"), values.case():
+            for pair in pairs:
+                values.assume_at_most(*pair, 1)
+
+
+def test_an_input_for_which_two_values_differ_is_found():
+    """Also if they differ for one number alone, and only where a path goes."""
+    x, y = unknown("one", 64), unknown("two", 64)
+    rare = add(y, extend(is_zero(sub(x, number(500)))))
+    for ways, pair, found in ([], (x, y), True), ([], (rare, y), True), ([({x: number(500)}, [])], (rare, y), True), (
+            [({is_zero(bitwise("xor", x, number(500))): number(1, 1)}, [])], (x, number(499)), True), (
+            [({x: number(7)}, [])], (x, number(7)), False), ([], (x, x), False):
+        with pytest.raises(values.Differs) as stop, values.case(*ways):
+            values.begin("call", "open")
+            raise values.Differs("it", *pair)
+        assert bool(stop.value.input) == found and (pair[0] != rare or "one = 0x1f4" in stop.value.input)
 
 
 def test_a_sum_that_is_a_number_says_what_its_pieces_are():

@@ -5,6 +5,7 @@ import random
 import subprocess
 
 import checks
+import library
 import pytest
 import values
 import wasm
@@ -226,12 +227,81 @@ def test_code_that_breaks_a_rule_is_refused(code, reason, assembled):
         answer(built, "sketch_code", [2 ** 31, 0], set())
 
 
-@pytest.mark.parametrize("first", [(64, 1, 0), (32, 0, 0)])
-def test_a_module_without_a_stack_pointer_is_refused(first):
+@pytest.mark.parametrize("first, reason", [
+    ((64, 1, 66576), "no stack pointer"), ((32, 0, 66576), "no stack pointer"), ((32, 1, 1), "no stack pointer"),
+    ((32, 1, 4096), "no stack pointer"), ((32, 1, 1 << 24), "no stack pointer"), ((32, 1, 1040), "no stack pointer"),
+    ((32, 1, 5200), "in the stack"), ((32, 1, 66576), None),
+])
+def test_a_module_without_a_stack_pointer_is_refused(first, reason):
     built = Module(MODULE)
-    built.globals[0] = first
-    with refused("no stack pointer"), values.case():
+    built.globals[0], built.places = first, [(1024, 0, 13)]
+    with refused(reason), values.case():
         wasm.Wasm(built)
+
+
+def sections():
+    """The number of each section, and its bytes after the count of what it has."""
+    built, found = Module(MODULE), {}
+    built.at = 8
+    while built.at < len(MODULE):
+        number, size = built.byte_of_file(), built.unsigned()
+        if number:
+            found[number] = MODULE[built.at : built.at + size]
+        built.at += size
+    return found
+
+
+def module_of(parts):
+    """With a size of five bytes for each section."""
+    sizes = (bytes(len(data) >> 7 * i & 127 | 128 * (i < 4) for i in range(5)) for _, data in parts)
+    return b"\0asm\1\0\0\0" + b"".join(bytes([n]) + size + data for (n, data), size in zip(parts, sizes))
+
+
+DATA = [b"\0\x41" + at + b"\x0b\2ab" for at in (b"\x80\x08", b"\x81\x08", b"\x82\x08", b"\x80\x80\x80\x80\x01")]
+CHANGED = [
+    ({}, None), ({12: b"\1"}, None), ({5: b"\2\0\2\0\2"}, "2 memories"), ({5: b"\0"}, "0 memories"), ({5: b"\1\4\2"}, "0x4 at"),
+    ({5: b"\1\3\2\2"}, "0x3 at"), ({8: b"\0"}, "section 8"), ({2: b"\0"}, "section 2"), ({4: b"\0"}, "section 4"),
+    ({11: b"\2" + DATA[0] + DATA[2]}, None), ({11: b"\2" + DATA[0] + DATA[1]}, "overlaps"),
+    ({11: b"\2" + DATA[2] + DATA[0]}, "overlaps"), ({11: b"\1" + DATA[3]}, "outside of its memory"),
+    ({11: b"\1\1" + DATA[0][1:]}, "0x1 at"),
+]
+
+
+@pytest.mark.parametrize("changes, reason", CHANGED)
+def test_what_is_on_no_list_of_a_module_is_refused(changes, reason, tmp_path):
+    order = [1, 2, 3, 4, 5, 6, 7, 8, 12, 10, 11]
+    parts = {**sections(), **changes}
+    (tmp_path / "module").write_bytes(module_of([(n, parts[n]) for n in order if n in parts]))
+    with refused(reason):
+        library.read(tmp_path / "module")
+
+
+@pytest.mark.parametrize("export, reason", [
+    (b"\1g\3\0", "a global that anybody can change"), (b"\1g\3\1", None), (b"\1g\0\1", "exports g"), (b"\1g\1\0", "0x1 at"),
+])
+def test_an_export_may_not_change_what_the_module_has(export, reason, tmp_path):
+    parts = sections()
+    (count,) = parts[7][:1]
+    parts[7] = bytes([count + 1]) + export + parts[7][1:]
+    (tmp_path / "module").write_bytes(module_of([*parts.items()]))
+    with refused(reason):
+        library.read(tmp_path / "module")
+
+
+@pytest.mark.parametrize("order", [[1, 1, 3, 5, 6, 7, 10, 11], [1, 5, 3, 6, 7, 10, 11], [1, 3, 5, 5, 6, 7, 10, 11]])
+def test_a_section_is_in_its_place_once(order):
+    parts = sections()
+    with refused("not in its place"):
+        library.read_data(module_of([(n, parts[n]) for n in order]))
+
+
+def test_a_function_has_the_types_of_the_header():
+    built = Module(MODULE)
+    start = built.functions["sketch_bloom_check"]
+    for types, reason in (([32], [32]), None), (([64], [32]), "another type"), (([32], []), "another type"):
+        built.entries[start] = (*types, 2)
+        with refused(reason), values.case():
+            wasm.Wasm(built).begin("bloom_check", [unknown("length", 64)])
 
 
 def test_an_instruction_that_is_not_known_stops_its_function_alone(assembled):

@@ -192,9 +192,15 @@ def join(*values):
 
 def cut(value, low, width):
     """Bits low up to low + width."""
+    end = low + width
+    if len(value) == 1 and low < end <= value[0][2]:
+        a, start, size = value[0]
+        if width == size:
+            return value
+        return ((a, start >> low & (1 << width) - 1 if a == NUMBER else start + low, width),)
     if low == 0 and width_of(value) == width:
         return value
-    parts, at, end = [], 0, low + width
+    parts, at = [], 0
     for piece in value:
         a, start, size = piece
         first, last = low - at if low > at else 0, size if size < end - at else end - at

@@ -413,21 +413,31 @@ STRINGS = {"BYTE": 1, "WORD": 2, "DWORD": 4, "QWORD": 8}
 
 
 @functools.cache
-def plan(op, text):
-    """Of an instruction: its operation and operands, those that are read and whether each is an int, the largest width, and
-    whether it is AVX's, needs aligned vectors, and needs AVX2."""
+def prepared(op, text):
+    """What runs an instruction, and what it is given: for most `X86.operate`, with the operation and its operands, those that
+    are read and whether each is an int, the largest width, and whether it is AVX's, needs aligned vectors, and needs AVX2."""
+    prefixes, op, text = split(op, text)
+    if any(op not in PREFIXES[prefix].split() for prefix in prefixes):
+        raise Stop("a prefix that is not understood")
+    if op in ("nop", "endbr64") or (op, text) == ("xchg", "ax,ax"):
+        return [lambda machine: None]
+    special = SPECIAL.get("j" if op[0] == "j" else op)
+    if special:
+        return special, op, text
     name, operands = X86.name_of(op), decode(text)
     is_avx = name != op or op[0] == "k"
     if name in SHIFTS and len(operands) == 1:
         operands = [*operands, ("number", 1, None, [])]
     if name not in OPERATIONS or name[:2] == "bt" and operands[0][0] == "memory" and operands[1][0] == "register":
         raise Stop("the instruction is not known")
+    if operands[0][1][0] == "k" and name[:6] in ("pcmpeq", "pcmpgt"):
+        raise Stop("a comparison whose result is a mask")
     width = max(item[2] or 0 for item in operands)
     is_aligned = not UNALIGNED.fullmatch(name) and (not is_avx or name[:4] in ("mova", "movd"))
     is_avx2 = is_avx and bool(name[0] == "p" and width > 128 and name != "ptest" or AVX2.match(name))
     takes_ints = name in PLAIN and name not in SAME
     used = [(item, item[0] == "number" and takes_ints) for item in operands[-READS[name] :]]
-    return name, operands, used, width, is_avx, is_aligned, is_avx2
+    return X86.operate, name, operands, used, width, is_avx, is_aligned, is_avx2
 
 
 class X86(Machine):
@@ -507,22 +517,17 @@ class X86(Machine):
     # ---- instructions
 
     def step(self, op, text):
-        prefixes, op, text = split(op, text)
-        if any(op not in PREFIXES[prefix].split() for prefix in prefixes) or self.next - self.at > 15:
-            raise Stop("a prefix that is not understood, or an instruction of more than 15 bytes")
-        if op in ("nop", "endbr64") or (op, text) == ("xchg", "ax,ax"):
-            return
-        special = SPECIAL.get("j" if op[0] == "j" else op)
-        if special:
-            return special(self, op, text)
-        name, operands, used, width, is_avx, is_aligned, is_avx2 = plan(op, text)
+        if self.next - self.at > 15:
+            raise Stop("an instruction of more than 15 bytes")
+        run, *details = prepared(op, text)
+        run(self, *details)
+
+    def operate(self, name, operands, used, width, is_avx, is_aligned, is_avx2):
         if is_aligned:
             self.must_be_aligned_vectors(operands)
         if is_avx2 and self.library.constructors:
             self.must_have_avx2()
         values = [item[1] if is_int else self.read(item, width) for item, is_int in used]
-        if operands[0][1][0] == "k" and name[:6] in ("pcmpeq", "pcmpgt"):
-            raise Stop("a comparison whose result is a mask")
         result = OPERATIONS[name](self, *values)
         if name == "and" and operands[0][1] == "rsp" and number_in(values[1]) is not None:
             self.align_stack(number_in(values[1]))
