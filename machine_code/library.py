@@ -70,10 +70,11 @@ def listed(found, known, what):
 
 
 class File:
-    """Some bytes, and what is at an offset."""
+    """The bytes of an ELF file for a processor, and what is at an offset."""
 
     def __init__(self, data):
         self.data = data
+        self.processor = PROCESSORS[listed(self.unpack("H", 18)[0], PROCESSORS, "a processor")]
 
     def unpack(self, form, offset):
         return struct.unpack_from("<" + form, self.data, offset)
@@ -95,7 +96,6 @@ class Library(File):
         super().__init__(data)
         self.functions, self.places, self.code, self.fixed, self.pointers = {}, [], [], range(0), {}
         self.instructions, self.flags, self.setting, self.of_linker = {}, frozenset(), {}, set()
-        self.processor = PROCESSORS[listed(self.unpack("H", 18)[0], PROCESSORS, "a processor")]
         self.read_segments()
         self.read_symbols()
         self.relocate()
@@ -177,10 +177,14 @@ class Library(File):
         for i in range(self.count_of_symbols()):
             name, binding, kind, section, value = self.symbol(i)
             if section and binding and name.startswith("sketch_"):
-                listed(kind, FUNCTIONS, f"{name} as a symbol of type")
-                listed(section, PLACES, f"{name} in the section")
+                self.must_be_own(name, kind, section, FUNCTIONS)
                 if self.functions.setdefault(name, value) != value:
                     raise Stop(f"it has {name} in two versions")
+
+    @staticmethod
+    def must_be_own(name, kind, section, kinds):
+        listed(kind, kinds, f"{name} as a symbol of type")
+        listed(section, PLACES, f"{name} in the section")
 
     def relocate(self):
         at = 0
@@ -199,8 +203,8 @@ class Library(File):
                 if kind in RELATIVE:
                     self.point(place, None, addend)
                 elif section:
-                    listed(type, ANYTHING, f"{name} as a symbol of type")
-                    self.point(place, None, addend + value * (listed(section, PLACES, f"{name} in the section") > 0))
+                    self.must_be_own(name, type, section, ANYTHING)
+                    self.point(place, None, addend + value)
                 else:
                     listed(binding, {GLOBAL} if name not in ABSENT else {WEAK}, f"{name}, of another library, with the binding")
                     self.point(place, "" if binding == WEAK else name, addend)
@@ -271,7 +275,6 @@ class Object(File):
 
     def __init__(self, data):
         super().__init__(data)
-        self.processor = PROCESSORS[listed(self.unpack("H", 18)[0], PROCESSORS, "a processor")]
         (start,), (size, count, names) = self.unpack("Q", 40), self.unpack("3H", 58)
         sections = self.rows("IIQQQQII", start, size, count)
         for name, kind, flags, *_ in sections:

@@ -201,8 +201,7 @@ class Loop(Fixed):
         """What each place becomes in a turn, as the first two show: pairs of "by" and a number, or "word" and an index."""
         run, seen = self.subject.suggestion(self.subject.some("total", 8)), []
         for arrivals in (1, self.arrivals, self.arrivals):
-            if not run.go(self.head, arrivals):
-                raise Stop("the head of the loop is not reached")
+            self.go_to_head(run, arrivals)
             if not seen:
                 written = self.subject.elements_written(run)
             seen.append(places_of(run))
@@ -230,10 +229,13 @@ class Loop(Fixed):
         first, second = (number_in(sub(after, before)) for before, after in zip(seen, seen[1:]))
         return ("by", first) if first is not None and first == second else None
 
-    def enter(self, total):
-        run = self.subject.reach(total, self.done)
-        if not run.go(self.head):
+    def go_to_head(self, run, arrivals=1):
+        if not run.go(self.head, arrivals):
             raise Stop("the loop is not reached")
+        return run
+
+    def enter(self, total):
+        run = self.go_to_head(self.subject.reach(total, self.done))
         words, now = self.subject.words_at_entry(self.done), places_of(run)
         for place, role in self.roles.items():
             if role and role[0] == "word" and now[place] != words[role[1]]:
@@ -242,9 +244,7 @@ class Loop(Fixed):
 
     def at(self, turns, left, way=None):
         """The head after so many turns, with so many left."""
-        run = self.subject.reach(add(turns, left), self.done)
-        if not run.go(self.head):
-            raise Stop("the loop is not reached")
+        run = self.go_to_head(self.subject.reach(add(turns, left), self.done))
         words = self.subject.any_words()
         for place, value in (here := places_of(run)).items():
             role = self.roles.get(place)

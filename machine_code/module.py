@@ -162,8 +162,6 @@ class Module:
         try:
             while self.labels:
                 self.decode()
-            if self.at != end:
-                raise Stop("the function has another size")
         except Stop as stop:  # it is not known either where the next instruction begins
             self.code.append((self.start, f"opcode {self.data[self.start]:#x}", str(stop)))
             self.at = end
@@ -229,8 +227,8 @@ class Module:
             raise Stop("the instruction is not known")
 
     def offset(self):
-        """After the alignment, which is a hint. Above 3 it would name a memory."""
-        self.must_be(self.unsigned(), range(4))
+        """After the alignment, which is a hint."""
+        self.unsigned()
         return self.unsigned()
 
     def leave(self, name, *operands):
@@ -244,9 +242,8 @@ class Module:
         self.height += len(results)
 
     def access(self, name, count, zeros):
-        """Of many bytes, in the first memory."""
-        for _ in range(zeros):
-            self.must_be(self.byte_of_file(), [0])
+        """Of many bytes, in the only memory."""
+        self.at += zeros
         self.emit(name, self.pop(count))
 
 

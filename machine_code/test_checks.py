@@ -5,8 +5,10 @@ import pathlib
 import re
 import struct
 import subprocess
+import types
 from functools import partial
 
+import aarch64
 import calls
 import checks
 import columns
@@ -358,6 +360,7 @@ RIGHT = [
     ("x86-64", f"movq xmm1, xmm0; movq rax, xmm1; movq rcx, xmm0; sub rax, rcx; add eax, {calls.VERSION}; ret"),
     ("x86-64", f"movq xmm1, xmm0; pextrq rax, xmm1, 1; add eax, {calls.VERSION}; ret"),
     ("x86-64", f"mov rcx, [rsp-8]; {VERSION}"),  # nothing has written it
+    ("x86-64", f"vpcmpneqq k1, xmm0, xmm2; vmovdqu64 xmm1{{k1}}{{z}}, xmm0; {VERSION}"),
 ]
 WRONG = [
     *(("x86-64", f"not r{name}; {VERSION}", f"r{name} is not restored") for name in "bx bp 12 13 14 15".split()),
@@ -388,6 +391,9 @@ WRONG = [
     ("x86-64", "jmp [rip+2f]; 1: ret; .globl other; .set other, 1b; .type other, @gnu_indirect_function; .data; 2: .quad other",
      "of type 0xa"),
     ("x86-64", f"{FLAG} call puts@PLT", "a call of puts"),
+    ("x86-64", f"{VERSION}; .section .init_array, \"aw\"; .quad puts", "a constructor that is not its own: puts"),
+    ("x86-64", f"mov rcx, [rip+malloc@GOTPCREL]; {VERSION}; .weak malloc", "malloc, of another library, with the binding 0x2"),
+    ("x86-64", f"mov eax, 0x3fc00000; movd xmm0, eax; cvttps2dq xmm1, xmm0; {VERSION}", "no power of two"),
     ("x86-64", f"{FLAG} mov byte ptr [rip+flag], 2; ret", "does not allow"), ("x86-64", f"{FLAG} jmp set", "no end"),
     ("x86-64", f"{FLAG} xor ecx, ecx; xgetbv; ret", "must not be"), ("x86-64", f"cpuid; {VERSION}", "must not be|depends"),
     ("x86-64", f"mov fs:0x28, rcx; {VERSION}", "not among"), ("x86-64", "mov rax, fs:0x28; ret", "the result"),
@@ -478,10 +484,18 @@ def test_code_that_breaks_a_rule_is_refused(processor, code, reason, machine_of,
             calls.check_call, machine, "hash_version", calls.Call, [], [], number(calls.VERSION, 32)))
 
 
+@pytest.mark.parametrize("code", ["cls x1, x0", "cls v0.4s, v1.4s"])
+def test_an_operation_that_is_not_known_is_refused(code, machine_of, monkeypatch):
+    monkeypatch.setattr(aarch64.Aarch64, "forms", Every())
+    with refused("is not known"):
+        calls.check_call(machine_of("aarch64", f"{code}; {ARM}"), "hash_version", calls.Call, [], [])
+
+
 @pytest.mark.parametrize("code", [
     "push ax; add rsp, 8", "push rdi; pop ax", ".byte 0x66,0x0f,0xc8", ".byte 0x64,0x48,0x8d,4,0x25,0x28,0,0,0", "mul cl",
     "lea rsi, [rsp-16]; lea rdi, [rsp-8]; mov ecx, 4; .byte 0xf3,0x64,0xa4", ".fill 14,1,0x2e; mov rcx, rax",
-    "bt [rsp-8], rcx", "mov ecx, 1; div cl", "mov edx, 3; mov ecx, 3; div ecx", "shld cx, dx, 20", "ret 8", "std",
+    "bt [rsp-8], rcx", "mov ecx, 1; div cl", "mov edx, 3; xor eax, eax; mov ecx, 3; div ecx",
+    ".byte 0x66,0xff,0xe0", "shld cx, dx, 20", "ret 8", "std", ".fill 15,1,0x66; nop",
     "vpcmpeqd k1, xmm1, xmm1",
     ".byte 0xf3; push rax", "data16 ret", "mov ah, 1", "mov fs:0x28, rcx", "cmp rcx, rdx; jo 1f; 1:",
 ])
@@ -610,6 +624,8 @@ WRONG_BLOCK = "movdqu [rdi+rax-32], xmm7"
     (MERGE, "1:", "cmp rsi, 3; ja 1f; cmp rsi, 1; je 1f; movdqu [rdi+32], xmm7; 1: 8:", "definitions"),
     (MERGE, "sub rsi", "cmp rax, 3200; jne 2f; add rax, 32; 2: 8: sub rsi", "."), (MERGE, "1:", "1: jne 9f; 8:", "not known"),
     *((MERGE, "sub rsi", f"cmp rsi, {n}; jne 2f; {WRONG_BLOCK}; 2: 8: sub rsi", "definitions") for n in (1, 2)),
+    (MERGE, "1:", "movdqu [rdi], xmm7; 1: 8:", "within an element"),
+    (MERGE, "1:", "xor eax, eax; ret; 1: 8:", "there is no loop"),
     (MERGE, "sub rsi, 1; jne", "8: sub rsi, 1; cmp rsi, 1; ja", "before its last turn"),
     # What a turn leaves for the next one is not as in the first ones.
     (MERGE, "1:", "xor r8d, r8d; 1: movq xmm2, r8; por xmm7, xmm2; mov r8, rax; shr r8, 12; 8:", None),
@@ -629,6 +645,21 @@ def test_a_loop_that_breaks_a_rule_is_refused(code, before, after, reason, machi
 
     with refused(reason):
         run()
+
+
+def test_a_loop_without_the_words_of_the_definition_is_refused(machine_of):
+    code = f"{VERSION}; .globl sketch_xxh64; sketch_xxh64: 1: sub rsi, 32; ja 1b; ret"
+    with refused("the words of the definition are not found"):
+        loops.prove(partial(hashes.OneCall, machine_of("x86-64", code), "xxh64", number(0)), [1])
+
+
+def test_loops_that_few_keys_do_not_reach_are_refused():
+    """For one key or two there is no other check."""
+    offsets = types.SimpleNamespace(least=3, subject=types.SimpleNamespace(call=column_of(None, "xxh64")))
+    with refused("not reached with two keys"):
+        filters.Batches(offsets, 5)
+    with refused("not reached with one key"):
+        keys.Keys(offsets, "xxh64", 1).finish(types.SimpleNamespace(least=3, last=1, done=0))
 
 
 # ---- a library some of whose calls are wrong for few arguments, and checks that must refuse them

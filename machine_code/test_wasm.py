@@ -263,7 +263,8 @@ CHANGED = [
     ({5: b"\1\3\2\2"}, "0x3 at"), ({8: b"\0"}, "section 8"), ({2: b"\0"}, "section 2"), ({4: b"\0"}, "section 4"),
     ({11: b"\2" + DATA[0] + DATA[2]}, None), ({11: b"\2" + DATA[0] + DATA[1]}, "overlaps"),
     ({11: b"\2" + DATA[2] + DATA[0]}, "overlaps"), ({11: b"\1" + DATA[3]}, "outside of its memory"),
-    ({11: b"\1\1" + DATA[0][1:]}, "0x1 at"),
+    ({11: b"\1\1" + DATA[0][1:]}, "0x1 at"), ({1: b"\1\x60\1\x7c\0"}, "0x7c at"), ({1: b"\1\x50\0\0"}, "0x50 at"),
+    ({6: b"\1\x7f\1\x23\0\x0b"}, "0x23 at"), ({6: b"\1\x7f\1\x41\0\x41"}, "0x41 at"),
 ]
 
 
@@ -309,3 +310,9 @@ def test_an_instruction_that_is_not_known_stops_its_function_alone(assembled):
     assert answer(built, "sketch_right", [5, 6], set()) == "5"
     with refused("opcode 0x44.*is not known"):
         answer(built, "sketch_wrong", [5, 6], set())
+
+
+@pytest.mark.parametrize("code", ["block i64; local.get 0; end_block", "local.get 0; br 0"])
+def test_a_block_with_a_value_is_not_understood(code, assembled):
+    with refused("not understood|returns a value"):
+        answer(Module(assembled({"sketch_code": code}).read_bytes()), "sketch_code", [5, 6], set())
