@@ -549,6 +549,8 @@ def operation(op, operands, width):
             return functools.reduce(functools.partial(bitwise, op), parts + rest)
         else:
             members = members ^ {value} if op == "xor" else members | {value}
+    if len(members) == 1 and n == 0:
+        return members.pop()
     return atom((op, width, n, tuple(sorted(members))), width) if members else number(n, width)
 
 
