@@ -672,21 +672,28 @@ def texts(machine, is_insert):
     return filters.TextsCall(machine, is_insert, 64)
 
 
-WRONG = """#define SKETCH_HASH_NAMESPACE right_
-#include "sketch_hash.c"
-#undef sketch_xxh64
-uint64_t sketch_xxh64(const void *input, size_t length, uint64_t seed) {
-    return right_sketch_xxh64(input, length, seed) + (length == 500);
-}
-#undef sketch_murmur3_x64_128
-void sketch_murmur3_x64_128(const void *input, size_t length, uint64_t seed, uint64_t hash[2]) {
-    right_sketch_murmur3_x64_128(input, length, seed, hash);
-    hash[1] += length == 500;
-}
-#undef sketch_xxh64_update
-void sketch_xxh64_update(sketch_xxh64_state_t *state, const void *input, size_t length) {
-    right_sketch_xxh64_update(state, input, length - (length == 500));
-}
+def wrong_calls(condition, *functions):
+    """The text of the library with other calls, each with another result if a condition holds of its count or its length."""
+    header, lines = re.sub(r"/\*.*?\*/", "", library.HEADER, flags=re.S), ["#define SKETCH_HASH_NAMESPACE right_"]
+    lines.append('#include "sketch_hash.c"')
+    for result, name, parameters in re.findall(r"SKETCH_HASH_API (\w+) sketch_(\w+)\(([^;{}]*)\);", header):
+        names = library.PARAMETERS[name]
+        size = next((item for item in ("count", "hash_count", "offset_count", "length") if item in names), None)
+        call, to = f"right_sketch_{name}({', '.join(names)})", "hash" if "hash" in names else "state"
+        body = f"{call}; if ({size} {condition}) *(char *){to} ^= 1;" if result == "void" else (
+            f"{result} result = {call}; return {size} {condition} ? 7 : result;")
+        if size and (not functions or name in functions):
+            lines.append(f"#undef sketch_{name}\n{result} sketch_{name}({parameters}) {{ {body} }}")
+    return "\n".join(lines) + "\n"
+
+
+def built_of(text, tmp):
+    (tmp / "text.c").write_text(text)
+    build(["gcc", "-fno-inline-functions", "-I", DIST], tmp / "text.so", text=tmp / "text.c")
+    return library.read(tmp / "text.so")
+
+
+WRONG = wrong_calls("== 500", "xxh64", "murmur3_x64_128", "xxh64_update", "murmur3_x64_128_update") + """
 #undef sketch_xxh64_each64
 int sketch_xxh64_each64(const void *input, size_t length, const uint64_t *offsets, size_t offset_count, uint64_t seed,
                         uint64_t *out, size_t count, size_t *wrong_offset) {
@@ -694,11 +701,6 @@ int sketch_xxh64_each64(const void *input, size_t length, const uint64_t *offset
     if (status != 0 && count != 0) *(char *)out = 1;
     if (status == 0) *wrong_offset = 0;
     return status;
-}
-#undef sketch_murmur3_x64_128_update
-void sketch_murmur3_x64_128_update(sketch_murmur3_x64_128_state_t *state, const void *input, size_t length) {
-    right_sketch_murmur3_x64_128_update(state, input, length);
-    *(char *)state ^= length == 500;
 }
 #undef sketch_murmur3_x64_128_each64
 int sketch_murmur3_x64_128_each64(const void *input, size_t length, const uint64_t *offsets, size_t offset_count,
@@ -752,10 +754,7 @@ REFUSED = [
 @pytest.fixture(scope="module")
 def wrong_library(need, tmp_path_factory):
     need("gcc")
-    path = tmp_path_factory.mktemp("wrong")
-    (path / "wrong.c").write_text(WRONG)
-    build(["gcc", "-fno-inline-functions", "-I", DIST], path / "wrong.so", text=path / "wrong.c")
-    return library.read(path / "wrong.so")
+    return built_of(WRONG, tmp_path_factory.mktemp("wrong"))
 
 
 @pytest.mark.parametrize("run", REFUSED)
@@ -766,20 +765,6 @@ def test_a_call_that_is_wrong_for_few_arguments_is_refused(run, wrong_library):
 
 
 # ---- a library whose calls are wrong for very many elements alone: no attempt may leave its bounds to the next one
-
-def late_text(header):
-    """Each call of the header that has a count or a length gives another result above LIMIT."""
-    lines = ["#define SKETCH_HASH_NAMESPACE right_", '#include "sketch_hash.c"']
-    for result, name, parameters in re.findall(r"SKETCH_HASH_API (\w+) sketch_(\w+)\(([^;{}]*)\);", header):
-        names = library.PARAMETERS[name]
-        size = next((item for item in ("count", "hash_count", "offset_count", "length") if item in names), None)
-        call, to = f"right_sketch_{name}({', '.join(names)})", "hash" if "hash" in names else "state"
-        body = f"{call}; if ({size} > LIMIT) *(char *){to} ^= 1;" if result == "void" else (
-            f"{result} result = {call}; return {size} > LIMIT ? 7 : result;")
-        if size:
-            lines.append(f"#undef sketch_{name}\n{result} sketch_{name}({parameters}) {{ {body} }}")
-    return "\n".join(lines) + "\n"
-
 
 def late_loops(m):
     zero, hash_names = number(0), ("xxh64", "murmur")
@@ -797,15 +782,8 @@ def late_loops(m):
 
 @pytest.fixture(scope="module")
 def late_library(need, tmp_path_factory):
-    @functools.cache
-    def run(limit):
-        path = tmp_path_factory.mktemp("late")
-        (path / "late.c").write_text(late_text(re.sub(r"/\*.*?\*/", "", library.HEADER, flags=re.S)))
-        build(["gcc", f"-DLIMIT=(1ull << {limit})", "-I", DIST], path / "late.so", text=path / "late.c")
-        return library.read(path / "late.so")
-
     need("gcc")
-    return run
+    return functools.cache(lambda limit: built_of(wrong_calls(f"> 1ull << {limit}"), tmp_path_factory.mktemp("late")))
 
 
 @pytest.mark.parametrize("i", range(len(late_loops(None))))

@@ -169,7 +169,7 @@ SHAPES = "8b", "16b", "4h", "8h", "2s", "4s", "2d"
 def aarch64_forms():
     numbers = "#0", "#1", "#5", "#12", "#31", "#63"
     operations = aarch64.OPERATIONS.keys() - {"adr", "adrp"}
-    for op, kind in itertools.product([*sorted(operations), "smov", "bfi", "bfxil", "bfc", "ccmp", "movk"], "xw"):
+    for op, kind in itertools.product([*sorted(operations), "bfi", "bfxil", "ccmp", "movk"], "xw"):
         one, two, three, four = (f"{kind}{n}" for n in (1, 2, 3, 4))
         operands = [f"{one},{two}", f"{one},{two},{three}", f"{one},{two},{three},{four}", f"{one},{two},sp", "x1,w2,w3",
                     "x1,w2,w3,x4", "x1,w2", f"{one},{two},{three},lsl #3", f"{one},{two},{three},lsr #7",
@@ -201,10 +201,8 @@ def aarch64_forms():
     yield from ("nop", "bti c", "paciasp; autiasp", "adr x1,1f; br x1; mvn x2,x2; 1: mov x1,#0", "bl 1f; mvn x2,x2; 1:",
                 "adrp x1,here; add x1,x1,:lo12:here; adr x2,here; sub x1,x1,x2; mov x2,#0")
     yield from memory_forms()
-    ends = [f"{sign}{name}{high}" for sign in "us" for name in aarch64.LONG for high in ("", "2")]
-    ends += [f"{name}{high}" for name in aarch64.NARROW for high in ("", "2")]
     plain = [op for op in aarch64.LANES if op != "sshl"]
-    for op in [*plain, *aarch64.CHANGES, *ends, *aarch64.ACROSS, *aarch64.SHAPED, *aarch64.WHOLE, "tbl"]:
+    for op in [*plain, *aarch64.CHANGES, *aarch64.ACROSS, *aarch64.SHAPED, *aarch64.WHOLE]:
         yield from aarch64_vectors(op)
 
 
@@ -218,10 +216,6 @@ def memory_forms():
     for name, pair in itertools.product(("ldp", "stp", "ldpsw"), ("x1,x2", "w1,w2", "q0,q1", "d0,d1", "s0,s1")):
         yield from (f"mov x8,x9; {name} {pair},{place}; sub x8,x8,x9; mov x3,x8; mov x8,#0"
                     for place in ("[x8]", "[x8,#16]", "[x8,#16]!", "[x8],#16"))
-    for name, shape in itertools.product(("ld1", "st1", "ld1r"), SHAPES):
-        yield from (f"{name} {{v0.{shape}}},[x9]", f"{name} {{v0.{shape},v1.{shape}}},[x9]",
-                    f"mov x8,x9; {name} {{v0.{shape}}},[x8],#16",
-                    f"{name} {{v0.{shape[-1]}}}[1],[x9]")
 
 
 def aarch64_vectors(op):
@@ -232,7 +226,7 @@ def aarch64_vectors(op):
         half = [f"{other}" for other in SHAPES if letters.index(other[-1]) == size - 1]
         double = [f"{other}" for other in SHAPES if letters.index(other[-1]) == size + 1]
         operands = [f"{one},{two}", f"{one},{two},{three}", f"{one},{two},v2.{shape[-1]}[1]", f"{one},w1", f"{one},x1",
-                    f"{one},v1.{shape[-1]}[1]", f"{one},{{v1.16b}},{three}", f"{one},{{v0.16b,v1.16b}},{three}",
+                    f"{one},v1.{shape[-1]}[1]",
                     f"{one},#0x5a,lsl #8", f"{one},#0x5a,msl #8", f"{one},#0xff00ff00ff00ff00"]
         operands += [f"{letter}0,{two}" for letter in letters]
         operands += [f"{item},#{n}" for n in (0, 1, 3, 7, 8, 15, 31) for item in (one, f"{one},{two}", f"{one},{two},{three}")]

@@ -129,19 +129,6 @@ def test_bit(change):
     return run
 
 
-def count_bits(function):
-    """Of a number that is known."""
-    return lambda m, x: m.compare(None, x, x, number(function(known(x, "a number"), width_of(x)), width_of(x)))
-
-
-def lowest_bit(n, width):
-    return (n & -n).bit_length() - 1 if n else width
-
-
-def zero_above(m, x, n):
-    return m.compare("other", x, None, extend(cut(x, 0, min(known(cut(n, 0, 8), "a place"), width_of(x))), width_of(x)))
-
-
 CONDITIONAL = {
     "add": Machine.sum, "sub": Machine.subtract, "cmp": Machine.subtract, "adc": with_carry(1), "sbb": with_carry(-1),
     "neg": lambda m, x: m.subtract(number(0, width_of(x)), x), "inc": plus_one(1), "dec": plus_one(-1),
@@ -153,11 +140,7 @@ CONDITIONAL = {
     "shrd": lambda m, x, y, n: double_shift(m, x, y, known(count_of(x, n), "a shift")),
     "bt": test_bit(lambda x, bit: x), "bts": test_bit(lambda x, bit: bitwise("or", x, bit)),
     "btr": test_bit(lambda x, bit: bitwise("and", x, complement(bit))), "btc": test_bit(lambda x, bit: bitwise("xor", x, bit)),
-    "popcnt": count_bits(lambda n, width: bin(n).count("1")), "tzcnt": count_bits(lowest_bit),
-    "lzcnt": count_bits(lambda n, width: width - n.bit_length()), "bzhi": zero_above,
-    "blsr": lambda m, x: m.compare("other", x, None, bitwise("and", x, sub(x, number(1, width_of(x))))),
-    "blsi": lambda m, x: m.compare("other", x, None, bitwise("and", x, sub(number(0, width_of(x)), x))),
-    "blsmsk": lambda m, x: m.compare("other", x, None, bitwise("xor", x, sub(x, number(1, width_of(x))))),
+    "popcnt": lambda m, x: m.compare(None, x, x, number(bin(known(x, "a number")).count("1"), width_of(x))),
 }
 
 
@@ -232,31 +215,16 @@ def interleaved(size, half):
                                          for value in (x, y))))
 
 
-def shuffled_half(half):
-    """The words of one half by an order; the other half stays."""
-    return in_blocks(lambda x, n: replace(x, 64 * half, picked(16, 4, cut(x, 64 * half, 64))(n)))
-
-
 def shuffled_bytes(x, order):
     places = [known(cut(order, at, 8), "an order") for at in range(0, 128, 8)]
     return join(*(number(0, 8) if n >> 7 else cut(x, 8 * (n & 15), 8) for n in places))
 
 
-def blended(size):
-    """Of each lane y, if the choice has this bit, else x."""
-    return lambda x, y, bits: join(*(cut(y if bits >> i & 1 else x, size * i, size) for i in range(width_of(x) // size)))
-
-
-def packed(size, is_signed):
-    """Half of each signed lane that is known, or the nearest one."""
-    least, most = (-(1 << size - 1), (1 << size - 1) - 1) if is_signed else (0, (1 << size) - 1)
-
-    def run(x, y):
-        halves = [cut(value, at, 2 * size) for value in (x, y) for at in range(0, 128, 2 * size)]
-        lanes = [known(sign_extend(half, 64), "a lane") for half in halves]
-        return join(*(number(max(least, min(signed(lane), most)), size) for lane in lanes))
-
-    return in_blocks(run)
+@in_blocks
+def packed(x, y):
+    """The lower byte of each word that is known, or the nearest one without a sign."""
+    words = [signed(known(sign_extend(cut(value, at, 16), 64), "a lane")) for value in (x, y) for at in range(0, 128, 16)]
+    return join(*(number(max(0, min(word, 255)), 8) for word in words))
 
 
 def differences(x, y):
@@ -288,11 +256,6 @@ def to_whole(x):
     if cut(exponent, 0, 23) != number(0, 23) or cut(exponent, 28, 4) != number(0, 4):
         raise Stop("a float that is no power of two")
     return shift_one(number(1, 32), extend(cut(exponent, 23, 5)))
-
-
-def halves(x, y, n):
-    """Each half of the result is one of the four, or nothing."""
-    return join(*(number(0, 128) if n >> at & 8 else cut(join(x, y), 128 * (n >> at & 3), 128) for at in (0, 4)))
 
 
 def shuffled_blocks(x, y, n):
@@ -355,17 +318,15 @@ SAME |= {f"movdq{kind}": (1, lambda x: x) for kind in ("u8", "u16", "u32", "u64"
 PLAIN = SAME | {
     "not": (1, complement), "bswap": (1, reversed_bytes), "rorx": (2, lambda x, n: rotate_right(x, n % width_of(x))),
     "shlx": (2, shifted(shift_left)), "shrx": (2, shifted(shift_right)), "sarx": (2, shifted(arithmetic)),
-    "movd": lowest(32), "movq": lowest(64), "movmskps": signs(32), "movmskpd": signs(64), "pmovmskb": signs(8),
+    "movd": lowest(32), "movq": lowest(64), "movmskpd": signs(64), "pmovmskb": signs(8),
     "psadbw": each(64, differences), "pmaddwd": each(32, pair_products), "cvttps2dq": each(32, to_whole),
     "pmuludq": each(64, lambda x, y: mul(extend(cut(x, 0, 32)), extend(cut(y, 0, 32)))),
     "pshufd": in_blocks(lambda x, n: picked(32, 4, x)(n)), "shufps": in_blocks(lambda x, y, n: picked(32, 4, x, y)(n)),
-    "pshuflw": shuffled_half(0), "pshufhw": shuffled_half(1), "pshufb": in_blocks(shuffled_bytes),
+    "pshufb": in_blocks(shuffled_bytes),
     "pslldq": in_blocks(lambda x, n: shift_left(x, 8 * min(n, 16))),
     "psrldq": in_blocks(lambda x, n: shift_right(x, 8 * min(n, 16))),
     "palignr": in_blocks(lambda x, y, n: cut(extend(join(y, x), 512), 8 * min(n, 32), 128)),
-    "packuswb": packed(8, False), "packusdw": packed(16, False), "packsswb": packed(8, True), "packssdw": packed(16, True),
-    "pblendw": in_blocks(blended(16)), "pblendd": (3, blended(32)), "movlhps": interleaved(64, 0),
-    "permq": (2, lambda x, n: in_blocks(lambda x: picked(64, 4, x)(n), 256)[1](x)), "perm2i128": (3, halves),
+    "packuswb": packed,
     "shufi32x4": (3, shuffled_blocks), "shufi64x2": (3, shuffled_blocks),
     "kshiftrq": (2, lambda x, n: shift_right(x, min(n, 64))),
     **{f"punpck{half}{name}": interleaved(size, half == "h") for half in "lh"
@@ -397,8 +358,7 @@ for family, make in FAMILIES.items():
     PLAIN |= {f"{name}{letter}": make(LETTERS[letter]) for letter in letters}
 for one, other in itertools.combinations(LETTERS, 2):
     small, large = LETTERS[one], LETTERS[other]
-    PLAIN |= {f"pmovzx{one}{other}": (1, lambda x, n=small, m=large: lanes(n, lambda lane: extend(lane, m), x)),
-              f"pmovsx{one}{other}": (1, lambda x, n=small, m=large: lanes(n, lambda lane: sign_extend(lane, m), x))}
+    PLAIN[f"pmovzx{one}{other}"] = 1, lambda x, n=small, m=large: lanes(n, lambda lane: extend(lane, m), x)
 # What can be done for some lanes alone, with the size of a lane.
 MASKED = {f"movdq{kind}{size}": size for kind in "ua" for size in (8, 16, 32, 64)}
 OPERATIONS = {name: plain(function) for name, (_, function) in PLAIN.items()} | CONDITIONAL
@@ -408,7 +368,7 @@ READ_ONLY = {"cmp", "test", "ptest", "bt", *(f"kortest{letter}" for letter in LE
 SHIFTS = "shl", "shr", "sar", "rol", "ror"
 UNALIGNED = re.compile("movup.|movdqu.*|lddqu")
 # Those of AVX2 that have 128 bits too, or another name than an integer's.
-AVX2 = re.compile("ps[lr][la]v|pbroadcast|pblendd|perm(2i|q)|(extract|insert|broadcast)i")
+AVX2 = re.compile("ps[lr][la]v|pbroadcast|(extract|insert|broadcast)i")
 STRINGS = {"BYTE": 1, "WORD": 2, "DWORD": 4, "QWORD": 8}
 
 
