@@ -87,6 +87,8 @@ def test_what_bounds_imply_is_so():
         results = [[n + sum(k * m for k, m in zip(factors, known)) for factors, n in rows] for known in all_numbers]
         less = pick.randrange(3)
         holding = [result for result in results if result[0] <= result[1] - less and result[2] <= result[3]]
+        if not holding and pick.randrange(50):
+            continue  # it takes longer to find that there are no numbers
         with contextlib.nullcontext() if holding else pytest.raises(Stop, match="no numbers"), values.case():
             values.assume_at_most(sums[0], sums[1], less)
             values.assume_at_most(sums[2], sums[3])
@@ -124,8 +126,10 @@ def test_a_path_leaves_no_trace():
     lambda x: [values.end(), values.begin("call", "open")], lambda x: setattr(loops.Subject(), "answer", x),
 ])
 def test_a_case_has_one_call_and_is_alone(misuse):
-    with pytest.raises((RuntimeError, AttributeError)), values.case():
-        misuse(extend(unknown("any", 62)))
+    x = extend(unknown("any", 62))
+    with pytest.raises((RuntimeError, AttributeError)), values.case(({x: number(7)}, [])):
+        values.assume_at_most(x, number(9))
+        misuse(x)
     assert (values.stage, values.assumed, values.promised, values.bounds, values.facts) == (None, (), (), [], {})
 
 

@@ -695,8 +695,8 @@ def must_be_possible():
 def input_of(pair):
     """Numbers of unknowns for which the two values of a pair differ, as text, or None. They may differ where something is 0."""
     zeros = [{((a, 0, 1),): number(1, 1)} for value in pair for a in atoms_in(value) if kinds[a][0] == "is zero"]
-    for more in [{}, *zeros[:20]]:
-        found = Search(bounds, {**facts, **more}, lambda number_of: len(set(map(number_of, pair))) > 1).run(30)
+    for more in [{}, *zeros[:8]]:
+        found = Search(bounds, {**facts, **more}, lambda number_of: len(set(map(number_of, pair))) > 1).run(10)
         if found is not None:
             world = dict(found)
             named = {name: number_of(value, world, lambda least, most: least) for name, value in arguments.items()}
