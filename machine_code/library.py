@@ -34,6 +34,7 @@ NEEDED, HASH, NAMES, SYMBOLS, ADDENDS, INIT, JUMPS, INITS, PACKED, GNU_HASH = 1,
 SIZES = {ADDENDS: 8, JUMPS: 2, INITS: 27, PACKED: 35}  # the tags with the sizes of these tables
 TAGS = dict.fromkeys([NEEDED, HASH, NAMES, SYMBOLS, INIT, GNU_HASH, *SIZES, *SIZES.values()])
 TAGS |= dict.fromkeys([3, 10, 13, 14, 16, 24, 26, 28])  # the PLT's GOT, sizes, what runs at the end, its name, "now"
+TAGS |= dict.fromkeys([15, 29])  # where the C library is looked for
 TAGS |= dict.fromkeys([0x6FFFFFF0, 0x6FFFFFF9, *range(0x6FFFFFFC, 0x70000000)])  # versions, and how many relocations are alike
 TAGS |= dict.fromkeys([0x70000001, 0x70000003])  # aarch64: how the PLT jumps
 TAGS |= {9: {24}, 11: {24}, 20: {7}, 37: {8}}  # sizes of entries; relocations have addends
