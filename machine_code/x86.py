@@ -477,8 +477,6 @@ class X86(Machine):
     # ---- instructions
 
     def step(self, op, text):
-        if self.next - self.at > 15:
-            raise Stop("an instruction of more than 15 bytes")
         run, *details = prepared(op, text)
         run(self, *details)
 
@@ -598,8 +596,6 @@ class X86(Machine):
 
     def jump(self, op, text):
         is_plain = re.fullmatch("(0x)?[0-9a-f]+", text)
-        if not is_plain and decode(text)[0][2] != 64:
-            raise Stop("a jump of 16 bits")
         target = None if is_plain else self.read(decode(text)[0], 64)
         if op == "call":
             self.push(add(IMAGE, number(self.next)))
