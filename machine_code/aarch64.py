@@ -26,7 +26,7 @@ def form_of(op, text):
         return "nop -"
     text = re.sub(r"(^|, )0x[0-9a-f]+$", r"\1to", text)
     text = re.sub(r"#-?(0x[0-9a-f]+|\d+)", "#", text)
-    text = re.sub(r"\bw(sp|zr)\b", "w0", re.sub(r"\b(sp|xzr)\b", "x0", text))
+    text = re.sub(r"\bwzr\b", "w0", re.sub(r"\b(sp|xzr)\b", "x0", text))
     text = re.sub(r"\bv\d+\.", "v.", re.sub(r"\b([xwbhsdq])\d+\b", r"\1", re.sub(r"\]?\[\d+\]", "[]", text)))
     text = re.sub(rf", ({'|'.join(CONDITIONS)})$", ", if", text)
     return f"{op} {text.replace(' ', '') or '-'}"
@@ -222,7 +222,7 @@ class Aarch64(Machine):
             return CONDITIONS[name]
         if name[0] == "#" or name[0].isdigit():
             value = number(int(name.strip("#"), 0), width)
-        elif name in ("xzr", "wzr", "sp", "wsp"):
+        elif name in ("xzr", "wzr", "sp"):
             value = self.registers["sp"] if name == "sp" else number(0, WIDTHS[name[0]])
         else:
             register, size = self.register(name)

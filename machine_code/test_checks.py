@@ -393,11 +393,12 @@ def test_code_that_breaks_a_rule_is_refused(processor, code, reason, machine_of,
             calls.check_call, machine, "hash_version", calls.Call, [], [], number(calls.VERSION, 32)))
 
 
-@pytest.mark.parametrize("code", ["cls x1, x0", "cls v0.4s, v1.4s"])
+@pytest.mark.parametrize("code", ["cls x1, x0", "cls v0.4s, v1.4s", "mov w1, wsp", "add w1, wsp, #4"])
 def test_an_operation_that_is_not_known_is_refused(code, machine_of, monkeypatch):
-    monkeypatch.setattr(aarch64.Aarch64, "forms", Every())
-    with refused("is not known"):
-        calls.check_call(machine_of("aarch64", f"{code}; {ARM}"), "hash_version", calls.Call, [], [])
+    for forms, reason in (aarch64.Aarch64.forms, "not among"), (Every(), "is not known|not understood"):
+        monkeypatch.setattr(aarch64.Aarch64, "forms", forms)
+        with refused(reason):
+            calls.check_call(machine_of("aarch64", f"{code}; {ARM}"), "hash_version", calls.Call, [], [])
 
 
 @pytest.mark.parametrize("code", [
