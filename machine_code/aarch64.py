@@ -2,7 +2,7 @@
 import functools
 import re
 
-from machine import CALLER, IMAGE, Machine, external, if_equal, logic, place_of, plain, shift_one, shifted
+from machine import CALLER, IMAGE, Machine, external, forms_of, if_equal, logic, place_of, plain, shift_one, shifted
 from values import (Stop, add, bitwise, complement, cut, extend, is_zero, join, kinds, known, lanes, mul, number, number_in,
                     repeat, replace, rotate_right, shift_left, shift_right, sign_extend, signed, sub, unknown, width_of)
 
@@ -17,6 +17,19 @@ HINTS = "nop", "bti", "hint", "prfm"  # of them none changes a register or memor
 def split(text):
     """The operands. What is in brackets or braces is one; so is a shift with the register before it."""
     return re.split(r",\s*(?=\S)(?![^\[]*\])(?![^{]*})(?!(?:[lam]sl|[la]sr|ror|[us]xt[bhwx])\b)", text) if text else []
+
+
+@functools.cache
+def form_of(op, text):
+    """The mnemonic, and the kinds and widths of its operands."""
+    if op in HINTS:
+        return "nop -"
+    text = re.sub(r"(^|, )0x[0-9a-f]+$", r"\1to", text)
+    text = re.sub(r"#-?(0x[0-9a-f]+|\d+)", "#", text)
+    text = re.sub(r"\bwzr\b", "w0", re.sub(r"\b(sp|xzr)\b", "x0", text))
+    text = re.sub(r"\bv\d+\.", "v.", re.sub(r"\b([xwbhsdq])\d+\b", r"\1", re.sub(r"\]?\[\d+\]", "[]", text)))
+    text = re.sub(rf", ({'|'.join(CONDITIONS)})$", ", if", text)
+    return f"{op} {text.replace(' ', '') or '-'}"
 
 
 def shift_lane(x, n):
@@ -98,12 +111,6 @@ def wide(is_signed, combine):
     return lambda x, y, *more: combine(change(cut(x, 0, 32), 64), change(cut(y, 0, 32), 64), *more)
 
 
-def reversed_in(size, group=None):
-    """Pieces of `size` bits in the opposite order, within each group of bits."""
-    return lambda x: join(*(cut(x, at + low, size) for at in range(0, width_of(x), group or width_of(x))
-                            for low in range((group or width_of(x)) - size, -1, -size)))
-
-
 PLAIN = {
     "add": add, "sub": sub, "mul": mul, "mvn": complement, "neg": negative,
     "madd": lambda x, y, z: add(mul(x, y), z), "msub": lambda x, y, z: sub(z, mul(x, y)),
@@ -124,7 +131,6 @@ PLAIN = {
     "csinc": lambda x, y, holds: x if holds else plus_one(y), "csneg": lambda x, y, holds: x if holds else negative(y),
     "csinv": lambda x, y, holds: x if holds else complement(y), "csetm": lambda holds: number(-holds),
     "cset": lambda bit: bit, "clz": lambda x: number(width_of(x) - known(x, "a number").bit_length(), width_of(x)),
-    "rbit": reversed_in(1), "rev": reversed_in(8), "rev16": reversed_in(8, 16), "rev32": reversed_in(8, 32),
     "adrp": lambda x: add(IMAGE, x), "adr": lambda x: add(IMAGE, x),
     **{name: functools.partial(bitwise, op) for name, op in (("and", "and"), ("orr", "or"), ("eor", "xor"))},
     **dict.fromkeys(("mov", "fmov", "umov"), lambda x: x),
@@ -147,27 +153,9 @@ def selected(mask, x, y):
     return bitwise("or", bitwise("and", mask, x), bitwise("and", complement(mask), y))
 
 
-def shifted_in(function, mask):
-    """A shift whose empty bits are those of the first operand."""
-    def run(before, x, n):
-        n = known(n, "a shift")
-        kept = number(mask(n, width_of(x)), width_of(x))
-        return bitwise("or", bitwise("and", before, kept), function(x, min(n, width_of(x))))
-
-    return run
-
-
 def paired(size, function, *values):
     """Of neighbours, first those of one operand and then those of the other."""
     return lanes(2 * size, lambda pair: function(cut(pair, 0, size), cut(pair, size, size)), join(*values))
-
-
-def picked(first, step, size, x, y):
-    """Lanes of x and y in turn."""
-    places = {"zip": lambda n: [(i // 2 + first * n // 2, i % 2) for i in range(n)],
-              "uzp": lambda n: [((2 * i + first) % n, 2 * i // n) for i in range(n)],
-              "trn": lambda n: [(i // 2 * 2 + first, i % 2) for i in range(n)]}[step](width_of(x) // size)
-    return join(*(cut((x, y)[which], size * i, size) for i, which in places))
 
 
 right = by_numbers(lambda x, n: shift_right(x, min(n, width_of(x))))
@@ -176,24 +164,14 @@ LANES = {
     "ushr": right, "sshr": by_numbers(arithmetic), "shl": by_numbers(lambda x, n: shift_left(x, n)),
     "cnt": on_numbers(lambda x: bin(x).count("1")), "cmtst": lambda x, y: complement(if_equal(
         bitwise("and", x, y), number(0, width_of(x)))),
-    "umax": on_numbers(max), "umin": on_numbers(min), "smax": on_numbers(max, True), "smin": on_numbers(min, True),
-    "cmhi": on_numbers(lambda x, y: -(x > y)), "cmhs": on_numbers(lambda x, y: -(x >= y)),
-    "cmgt": on_numbers(lambda x, y: -(x > y), True), "cmge": on_numbers(lambda x, y: -(x >= y), True),
 }
 # Those that read the first operand too.
 CHANGES = {
     "mla": lambda before, x, y: add(before, mul(x, y)), "mls": lambda before, x, y: sub(before, mul(x, y)),
     "usra": lambda before, x, n: add(before, right(x, n)), "bsl": selected,
     "bit": lambda before, x, mask: selected(mask, x, before), "bif": lambda before, x, mask: selected(mask, before, x),
-    "sli": shifted_in(shift_left, lambda n, width: (1 << n) - 1),
-    "sri": shifted_in(shift_right, lambda n, width: (1 << width) - (1 << width - n)),
 }
-# Those whose result has lanes of twice the size: of the lower half of the operands, or with a "2" of the higher one.
-LONG = {"mull": mul, "addl": add, "subl": sub, "shll": by_numbers(shift_left), "xtl": lambda x: x,
-        "mlal": lambda before, x, y: add(before, mul(x, y)), "mlsl": lambda before, x, y: sub(before, mul(x, y)),
-        "addw": add, "subw": sub}
-NARROW = {"xtn": lambda x: x, "shrn": right}
-ACROSS = {"addv": add, "uaddlv": add, "umaxv": on_numbers(max), "uminv": on_numbers(min), "addp": add}
+ACROSS = {"addv": add, "uaddlv": add, "addp": add}
 WHOLE = "mov", "and", "orr", "eor", "bic", "mvn", "orn"
 # Those that are given the size of a lane.
 SHAPED = {
@@ -201,19 +179,17 @@ SHAPED = {
     "ext": lambda size, x, y, n: cut(join(x, y), 8 * known(cut(n, 0, 8), "a place"), width_of(x)),
     "addp": lambda size, x, y: paired(size, add, x, y),
     "uaddlp": lambda size, x: paired(size // 2, lambda x, y: add(extend(x, size), extend(y, size)), x),
-    **{f"{step}{n}": functools.partial(picked, n - 1, step) for step in ("zip", "uzp", "trn") for n in (1, 2)},
-    **{f"rev{group}": lambda size, x, group=group: reversed_in(size, group)(x) for group in (16, 32, 64)},
+    "uxtl": lambda size, x: lanes(size // 2, lambda lane: extend(lane, size), cut(x, 0, 64)),
 }
 
 
 class Aarch64(Machine):
-    pointer, popped, entry, result_register, name_of = "sp", 0, 0, "x0", staticmethod(str)
+    pointer, popped, entry, red_zone, result_register, name_of = "sp", 0, 0, 0, "x0", staticmethod(str)
+    form_of, forms = staticmethod(form_of), forms_of("aarch64")
+    kept = {**{f"x{n}": 64 for n in range(19, 30)}, **{f"v{n}": 64 for n in range(8, 16)}}
     argument_registers = [f"x{n}" for n in range(8)]
 
     def set_up(self):
-        self.red_zone = 128 if self.library.format == "macho" else 0
-        own = 18 if self.library.format == "macho" else 19  # Apple's systems own x18
-        self.kept = dict.fromkeys([f"x{n}" for n in range(own, 30)], 64) | dict.fromkeys([f"v{n}" for n in range(8, 16)], 64)
         self.registers = {f"x{n}": unknown(("before", n), 64) for n in range(31)}
         self.registers |= {f"v{n}": unknown(("before", "v", n), 128) for n in range(32)}
         self.registers["sp"] = self.stack
@@ -246,7 +222,7 @@ class Aarch64(Machine):
             return CONDITIONS[name]
         if name[0] == "#" or name[0].isdigit():
             value = number(int(name.strip("#"), 0), width)
-        elif name in ("xzr", "wzr", "sp", "wsp"):
+        elif name in ("xzr", "wzr", "sp"):
             value = self.registers["sp"] if name == "sp" else number(0, WIDTHS[name[0]])
         else:
             register, size = self.register(name)
@@ -306,12 +282,10 @@ class Aarch64(Machine):
             self.jump(op, operands)
         elif op in ("paciasp", "autiasp"):
             self.sign(op)
-        elif op in ("bfi", "bfxil", "bfc"):
+        elif op in ("bfi", "bfxil"):
             self.insert_field(op, *operands)
         elif op == "ccmp":
             self.compare_if(*operands)
-        elif op[:3] in ("ld1", "st1"):
-            self.access_vectors(op, operands)
         elif op[:2] in ("ld", "st"):
             self.access(op, operands)
         elif op == "movk":
@@ -331,8 +305,6 @@ class Aarch64(Machine):
         values = [self.read(item, own) for item in operands[op not in COMPARISONS :]]
         if values[-1] in CONDITIONS.values():
             values[-1] = self.condition(values[-1]) if op == "cset" else self.holds(values[-1])
-        if op == "smov":
-            op, values = "mov", [sign_extend(values[0], width)]
         if op not in OPERATIONS:
             raise Stop("the instruction is not known")
         result = OPERATIONS[op](self, *values)
@@ -368,10 +340,9 @@ class Aarch64(Machine):
         if taken:
             self.next = int(operands[-1], 16)
 
-    def insert_field(self, op, to, *operands):
-        *source, at, width = operands
+    def insert_field(self, op, to, source, at, width):
         at, width = (int(item.strip("#"), 0) for item in (at, width))
-        x, y = self.read(to), self.read(*source or ["xzr"])
+        x, y = self.read(to), self.read(source)
         self.write(to, replace(x, 0, cut(y, at, width)) if op == "bfxil" else replace(x, at, cut(y, 0, width)))
 
     def compare_if(self, x, y, flags, name):
@@ -399,24 +370,6 @@ class Aarch64(Machine):
         if later:
             self.write(*later)
 
-    def access_vectors(self, op, operands):
-        """Whole vectors, or one lane; `ld1r` repeats what it loads."""
-        inside, lane = re.fullmatch(r"{(.*)}(\[\d+\])?", operands[0]).groups()
-        first, last = re.match(r"v(\d+)", inside)[1], re.findall(r"v(\d+)", inside)[-1]
-        shape = re.search(r"\.(\w+)", inside)[0]
-        names = [f"v{n % 32}{shape}{lane or ''}" for n in range(int(first), int(first) + (int(last) - int(first)) % 32 + 1)]
-        size = WIDTHS[shape[-1]] if lane or op == "ld1r" else self.register(names[0])[1]
-        at, later = self.address(operands[1:])
-        if op == "st1":
-            self.store(at, join(*(cut(self.read(name), 0, size) for name in names)))
-        else:
-            loaded = self.load(at, size // 8 * len(names))
-            for i, name in enumerate(names):
-                value = cut(loaded, size * i, size)
-                self.write(name, repeat(value, self.register(name)[1] // size) if op == "ld1r" else value)
-        if later:
-            self.write(*later)
-
     def across(self, op, to, source):
         """One number of all lanes."""
         _, width = self.register(to)
@@ -428,19 +381,11 @@ class Aarch64(Machine):
     def vector(self, op, operands):
         count, size = re.fullmatch(r"v\d+\.(\d+)(\w)", operands[0]).groups()
         count, size, before = int(count), WIDTHS[size], self.read(operands[0])
-        sign, name, high = re.fullmatch(r"([us]?)(\w+?)(2?)", op).groups()
-        values = [self.read(item, size if item[0] == "#" else 64) for item in operands[1:] if item[0] != "{"]
-        if sign and name in LONG:
-            return self.long(sign, name, high, size, before, operands[1:], values)
-        if sign + name in NARROW:
-            values = [cut(NARROW[name](cut(values[0], at, 2 * size), *values[1:]), 0, size) for at in range(0, 128, 2 * size)]
-            return join(cut(before, 0, 64) if high else (), *values)
+        values = [self.read(item, size if item[0] == "#" else 64) for item in operands[1:]]
         values = [repeat(cut(value, 0, size), count) if item[0] in "#wx" or item[-1] == "]" else value
                   for item, value in zip(operands[-len(values) :], values)]
         if op in SHAPED:
             return SHAPED[op](size, *values)
-        if op == "tbl":
-            return self.looked_up(operands[1], *values)
         if op in ("orr", "bic") and len(values) == 1:
             values = [before, *values]
         if op in CHANGES or op in LANES:
@@ -448,22 +393,3 @@ class Aarch64(Machine):
         if op not in WHOLE:
             raise Stop("the instruction is not known")
         return OPERATIONS[op](self, *values)
-
-    def long(self, sign, name, high, size, before, operands, values):
-        change = sign_extend if sign == "s" else extend
-
-        def widened(item, value):
-            if item[0] == "#" or "[" in item:
-                return repeat(change(value, size), 128 // size)
-            return lanes(size // 2, lambda lane: change(lane, size), cut(value, 64 if high else 0, 64))
-
-        wide = [value if name in ("addw", "subw") and i == 0 else widened(item, value)
-                for i, (item, value) in enumerate(zip(operands, values))]
-        return lanes(size, LONG[name], *[before] * (name in ("mlal", "mlsl")), *wide)
-
-    def looked_up(self, table, order):
-        """Bytes of some registers; one that is not in them is 0."""
-        first, last = (int(n) for n in (re.findall(r"v(\d+)", table) * 2)[:: max(1, len(re.findall("v", table)) * 2 - 1)])
-        data = join(*(self.registers[f"v{n % 32}"] for n in range(first, first + (last - first) % 32 + 1)))
-        return lanes(8, lambda n: cut(data, 8 * known(n, "a place"), 8) if known(n, "a place") < width_of(data) // 8
-                     else number(0, 8), order)

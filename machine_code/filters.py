@@ -11,14 +11,14 @@ from definitions import FILTER, as_value
 from hashes import OneCall
 from keys import MOST, ColumnCall, prove_offsets
 from loops import prove_each_rest
-from machine import Array, place_of
-from values import (Stop, add, assume_at_most, bitwise, complement, cut, extend, is_zero, join, mul, number, number_in,
-                    power_of_two, shift_right, sub, unknown, width_of)
+from machine import Array, contents, place_of
+from values import (Stop, add, assume_at_most, bitwise, complement, cut, extend, is_zero, join, mul, must_equal,
+                    number, number_in, power_of_two, shift_right, sub, unknown, width_of)
 
 
-def union(array, other, offset, other_offset):
-    """32 bytes of each."""
-    return join(*(bitwise("or", *pair) for pair in zip(array.bytes(offset, 32), other.bytes(other_offset, 32))))
+def union(*places):
+    """32 bytes of each of two: an array's name and an offset."""
+    return join(*(bitwise("or", *pair) for pair in zip(*(contents(*place, 32) for place in places))))
 
 
 class Blocks(Elements):
@@ -44,18 +44,17 @@ class Merge(Blocks):
     """Each block becomes its union with that of another filter, which is in memory before it, or behind."""
 
     def __init__(self, machine, is_first, rest, per):
-        super().__init__(machine, rest, per)
-        self.is_first = is_first
+        super().__init__(machine, rest, per, is_first=is_first)
 
     def start(self, count):
         run, n = self.machine(), self.length(count, 32)
-        self.target, self.source = target_and_source(run, self.is_first, n, n)
-        run.begin("bloom_merge", [self.target.at, n, self.source.at, n])
+        to, source = target_and_source(run, self.is_first, n, n)
+        run.begin("bloom_merge", [to, n, source, n])
         return run
 
-    def element(self, index):
+    def element(self, run, index):
         offset = mul(index, number(32))
-        return union(self.target, self.source, offset, offset)
+        return union(("target", offset), ("source", offset))
 
 
 class Fold(Blocks):
@@ -63,13 +62,13 @@ class Fold(Blocks):
 
     def start(self, count):
         run, n = self.machine(), self.length(count, 64)
-        self.target = run.give(Array("bits", bits, n, True))
+        run.target = run.give(Array("bits", bits, n, True))
         run.begin("bloom_fold", [bits, n])
         return run
 
-    def element(self, index):
+    def element(self, run, index):
         offset = mul(index, number(64))
-        return union(self.target, self.target, offset, add(offset, number(32)))
+        return union(("bits", offset), ("bits", add(offset, number(32))))
 
 
 def mask_of(hash):
@@ -114,8 +113,7 @@ class Bits:
         after = bitwise("or", before, mask)
         for k in range(32):
             value, bit = written.get(k, (before, 8 * k))
-            if cut(value, bit, 8) != cut(after, 8 * k, 8):
-                raise Stop("what is inserted is not what the definitions say")
+            must_equal(cut(value, bit, 8), cut(after, 8 * k, 8), "what is inserted")
 
     def must_have_reached(self, n):
         if self.is_writable and self.reached != n:
@@ -152,62 +150,62 @@ class Values(Elements):
     """Inserts each number, or each hash, or looks it up. `kind` is the end of the call's name: u32, u64 or hash."""
 
     def __init__(self, machine, is_insert, kind, rest, per):
-        super().__init__(machine, rest, per)
-        self.is_insert, self.kind, self.width, self.size = is_insert, kind, 32 if kind == "u32" else 64, 1
+        super().__init__(machine, rest, per, is_insert=is_insert, kind=kind, width=32 if kind == "u32" else 64, size=1)
 
     def start(self, count):
         run, n, function = self.machine(), self.number_of(count), f"{name_of(self.is_insert)}_each_{self.kind}"
         value_count = n if self.is_insert else add(n, extend(unknown("more", 50)))
-        self.source = run.give(Array("values", values, mul(value_count, number(self.width // 8))))
-        self.target = run.give(Array("old", out, n, not self.is_insert))
-        self.filter = run.give(Bits(self.hash, self.is_insert))
+        run.give(Array("values", values, mul(value_count, number(self.width // 8))))
+        run.target = run.give(Array("old", out, n, not self.is_insert))
+        run.filter = run.give(Bits(self.hash, self.is_insert))
         run.begin(function, arguments_of(function, bits=bits, length=any_length, values=values, hashes=values, found=out,
                                          value_count=value_count, hash_count=value_count, count=n))
         return run
 
     def hash(self, index):
-        data = self.source.bytes(mul(index, number(self.width // 8)), self.width // 8)
+        data = contents("values", mul(index, number(self.width // 8)), self.width // 8)
         return join(*data) if self.kind == "hash" else FILTER.hash_of(data)
 
-    def elements_written(self):
-        return self.filter.reached if self.is_insert else super().elements_written()
+    def elements_written(self, run):
+        return run.filter.reached if self.is_insert else super().elements_written(run)
 
-    def assume(self, run, words, turns, done, way):
-        super().assume(run, words, turns, done, way)
-        self.filter.begin(self.index(turns, done))
+    def assume(self, head, done, way):
+        super().assume(head, done, way)
+        head.run.filter.begin(self.index(head.turns, done))
 
-    def must_have_written(self, first, n):
-        self.filter.must_have_reached(n)
-        self.target.must_have_written([self.filter.contains(add(first, number(i))) for i in range(n * (not self.is_insert))])
+    def must_have_written(self, run, first, n):
+        run.filter.must_have_reached(n)
+        super().must_have_written(run, first, n * (not self.is_insert))
+
+    def element(self, run, index):
+        return run.filter.contains(index)
 
 
 class Key(OneCall):
     """A key of any length that is inserted or looked up, in a filter of any length."""
 
-    def __init__(self, machine, is_insert, rest, per):
-        super().__init__(machine, "xxh64", rest, per, of("xxh64", "start")(0))
-        self.is_insert, self.answer = is_insert, None
+    def __init__(self, machine, is_insert, rest, per, **others):
+        super().__init__(machine, "xxh64", rest, per, of("xxh64", "start")(0), is_insert=is_insert, **others)
 
     def begin_call(self, run, n):
-        self.filter = run.give(Bits(lambda index: self.answer, self.is_insert))
+        run.filter = run.give(Bits(lambda index: run.answer, self.is_insert))
         run.begin(name_of(self.is_insert), [bits, any_length, input, n])
         return run
 
     def go_to_end(self, run, after):
-        (self.answer,) = calls.answer_of("xxh64", after)
+        (run.answer,) = calls.answer_of("xxh64", after)
         run.go()
         self.must_leave(run)
 
     def must_leave(self, run):
-        must_have_used(run, self.filter, self.is_insert)
+        must_have_used(run, self.is_insert)
 
 
 class KeyOfWrongLength(Key):
     """The same with a length that no filter has: the key may be read, and the filter not."""
 
     def __init__(self, machine, is_insert, length, rest, per):
-        super().__init__(machine, is_insert, rest, per)
-        self.wrong_length = length
+        super().__init__(machine, is_insert, rest, per, wrong_length=length)
 
     def begin_call(self, run, n):
         run.begin(name_of(self.is_insert), [bits, self.wrong_length, input, n])
@@ -218,9 +216,9 @@ class KeyOfWrongLength(Key):
         run.must_return(wrong_result(self.is_insert))
 
 
-def must_have_used(run, filter, is_insert):
-    filter.must_have_reached(1)
-    run.must_return(OK if is_insert else extend(filter.contains(number(0)), 32))
+def must_have_used(run, is_insert):
+    run.filter.must_have_reached(1)
+    run.must_return(OK if is_insert else extend(run.filter.contains(number(0)), 32))
 
 
 def name_of(is_insert):
@@ -234,7 +232,7 @@ def wrong_result(is_insert):
 def keys_of_wrong_lengths(machine, is_insert):
     prove_each_rest(partial(KeyOfWrongLength, machine, is_insert, number(33)), 32)
     for length, n in itertools.product(lengths_of_none(machine), (0, 7, 40)):
-        KeyOfWrongLength(machine, is_insert, length, number(n), 1).few()
+        loops.on_each_path(KeyOfWrongLength(machine, is_insert, length, number(n), 1).few)
 
 
 any_hash = unknown("hash", 64)
@@ -242,11 +240,14 @@ any_hash = unknown("hash", 64)
 
 def one_key(machine, is_insert, function, arguments, hash):
     """A key with this hash, without a loop."""
-    run = machine()
-    filter = run.give(Bits(lambda index: hash, is_insert))
-    run.begin(function, [bits, any_length, *arguments])
-    run.go()
-    must_have_used(run, filter, is_insert)
+    def run():
+        run = machine()
+        run.filter = run.give(Bits(lambda index: hash, is_insert))
+        run.begin(function, [bits, any_length, *arguments])
+        run.go()
+        must_have_used(run, is_insert)
+
+    loops.on_each_path(run)
 
 
 def one_hash(machine, is_insert):
@@ -297,10 +298,8 @@ class TextsCall(ColumnCall):
     """To insert a column takes as many keys as its offsets bound."""
 
     def __init__(self, machine, is_insert, width):
-        super().__init__(machine, f"{name_of(is_insert)}_each{width}", width, 0 if is_insert else 1)
-        self.is_insert = is_insert
-        if is_insert:
-            self.missing = [None]
+        missing = {"missing": [None]} if is_insert else {}
+        super().__init__(machine, f"{name_of(is_insert)}_each{width}", width, 1 - is_insert, is_insert=is_insert, **missing)
 
     def begin(self, count, offset_count):
         return super().begin(count, add(count, number(1)) if self.is_insert else offset_count)
@@ -314,42 +313,42 @@ class KeyOfColumn(Key):
     """A column of one key, of any length."""
 
     def __init__(self, call, rest, per):
-        super().__init__(call.machine, call.is_insert, rest, per)
-        self.call, self.length_bits, self.first = call, MOST[call.width], extend(unknown("start", MOST[call.width]))
+        super().__init__(call.machine, call.is_insert, rest, per, call=call, length_bits=MOST[call.width],
+                         first=extend(unknown("start", MOST[call.width])))
 
     def data(self, offset, size):
-        return self.call.input.bytes(add(self.first, offset), size)
+        return contents("input", add(self.first, offset), size)
 
     def start(self, count):
         run, end = self.call.begin(number(1), number(2)), add(self.first, self.length(count))
         assume_at_most(end, self.call.length)
         self.call.set_offsets(run, number(0), self.first, end)
-        self.filter = run.give(Bits(lambda index: self.answer, self.is_insert))
+        run.filter = run.give(Bits(lambda index: run.answer, self.is_insert))
         return run
 
     def must_leave(self, run):
         self.call.must_succeed(run)
-        self.filter.must_have_reached(1)
-        self.call.target.must_have_written([self.filter.contains(number(0))] * (not self.is_insert))
+        run.filter.must_have_reached(1)
+        run.target.must_have_written([run.filter.contains(number(0))] * (not self.is_insert))
 
 
 BATCH = 32  # how many keys such a call hashes at a time
 
 
 class Batches(Values):
-    """Columns of any number of keys, each of so many bytes: a turn is a batch. So few keys that their offsets need no loop are
-    not among them: that is one at most, which `KeyOfColumn` has."""
+    """Columns of any number of keys, each of so many bytes: a turn is a batch, and some keys are left. So few keys that their
+    offsets need no loop are not among them: that is one at most, which `KeyOfColumn` has."""
 
     tries = 2, 4
 
-    def __init__(self, checked, key_size):
-        self.checked, self.call, self.key_size, self.least = checked, checked.call, key_size, checked.loop.least
-        if self.least > 2:
+    def __init__(self, offsets, key_size):
+        call = offsets.subject.call
+        if offsets.least > 2:
             raise Stop("the loop over offsets is not reached with two keys")
-        super().__init__(self.call.machine, self.call.is_insert, "", number(0), BATCH)
-        self.bytes, self.length_bits = key_size, MOST[self.call.width]
-        self.first = extend(unknown("start", MOST[self.call.width]))
-        self.left = add(extend(unknown("left", 5)), number(self.least))
+        super().__init__(call.machine, call.is_insert, "", number(0), BATCH)
+        vars(self).update(offsets=offsets, call=call, key_size=key_size, bytes=key_size, length_bits=MOST[call.width],
+                          first=extend(unknown("start", MOST[call.width])),
+                          left=add(extend(unknown("left", 5)), number(offsets.least)))
 
     def number_of(self, count):
         return add(mul(extend(count), number(BATCH)), self.left)
@@ -358,16 +357,16 @@ class Batches(Values):
         return add(self.first, mul(index, number(self.key_size)))
 
     def hash(self, index):
-        return FILTER.hash_of(self.call.input.bytes(self.offset(index), self.key_size))
+        return FILTER.hash_of(contents("input", self.offset(index), self.key_size))
 
     def set_offsets(self, run, first, batches):
-        offsets = (self.offset(add(first, number(i))) for i in range(batches * BATCH + self.least))
+        offsets = (self.offset(add(first, number(i))) for i in range(batches * BATCH + self.offsets.least))
         self.call.set_offsets(run, first, *offsets)
 
     def start(self, count):
         n = self.number_of(count)
-        run = self.checked.after(n)
-        self.target, self.filter = self.call.target, run.give(Bits(self.hash, self.is_insert))
+        run = self.offsets.subject.after(self.offsets, n)
+        run.filter = run.give(Bits(self.hash, self.is_insert))
         assume_at_most(self.offset(n), self.call.length)
         return run
 
@@ -376,21 +375,19 @@ class Batches(Values):
         self.set_offsets(run, number(0), 8)
         return run
 
-    def assume(self, run, words, turns, done, way):
-        super().assume(run, words, turns, done, way)
-        self.set_offsets(run, self.index(turns, done), 1)
+    def assume(self, head, done, way):
+        super().assume(head, done, way)
+        self.set_offsets(head.run, self.index(head.turns, done), 1)
 
     def finish(self, loop):
-        turns = loop.turns_at_end()
-        for n in range(self.least, self.least + BATCH):
-            self.left = number(n)
-            loops.on_each_path(lambda: self.end(loop, turns, n))
+        for n in range(self.offsets.least, self.offsets.least + BATCH):
+            loops.on_each_path(partial(self.with_other(left=number(n)).end, loop, n))
 
-    def end(self, loop, turns, n):
-        run, _, _ = loop.at_end()
+    def end(self, loop, n):
+        run, _, _, turns = loop.of(self).at_end()
         run.go()
         self.call.must_succeed(run)
-        self.must_have_written(self.index(turns, loop.done), n - loop.done)
+        self.must_have_written(run, self.index(turns, loop.done), n - loop.done)
 
 
 def prove_texts(call):
@@ -402,18 +399,22 @@ def prove_texts(call):
 def column(call, lengths):
     offsets = [*itertools.accumulate(lengths, initial=3)]
     data, n = some("input", offsets[-1]), len(lengths)
-    keys = [data[start:end] for start, end in zip(offsets, offsets[1:])]
-    run, old = call.machine(), some("old", n)
-    filter = run.give(Bits(lambda index: FILTER.hash_of(keys[index[0][1]]), call.is_insert))
-    run.map(input, data)
-    run.map(values, [number(offset, call.width) for offset in offsets])
-    run.map(fault, [cut(old_fault, 0, run.size)], writable=True)
-    run.map(out, old, writable=True)
-    run.begin(call.function, call.arguments(*map(number, (len(data), n, len(offsets)))))
-    run.go()
-    call.must_succeed(run)
-    filter.must_have_reached(n)
-    run.must_have(out, old if call.is_insert else [filter.contains(number(i)) for i in range(n)])
+    keys, old = [data[start:end] for start, end in zip(offsets, offsets[1:])], some("old", n)
+
+    def run():
+        run = call.machine()
+        filter = run.give(Bits(lambda index: FILTER.hash_of(keys[index[0][1]]), call.is_insert))
+        run.map(input, data)
+        run.map(values, [number(offset, call.width) for offset in offsets])
+        run.map(fault, [cut(old_fault, 0, run.size)], writable=True)
+        run.map(out, old, writable=True)
+        run.begin(call.function, call.arguments(*map(number, (len(data), n, len(offsets)))))
+        run.go()
+        call.must_succeed(run)
+        filter.must_have_reached(n)
+        run.must_have(out, old if call.is_insert else [filter.contains(number(i)) for i in range(n)])
+
+    loops.on_each_path(run)
 
 
 def checks(machine):

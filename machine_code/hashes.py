@@ -5,8 +5,8 @@ import calls
 from calls import (PIECE, WORDS, Call, Memory, arguments_of, check_call, folded_words, input, of, out, saved, seed, some, state,
                    values)
 from definitions import XXH64, as_value
-from loops import Subject, prove_each_rest
-from machine import Array
+from loops import Subject, on_each_path, prove_each_rest
+from machine import Array, contents
 from values import add, extend, join, mul, number, number_in, unknown
 
 
@@ -14,11 +14,10 @@ class Pieces(Subject):
     """Full pieces of an input that a hash reads in a loop: `begin` is the definitions' state before them, with `fill` waiting
     bytes, and `rest` bytes come after the last turn. `data` gives some bytes of the input."""
 
-    def __init__(self, hash, begin, rest, per, fill=0):
-        self.hash, self.begin, self.rest, self.per, self.fill = hash, begin, rest, per, fill
-        self.name, self.piece = hash, PIECE[hash]
-        self.bytes = self.piece
-        self.unit, self.lead = per * self.piece, -fill % self.piece
+    def __init__(self, hash, begin, rest, per, fill=0, **others):
+        piece = PIECE[hash]
+        super().__init__(hash=hash, begin=begin, rest=rest, per=per, fill=fill, name=hash, piece=piece, bytes=piece,
+                         unit=per * piece, lead=-fill % piece, **others)
 
     def length(self, count):
         return add(add(mul(extend(count), number(self.unit)), number(self.lead)), self.rest)
@@ -52,16 +51,15 @@ class Pieces(Subject):
 
 
 class OneCall(Pieces):
-    def __init__(self, machine, hash, rest, per, begin=None, fill=0):
-        super().__init__(hash, begin or of(hash, "start")(seed), rest, per, fill)
-        self.machine = machine
+    def __init__(self, machine, hash, rest, per, begin=None, **others):
+        super().__init__(hash, begin or of(hash, "start")(seed), rest, per, machine=machine, **others)
 
     def data(self, offset, size):
-        return self.array.bytes(offset, size)
+        return contents("input", offset, size)
 
     def start(self, count):
         run, n = self.machine(), self.length(count)
-        self.array = run.give(Array("input", input, n))
+        run.give(Array("input", input, n))
         return self.begin_call(run, n)
 
     def begin_call(self, run, n):
@@ -79,7 +77,10 @@ class OneCall(Pieces):
             run.must_have(out, answer)
 
     def finish(self, loop):
-        run, words, turns = loop.at_end()
+        on_each_path(lambda: self.end(loop))
+
+    def end(self, loop):
+        run, words, _, turns = loop.at_end()
         self.go_to_end(run, self.after_all(loop, words, turns))
 
     def go_to_end(self, run, after):
@@ -96,8 +97,8 @@ class Update(OneCall):
     """An update of a state with so many waiting bytes, whatever the state."""
 
     def __init__(self, machine, hash, fill, rest, per):
-        self.before = calls.any_state(hash, calls.total(hash, fill))
-        super().__init__(machine, hash, rest, per, of(hash, "state_of")(self.before), fill)
+        before = calls.any_state(hash, calls.total(hash, fill))
+        super().__init__(machine, hash, rest, per, of(hash, "state_of")(before), fill=fill, before=before)
 
     def begin_call(self, run, n):
         run.map(state, saved(self.before), writable=True)

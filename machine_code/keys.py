@@ -6,25 +6,27 @@ import loops
 from calls import OFFSET, OK, PIECE, arguments_of, fault, input, of, old_fault, out, seed, values
 from columns import Elements
 from hashes import Pieces
-from loops import Subject
-from machine import Array
+from loops import Fixed, Subject
+from machine import Array, contents
 from values import Stop, add, assume_at_most, cut, extend, join, mul, number, number_in, sub, unknown
 
 MOST = {32: 31, 64: 60}  # how many bits the length of the input has, by the width of an offset
 
 
-class ColumnCall:
+class ColumnCall(Fixed):
     """A call with a column: so many places for results, each of `size` bytes, and so many offsets."""
 
-    def __init__(self, machine, function, width, size):
-        self.machine, self.function, self.width, self.size = machine, function, width, size
-        self.length, self.missing = extend(unknown("length", MOST[width])), [number(1), extend(unknown("missing", 58, 2)), None]
+    def __init__(self, machine, function, width, size, **others):
+        super().__init__(machine=machine, function=function, width=width, size=size, **others)
+
+    length = property(lambda self: extend(unknown("length", MOST[self.width])))
+    missing = number(1), extend(unknown("missing", 58, 2)), None  # how many offsets may be missing; None is not one
 
     def begin(self, count, offset_count):
         run = self.machine()
-        self.input = run.give(Array("input", input, self.length))
-        self.offsets = run.give(Array("offsets", values, mul(offset_count, number(self.width // 8))))
-        self.target = run.give(Array("old", out, mul(count, number(self.size)), True))
+        run.give(Array("input", input, self.length))
+        run.give(Array("offsets", values, mul(offset_count, number(self.width // 8))))
+        run.target = run.give(Array("old", out, mul(count, number(self.size)), True))
         run.map(fault, [cut(old_fault, 0, run.size)], writable=True)
         run.begin(self.function, self.arguments(self.length, count, offset_count))
         return run
@@ -52,7 +54,7 @@ class ColumnCall:
         return mul(index, number(self.width // 8))
 
     def offset(self, index):
-        return extend(join(*self.offsets.bytes(self.place(index), self.width // 8)))
+        return extend(join(*contents("offsets", self.place(index), self.width // 8)))
 
     def set_offsets(self, run, index, *offsets):
         run.map(add(values, self.place(index)), [cut(offset, 0, self.width) for offset in offsets])
@@ -61,7 +63,7 @@ class ColumnCall:
         """Nothing else is written."""
         run.must_return(OFFSET)
         run.must_have(fault, [cut(index, 0, run.size)])
-        self.target.must_have_written([])
+        run.target.must_have_written([])
 
     def must_succeed(self, run):
         run.must_return(OK)
@@ -74,7 +76,7 @@ class Offsets(Subject):
     name, optional = "offsets", 1
 
     def __init__(self, call, missing=None):
-        self.call, self.missing = call, missing
+        super().__init__(call=call, missing=missing)
 
     def start(self, count):
         if self.missing:
@@ -111,27 +113,27 @@ class Offsets(Subject):
     def any_words(self):
         return [extend(unknown("offset before", MOST[self.call.width]))]
 
-    def ways(self):
+    def ways(self, begin):
         return "right", "below", "above"
 
-    def assume(self, run, words, turns, done, way):
-        assume_at_most(words[0], self.call.length)
+    def assume(self, head, done, way):
+        assume_at_most(head.words[0], self.call.length)
         if way:
-            self.suppose(way, add(turns, number(done)), words[0])
+            self.suppose(way, add(head.turns, number(done)), head.words[0])
 
     def step(self, words, turns, done, way):
         if way != "right":
             raise Stop("a wrong offset does not end the call")
         return [self.call.offset(add(turns, number(done)))]
 
-    def leave(self, run, turns, done, way):
+    def leave(self, head, done, way):
         if way == "right":
             raise Stop("a right offset ends the call")
-        self.call.must_fail(run, add(turns, number(done)))
+        self.call.must_fail(head.run, add(head.turns, number(done)))
 
     def at_end(self, loop, turns, ways):
         """At the head with the last turns to do, and what is supposed of the offsets that are left."""
-        run, words, _ = loop.at(turns, number(loop.last), None)
+        run, words, _, _ = loop.at(turns, number(loop.last))
         return self.supposing(run, add(turns, number(loop.done)), words[0], ways)
 
     def must_notice(self, begin, first, count, is_last=True):
@@ -159,40 +161,37 @@ class Offsets(Subject):
             self.must_notice(partial(begin, number(n)), number(0), n + rest)
         first = add(turns, number(loop.done))
         self.must_notice(partial(self.at_end, loop, turns), first, loop.last + rest - loop.done)
-        self.loop = loop
 
-    def after(self, count):
+    def after(self, loop, count):
         """A machine that goes on to the keys: all offsets are right. With few keys it does not come to this loop."""
-        if (few := number_in(count)) is not None and few < self.loop.least:
+        if (few := number_in(count)) is not None and few < loop.least:
             return self.supposing(self.start(count), number(0), number(0), ["right"] * (few + 1))
-        return self.at_end(self.loop, sub(count, number(self.loop.last)), ["right"] * (self.loop.last + 1 - self.loop.done))
+        return self.at_end(loop, sub(count, number(loop.last)), ["right"] * (loop.last + 1 - loop.done))
 
 
 class Keys(Elements):
-    """The loop over keys: a turn hashes one, of a few bytes, or of any number of pieces and a rest."""
+    """The loop over keys, behind that over offsets: a turn hashes one, of a few bytes, or of any number of pieces and a rest.
+    Its ways are a rest, how many times `unit` bytes come before it, and the loop over these, if the key has one."""
 
     name, optional = "keys", 1
 
     def __init__(self, offsets, hash, per_key):
-        super().__init__(offsets.call.machine, number(0), 1)
-        self.call, self.checked, self.hash = offsets.call, offsets, hash
-        self.size = self.bytes = self.call.size
-        self.per_key, self.unit, self.inner = per_key, per_key * PIECE[hash], None
+        call = offsets.subject.call
+        super().__init__(call.machine, number(0), 1, call=call, offsets=offsets, hash=hash, size=call.size, bytes=call.size,
+                         per_key=per_key, unit=per_key * PIECE[hash])
 
     def start(self, count):
-        run = self.checked.after(count)
-        self.target = self.call.target
-        return run
+        return self.offsets.subject.after(self.offsets, count)
 
     def suggestion(self, count):
         """Some keys of one byte."""
-        run, self.first = self.start(count), extend(unknown("start", MOST[self.call.width]))
-        self.call.set_offsets(run, number(0), *(add(self.first, number(i)) for i in range(12)))
-        assume_at_most(add(self.first, number(12)), self.call.length)
+        run, (first,) = self.start(count), self.any_words()
+        self.call.set_offsets(run, number(0), *(add(first, number(i)) for i in range(12)))
+        assume_at_most(add(first, number(12)), self.call.length)
         return run
 
     def words_after(self, n):
-        return [add(self.first, number(n))]
+        return [add(*self.any_words(), number(n))]
 
     def words_at_entry(self, done):
         return [self.call.offset(number(done))]
@@ -201,100 +200,90 @@ class Keys(Elements):
         return [extend(unknown("start", MOST[self.call.width]))]
 
     def step(self, words, turns, done, way):
-        return [add(words[0], self.size_of(way))]
+        return [add(words[0], self.size_of(*way))]
 
-    def size_of(self, way):
-        rest, count = way
+    def size_of(self, rest, count, inner=None):
         return add(mul(extend(count), number(self.unit)), number(rest))
 
-    def assume(self, run, words, turns, done, way):
-        super().assume(run, words, turns, done, way)
-        index, end = self.index(turns, done), add(words[0], self.size_of(way))
+    def assume(self, head, done, way):
+        super().assume(head, done, way)
+        index, end = self.index(head.turns, done), add(head.words[0], self.size_of(*way))
         assume_at_most(end, self.call.length)
-        self.call.set_offsets(run, index, words[0], end)
+        self.call.set_offsets(head.run, index, head.words[0], end)
 
-    def ways(self):
+    def ways(self, begin):
         """A rest and any number of turns, and what is shorter."""
-        self.fewest, count = 0, extend(unknown("pieces", MOST[self.call.width] - (self.unit - 1).bit_length()))
-        yield from ((rest, count) for rest in range(self.unit))
-        yield from ((n, number(0)) for n in range(self.fewest * self.unit))
+        inner, fewest, count = None, 0, extend(unknown("pieces", MOST[self.call.width] - (self.unit - 1).bit_length()))
+        for rest in range(self.unit):
+            inner = loops.prove(lambda per: Key(self, begin, rest, per), [self.per_key], inner)
+            fewest = max(fewest, inner.least)
+            yield rest, count, inner
+        yield from ((n, number(0), None) for n in range(fewest * self.unit))
 
-    def travel(self, loop, turns, left, way, *target):
-        rest, count = way
-        if number_in(count) is not None:
-            run, words, before = loop.at(turns, left, way)
-            key = self.call.input.bytes(words[0], rest)
-            self.answer = self.hash_of(of(self.hash, "after")(self.start_of_key(), key))
-            return run, words, before, run.go(*target)
-        inner = self.inner = loops.prove(lambda per: Key(self, loop, turns, left, rest, per), [self.per_key], self.inner)
-        self.fewest = max(self.fewest, inner.least)
-        run, words, count = inner.at_end()
-        self.answer = self.hash_of(inner.subject.after_all(inner, words, count))
-        return run, inner.subject.outer_words, inner.subject.before, run.go(*target)
+    def travel(self, begin, way, *target):
+        rest, _, inner = way
+        if inner:
+            run, words, _, turns = inner.at_end()
+            head, after = run.heads[-2], inner.subject.after_all(inner, words, turns)
+        else:
+            head = begin(way)
+            key = contents("input", head.words[0], rest)
+            run, after = head.run, of(self.hash, "after")(of(self.hash, "start")(seed), key)
+        run.answer = join(*calls.answer_of(self.hash, after))
+        return head, run.go(*target)
 
-    def start_of_key(self):
-        return of(self.hash, "start")(seed)
-
-    def hash_of(self, state):
-        return join(*calls.answer_of(self.hash, state))
-
-    def element(self, index):
-        return self.answer
+    def element(self, run, index):
+        return run.answer
 
     def finish(self, loop):
-        least = self.checked.loop.least
+        least = self.offsets.least
         if least > 2 or (loop.least, loop.last, loop.done) != (least, 1, 0):
             raise Stop("the loops are not reached with one key")
-        before_last = [loop.turns_at_end()]
+        begins = [loop.at_end]
         if least == 2:  # one key comes to the head without the loop over offsets
             loops.on_each_path(lambda: loop.enter(number(1)))
-            before_last.append(number(0))
+            begins.append(partial(loop.at, number(0), number(1)))
+        for begin in begins:
+            for way in self.ways(begin):
+                loops.on_each_path(lambda: self.end(loop, begin, way))
 
-        def ends(turns, way):
-            run, _, _, _ = self.travel(loop, turns, number(1), way)
-            self.call.must_succeed(run)
-            self.must_have_written(self.index(turns, loop.done), 1)
-
-        for turns in before_last:
-            for way in self.ways():
-                loops.on_each_path(lambda: ends(turns, way))
+    def end(self, loop, begin, way):
+        head, _ = self.travel(begin, way)
+        self.call.must_succeed(head.run)
+        self.must_have_written(head.run, self.index(head.turns, loop.done), 1)
 
 
 def prove_offsets(call):
     """Any number of offsets, of which some can be missing."""
-    for missing in call.missing:
-        checked = loops.prove(lambda per: Offsets(call, missing), [1]).subject
-    return checked
+    return [loops.prove(lambda per: Offsets(call, missing), [1]) for missing in call.missing][-1]
 
 
 def prove_columns(machine, hash, width):
     """Any number of keys, of any length."""
     call = ColumnCall(machine, f"{calls.NAMES[hash]}_each{width}", width, 8 if hash == "xxh64" else 16)
-    checked = prove_offsets(call)
-    loops.prove(lambda per: Keys(checked, hash, per), (1, 2))
+    offsets = prove_offsets(call)
+    loops.prove(lambda per: Keys(offsets, hash, per), (1, 2))
     call.few()
+
+
+class Key(Pieces):
+    """The loop over the pieces of one key, within a turn of the loop over keys. `begin` gives the head of that."""
+
+    def __init__(self, keys, begin, rest, per):
+        super().__init__(keys.hash, of(keys.hash, "start")(seed), number(rest), per, keys=keys, begin_key=begin,
+                         length_bits=MOST[keys.call.width])
+
+    def start(self, count):
+        return self.begin_key((number_in(self.rest), count)).run
+
+    def finish(self, loop):
+        """It goes on in the loop over keys."""
+
+    def data(self, offset, size):
+        return contents("input", add(*self.keys.any_words(), offset), size)
 
 
 def checks(machine):
     for hash, name in calls.NAMES.items():
         for width in MOST:
             yield f"{name}_each{width}", partial(prove_columns, machine, hash, width)
-
-
-class Key(Pieces):
-    """The loop over the pieces of one key, within a turn of the loop over keys."""
-
-    def __init__(self, keys, loop, turns, left, rest, per):
-        super().__init__(keys.hash, keys.start_of_key(), number(rest), per)
-        self.keys, self.at_keys = keys, lambda count: loop.at(turns, left, (rest, count))
-        self.length_bits = MOST[keys.call.width]
-
-    def start(self, count):
-        run, self.outer_words, self.before = self.at_keys(count)
-        return run
-
-    def finish(self, loop):
-        """It goes on in the loop over keys."""
-
-    def data(self, offset, size):
-        return self.keys.call.input.bytes(add(self.outer_words[0], offset), size)

@@ -1,5 +1,8 @@
-"""A shared library as the loader sees it, ELF, PE or Mach-O: its functions, its instructions, its memory before a call, and
-what the loader writes and runs. All addresses are relative to where the library is."""
+"""A library for x86-64 or aarch64 as the loader sees it: a shared library in ELF, or what the linker makes of an object file.
+
+It has functions, instructions, memory before a call, and what the loader writes and runs. All addresses are relative to where
+the library is. The tables list what is read: whatever else a file has is refused by its name or number.
+"""
 import functools
 import pathlib
 import re
@@ -8,22 +11,47 @@ import subprocess
 import tempfile
 
 from module import MAGIC, Module
-from values import Stop
+from values import NoLibrary, Stop
 
 HEADER = (pathlib.Path(__file__).parents[1] / "dist/include/sketch_hash.h").read_text()
+ELF, ARCHIVE = b"\x7fELF\2\1\1", b"!<arch>\n"
+OBJECT, SHARED = 1, 3  # the kinds of ELF files that are read
+PROCESSORS = {62: "x86-64", 183: "aarch64"}
 DISASSEMBLE = {
     "x86-64": ["objdump", "-m", "i386:x86-64", "-M", "intel"],
     "aarch64": ["aarch64-linux-gnu-objdump", "-m", "aarch64"],
 }
-PROCESSORS = {62: "x86-64", 183: "aarch64", 0x1000007: "x86-64", 0x100000C: "aarch64", 0x8664: "x86-64"}
-# By the bytes with which their object files begin.
-ELF = b"\x7fELF\2\1\1" + bytes(9) + b"\1\0"
-LINKERS = {ELF + b"\x3e\0": "ld", ELF + b"\xb7\0": "aarch64-linux-gnu-ld", b"\x64\x86": "x86_64-w64-mingw32-ld"}
-# Tags of the dynamic section, and the kinds of relocations: an address in the library, and the address of a symbol.
-HASH, NAMES, SYMBOLS, ADDENDS, INIT, REL, JUMPS, INITS, PACKED = 4, 5, 6, 7, 12, 17, 23, 25, 36
-SIZE_OF = {ADDENDS: 8, JUMPS: 2, INITS: 27, PACKED: 35}
-GNU_HASH, VERSIONS = 0x6FFFFEF5, 0x6FFFFFF0
-RELATIVE, ADDRESS = {"x86-64": 8, "aarch64": 1027}, {"x86-64": (1, 6, 7), "aarch64": (257, 1025, 1026)}
+LINKERS = {"x86-64": "ld", "aarch64": "aarch64-linux-gnu-ld"}
+PAGE = 4096  # the least
+
+# Segments by their type; those of no name here say nothing of what is in memory.
+LOAD, DYNAMIC, RELRO = 1, 2, 0x6474E552
+SEGMENTS = {LOAD, DYNAMIC, RELRO, 4, 6, 0x6474E550, 0x6474E551, 0x6474E553}
+READ, CODE, DATA = 4, 5, 6  # flags of segments that are loaded
+
+# Tags of the dynamic section, each with the values that it may have, or None for any.
+NEEDED, HASH, NAMES, SYMBOLS, ADDENDS, INIT, JUMPS, INITS, PACKED, GNU_HASH = 1, 4, 5, 6, 7, 12, 23, 25, 36, 0x6FFFFEF5
+SIZES = {ADDENDS: 8, JUMPS: 2, INITS: 27, PACKED: 35}  # the tags with the sizes of these tables
+TAGS = dict.fromkeys([NEEDED, HASH, NAMES, SYMBOLS, INIT, GNU_HASH, *SIZES, *SIZES.values()])
+TAGS |= dict.fromkeys([3, 10, 13, 14, 16, 24, 26, 28])  # the PLT's GOT, sizes, what runs at the end, its name, "now"
+TAGS |= dict.fromkeys([15, 29])  # where the C library is looked for
+TAGS |= dict.fromkeys([0x6FFFFFF0, 0x6FFFFFF9, *range(0x6FFFFFFC, 0x70000000)])  # versions, and how many relocations are alike
+TAGS |= dict.fromkeys([0x70000001, 0x70000003])  # aarch64: how the PLT jumps
+TAGS |= {9: {24}, 11: {24}, 20: {7}, 37: {8}}  # sizes of entries; relocations have addends
+TAGS |= {30: {2, 8, 10}, 0x6FFFFFFB: {1, 8, 9}}  # symbols of its own first, "now", and that it stays loaded
+LIBRARIES = re.compile(r"(libc|libm|libpthread|libgcc_s|ld-linux\S*|libc\.musl\S*)\.so(\.\d+)*")  # of C, which it may need
+
+# Relocations: an address in the library, and the address of a symbol, in data or in the linker's own table.
+RELATIVE, ADDRESS, OF_LINKER = {8, 1027}, {1, 257}, {6, 7, 1025, 1026}
+# Symbols: their types as functions or as either, their bindings, and the indices of sections.
+FUNCTIONS, ANYTHING, LOCAL, GLOBAL, WEAK, PLACES = {0, 2}, {0, 1, 2}, 0, 1, 2, range(1, 0xFF00)
+# The weak symbols that may be missing, which are then 0: code of the compiler's own start and end alone asks for them.
+ABSENT = {"__gmon_start__", "_ITM_registerTMCloneTable", "_ITM_deregisterTMCloneTable", "__cxa_finalize"}
+
+# Sections of an object file: their types, and the names of those that are in memory.
+TABLE = 2
+SECTIONS = {0, 1, TABLE, 3, 4, 7, 8, 14, 17, 0x6FFF4C03, 0x70000001, 0x70000003}
+IN_MEMORY = re.compile(r"\.(text|rodata|data|bss|eh_frame|init_array|note)(\..*)?")
 
 
 def parameters_of(header):
@@ -35,182 +63,164 @@ def parameters_of(header):
 PARAMETERS = parameters_of(HEADER)
 
 
-class Library:
-    """`functions` are addresses by name. `instructions` are, by address, a mnemonic, operands, and the next address.
-    `pointers` are what the loader writes, by address: a symbol of another library, or None for this one, and a number that
-    is added. `constructors` are the functions that it calls, or None if they are not known."""
+def listed(found, known, what):
+    """It is among what is known."""
+    if found not in known:
+        raise Stop(f"it has {what} {found if isinstance(found, str) else hex(found)}, which is not on the list of what is read")
+    return found
+
+
+class File:
+    """The bytes of an ELF file for a processor, and what is at an offset."""
 
     def __init__(self, data):
-        self.data, self.functions, self.places, self.code, self.pointers = data, {}, [], [], {}
-        self.constructors, self.flags, self.changed = [], None, set()
-        magics = {b"\x7fELF\2\1": self.read_elf, b"MZ": self.read_pe, b"\xcf\xfa\xed\xfe": self.read_macho}
-        read = next((item for magic, item in magics.items() if data.startswith(magic)), None)
-        if not read:
-            raise Stop("it is no library in ELF, PE or Mach-O, of 64 bits, and no WebAssembly module")
-        self.format = read.__name__.partition("_")[2]
-        read()
-        self.instructions = {}
-        for address, offset, size in self.code:
-            self.disassemble(address, data[offset : offset + size])
+        self.data = data
+        self.processor = PROCESSORS[listed(self.unpack("H", 18)[0], PROCESSORS, "a processor")]
 
     def unpack(self, form, offset):
         return struct.unpack_from("<" + form, self.data, offset)
 
+    def rows(self, form, offset, size, count):
+        return [self.unpack(form, offset + size * i) for i in range(count)]
+
     def text(self, offset):
         return self.data[offset : self.data.index(0, offset)].decode()
 
-    def set_processor(self, number):
-        if number not in PROCESSORS:
-            raise Stop("it is for another processor than x86-64 and aarch64")
-        self.processor = PROCESSORS[number]
 
-    def add(self, is_code, is_writable, address, offset, stored, size):
-        """A part of the file in memory. What is not stored is 0."""
-        if offset + stored > len(self.data):
-            raise Stop("it is truncated")
-        if is_code and is_writable:
-            raise Stop("its code can be written")
-        self.places.append((address, offset, min(stored, size), size, is_writable))
-        if is_code:
-            self.code.append((address, offset, stored))
+class Library(File):
+    """`functions` are addresses by name. `instructions` are, by address, a mnemonic, operands, and the next address.
+    `pointers` are what the loader writes, by address: a symbol of another library, or None for this one, and a number that
+    is added. `constructors` are the functions that it calls. `flags` are the bytes that these set, and `setting` says which
+    they are."""
 
-    def export(self, name, address):
-        if self.functions.setdefault(name, address) != address:
-            raise Stop(f"it has {name} in two versions")
-
-    # ---- ELF
-
-    def read_elf(self):
-        kind, processor = self.unpack("HH", 16)
-        self.set_processor(processor)
-        if kind != 3:
-            raise Stop("it is no shared library")
-        (programs,), (size, count) = self.unpack("Q", 32), self.unpack("HH", 54)
-        headers = [self.unpack("IIQQQQQ", at) for at in range(programs, programs + size * count, size)]
-        for kind, flags, offset, address, _, stored, length in headers:
-            if kind == 1:
-                self.add(flags & 1, flags & 2 > 0, address, offset, stored, length)
-        (dynamic,) = (self.data[offset : offset + stored] for kind, _, offset, _, _, stored, _ in headers if kind == 2)
-        self.tags = dict(struct.iter_unpack("<qQ", dynamic))
-        for i in range(self.count_of_symbols()):
-            name, binding, kind, section, value = self.symbol(i)
-            if section and binding and name.startswith("sketch_"):
-                if kind == 10 or section >= 0xFF00:
-                    raise Stop(f"{name} is an indirect function, or has no section")
-                self.export(name, value)
+    def __init__(self, data):
+        super().__init__(data)
+        self.functions, self.places, self.code, self.fixed, self.pointers = {}, [], [], range(0), {}
+        self.instructions, self.flags, self.setting, self.of_linker = {}, frozenset(), {}, set()
+        self.read_segments()
+        self.read_symbols()
         self.relocate()
-        inits = self.read_pointers(INITS)
         self.constructors = [self.tags[INIT]] if INIT in self.tags else []
-        self.constructors += [self.pointers.get(at, (None, n))[1] for at, n in inits]
+        self.constructors += [self.constructor(at) for at, _ in self.words_of(INITS, DATA)]
+        for address, offset, size in self.code:
+            self.disassemble(address, data[offset : offset + size])
 
-    def table(self, tag):
-        """Where a table of the dynamic section is in the file."""
-        return self.offset_of(self.tags[tag])
+    # ---- what is in memory
+
+    def read_segments(self):
+        (start,), (size, count), end = self.unpack("Q", 32), self.unpack("HH", 54), 0
+        segments = self.rows("IIQQQQQQ", start, size, count)
+        for kind, flags, offset, address, _, stored, length, align in segments:
+            listed(kind, SEGMENTS, "a segment of type")
+            if kind == LOAD:
+                listed(flags, {READ, CODE, DATA}, "a segment with flags")
+                if address - address % max(align, PAGE) < end or (address - offset) % PAGE or offset + stored > len(self.data):
+                    raise Stop("it has segments that overlap, or it is truncated")
+                if stored != length and (flags != DATA or stored > length):
+                    raise Stop("it has a segment with fewer bytes than are in memory")
+                end = address + length + -(address + length) % PAGE
+                self.places.append((address, offset, stored, length, flags))
+                self.code += [(address, offset, stored)] * (flags == CODE)
+            if kind == RELRO:  # once it is relocated, nobody can write it
+                self.fixed = range(address, address + length)
+        (address,) = (address for kind, _, _, address, *_ in segments if kind == DYNAMIC)
+        self.tags, needed = {}, []
+        while (tag := self.read("Q", address, DATA)[0]) != 0:
+            (value,), known = self.read("Q", address + 8, DATA), TAGS[listed(tag, TAGS, "the dynamic tag")]
+            listed(value, known or {value}, f"the dynamic tag {tag:#x} with")
+            if tag == NEEDED:
+                needed.append(value)
+            elif self.tags.setdefault(tag, value) != value:
+                raise Stop(f"it has the dynamic tag {tag:#x} twice")
+            address += 16
+        for name in map(self.name, needed):
+            if not LIBRARIES.fullmatch(name):
+                raise Stop(f"it needs another library: {name}")
+
+    def offset_of(self, address, size, *flags):
+        """Where bytes that are stored, in a segment with some flags, are in the file."""
+        for start, offset, stored, _, own in self.places:
+            if start <= address and address + size <= start + stored and own in flags:
+                return offset + address - start
+        raise Stop(f"it is damaged: at {address:#x} there is not what must be")
+
+    def read(self, form, address, *flags):
+        """From what nobody writes, if no flags are given."""
+        return self.unpack(form, self.offset_of(address, struct.calcsize("<" + form), *flags or (READ, CODE)))
+
+    def words_of(self, tag, *flags):
+        """A table's words, with their addresses."""
+        start = self.tags.get(tag)
+        size = 0 if start is None else self.tags[SIZES[tag]]
+        return [(at, *self.read("Q", at, *flags)) for at in range(start or 0, (start or 0) + size, 8)]
+
+    # ---- symbols, and what the loader writes
+
+    def name(self, i):
+        return self.text(self.offset_of(self.tags[NAMES] + i, 1, READ, CODE))
 
     def symbol(self, i):
-        name, info, _, section, value = self.unpack("IBBHQ", self.table(SYMBOLS) + 24 * i)
-        return self.text(self.table(NAMES) + name), info >> 4, info & 15, section, value
+        name, info, _, section, value = self.read("IBBHQ", self.tags[SYMBOLS] + 24 * i)
+        return self.name(name), info >> 4, info & 15, section, value
 
     def count_of_symbols(self):
         if GNU_HASH not in self.tags:
-            return self.unpack("II", self.table(HASH))[1]
-        at = self.table(GNU_HASH)
-        buckets, first, bloom, _ = self.unpack("4I", at)
+            return self.read("II", self.tags[HASH])[1]
+        at = self.tags[GNU_HASH]
+        buckets, first, bloom, _ = self.read("4I", at)
         chains = at + 16 + 8 * bloom + 4 * buckets
-        last = max(self.unpack(f"{buckets}I", chains - 4 * buckets))
-        while last >= first and not self.unpack("I", chains + 4 * (last - first))[0] & 1:
+        last = max(self.read(f"{buckets}I", chains - 4 * buckets))
+        while last >= first and not self.read("I", chains + 4 * (last - first))[0] & 1:
             last += 1
         return last + 1
 
-    def read_pointers(self, tag):
-        """The words of a table, with their addresses."""
-        start = self.tags.get(tag, 0)
-        size = self.tags[SIZE_OF[tag]] if start else 0
-        return [(start + at, self.unpack("Q", self.offset_of(start + at))[0]) for at in range(0, size, 8)]
+    def read_symbols(self):
+        for i in range(self.count_of_symbols()):
+            name, binding, kind, section, value = self.symbol(i)
+            if section and binding and name.startswith("sketch_"):
+                self.must_be_own(name, kind, section, FUNCTIONS)
+                if self.functions.setdefault(name, value) != value:
+                    raise Stop(f"it has {name} in two versions")
+
+    @staticmethod
+    def must_be_own(name, kind, section, kinds):
+        listed(kind, kinds, f"{name} as a symbol of type")
+        listed(section, PLACES, f"{name} in the section")
 
     def relocate(self):
-        if REL in self.tags:
-            raise Stop("it has relocations without addends")
         at = 0
-        for _, word in self.read_pointers(PACKED):  # an address, or bits for the next 63 words
-            for i in range(1, 64) if word & 1 else ():
-                if word >> i & 1:
-                    self.point(at + 8 * i - 8, None)
+        for _, word in self.words_of(PACKED):  # an address, or bits for the next 63 words
+            for i in range(1, 64) if word & 1 else [0]:
+                if word >> i & 1 or not i:
+                    place = at + 8 * i - 8 if i else word
+                    self.point(place, None, self.read("Q", place, DATA)[0])
             at = at + 63 * 8 if word & 1 else word + 8
-            if not word & 1:
-                self.point(word, None)
         for tag in (ADDENDS, JUMPS):
-            words = [word for _, word in self.read_pointers(tag)]
+            words = [word for _, word in self.words_of(tag)]
             for place, info, addend in zip(words[::3], words[1::3], words[2::3]):
-                kind, symbol = info & 0xFFFFFFFF, info >> 32
-                if kind == RELATIVE[self.processor]:
+                kind, (name, binding, type, section, value) = info & 0xFFFFFFFF, self.symbol(info >> 32)
+                listed(kind, {*RELATIVE, *ADDRESS, *OF_LINKER}, "a relocation of type")
+                self.of_linker.update(range(place, place + 8) if kind in OF_LINKER else ())
+                if kind in RELATIVE:
                     self.point(place, None, addend)
-                elif kind in ADDRESS[self.processor]:
-                    name, binding, type, section, value = self.symbol(symbol)
-                    is_own = section and type != 10
-                    # A weak symbol that no library has is 0.
-                    self.point(place, None if is_own else "" if binding == 2 else name, addend + value * bool(section))
+                elif section:
+                    self.must_be_own(name, type, section, ANYTHING)
+                    self.point(place, None, addend + value)
                 else:
-                    self.point(place, f"a relocation of type {kind}", 0)
+                    listed(binding, {GLOBAL} if name not in ABSENT else {WEAK}, f"{name}, of another library, with the binding")
+                    self.point(place, "" if binding == WEAK else name, addend)
 
-    def point(self, place, symbol, addend=None):
-        if any(address <= place < address + size for address, _, size in self.code):
-            self.changed.update(range(place, place + 8))
-        self.pointers[place] = symbol, self.unpack("Q", self.offset_of(place))[0] if addend is None else addend
+    def point(self, place, symbol, n):
+        self.offset_of(place, 8, DATA)
+        if not self.pointers.keys().isdisjoint(range(place - 7, place + 8)):
+            raise Stop(f"it has two relocations at {place:#x}")
+        self.pointers[place] = symbol, n
 
-    # ---- PE and Mach-O
-
-    def read_pe(self):
-        (start,) = self.unpack("I", 60)
-        self.set_processor(self.unpack("H", start + 4)[0])
-        (count,), (optional,), (base,) = (self.unpack(form, start + at) for form, at in (("H", 6), ("H", 20), ("Q", 48)))
-        for at in range(start + 24 + optional, start + 24 + optional + 40 * count, 40):
-            size, address, stored, offset = self.unpack("4I", at + 8)
-            (flags,) = self.unpack("I", at + 36)
-            self.add(flags & 1 << 29, flags >> 31 > 0, address, offset, min(size, stored), size)
-        self.constructors = None  # what the run-time calls is not in a table
-        count, functions, names, ordinals = self.unpack("4I", self.offset_of(self.unpack("I", start + 136)[0]) + 24)
-        for i in range(count):
-            name, ordinal = (self.unpack(form, self.offset_of(table) + size * i)[0]
-                             for form, table, size in (("I", names, 4), ("H", ordinals, 2)))
-            self.export(self.text(self.offset_of(name)), self.unpack("I", self.offset_of(functions) + 4 * ordinal)[0])
-        at, size = self.unpack("II", start + 176)  # the places whose number is an address
-        while size > 0:
-            page, length = self.unpack("II", self.offset_of(at))
-            for (word,) in struct.iter_unpack("<H", self.data[self.offset_of(at + 8) : self.offset_of(at) + length]):
-                if word >> 12:
-                    place = page + (word & 0xFFF)
-                    self.point(place, None, self.unpack("Q", self.offset_of(place))[0] - base)
-            at, size = at + length, size - length
-
-    def read_macho(self):
-        self.set_processor(self.unpack("I", 4)[0])
-        at, imports = 32, []
-        for _ in range(self.unpack("I", 16)[0]):
-            command, size = self.unpack("II", at)
-            if command == 0x19:  # a segment
-                for section in range(at + 72, at + size, 80):
-                    address, length, offset, (flags,) = *self.unpack("QQI", section + 32), self.unpack("I", section + 64)
-                    stored = 0 if flags & 0xFF in (1, 12) else length  # zeros are not stored
-                    self.add(flags >> 31, self.unpack("I", at + 60)[0] & 2 > 0, address, offset, stored, length)
-                    if flags & 0xFF == 9:
-                        self.constructors += self.unpack(f"{length // 8}Q", offset)
-                    if flags & 0xFF in (6, 7):  # pointers to symbols, of which it has the first one's index
-                        (first,) = self.unpack("I", section + 68)
-                        imports += [(address + 8 * i, first + i) for i in range(length // 8)]
-            if command == 0xB:
-                (indirect,) = self.unpack("I", at + 56)
-            if command == 2:  # symbols
-                symbols, count, names = self.unpack("3I", at + 8)
-                for name, kind, _, _, value in struct.iter_unpack("<IBBHQ", self.data[symbols : symbols + 16 * count]):
-                    if kind & 0xF == 0xF:
-                        self.export(self.text(names + name + 1), value)
-            at += size
-        for place, i in imports:
-            (symbol,) = self.unpack("I", indirect + 4 * i)
-            if symbol < count:
-                name, kind, _, _, value = self.unpack("IBBHQ", symbols + 16 * symbol)
-                self.pointers[place] = (None, value) if kind & 0xE else (self.text(names + name + 1), 0)
+    def constructor(self, at):
+        symbol, address = self.pointers.get(at, ("no function", 0))
+        if symbol is not None:
+            raise Stop(f"it has a constructor that is not its own: {symbol}")
+        return address
 
     # ---- instructions and memory
 
@@ -229,10 +239,7 @@ class Library:
         for start, offset, size in self.code:
             if start <= at < start + size and at not in self.instructions:
                 self.disassemble(at, self.data[offset + at - start : offset + size])
-        found = self.instructions.get(at)
-        if found and self.changed and not self.changed.isdisjoint(range(at, found[2])):
-            raise Stop("the loader changes an instruction")
-        return found
+        return self.instructions.get(at)
 
     @functools.cache
     def uses(self, pattern):
@@ -244,47 +251,101 @@ class Library:
         """Whether there is a table of 1, 2, 4 and so on to 2^31, which nobody writes."""
         places, bits = range(start, start + 128), b"".join(struct.pack("<I", 1 << i) for i in range(32))
         is_written = any(map(self.is_writable, places)) or not self.pointers.keys().isdisjoint(range(start - 7, start + 128))
-        return not is_written and [self.byte(at) for at in places] == [(byte, True) for byte in bits]
-
-    def offset_of(self, address):
-        """Where a byte that is stored is in the file."""
-        for start, offset, stored, _, _ in self.places:
-            if start <= address < start + stored:
-                return offset + address - start
-        raise Stop("it is damaged")
+        return not is_written and [self.byte(at) for at in places] == [*bits]
 
     def byte(self, address):
-        """A byte before the constructors run, and whether the file stores it; or None."""
+        """A byte before the constructors run; or None."""
         for start, offset, stored, size, _ in self.places:
             if start <= address < start + size:
-                return (self.data[offset + address - start], True) if address < start + stored else (0, False)
+                return self.data[offset + address - start] if address < start + stored else 0
         return None
 
     def is_writable(self, address):
-        return any(start <= address < start + size and writable for start, _, _, size, writable in self.places)
+        return address not in self.fixed and any(
+            start <= address < start + size and flags == DATA for start, _, _, size, flags in self.places)
+
+    def writable(self):
+        return [at for start, _, _, size, flags in self.places if flags == DATA for at in range(start, start + size)
+                if at not in self.fixed]
+
+
+# ---- object files, and archives
+
+class Object(File):
+    """An object file, which must have nothing that makes a linker of another program do something else with it."""
+
+    def __init__(self, data):
+        super().__init__(data)
+        (start,), (size, count, names) = self.unpack("Q", 40), self.unpack("3H", 58)
+        sections = self.rows("IIQQQQII", start, size, count)
+        for name, kind, flags, *_ in sections:
+            name = self.text(sections[names][4] + name)
+            if re.match(r"\.gnu\.lto_|\.llvm(bc|\.lto)", name):
+                raise Stop("it is for optimization at link time (-flto): check what the linker makes of it")
+            listed(kind, SECTIONS, f"the section {name} of type")
+            if flags & 2 and not IN_MEMORY.fullmatch(name):
+                raise Stop(f"it has the section {name}, which is not on the list of what is read")
+        self.changed = bytearray(data)
+        for _, kind, _, _, offset, length, link, _ in sections:
+            for at in range(offset, offset + length, 24) if kind == TABLE else ():
+                self.read_symbol(at, sections[link][4])
+
+    def read_symbol(self, at, names):
+        """A function of the library may be hidden. Then it is shown here."""
+        name, info, _, section = self.unpack("IBBH", at)
+        name, binding = self.text(names + name), info >> 4
+        if section == 0xFFF2:
+            raise Stop(f"it has the common symbol {name}, of which a linker may take another one")
+        if name.startswith("sketch_") and binding != LOCAL:
+            listed(binding, {GLOBAL}, f"{name} with the binding")
+            self.changed[at + 5] &= ~3
+
+    def linked(self):
+        with tempfile.TemporaryDirectory() as tmp:
+            path, linker = pathlib.Path(tmp, "object.o"), LINKERS[self.processor]
+            path.write_bytes(self.changed)
+            run = subprocess.run([linker, "-shared", "-Bsymbolic", "-o", f"{tmp}/linked", path], capture_output=True, text=True)
+            if run.returncode:
+                raise Stop(f"{linker} cannot link it: {' '.join(run.stderr.split())}")
+            return pathlib.Path(tmp, "linked").read_bytes()
+
+
+def member_of(archive):
+    """The object file in an archive of one."""
+    at, found = len(ARCHIVE), []
+    while at < len(archive):
+        name, size = archive[at : at + 16].decode().strip(), int(archive[at + 48 : at + 58])
+        if name not in ("/", "//", "/SYM64/"):
+            found.append(archive[at + 60 : at + 60 + size])
+        at += 60 + size + size % 2
+    if len(found) != 1:
+        raise Stop(f"it is an archive of {len(found)} object files: check one, or link them to a library")
+    return found[0]
 
 
 def read(path):
-    """A shared library; or an archive or an object file, as a linker makes one of it."""
+    """A shared library, an object file, an archive of one, or a module."""
     data = path.read_bytes()
     try:
-        if data.startswith((ELF, b"!<arch>")):
-            data = linked(path, data)
-        library = Module(data) if data.startswith(MAGIC) else Library(data)
+        library = read_data(data)
     except (struct.error, ValueError, KeyError, IndexError, TypeError) as error:
-        raise Stop(f"it is truncated or damaged: {error}") from None
-    if not any(name.startswith("sketch_") for name in library.functions):
-        raise Stop("it has no function of the header")
+        raise NoLibrary(f"it is truncated or damaged: {error}") from None
+    others = {name for name in library.functions if name.removeprefix("sketch_") not in PARAMETERS}
+    if others == library.functions.keys():
+        raise NoLibrary("it has no function of the header")
+    if others and isinstance(library, Module):
+        raise Stop(f"it exports {', '.join(sorted(others))}, which may change its data")
     return library
 
 
-def linked(path, data):
-    linker = next((name for magic, name in LINKERS.items() if magic in data), None)
-    if not linker:
-        raise Stop("it has no object file that is known")
-    with tempfile.TemporaryDirectory() as tmp:
-        command = [linker, "-shared", "-o", f"{tmp}/linked", "--whole-archive", path]
-        run = subprocess.run(command, capture_output=True, text=True)
-        if run.returncode:
-            raise Stop(f"{linker} cannot link it: {' '.join(run.stderr.split())}")
-        return pathlib.Path(tmp, "linked").read_bytes()
+def read_data(data):
+    if data.startswith(MAGIC):
+        return Module(data)
+    if data.startswith(ARCHIVE):
+        data = member_of(data)
+    if data.startswith(b"BC\xc0\xde"):
+        raise Stop("it is LLVM bitcode, for optimization at link time (-flto): check what the linker makes of it")
+    if not data.startswith(ELF):
+        raise NoLibrary("it is no ELF library or object of 64 bits, no archive of one, and no WebAssembly module")
+    kind = listed(struct.unpack_from("<H", data, 16)[0], {OBJECT, SHARED}, "an ELF type")
+    return Library(Object(data).linked() if kind == OBJECT else data)

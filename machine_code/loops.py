@@ -11,28 +11,33 @@ At the head each place, of a register or of memory, is what it is at the entry p
 of the definitions' state; or anything. Two turns suggest which. The three runs then show it: a suggestion that is wrong can
 make a check fail, and not pass. In a turn the number of turns that are left becomes smaller by one, so the loop ends.
 """
+import collections
 import copy
 from functools import partial
 
 import values
-from machine import Setting, side_by_side
-from values import Stop, Undecided, add, cut, extend, join, mul, number, number_in, sub, unknown, width_of
+from machine import side_by_side
+from values import Differs, Stop, Undecided, add, cut, extend, join, mul, number, number_in, sub, unknown, width_of
 
 SIZE = 60  # an array has fewer than 2^60 bytes
+# A machine at the head of a loop, the words of the definitions' state there, what each place is, and how many turns are done.
+Head = collections.namedtuple("Head", "run words places turns")
 
 
 def on_each_path(run):
-    """Runs anew for either outcome of a choice that depends on unknowns, until all are decided."""
-    paths = [[]]
+    """Runs a case anew for either outcome of a choice that depends on unknowns, until all are decided. Returns what each path
+    gives."""
+    paths, results = [()], []
     while paths:
         ways = paths.pop()
         try:
-            with values.assuming(ways):
-                run()
+            with values.case(*ways):
+                results.append(run())
         except Undecided as choice:
             if len(ways) == 12:
                 raise
-            paths += [[*ways, way] for way in choice.ways]
+            paths += [(*ways, way) for way in choice.ways]
+    return results
 
 
 # ---- places: 64 bits of a register, or eight bytes of memory or one
@@ -65,7 +70,23 @@ def set_places(run, new):
     run.flags = None
 
 
-class Subject:
+class Fixed:
+    """Something whose attributes are set once, so that none can come from another path. What belongs to a call is the
+    machine's."""
+
+    def __init__(self, **attributes):
+        vars(self).update(attributes)
+
+    def __setattr__(self, name, value):
+        raise AttributeError(f"{name} is fixed")
+
+    def with_other(self, **attributes):
+        other = copy.copy(self)
+        vars(other).update(attributes)
+        return other
+
+
+class Subject(Fixed):
     """A call with a loop of so many turns. A turn has `per` elements: pieces of an input, numbers or keys.
 
     `start(count)` gives a machine at the beginning of a call with `count` turns to do. The words are the state of the
@@ -80,7 +101,7 @@ class Subject:
         """A number of turns."""
         return extend(unknown((what, self.name), self.length_bits - (self.per * self.bytes - 1).bit_length(), least))
 
-    def elements_written(self):
+    def elements_written(self, run):
         """How many are written at the first arrival, if the loop writes any; else None."""
         return None
 
@@ -104,89 +125,85 @@ class Subject:
     def step(self, words, turns, done, way):
         return []
 
-    def assume(self, run, words, turns, done, way):
+    def assume(self, head, done, way):
         """What is so at the head, and what a way assumes."""
 
-    def entered(self, done):
+    def entered(self, run, done):
         """What must be so at the first arrival: so many elements are done."""
 
-    def turned(self, turns, done):
+    def turned(self, head, done):
         """What must be so after a turn."""
 
-    def ways(self):
+    def ways(self, begin):
+        """`begin` is what gives the head of a turn of a way, in a case."""
         return [None]
 
-    def travel(self, loop, turns, left, way, *target):
-        """A machine that has gone on from the head to a target, the words at the head, what was there, and whether it came."""
-        run, words, before = loop.at(turns, left, way)
-        return run, words, before, run.go(*target)
+    def travel(self, begin, way, *target):
+        """The head of a turn, from which the machine has gone on to a target, and whether it came there."""
+        head = begin(way)
+        return head, head.run.go(*target)
 
-    def leave(self, run, turns, done, way):
+    def leave(self, head, done, way):
         """What must be so if a turn ends the call."""
         raise Stop("the loop ends before its last turn")
 
 
-class Loop:
+class Loop(Fixed):
     """A loop of a subject. `least` is the fewest turns of the calls that reach it; with `last` turns left it ends. A late head
-    is behind the choice whether a turn is left: for a loop that reads an element a turn ahead."""
+    is behind the choice whether a turn is left: for a loop that reads an element a turn ahead. What a turn does may be
+    suggested by another loop, `like`."""
 
-    def __init__(self, subject, least, last, like=None, is_late=False):
-        """What a turn does may be suggested by another loop."""
-        self.subject, self.least, self.last, self.is_late = subject, least, last, is_late
+    def __init__(self, subject, least, last, is_late=False, like=None):
+        super().__init__(subject=subject, least=least, last=last, is_late=is_late)
         if like:
-            self.head, self.arrivals, self.done, self.roles = like.head, like.arrivals, like.done, dict(like.roles)
+            vars(self).update(head=like.head, arrivals=like.arrivals, done=like.done, roles=like.roles)
         else:
             self.find_head()
-            with values.assuming():
+            with values.case():
                 self.suggest()
         on_each_path(lambda: self.enter(subject.some("total", least)))
         self.check_turns()
 
     def of(self, subject):
         """The same with another subject, of which this one is the general case."""
-        other = copy.copy(self)
-        other.subject = subject
-        return other
+        return self.with_other(subject=subject)
 
     def find_head(self):
         """A choice that depends on how many turns are left is made once a turn. From it to the next time is a turn, and the
         head is what the first one begins with."""
-        arrivals = []
+        counts = []
         for least in self.subject.tries:
-            with values.assuming():
-                trace = self.trace(least)
+            with values.case():
+                trace, choice = self.trace(least)
             found = [i for i, at in enumerate(trace[:-1]) if at == trace[-1]]
             if not found:
-                raise self.choice
+                raise choice
             turn = trace[found[-1] + 1 :]
             once = [at for at in turn if turn.count(at) == 1]
-            self.head = once[0] if self.is_late else min(once, key=trace.index)
-            arrivals.append(trace.count(self.head))
-        self.arrivals, rest = divmod(arrivals[1] - arrivals[0], self.subject.tries[1] - self.subject.tries[0])
-        if rest or not self.arrivals:
+            head = once[0] if self.is_late else min(once, key=trace.index)
+            counts.append(trace.count(head))
+        arrivals, rest = divmod(counts[1] - counts[0], self.subject.tries[1] - self.subject.tries[0])
+        if rest or not arrivals:
             raise Stop("a turn of the loop is none of the subject")
+        vars(self).update(head=head, arrivals=arrivals)
 
     def trace(self, least):
-        """The instructions up to the first choice that is open."""
+        """The instructions up to the first choice that is open, and this."""
         run = self.subject.suggestion(self.subject.some("total", least))
         begin = len(run.executed)
         try:
             run.go()
-        except Setting:
-            raise
         except Undecided as choice:
-            self.choice = choice
-            return run.executed[begin:]
+            return run.executed[begin:], choice
         raise Stop("there is no loop")
 
     def suggest(self):
         """What each place becomes in a turn, as the first two show: pairs of "by" and a number, or "word" and an index."""
         run, seen = self.subject.suggestion(self.subject.some("total", 8)), []
         for arrivals in (1, self.arrivals, self.arrivals):
-            if not run.go(self.head, arrivals):
-                raise Stop("the head of the loop is not reached")
+            self.go_to_head(run, arrivals)
             if not seen:
-                written = self.subject.elements_written()
+                written = self.subject.elements_written(run)
             seen.append(places_of(run))
         most = None  # words that are found
         for done in [written] if written is not None else range(4):
@@ -196,7 +213,8 @@ class Loop:
             roles = {place: self.role([here.get(place) for here in seen], words) for place in seen[0]}
             found = len({role[1] for role in roles.values() if role and role[0] == "word"})
             if found + self.subject.optional >= len(words[0]) and (most is None or self.is_late and found >= most):
-                self.done, self.roles, most = done, roles, found
+                vars(self).update(done=done, roles=roles)
+                most = found
         if most is None:
             raise Stop("the words of the definition are not found in the loop")
 
@@ -211,21 +229,22 @@ class Loop:
         first, second = (number_in(sub(after, before)) for before, after in zip(seen, seen[1:]))
         return ("by", first) if first is not None and first == second else None
 
-    def enter(self, total):
-        run = self.subject.reach(total, self.done)
-        if not run.go(self.head):
+    def go_to_head(self, run, arrivals=1):
+        if not run.go(self.head, arrivals):
             raise Stop("the loop is not reached")
+        return run
+
+    def enter(self, total):
+        run = self.go_to_head(self.subject.reach(total, self.done))
         words, now = self.subject.words_at_entry(self.done), places_of(run)
         for place, role in self.roles.items():
             if role and role[0] == "word" and now[place] != words[role[1]]:
                 raise Stop(f"at the entry of the loop {place} is not what the definitions say")
-        self.subject.entered(self.done)
+        self.subject.entered(run, self.done)
 
-    def at(self, turns, left, way):
-        """A machine at the head after so many turns, the words of the definitions' state, and what each place is."""
-        run = self.subject.reach(add(turns, left), self.done)
-        if not run.go(self.head):
-            raise Stop("the loop is not reached")
+    def at(self, turns, left, way=None):
+        """The head after so many turns, with so many left."""
+        run = self.go_to_head(self.subject.reach(add(turns, left), self.done))
         words = self.subject.any_words()
         for place, value in (here := places_of(run)).items():
             role = self.roles.get(place)
@@ -236,42 +255,48 @@ class Loop:
             else:
                 here[place] = unknown(("anything", self.subject.name, place), width_of(value))
         set_places(run, here)
-        self.subject.assume(run, words, turns, self.done, way)
-        return run, words, here
+        values.begin("loop", "call", "loop")
+        run.heads.append(Head(run, words, here, turns))
+        self.subject.assume(run.heads[-1], self.done, way)
+        return run.heads[-1]
 
-    def turn(self, turns, left, way):
-        run, words, before, came = self.subject.travel(self, turns, left, way, self.head, self.arrivals)
-        if not came:
-            return self.subject.leave(run, turns, self.done, way)
-        new, now = self.subject.step(words, turns, self.done, way), places_of(run)
-        for place, role in self.roles.items():
-            if role and place in before:
-                expected = new[role[1]] if role[0] == "word" else add(before[place], number(role[1], width_of(before[place])))
-            if role and (place not in before or now.get(place) != expected):
-                self.wrong.add(place)
-        if not self.wrong:
-            self.subject.turned(turns, self.done)
-
-    def check_turns(self):
-        """With more turns left than the last ones. A place that is not as suggested is anything."""
-        self.wrong = set()
+    def in_turn(self, way):
+        """Any turn, but for the last ones."""
         total, turns = self.subject.some("total", max(self.least, self.last + 1)), self.subject.some("turns")
-        for way in self.subject.ways():
-            with values.assuming():
-                values.assume_at_most(turns, total, self.last + 1)
-                on_each_path(lambda: self.turn(turns, sub(total, turns), way))
-            if self.wrong:
-                self.roles |= dict.fromkeys(self.wrong)
-                return self.check_turns()
+        values.assume_at_most(turns, total, self.last + 1)
+        return self.at(turns, sub(total, turns), way)
+
+    def at_end(self, way=None):
+        """With the last turns to do."""
+        return self.at(self.turns_at_end(), number(self.last), way)
 
     def turns_at_end(self):
         return sub(self.subject.some("total", max(self.least, self.last)), number(self.last))
 
-    def at_end(self):
-        """A machine at the head with the last turns to do, the words there, and how many turns are done."""
-        turns = self.turns_at_end()
-        run, words, _ = self.at(turns, number(self.last), None)
-        return run, words, turns
+    def turn(self, way):
+        """The places that are not as suggested."""
+        head, came = self.subject.travel(self.in_turn, way, self.head, self.arrivals)
+        if not came:
+            self.subject.leave(head, self.done, way)
+            return set()
+        new, now, wrong = self.subject.step(head.words, head.turns, self.done, way), places_of(head.run), set()
+        for place, role in self.roles.items():
+            if role and place in head.places:
+                before = head.places[place]
+                expected = new[role[1]] if role[0] == "word" else add(before, number(role[1], width_of(before)))
+            if role and (place not in head.places or now.get(place) != expected):
+                wrong.add(place)
+        if not wrong:
+            self.subject.turned(head, self.done)
+        return wrong
+
+    def check_turns(self):
+        """A place that is not as suggested is anything. Then all turns are checked anew."""
+        while wrong := next(filter(None, map(self.wrong_places, self.subject.ways(self.in_turn))), None):
+            vars(self).update(roles=self.roles | dict.fromkeys(wrong))
+
+    def wrong_places(self, way):
+        return set().union(*on_each_path(lambda: self.turn(way)))
 
 
 def first_shown(attempts):
@@ -280,9 +305,9 @@ def first_shown(attempts):
     for attempt in attempts:
         try:
             return attempt()
-        except Setting:
-            raise
         except Stop as stop:
+            if isinstance(stop, Differs) and stop.input:
+                raise
             faults.append(str(stop))
     raise Stop(" | ".join(dict.fromkeys(faults)))
 
@@ -295,20 +320,25 @@ def prove(make, pers, like=None, finish=lambda loop: loop.subject.finish(loop)):
         finish(loop)
         return loop
 
-    ways = [(like.subject.per, like.least, like.last, like, like.is_late)] if like else []
-    ways += [(per, least, last, None, False) for per in pers for least, last in ((1, 1), (2, 1), (3, 2), (4, 1))]
-    ways += [(per, 2, 2, None, True) for per in pers]
+    ways = [(like.subject.per, like.least, like.last, like.is_late, like)] if like else []
+    ways += [(per, least, last) for per in pers for least, last in ((1, 1), (2, 1), (3, 2), (4, 1))]
+    ways += [(per, 2, 2, True) for per in pers]
     return first_shown(partial(attempt, *way) for way in ways)
 
 
 def prove_each_rest(make, rests=1, lead=0):
-    """For calls of any number of elements, each of which can have so many rests; then the few that reach no loop."""
-    loops = [prove(lambda per: make(number(0), per), (1, 2, 4, 8, 16))]
-    per = loops[0].subject.per
-    if rests * per > 1:
-        loops = prove_rests(partial(make, per=per), rests, per, loops[0])
-    for n in range(lead + max(loop.least for loop in loops) * per * rests):
-        make(number(n - lead), 1).few()
+    """For calls of any number of elements, each of which can have so many rests; then the few that reach no loop. If they are
+    not shown, some calls of few may be wrong, which says more."""
+    few = 4 * max(rests, 16)
+    try:
+        loops = [prove(lambda per: make(number(0), per), (1, 2, 4, 8, 16))]
+        per = loops[0].subject.per
+        if rests * per > 1:
+            loops = prove_rests(partial(make, per=per), rests, per, loops[0])
+        few = max(loop.least for loop in loops) * per * rests
+    finally:
+        for n in range(lead + few):
+            on_each_path(make(number(n - lead), 1).few)
 
 
 def prove_rests(make, rests, per, like):

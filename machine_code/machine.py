@@ -1,11 +1,13 @@
 """What the processors have in common: memory, conditions, and a run from a call to its return."""
 import functools
 import inspect
+import pathlib
 
+import values
 from library import PARAMETERS
 from values import (Stop, Undecided, add, are_equal, bitwise, complement, cut, extend, facts, gap_of, greatest, is_below,
-                    is_not_negative, is_zero, join, known, linear, number, number_in, power_of_two, repeat, shift_left,
-                    signed, sub, total, unknown, unknowns_in, width_of)
+                    is_not_negative, is_zero, join, known, linear, must_equal, number, number_in, power_of_two, repeat,
+                    shift_left, signed, sub, total, unknown, unknowns_in, width_of)
 
 IMAGE = extend(join(number(0, 12), unknown("image", 50, 1)))  # where the library is
 CALLER = extend(unknown("caller", 62, 1))  # where a call returns to
@@ -77,31 +79,38 @@ IN_IMAGE = place_of(IMAGE)[0]
 
 
 @functools.cache
+def forms_of(processor):
+    """The forms of instructions that `test_instructions.py` has compared with the processor and has written: by line
+    mnemonics with their prefixes, and the operands that each of them takes."""
+    lines = pathlib.Path(__file__).with_name(f"forms_{processor}.txt").read_text().splitlines()
+    groups = [[part.split() for part in line.split(" : ")] for line in lines]
+    return frozenset(f"{name} {form}" for names, forms in groups for name in names for form in forms)
+
+
+@functools.cache
 def external(name):
     """The address of a function or of data of another library; of "", which is none, 0."""
     return extend(unknown(("external", name), 62, 1)) if name else number(0)
 
 
-class Setting(Undecided):
-    """A choice by what is the same in all of a call: a static flag of the library."""
+class Setting(Exception):
+    """A byte that constructors set is read, and it is not said which it is."""
+
+
+def contents(name, offset, count):
+    """What some bytes of an array are before a call."""
+    base, at = place_of(offset)
+    return [unknown((name, base, at + i), 8) for i in range(count)]
 
 
 class Array:
     """Bytes in memory, as many as an unknown says. What is in them is unknown too, until they are written.
 
-    A call reads and writes at or after `first` alone, an offset: what is before it is finished."""
+    A call reads and writes at or after `first` alone, an offset."""
 
     def __init__(self, name, at, length, is_writable=False):
         self.name, self.at, self.length, self.is_writable = name, at, extend(length), is_writable
         self.first, self.written = number(0), {}
-
-    def byte(self, offset, i):
-        """What the byte at offset + i is before the call."""
-        base, at = place_of(offset)
-        return unknown((self.name, base, at + i), 8)
-
-    def bytes(self, offset, count):
-        return [self.byte(offset, i) for i in range(count)]
 
     def offset_of(self, address, size):
         """The offset of an access that is within the array, or None."""
@@ -124,10 +133,15 @@ class Array:
             if not (after and is_not_negative(*after) or before and is_not_negative(*before)):
                 raise Stop("an access that perhaps overlaps what the call has written")
 
+    def begin_at(self, offset):
+        """What is before it is finished."""
+        self.first, self.written = offset, {}
+
     def load(self, offset, size):
         self.must_not_overlap(offset, size)
         base, at = place_of(offset)
-        return [self.written.get((base, at + i)) or (self.byte(offset, i), 0) for i in range(size)]
+        before = contents(self.name, offset, size)
+        return [self.written.get((base, at + i)) or (before[i], 0) for i in range(size)]
 
     def store(self, offset, value):
         self.must_not_overlap(offset, width_of(value) // 8)
@@ -135,17 +149,13 @@ class Array:
         self.written |= {(base, at + i): (value, 8 * i) for i in range(width_of(value) // 8)}
 
     def must_have_written(self, values):
-        """All that is written since `first` are these values, one behind the other."""
-        (base, at), count = place_of(self.first), 0
-        for value in values:
-            for i in range(width_of(value) // 8):
-                if (base, at + count) not in self.written:
-                    raise Stop("not all that must be written is")
-                found, bit = self.written[base, at + count]
-                if cut(found, bit, 8) != cut(value, 8 * i, 8):
-                    raise Stop("what is written is not what the definitions say")
-                count += 1
-        if len(self.written) > count:
+        """What is at `first` now is these values, one behind the other, and nothing else is written."""
+        expected = [(value, bit) for value in values for bit in range(0, width_of(value), 8)]
+        (base, at), before = place_of(self.first), contents(self.name, self.first, len(expected))
+        for i, (value, bit) in enumerate(expected):
+            found, start = self.written.get((base, at + i), (before[i], 0))
+            must_equal(cut(found, start, 8), cut(value, bit, 8), "what is written")
+        if self.written.keys() - {(base, at + i) for i in range(len(expected))}:
             raise Stop("more is written than must be")
 
 
@@ -157,10 +167,15 @@ def of_place(base, n):
 class Machine:
     """One call. A subclass has the registers and the instructions of a processor."""
 
+    is_loading = False  # whether it runs constructors
+    form_of = None  # gives the form of an instruction, which must be among `forms`
     size, image, limit = 64, IMAGE, 1_000_000  # bits of a size; where the library is; how many instructions a run may have
 
     def __init__(self, library):
+        values.begin("call", "open")
         self.library, self.registers, self.bytes, self.writable, self.arrays = library, {}, {}, set(), []
+        # Of the call: what it writes, the filter, the hash of its key once that is known, and the heads of its loops.
+        self.target, self.filter, self.answer, self.heads = None, None, None, []
         self.flags, self.at, self.next, self.executed = None, None, None, []
         self.stack = self.stack_pointer()
         self.set_up()
@@ -219,7 +234,11 @@ class Machine:
 
     def byte_of_image(self, at):
         if at in self.library.flags:
-            return extend(unknown(("static", at), 1), 8), 0
+            if at not in self.library.setting:
+                raise Setting(at)
+            return number(self.library.setting[at], 8), 0
+        if self.library.is_writable(at) and not self.is_loading and at not in self.library.of_linker:
+            raise Stop("a read of what others may have written")
         for place in range(at - 7, at + 1):
             if place in self.library.pointers:
                 symbol, n = self.library.pointers[place]
@@ -227,7 +246,7 @@ class Machine:
         found = self.library.byte(at)
         if found is None:
             raise Stop("a read outside of what the call is given")
-        return number(found[0], 8), 0
+        return number(found, 8), 0
 
     def bit_of_table(self, address):
         """A word of a table of the library that has 2^i at index i, at an unknown index of five bits; else None."""
@@ -333,11 +352,9 @@ class Machine:
         if number_in(bit) is None and name in ("s", "ns", "l", "ge"):
             raise Undecided("a sign", *(({self.condition("s"): number(n, 1)}, []) for n in (0, 1)))
         if number_in(bit) is None and name in ("e", "ne"):
-            zero, value = self.condition("e"), self.flags[3]
-            kind = Setting if all(name[0] == "static" for name in unknowns_in(zero)) else Undecided
-            yes, no = number(1, 1), number(0, 1)
-            raise kind("whether a value is 0", ({zero: yes, complement(zero): no, value: number(0)}, []),
-                       ({zero: no, complement(zero): yes}, []))
+            zero, value, yes, no = self.condition("e"), self.flags[3], number(1, 1), number(0, 1)
+            raise Undecided("whether a value is 0", ({zero: yes, complement(zero): no, value: number(0)}, []),
+                            ({zero: no, complement(zero): yes}, []))
         return known(bit, "a branch")
 
     def subtract(self, x, y):
@@ -354,6 +371,7 @@ class Machine:
             raise Stop("the header has another number of parameters")
         if f"sketch_{function}" not in self.library.functions:
             raise Stop("the library does not have it")
+        values.arguments |= zip(PARAMETERS[function], arguments)
         self.begin_at(self.library.functions[f"sketch_{function}"], arguments)
 
     def begin_at(self, address, arguments):
@@ -412,6 +430,8 @@ class Machine:
         self.next = following
         self.executed.append(self.at)
         try:
+            if self.form_of and self.form_of(op, operands) not in self.forms:
+                raise Stop("its form is not among those that were compared with a processor")
             self.step(op, operands)
         except Stop as stop:
             stop.args = (f"{self.at:x}: {op} {operands}: {stop}",)
@@ -429,15 +449,15 @@ class Machine:
     # ---- what it must leave
 
     def must_return(self, value):
-        if value is not None and cut(self.registers[self.result_register], 0, width_of(value)) != value:
-            raise Stop("the result is not what the definitions say")
+        if value is not None:
+            must_equal(cut(self.registers[self.result_register], 0, width_of(value)), value, "the result")
 
     def must_have(self, address, values):
         """These values in memory, one behind the other. None is any byte."""
         for value in values:
             size = width_of(value) // 8 if value is not None else 1
-            if value is not None and self.load(address, size) != value:
-                raise Stop("what is written is not what the definitions say")
+            if value is not None:
+                must_equal(self.load(address, size), value, "what is written")
             address = add(address, number(size))
 
 

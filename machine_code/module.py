@@ -6,7 +6,7 @@ is its result. Structured control becomes jumps.
 """
 import bisect
 
-from values import Stop
+from values import NoLibrary, Stop
 
 MAGIC = b"\0asm"
 COMPARISONS = "eqz eq ne lt_s lt_u gt_s gt_u le_s le_u ge_s ge_u".split()
@@ -36,34 +36,52 @@ class Label:
 class Module:
     """As a library. An instruction is a name, operands, and the next address; a target is a list of one address."""
 
-    processor = format = "wasm"
-    pointers, changed, constructors = {}, set(), []
+    processor, pointers, constructors, setting = "wasm", {}, [], {}
 
     def __init__(self, data):
-        self.data, self.at, self.flags, self.instructions = data, 8, set(), {}
+        self.data, self.at, self.flags, self.instructions, self.memories = data, 8, frozenset(), {}, []
         self.types, self.signatures, self.globals, self.exports, self.bodies, self.places = [], [], [], {}, [], []
         if data[:8] != MAGIC + b"\1\0\0\0":
-            raise Stop("it is no WebAssembly module of version 1")
-        readers = {1: self.read_type, 3: self.read_function, 5: self.read_memory, 6: self.read_global, 7: self.read_export,
-                   10: self.read_body, 11: self.read_data}
-        while self.at < len(data):
-            section, size = self.byte_of_file(), self.unsigned()
-            end = self.at + size
-            for _ in range(self.unsigned()) if section in readers else ():
-                readers[section]()
-            if section not in (0, 12, *readers) or end > len(data) or section in readers and self.at != end:
-                raise Stop(f"its section {section} is not understood, or truncated")
-            self.at = end
+            raise NoLibrary("it is no WebAssembly module of version 1")
+        self.read_sections()
+        if len(self.memories) != 1:
+            raise Stop(f"it has {len(self.memories)} memories, and not one")
+        ends = [0, *(start + size for start, _, size in self.places)]
+        if any(start < end for (start, _, _), end in zip(self.places, ends)) or ends[-1] > self.memories[0]:
+            raise Stop("it has data that overlaps, or that is outside of its memory")
         self.functions = {name: self.bodies[i][0] for name, i in self.exports.items()}
         self.entries = {start: (*signature, count) for (start, count), signature in zip(self.bodies, self.signatures)}
+
+    def read_sections(self):
+        """Those that may follow, in their order, and how each of their parts is read. 12 says how many parts 11 has, which an
+        engine compares; 0 has names and the like."""
+        readers = {1: self.read_type, 3: self.read_function, 5: self.read_memory, 6: self.read_global, 7: self.read_export,
+                   12: None, 10: self.read_body, 11: self.read_data}
+        while self.at < len(self.data):
+            section, size = self.byte_of_file(), self.unsigned()
+            end = self.at + size
+            if section and section not in readers:
+                raise Stop(f"its section {section} is not on the list of what is read, or not in its place")
+            if section not in (0, 12):
+                for _ in range(self.unsigned()):
+                    readers[section]()
+            if end > len(self.data) or section not in (0, 12) and self.at != end:
+                raise NoLibrary(f"its section {section} is truncated, or has another size")
+            self.at = end
+            readers = {other: read for other, read in readers.items() if [*readers].index(other) > [*readers].index(section)
+                       } if section else readers
 
     def instruction(self, at):
         return self.instructions.get(at)
 
     def byte(self, address):
-        """Of memory before a call, and that the file stores it; or None."""
-        found = [self.data[offset + address - start] for start, offset, size in self.places if start <= address < start + size]
-        return (found[0], True) if found else None
+        """Of memory before a call; or None."""
+        return next((self.data[offset + address - start] for start, offset, size in self.places
+                     if start <= address < start + size), None)
+
+    def is_writable(self, address):
+        """Between calls nobody writes its data."""
+        return False
 
     # ---- the sections
 
@@ -104,9 +122,10 @@ class Module:
         self.signatures.append(self.types[self.unsigned()])
 
     def read_memory(self):
-        if self.must_be(self.byte_of_file(), [0, 1]):
+        has_limit = self.must_be(self.byte_of_file(), [0, 1])
+        self.memories.append(self.unsigned() << 16)
+        if has_limit:
             self.unsigned()
-        self.unsigned()
 
     def constant(self):
         self.must_be(self.byte_of_file(), CONSTANTS)
@@ -119,8 +138,10 @@ class Module:
 
     def read_export(self):
         name, kind, index = bytes(self.several(self.byte_of_file)).decode(), self.byte_of_file(), self.unsigned()
-        if kind == 0:
+        if self.must_be(kind, [0, 2, 3]) == 0:
             self.exports[name] = index
+        elif kind == 3 and self.globals[index][1]:
+            raise Stop(f"it exports {name}, a global that anybody can change")
 
     def read_data(self):
         self.must_be(self.unsigned(), [0])
@@ -141,8 +162,6 @@ class Module:
         try:
             while self.labels:
                 self.decode()
-            if self.at != end:
-                raise Stop("the function has another size")
         except Stop as stop:  # it is not known either where the next instruction begins
             self.code.append((self.start, f"opcode {self.data[self.start]:#x}", str(stop)))
             self.at = end
@@ -223,9 +242,8 @@ class Module:
         self.height += len(results)
 
     def access(self, name, count, zeros):
-        """Of many bytes, in the first memory."""
-        for _ in range(zeros):
-            self.must_be(self.byte_of_file(), [0])
+        """Of many bytes, in the only memory."""
+        self.at += zeros
         self.emit(name, self.pop(count))
 
 

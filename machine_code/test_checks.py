@@ -4,10 +4,13 @@ import functools
 import pathlib
 import re
 import subprocess
+import types
 from functools import partial
 
+import aarch64
 import calls
 import checks
+import columns
 import filters
 import hashes
 import headers
@@ -16,9 +19,12 @@ import library
 import loops
 import pytest
 import rates
+import values
+import x86
 from conftest import DIST
 from definitions import FILTER, MURMUR, XXH64, of_hash
 from machine import Array, Machine
+from test_instructions import Every
 from values import Stop, add, bitwise, extend, mul, number, sub, unknown
 
 TEXT = DIST / "sketch_hash.c"
@@ -27,8 +33,9 @@ COMPILERS = {"gcc": ["gcc", *HARDENED, "-fcf-protection=full"], "clang": ["clang
              "aarch64": ["aarch64-linux-gnu-gcc", *HARDENED, "-mbranch-protection=standard"]}
 
 
-def build(compiler, path, *change, text=TEXT):
-    subprocess.run([*compiler, "-O2", "-fPIC", "-shared", *change, "-I", DIST / "include", text, "-o", path], check=True)
+def build(compiler, path, *change, text=TEXT, **others):
+    command = [*compiler, "-O2", "-fPIC", "-shared", *change, "-I", DIST / "include", text, "-o", path]
+    subprocess.run(command, check=True, **others)
 
 
 @pytest.fixture(scope="session")
@@ -65,21 +72,27 @@ def test_the_machine_code_is_as_defined(name, library_of):
 CHECK = pathlib.Path(__file__).with_name("check")
 
 
-@pytest.mark.parametrize("change, status, output", [
-    ([], 0, "1 of 1 functions are as defined"), (["-Dsketch_hash_version=other"], 1, "the library does not have it"),
+WRONG_VERSION = ".intel_syntax noprefix; .globl sketch_hash_version; sketch_hash_version: mov eax, 1; ret\n"
+
+
+@pytest.mark.parametrize("text, change, status, output", [
+    (None, [], 0, "1 of 1 functions are as defined"), (None, ["-pg"], 3, "a call of mcount"),
+    (WRONG_VERSION, [], 1, "the result is not what the definitions say, with "),
+    (WRONG_VERSION.replace("mov eax", "cmp edi"), [], 1, "the result is not what the definitions say, with "),
+    (WRONG_VERSION.replace("mov eax, 1", "nop; call puts@PLT"), [], 3, "a call of puts"),
+    (WRONG_VERSION.replace("version", "other"), [], 2, "no function of the header"),
 ])
-def test_the_command_says_whether_a_function_is_as_defined(change, status, output, need, tmp_path):
+def test_the_command_says_whether_a_function_is_as_defined(text, change, status, output, need, tmp_path):
     need("gcc")
-    build(["gcc"], tmp_path / "library.so", *change)
+    (tmp_path / "text.s").write_text(text or "")
+    build(["gcc"], tmp_path / "library.so", *change, text=tmp_path / "text.s" if text else TEXT)
     run = subprocess.run([CHECK, "--only", "sketch_hash_version", tmp_path / "library.so"], capture_output=True, text=True)
-    assert run.returncode == status and output in run.stdout
-    assert re.fullmatch(r"1 of 1: sketch_hash_version: (not )?as defined, \d+ s\n", run.stderr)
+    assert run.returncode == status and output in run.stdout + run.stderr
 
 
 @pytest.mark.parametrize("only, data, reason", [
-    ("other", None, "no function has other in its name"), ("", b"text", "ELF, PE or Mach-O"),
-    ("", b"!<arch>\n", "no object file"), ("", b"\0asm\2\0\0\0", "no WebAssembly module"), ("", b"MZ", "truncated"),
-    *(("", size, "truncated") for size in (40, 70, 500, 2000)),
+    ("other", None, "no function has other in its name"), ("", b"text", "no ELF library"), ("", b"MZ", "no ELF library"),
+    ("", b"\0asm\2\0\0\0", "no WebAssembly module"), *(("", size, "truncated") for size in (17, 40, 70)),
 ])
 def test_a_check_of_nothing_fails(only, data, reason, need, tmp_path):
     need("gcc")
@@ -98,10 +111,8 @@ def must_fail(only, path, reason):
 def test_what_is_no_library_fails(need, tmp_path):
     need("gcc")
     must_fail("", tmp_path / "missing", "No such file")
-    must_fail("", DIST / "linux-x86_64/sketchsum", "no function of the header")
-    (tmp_path / "code.c").write_text("extern int other[]; int *sketch_hash_version(void) { return other; }")
-    subprocess.run(["gcc", "-c", "-fno-pie", tmp_path / "code.c", "-o", tmp_path / "code.o"], check=True)
-    must_fail("", tmp_path / "code.o", "ld cannot link it")
+    build(["gcc"], tmp_path / "other.so", "-Wl,--version-script=/dev/stdin", input=b"{ local: *; };")
+    must_fail("", tmp_path / "other.so", "no function of the header")
 
 
 @pytest.mark.parametrize("header", ["int sketch_other(void);", ""])
@@ -146,8 +157,9 @@ def few_calls(machine, hash):
     """Of each length up to two pieces; and an update and a digest."""
     name = calls.NAMES[hash]
     return [
-        *(hashes.OneCall(machine, hash, number(n), 1).few for n in range(0, 2 * calls.PIECE[hash] + 7, 2)),
-        hashes.Update(machine, hash, 5, number(40), 1).few,
+        *(partial(loops.on_each_path, subject.few) for subject in (
+            *(hashes.OneCall(machine, hash, number(n), 1) for n in range(0, 2 * calls.PIECE[hash] + 7, 2)),
+            hashes.Update(machine, hash, 5, number(40), 1))),
         partial(calls.check_call, machine, f"{name}_digest", hashes.digest, hash, 9, 1 if hash == "xxh64" else 0),
         partial(calls.check_call, machine, f"{name}_reset", hashes.reset, hash)]
 
@@ -158,8 +170,8 @@ def few_calls(machine, hash):
     (headers.HEADER, lambda machine: [partial(headers.write, machine)]),
 ], ids=["XXH64", "Murmur", "filter", "header"])
 def test_a_changed_number_of_a_definition_is_noticed(definitions, runs, library_of):
-    used = library_of("gcc")
-    runs = runs(checks.machine_of(used))
+    built = library_of("gcc")
+    runs = [partial(checks.on_each_setting, built, run) for run in runs(checks.machine_of(built))]
     definitions.forget()
     assert checks.faults_of(runs) == {}
     missed, count = [], 0
@@ -178,7 +190,7 @@ def test_a_changed_number_of_a_definition_is_noticed(definitions, runs, library_
 def is_noticed(runs):
     for run in runs:
         try:
-            loops.on_each_path(run)
+            run()
         except (Stop, AssertionError, LookupError, TypeError, ValueError):
             return True  # or it is a definition of nothing
     return False
@@ -186,12 +198,9 @@ def is_noticed(runs):
 
 # ---- planted code
 
-# What is for macOS is in ELF here, and said to be in Mach-O once it is read.
-ASSEMBLERS = {"x86-64": "as", "aarch64": "aarch64-linux-gnu-as", "macOS": "aarch64-linux-gnu-as", "packed": "as",
-              "Windows": "x86_64-w64-mingw32-as"}
+ASSEMBLERS = {"x86-64": "as", "aarch64": "aarch64-linux-gnu-as", "packed": "as"}
 LINKERS = {"x86-64": ["ld", "-z", "notext"], "packed": ["ld", "-z", "pack-relative-relocs"],
-           "aarch64": ["aarch64-linux-gnu-ld"], "macOS": ["aarch64-linux-gnu-ld"],
-           "Windows": ["x86_64-w64-mingw32-ld", "--export-all-symbols", "-e", "0"]}
+           "aarch64": ["aarch64-linux-gnu-ld"]}
 VERSION = f"mov eax, {calls.VERSION}; ret"
 ARM = f"mov w0, #{calls.VERSION & 0xFFFF}; movk w0, #{calls.VERSION >> 16}, lsl #16; ret"
 
@@ -201,16 +210,14 @@ def machine_of(need, tmp_path):
     """Of a library whose sketch_hash_version is some code."""
     def run(processor, code):
         need(ASSEMBLERS[processor])
-        syntax = "" if processor in ("aarch64", "macOS") else ".intel_syntax noprefix\n"
+        syntax = "" if processor == "aarch64" else ".intel_syntax noprefix\n"
         text = f"{syntax}.globl sketch_hash_version\nsketch_hash_version:\n{code}\n"
         subprocess.run([ASSEMBLERS[processor], "-o", tmp_path / "code.o", "-"], input=text, text=True, check=True)
         (tmp_path / "versions").write_text("V1 { global: sketch_hash_version; }; V2 { };")
         options = ["--version-script", tmp_path / "versions"] if ".symver" in code else []
         link = [*LINKERS[processor], "-shared", *options, "-o", tmp_path / "code", tmp_path / "code.o"]
         subprocess.run(link, check=True)
-        built = library.read(tmp_path / "code")
-        built.format = "macho" if processor == "macOS" else built.format
-        return checks.machine_of(built)
+        return checks.machine_of(library.read(tmp_path / "code"))
 
     return run
 
@@ -219,9 +226,8 @@ def machine_of(need, tmp_path):
 BITS = [1 << i for i in range(32)]
 LOOKED_UP = f"lea rcx, [rip+1f]; mov eax, edi; shr eax, 27; mov eax, [rcx+rax*4]; {VERSION}; 1: .long "
 
+RELRO = '.section .data.rel.ro, "aw";'
 OTHER = f"cmp eax, ecx; jne 1f; {VERSION}; 1: mov eax, 1; ret"  # a wrong result, unless they are equal
-SCRATCH = {"x86-64": "rax rcx rdx rsi rdi r8 r9 r10 r11", "Windows": "rax rcx rdx r8 r9 r10 r11"}
-KEPT = {"x86-64": "rbx rbp r12 r13 r14 r15", "Windows": "rbx rbp rsi rdi r12 r13 r14 r15"}
 GUARD = "adrp x1, :got:__stack_chk_guard; ldr x1, [x1, :got_lo12:__stack_chk_guard]"
 COPY = "sub rsp, 40; mov [rsp+16], rdi; mov rdi, rsp; lea rsi, [rsp+16]; mov edx, 8; call memcpy@PLT; add rsp, 40"
 FLAG = (f"cmp byte ptr [rip+flag], 1; jne 1f; 1: {VERSION}; .section .init_array, \"aw\"; .quad set; "
@@ -231,21 +237,20 @@ DETECT = ("push rbx; xor eax, eax; cpuid; cmp eax, 7; jb 9f; mov eax, 1; cpuid; 
           "9: pop rbx; ret")
 
 RIGHT = [
-    *((processor, "".join(f"not {name}; " for name in names.split()) + VERSION) for processor, names in SCRATCH.items()),
+    ("x86-64", "".join(f"not r{name}; " for name in "ax cx dx si di 8 9 10 11".split()) + VERSION),
     ("x86-64", "".join(f"pxor xmm{n}, xmm{n}; " for n in range(16)) + VERSION),
     ("aarch64", "".join(f"mvn x{n}, x{n}; " for n in range(19)) + ARM), ("x86-64", f"{COPY}; {VERSION}"),
     ("x86-64", f"mov rax, fs:0x28; mov [rsp-8], rax; sub rax, fs:0x28; jne 1f; {VERSION}; 1: call __stack_chk_fail@PLT"),
     ("x86-64", f"sub rsp, 24; mov rdi, rsp; mov edx, 9; call [rip+memset@GOTPCREL]; add rsp, 24; {VERSION}"),
     ("aarch64", f"paciasp; autiasp; {ARM}"), ("aarch64", f"mov x3, #1; cmp x1, x1; cbnz x3, 1f; 1: b.ne 2f; {ARM}; 2: udf #0"),
     ("aarch64", f"{GUARD}; ldr x2, [x1]; ldr x3, [x1]; sub x2, x2, x3; cbnz x2, 1f; {ARM}; 1: udf #0"),
-    *((processor, f"jmp [rip+2f+16]; 1: {VERSION}; .data; 2: .quad 1b, 1b, 1b") for processor in ("x86-64", "packed")),
-    ("x86-64", f"{FLAG} {DETECT}"), ("x86-64", f"mov ecx, [rip+1f]; lea eax, [rcx+{calls.VERSION}]; ret; .bss; 1: .long 0"),
-    ("macOS", f"str x0, [sp, #-128]; ldr x0, [sp, #-128]; {ARM}"),
+    *((processor, f"jmp [rip+2f+16]; 1: {VERSION}; {RELRO} 2: .quad 1b, 1b, 1b") for processor in ("x86-64", "packed")),
+    ("x86-64", f"{FLAG} {DETECT}"),
     ("x86-64", f"{FLAG} {DETECT}".replace("jne 1f; 1:", "jne 1f; vpaddd ymm0, ymm0, ymm0; 1:")),
     ("x86-64", f"test edi, edi; jle 1f; 1: {VERSION}"),
     ("x86-64", LOOKED_UP + ", ".join(map(str, BITS))),
     ("x86-64", f"push rbx; mov rbx, rdi; pop rbx; {VERSION}"), ("x86-64", f"mov [rsp-128], rax; mov rcx, [rsp-128]; {VERSION}"),
-    ("x86-64", f"sub rsp, 24; movaps [rsp], xmm0; add rsp, 24; {VERSION}"), ("Windows", f"mov [rsp+8], rcx; {VERSION}"),
+    ("x86-64", f"sub rsp, 24; movaps [rsp], xmm0; add rsp, 24; {VERSION}"),
     ("x86-64", f"add rax, rcx; inc rax; cmp rax, rax; jne 1f; {VERSION}; 1: ud2"), ("aarch64", ARM),
     ("aarch64", f"stp x19, x20, [sp, #-16]!; mov x19, x0; ldp x19, x20, [sp], #16; {ARM}"),
     ("aarch64", f"mov w2, w1; add x3, x9, w1, uxtw #3; sub x3, x3, x2, lsl #3; eor x3, x3, x9; cbnz x3, 1f; {ARM}; 1: udf #0"),
@@ -264,25 +269,20 @@ RIGHT = [
     ("x86-64", f"movq xmm1, xmm0; movq rax, xmm1; movq rcx, xmm0; sub rax, rcx; add eax, {calls.VERSION}; ret"),
     ("x86-64", f"movq xmm1, xmm0; pextrq rax, xmm1, 1; add eax, {calls.VERSION}; ret"),
     ("x86-64", f"mov rcx, [rsp-8]; {VERSION}"),  # nothing has written it
-    # A flag of the library.
-    *((processor, f"cmp byte ptr [rip+1f], 1; sbb ecx, ecx; sub ecx, ecx; {VERSION}; .section .bss; 1: .byte 0")
-      for processor in ("x86-64", "Windows")),
+    ("x86-64", f"vpcmpneqq k1, xmm0, xmm2; vmovdqu64 xmm1{{k1}}{{z}}, xmm0; {VERSION}"),
 ]
 WRONG = [
-    *((processor, f"not {name}; {VERSION}", f"{name} is not restored")
-      for processor, names in KEPT.items() for name in names.split()),
-    *(("Windows", f"pcmpeqb xmm{n}, xmm{n}; {VERSION}", f"xmm{n} is not restored") for n in range(6, 16)),
-    ("Windows", f"movlhps xmm6, xmm0; {VERSION}", "xmm6 is not restored"),
+    *(("x86-64", f"not r{name}; {VERSION}", f"r{name} is not restored") for name in "bx bp 12 13 14 15".split()),
     *(("aarch64", f"mvn x{n}, x{n}; {ARM}", f"x{n} is not restored") for n in range(19, 30)),
     *(("aarch64", f"movi v{n}.16b, #1; {ARM}", f"v{n} is not restored") for n in range(8, 16)),
-    ("macOS", f"mvn x18, x18; {ARM}", "x18 is not restored"),
     # What the loader gives.
     ("x86-64", f"mov rax, [rsp]; mov ecx, 0xCA11E4; {OTHER}", "the result"),
     ("x86-64", f"lea rax, [rip+1f]; shr rax, 40; mov ecx, 1; {OTHER}", "the result"),
-    ("x86-64", f"movzx eax, byte ptr [rip+2f]; mov ecx, 1; {OTHER}; .data; 2: .byte 2", "the result"),
-    ("x86-64", f"mov eax, [rip+2f]; and eax, 0xfefefefe; xor ecx, ecx; {OTHER}; .data; 2: .long 2", "the result"),
-    ("x86-64", f"movabs rax, offset 1f; 1: {VERSION}", "changes an instruction"),
-    ("x86-64", f"{VERSION}; .type sketch_hash_version, @gnu_indirect_function", "indirect"),
+    ("x86-64", f"movzx eax, byte ptr [rip+2f]; mov ecx, 1; {OTHER}; .section .rodata; 2: .byte 2", "the result"),
+    *(("x86-64", f"mov ecx, [rip+1f]; {VERSION}; {section} 1: .quad {n}", "others may have written")
+      for section, n in ((".data;", 7), (".bss;", 0), (".data;", "sketch_hash_version"))),
+    ("x86-64", f"movabs rax, offset 1f; 1: {VERSION}", "the dynamic tag 0x16"),
+    ("x86-64", f"{VERSION}; .type sketch_hash_version, @gnu_indirect_function", "of type 0xa"),
     ("x86-64", f"{VERSION}; other: ret; .globl other; .symver other, sketch_hash_version@@V2; "
                ".symver sketch_hash_version, sketch_hash_version@V1", "two versions"),
     ("x86-64", f"{FLAG} mov byte ptr [rip+flag], 1; ret", "does not allow"),
@@ -295,15 +295,17 @@ WRONG = [
     ("x86-64", f"{FLAG} {DETECT}".replace("1: mov", "1: vpbroadcastd xmm0, xmm0; mov"), "perhaps has none"),
     ("x86-64", f"{FLAG} mov byte ptr [rip+flag], 1; ret".replace('.section .init_array, "aw"; .quad', ".set _init,")
      + "; .globl _init", "does not allow"),
-    ("Windows", f"cmp byte ptr [rip+2f], 1; je 1f; {VERSION}; 1: xor eax, eax; ret; .section .bss; 2: .byte 0", "the result"),
     ("x86-64", f"mov rax, [rip+2f@gottpoff]; xor ecx, ecx; {OTHER}; .section .tbss, \"awT\", @nobits; 2: .long 0",
-     "the result"),
+     "a segment of type 0x7"),
     ("x86-64", "jmp [rip+2f]; 1: ret; .globl other; .set other, 1b; .type other, @gnu_indirect_function; .data; 2: .quad other",
-     "no function is known"),
+     "of type 0xa"),
     ("x86-64", f"{FLAG} call puts@PLT", "a call of puts"),
+    ("x86-64", f"{VERSION}; .section .init_array, \"aw\"; .quad puts", "a constructor that is not its own: puts"),
+    ("x86-64", f"mov rcx, [rip+malloc@GOTPCREL]; {VERSION}; .weak malloc", "malloc, of another library, with the binding 0x2"),
+    ("x86-64", f"mov eax, 0x3fc00000; movd xmm0, eax; cvttps2dq xmm1, xmm0; {VERSION}", "no power of two"),
     ("x86-64", f"{FLAG} mov byte ptr [rip+flag], 2; ret", "does not allow"), ("x86-64", f"{FLAG} jmp set", "no end"),
     ("x86-64", f"{FLAG} xor ecx, ecx; xgetbv; ret", "must not be"), ("x86-64", f"cpuid; {VERSION}", "must not be|depends"),
-    ("x86-64", f"mov fs:0x28, rcx; {VERSION}", "outside"), ("x86-64", "mov rax, fs:0x28; ret", "the result"),
+    ("x86-64", f"mov fs:0x28, rcx; {VERSION}", "not among"), ("x86-64", "mov rax, fs:0x28; ret", "the result"),
     ("aarch64", f"{GUARD}; str x0, [x1]; {ARM}", "outside"), ("aarch64", f"paciasp; {ARM}", "no function"),
     ("aarch64", f"paciasp; sub sp, sp, #16; autiasp; add sp, sp, #16; {ARM}", "a signature"),
     # Calls of the C library.
@@ -341,7 +343,6 @@ WRONG = [
     ("x86-64", "mov eax, [rsp-8]; ret", "the result"), ("x86-64", f"mov [rsp], rcx; {VERSION}", "outside"),
     ("x86-64", f"mov [rsp+8], rcx; {VERSION}", "outside"), ("x86-64", f"mov rcx, [rdi]; {VERSION}", "outside"),
     ("x86-64", f"lea rcx, [rip]; mov byte ptr [rcx], 1; {VERSION}", "outside"),
-    ("Windows", f"mov [rsp-8], rcx; {VERSION}", "outside"),
     *(("x86-64", f"{before}; jc 1f; 1: {VERSION}", "carry|not known") for before in (
         "imul rcx, rdx", "cmp rcx, rdx; inc rcx", "shl rcx, 3", "cmp rcx, rcx; rol rcx, 3", "ror rcx, 3", "add rcx, rdx",
         "mov rax, rdx", "neg rcx; dec rcx", "shld rcx, rdx, 3", "shrd rcx, rdx, 3", "test rcx, rcx; sar rcx, 1",
@@ -349,10 +350,10 @@ WRONG = [
     *(("x86-64", f"{before}; je 1f; 1: {VERSION}", "not known|understood") for before in (
         "imul rcx, rdx", "shld rcx, rdx, 3", "imul rcx, rdx; rol rcx, 3", "cmp rcx, rcx; sbb rcx, rdx", "bt rcx, 3",
         "cmp rcx, rcx; mul rdx", "xor edx, edx; mov eax, 7; mov ecx, 3; cmp rcx, rcx; div ecx", "mov edx, 1; shl edx, cl")),
-    ("x86-64", f"cmp rcx, rdx; jo 1f; 1: {VERSION}", "not known"), ("x86-64", f"cmp rcx, rdx; jl 1f; 1: {VERSION}", "signed"),
+    ("x86-64", f"cmp rcx, rdx; jo 1f; 1: {VERSION}", "not among"), ("x86-64", f"cmp rcx, rdx; jl 1f; 1: {VERSION}", "signed"),
     ("x86-64", f"cmp rcx, rdx; jle 1f; 1: {VERSION}", "signed"), ("x86-64", f"test edi, edi; jg 1f; ud2; 1: {VERSION}", "ud2"),
     ("x86-64", f"mov ecx, {calls.VERSION}; mov rax, rdi; mov al, cl; ret", "the result"), ("x86-64", "ret", "the result"),
-    ("x86-64", f"1: jmp 1b; {VERSION}", "no end"), ("x86-64", "ud2", "not known"), ("x86-64", f"std; {VERSION}", "not known"),
+    ("x86-64", f"1: jmp 1b; {VERSION}", "no end"), ("x86-64", "ud2", "not among"),
     ("x86-64", f"jmp rcx; {VERSION}", "no function"),
     ("x86-64", f"pop rcx; add rsp, 8; jmp rcx; {VERSION}", "leaves the stack"),
     ("x86-64", f"mov rax, rsp; mov rsp, rdi; mov rsp, rax; {VERSION}", "leaves the stack"),
@@ -366,12 +367,8 @@ WRONG = [
           (-32, "and rsp, -64", "", "alignment"), (-128, "nop", "", "alignment"), (-32, "sub rsp, 8192", "", "leaves"))),
     ("x86-64", f"xor ecx, ecx; mov rcx, [rcx+16]; {VERSION}", "outside"),
     ("x86-64", f"mov edx, 2; mov ecx, edi; shl edx, cl; {VERSION}", "a shift"),
-    ("x86-64", f"mov eax, {calls.VERSION}; ret 8", "takes more"),
-    ("x86-64", f"vpsllvd xmm0, xmm1, xmm2; {VERSION}", "a shift that"), ("x86-64", f"shld cx, dx, 20; {VERSION}", "a shift by"),
-    ("x86-64", f"mul cl; {VERSION}", "other widths"),
-    *(("x86-64", f"mov edx, {high}; mov eax, 7; mov ecx, 3; div {by}; {VERSION}", "a division") for high, by in (
-        (0, "cl"), (3, "ecx"))),
-    ("aarch64", f"cls x1, x0; {ARM}", "is not known"),
+    ("x86-64", f"vpsllvd xmm0, xmm1, xmm2; {VERSION}", "a shift that"),
+    ("aarch64", f"cls x1, x0; {ARM}", "not among"),
     ("aarch64", f"udiv x3, x0, x1; udiv x4, x1, x0; sub x3, x3, x4; cbnz x3, 1f; {ARM}; 1: udf #0", "udf"),
     ("aarch64", f"mov x3, sp; orr x4, x3, #16; sub x4, x4, x3; cmp x4, #16; b.ne 1f; {ARM}; 1: udf #0", "udf"),
     ("aarch64", f"movi v0.16b, #128; movi v1.16b, #255; sshl v0.4s, v0.4s, v1.4s; {ARM}", "a signed shift to the right"),
@@ -383,7 +380,7 @@ WRONG = [
     *(("aarch64", f"{before}; 1: {ARM}", "carry|not understood") for before in (
         "tst x1, x2; b.hi 1f", "tst x1, x2; b.cs 1f", "adds x1, x1, x2; b.hi 1f", "cmp x1, x1; sbcs x3, x1, x2; b.cs 1f")),
     ("aarch64", f"cmp x1, x1; sbcs x3, x1, x2; b.eq 1f; 1: {ARM}", "not known"),
-    ("aarch64", f"cmp x1, x2; b.vs 1f; 1: {ARM}", "not understood"),
+    ("aarch64", f"cmp x1, x2; b.vs 1f; 1: {ARM}", "not among"),
 ]
 
 
@@ -391,7 +388,34 @@ WRONG = [
 def test_code_that_breaks_a_rule_is_refused(processor, code, reason, machine_of, monkeypatch):
     monkeypatch.setattr(Machine, "limit", 10_000)  # a loop without an end is noticed earlier
     with refused(reason):
-        calls.check_call(machine_of(processor, code), "hash_version", calls.Call, [], [], number(calls.VERSION, 32))
+        machine = machine_of(processor, code)
+        checks.on_each_setting(machine.library, partial(
+            calls.check_call, machine, "hash_version", calls.Call, [], [], number(calls.VERSION, 32)))
+
+
+@pytest.mark.parametrize("code", ["cls x1, x0", "cls v0.4s, v1.4s", "mov w1, wsp", "add w1, wsp, #4"])
+def test_an_operation_that_is_not_known_is_refused(code, machine_of, monkeypatch):
+    for forms, reason in (aarch64.Aarch64.forms, "not among"), (Every(), "is not known|not understood"):
+        monkeypatch.setattr(aarch64.Aarch64, "forms", forms)
+        with refused(reason):
+            calls.check_call(machine_of("aarch64", f"{code}; {ARM}"), "hash_version", calls.Call, [], [])
+
+
+@pytest.mark.parametrize("code", [
+    "push ax; add rsp, 8", "push rdi; pop ax", ".byte 0x66,0x0f,0xc8", ".byte 0x64,0x48,0x8d,4,0x25,0x28,0,0,0", "mul cl",
+    "lea rsi, [rsp-16]; lea rdi, [rsp-8]; mov ecx, 4; .byte 0xf3,0x64,0xa4", ".fill 14,1,0x2e; mov rcx, rax",
+    "bt [rsp-8], rcx", "mov ecx, 1; div cl", "mov edx, 3; xor eax, eax; mov ecx, 3; div ecx",
+    ".byte 0x66,0xff,0xe0", "shld cx, dx, 20", "ret 8", "std", ".fill 15,1,0x66; nop",
+    "vpcmpeqd k1, xmm1, xmm1",
+    ".byte 0xf3; push rax", "data16 ret", "mov ah, 1", "mov fs:0x28, rcx", "cmp rcx, rdx; jo 1f; 1:",
+])
+def test_an_operation_refuses_what_it_does_otherwise(code, machine_of, monkeypatch):
+    """Without the table of forms too."""
+    machine = machine_of("x86-64", f"{code}; {VERSION}")
+    for forms in x86.X86.forms, Every():
+        monkeypatch.setattr(x86.X86, "forms", forms)
+        with pytest.raises(Stop):
+            calls.check_call(machine, "hash_version", calls.Call, [], [], number(calls.VERSION, 32))
 
 
 @pytest.mark.parametrize("function, arguments, reason", [
@@ -400,7 +424,7 @@ def test_code_that_breaks_a_rule_is_refused(processor, code, reason, machine_of,
 ])
 def test_a_call_is_given_as_many_arguments_as_the_header_has(function, arguments, reason, machine_of):
     """With more, it could write to the stack of its caller."""
-    with refused(reason):
+    with refused(reason), values.case():
         machine_of("x86-64", VERSION)().begin(function, [unknown("length", 64)] * arguments)
 
 
@@ -415,17 +439,17 @@ def array(is_writable=True):
 
 @pytest.mark.parametrize("is_writable, reason", [(True, None), (False, "may only read")])
 def test_an_array_that_is_only_read_is_not_written(is_writable, reason, machine_of):
-    run = machine_of("x86-64", VERSION)()
-    run.give(array(is_writable))
-    with refused(reason):
+    with refused(reason), values.case():
+        run = machine_of("x86-64", VERSION)()
+        run.give(array(is_writable))
         run.store(calls.out, number(1, 8))
 
 
 @pytest.mark.parametrize("offset, reason", [(0, None), (-4, "outside"), (4, "outside")])
 def test_a_store_is_within_what_may_be_written(offset, reason, machine_of):
-    run = machine_of("x86-64", VERSION)()
-    run.map(calls.out, [number(0)], writable=True)
-    with refused(reason):
+    with refused(reason), values.case():
+        run = machine_of("x86-64", VERSION)()
+        run.map(calls.out, [number(0)], writable=True)
         run.store(add(calls.out, number(offset)), number(1))
 
 
@@ -439,7 +463,7 @@ def test_an_access_is_within_an_array(offset, size, is_within):
 
 
 @pytest.mark.parametrize("values, reason", [
-    ([1, 2, 4], "not what the definitions"), ([1, 2, 3, 4], "not all"), ([1, 2], "more"), ([], "more"), ([1, 2, 3], None)])
+    ([1, 2, 4], "not what the"), ([1, 2, 3, 4], "not what the"), ([1, 2], "more"), ([], "more"), ([1, 2, 3], None)])
 def test_what_a_loop_writes_is_compared(values, reason):
     written = array()
     for i in range(3):
@@ -463,7 +487,7 @@ def test_accesses_that_perhaps_overlap_are_refused():
 
 def test_what_is_finished_is_not_accessed_again():
     written = array()
-    written.first = number(8)
+    written.begin_at(number(8))
     assert written.offset_of(add(calls.out, number(8)), 8) and written.offset_of(add(calls.out, number(7)), 8) is None
 
 
@@ -510,11 +534,13 @@ WRONG_BLOCK = "movdqu [rdi+rax-32], xmm7"
     (MERGE, "1:", "cmp rsi, 3; ja 1f; cmp rsi, 1; je 1f; movdqu [rdi+32], xmm7; 1: 8:", "definitions"),
     (MERGE, "sub rsi", "cmp rax, 3200; jne 2f; add rax, 32; 2: 8: sub rsi", "."), (MERGE, "1:", "1: jne 9f; 8:", "not known"),
     *((MERGE, "sub rsi", f"cmp rsi, {n}; jne 2f; {WRONG_BLOCK}; 2: 8: sub rsi", "definitions") for n in (1, 2)),
+    (MERGE, "1:", "movdqu [rdi], xmm7; 1: 8:", "within an element"),
+    (MERGE, "1:", "xor eax, eax; ret; 1: 8:", "there is no loop"),
     (MERGE, "sub rsi, 1; jne", "8: sub rsi, 1; cmp rsi, 1; ja", "before its last turn"),
     # What a turn leaves for the next one is not as in the first ones.
     (MERGE, "1:", "xor r8d, r8d; 1: movq xmm2, r8; por xmm7, xmm2; mov r8, rax; shr r8, 12; 8:", None),
     (MERGE, "1:", "xor r8d, r8d; 1: or [rdi+rax], r8; mov r8, rax; shr r8, 12; 8:", "definitions"),
-    (MERGE_PAIRS, "jb 3f; 2:", "jmp 3f; 2:", "definitions|not all"), (MERGE_PAIRS, "je 2f", "je 3f", "not all"),
+    (MERGE_PAIRS, "jb 3f; 2:", "jmp 3f; 2:", "definitions"), (MERGE_PAIRS, "je 2f", "je 3f", "definitions"),
 ])
 def test_a_loop_that_breaks_a_rule_is_refused(code, before, after, reason, machine_of):
     text = code.replace(before, after, 1)
@@ -525,10 +551,25 @@ def test_a_loop_that_breaks_a_rule_is_refused(code, before, after, reason, machi
         if code == MERGE_PAIRS:
             return loops.prove_each_rest(make)
         for n in range(1, loops.prove(partial(make, number(0)), [1]).least):
-            make(number(n), 1).few()
+            loops.on_each_path(make(number(n), 1).few)
 
     with refused(reason):
-        loops.on_each_path(run)
+        run()
+
+
+def test_a_loop_without_the_words_of_the_definition_is_refused(machine_of):
+    code = f"{VERSION}; .globl sketch_xxh64; sketch_xxh64: 1: sub rsi, 32; ja 1b; ret"
+    with refused("the words of the definition are not found"):
+        loops.prove(partial(hashes.OneCall, machine_of("x86-64", code), "xxh64", number(0)), [1])
+
+
+def test_loops_that_few_keys_do_not_reach_are_refused():
+    """For one key or two there is no other check."""
+    offsets = types.SimpleNamespace(least=3, subject=types.SimpleNamespace(call=column_of(None, "xxh64")))
+    with refused("not reached with two keys"):
+        filters.Batches(offsets, 5)
+    with refused("not reached with one key"):
+        keys.Keys(offsets, "xxh64", 1).finish(types.SimpleNamespace(least=3, last=1, done=0))
 
 
 # ---- a library some of whose calls are wrong for few arguments, and checks that must refuse them
@@ -541,21 +582,28 @@ def texts(machine, is_insert):
     return filters.TextsCall(machine, is_insert, 64)
 
 
-WRONG = """#define SKETCH_HASH_NAMESPACE right_
-#include "sketch_hash.c"
-#undef sketch_xxh64
-uint64_t sketch_xxh64(const void *input, size_t length, uint64_t seed) {
-    return right_sketch_xxh64(input, length, seed) + (length == 500);
-}
-#undef sketch_murmur3_x64_128
-void sketch_murmur3_x64_128(const void *input, size_t length, uint64_t seed, uint64_t hash[2]) {
-    right_sketch_murmur3_x64_128(input, length, seed, hash);
-    hash[1] += length == 500;
-}
-#undef sketch_xxh64_update
-void sketch_xxh64_update(sketch_xxh64_state_t *state, const void *input, size_t length) {
-    right_sketch_xxh64_update(state, input, length - (length == 500));
-}
+def wrong_calls(condition, *functions):
+    """The text of the library with other calls, each with another result if a condition holds of its count or its length."""
+    header, lines = re.sub(r"/\*.*?\*/", "", library.HEADER, flags=re.S), ["#define SKETCH_HASH_NAMESPACE right_"]
+    lines.append('#include "sketch_hash.c"')
+    for result, name, parameters in re.findall(r"SKETCH_HASH_API (\w+) sketch_(\w+)\(([^;{}]*)\);", header):
+        names = library.PARAMETERS[name]
+        size = next((item for item in ("count", "hash_count", "offset_count", "length") if item in names), None)
+        call, to = f"right_sketch_{name}({', '.join(names)})", "hash" if "hash" in names else "state"
+        body = f"{call}; if ({size} {condition}) *(char *){to} ^= 1;" if result == "void" else (
+            f"{result} result = {call}; return {size} {condition} ? 7 : result;")
+        if size and (not functions or name in functions):
+            lines.append(f"#undef sketch_{name}\n{result} sketch_{name}({parameters}) {{ {body} }}")
+    return "\n".join(lines) + "\n"
+
+
+def built_of(text, tmp):
+    (tmp / "text.c").write_text(text)
+    build(["gcc", "-fno-inline-functions", "-I", DIST], tmp / "text.so", text=tmp / "text.c")
+    return library.read(tmp / "text.so")
+
+
+WRONG = wrong_calls("== 500", "xxh64", "murmur3_x64_128", "xxh64_update", "murmur3_x64_128_update") + """
 #undef sketch_xxh64_each64
 int sketch_xxh64_each64(const void *input, size_t length, const uint64_t *offsets, size_t offset_count, uint64_t seed,
                         uint64_t *out, size_t count, size_t *wrong_offset) {
@@ -563,11 +611,6 @@ int sketch_xxh64_each64(const void *input, size_t length, const uint64_t *offset
     if (status != 0 && count != 0) *(char *)out = 1;
     if (status == 0) *wrong_offset = 0;
     return status;
-}
-#undef sketch_murmur3_x64_128_update
-void sketch_murmur3_x64_128_update(sketch_murmur3_x64_128_state_t *state, const void *input, size_t length) {
-    right_sketch_murmur3_x64_128_update(state, input, length);
-    *(char *)state ^= length == 500;
 }
 #undef sketch_murmur3_x64_128_each64
 int sketch_murmur3_x64_128_each64(const void *input, size_t length, const uint64_t *offsets, size_t offset_count,
@@ -621,17 +664,44 @@ REFUSED = [
 @pytest.fixture(scope="module")
 def wrong_library(need, tmp_path_factory):
     need("gcc")
-    path = tmp_path_factory.mktemp("wrong")
-    (path / "wrong.c").write_text(WRONG)
-    build(["gcc", "-fno-inline-functions", "-I", DIST], path / "wrong.so", text=path / "wrong.c")
-    return library.read(path / "wrong.so")
+    return built_of(WRONG, tmp_path_factory.mktemp("wrong"))
 
 
 @pytest.mark.parametrize("run", REFUSED)
 def test_a_call_that_is_wrong_for_few_arguments_is_refused(run, wrong_library):
     machine = checks.machine_of(wrong_library)
     with pytest.raises(Stop):
-        loops.on_each_path(lambda: run(machine))
+        checks.on_each_setting(wrong_library, partial(run, machine))
+
+
+# ---- a library whose calls are wrong for very many elements alone: no attempt may leave its bounds to the next one
+
+def late_loops(m):
+    zero, hash_names = number(0), ("xxh64", "murmur")
+    makes = [partial(hashes.OneCall, m, hash, zero) for hash in hash_names]
+    makes += [partial(hashes.Update, m, hash, 3, zero) for hash in hash_names]
+    makes += [partial(filters.Merge, m, True, zero), partial(filters.Fold, m, zero), partial(columns.Numbers, m, True, zero)]
+    makes += [partial(filters.Key, m, is_insert, zero) for is_insert in (True, False)]
+    makes += [partial(filters.Values, m, is_insert, kind, zero)
+              for is_insert in (True, False) for kind in ("hash", "u32", "u64")]
+    runs = [partial(loops.prove, make, [2, 1]) for make in makes]
+    runs += [partial(keys.prove_columns, m, hash, width) for hash in hash_names for width in keys.MOST]
+    return runs + [partial(filters.prove_texts, filters.TextsCall(m, is_insert, width))
+                   for is_insert in (True, False) for width in keys.MOST]
+
+
+@pytest.fixture(scope="module")
+def late_library(need, tmp_path_factory):
+    need("gcc")
+    return functools.cache(lambda limit: built_of(wrong_calls(f"> 1ull << {limit}"), tmp_path_factory.mktemp("late")))
+
+
+@pytest.mark.parametrize("i", range(len(late_loops(None))))
+@pytest.mark.parametrize("limit", [25, 33, 35])
+def test_a_loop_that_is_wrong_beyond_a_bound_is_refused(limit, i, late_library):
+    built = late_library(limit)
+    with refused("the result is not|what is written is not"):
+        checks.on_each_setting(built, late_loops(checks.machine_of(built))[i])
 
 
 # ---- the blocks of a filter that a call reaches
@@ -683,4 +753,4 @@ mov rdi, rax; mov rax, [r8+rdx*8]; cmp rax, rdi; jae 1b
 def test_a_loop_that_is_ahead_is_followed(before, after, reason, machine_of):
     machine = machine_of("x86-64", f"{VERSION}\n{AHEAD.replace(before, after)}; 5: ud2")
     with refused(reason):
-        loops.on_each_path(partial(keys.prove_offsets, filters.TextsCall(machine, True, 64)))
+        keys.prove_offsets(filters.TextsCall(machine, True, 64))

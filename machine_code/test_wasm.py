@@ -12,8 +12,7 @@ import wasm
 from conftest import DIST
 from module import ARITHMETIC, BINARY, COMPARISONS, LOADS, NUMERIC, STORES, Module
 from test_checks import must_fail, refused
-from test_values import number_of
-from values import Stop, add, cut, extend, mul, number, number_in, shift_right, sub, unknown
+from values import Stop, add, any_number, cut, extend, mul, number, number_in, number_of, shift_right, sub, unknown
 
 EXTREME = [0, 1, 2, 31, 32, 63, 127, 128, 255, 2 ** 31 - 1, 2 ** 31, 2 ** 32 - 1, 2 ** 32, 2 ** 32 + 1,
            2 ** 63 - 1, 2 ** 63, 2 ** 64 - 1]
@@ -67,7 +66,8 @@ def assembled(need, tmp_path):
         text, path = "\n".join([*own, *types, *bodies, ""]), tmp_path / "forms.wasm"
         options = ["--target=wasm32", "-mbulk-memory", "-msign-ext", "-xassembler", "-c", "-", "-o", tmp_path / "forms.o"]
         subprocess.run(["clang", *options], input=text, text=True, check=True)
-        link = ["wasm-ld", "--no-entry", "--export-all", "--no-check-features", tmp_path / "forms.o", "-o", path]
+        exports = [f"--export={name}" for name in forms]
+        link = ["wasm-ld", "--no-entry", *exports, "--no-check-features", tmp_path / "forms.o", "-o", path]
         subprocess.run(link, check=True)
         return path
 
@@ -84,17 +84,18 @@ console.log(JSON.stringify(JSON.parse(fs.readFileSync(0)).map(answer)));
 
 
 def answer(built, name, numbers, names):
-    machine = wasm.Wasm(built)
-    machine.map(number(64), [number(0)] * 2, writable=True)
-    machine.begin_at(built.functions[name], [number(n) for n in numbers])
-    try:
-        machine.go()
-        return str(number_in(machine.registers[0]))
-    except Stop as stop:
-        if "a trap" not in str(stop):
-            raise
-    finally:
-        names |= {built.instructions[at][0] for at in machine.executed}
+    with values.case():
+        machine = wasm.Wasm(built)
+        machine.map(number(64), [number(0)] * 2, writable=True)
+        machine.begin_at(built.functions[name], [number(n) for n in numbers])
+        try:
+            machine.go()
+            return str(number_in(machine.registers[0]))
+        except Stop as stop:
+            if "a trap" not in str(stop):
+                raise
+        finally:
+            names |= {built.instructions[at][0] for at in machine.executed}
 
 
 def test_each_instruction_does_what_node_does(need, assembled):
@@ -121,7 +122,7 @@ def test_a_rule_gives_for_unknowns_what_it_gives_for_numbers():
     worlds = [{value[0][0]: n for value, n in zip(unknowns, row)} for row in rows]
     numbers = [number(n) for n in (0, 1, last, wasm.HALF + 1, -8)]
     first, second, less, few, any, _ = unknowns
-    with values.assuming():
+    with values.case():
         wasm.assume_half(first)
         wasm.assume_half(second)
         values.assume_at_most(less, first)
@@ -135,10 +136,10 @@ def test_a_rule_gives_for_unknowns_what_it_gives_for_numbers():
                 except Stop:
                     continue
                 for world in worlds:
-                    known = [number(number_of(operand, world, pick)) for operand in operands]
+                    known = [number(number_of(operand, world, any_number(pick))) for operand in operands]
                     size = 1 << (32 if name[:3] == "i32" else 64)
                     right = number_in(wasm.OPERATIONS[name](*known)) % size
-                    assert number_of(value, world, pick) % size == right, (name, operands, world)
+                    assert number_of(value, world, any_number(pick)) % size == right, (name, operands, world)
                 done += 1
     assert done > 10000
 
@@ -146,13 +147,13 @@ def test_a_rule_gives_for_unknowns_what_it_gives_for_numbers():
 def test_a_number_that_i32_does_not_hold_is_refused():
     """Else bounds would contradict each other, and all would follow."""
     for value in number(wasm.HALF), unknown("large", 40, wasm.HALF):
-        with refused("i32 does not hold"):
+        with refused("i32 does not hold"), values.case():
             wasm.assume_half(extend(value))
 
 
 def test_the_upper_bits_of_a_product_are_below_one_factor():
     length, hash = extend(unknown("length", 32, 1)), extend(unknown("hash", 32))
-    with values.assuming():
+    with values.case():
         index = shift_right(mul(length, hash), 32)
         wasm.know_product(index[0])
         assert values.is_below(index, length)
@@ -162,7 +163,9 @@ def test_the_upper_bits_of_a_product_are_below_one_factor():
 
 def test_a_comparison_of_a_comparison_is_followed():
     """`eqz` of it is the opposite, and `ne` to 0 the same."""
-    machine, x, y, *results = wasm.Wasm(Module(MODULE)), *(extend(unknown(("compared", i), 1)) for i in range(6))
+    x, y, *results = (extend(unknown(("compared", i), 1)) for i in range(6))
+    with values.case():
+        machine = wasm.Wasm(Module(MODULE))
     machine.note(results[0], True, x, y)
     for i, (is_equal, source) in enumerate([(True, 0), (True, 1), (False, 1)], 1):
         machine.note(results[i], is_equal, results[source])
@@ -219,21 +222,97 @@ def test_a_truncated_module_fails(size, tmp_path):
     ("local.get 0; global.set other", "is not restored"), ("global.get other; global.set other", None),
 ])
 def test_code_that_breaks_a_rule_is_refused(code, reason, assembled):
-    built = library.read(assembled({"sketch_code": f"{code}; local.get 0"}))
+    built = Module(assembled({"sketch_code": f"{code}; local.get 0"}).read_bytes())
     with refused(reason):
         answer(built, "sketch_code", [2 ** 31, 0], set())
 
 
-@pytest.mark.parametrize("first", [(64, 1, 0), (32, 0, 0)])
-def test_a_module_without_a_stack_pointer_is_refused(first):
+@pytest.mark.parametrize("first, reason", [
+    ((64, 1, 66576), "no stack pointer"), ((32, 0, 66576), "no stack pointer"), ((32, 1, 1), "no stack pointer"),
+    ((32, 1, 4096), "no stack pointer"), ((32, 1, 1 << 24), "no stack pointer"), ((32, 1, 1040), "no stack pointer"),
+    ((32, 1, 5200), "in the stack"), ((32, 1, 66576), None),
+])
+def test_a_module_without_a_stack_pointer_is_refused(first, reason):
     built = Module(MODULE)
-    built.globals[0] = first
-    with refused("no stack pointer"):
+    built.globals[0], built.places = first, [(1024, 0, 13)]
+    with refused(reason), values.case():
         wasm.Wasm(built)
 
 
+def sections():
+    """The number of each section, and its bytes after the count of what it has."""
+    built, found = Module(MODULE), {}
+    built.at = 8
+    while built.at < len(MODULE):
+        number, size = built.byte_of_file(), built.unsigned()
+        if number:
+            found[number] = MODULE[built.at : built.at + size]
+        built.at += size
+    return found
+
+
+def module_of(parts):
+    """With a size of five bytes for each section."""
+    sizes = (bytes(len(data) >> 7 * i & 127 | 128 * (i < 4) for i in range(5)) for _, data in parts)
+    return b"\0asm\1\0\0\0" + b"".join(bytes([n]) + size + data for (n, data), size in zip(parts, sizes))
+
+
+DATA = [b"\0\x41" + at + b"\x0b\2ab" for at in (b"\x80\x08", b"\x81\x08", b"\x82\x08", b"\x80\x80\x80\x80\x01")]
+CHANGED = [
+    ({}, None), ({12: b"\1"}, None), ({5: b"\2\0\2\0\2"}, "2 memories"), ({5: b"\0"}, "0 memories"), ({5: b"\1\4\2"}, "0x4 at"),
+    ({5: b"\1\3\2\2"}, "0x3 at"), ({8: b"\0"}, "section 8"), ({2: b"\0"}, "section 2"), ({4: b"\0"}, "section 4"),
+    ({11: b"\2" + DATA[0] + DATA[2]}, None), ({11: b"\2" + DATA[0] + DATA[1]}, "overlaps"),
+    ({11: b"\2" + DATA[2] + DATA[0]}, "overlaps"), ({11: b"\1" + DATA[3]}, "outside of its memory"),
+    ({11: b"\1\1" + DATA[0][1:]}, "0x1 at"), ({1: b"\1\x60\1\x7c\0"}, "0x7c at"), ({1: b"\1\x50\0\0"}, "0x50 at"),
+    ({6: b"\1\x7f\1\x23\0\x0b"}, "0x23 at"), ({6: b"\1\x7f\1\x41\0\x41"}, "0x41 at"),
+]
+
+
+@pytest.mark.parametrize("changes, reason", CHANGED)
+def test_what_is_on_no_list_of_a_module_is_refused(changes, reason, tmp_path):
+    order = [1, 2, 3, 4, 5, 6, 7, 8, 12, 10, 11]
+    parts = {**sections(), **changes}
+    (tmp_path / "module").write_bytes(module_of([(n, parts[n]) for n in order if n in parts]))
+    with refused(reason):
+        library.read(tmp_path / "module")
+
+
+@pytest.mark.parametrize("export, reason", [
+    (b"\1g\3\0", "a global that anybody can change"), (b"\1g\3\1", None), (b"\1g\0\1", "exports g"), (b"\1g\1\0", "0x1 at"),
+])
+def test_an_export_may_not_change_what_the_module_has(export, reason, tmp_path):
+    parts = sections()
+    (count,) = parts[7][:1]
+    parts[7] = bytes([count + 1]) + export + parts[7][1:]
+    (tmp_path / "module").write_bytes(module_of([*parts.items()]))
+    with refused(reason):
+        library.read(tmp_path / "module")
+
+
+@pytest.mark.parametrize("order", [[1, 1, 3, 5, 6, 7, 10, 11], [1, 5, 3, 6, 7, 10, 11], [1, 3, 5, 5, 6, 7, 10, 11]])
+def test_a_section_is_in_its_place_once(order):
+    parts = sections()
+    with refused("not in its place"):
+        library.read_data(module_of([(n, parts[n]) for n in order]))
+
+
+def test_a_function_has_the_types_of_the_header():
+    built = Module(MODULE)
+    start = built.functions["sketch_bloom_check"]
+    for types, reason in (([32], [32]), None), (([64], [32]), "another type"), (([32], []), "another type"):
+        built.entries[start] = (*types, 2)
+        with refused(reason), values.case():
+            wasm.Wasm(built).begin("bloom_check", [unknown("length", 64)])
+
+
 def test_an_instruction_that_is_not_known_stops_its_function_alone(assembled):
-    built = library.read(assembled({"sketch_wrong": "f64.const 1.0; drop; local.get 0", "sketch_right": "local.get 0"}))
+    built = Module(assembled({"sketch_wrong": "f64.const 1.0; drop; local.get 0", "sketch_right": "local.get 0"}).read_bytes())
     assert answer(built, "sketch_right", [5, 6], set()) == "5"
     with refused("opcode 0x44.*is not known"):
         answer(built, "sketch_wrong", [5, 6], set())
+
+
+@pytest.mark.parametrize("code", ["block i64; local.get 0; end_block", "local.get 0; br 0"])
+def test_a_block_with_a_value_is_not_understood(code, assembled):
+    with refused("not understood|returns a value"):
+        answer(Module(assembled({"sketch_code": code}).read_bytes()), "sketch_code", [5, 6], set())

@@ -9,22 +9,39 @@ import contextlib
 import functools
 import itertools
 import math
+import random
 
 NUMBER = -1
 WORD = 1 << 64
 BITS = {"and": lambda x, y: x & y, "or": lambda x, y: x | y, "xor": lambda x, y: x ^ y}
 kinds, ranges, indices = [], [], {}  # of each atom: what it is made of, its least and greatest value; and its index
-assumed = []  # what the present path assumes, as pairs of the next two
+made = set()  # the unknowns that are functions of other values
+assumed, promised = (), ()  # what the present case assumes: pairs of the next two, and bounds. The next five follow from it
 facts = {}  # values, and what they equal
 equations = []  # what those that are sums say of a piece of each: that it equals a number and pieces with factors
 bounds = []  # sums, each as a number and factors of pieces, that are not negative as integers
 having = {}  # by piece the indices of the bounds that have it
 implied = {}  # questions about sums, and whether the bounds answer them
+arguments = {}  # of the present case's call, by name
+stage = None  # of the present case, if there is one: "open", "call" once its call has begun, "loop" once that is in any turn
 remember = functools.lru_cache(1 << 16)
 
 
 class Stop(Exception):
-    """The code does what is not allowed, or what is not understood."""
+    """What is asked is not shown: the code does what is not allowed, or what is not understood."""
+
+
+class NoLibrary(Stop):
+    """The file is none that is checked."""
+
+
+class Differs(Stop):
+    """What the code leaves has another form than what it must leave. `input` is numbers for which both differ, as text, if
+    some are found."""
+
+    def __init__(self, what, found, expected):
+        super().__init__(f"{what} is not what the definitions say")
+        self.pair, self.input = (found, expected), None
 
 
 class Undecided(Stop):
@@ -35,20 +52,47 @@ class Undecided(Stop):
         self.ways = ways
 
 
+def must_equal(found, expected, what):
+    if found != expected:
+        raise Differs(what, found, expected)
+
+
 @contextlib.contextmanager
-def assuming(ways=()):
-    """Within it these facts hold too. What `assume` adds there is forgotten at its end."""
-    before = list(assumed)
+def case(*ways):
+    """What one call does, with these ways from its choices. What is assumed within it holds until its end, and nothing else
+    does: there is no case within it, no second call, and no assumption outside of one."""
+    begin("open", None)
     try:
-        assume([*before, *ways])
+        assume(ways)
         yield
+        must_be_possible()
+    except Differs as stop:
+        if stage == "call":
+            stop.input = input_of(stop.pair)
+        raise
     finally:
-        assume(before)
+        end()
+
+
+def begin(now, *before):
+    """The present case is at its next stage."""
+    global stage
+    if stage not in before:
+        raise RuntimeError(f"{now} in a case that is at {stage}")
+    stage = now
+
+
+def end():
+    global stage, promised
+    stage, promised = None, ()
+    arguments.clear()
+    assume(())
 
 
 def assume(ways):
     """From now on these facts hold, and no others."""
-    assumed[:] = ways
+    global assumed
+    assumed = ways
     equalities = dict(pair for way in ways for pair in way[0].items())
     bounds[:] = [bound for way in ways for bound in way[1]]
     having.clear()
@@ -84,19 +128,27 @@ def atom(kind, width, least=0, most=None):
 
 
 def unknown(name, width, least=0):
-    return atom(("unknown", name, width, least), width, least) if width else ()
+    value = atom(("unknown", name, width, least), width, least) if width else ()
+    if name[0] in MADE:
+        made.add(value[0][0])
+    return value
+
+
+def atoms_in(value):
+    """What a value is made of."""
+    found, todo = set(), [value]
+    while todo:
+        for a in {a for a, _, _ in todo.pop()} - found - {NUMBER}:
+            kind, *parts = kinds[a]
+            found.add(a)
+            if kind != "unknown":
+                todo += [(piece,) for piece, _ in parts[1]] if kind == "sum" else parts[2] if kind in BITS else parts
+    return found
 
 
 def unknowns_in(value):
     """The names of the unknowns that a value is made of."""
-    found = set()
-    for kind, *parts in [kinds[a] for a, _, _ in value if a != NUMBER]:
-        if kind == "unknown":
-            found.add(parts[0])
-        else:
-            operands = [(piece,) for piece, _ in parts[1]] if kind == "sum" else parts[2] if kind in BITS else parts
-            found = found.union(*map(unknowns_in, operands))
-    return found
+    return {kinds[a][1] for a in atoms_in(value) if kinds[a][0] == "unknown"}
 
 
 def number(n, width=64):
@@ -140,9 +192,15 @@ def join(*values):
 
 def cut(value, low, width):
     """Bits low up to low + width."""
+    end = low + width
+    if len(value) == 1 and low < end <= value[0][2]:
+        a, start, size = value[0]
+        if width == size:
+            return value
+        return ((a, start >> low & (1 << width) - 1 if a == NUMBER else start + low, width),)
     if low == 0 and width_of(value) == width:
         return value
-    parts, at, end = [], 0, low + width
+    parts, at = [], 0
     for piece in value:
         a, start, size = piece
         first, last = low - at if low > at else 0, size if size < end - at else end - at
@@ -420,11 +478,15 @@ def is_below(x, y):
 
 
 def assume_at_most(x, y, less=0):
-    """From now on x is at most y, less a number."""
+    """From now on, in this case, x is at most y, less a number."""
+    global promised
+    if not stage:
+        raise RuntimeError("an assumption outside of a case")
     n, factors = gap_of(x, y)
     bound = in_lowest_terms(n - less, factors)
     if bound not in bounds:
-        assume([*assumed, ({}, [bound])])
+        promised += (bound,)
+        assume((*assumed, ({}, [bound])))
 
 
 def gap_of(x, y):
@@ -487,6 +549,8 @@ def operation(op, operands, width):
             return functools.reduce(functools.partial(bitwise, op), parts + rest)
         else:
             members = members ^ {value} if op == "xor" else members | {value}
+    if len(members) == 1 and n == 0:
+        return members.pop()
     return atom((op, width, n, tuple(sorted(members))), width) if members else number(n, width)
 
 
@@ -512,3 +576,135 @@ def is_zero(value):
     is_bit = not others and one[2] == 1
     result = complement((one,)) if is_bit else atom(("is zero", join(*((item,) for item in sorted(pieces)))), 1)
     return facts.get(result, result)
+
+
+# ---- numbers in place of unknowns: a world has one for each atom. `choose` gives those of unknowns that it lacks.
+
+# Of unknowns whose name says what they are made of.
+MADE = {"high": lambda width, x, y: x * y >> width, "quotient": lambda width, x, y: x // y if y else 0}
+
+
+def number_of(value, world, choose):
+    result = at = 0
+    for a, low, width in value:
+        if a != NUMBER and a not in world:
+            world[a] = number_of_atom(a, world, choose)
+        result |= (low if a == NUMBER else world[a] >> low & (1 << width) - 1) << at
+        at += width
+    return result
+
+
+def number_of_atom(a, world, choose):
+    kind, *parts = kinds[a]
+    if kind == "unknown" and a not in made:
+        return choose(*ranges[a])
+    if kind == "sum":
+        return sum_of(parts[0], dict(parts[1]), world, choose) % WORD
+    operands = parts[2] if kind in BITS else parts[0][1:] if kind == "unknown" else parts
+    numbers = [number_of(item, world, choose) for item in operands]
+    if kind in BITS:
+        return functools.reduce(BITS[kind], [parts[1]] * (kind == "xor") + numbers)
+    if kind == "unknown":
+        return MADE[parts[0][0]](parts[1], *numbers)
+    return numbers[0] * numbers[1] % WORD if kind == "product" else 1 << numbers[0] if kind == "power" else int(numbers[0] == 0)
+
+
+def sum_of(n, factors, world, choose):
+    return n + sum(number_of((piece,), world, choose) * factor for piece, factor in factors.items())
+
+
+def any_number(pick):
+    """Of those from one to another, an extreme one, a small one, or any."""
+    return lambda least, most: pick.choice([least, most, min(least + pick.randrange(200), most), pick.randint(least, most)])
+
+
+class Search:
+    """For a world that keeps bounds and facts: from the least numbers, then from random ones, it changes what is wrong."""
+
+    def __init__(self, bounds, facts, is_wanted=lambda number_of: True):
+        self.bounds, self.facts, self.is_wanted, self.pick = bounds, facts, is_wanted, random.Random(1)
+
+    def run(self, tries=100):
+        """The numbers of the unknowns, by atom; or None, if none are found."""
+        for i in range(tries):
+            self.choose, self.given = any_number(self.pick) if i else lambda least, most: least, {}
+            for _ in range(60):
+                if self.is_right():
+                    if self.is_wanted(self.number_of):
+                        return self.given
+                    break
+        return None
+
+    def number_of(self, value):
+        return number_of(value, self.world, self.choose)
+
+    def is_right(self):
+        """Else it changes some unknowns."""
+        self.world = dict(self.given)
+        wrong = [bound for bound in self.bounds if self.sum_of(*bound) < 0]
+        others = [(value, answer) for value, answer in self.facts.items() if not self.is_kept(value, answer)]
+        self.given = {a: n for a, n in self.world.items() if kinds[a][0] == "unknown" and a not in made}
+        if wrong:
+            self.mend(*self.pick.choice(wrong))
+        for value, answer in others:
+            if isinstance(answer, tuple):
+                self.force(value, number_in(answer))
+        return not wrong and not others
+
+    def sum_of(self, n, factors):
+        return sum_of(n, factors, self.world, self.choose)
+
+    def is_kept(self, value, answer):
+        if isinstance(answer, bool):
+            return (self.number_of(value[1]) < self.number_of(value[2])) == answer
+        return self.number_of(value) == number_in(answer)
+
+    def mend(self, n, factors):
+        """So that a sum is not negative."""
+        pieces = [piece for piece in factors if piece[0] in self.given]
+        if pieces:
+            piece, lack = self.pick.choice(pieces), -self.sum_of(n, factors)
+            change = -(-lack // abs(factors[piece])) * (1 if factors[piece] > 0 else -1)
+            self.force((piece,), max(0, min(self.number_of((piece,)) + change, (1 << piece[2]) - 1)))
+
+    def force(self, value, n):
+        """So that a value is this number. Of what is made of several unknowns it changes one."""
+        for a, low, width in value:
+            bits, n, (kind, *parts) = n & (1 << width) - 1, n >> width, kinds[a] if a != NUMBER else (None,)
+            if a in self.given:
+                now = self.world[a] & ~((1 << width) - 1 << low) | bits << low
+                self.given[a] = self.world[a] = max(ranges[a][0], min(now, ranges[a][1]))
+            elif kind == "is zero":
+                self.force(parts[0], 1 - bits)
+            elif kind == "xor":
+                others = [parts[1], *map(self.number_of, parts[2][1:])]
+                bits ^= functools.reduce(BITS["xor"], others) >> low & (1 << width) - 1
+                self.force(cut(parts[2][0], low, width), bits)
+            elif kind == "sum" and low == 0:
+                for piece, factor in [pair for pair in parts[1] if pair[1] % 2][:1]:
+                    gap = (bits - self.sum_of(parts[0], dict(parts[1]))) * pow(factor, -1, WORD)
+                    self.force((piece,), self.number_of((piece,)) + gap & (1 << piece[2]) - 1)
+
+
+def must_be_possible():
+    """What a case assumes, but for its choices, of which one holds in any case."""
+    if promised and Search(promised, {}).run() is None:
+        raise Stop("no numbers are known that keep what a case assumes")
+
+
+def input_of(pair):
+    """Numbers of unknowns for which the two values of a pair differ, as text, or None. They may differ where something is 0."""
+    zeros = [{((a, 0, 1),): number(1, 1)} for value in pair for a in atoms_in(value) if kinds[a][0] == "is zero"]
+    for more in [{}, *zeros[:8]]:
+        found = Search(bounds, {**facts, **more}, lambda number_of: len(set(map(number_of, pair))) > 1).run(10)
+        if found is not None:
+            world = dict(found)
+            named = {name: number_of(value, world, lambda least, most: least) for name, value in arguments.items()}
+            named |= {name_of(a): n for a, n in sorted(found.items()) if name_of(a) not in named}
+            return ", ".join(f"{name} = {n:#x}" for name, n in [*named.items()][:20]) or "any input"
+    return None
+
+
+def name_of(a):
+    name = kinds[a][1]
+    return f"{name[0]}[{name[-1]}]" if isinstance(name, tuple) else name

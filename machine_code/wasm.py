@@ -5,7 +5,9 @@ other bits, such as a comparison or an address, takes `narrow` of it: the same n
 """
 import functools
 import itertools
+import re
 
+from library import HEADER
 from machine import CALLER, STACK, Machine, fill, move, shift_one
 from module import COMPARISONS, NUMERIC
 from values import (NUMBER, Stop, Undecided, add, are_equal, assume_at_most, bitwise, collect, complement, cut, exact, extend,
@@ -188,6 +190,16 @@ def operation(name):
 OPERATIONS = {name: operation(name) for name in NUMERIC.values() if {name[4:]} & {*ANY_BITS, *EXACT}}
 
 
+def types_of(header):
+    """The widths of the parameters of each function that a header declares, and of its result."""
+    declared = re.findall(r"(\w+) sketch_(\w+)\(([^;{}]*)\);", re.sub(r"/\*.*?\*/", "", header, flags=re.S))
+    return {name: ([64 if re.fullmatch(r"\s*uint64_t \w+", item) else 32 for item in text.split(",") if item != "void"],
+                   [64 if result == "uint64_t" else 32] * (result != "void")) for result, name, text in declared}
+
+
+TYPES = types_of(HEADER)
+
+
 class Wasm(Machine):
     """Registers are globals, and the locals and the value stack of each function that runs, from its frame on. A frame has the
     number of its first register; a function that is called has there where it returns to, and the frame of its caller."""
@@ -196,9 +208,12 @@ class Wasm(Machine):
     pointer, popped, entry, red_zone, result_register = ("global", 0), 0, 0, 128, 0
 
     def set_up(self):
-        (width, is_mutable, _), *_ = self.library.globals
-        if width != 32 or not is_mutable:
+        (width, is_mutable, top), *_ = self.library.globals
+        end = top - STACK - self.red_zone
+        if width != 32 or not is_mutable or top % 16 or not 0 <= end < top <= self.library.memories[0]:
             raise Stop("the first global is no stack pointer")
+        if any(start < top and end < start + size for start, _, size in self.library.places):
+            raise Stop("data is in the stack")
         self.kept = {("global", i): 64 for i, item in enumerate(self.library.globals) if item[1] and i}
         self.registers = {("global", i): number(n) for i, (_, _, n) in enumerate(self.library.globals)}
         self.compared = {}  # by a number that is 1 if two are equal, or if they are not: which of both, and the two
@@ -214,10 +229,14 @@ class Wasm(Machine):
         assume_half(add(address, number(sum(map(width_of, values)) // 8)))
         super().map(address, values, writable)
 
+    def begin(self, function, arguments):
+        found = self.library.entries.get(self.library.functions.get(f"sketch_{function}"))
+        if found and found[:2] != TYPES[function]:
+            raise Stop("it has another type than in the header")
+        super().begin(function, arguments)
+
     def pass_arguments(self, arguments):
         widths, _, _ = self.library.entries[self.at]
-        if len(widths) != len(arguments):
-            raise Stop("it has another number of parameters than in the header")
         for width, value in zip(widths, arguments):
             if width == 32:
                 assume_half(value)

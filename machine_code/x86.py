@@ -3,8 +3,8 @@ import functools
 import itertools
 import re
 
-from machine import CALLER, IMAGE, Machine, count_of, if_equal, logic, plain, reads, shift_one, shifted
-from values import (BITS, Stop, Undecided, add, are_equal, bitwise, complement, cut, extend, is_below, is_zero, join, kinds,
+from machine import CALLER, IMAGE, Machine, count_of, forms_of, if_equal, logic, plain, reads, shift_one, shifted
+from values import (BITS, Stop, Undecided, add, bitwise, complement, cut, extend, is_below, is_zero, join, kinds,
                     known, lanes, mul, number, number_in, repeat, replace, rotate_right, shift_left, shift_right, sign_extend,
                     signed, sub, unknown, width_of)
 
@@ -16,8 +16,9 @@ REGISTERS |= {f"{kind}mm{n}": (f"xmm{n}", width) for n in range(32) for kind, wi
 REGISTERS |= {f"k{n}": (f"k{n}", 64) for n in range(8)}
 SIZES = {"BYTE": 8, "WORD": 16, "DWORD": 32, "QWORD": 64, "XMMWORD": 128, "YMMWORD": 256, "ZMMWORD": 512}
 LETTERS = {"b": 8, "w": 16, "d": 32, "q": 64}
-GUARD = "fs:0x28"  # the stack's, at the thread's own address
-PREFIXES = "data16", "cs", "bnd", "notrack", "ds", "repz"  # of them none changes what the instruction does
+GUARD, GUARD_TERMS = "fs:0x28", (("guard", 1),)  # the stack's, at the thread's own address
+# Before these they change nothing that is looked at.
+PREFIXES = {"data16": "nop", "cs": "nop", "bnd": "jmp call ret", "notrack": "jmp call", "repz": "ret"}
 
 
 @functools.cache
@@ -34,6 +35,32 @@ def decode(text):
         else:
             found.append(("register", *REGISTERS[item], mask) if item in REGISTERS else ("number", int(item, 16), None, mask))
     return found
+
+
+def split(op, text):
+    """Prefixes, the mnemonic, and the operands' text."""
+    prefixes = []
+    while op in PREFIXES:
+        prefixes.append(op)
+        op, _, text = text.partition(" ")
+    return prefixes, op, text.strip()
+
+
+@functools.cache
+def form_of(op, text):
+    """The mnemonic with its prefixes, and the kinds and widths of its operands. What does nothing has one form."""
+    prefixes, op, text = split(op, text)
+    if op == "nop":
+        return "nop -"
+    if op == "rep":
+        return f"rep+{text.replace(' ', '+')} -"
+    if re.fullmatch("(0x)?[0-9a-f]+", text) and (op[0] == "j" or op == "call"):
+        return "+".join([*prefixes, op]) + " to"
+    kinds = []
+    for kind, what, width, mask in decode(text):
+        name = "g" if what == GUARD_TERMS else what[0] if kind == "register" else kind[0]
+        kinds.append(f"{name}{width or ''}" + "{k}" * bool(mask) + "{z}" * ("z" in mask))
+    return "+".join([*prefixes, op]) + " " + (",".join(kinds) or "-")
 
 
 # ---- instructions that set conditions
@@ -102,19 +129,6 @@ def test_bit(change):
     return run
 
 
-def count_bits(function):
-    """Of a number that is known."""
-    return lambda m, x: m.compare(None, x, x, number(function(known(x, "a number"), width_of(x)), width_of(x)))
-
-
-def lowest_bit(n, width):
-    return (n & -n).bit_length() - 1 if n else width
-
-
-def zero_above(m, x, n):
-    return m.compare("other", x, None, extend(cut(x, 0, min(known(cut(n, 0, 8), "a place"), width_of(x))), width_of(x)))
-
-
 CONDITIONAL = {
     "add": Machine.sum, "sub": Machine.subtract, "cmp": Machine.subtract, "adc": with_carry(1), "sbb": with_carry(-1),
     "neg": lambda m, x: m.subtract(number(0, width_of(x)), x), "inc": plus_one(1), "dec": plus_one(-1),
@@ -126,11 +140,7 @@ CONDITIONAL = {
     "shrd": lambda m, x, y, n: double_shift(m, x, y, known(count_of(x, n), "a shift")),
     "bt": test_bit(lambda x, bit: x), "bts": test_bit(lambda x, bit: bitwise("or", x, bit)),
     "btr": test_bit(lambda x, bit: bitwise("and", x, complement(bit))), "btc": test_bit(lambda x, bit: bitwise("xor", x, bit)),
-    "popcnt": count_bits(lambda n, width: bin(n).count("1")), "tzcnt": count_bits(lowest_bit),
-    "lzcnt": count_bits(lambda n, width: width - n.bit_length()), "bzhi": zero_above,
-    "blsr": lambda m, x: m.compare("other", x, None, bitwise("and", x, sub(x, number(1, width_of(x))))),
-    "blsi": lambda m, x: m.compare("other", x, None, bitwise("and", x, sub(number(0, width_of(x)), x))),
-    "blsmsk": lambda m, x: m.compare("other", x, None, bitwise("xor", x, sub(x, number(1, width_of(x))))),
+    "popcnt": lambda m, x: m.compare(None, x, x, number(bin(known(x, "a number")).count("1"), width_of(x))),
 }
 
 
@@ -143,9 +153,7 @@ def test_mask(size):
     return run
 
 
-for letter, size in LETTERS.items():
-    CONDITIONAL |= {f"kortest{letter}": test_mask(size), f"ktest{letter}": lambda m, x, y, size=size: is_covered(
-        m, *(cut(item, 0, size) for item in (x, y)))}
+CONDITIONAL |= {f"kortest{letter}": test_mask(size) for letter, size in LETTERS.items()}
 
 
 # ---- and those that set none. A number that the instruction has is an int.
@@ -165,8 +173,8 @@ def arithmetic(x, n):
     return sign_extend(cut(x, n, width_of(x) - n), width_of(x))
 
 
-def rotate_lane(sign):
-    return lambda x, n: rotate_right(x, sign * (known(n, "a shift") if isinstance(n, tuple) else n) % width_of(x))
+def rotate_lane(x, n):
+    return rotate_right(x, -(known(n, "a shift") if isinstance(n, tuple) else n) % width_of(x))
 
 
 def each(size, function):
@@ -207,37 +215,16 @@ def interleaved(size, half):
                                          for value in (x, y))))
 
 
-def shuffled_half(half):
-    """The words of one half by an order; the other half stays."""
-    return in_blocks(lambda x, n: replace(x, 64 * half, picked(16, 4, cut(x, 64 * half, 64))(n)))
-
-
 def shuffled_bytes(x, order):
     places = [known(cut(order, at, 8), "an order") for at in range(0, 128, 8)]
     return join(*(number(0, 8) if n >> 7 else cut(x, 8 * (n & 15), 8) for n in places))
 
 
-def blended(size):
-    """Of each lane y, if the choice has this bit, else x."""
-    return lambda x, y, bits: join(*(cut(y if bits >> i & 1 else x, size * i, size) for i in range(width_of(x) // size)))
-
-
-def chosen(x, y, z):
-    """Of each lane y, if z has its highest bit, else x."""
-    bits = repeat(cut(z, width_of(z) - 1, 1), width_of(z))
-    return bitwise("or", bitwise("and", y, bits), bitwise("and", x, complement(bits)))
-
-
-def packed(size, is_signed):
-    """Half of each signed lane that is known, or the nearest one."""
-    least, most = (-(1 << size - 1), (1 << size - 1) - 1) if is_signed else (0, (1 << size) - 1)
-
-    def run(x, y):
-        halves = [cut(value, at, 2 * size) for value in (x, y) for at in range(0, 128, 2 * size)]
-        lanes = [known(sign_extend(half, 64), "a lane") for half in halves]
-        return join(*(number(max(least, min(signed(lane), most)), size) for lane in lanes))
-
-    return in_blocks(run)
+@in_blocks
+def packed(x, y):
+    """The lower byte of each word that is known, or the nearest one without a sign."""
+    words = [signed(known(sign_extend(cut(value, at, 16), 64), "a lane")) for value in (x, y) for at in range(0, 128, 16)]
+    return join(*(number(max(0, min(word, 255)), 8) for word in words))
 
 
 def differences(x, y):
@@ -250,11 +237,6 @@ def pair_products(x, y):
     """The sum of the products of two signed words."""
     words = [[sign_extend(cut(value, at, 16), 32) for value in (x, y)] for at in (0, 16)]
     return add(*(mul(*pair) for pair in words))
-
-
-def on_numbers(function):
-    """Of two lanes that are known."""
-    return lambda x, y: number(function(*(known(item, "a lane") for item in (x, y))), width_of(x))
 
 
 def if_greater(x, y):
@@ -274,24 +256,6 @@ def to_whole(x):
     if cut(exponent, 0, 23) != number(0, 23) or cut(exponent, 28, 4) != number(0, 4):
         raise Stop("a float that is no power of two")
     return shift_one(number(1, 32), extend(cut(exponent, 23, 5)))
-
-
-def looked_up(size, order, table):
-    """Lanes of a table by an order, of which so many bits count as it needs."""
-    bits = (width_of(table) // size - 1).bit_length()
-    return lanes(size, lambda lane: cut(table, size * known(cut(lane, 0, bits), "an order"), size), order)
-
-
-def permuted(size):
-    def run(x, y):
-        return in_blocks(lambda x, n: picked(64, 4, x)(n), 256)[1](x, y) if isinstance(y, int) else looked_up(size, x, y)
-
-    return 2, run
-
-
-def halves(x, y, n):
-    """Each half of the result is one of the four, or nothing."""
-    return join(*(number(0, 128) if n >> at & 8 else cut(join(x, y), 128 * (n >> at & 3), 128) for at in (0, 4)))
 
 
 def shuffled_blocks(x, y, n):
@@ -343,134 +307,104 @@ def spread(size):
     return 1, lambda x: repeat(cut(x, 0, size), 512 // size)
 
 
+def reversed_bytes(x):
+    if width_of(x) < 32:
+        raise Stop("bytes of a short word, whose order is not defined")
+    return join(*(cut(x, at, 8) for at in range(width_of(x) - 8, -1, -8)))
+
+
 SAME = dict.fromkeys("mov movabs movzx movups movupd movdqu movaps movapd movdqa lddqu".split(), (1, lambda x: x))
 SAME |= {f"movdq{kind}": (1, lambda x: x) for kind in ("u8", "u16", "u32", "u64", "a32", "a64")}
 PLAIN = SAME | {
-    "not": (1, complement), "bswap": (1, lambda x: join(*(cut(x, at, 8) for at in range(width_of(x) - 8, -1, -8)))),
-    "rorx": (2, lambda x, n: rotate_right(x, n % width_of(x))),
-    "shlx": (2, shifted(shift_left)), "shrx": (2, shifted(shift_right)),
-    "sarx": (2, shifted(arithmetic)), "movd": lowest(32), "movq": lowest(64),
-    "movss": (2, lambda x, y: replace(x, 0, cut(y, 0, 32))), "movsd": (2, lambda x, y: replace(x, 0, cut(y, 0, 64))),
-    "movhlps": (2, lambda x, y: replace(x, 0, cut(y, 64, 64))), "movmskps": signs(32), "movmskpd": signs(64),
-    "pmovmskb": signs(8), "psadbw": each(64, differences), "pmaddwd": each(32, pair_products), "cvttps2dq": each(32, to_whole),
+    "not": (1, complement), "bswap": (1, reversed_bytes), "rorx": (2, lambda x, n: rotate_right(x, n % width_of(x))),
+    "shlx": (2, shifted(shift_left)), "shrx": (2, shifted(shift_right)), "sarx": (2, shifted(arithmetic)),
+    "movd": lowest(32), "movq": lowest(64), "movmskpd": signs(64), "pmovmskb": signs(8),
+    "psadbw": each(64, differences), "pmaddwd": each(32, pair_products), "cvttps2dq": each(32, to_whole),
     "pmuludq": each(64, lambda x, y: mul(extend(cut(x, 0, 32)), extend(cut(y, 0, 32)))),
     "pshufd": in_blocks(lambda x, n: picked(32, 4, x)(n)), "shufps": in_blocks(lambda x, y, n: picked(32, 4, x, y)(n)),
-    "shufpd": (3, lambda x, y, n: join(*(cut(y if i & 1 else x, (i & ~1) * 64 + 64 * (n >> i & 1), 64)
-                                         for i in range(width_of(x) // 64)))),
-    "pshuflw": shuffled_half(0), "pshufhw": shuffled_half(1), "pshufb": in_blocks(shuffled_bytes),
+    "pshufb": in_blocks(shuffled_bytes),
     "pslldq": in_blocks(lambda x, n: shift_left(x, 8 * min(n, 16))),
     "psrldq": in_blocks(lambda x, n: shift_right(x, 8 * min(n, 16))),
     "palignr": in_blocks(lambda x, y, n: cut(extend(join(y, x), 512), 8 * min(n, 32), 128)),
-    "packuswb": packed(8, False), "packusdw": packed(16, False), "packsswb": packed(8, True), "packssdw": packed(16, True),
-    "pblendw": in_blocks(blended(16)), "pblendd": (3, blended(32)), "blendps": (3, blended(32)), "blendpd": (3, blended(64)),
-    "pblendvb": each(8, chosen), "blendvps": each(32, chosen), "blendvpd": each(64, chosen),
-    "permq": permuted(64), "permpd": permuted(64), "permd": permuted(32), "permps": permuted(32),
-    "perm2i128": (3, halves), "perm2f128": (3, halves), "permilps": in_blocks(lambda x, n: picked(32, 4, x)(n)),
-    **{f"unpck{half}{name}": interleaved(size, half == "h") for half in "lh" for name, size in (("ps", 32), ("pd", 64))},
-    "movlhps": interleaved(64, 0), "movhps": (2, lambda x, y: join(cut(x, 0, 64), cut(y, 0, 64))),
-    "movlps": (2, lambda x, y: replace(x, 0, cut(y, 0, 64))), "broadcastss": spread(32), "broadcastsd": spread(64),
-    "kunpckbw": (2, lambda x, y: extend(join(cut(y, 0, 8), cut(x, 0, 8)))),
-    "kunpckwd": (2, lambda x, y: extend(join(cut(y, 0, 16), cut(x, 0, 16)))),
-    "kunpckdq": (2, lambda x, y: join(cut(y, 0, 32), cut(x, 0, 32))),
-    **{f"shuf{kind}": (3, shuffled_blocks) for kind in ("i32x4", "i64x2", "f32x4", "f64x2")},
+    "packuswb": packed,
+    "shufi32x4": (3, shuffled_blocks), "shufi64x2": (3, shuffled_blocks),
+    "kshiftrq": (2, lambda x, n: shift_right(x, min(n, 64))),
     **{f"punpck{half}{name}": interleaved(size, half == "h") for half in "lh"
        for name, size in (("bw", 8), ("wd", 16), ("dq", 32), ("qdq", 64))},
 }
-PLAIN |= {"movhpd": PLAIN["movhps"], "movlpd": PLAIN["movlps"]}
-for kind, (size, names) in itertools.product("if", {128: ("128", "32x4", "64x2"), 256: ("32x8", "64x4")}.items()):
+for size, names in {128: ("128", "32x4", "64x2"), 256: ("32x8", "64x4")}.items():
     for name in names:
-        name = kind + name
-        PLAIN |= {f"extract{name}": part(size), f"insert{name}": insert(size), f"broadcast{name}": spread(size)}
+        PLAIN |= {f"extracti{name}": part(size), f"inserti{name}": insert(size), f"broadcasti{name}": spread(size)}
 for op in "and", "or", "xor", "andn":
     run = functools.partial(bitwise, op) if op != "andn" else lambda x, y: bitwise("and", complement(x), y)
     PLAIN |= {name: (2, run) for name in (f"p{op}", f"{op}ps", f"{op}pd", f"p{op}d", f"p{op}q")}
-    PLAIN |= {f"k{op}{letter}": (2, lambda x, y, run=run, size=size: extend(run(cut(x, 0, size), cut(y, 0, size))))
-              for letter, size in LETTERS.items()}
 # By the ends of their names.
 FAMILIES = {
-    "padd bwdq": lambda n: each(n, add), "psub bwdq": lambda n: each(n, sub),
-    "pmull wdq": lambda n: each(n, mul), "pcmpeq bwdq": lambda n: each(n, if_equal),
-    "pcmpgt bwdq": lambda n: each(n, if_greater), "pminu bwdq": lambda n: each(n, on_numbers(min)),
-    "pmaxu bwdq": lambda n: each(n, on_numbers(max)), "psllv wdq": lambda n: each(n, shift_lane(shift_left)),
-    "psrlv wdq": lambda n: each(n, shift_lane(shift_right)), "psrav wdq": lambda n: each(n, shift_lane(arithmetic)),
-    "prolv dq": lambda n: each(n, rotate_lane(-1)), "prorv dq": lambda n: each(n, rotate_lane(1)),
-    "prol dq": lambda n: (2, lambda x, k: lanes(n, lambda lane: rotate_lane(-1)(lane, k), x)),
-    "pror dq": lambda n: (2, lambda x, k: lanes(n, lambda lane: rotate_lane(1)(lane, k), x)),
+    "padd bwdq": lambda n: each(n, add), "psub bwdq": lambda n: each(n, sub), "pmull wdq": lambda n: each(n, mul),
+    "pcmpeq bwdq": lambda n: each(n, if_equal), "pcmpgt bwdq": lambda n: each(n, if_greater),
+    "psllv dq": lambda n: each(n, shift_lane(shift_left)), "psrlv dq": lambda n: each(n, shift_lane(shift_right)),
+    "prolv dq": lambda n: each(n, rotate_lane),
+    "prol dq": lambda n: (2, lambda x, k: lanes(n, lambda lane: rotate_lane(lane, k), x)),
     "psll wdq": lambda n: each_by(n, shift_left), "psrl wdq": lambda n: each_by(n, shift_right),
-    "psra wdq": lambda n: each_by(n, arithmetic), "pextr bwdq": part, "pinsr bwdq": insert, "pbroadcast bwdq": spread,
+    "psra wd": lambda n: each_by(n, arithmetic), "pextr bwdq": part, "pinsr bwdq": insert, "pbroadcast bwdq": spread,
     "pternlog dq": lambda n: (4, ternary),
     "align dq": lambda n: (3, lambda x, y, k: cut(join(y, x), n * (k % (width_of(x) // n)), width_of(x))),
-    "permt2 wdq": lambda n: (3, lambda x, order, y: looked_up(n, order, join(x, y))),
-    "permi2 wdq": lambda n: (3, lambda order, x, y: looked_up(n, order, join(x, y))),
-    "kmov bwdq": lowest, "knot bwdq": lambda n: (1, lambda x: extend(complement(cut(x, 0, n)))),
-    "kxnor bwdq": lambda n: (2, lambda x, y: extend(complement(bitwise("xor", cut(x, 0, n), cut(y, 0, n))))),
-    "kshiftl bwdq": lambda n: (2, lambda x, k: extend(shift_left(cut(x, 0, n), min(k, n)))),
-    "kshiftr bwdq": lambda n: (2, lambda x, k: extend(shift_right(cut(x, 0, n), min(k, n)))),
-    "pmovm2 bwdq": lambda n: (1, lambda x: join(*(repeat(cut(x, i, 1), n) for i in range(512 // n)))),
-    "ptestm bwdq": lambda n: each(n, lambda x, y: complement(is_zero(bitwise("and", x, y)))),
-    "ptestnm bwdq": lambda n: each(n, lambda x, y: is_zero(bitwise("and", x, y))),
-    "pcmpneq bwdq": lambda n: each(n, lambda x, y: complement(is_zero(bitwise("xor", x, y)))),
+    "kmov bwdq": lowest, "pcmpneq bwdq": lambda n: each(n, lambda x, y: complement(is_zero(bitwise("xor", x, y)))),
+    "pcmpnleu dq": lambda n: each(n, lambda x, y: number(is_below(y, x), 1)),
+    "pcmpltu dq": lambda n: each(n, lambda x, y: number(is_below(x, y), 1)),
 }
-for kind, is_less in (("", lambda x, y: number_in(if_greater(y, x)) != 0), ("u", is_below)):
-    FAMILIES |= {
-        f"pcmplt{kind} bwdq": lambda n, less=is_less: each(n, lambda x, y: number(less(x, y), 1)),
-        f"pcmpnlt{kind} bwdq": lambda n, less=is_less: each(n, lambda x, y: number(not less(x, y), 1)),
-        f"pcmpnle{kind} bwdq": lambda n, less=is_less: each(n, lambda x, y: number(less(y, x), 1)),
-        f"pcmple{kind} bwdq": lambda n, less=is_less: each(n, lambda x, y: number(not less(y, x), 1))}
 for family, make in FAMILIES.items():
     name, letters = family.split()
     PLAIN |= {f"{name}{letter}": make(LETTERS[letter]) for letter in letters}
-PLAIN |= {f"pmov{letter}2m": signs(size) for letter, size in LETTERS.items()}
 for one, other in itertools.combinations(LETTERS, 2):
     small, large = LETTERS[one], LETTERS[other]
-    PLAIN |= {
-        f"pmovzx{one}{other}": (1, lambda x, n=small, m=large: lanes(n, lambda lane: extend(lane, m), x)),
-        f"pmovsx{one}{other}": (1, lambda x, n=small, m=large: lanes(n, lambda lane: sign_extend(lane, m), x)),
-        f"pmov{other}{one}": (1, lambda x, n=small, m=large: lanes(m, lambda lane: cut(lane, 0, n), x))}
-# A comparison whose result is a mask.
-MASKS = {f"pcmp{name}{letter}": each(size, lambda x, y, test=test: cut(test(x, y), 0, 1))
-         for name, test in (("eq", if_equal), ("gt", if_greater))
-         for letter, size in LETTERS.items()}
+    PLAIN[f"pmovzx{one}{other}"] = 1, lambda x, n=small, m=large: lanes(n, lambda lane: extend(lane, m), x)
 # What can be done for some lanes alone, with the size of a lane.
-MASKED = {f"mov{name}{size}": size for name in ("dqu", "dqa") for size in (8, 16, 32, 64)}
-MASKED |= {f"p{op}{letter}": LETTERS[letter] for op in ("add", "sub", "and", "or", "xor", "ternlog") for letter in "dq"}
+MASKED = {f"movdq{kind}{size}": size for kind in "ua" for size in (8, 16, 32, 64)}
 OPERATIONS = {name: plain(function) for name, (_, function) in PLAIN.items()} | CONDITIONAL
 # How many operands an instruction reads: the last ones.
 READS = {name: count for name, (count, _) in PLAIN.items()} | {name: reads(run) - 1 for name, run in CONDITIONAL.items()}
-READ_ONLY = {"cmp", "test", "ptest", "bt", *(f"{name}{letter}" for name in ("kortest", "ktest") for letter in LETTERS)}
+READ_ONLY = {"cmp", "test", "ptest", "bt", *(f"kortest{letter}" for letter in LETTERS)}
 SHIFTS = "shl", "shr", "sar", "rol", "ror"
 UNALIGNED = re.compile("movup.|movdqu.*|lddqu")
-OF_LOW_HALF = {"movss": "movd", "movsd": "movq", "movlps": "movq", "movlpd": "movq", "movhps": "pextrq", "movhpd": "pextrq"}
 # Those of AVX2 that have 128 bits too, or another name than an integer's.
-AVX2 = re.compile("ps[lr][la]v|pbroadcast|pblendd|perm(2i|d|q|ps|pd)|(extract|insert|broadcast)i")
+AVX2 = re.compile("ps[lr][la]v|pbroadcast|(extract|insert|broadcast)i")
 STRINGS = {"BYTE": 1, "WORD": 2, "DWORD": 4, "QWORD": 8}
 
 
 @functools.cache
-def plan(op, text):
-    """Of an instruction: its operation and operands, those that are read and whether each is an int, the largest width, and
-    whether it is AVX's, needs aligned vectors, and needs AVX2."""
+def prepared(op, text):
+    """What runs an instruction, and what it is given: for most `X86.operate`, with the operation and its operands, those that
+    are read and whether each is an int, the largest width, and whether it is AVX's, needs aligned vectors, and needs AVX2."""
+    prefixes, op, text = split(op, text)
+    if any(op not in PREFIXES[prefix].split() for prefix in prefixes):
+        raise Stop("a prefix that is not understood")
+    if op in ("nop", "endbr64") or (op, text) == ("xchg", "ax,ax"):
+        return [lambda machine: None]
+    special = SPECIAL.get("j" if op[0] == "j" else op)
+    if special:
+        return special, op, text
     name, operands = X86.name_of(op), decode(text)
-    is_avx, memory = name != op or op[0] == "k", [item[0] == "memory" for item in operands]
-    # To memory, or from there, it is a move; but one to the higher half of a register keeps the other half.
-    if name in OF_LOW_HALF and len(operands) == 2 and (memory[0] or memory[1] and name[3] == "s"):
-        name = OF_LOW_HALF[name]
-        operands = [*operands, ("number", 1, None, [])] if name == "pextrq" else operands
+    is_avx = name != op or op[0] == "k"
     if name in SHIFTS and len(operands) == 1:
         operands = [*operands, ("number", 1, None, [])]
-    if name not in OPERATIONS or name[:2] == "bt" and memory[0] and operands[1][0] == "register":
+    if name not in OPERATIONS or name[:2] == "bt" and operands[0][0] == "memory" and operands[1][0] == "register":
         raise Stop("the instruction is not known")
+    if operands[0][1][0] == "k" and name[:6] in ("pcmpeq", "pcmpgt"):
+        raise Stop("a comparison whose result is a mask")
     width = max(item[2] or 0 for item in operands)
     is_aligned = not UNALIGNED.fullmatch(name) and (not is_avx or name[:4] in ("mova", "movd"))
     is_avx2 = is_avx and bool(name[0] == "p" and width > 128 and name != "ptest" or AVX2.match(name))
     takes_ints = name in PLAIN and name not in SAME
     used = [(item, item[0] == "number" and takes_ints) for item in operands[-READS[name] :]]
-    return name, operands, used, width, is_avx, is_aligned, is_avx2
+    return X86.operate, name, operands, used, width, is_avx, is_aligned, is_avx2
 
 
 class X86(Machine):
-    pointer, popped, entry, result_register = "rsp", 8, 8, "rax"  # the caller pushed where to return to: rsp is 16 * n + 8
+    pointer, red_zone, result_register, argument_registers = "rsp", 128, "rax", "rdi rsi rdx rcx r8 r9".split()
+    popped, entry, kept = 8, 8, dict.fromkeys("rbx rbp r12 r13 r14 r15".split(), 64)  # the caller pushed where to return to
     processor = None  # while constructors run: what cpuid and xgetbv say
+    form_of, forms = staticmethod(form_of), forms_of("x86-64") | {"cpuid -", "xgetbv -"}  # whose answers are any
 
     @staticmethod
     def name_of(op):
@@ -478,11 +412,6 @@ class X86(Machine):
         return op[1:] if op[0] == "v" and op[1:] in OPERATIONS else op
 
     def set_up(self):
-        is_windows = self.library.format == "pe"
-        self.red_zone = 0 if is_windows else 128
-        self.argument_registers = ("rcx rdx r8 r9" if is_windows else "rdi rsi rdx rcx r8 r9").split()
-        self.kept = dict.fromkeys("rbx rbp r12 r13 r14 r15".split() + ["rsi", "rdi"] * is_windows, 64)
-        self.kept |= {f"xmm{n}": 128 for n in range(6, 16) if is_windows}
         has_512 = self.library.uses(r"zmm|[xy]mm(1[6-9]|[23])|\bk[0-7]\b")
         self.registers = {name: unknown(("before", name), 64) for name, width in REGISTERS.values()
                           if name[0] == "r" or name[0] == "k" and has_512}
@@ -492,11 +421,10 @@ class X86(Machine):
         self.map(self.stack, [CALLER])
         self.guard = extend(unknown("thread", 62, 1))
         self.map(self.guard, [unknown("guard", 64)])
-        self.home = [unknown(("home", i), 64) for i in range(4 if is_windows else 0)]
 
     def pass_arguments(self, arguments):
         self.registers |= zip(self.argument_registers, arguments)
-        self.map(add(self.stack, number(8)), self.home + arguments[len(self.argument_registers) :], writable=True)
+        self.map(add(self.stack, number(8)), arguments[len(self.argument_registers) :], writable=True)
 
     # ---- operands
 
@@ -549,33 +477,26 @@ class X86(Machine):
     # ---- instructions
 
     def step(self, op, text):
-        while op in PREFIXES and text:
-            op, _, text = text.partition(" ")
-            text = text.strip()
-        if op in ("nop", "endbr64", *PREFIXES) or (op, text) == ("xchg", "ax,ax"):
-            return
-        special = SPECIAL.get("j" if op[0] == "j" else op)
-        if special:
-            return special(self, op, text)
-        name, operands, used, width, is_avx, is_aligned, is_avx2 = plan(op, text)
+        run, *details = prepared(op, text)
+        run(self, *details)
+
+    def operate(self, name, operands, used, width, is_avx, is_aligned, is_avx2):
         if is_aligned:
             self.must_be_aligned_vectors(operands)
         if is_avx2 and self.library.constructors:
             self.must_have_avx2()
         values = [item[1] if is_int else self.read(item, width) for item, is_int in used]
-        run = plain(MASKS[name][1]) if operands[0][1][0] == "k" and name in MASKS else OPERATIONS[name]
-        result = run(self, *values)
+        result = OPERATIONS[name](self, *values)
         if name == "and" and operands[0][1] == "rsp" and number_in(values[1]) is not None:
             self.align_stack(number_in(values[1]))
         if name not in READ_ONLY:
-            if operands[0][3] and name not in MASKS:
+            if operands[0][3]:
                 result = self.masked(name, operands[0], result, width)
             self.write(operands[0], result, is_avx)
 
     def must_have_avx2(self):
         """If constructors set a flag, code for AVX2 runs only where the flag is 1."""
-        flags = [extend(unknown(("static", at), 1), 8) for at in self.library.flags]
-        if flags and not any(number_in(is_zero(flag)) == 0 or number_in(are_equal(flag, number(1, 8))) for flag in flags):
+        if self.library.flags and not any(self.library.setting.values()):
             raise Stop("an instruction of AVX2 where the processor perhaps has none")
 
     def must_be_aligned_vectors(self, operands):
@@ -591,6 +512,8 @@ class X86(Machine):
 
     def load_address(self, op, text):
         to, source = decode(text)
+        if source[1] == GUARD_TERMS:
+            raise Stop("an address in a segment")
         self.write(to, self.address(source[1]), False)
 
     def move_extended(self, op, text):
@@ -610,7 +533,7 @@ class X86(Machine):
 
     def repeated(self, op, text):
         """So many numbers in memory; the caller has cleared the flag of direction."""
-        kind, name = re.match(r"(stos|movs) (\w+) PTR (?:es:)?\[rdi\]", text).groups()
+        kind, name = re.fullmatch(r"(stos|movs) (\w+) PTR es:\[rdi\],([re]?a[lx]|\w+ PTR ds:\[rsi\])", text).group(1, 2)
         size = STRINGS[name]
         for _ in range(known(self.registers["rcx"], "a number of words")):
             is_move = kind == "movs"
@@ -695,6 +618,8 @@ class X86(Machine):
 
     def use_stack(self, op, text):
         operands = decode(text)
+        if any(item[2] not in (None, 64) for item in operands):
+            raise Stop("the stack's words have 64 bits")
         if op == "push":
             self.push(self.read(operands[0], 64))
         elif op == "leave":
