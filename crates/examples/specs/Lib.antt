@@ -1,6 +1,6 @@
 -- The preamble of a serialized sketch.
-use Rattle.std.specs.Prelude.{◌≡◌, ◌≢◌, ℕ, ◌≤◌, List, length, take, drop}
-use Rattle.datasketches.specs.Bytes.{le}
+use Rattle.std.specs.Prelude.{◌≡◌, ◌≢◌, ℕ, ◌≤◌, List, ◌∷◌, length, take, drop}
+use Rattle.datasketches.specs.Bytes.{le, low_bytes}
 use Rattle.datasketches.specs.SeedHash.{seed_hash}
 
 -- the number in `count` bytes from a place on, the lowest byte first
@@ -16,3 +16,7 @@ pub record HasPreamble (seed : ℕ) (bytes : List ℕ) : Type 0 where
   pub family : number_at 2 1 bytes ≡ 7
   pub seed_is : number_at 3 2 bytes ≡ seed_hash seed
   pub seed_is_usable : seed_hash seed ≢ 0
+
+-- the five bytes of the preamble of a sketch with a seed
+abbrev pub preamble : ℕ → List ℕ
+preamble seed = 1 ∷ 3 ∷ 7 ∷ low_bytes 2 (seed_hash seed)

@@ -153,7 +153,7 @@ pub fn save(filter: &BloomFilter, out: &mut [u8]) -> Option<usize>
     ensures { let saved = header (length filter.now) ++ filter.now in
         MatchOption result
         ((2 ^ 31 ≤ length filter.now) ⊎ (length out.old < length saved))
-        (λ count. take count out.new ≡ saved) }
+        (λ count. (count ≡ length saved) × (take count out.new ≡ saved)) }
 {
     let bytes = filter.as_bytes();
     let start = write_header(bytes.len(), out)?;

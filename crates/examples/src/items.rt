@@ -1,6 +1,6 @@
 //! Items that are written, and read back as a list.
 
-ghost use Rattle.std.specs.Prelude.{ℕ, List, ◌≡◌, ◌↔◌, ◌<◌, ◌≤◌, ◌++◌, length, map, take, IsErr, IsOk, IsOkAnd, MatchResult};
+ghost use Rattle.std.specs.Prelude.{ℕ, List, ◌≡◌, ◌↔◌, ◌<◌, ◌≤◌, ◌++◌, ◌+◌, length, map, take, IfErr, IsErr, IsOk, IsOkAnd, MatchResult};
 ghost use Rattle.std.specs.List.{All};
 ghost use Rattle.datasketches.specs.Items.{InType, item_kind, spell_all, widths};
 ghost use Rattle.datasketches.specs.declared.codec.Item.{Item};
@@ -18,8 +18,9 @@ pub fn write_all(writer: &mut SketchBytes, items: &[Item]) -> Result<(), Stopped
     ensures written { MatchResult result
         (λ _. All InType items.now
         × (writer.new.bytes ≡ writer.old.bytes ++ spell_all items.now))
-        (λ stopped. writer.new.bytes
-        ≡ writer.old.bytes ++ spell_all (take stopped.accepted items.now)) }
+        (λ stopped. (stopped.accepted < length items.now)
+        × All InType (take stopped.accepted items.now) × (writer.new.bytes
+        ≡ writer.old.bytes ++ spell_all (take stopped.accepted items.now))) }
     ensures room { length (writer.old.bytes ++ spell_all items.now) ≤ writer.old.room →
         IsOk result }
 {
@@ -39,6 +40,9 @@ pub fn read_all<'a>(bytes: &'a [u8], kinds: &[Kind], places: &mut [Item]) -> Res
         kinds.now ≡ map item_kind items → bytes.now ≡ spell_all items ++ rest →
         IsOkAnd result (λ remaining. (places.new ≡ items) × (remaining.now ≡ rest)) }
     ensures short { IsErr result ↔ (length bytes.now < widths kinds.now) }
+    ensures read { IfErr result (λ short. (short.read < length kinds.now)
+        × (widths (take short.read kinds.now) ≤ length bytes.now)
+        × (length bytes.now < widths (take (short.read + 1) kinds.now))) }
 {
     laws::items_law();
     let mut reader = SketchSlice::new(bytes);

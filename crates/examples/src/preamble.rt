@@ -4,7 +4,7 @@ ghost use Rattle.std.specs.Prelude.{◌≡◌, ◌⊎◌, ◌<◌, ◌≤◌, le
 ghost use Rattle.datasketches.specs.ErrorValue.{memory_error};
 ghost use Rattle.datasketches.specs.Refusals.{Refuses};
 ghost use Rattle.datasketches.specs.SeedHash.{seed_hash, zero_seed_hash_text};
-ghost use Rattle.examples.specs.{HasPreamble, number_at};
+ghost use Rattle.examples.specs.{HasPreamble, number_at, preamble};
 
 use datasketches::codec::assert::{
     ensure_preamble_longs_in, ensure_serial_version_is, insufficient_data,
@@ -40,7 +40,8 @@ fn read_fields(bytes: &[u8]) -> io::Result<(u8, u8, u8, u16)>
 /// own hash is zero, and `OutOfMemory` with an empty message if there is no memory for the text.
 pub fn check_preamble(alloc: Global, bytes: &[u8], seed: u64) -> Result<(), Error>
     ensures { MatchResult result
-        (λ _. HasPreamble seed bytes.now) (λ _. HasPreamble seed bytes.now → ⊥) }
+        (λ _. HasPreamble seed bytes.now)
+        (λ _. HasPreamble seed bytes.now → ⊥) }
 {
     let short = |error| insufficient_data(alloc, "hll sketch", error);
     let (longs, version, family, actual) = read_fields(bytes).map_err(short)?;
@@ -58,7 +59,7 @@ pub fn check_preamble(alloc: Global, bytes: &[u8], seed: u64) -> Result<(), Erro
 /// Returns `InvalidArgument` if the seed's hash is zero, and `OutOfMemory` if there is no memory.
 pub fn write_preamble(alloc: Global, seed: u64) -> Result<Vec<u8>, Error>
     ensures { MatchResult result
-        (λ bytes. HasPreamble seed bytes.items)
+        (λ bytes. HasPreamble seed bytes.items × (bytes.items ≡ preamble seed))
         (λ error. (error ≡ memory_error) ⊎ ((seed_hash seed ≡ 0)
         × Refuses ErrorKind.InvalidArgument (zero_seed_hash_text seed) error)) }
 {

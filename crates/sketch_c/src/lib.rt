@@ -34,12 +34,12 @@ const ERROR_MEMORY: i32 = -4;
 /// The hash of this seed is 0, so no sketch may use the seed.
 pub const ERROR_SEED: i32 = -5;
 
-/// The version of the library as one number, major * 10000 + minor * 100 + patch: 3.1.0.
+/// The version of the library as one number, major * 10000 + minor * 100 + patch: 3.2.0.
 #[unsafe(no_mangle)]
 pub extern "C" fn sketch_hash_version() -> u32
-    ensures { result ≡ 30100 }
+    ensures { result ≡ 30200 }
 {
-    30_100
+    30_200
 }
 
 // 0, or the number of the error.
