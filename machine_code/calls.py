@@ -12,7 +12,7 @@ Call = collections.namedtuple("Call", "arguments memory result", defaults=[None]
 # Values at an address before a call and after it. None is any value. Where there is none after it, it may not write.
 Memory = collections.namedtuple("Memory", "at before after", defaults=[()])
 
-OK, LENGTH, OFFSET, COUNT = (number(n, 32) for n in (0, -1, -2, -3))
+OK, LENGTH, OFFSET, COUNT, SEED = (number(n, 32) for n in (0, -1, -2, -3, -5))
 NAMES = {"xxh64": "xxh64", "murmur": "murmur3_x64_128"}
 DEFINITIONS = {"xxh64": XXH64, "murmur": MURMUR}
 PIECE = {"xxh64": 32, "murmur": 16}

@@ -10,7 +10,7 @@ import pathlib
 import re
 import sys
 
-from values import add, bitwise, cut, extend, is_below, join, mul, number, number_in, shift_right, sub
+from values import add, bitwise, cut, extend, is_below, join, mul, number, number_in, shift_right, sub, width_of
 
 CRATES = pathlib.Path(__file__).parents[1] / "crates"
 TOKEN = re.compile(r'\s*(0x[0-9A-Fa-f]+|\d+|"[^"]*"|[^\W\d]\w*|\.\w+|\[\]|\+\+|==|\S)')
@@ -28,6 +28,13 @@ class Function:
         if len(arguments) < self.count:
             return Function(self.count - len(arguments), functools.partial(self.run, *arguments))
         return self.run(*arguments)
+
+
+def as_byte(item):
+    value = as_value(item, 8)
+    if width_of(value) > 8 and number_in(cut(value, 8, width_of(value) - 8)) != 0:
+        raise ValueError("a byte is more than 255")
+    return cut(value, 0, 8)
 
 
 def of_words(on_numbers, on_values):
@@ -67,7 +74,7 @@ OPERATORS = {
 }
 GIVEN = {
     "xor": of_words(operator.xor, functools.partial(bitwise, "xor")), "nat_lt": of_words(operator.lt, is_below),
-    "le": Function(1, lambda data: as_number(join(*(as_value(item, 8) for item in data)))),
+    "le": Function(1, lambda data: as_number(join(*map(as_byte, data)))),
     "map": Function(2, lambda f, items: [f(item) for item in items]),
     "fold": Function(3, lambda f, start, items: functools.reduce(f, items, start)),
     "take": Function(2, lambda n, items: items[:n]), "drop": Function(2, lambda n, items: items[n:]),
@@ -230,4 +237,5 @@ def of_hash(hash, *files):
 
 
 XXH64, MURMUR = of_hash("Xxh64"), of_hash("Murmur")
+SEED_HASH = of_hash("Murmur", "sketch_base/specs/Bytes.antt", "sketch_hash/specs/SeedHash.antt")
 FILTER = of_hash("Xxh64", "sketch_bloom/specs/Filter.antt")

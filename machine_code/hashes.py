@@ -4,10 +4,10 @@ from functools import partial
 import calls
 from calls import (PIECE, WORDS, Call, Memory, arguments_of, check_call, folded_words, input, of, out, saved, seed, some, state,
                    values)
-from definitions import XXH64, as_value
+from definitions import SEED_HASH, XXH64, as_value
 from loops import Subject, on_each_path, prove_each_rest
 from machine import Array, contents
-from values import add, extend, join, mul, number, number_in, unknown
+from values import Undecided, add, complement, cut, extend, is_zero, join, mul, number, number_in, unknown
 
 
 class Pieces(Subject):
@@ -116,6 +116,15 @@ def number_call():
     return Call([join(*data), seed], [], as_value(XXH64.xxh64(seed, data)))
 
 
+def seed_hash_call():
+    """With 0 it says that the seed cannot be used, and writes nothing."""
+    old, hash = unknown("old", 16), cut(as_value(SEED_HASH.seed_hash(seed)), 0, 16)
+    zero, yes, no = is_zero(hash), number(1, 1), number(0, 1)
+    if number_in(zero) is None:
+        raise Undecided("whether a value is 0", ({zero: yes, complement(zero): no}, []), ({zero: no, complement(zero): yes}, []))
+    return Call([seed, out], [Memory(out, [old], [old if zero == yes else hash])], calls.SEED if zero == yes else calls.OK)
+
+
 def bytes_call():
     words = some("hash", 2, 64)
     return Call([values, out], [Memory(values, words), Memory(out, some("old", 2, 64), words)])
@@ -155,6 +164,7 @@ def null_update(hash, fill):
 def checks(machine):
     """Pairs of a function and what runs a check of it."""
     yield "hash_version", lambda: check_call(machine, "hash_version", Call, [], [], number(calls.VERSION, 32))
+    yield "seed_hash", lambda: check_call(machine, "seed_hash", seed_hash_call)
     yield "xxh64_u64", lambda: check_call(machine, "xxh64_u64", number_call)
     yield "murmur3_x64_128_bytes", lambda: check_call(machine, "murmur3_x64_128_bytes", bytes_call)
     for hash, name in calls.NAMES.items():

@@ -196,6 +196,21 @@ def is_noticed(runs):
     return False
 
 
+@pytest.mark.parametrize("change, reason", [
+    (("(bytes, 8, 0);", "(bytes, 8, 1);"), "what is written"), (("computed == 0", "computed == 1"), "the result"),
+    (("*hash = computed", "hash[1] = computed"), "outside"),
+], ids=["another seed", "another test", "another place"])
+def test_a_wrong_seed_hash_is_refused(change, reason, need, tmp_path):
+    need("gcc")
+    text = TEXT.read_text()
+    assert text.count(change[0]) == 1
+    (tmp_path / "wrong.c").write_text(text.replace(*change))
+    build(["gcc"], tmp_path / "library.so", text=tmp_path / "wrong.c")
+    machine = checks.machine_of(library.read(tmp_path / "library.so"))
+    with pytest.raises(Stop, match=reason):
+        calls.check_call(machine, "seed_hash", hashes.seed_hash_call)
+
+
 # ---- planted code
 
 ASSEMBLERS = {"x86-64": "as", "aarch64": "aarch64-linux-gnu-as", "packed": "as"}

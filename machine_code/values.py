@@ -53,7 +53,7 @@ class Undecided(Stop):
 
 
 def must_equal(found, expected, what):
-    if found != expected:
+    if found != expected and narrow(found) != narrow(expected):
         raise Differs(what, found, expected)
 
 
@@ -466,6 +466,16 @@ def mul(x, y):
     return cut(extend(atom(("product", *sorted((extend(x), extend(y)))), most.bit_length(), 0, most)), 0, size)
 
 
+def narrow(value):
+    """The same value, without what the low bits of a sum do not depend on."""
+    parts = []
+    for a, low, width in value:
+        rest = 64 - width if a != NUMBER and kinds[a][0] == "sum" and low == 0 else 0
+        part = ((a, low, width),)
+        parts.append(cut(mul(extend(part), number(1 << rest)), rest, width) if rest else part)
+    return join(*parts)
+
+
 def is_below(x, y):
     """Whether x is the smaller one."""
     question, gap = ("is below", x, y), gap_of(x, y)
@@ -560,7 +570,7 @@ def complement(value):
 
 def is_zero(value):
     """One bit: 1 if the value is 0. An "or" is 0 if all its operands are."""
-    pieces, todo = set(), [value]
+    pieces, todo = set(), [narrow(value)]
     while todo:
         for a, low, width in todo.pop():
             if (low if a == NUMBER else piece_range(a, low, width)[0]):
