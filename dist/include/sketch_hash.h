@@ -1,4 +1,4 @@
-/* sketch_hash 3.1.0: XXH64, MurmurHash3_x64_128 and the Bloom filter of Apache Parquet, from
+/* sketch_hash 3.2.0: XXH64, MurmurHash3_x64_128 and the Bloom filter of Apache Parquet, from
  * functions that are proved. Licence: Apache-2.0.
  *
  * Proved, of the source that sketch_hash.c is printed from: for every seed, a digest is the hash
@@ -121,7 +121,7 @@ extern "C" {
 #endif
 
 /** The version of this header: major * 10000 + minor * 100 + patch. */
-#define SKETCH_HASH_VERSION 30100
+#define SKETCH_HASH_VERSION 30200
 
 /** Returns the version of the library. */
 SKETCH_HASH_API uint32_t sketch_hash_version(void);

@@ -1,6 +1,6 @@
 // The WebAssembly module of sketch_hash, and its hashes. Licence: Apache-2.0. Programs import sketch_hash.mjs.
 
-const VERSION = '3.1.0';
+const VERSION = '3.2.0';
 const PAGE = 65536;
 /** Bytes of a long input that are copied into the module's memory at a time. */
 export const PIECE = 4 * PAGE;

@@ -143,7 +143,7 @@ export interface BloomFilterConstructor {
  * not from 0 to 2^64 - 1, or if there is no memory. A seed is 0 if left out.
  */
 export interface Library {
-    /** The module's version, as '3.1.0'. */
+    /** The module's version, as '3.2.0'. */
     readonly version: string;
 
     /** XXH64 of the bytes. */
