@@ -24,7 +24,9 @@ export type Numbers = Offsets | Float32Array | Float64Array;
 
 /**
  * A stream that comes in pieces. Splitting the input into several updates gives the same hash. A file in
- * a browser: `for await (const piece of file.stream()) stream.update(piece);`
+ * a browser, also in one that does not iterate streams:
+ * `const reader = file.stream().getReader();
+ * for (let part; !(part = await reader.read()).done;) stream.update(part.value);`
  */
 export interface Stream {
     /** The seed of the last reset. */

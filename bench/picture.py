@@ -1,0 +1,87 @@
+"""Draws docs/speed.svg, our time by the length of a key, of docs/speed.tsv: python3 bench/picture.py [FILE]"""
+import math
+import re
+import sys
+from pathlib import Path
+
+DOCS = Path(__file__).resolve().parents[1] / "docs"
+# A title and what is compared, with its group and its peer in speed.tsv. The first two are the same for a program that calls.
+PLOTS = [("XXH64", "both called", "c", "XXH64, called"),
+         ("XXH64", "both inlined", "included", "XXH64, inlined"),
+         ("XXH64", "ours called, xxHash inlined", "c", "XXH64, inlined"),
+         ("Murmur", "both called", "c", "reference Murmur, called")]
+WIDTH, HEIGHT, LEAST, MOST = 165, 124, 0.4, 1.5  # of a plot, and the ratios at its bottom and its top
+TICKS, LENGTHS = (0.5, 0.75, 1, 1.25), (1, 4, 16, 64)
+STYLE = """
+text { font: 12px sans-serif; fill: #24292f } .title { font-weight: bold; font-size: 14px } .small { fill: #57606a }
+.page { fill: #ffffff } .slower { fill: #fbe9d0 } .faster { fill: #dff3e4 } .tick { stroke: #8c959f; stroke-width: .5 }
+.equal { stroke: #24292f; stroke-width: 1.5 } .time { fill: none; stroke: #0550ae; stroke-width: 2.5 } circle { fill: #0550ae }
+@media (prefers-color-scheme: dark) {
+text { fill: #e6edf3 } .small { fill: #9da7b3 } .page { fill: #0d1117 } .slower { fill: #3d2b12 } .faster { fill: #12301c }
+.tick { stroke: #6e7681 } .equal { stroke: #e6edf3 } .time { stroke: #79c0ff } circle { fill: #79c0ff }
+}
+"""
+
+
+def cells():
+    """By group and peer the median for each length, as pairs, the shortest first; and the processor."""
+    table, found = (DOCS / "speed.tsv").read_text(encoding="utf-8"), {}
+    for group, length, peer, ratio in re.findall(r"^(\w+)\tkeys of (\d+) bytes?\t([^\t]*)\t([\d.]+)", table, re.M):
+        found.setdefault((group, peer), []).append((int(length), float(ratio)))
+    return {key: sorted(pairs) for key, pairs in found.items()}, re.search(r"processor: (.*?)(?: @|,)", table)[1]
+
+
+def line(kind, x1, y1, x2, y2):
+    return f'<line class="{kind}" x1="{x1:.1f}" y1="{y1:.1f}" x2="{x2:.1f}" y2="{y2:.1f}"/>'
+
+
+def text(x, y, words, kind="", anchor="start"):
+    return f'<text class="{kind}" x="{x:.1f}" y="{y:.1f}" text-anchor="{anchor}">{words}</text>'
+
+
+def y_of(ratio):
+    return HEIGHT * (MOST - ratio) / (MOST - LEAST)
+
+
+def x_of(length):
+    return 8 + (WIDTH - 16) * math.log2(length) / math.log2(100)
+
+
+def plot(title, compared, pairs):
+    one = y_of(1)
+    yield text(0, -26, title, "title") + text(0, -9, compared, "small")
+    yield f'<rect class="slower" width="{WIDTH}" height="{one:.1f}"/>'
+    yield f'<rect class="faster" y="{one:.1f}" width="{WIDTH}" height="{HEIGHT - one:.1f}"/>'
+    for ratio in TICKS:
+        yield line("equal" if ratio == 1 else "tick", 0, y_of(ratio), WIDTH, y_of(ratio))
+        yield text(-5, y_of(ratio) + 4, ratio, "small", "end")
+    for length in LENGTHS:
+        yield text(x_of(length), HEIGHT + 15, length, "small", "middle")
+    points = [(x_of(length), y_of(ratio)) for length, ratio in pairs]
+    yield f'<polyline class="time" points="{" ".join(f"{x:.1f},{y:.1f}" for x, y in points)}"/>'
+    yield from (f'<circle cx="{x:.1f}" cy="{y:.1f}" r="2.5"/>' for x, y in points)
+    for extreme, below in ((max, -8), (min, 17)):
+        length, ratio = extreme(pairs, key=lambda pair: pair[1])
+        x = min(max(x_of(length), 14), WIDTH - 14)
+        yield text(x, y_of(ratio) + below, f"{ratio:.2f}", "title", "middle")
+
+
+def picture():
+    found, processor = cells()
+    chosen = [(title, compared, found[group, peer]) for title, compared, group, peer in PLOTS]
+    ranges = "; ".join(f"{title}, {compared}: {min(r for _, r in pairs):.2f} to {max(r for _, r in pairs):.2f}"
+                       for title, compared, pairs in chosen)
+    yield '<svg xmlns="http://www.w3.org/2000/svg" viewBox="0 0 420 464" width="420" height="464" role="img">'
+    yield f"<title>Our time divided by theirs, for keys of 1 to 100 bytes</title>\n<desc>{ranges}.</desc>"
+    yield f'<style>{STYLE}</style>\n<rect class="page" width="420" height="464" rx="8"/>'
+    yield text(14, 26, "Our time divided by theirs", "title")
+    yield text(14, 44, "Below 1 we are faster. By the length of a key in bytes.", "small")
+    for i, (title, compared, pairs) in enumerate(chosen):
+        yield f'<g transform="translate({40 + i % 2 * 205} {100 + i // 2 * 194})">'
+        yield from plot(title, compared, pairs)
+        yield "</g>"
+    yield text(14, 452, f"Medians of 101 rounds, {processor.replace('(R)', '')}, gcc 12.", "small") + "\n</svg>"
+
+
+if __name__ == "__main__":
+    Path(sys.argv[1] if len(sys.argv) > 1 else DOCS / "speed.svg").write_text("\n".join(picture()) + "\n", encoding="utf-8")
