@@ -2,18 +2,19 @@
 from __future__ import annotations
 
 import json
-import pathlib
 import re
 from dataclasses import dataclass, field
 
 import forms
-import mir
 from evaluate import Body
-from expression import BOOL, INT, NUMBERS, SIZE, VOID, CType, Expression, Pointer, Struct, Variable, call, variable
+from expression import (BOOL, CHANGES, INT, NONE, NUMBERS, READS, SIZE, VOID, CType, Expression, Pointer, Struct, Variable, call,
+                        variable)
 from forms import NoForm
-from mir import Given, Unknown
+from mir import BYTE, Crates, Given, Statement, Type, Unknown
+from mir import BOOL as FLAG
 from source import Sources
-from statement import Comment, Declare, Do, Give, Node, When, While, all_nodes, expressions_of, inline_once, lists_of, read_in, tidy, without_unread
+from statement import (Comment, Declare, Do, Give, Node, When, While, all_nodes, expressions_of, inline_once, lists_of, reads_of, tidy,
+                       without_unread)
 from values import Parts, Value
 from write import Writer, comment
 
@@ -33,11 +34,10 @@ class Printed:
 
     name: str
     title: str
-    types: list[mir.Type]
+    types: list[Type]
     parameters: list[Variable]
     result: CType
-    reads: bool
-    has_effect: bool
+    effect: int
     about: list[str]
     storage: str
     source: str = ""  # its name there
@@ -72,8 +72,8 @@ def read_header(text: str) -> dict[str, Declared]:
 
 
 class Library:
-    def __init__(self, folders: list[pathlib.Path], header: str, sources: Sources):
-        self.crates, self.sources = mir.Crates(folders), sources
+    def __init__(self, crates: Crates, header: str, sources: Sources):
+        self.crates, self.sources = crates, sources
         self.declared = read_header(header)
         self.done: dict[str, Printed | None] = {}
         self.by_name: dict[str, Printed] = {}
@@ -83,14 +83,14 @@ class Library:
 
     # ---- Types
 
-    def struct(self, type: mir.Named) -> Struct:
-        return forms.struct_of(type, self.crates, lambda name: self.sources.members[name])
+    def struct(self, type: Type) -> Struct:
+        return forms.struct_of(type, self.crates, self.sources.members)
 
-    def constant(self, values: tuple[int, ...]) -> Expression:
-        if values not in self.arrays:
-            name = "skh_union_fields"
-            self.arrays[values] = Variable(name, Pointer("unsigned char", 0, 1, True), len(values), is_in_memory=False)
-        return variable(self.arrays[values])
+    def constant(self, type: Type, values: tuple[int, ...]) -> Expression:
+        if type.word != "Array" or type.of != BYTE or values not in forms.ARRAYS:
+            raise Unknown(f"the name of the constant {type} {values}")
+        own = Variable(forms.ARRAYS[values], Pointer("unsigned char", 0, 1, True), len(values))
+        return variable(self.arrays.setdefault(values, own))
 
     # ---- Signatures
 
@@ -101,24 +101,19 @@ class Library:
             self.done[key] = self.make(path, given)
         return self.done[key]
 
-    def calls_own(self, statements: list[mir.Statement]) -> bool:
+    def calls_own(self, statements: list[Statement]) -> bool:
         """Whether functions are called that are not the standard library's."""
-        for s in statements:
-            if isinstance(s, mir.Call) and s.callee[0] == "fn" and not s.callee[1].startswith("core::"):
-                return True
-            inner = [arm for _, arm in s.arms] if isinstance(s, mir.If) else [getattr(s, "body", [])]
-            if any(map(self.calls_own, inner)):
-                return True
-        return False
+        return any(s.word == "Call" and isinstance(s.of[0], str) and not s.of[0].startswith("core::")
+                   or any(map(self.calls_own, s.bodies)) for s in statements)
 
     def make(self, path: str, given: Given) -> Printed | None:
         if WRITTEN_OUT.search(path):
             return None
         function = self.crates.function(path)
-        numbers = [own.value for own in given.types if isinstance(own, mir.Const)]
+        numbers = [own.args[0] for own in given.types if own.word == "Const"]
         if numbers and not self.calls_own(function.body):
             return None
-        types = [given.type(own) for own in function.locals[1:function.parameter_count + 1]]
+        types = list(map(given.type, function.parameters))
         source = self.sources.of(path)
         if len(source.parameters) != len(types):
             raise Unknown(f"{path}: {len(types)} parameters, and {len(source.parameters)} in its text")
@@ -130,36 +125,36 @@ class Library:
             return None
         prefix, title = forms.part_of(path)
         *_, owner, last = path.split("::")
-        widths = [str(own.bits) for own in given.types if isinstance(own, mir.Int)]
+        widths = [str(own.bits) for own in given.types if own.bits]
         name = prefix + OWNERS.get(owner, "") + last + "".join(f"_{n}" for n in numbers) + "".join(widths)
         if name in self.by_name:
             raise Unknown(f"{path}: a second function {name}")
         storage = {"always": "SKH_INLINE", "never": "static SKH_NOINLINE", "": "static"}[source.inline]
         parameters = [own for _, each in values for own in each]
         pointers = [own.type for own in parameters if isinstance(own.type, Pointer)]
-        printed = Printed(name, title, types, parameters, result, bool(pointers), any(not own.is_const for own in pointers),
-                          self.about(source.about, numbers), storage, source=last)
+        effect = CHANGES if any(not own.is_const for own in pointers) else READS if pointers else NONE
+        printed = Printed(name, title, types, parameters, result, effect, self.about(source.about, numbers), storage, source=last)
         self.by_name[name] = printed
-        body = Body(self, path, given, values, result, False)
-        self.finish(printed, body)
+        self.finish(printed, Body(self, path, given, result), values)
         if source.inline == "never":
             printed.requires = requirements(source.requires)
-        printed.is_used = [own in read_in(printed.body) or own.is_in_memory and own in read_in(printed.body) for own in parameters]
+        reads = reads_of(printed.body)
+        printed.is_used = [own in reads for own in parameters]
         return printed
 
-    def parameter(self, type: mir.Type, name: str) -> tuple[Value, list[Variable]]:
-        if isinstance(type, mir.Slice):
-            pointer = forms.pointer_to(type.of, type.is_mut, True, self.struct)
-            suffix = "_length" if type.of == mir.Int(8) else "_count"
+    def parameter(self, type: Type, name: str) -> tuple[Value, list[Variable]]:
+        if type.word == "Slice":
+            pointer = forms.pointer_to(type.of, not type.is_mut, True, self.struct)
+            suffix = "_length" if type.of == BYTE else "_count"
             own = [Variable(name, pointer, is_parameter=True), Variable(name + suffix, NUMBERS[64], is_parameter=True)]
             return Parts(tuple(map(variable, own))), own
-        if isinstance(type, mir.Ref):
-            own = [Variable(name, forms.pointer_to(type.of, type.is_mut, False, self.struct), is_parameter=True)]
-        elif isinstance(type, mir.Int):
+        if type.word == "Ref":
+            own = [Variable(name, forms.pointer_to(type.of, not type.is_mut, False, self.struct), is_parameter=True)]
+        elif type.bits:
             own = [Variable(name, NUMBERS[type.bits], is_parameter=True)]
-        elif type == mir.Bool():
+        elif type == FLAG:
             own = [Variable(name, BOOL, is_parameter=True)]
-        elif isinstance(type, mir.Named):
+        elif type.word == "Named":
             own = [Variable(name, self.struct(type), is_parameter=True)]
         else:
             raise NoForm(type)
@@ -184,7 +179,8 @@ class Library:
 
         return re.sub(r"`([\w:]+)`", name, text)
 
-    def finish(self, printed: Printed, body: Body) -> None:
+    def finish(self, printed: Printed, body: Body, values: list[tuple[Value, list[Variable]]]) -> None:
+        body.evaluate(values)
         printed.body = tidy(inline_once(without_unread(body.code)))
         for node in all_nodes(printed.body):
             if isinstance(node, When):
@@ -215,11 +211,11 @@ class Library:
         name = path.split("::")[-1]
         declared = self.declared[name]
         names, values = list(declared.names), []
-        types = function.locals[1:function.parameter_count + 1]
+        types = function.parameters
         for type in types:
             text, own = names.pop(0)
-            if isinstance(type, mir.Slice):
-                pointer = forms.pointer_to(type.of, type.is_mut, True, self.struct)
+            if type.word == "Slice":
+                pointer = forms.pointer_to(type.of, not type.is_mut, True, self.struct)
                 given = Variable(own, CType("void *") if "void" in text else pointer, is_parameter=True)
                 size = Variable(names.pop(0)[1], SIZE, is_parameter=True)
                 at = variable(given)
@@ -228,8 +224,8 @@ class Library:
                 elif "void" in text:
                     at = Expression("cast", pointer, (at,))
                 values.append((Parts((at, Expression("cast", NUMBERS[64], (variable(size),)))), [given, size]))
-            elif isinstance(type, mir.Ref):
-                pointer = forms.pointer_to(type.of, type.is_mut, False, self.struct)
+            elif type.word == "Ref":
+                pointer = forms.pointer_to(type.of, not type.is_mut, False, self.struct)
                 if "size_t" in text:
                     pointer = Pointer("size_t", 0, 8, not type.is_mut)
                 given = Variable(own, pointer, is_parameter=True)
@@ -243,10 +239,10 @@ class Library:
         if names:
             raise Unknown(f"{name}: more parameters in the header: {names}")
         parameters = [own for _, each in values for own in each]
-        printed = Printed(name, "Calls", types, parameters, declared.result, True, True, [declared.about], "SKETCH_HASH_API",
+        printed = Printed(name, "Calls", types, parameters, declared.result, CHANGES, [declared.about], "SKETCH_HASH_API",
                           head=declared.parameters)
         self.by_name[name] = printed
-        self.finish(printed, Body(self, path, Given(), values, declared.result, True))
+        self.finish(printed, Body(self, path, Given(), declared.result), values)
         return printed
 
     # ---- Text

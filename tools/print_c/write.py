@@ -8,7 +8,8 @@ from __future__ import annotations
 import textwrap
 from typing import Iterator
 
-from expression import BOOL, INT, NUMBERS, CType, Expression, Pointer, Struct, Variable, base_and_offset, divide, number, value_of
+from expression import BOOL, INT, NUMBERS, CType, Expression, Pointer, Struct, base_and_offset, convert, divide, number, value_of
+from forms import STATUSES
 from mir import Unknown
 from statement import Break, Comment, Declare, Do, Give, Node, Set, When, While
 
@@ -179,7 +180,6 @@ class Writer:
         if word not in WIDE:
             raise Unknown(f"{word} of 128 bits")
         if word in ("<<", ">>"):
-            from expression import convert
             b = convert(b, 64)
         return f"skh_wide_{WIDE[word]}({self.text(a)}, {self.text(b)})", POSTFIX
 
@@ -249,7 +249,6 @@ class Writer:
 
     @staticmethod
     def status(value: int) -> str:
-        from forms import STATUSES
         signed = value - 2 ** 32 if value >= 2 ** 31 else value
         if signed == 1:
             return "1"
