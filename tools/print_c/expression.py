@@ -132,7 +132,7 @@ def operation(word: str, a: Expression, b: Expression) -> Expression:
     if word in ("/", "%") and y == 0 or word in ("<<", ">>") and y is not None and y >= bits:
         raise Unknown(f"{word} by {y} of {a.type.text}")
     if x is not None and y is not None:
-        if word in ("+", "*") and COMPUTE[word](x, y) >= 2 ** 32:  # it is read as its source has it
+        if word in ("+", "*") and bits == 64 and 2 ** 32 <= COMPUTE[word](x, y) < 2 ** 64:  # it is read as its source has it
             return Expression(word, type, (a, b))
         return number(int(COMPUTE[word](x, y)), type.bits)
     if word == "+" and a.word == "cast" and b.word == "<<" and bits == 128 and value_of(b.args[1]) == 64 \
