@@ -47,7 +47,9 @@ def slice_of(type, is_mut=False):
 
 
 def place(local, *steps):
-    return {"local": local, "steps": [{"Field": step} if isinstance(step, int) else {"Deref": step} for step in steps]}
+    """Of each step: a field's index, a variant's as a tuple, or the type of what a pointer points to."""
+    return {"local": local, "steps": [{"Field": step} if isinstance(step, int) else {"Variant": step[0]} if isinstance(step, tuple)
+                                      else {"Deref": step} for step in steps]}
 
 
 def copy(local, *steps):
@@ -213,6 +215,57 @@ def fibonacci(n):
     return a
 
 
+# ---- Memory, and functions that call others
+
+OTHERS = {}  # functions that are called by cases, or by a function of C, which is then the case
+
+
+def case_of_c(name, text, expected):
+    CASES[name] = (f"static uint64_t skh_{name}(uint64_t a, uint64_t b) {{ {text} }}\n", TWO, expected, lambda a, b: True)
+
+
+def each_turn(*statements):
+    """While local 3 is below the length of the slice in local 1."""
+    return LOOP + seq(op(4, LT, copy(3), copy(1, 1)), when(copy(4), seq(), exit_of(0)), *statements, op(3, "WrapAdd", copy(3), number(1)))
+
+
+for bits in (8, 32, 64):
+    cast = {"Cast": ["Unsigned", "Unsigned", 64]}
+    wide = put(7, "Opd", copy(6, INT[bits])) if bits == 64 else op(7, cast, copy(6, INT[bits]))
+    OTHERS[f"sum_of{bits}"] = function([slice_of(INT[bits]), W], W, [W, "Bool", W, reference(INT[bits]), W], body(
+        put(3, "Opd", number(0)), each_turn(op(5, "WrapMul", copy(3), number(bits // 8)), op(6, "Offset", copy(1, 0), copy(5)), wide,
+                                            op(2, "WrapAdd", copy(2), copy(7))), put(0, "Opd", copy(2))))
+    case_of_c(f"sum_of_array{bits}", f"uint64_t in[2] = {{a, b}}; return skh_sum_of{bits}((void *)in, {128 // bits}, 7);",
+              lambda a, b, n=bits: 7 + sum((v >> i) & MASK[n] for v in (a, b) for i in range(0, 64, n)) & MASK[64])
+OTHERS["count_up"] = function([slice_of(INT[8], True), INT[8]], "Unit", [W, "Bool", reference(INT[8], True)], body(
+    put(3, "Opd", number(0)), each_turn(op(5, "Offset", copy(1, 0), copy(3)), put(place(5, INT[8]), "Opd", copy(2)), op(
+        2, "WrapAdd", copy(2), number(1, 8)))))
+case_of_c("counted_up", "unsigned char out[8]; skh_count_up(out, 8, (uint8_t)a); return skh_load64(out) ^ b;",
+          lambda a, b: sum(((a + i) & 255) << 8 * i for i in range(8)) ^ b)
+OTHERS["exchange"] = function([reference(W, True), W], W, [W], body(put(3, "Opd", copy(1, W)), put(place(1, W), "Opd", copy(2)), op(
+    0, "WrapAdd", copy(3), copy(1, W))))
+case_of_c("exchanged", "uint64_t x = a; const uint64_t sum = skh_exchange(&x, b); return sum ^ x;",
+          lambda a, b: ((a + b) & MASK[64]) ^ b)
+for bits in (16, 32, 64):
+    bytes_of = {"Array": [INT[8], {"Const": bits // 8}]}
+    OTHERS[f"read{bits}"] = function([slice_of(INT[8])], INT[bits], [reference(bytes_of), bytes_of], body(
+        op(2, "Offset", copy(1, 0), number(3)), put(3, "Opd", copy(2, bytes_of)), called(0, f"core::int::u{bits}::from_le_bytes", copy(3))))
+    case_of_c(f"read_bytes{bits}", f"unsigned char in[16]; skh_store64(in, a); skh_store64(in + 8, b); return skh_read{bits}(in);",
+              lambda a, b, n=bits: (a + (b << 64) >> 24) & MASK[n])
+OTHERS["sum_and_difference"] = function([W, W], PAIR, [W, W], body(op(3, "WrapAdd", copy(1), copy(2)), op(
+    4, "WrapSub", copy(1), copy(2)), put(0, "Aggregate", copy(3), copy(4))))
+case("from_pair", TWO, 64, body(called(3, PATH + "sum_and_difference", copy(1), copy(2)), op(4, "WrapMul", copy(3, 0), number(3)), op(
+     0, "Xor", copy(4), copy(3, 1))), lambda a, b: (a + b) * 3 % 2 ** 64 ^ (a - b) % 2 ** 64, [PAIR, W])
+for name, type, none in (("option", OPTION, [number(0, 8)]), ("result", RESULT, [number(1, 8), copy(1)])):
+    OTHERS[f"{name}_by"] = function([W, W], type, ["Bool", W], body(op(3, "Eq", copy(2), number(0)), when(copy(3), put(
+        0, "Aggregate", *none), seq(op(4, UNSIGNED["Div"], copy(1), copy(2)), put(
+            0, "Aggregate", number(int(name == "option"), 8), copy(4))))))
+    is_some = int(name == "option")
+    case(f"from_{name}", TWO, 64, body(called(3, PATH + f"{name}_by", copy(1), copy(2)), [{"Switch": [copy(3, 0), [[is_some]], True]}, *put(
+         0, "Opd", copy(3, (is_some,), 1)), *(put(0, "Opd", number(9)) if name == "option" else op(0, "Not", copy(3, (1,), 1)))]),
+         lambda a, b, o=name == "option": a // b if b else 9 if o else ~a & MASK[64], [type])
+
+
 PROCESSORS = {"x86-64": (["gcc"], []), "32 bits": (["i686-linux-gnu-gcc", "-static"], []),
               "big-endian": (["s390x-linux-gnu-gcc", "-static"], ["qemu-s390x"])}
 STRICT = ["-std=c11", "-O1", "-Wall", "-Wextra", "-Werror", "-Wno-type-limits"]
@@ -233,8 +286,8 @@ def driver(name):
     arguments = ", ".join(f"skh_wide(in[i][{2 * j}], in[i][{2 * j + 1}])" if bits == 128 else f"(uint{bits}_t)in[i][{2 * j + 1}]"
                           for j, bits in enumerate(widths))
     result = f"skh_{name}({arguments})"
-    type = CASES[name][0]["locals"][0]["ty"]
-    if type == INT[128]:
+    of = CASES[name][0]
+    if not isinstance(of, str) and of["locals"][0]["ty"] == INT[128]:
         shown = f"skh_uint128 x = {result}; printf(\"%016llx%016llx\\n\", (unsigned long long)skh_wide_high(x), " \
                 "(unsigned long long)skh_wide_low(x));"
     else:
@@ -248,7 +301,8 @@ def test_each_operation_width_and_shape_computes_what_is_meant(processor, need, 
     compiler, runner = PROCESSORS[processor]
     need(compiler[0], *runner)
     tests = {name: driver(name) for name in CASES}
-    text = printed({name: own[0] for name, own in CASES.items()}) + "".join(text for text, _ in tests.values())
+    text = printed({**OTHERS, **{name: own[0] for name, own in CASES.items() if not isinstance(own[0], str)}})
+    text += "".join(own[0] for own in CASES.values() if isinstance(own[0], str)) + "".join(text for text, _ in tests.values())
     output = run(compiler, runner, f"{text}int main(void) {{ {' '.join(f'test_{name}();' for name in tests)} return 0; }}", tmp_path)
     expected = [(name, line) for name, (_, lines) in tests.items() for line in lines]
     wrong = {name for (name, line), got in zip(expected, output, strict=True) if line != got}
