@@ -109,7 +109,8 @@ def printed(functions):
     crates = P["mir"].Crates([(PATH + name, token) for name, token in functions.items()])
     library = P["library"].Library(crates, "", sources)
     all_printed = [library.printed(PATH + name, P["mir"].Given()) for name in functions]
-    assert None not in all_printed
+    if None in all_printed:
+        raise P["mir"].Unknown("it has no form in C")
     writer = P["write"].Writer({}, set())
     return "\n".join(library.function_text(own, writer) for own in all_printed)
 
@@ -307,3 +308,63 @@ def test_each_operation_width_and_shape_computes_what_is_meant(processor, need, 
     expected = [(name, line) for name, (_, lines) in tests.items() for line in lines]
     wrong = {name for (name, line), got in zip(expected, output, strict=True) if line != got}
     assert not wrong
+
+
+# ---- What it refuses
+
+def of_two(*statements, types=(W, W), result=W, locals=()):
+    return function(types, result, locals, body(*statements))
+
+
+HALF, BYTES = INT[32], {"Array": [INT[8], {"Const": 8}]}
+REFUSED = {  # a function, and the words by which it is refused
+    "a type": (of_two(types=[{"Float": 64}]), "type Float"),
+    "a width": (of_two(types=[{"Int": 24}]), "type Int 24"),
+    "a number's width": (of_two(put(0, "Opd", number(1, 24))), "operand Int"),
+    "a length that is no number": (of_two(types=[reference({"Array": [INT[8], INT[64]]})]), "in place of a number"),
+    "how a reference is": (of_two(types=[{"Ref": ["'a", "Raw", W]}]), "type Ref"),
+    "an operation": (of_two(op(0, "Max", copy(1), copy(2))), "operation Max"),
+    "an operation on one": (of_two(op(0, "Neg", copy(1))), "operation Neg"),
+    **{f"{word} with a sign": (of_two(op(0, {word: "Signed"}, copy(1), copy(2))), f"{word}.*Signed") for word in UNSIGNED},
+    "no word on the sign": (of_two(op(0, "Shr", copy(1), copy(2))), "operation Shr"),
+    "a cast from a sign": (of_two(op(0, {"Cast": ["Signed", "Unsigned", 64]}, copy(1))), "Cast.*Signed"),
+    "a cast to a sign": (of_two(op(0, {"Cast": ["Unsigned", "Signed", 64]}, copy(1))), "Cast.*Signed"),
+    "a cast to a width": (of_two(op(0, {"Cast": ["Unsigned", "Unsigned", 24]}, copy(1))), "Cast.*24"),
+    "two widths": (of_two(op(0, "WrapAdd", copy(1), copy(2)), types=[W, HALF]), r"\+ of uint64_t and uint32_t"),
+    "a shift by another width": (of_two(op(0, "Shl", copy(1), copy(2)), types=[W, HALF]), "<< of uint64_t and uint32_t"),
+    "a shift by the width": (of_two(op(0, "Shl", copy(1), number(64))), "<< by 64"),
+    "a division by 0": (of_two(op(0, UNSIGNED["Div"], copy(1), number(0))), "/ by 0"),
+    **{f"{word} of 128 bits": (of_two(op(0, word, copy(1), copy(2)), types=[INT[128]] * 2, result=INT[128]), f"{sign} of 128 bits")
+       for word, sign in (("WrapSub", "-"), ("Xor", r"\^"), ("And", "&"))},
+    "~ of 128 bits": (of_two(op(0, "Not", copy(1)), types=[INT[128]], result=INT[128]), "operation Not"),
+    "a statement": (of_two(["Yield"]), "statement Yield"),
+    "a right side": (of_two(put(0, "Alloca", copy(1))), "right side Alloca"),
+    "an operand": (of_two(put(0, "Opd", {"Move": place(1)})), "operand Move"),
+    "a step": (of_two(put(0, "Opd", {"Copy": {"local": 1, "steps": [{"Index": 2}]}})), "step of a place: Index"),
+    "a home": ({**of_two(), "locals": [{"ty": W, "home": "Register"}] * 3}, "Register"),
+    "words after a body": ({**of_two(), "body": body() + ["Skip"]}, "words after its body"),
+    "a token": (of_two([{"If": copy(1), "Else": copy(2)}]), "a token of mir.json"),
+    "a function": (of_two(called(0, PATH + "missing", copy(1))), "function .*missing"),
+    "a call": (of_two([{"Call": [{"Pointer": [1, NO_ARGS]}, [], place(0)]}]), "a call of Pointer"),
+    "a column of 16 bits": (of_two(types=[slice_of(INT[16])]), "form"),
+    "a number at bytes": (of_two(put(0, "Opd", copy(1, HALF)), types=[reference(INT[8])]), "32.* at unsigned char"),
+    "bytes at a number": (of_two(put(2, "Opd", copy(1, BYTES)), types=[reference(W)], locals=[BYTES]), "at uint64_t"),
+    "half an element": (of_two(op(2, "Offset", copy(1, 0), number(4)), put(0, "Opd", copy(2, W)), types=[slice_of(W)],
+                               locals=[reference(W)]), "no multiple of 8"),
+    "any offset": (of_two(op(3, "Offset", copy(1, 0), copy(2)), put(0, "Opd", copy(3, W)), types=[slice_of(W), W],
+                          locals=[reference(W)]), "no multiple of 8"),
+    "a tag that is not known": (of_two(put(3, "Aggregate", copy(1), copy(2)), types=[INT[8], W], locals=[OPTION]), "unknown tag"),
+    "what was not set": (of_two(op(0, "WrapAdd", copy(3), copy(1)), locals=[W]), "Undefined"),
+    "a loop to two places": (of_two(BLOCK + seq(LOOP + seq(op(3, "Eq", copy(1), copy(2)), when(copy(3), exit_of(1)), op(4, LT, copy(
+        1), copy(2)), when(copy(4), exit_of(0)), op(1, "WrapAdd", copy(1), number(1))), op(2, "WrapAdd", copy(2), number(1))),
+        op(0, "WrapAdd", copy(1), copy(2)), locals=["Bool"] * 2), "left to several places"),
+    "bytes that change": (of_two(put(3, "Opd", copy(1, BYTES)), put(place(2, BYTES), "Repeat", number(0, 8), {"Const": 8}), called(
+        0, "core::int::u64::from_le_bytes", copy(3)), types=[reference(BYTES), reference(BYTES, True)], locals=[BYTES]), "bytes"),
+}
+
+
+@pytest.mark.parametrize("name", REFUSED)
+def test_what_is_unknown_is_refused_by_its_name(name):
+    token, message = REFUSED[name]
+    with pytest.raises(P["mir"].Unknown, match=message):
+        printed({"f": token})

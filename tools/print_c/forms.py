@@ -43,7 +43,7 @@ OPTION = Struct("struct skh_option", 0, (("is_some", BOOL), ("value", NUMBERS[64
 RESULT = Struct("struct skh_result", 0, (("is_error", BOOL), ("value", NUMBERS[64])))
 
 
-class NoForm(Exception):
+class NoForm(Unknown):
     """The type has no form in C."""
 
 

@@ -22,6 +22,8 @@ class Memory(Places):
                              for e in leaves(value) if e.reads_memory()), None):
             new = self.variable_for(found, "", leaf)
             leaf.change(lambda e: e.replaced(found, new))
+        if any(isinstance(value, Bytes) for value in leaf.env.values()):
+            raise Unknown(f"{self.path}: bytes that are read after memory changes")
         leaf.forget(lambda fact: fact.reads_memory())
 
     def do(self, name: str, args: list[Expression], leaf: Leaf) -> None:
