@@ -14,6 +14,9 @@ class CType:
     text: str
     bits: int = 0
 
+    def declare(self, name: str) -> str:
+        return f"{self.text} {name}"
+
 
 @dataclass(frozen=True)
 class Pointer(CType):
@@ -54,7 +57,6 @@ class Variable:
     type: CType
     count: int = 0
     is_set: bool = False
-    is_parameter: bool = False
     is_temporary: bool = False  # whether it has no name in the source
     is_in_memory: bool = False  # whether it is an array, or its address is passed on
 
