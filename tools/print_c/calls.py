@@ -10,7 +10,8 @@ from expression import CHANGES, VOID, Expression, Struct, Variable, call, number
 from frames import Frame
 from mir import Given, Place, Statement, Type, Unknown
 from statement import Do, Give
-from values import END, RETURN, UNIT, Bytes, Choice, InMemory, Key, Leaf, Parts, Spelled, ToLocal, Value, expression_of, parts_of
+from values import (END, RETURN, UNIT, Bytes, Choice, InMemory, Key, Leaf, Parts, Spelled, ToLocal, Value, expression_of,
+                    parts_of)
 
 if TYPE_CHECKING:
     from library import Printed
@@ -56,7 +57,8 @@ class Calls(Choices):
         else:
             self.do("memcpy", [self.pointer(to, leaf), self.pointer(origin[0], leaf), number(count, 64)], leaf)
 
-    def write_out(self, frame: Frame, s: Statement, path: str, given: Given, args: list[Value], leaf: Leaf, tail: bool) -> list[Leaf]:
+    def write_out(self, frame: Frame, s: Statement, path: str, given: Given, args: list[Value], leaf: Leaf,
+                  tail: bool) -> list[Leaf]:
         """Evaluates the called function here."""
         keys = {(frame.number, local) for local in s.after} | frame.caller_keys
         keys |= {key for arg in args for key in keys_in(arg)}

@@ -6,8 +6,9 @@ from frames import Frame
 from memory import Memory
 from mir import Statement, Unknown
 from statement import Break, Comment, Declare, Node, When, While, all_nodes
-from values import END, Key, Leaf, Parts, Path, Undefined, Value, differences, expression_of, leaves
+from values import END, Key, Leaf, Parts, Path, Undefined, Value, differences, expression_of
 
+Arm = tuple[list[int], list[Statement]]  # the values that lead to it, and what it does
 Merges = list[tuple[Variable, Key, list[Expression]]]  # a new variable, the local that it is for, and its value on each way
 
 
@@ -49,7 +50,7 @@ class Choices(Memory):
             leaf.target = END if leaf.target == 0 else leaf.target - 1
         return leaf
 
-    def when(self, frame: Frame, arms: list[tuple[list[int], list[Statement]]], value: Value, leaf: Leaf, tail: bool) -> list[Leaf]:
+    def when(self, frame: Frame, arms: list[Arm], value: Value, leaf: Leaf, tail: bool) -> list[Leaf]:
         values, arm = arms[0]
         if len(arms) == 1:
             return self.run(frame, arm, leaf, tail)
@@ -113,7 +114,7 @@ class Choices(Memory):
         """Gives variables the values that each leaf comes with. One that holds it already, and nothing else, is taken."""
         waiting: list[dict[Variable, Expression]] = [{} for _ in going]
         for place, key, values in merges:
-            others = {used for value in leaf.env.values() for e in leaves(value) if e != variable(place) for used in e.variables()}
+            others = {used for e in leaf.expressions() if e != variable(place) for used in e.variables()}
             taken = next((value.args[0] for value in values if value.word == "variable" and value.args[0] not in others
                           and not value.args[0].is_in_memory and value.args[0].type == place.type), None)
             if taken is None:

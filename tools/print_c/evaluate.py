@@ -8,7 +8,7 @@ from calls import Calls
 from expression import BOOL, NUMBERS, Expression, Variable, at, call, convert, negate, number, operation, value_of
 from frames import Frame
 from memory import Again
-from mir import WIDTHS, Constant, Given, Operand, Place, Statement, Type, Unknown, number_of, word_of
+from mir import WIDTHS, Operand, Place, Statement, Type, Unknown, number_of, word_of
 from values import RETURN, UNIT, Choice, Leaf, Parts, ToLocal, Value, expression_of, parts_of
 
 OPERATORS = {"WrapAdd": "+", "WrapSub": "-", "WrapMul": "*", "Add": "+", "Sub": "-", "Mul": "*", "Div": "/", "Rem": "%",
@@ -111,7 +111,8 @@ def one(token: object, value: Expression) -> Expression:
     if word == "Not" and value.type == BOOL:
         return negate(value)
     if word == "Not" and value.type.bits in (8, 16, 32, 64):
-        return operation("^", value, number(-1, value.type.bits)) if value.word == "number" else Expression("~", value.type, (value,))
+        all_bits = number(-1, value.type.bits)
+        return operation("^", value, all_bits) if value.word == "number" else Expression("~", value.type, (value,))
     if word == "Cast" and of[0] == "Unsigned" and of[2] in WIDTHS and (of[1] == "Unsigned" or of[1:] == ["Signed", 32]):
         return convert(value, of[2], of[1] == "Signed")
     if word == "CountOnes" and value.type.bits == 32:

@@ -65,9 +65,9 @@ class Variable:
 class Expression:
     """An operator of C or one of the words below, and what it is applied to.
 
-    number VALUE, variable VARIABLE, address VARIABLE, at BASE OFFSET (a pointer, in bytes), load POINTER (a number of bytes, the
-    lowest first), element POINTER (a number of an array), member BASE NAME, deref POINTER, call NAME EFFECT ARGUMENTS.., cast VALUE,
-    any WORDS.. (whether a bit of these is set), ? CONDITION YES NO
+    number VALUE, variable VARIABLE, address VARIABLE, at BASE OFFSET (a pointer, in bytes), load POINTER (a number of bytes,
+    the lowest first), element POINTER (a number of an array), member BASE NAME, deref POINTER, call NAME EFFECT ARGUMENTS..,
+    cast VALUE, any WORDS.. (whether a bit of these is set), ? CONDITION YES NO
     """
 
     word: str
@@ -92,12 +92,13 @@ class Expression:
     def variables(self) -> set[Variable]:
         return {part.args[0] for part in self.parts() if part.word in ("variable", "address")}
 
+    def changed(self, change: Callable[[Expression], Expression]) -> Expression:
+        """With each expression changed that it is applied to."""
+        args = tuple(change(arg) if isinstance(arg, Expression) else arg for arg in self.args)
+        return Expression(self.word, self.type, args)
 
     def replaced(self, old: Expression, new: Expression) -> Expression:
-        if self == old:
-            return new
-        args = tuple(arg.replaced(old, new) if isinstance(arg, Expression) else arg for arg in self.args)
-        return self if args == self.args else Expression(self.word, self.type, args)
+        return new if self == old else self.changed(lambda arg: arg.replaced(old, new))
 
 
 def number(value: int, bits: int) -> Expression:

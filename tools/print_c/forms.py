@@ -1,4 +1,4 @@
-"""What the types and the functions of the source are in C. What is in none of these tables stays out of the text, or stops it."""
+"""What the types and the functions of the source are in C. What is in none of these tables stays out of the text."""
 from __future__ import annotations
 
 import re

@@ -7,26 +7,26 @@ from typing import Iterable
 
 import forms
 from evaluate import Body
-from expression import (BOOL, CHANGES, INT, NONE, NUMBERS, READS, SIZE, VOID, CType, Expression, Pointer, Struct, Variable, call, convert,
-                        variable)
+from expression import (BOOL, CHANGES, INT, NONE, NUMBERS, READS, SIZE, VOID, CType, Expression, Pointer, Struct, Variable,
+                        call, convert, variable)
 from mir import BOOL as FLAG
 from mir import BYTE, Crates, Given, Statement, Type, Unknown
 from source import Sources
-from statement import (Comment, Declare, Do, Give, Node, When, While, all_nodes, expressions_of, inline_once, lists_of, reads_of, tidy,
-                       without_unread)
+from statement import (Comment, Declare, Do, Give, Node, When, While, all_nodes, expressions_of, inline_once, lists_of,
+                       reads_of, tidy, without_unread)
 from values import Parts, Value
 from write import Writer, comment
 
 CRATES = ("sketch_base", "sketch_hash", "datasketches", "sketch_bloom", "sketch_c")
 # What is evaluated where it is called, since in C it is one operator.
-WRITTEN_OUT = re.compile(r"^core::|::fn::|\+Fn|^sketch_hash::hash::(words::read_|value::|columns::U\d+Offset|murmurhash::block_word)"
-                         r"|^sketch_bloom::folds::word$")
+WRITTEN_OUT = re.compile(r"^core::|::fn::|\+Fn|^sketch_hash::hash::(words::read_|value::|columns::U\d+Offset)"
+                         r"|^sketch_hash::hash::murmurhash::block_word|^sketch_bloom::folds::word$")
 # Functions of one name that belong to different types.
 OWNERS = {"MurmurState": "state_", "XxHash64State": "state_"}
 SELF = {"MurmurState": "state", "XxHash64State": "state", "ScalarLanes": "lanes", "MurmurHash3X64128": "hasher",
         "MurmurHash3X64128Hasher": "hasher", "XxHash64": "hasher"}
 STORAGE = {"always": "SKH_INLINE", "never": "static SKH_NOINLINE", "": "static"}
-HEADER_TYPES = {"int": INT, "size_t": SIZE, "void": VOID, "uint64_t": NUMBERS[64], "uint32_t": NUMBERS[32], "uint16_t": NUMBERS[16]}
+HEADER_TYPES = {own.text: own for own in (INT, SIZE, VOID, NUMBERS[16], NUMBERS[32], NUMBERS[64])}
 DECLARATION = re.compile(r"/\*\*((?:(?!\*/).)*)\*/\nSKETCH_HASH_API ([^;(]+?) ?\b(sketch_\w+)\(([^;]*)\);", re.S)
 Parameters = list[tuple[Value, list[Variable]]]  # of each what it is at the beginning, and its variables in C
 
@@ -112,7 +112,8 @@ class Library:
             raise Unknown(f"{path}: {len(types)} parameters, and {len(source.parameters)} in its text")
         *_, owner, last = path.split("::")
         try:
-            values = [self.parameter(type, SELF[owner] if name == "self" else name) for type, name in zip(types, source.parameters)]
+            names = [SELF[owner] if name == "self" else name for name in source.parameters]
+            values = list(map(self.parameter, types, names))
             result = forms.result_of(given.type(function.locals[0]), self.struct)
         except forms.NoForm:
             return None
@@ -128,8 +129,8 @@ class Library:
         for n in numbers:  # K is its number in this instance
             about = [re.sub(r"\bK\b", str(n), own.replace("2 K", str(2 * n))) for own in about]
         requires = source.requires if source.inline == "never" else ""
-        return self.finish(Printed(name, title, types, parameters, result, effect, about, STORAGE[source.inline], last, requires),
-                           Body(self, path, given, result), values)
+        printed = Printed(name, title, types, parameters, result, effect, about, STORAGE[source.inline], last, requires)
+        return self.finish(printed, Body(self, path, given, result), values)
 
     def parameter(self, type: Type, name: str) -> tuple[Value, list[Variable]]:
         if type.word == "Slice":
@@ -169,8 +170,9 @@ class Library:
             values.append((value if type.word == "Ref" else convert(value, value.type.bits), given))
         if more := list(names):
             raise Unknown(f"{name}: more parameters in the header: {more}")
-        printed = Printed(name, "Calls", function.parameters, [own for _, each in values for own in each], declared.result, CHANGES,
-                          [declared.about], "SKETCH_HASH_API", head=declared.parameters)
+        parameters = [own for _, each in values for own in each]
+        printed = Printed(name, "Calls", function.parameters, parameters, declared.result, CHANGES, [declared.about],
+                          "SKETCH_HASH_API", head=declared.parameters)
         return self.finish(printed, Body(self, path, Given(), declared.result), values)
 
     def finish(self, printed: Printed, body: Body, values: Parameters) -> Printed:
@@ -210,11 +212,11 @@ class Library:
         out = [head, *structs(ordered)]
         for title in forms.TITLES:
             texts = [self.function_text(own, writer) for own in ordered if own.title == title]
-            before, here = "\n".join(out), "\n".join(texts)
-            defines = [f"#define {name} 0x{value:x}u" for value, name in constants.items()
-                       if re.search(rf"\b{name}\b", here) and f"#define {name} " not in before]
-            defines += [f"static const unsigned char {own.name}[] = {{{', '.join(map(str, values))}}};"
-                        for values, own in self.arrays.items() if re.search(rf"\b{own.name}\b", here) and own.name not in before]
+            lines = {name: f"#define {name} 0x{value:x}u" for value, name in constants.items()}
+            lines |= {own.name: f"static const unsigned char {own.name}[] = {{{', '.join(map(str, values))}}};"
+                      for values, own in self.arrays.items()}
+            here = set(re.findall(r"\w+", " ".join(texts)))
+            defines = [line for name, line in lines.items() if name in here and line not in out]
             out += [f"/* ---- {title} */\n", *defines, *([""] if defines else []), *texts] if texts else []
         return "\n".join(out)
 
@@ -250,14 +252,19 @@ class Library:
         words |= {own.name: f"`{own.name}`" for own in printed.parameters}
         alike = sorted(self.by_name.values(), key=lambda own: own.name[-2:] == printed.name[-2:])  # of 32 or 64 bits
         names = {own.source: own.name for own in alike}
-        return re.sub(r"`([\w:]+)`", lambda found: words.get(found[1]) or f"`{names.get(found[1].split('::')[-1], found[1])}`", text)
+
+        def word(found: re.Match[str]) -> str:
+            return words.get(found[1]) or f"`{names.get(found[1].split('::')[-1], found[1])}`"
+
+        return re.sub(r"`([\w:]+)`", word, text)
 
 
 def structs(functions: list[Printed]) -> list[str]:
     """The structs that are neither in the header nor in the head of the text."""
     types = dict.fromkeys([own.result for own in functions] + [own.type for each in functions for own in each.parameters])
+    of_head = (forms.PAIR, forms.OPTION, forms.RESULT)
     return [f"{own.text} {{\n    uint64_t {', '.join(name for name, _ in own.members)};\n}};\n" for own in types
-            if own.text.startswith("struct skh_") and isinstance(own, Struct) and own not in (forms.PAIR, forms.OPTION, forms.RESULT)]
+            if own.text.startswith("struct skh_") and isinstance(own, Struct) and own not in of_head]
 
 
 def requirements(text: str) -> list[str]:

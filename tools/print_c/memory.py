@@ -2,13 +2,14 @@
 from __future__ import annotations
 
 import forms
-from expression import (CHANGES, NUMBERS, VOID, Expression, Pointer, Struct, Variable, at, call, convert, number, operation, value_of,
-                        variable)
+from expression import (CHANGES, NUMBERS, VOID, Expression, Pointer, Struct, Variable, at, call, convert, number, operation,
+                        value_of, variable)
 from frames import Frame
 from mir import BYTE, Statement, Type, Unknown
 from places import Places, Where, member
 from statement import Declare, Do, Set
-from values import Bytes, InMemory, Leaf, Parts, Spelled, ToLocal, Value, changed, expression_of, is_step, leaves, parts_of, put, weight
+from values import (Bytes, InMemory, Leaf, Parts, Spelled, ToLocal, Value, changed, expression_of, is_step, leaves, parts_of,
+                    put, weight)
 
 
 class Again(Exception):
@@ -107,7 +108,8 @@ class Memory(Places):
             self.store_bytes(variable(own), value, type.count, leaf)
         else:
             own.is_set = all(value_of(part) == 0 for part in parts_of(value))
-            leaf.code.append(Declare(own, [number(0, type.of.bits)] if own.is_set else list(map(expression_of, parts_of(value)))))
+            elements = list(map(expression_of, parts_of(value)))
+            leaf.code.append(Declare(own, elements[:1] if own.is_set else elements))
         return own
 
     def declare_struct(self, own: Variable, value: Parts, leaf: Leaf) -> None:

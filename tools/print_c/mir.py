@@ -23,8 +23,8 @@ class Type:
 
     Bool, Unit, Ptr (to what is not said), Int BITS (whether it has a sign is a matter of the operation),
     Ref IS_MUT TYPE, Slice IS_MUT TYPE (field 0 is a reference to the first element, field 1 the number of elements),
-    Array TYPE COUNT, Vector TYPE COUNT, Named NAME ARGUMENTS (a struct, a tuple or an enum, whose field 0 is its tag; the fields
-    of a variant begin with 1), Param INDEX (of a generic function), Const NUMBER (its argument)
+    Array TYPE COUNT, Vector TYPE COUNT, Named NAME ARGUMENTS (a struct, a tuple or an enum, whose field 0 is its tag; those of
+    a variant begin with 1), Param INDEX (of a generic function), Const NUMBER (its argument)
     """
 
     word: str

@@ -8,7 +8,7 @@ from expression import NUMBERS, CType, Expression, Pointer, Struct, Variable, at
 from frames import Frame
 from mir import BYTE, WORD, Given, Place, Type, Unknown
 from statement import Declare, Node, Set
-from values import Bytes, Choice, Key, Leaf, Parts, Path, ToLocal, Undefined, Value, leaves
+from values import Bytes, Choice, Key, Leaf, Parts, Path, ToLocal, Undefined, Value
 
 if TYPE_CHECKING:
     from library import Library
@@ -151,7 +151,7 @@ class Places:
 
     def make_way(self, places: set[Variable], leaf: Leaf) -> None:
         """Before variables are set, what still reads them becomes a variable."""
-        for e in dict.fromkeys(e for value in leaf.env.values() for e in leaves(value) if e.variables() & places):
+        for e in dict.fromkeys(e for e in leaf.expressions() if e.variables() & places):
             new = self.variable_for(e, "", leaf)
             leaf.change(lambda own: own.replaced(e, new))
 

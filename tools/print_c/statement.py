@@ -92,8 +92,7 @@ def change(node: Node, new: Callable[[Expression], Expression]) -> None:
     elif isinstance(node, (Declare, Set, Give)) and node.value is not None:
         node.value = new(node.value)
     if isinstance(node, Set) and node.place.word != "variable":
-        node.place = Expression(node.place.word, node.place.type, tuple(new(arg) if isinstance(arg, Expression) else arg
-                                                                       for arg in node.place.args))
+        node.place = node.place.changed(new)
     elif isinstance(node, Do):
         node.call = new(node.call)
     elif isinstance(node, (When, While)) and node.condition is not None:
@@ -197,9 +196,8 @@ def tidy(nodes: list[Node], is_last: bool = True) -> list[Node]:
         node = nodes.pop(0)
         if isinstance(node, When):
             node = arranged(node, is_last and not nodes)
-            before, gives = out[-1] if out else None, node.yes
-            if isinstance(before, When) and not before.no and not node.no and len(gives) == len(before.yes) == 1 \
-                    and isinstance(gives[0], Give) and isinstance(before.yes[0], Give) and gives[0].value == before.yes[0].value:
+            before = out[-1] if out else None
+            if isinstance(before, When) and not before.no and not node.no and gives(before.yes) == gives(node.yes) != []:
                 before.condition = Expression("||", node.condition.type, (before.condition, node.condition))
                 continue
             if ends(node.yes):
@@ -220,6 +218,11 @@ def tidy(nodes: list[Node], is_last: bool = True) -> list[Node]:
     if is_last and isinstance(last, Give) and last.value is None:
         out.pop()
     return out
+
+
+def gives(nodes: list[Node]) -> list[Expression | None]:
+    """What is returned where nothing else is done."""
+    return [node.value for node in nodes if isinstance(node, Give) and len(nodes) == 1]
 
 
 def is_count(place: Expression, value: Expression) -> bool:

@@ -133,8 +133,8 @@ def weight(e: Expression) -> int:
 
 def is_step(e: Expression) -> bool:
     """A variable and a constant number after or before it."""
-    is_cast = e.word == "cast" and e.type.bits > 0
-    return (e.word in ("at", "+", "-") or is_cast) and e.args[0].word == "variable" and all(arg.word == "number" for arg in e.args[1:])
+    is_one = e.word in ("at", "+", "-") or e.word == "cast" and e.type.bits > 0
+    return is_one and e.args[0].word == "variable" and all(arg.word == "number" for arg in e.args[1:])
 
 
 END, RETURN = "end", "return"
@@ -157,8 +157,8 @@ class Leaf:
 
     def at(self, code: list[Node], env: dict[Key, Value] | None = None) -> Leaf:
         """The same elsewhere in the text."""
-        return replace(self, env=dict(self.env if env is None else env), code=code, scope=dict(self.scope), facts=dict(self.facts),
-                       owned=dict(self.owned), pointers=list(self.pointers))
+        return replace(self, env=dict(self.env if env is None else env), code=code, scope=dict(self.scope),
+                       facts=dict(self.facts), owned=dict(self.owned), pointers=list(self.pointers))
 
     def branch(self, condition: Expression, holds: bool, code: list[Node]) -> Leaf:
         leaf = self.at(code)
@@ -176,9 +176,12 @@ class Leaf:
     def change(self, change: Callable[[Expression], Expression]) -> None:
         self.env = {key: changed(value, change) for key, value in self.env.items()}
 
-    def variables(self, but: Expression | None = None) -> set[Variable]:
-        """Those that the locals hold, without counting the locals that hold an expression itself."""
-        return {own for value in self.env.values() if but is None or value != but for e in leaves(value) for own in e.variables()}
+    def expressions(self) -> Iterator[Expression]:
+        """Those that the locals hold."""
+        return (e for value in self.env.values() for e in leaves(value))
+
+    def variables(self) -> set[Variable]:
+        return {own for e in self.expressions() for own in e.variables()}
 
     def forget(self, is_stale: Callable[[Expression], bool]) -> None:
         self.facts = {fact: holds for fact, holds in self.facts.items() if not is_stale(fact)}

@@ -8,14 +8,15 @@ from __future__ import annotations
 import textwrap
 from typing import Iterator
 
-from expression import BOOL, INT, NUMBERS, CType, Expression, Pointer, Struct, base_and_offset, convert, divide, number, value_of
+from expression import (BOOL, INT, NUMBERS, CType, Expression, Pointer, Struct, base_and_offset, convert, divide, number,
+                        value_of)
 from forms import STATUSES
 from mir import Unknown
 from statement import Break, Comment, Declare, Do, Give, Node, Set, When, While
 
 WIDTH = 100
-LEVELS = {"||": 1, "&&": 2, "|": 3, "^": 4, "&": 5, "==": 6, "!=": 6, "<": 7, "<=": 7, ">": 7, ">=": 7, "<<": 8, ">>": 8, "+": 9,
-          "-": 9, "*": 10, "/": 10, "%": 10}
+ROWS = ("", "||", "&&", "|", "^", "&", "== !=", "< <= > >=", "<< >>", "+ -", "* / %")
+LEVELS = {word: level for level, words in enumerate(ROWS) for word in words.split()}
 TERNARY, UNARY, POSTFIX = 0, 11, 12
 BITS = {"|", "^", "&", "<<", ">>"}  # beside which all other operators are set in brackets
 WIDE = {"+": "add", "*": "mul", "<<": "left", ">>": "right"}
@@ -74,8 +75,8 @@ class Writer:
             return f"{self.text(base, POSTFIX)}{'->' if isinstance(base.type, Pointer) else '.'}{name}", POSTFIX
         if e.word == "call":
             name, _, *args = e.args
-            texts = ["has_vectors"] * (name in self.with_vectors or name == "skh_bit") + [self.assigned(arg, arg.type) for arg in args]
-            return f"{name}({', '.join(texts)})", POSTFIX
+            first = ["has_vectors"] * (name in self.with_vectors or name == "skh_bit")
+            return f"{name}({', '.join(first + [self.assigned(arg, arg.type) for arg in args])})", POSTFIX
         if e.word == "cast":
             return self.cast(e)
         if e.word == "~" and e.type.bits < 32:
@@ -145,7 +146,8 @@ class Writer:
         right_level = UNARY if word in BITS else level if word in ("||", "&&", "+", "*") and b.word == word else level + 1
         left_level = UNARY if word in BITS else level
         if word == "||":  # brackets around &&, without which compilers warn
-            left_level, right_level = (LEVELS["|"] if own.word == "&&" else its for own, its in ((a, left_level), (b, right_level)))
+            left_level = LEVELS["|"] if a.word == "&&" else left_level
+            right_level = LEVELS["|"] if b.word == "&&" else right_level
         if word in ("<<", ">>") and b.word == "cast" and b.args[0].type.bits < 64:
             b = b.args[0]
         left, right = self.text(a, left_level), self.text(b, right_level)
@@ -247,7 +249,8 @@ class Writer:
         elif isinstance(type, Pointer):
             text, forms = type.declare(f"{const}{own.name}"), []
         else:
-            text, forms = f"{const}{type.text} {own.name}", [form for _, form in type.members] if isinstance(type, Struct) else []
+            text = f"{const}{type.text} {own.name}"
+            forms = [form for _, form in type.members] if isinstance(type, Struct) else []
         if value is None:
             return f"{text};"
         if isinstance(value, list):
@@ -260,7 +263,8 @@ class Writer:
         if place.word == "element":
             pointer = place.args[0]
             if pointer.type.is_column:
-                return f"{named(COLUMN_WRITES, pointer.type.size // (pointer.type.inner or 1))}({self.text(pointer)}, {self.text(value)});"
+                name = named(COLUMN_WRITES, pointer.type.size // (pointer.type.inner or 1))
+                return f"{name}({self.text(pointer)}, {self.text(value)});"
             type = CType("size_t", 64) if pointer.type.text == "size_t" else type
         text = self.text(place)
         if value.word in ("+", "-") and value.args[0] == place and value_of(value.args[1]) == 1 and type.bits in (32, 64):
